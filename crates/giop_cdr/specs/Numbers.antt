@@ -30,19 +30,19 @@ abbrev pub truth_of : ℕ → Option Number
 truth_of n = if n == 0 then Some (numbers.Truth false) else (if n == 1 then Some (numbers.Truth true) else None)
 
 -- what a whole number is as a primitive: none for a boolean above 1
-abbrev pub taken_as : Primitive → ℕ → Option Number
-taken_as prims.Octet n = Some (numbers.Unsigned n)
-taken_as prims.Char n = Some (numbers.Char n)
-taken_as prims.Boolean n = truth_of n
-taken_as prims.Short n = Some (numbers.Signed (twos_complement 2 n))
-taken_as prims.UShort n = Some (numbers.Unsigned n)
-taken_as prims.Long n = Some (numbers.Signed (twos_complement 4 n))
-taken_as prims.ULong n = Some (numbers.Unsigned n)
-taken_as prims.LongLong n = Some (numbers.Signed (twos_complement 8 n))
-taken_as prims.ULongLong n = Some (numbers.Unsigned n)
-taken_as prims.Float n = Some (numbers.Bits n)
-taken_as prims.Double n = Some (numbers.Bits n)
+abbrev pub interpreted_as : Primitive → ℕ → Option Number
+interpreted_as prims.Octet n = Some (numbers.Unsigned n)
+interpreted_as prims.Char n = Some (numbers.Char n)
+interpreted_as prims.Boolean n = truth_of n
+interpreted_as prims.Short n = Some (numbers.Signed (twos_complement 2 n))
+interpreted_as prims.UShort n = Some (numbers.Unsigned n)
+interpreted_as prims.Long n = Some (numbers.Signed (twos_complement 4 n))
+interpreted_as prims.ULong n = Some (numbers.Unsigned n)
+interpreted_as prims.LongLong n = Some (numbers.Signed (twos_complement 8 n))
+interpreted_as prims.ULongLong n = Some (numbers.Unsigned n)
+interpreted_as prims.Float n = Some (numbers.Bits n)
+interpreted_as prims.Double n = Some (numbers.Bits n)
 
 -- the number of a primitive's octets
 abbrev pub number_of : Primitive → Order → List ℕ → Option Number
-number_of prim order octets = taken_as prim (num order octets)
+number_of prim order octets = interpreted_as prim (num order octets)

@@ -2,7 +2,7 @@
 
 ghost use Rattle.std.specs.Prelude.{◌≡◌, ◌^◌, ◌<◌, ◌≤◌, ◌↔◌, length, IfOk, IsErr, Some};
 ghost use Rattle.giop_cdr.specs.declared.order.Order.TheVariants as orders;
-ghost use Rattle.giop_cdr.specs.Numbers.{AreOctets, num, number_of, taken_as};
+ghost use Rattle.giop_cdr.specs.Numbers.{AreOctets, num, number_of, interpreted_as};
 ghost use Rattle.giop_cdr.specs.Primitives.{size_of};
 ghost use Rattle.giop_cdr.specs.declared.prim.Primitive.TheVariants as prims;
 
@@ -55,7 +55,7 @@ fn spelled(order: Order, octets: &[u8]) -> u64
 #[tactic(auto, unfolding(crate::specs::Numbers::twos_complement))]
 fn interpreted(prim: Prim, n: u64) -> Result<Number, CdrFault>
     requires { n < 256 ^ size_of prim }
-    ensures ok { IfOk result (λ number. taken_as prim n ≡ Some number) }
+    ensures ok { IfOk result (λ number. interpreted_as prim n ≡ Some number) }
     ensures err { IsErr result ↔ ((prim ≡ prims.Boolean) × (1 < n)) }
 {
     Ok(match prim {

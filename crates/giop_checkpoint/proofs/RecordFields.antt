@@ -5,21 +5,21 @@ use Rattle.giop_octets.specs.Fields.{four, eight}
 use Rattle.giop_octets.proofs.FieldLaws.{four_long, eight_long, behind}
 use Rattle.giop_checkpoint.specs.declared.record.Record.{Record}
 use Rattle.giop_checkpoint.specs.declared.sizes.TheConstants.{FRAME_SIZE}
-use Rattle.giop_checkpoint.specs.declared.record.Standing.{Standing}
-use Rattle.giop_checkpoint.specs.declared.record.Standing.TheVariants.{Current, Open, Over}
-use Rattle.giop_checkpoint.specs.Records.{Entry, EntryHasRange, RecordHasRange, StandingHasRange, standing_octet, id_of, kind_octets, own_octets, entry_octets}
+use Rattle.giop_checkpoint.specs.declared.record.RecordKind.{RecordKind}
+use Rattle.giop_checkpoint.specs.declared.record.RecordKind.TheVariants.{Current, Open, Over}
+use Rattle.giop_checkpoint.specs.Records.{Entry, EntryHasRange, RecordHasRange, RecordKindHasRange, record_kind_octet, id_of, kind_octets, own_octets, entry_octets}
 
 five : (a b c d e : List ℕ) → a ++ b ++ c ++ d ++ e ≡ a ++ (b ++ (c ++ (d ++ e)))
 five a b c d e = append_assoc (a ++ b ++ c) d e ∙ append_assoc (a ++ b) c (d ++ e) ∙ append_assoc a b (c ++ (d ++ e))
 
 pub record Fields (r : Record) (octets : List ℕ) : Type 0 where
   pub frames : drop 0 octets ≡ r.frames ∷ drop 1 octets
-  pub standing : drop 1 octets ≡ standing_octet r.standing ∷ drop 2 octets
+  pub record_kind : drop 1 octets ≡ record_kind_octet r.record_kind ∷ drop 2 octets
   pub number : drop 2 octets ≡ eight r.number ++ drop 10 octets
   pub header : drop 10 octets ≡ r.header ++ drop 22 octets
-  pub id : drop 22 octets ≡ four (id_of r.standing) ++ replicate 6 0
+  pub id : drop 22 octets ≡ four (id_of r.record_kind) ++ replicate 6 0
 
-kind_is : (r : Record) (octets rest : List ℕ) → octets ≡ kind_octets r ++ rest → octets ≡ r.frames ∷ standing_octet r.standing ∷ rest
+kind_is : (r : Record) (octets rest : List ℕ) → octets ≡ kind_octets r ++ rest → octets ≡ r.frames ∷ record_kind_octet r.record_kind ∷ rest
 unfolding kind_octets
 kind_is r octets rest e = e
 
@@ -27,15 +27,15 @@ pub fields_of : (r : Record) (octets : List ℕ) → RecordHasRange r → octets
 unfolding own_octets
 fields_of r octets h e =
     let zeros : List ℕ = replicate 6 0 in
-    let rest : List ℕ = eight r.number ++ (r.header ++ (four (id_of r.standing) ++ zeros)) in
-    let whole : octets ≡ r.frames ∷ standing_octet r.standing ∷ rest =
-    kind_is r octets rest (e ∙ five (kind_octets r) (eight r.number) r.header (four (id_of r.standing)) zeros) in
+    let rest : List ℕ = eight r.number ++ (r.header ++ (four (id_of r.record_kind) ++ zeros)) in
+    let whole : octets ≡ r.frames ∷ record_kind_octet r.record_kind ∷ rest =
+    kind_is r octets rest (e ∙ five (kind_octets r) (eight r.number) r.header (four (id_of r.record_kind)) zeros) in
     let at_2 : drop 2 octets ≡ rest = ap (drop 2) whole in
     let at_10 = behind 2 8 octets _ _ at_2 (eight_long r.number) in
     let at_22 = behind 10 12 octets _ _ at_10 h.typed.header in
     record {
       frames = whole ∙ ap (λ (xs : List ℕ). r.frames ∷ xs) (sym (ap (drop 1) whole));
-      standing = ap (drop 1) whole ∙ ap (λ (xs : List ℕ). standing_octet r.standing ∷ xs) (sym at_2);
+      record_kind = ap (drop 1) whole ∙ ap (λ (xs : List ℕ). record_kind_octet r.record_kind ∷ xs) (sym at_2);
       number = at_2 ∙ ap (λ (xs : List ℕ). eight r.number ++ xs) (sym at_10);
       header = at_10 ∙ ap (λ (xs : List ℕ). r.header ++ xs) (sym at_22);
       id = at_22;
@@ -46,7 +46,7 @@ unfolding own_octets kind_octets
 own_long r h =
     let zeros : List ℕ = replicate 6 0 in
     let zeros_long : length zeros ≡ 6 = refl in
-    omega (arith, length-append (kind_octets r ++ eight r.number ++ r.header ++ four (id_of r.standing)) zeros, length-append (kind_octets r ++ eight r.number ++ r.header) (four (id_of r.standing)), length-append (kind_octets r ++ eight r.number) r.header, length-append (kind_octets r) (eight r.number), eight_long r.number, four_long (id_of r.standing), h.typed.header, zeros_long)
+    omega (arith, length-append (kind_octets r ++ eight r.number ++ r.header ++ four (id_of r.record_kind)) zeros, length-append (kind_octets r ++ eight r.number ++ r.header) (four (id_of r.record_kind)), length-append (kind_octets r ++ eight r.number) r.header, length-append (kind_octets r) (eight r.number), eight_long r.number, four_long (id_of r.record_kind), h.typed.header, zeros_long)
 
 -- a record's first octet is its number of frames
 pub first_is : (r : Record) (s : List ℕ) → RecordHasRange r → take 32 s ≡ own_octets r → get_or s 0 0 ≡ r.frames
@@ -54,12 +54,12 @@ unfolding own_octets kind_octets
 first_is r [] h e = absurd (let none : length (take {A = ℕ} 32 []) ≡ 0 = refl in omega (arith, ap length e, own_long r h, none))
 first_is r (x ∷ xs) h e = ap (λ (ys : List ℕ). get_or ys 0 0) e
 
-pub id_small : (s : Standing) → StandingHasRange s → id_of s < 2 ^ 32
+pub id_small : (s : RecordKind) → RecordKindHasRange s → id_of s < 2 ^ 32
 id_small Current h = omega arith
 id_small (Open id) h = h
 id_small (Over id) h = h
 
-pub record_same : (r : Record) (s : Record) → r.frames ≡ s.frames → r.standing ≡ s.standing → r.number ≡ s.number → r.header ≡ s.header → r ≡ s
+pub record_same : (r : Record) (s : Record) → r.frames ≡ s.frames → r.record_kind ≡ s.record_kind → r.number ≡ s.number → r.header ≡ s.header → r ≡ s
 record_same r s a b c d = rw (a, b, c, d) refl
 
 -- ---- A record at the front of octets, with its message and its frames.

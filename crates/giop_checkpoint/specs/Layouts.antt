@@ -1,7 +1,7 @@
 -- What the layouts of a checkpoint have in different places (docs/FORMATS.md, Checkpoints; state).
 use Rattle.std.specs.Prelude.{◌≡◌, ℕ, ◌<◌, ◌≤◌, List, ◌++◌, replicate, Option, Some, None}
 use Rattle.giop_octets.specs.Fields.{four}
-use Rattle.giop_checkpoint.specs.declared.sizes.TheConstants.{MOST_OPEN, SECOND_OPEN}
+use Rattle.giop_checkpoint.specs.declared.sizes.TheConstants.{MOST_OPEN, LAYOUT_2_MOST_OPEN}
 use Rattle.giop_checkpoint.specs.declared.layout.Layout.{Layout}
 use Rattle.giop_checkpoint.specs.declared.layout.Layout.TheVariants.{Second, Third}
 
@@ -13,7 +13,7 @@ version_of Third = 3
 
 -- so many messages may be open at once
 abbrev pub OpenHasRange : Layout → ℕ → Type 0
-OpenHasRange Second n = n ≡ SECOND_OPEN
+OpenHasRange Second n = n ≡ LAYOUT_2_MOST_OPEN
 OpenHasRange Third n = (1 ≤ n) × (n ≤ MOST_OPEN)
 
 -- the payload's record is one of so many

@@ -3,19 +3,19 @@ use Rattle.std.specs.Prelude.{◌≡◌, ℕ, zero, suc, ◌+◌, ◌*◌, ◌^�
 use Rattle.giop_octets.specs.Fields.{four, eight}
 use Rattle.giop_checkpoint.specs.declared.sizes.TheConstants.{RECORD_SIZE, MESSAGE_SIZE, FRAME_SIZE, MOST_FRAMES}
 use Rattle.giop_checkpoint.specs.declared.record.Record.{Record}
-use Rattle.giop_checkpoint.specs.declared.record.Standing.{Standing}
-use Rattle.giop_checkpoint.specs.declared.record.Standing.TheVariants.{Current, Open, Over}
+use Rattle.giop_checkpoint.specs.declared.record.RecordKind.{RecordKind}
+use Rattle.giop_checkpoint.specs.declared.record.RecordKind.TheVariants.{Current, Open, Over}
 
 -- ---- ranges
 
-abbrev pub StandingHasRange : Standing → Type 0
-StandingHasRange Current = Unit {0}
-StandingHasRange (Open id) = id < 2 ^ 32
-StandingHasRange (Over id) = id < 2 ^ 32
+abbrev pub RecordKindHasRange : RecordKind → Type 0
+RecordKindHasRange Current = Unit {0}
+RecordKindHasRange (Open id) = id < 2 ^ 32
+RecordKindHasRange (Over id) = id < 2 ^ 32
 
 -- what any record of the code has
 pub record IsTyped (r : Record) : Type 0 where
-  pub standing : StandingHasRange r.standing
+  pub record_kind : RecordKindHasRange r.record_kind
   pub number : r.number < 2 ^ 64
   pub header : length r.header ≡ 12
 
@@ -25,23 +25,23 @@ pub record RecordHasRange (r : Record) : Type 0 where
 
 -- ---- layout
 
-abbrev pub standing_octet : Standing → ℕ
-standing_octet Current = 0
-standing_octet (Open id) = 1
-standing_octet (Over id) = 2
+abbrev pub record_kind_octet : RecordKind → ℕ
+record_kind_octet Current = 0
+record_kind_octet (Open id) = 1
+record_kind_octet (Over id) = 2
 
-abbrev pub id_of : Standing → ℕ
+abbrev pub id_of : RecordKind → ℕ
 id_of Current = 0
 id_of (Open id) = id
 id_of (Over id) = id
 
 -- how many frames it has, and what its message is
 unfoldable pub kind_octets : Record → List ℕ
-kind_octets r = r.frames ∷ standing_octet r.standing ∷ []
+kind_octets r = r.frames ∷ record_kind_octet r.record_kind ∷ []
 
 -- a record's own octets
 unfoldable pub own_octets : Record → List ℕ
-own_octets r = kind_octets r ++ eight r.number ++ r.header ++ four (id_of r.standing) ++ replicate 6 0
+own_octets r = kind_octets r ++ eight r.number ++ r.header ++ four (id_of r.record_kind) ++ replicate 6 0
 
 -- A record with what is kept of its message: so many octets, and its frames.
 pub record Entry : Type 0 where

@@ -6,7 +6,7 @@ ghost use Rattle.giop_octets.specs.Fields.{four};
 ghost use Rattle.giop_checkpoint.specs.Layouts.{OpenHasRange, OwnerFits, version_of, owner_octet, limit_octets};
 ghost use Rattle.giop_checkpoint.specs.declared.layout.Layout.{Layout as LayoutOf};
 
-use crate::sizes::{MOST_OPEN, SECOND_OPEN};
+use crate::sizes::{LAYOUT_2_MOST_OPEN, MOST_OPEN};
 use crate::state::same;
 use arrayvec::ArrayVec;
 use giop_octets::{put_four, put_zeros};
@@ -51,7 +51,7 @@ impl Layout {
         ensures { IsTrue result ↔ OpenHasRange self most_open }
     {
         match self {
-            Layout::Second => most_open == SECOND_OPEN,
+            Layout::Second => most_open == LAYOUT_2_MOST_OPEN,
             Layout::Third => 1 <= most_open && most_open <= MOST_OPEN,
         }
     }

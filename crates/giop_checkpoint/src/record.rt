@@ -2,9 +2,9 @@
 
 ghost use Rattle.std.specs.Prelude.{◌≡◌, ◌↔◌, ℕ, List, ◌+◌, ◌*◌, ◌≤◌, ◌++◌, length, take, drop, Option, Some, IfSome, IsSomeAnd, IsTrue};
 ghost use Rattle.arrayvec.specs.ArrayVec.{array_vec_len};
-ghost use Rattle.giop_checkpoint.specs.Records.{Entry, EntryHasRange, IsTyped, RecordHasRange, StandingHasRange, AreRecords, used, kind_octets, own_octets, entry_octets, standing_octet, id_of};
+ghost use Rattle.giop_checkpoint.specs.Records.{Entry, EntryHasRange, IsTyped, RecordHasRange, RecordKindHasRange, AreRecords, used, kind_octets, own_octets, entry_octets, record_kind_octet, id_of};
 ghost use Rattle.giop_checkpoint.specs.declared.record.Record.{Record as RecordOf};
-ghost use Rattle.giop_checkpoint.specs.declared.record.Standing.{Standing as StandingOf};
+ghost use Rattle.giop_checkpoint.specs.declared.record.RecordKind.{RecordKind as StandingOf};
 
 use crate::sizes::{FRAME_SIZE, MESSAGE_SIZE, MOST_FRAMES, RECORD_SIZE};
 use crate::state::same;
@@ -15,7 +15,7 @@ use giop_octets::{
 
 /// What a message is to its stream.
 #[derive(Clone, Copy, Debug)]
-pub enum Standing {
+pub enum RecordKind {
     /// The message whose payload comes, which is neither open nor over.
     Current,
     /// Open under this request id.
@@ -29,21 +29,21 @@ pub enum Standing {
 pub struct Record {
     /// How many frames it has, at most 24.
     pub frames: u8,
-    pub standing: Standing,
+    pub record_kind: RecordKind,
     /// The message's number in its stream, from 1.
     pub number: u64,
     pub header: [u8; 12],
 }
 
-impl Standing {
+impl RecordKind {
     /// Its octet.
     fn octet(self) -> u8
-        ensures { result ≡ standing_octet self }
+        ensures { result ≡ record_kind_octet self }
     {
         match self {
-            Standing::Current => 0,
-            Standing::Open(_) => 1,
-            Standing::Over(_) => 2,
+            RecordKind::Current => 0,
+            RecordKind::Open(_) => 1,
+            RecordKind::Over(_) => 2,
         }
     }
 
@@ -52,9 +52,9 @@ impl Standing {
         ensures { result ≡ id_of self }
     {
         match self {
-            Standing::Current => 0,
-            Standing::Open(id) => id,
-            Standing::Over(id) => id,
+            RecordKind::Current => 0,
+            RecordKind::Open(id) => id,
+            RecordKind::Over(id) => id,
         }
     }
 }
@@ -67,7 +67,7 @@ impl Record {
         ensures put { out.new.items ≡ out.old.items ++ kind_octets self.now }
         ensures len { array_vec_len out.new ≡ array_vec_len out.old + 2 }
     {
-        put_octets(out, &[self.frames, self.standing.octet()]);
+        put_octets(out, &[self.frames, self.record_kind.octet()]);
     }
 
     /// Writes the record's own octets.
@@ -80,7 +80,7 @@ impl Record {
         self.write_kind(out);
         put_eight(out, self.number);
         put_octets(out, &self.header);
-        put_four(out, self.standing.id());
+        put_four(out, self.record_kind.id());
         put_zeros(out, 6);
     }
 }
@@ -159,30 +159,30 @@ fn record_at(octets: &[u8]) -> Option<Record>
 /// What octets say, those without a use apart.
 fn parsed(octets: &[u8]) -> Option<Record>
     requires long { length octets.now ≡ 32 }
-    ensures standing { IfSome result (λ r. StandingHasRange r.standing) }
+    ensures record_kind { IfSome result (λ r. RecordKindHasRange r.record_kind) }
     ensures again { (r : RecordOf) → RecordHasRange r → octets.now ≡ own_octets r →
         result ≡ Some r }
 {
-    let Some(standing) = standing_of(octet_at(octets, 1), four_at(octets, 22)) else {
+    let Some(record_kind) = record_kind_of(octet_at(octets, 1), four_at(octets, 22)) else {
         return None;
     };
     Some(Record {
         frames: octet_at(octets, 0),
-        standing,
+        record_kind,
         number: eight_at(octets, 2),
         header: octets_at(octets, 10),
     })
 }
 
 /// What a message is, by its octet and its request id.
-fn standing_of(octet: u8, id: u32) -> Option<Standing>
-    ensures range { IfSome result (λ s. StandingHasRange s) }
-    ensures again { (s : StandingOf) → octet ≡ standing_octet s → id ≡ id_of s → result ≡ Some s }
+fn record_kind_of(octet: u8, id: u32) -> Option<RecordKind>
+    ensures range { IfSome result (λ s. RecordKindHasRange s) }
+    ensures again { (s : StandingOf) → octet ≡ record_kind_octet s → id ≡ id_of s → result ≡ Some s }
 {
     match octet {
-        0 => Some(Standing::Current),
-        1 => Some(Standing::Open(id)),
-        2 => Some(Standing::Over(id)),
+        0 => Some(RecordKind::Current),
+        1 => Some(RecordKind::Open(id)),
+        2 => Some(RecordKind::Over(id)),
         _ => None,
     }
 }

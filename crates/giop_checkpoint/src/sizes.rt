@@ -7,7 +7,7 @@ pub const FIXED_SIZE: usize = 96;
 pub const MOST_OPEN: u32 = 4096;
 
 /// How many messages may be open at once by layout 2, which doesn't say it.
-pub const SECOND_OPEN: u32 = 16;
+pub const LAYOUT_2_MOST_OPEN: u32 = 16;
 
 /// The octets of a record in front of its frames: 32 of its own, and those of its message.
 pub const RECORD_SIZE: usize = 256;

@@ -10,7 +10,7 @@ ghost use Rattle.giop_checkpoint.specs.declared.fault.StreamFault.{StreamFault a
 use crate::fault::StreamFault;
 use crate::fixed::{Counts, Fixed, Place};
 use crate::layout::Layout;
-use crate::sizes::SECOND_OPEN;
+use crate::sizes::LAYOUT_2_MOST_OPEN;
 use arrayvec::ArrayVec;
 use giop_octets::{eight_at, four_at, octet_at, octets_at};
 
@@ -135,7 +135,7 @@ fn open_at(layout: Layout, octets: &[u8]) -> u32
         octets.now ≡ limit_octets layout n owner → result ≡ n }
 {
     match layout {
-        Layout::Second => SECOND_OPEN,
+        Layout::Second => LAYOUT_2_MOST_OPEN,
         Layout::Third => four_at(octets, 0),
     }
 }

@@ -1,12 +1,12 @@
 //! A record at stated octets.
 
 use arrayvec::ArrayVec;
-use giop_checkpoint::{Record, Standing, first_record};
+use giop_checkpoint::{Record, RecordKind, first_record};
 use std::test::Fail;
 
 const OVER: Record = Record {
     frames: 0,
-    standing: Standing::Over(5),
+    record_kind: RecordKind::Over(5),
     number: 258,
     header: *b"GIOP\x01\x02\x02\x00\x00\x00\x00\x28",
 };
@@ -22,7 +22,7 @@ fn a_record_is_written_and_read(rt: HostRuntime) -> Result<(), Fail> {
     octets[..32].copy_from_slice(own);
     let first = first_record(&octets).ok_or("a record")?;
     assert!(rt; first.record.number == 258 && first.frames.is_empty() && first.rest.is_empty());
-    assert!(rt; matches!(first.record.standing, Standing::Over(5)));
+    assert!(rt; matches!(first.record.record_kind, RecordKind::Over(5)));
     octets[31] = 1;
     assert!(rt; first_record(&octets).is_none());
     Ok(())

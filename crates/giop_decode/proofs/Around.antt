@@ -2,72 +2,72 @@
 use Rattle.std.proofs.Common.{◌≡◌, ℕ, zero, suc, ◌-◌, ◌<◌, ◌≤◌, List, [], ◌∷◌, ◌++◌, refl, ◌∙◌, ap, arith, add-zero, lit<, lt-ltb}
 use Rattle.giop_decode.specs.Begins.{start_leaf, start_outer}
 use Rattle.giop_decode.specs.Fits.{HasParts, Surrounds}
-use Rattle.giop_decode.specs.Pieces.{Waiting, block}
+use Rattle.giop_decode.specs.Pieces.{Partial, block}
 use Rattle.giop_decode.specs.Reading.{parts_from, read}
-use Rattle.giop_decode.specs.Spine.{Coding, Done, Fault, Index, Leaf, Line, Member, Name, Part, Place, Read, Seg, Short, with_front, within, Held, Inside}
-use Rattle.giop_decode.specs.Steps.{inner_path, around, part_at, path_in, resumed, seg_in, seg_of, coding_at, coding_in}
+use Rattle.giop_decode.specs.ReadResult.{Coding, Done, Fault, Index, Leaf, Line, Member, Name, Part, OpenPart, Read, PathSegment, Short, with_front, within, Held, Inside}
+use Rattle.giop_decode.specs.ReadingSteps.{inner_path, around, part_at, path_in, resumed, segment_in, segment_of, coding_at, coding_in}
 use Rattle.giop_decode.specs.declared.progress.Kind.{Kind}
 use Rattle.giop_sig.specs.Fits.{IsFit}
 use Rattle.giop_sig.specs.Types.{Array, Sequence, Single, Struct, Ty, Union, part_of, width}
-use Rattle.giop_decode.proofs.Now.{number_none}
+use Rattle.giop_decode.proofs.OctetResults.{number_none}
 use Rattle.giop_decode.proofs.Law.{with_front-followed, with_front-within, block_waits, width_pos}
 use Rattle.giop_decode.proofs.Enclosing.{with_front-enclosed}
 
-pub around-append : (coding : Coding) (path : List Seg) (outer : List Place) (place : Place)
+pub around-append : (coding : Coding) (path : List PathSegment) (outer : List OpenPart) (place : OpenPart)
     (r : Read) → around coding path (outer ++ place ∷ []) r
     ≡ around coding path outer (resumed (coding_in coding outer) (path_in path outer) place r)
 around-append coding path [] place r = refl
-around-append coding path (p ∷ outer) place r = ap (resumed coding path p) (around-append (coding_at coding p) (path ++ seg_in p ∷ []) outer place r)
+around-append coding path (p ∷ outer) place r = ap (resumed coding path p) (around-append (coding_at coding p) (path ++ segment_in p ∷ []) outer place r)
 
-pub path_in-append : (path : List Seg) (outer : List Place) (place : Place) →
-    path_in path (outer ++ place ∷ []) ≡ path_in path outer ++ seg_in place ∷ []
+pub path_in-append : (path : List PathSegment) (outer : List OpenPart) (place : OpenPart) →
+    path_in path (outer ++ place ∷ []) ≡ path_in path outer ++ segment_in place ∷ []
 path_in-append path [] place = refl
-path_in-append path (p ∷ outer) place = path_in-append (path ++ seg_in p ∷ []) outer place
+path_in-append path (p ∷ outer) place = path_in-append (path ++ segment_in p ∷ []) outer place
 
-pub around-short : (coding : Coding) (path : List Seg) (outer : List Place) (lines : List Line)
-    (at : ℕ) (inner : List Place) (leaf : Leaf) → Surrounds at outer →
+pub around-short : (coding : Coding) (path : List PathSegment) (outer : List OpenPart) (lines : List Line)
+    (at : ℕ) (inner : List OpenPart) (leaf : Leaf) → Surrounds at outer →
     around coding path outer (Short lines at inner leaf) ≡ Short lines at (outer ++ inner) leaf
 around-short coding path [] lines at inner leaf h = refl
-around-short coding path (Part T i count ∷ outer) lines at inner leaf h = rw (around-short coding (path ++ seg_of T i ∷ []) outer lines at inner leaf h.1) refl
-around-short coding path (Member T i ∷ outer) lines at inner leaf h = rw (around-short coding (path ++ seg_of T i ∷ []) outer lines at inner leaf h.1) refl
+around-short coding path (Part T i count ∷ outer) lines at inner leaf h = rw (around-short coding (path ++ segment_of T i ∷ []) outer lines at inner leaf h.1) refl
+around-short coding path (Member T i ∷ outer) lines at inner leaf h = rw (around-short coding (path ++ segment_of T i ∷ []) outer lines at inner leaf h.1) refl
 around-short coding path (Inside T c end ∷ outer) lines at inner leaf h =
     rw (around-short c (path ++ Held ∷ []) outer lines at inner leaf h.1, lt-ltb at end h.0.0) refl
 
-pub around-fault : (coding : Coding) (path : List Seg) (outer : List Place) (lines : List Line)
+pub around-fault : (coding : Coding) (path : List PathSegment) (outer : List OpenPart) (lines : List Line)
     (at : ℕ) (kind : Kind) (S : Ty) → around coding path outer (Fault lines at kind S)
     ≡ Fault lines at kind S
 around-fault coding path [] lines at kind S = refl
-around-fault coding path (Part T i count ∷ outer) lines at kind S = rw (around-fault coding (path ++ seg_of T i ∷ []) outer lines at kind S) refl
-around-fault coding path (Member T i ∷ outer) lines at kind S = rw (around-fault coding (path ++ seg_of T i ∷ []) outer lines at kind S) refl
+around-fault coding path (Part T i count ∷ outer) lines at kind S = rw (around-fault coding (path ++ segment_of T i ∷ []) outer lines at kind S) refl
+around-fault coding path (Member T i ∷ outer) lines at kind S = rw (around-fault coding (path ++ segment_of T i ∷ []) outer lines at kind S) refl
 around-fault coding path (Inside T c end ∷ outer) lines at kind S = rw (around-fault c (path ++ Held ∷ []) outer lines at kind S) refl
 
-pub around-front : (coding : Coding) (path : List Seg) (outer : List Place) (front : List Line)
+pub around-front : (coding : Coding) (path : List PathSegment) (outer : List OpenPart) (front : List Line)
     (r : Read) → around coding path outer (with_front front r)
     ≡ with_front front (around coding path outer r)
 around-front coding path [] front r = refl
 around-front coding path (Part T i count ∷ outer) front r =
-    let inner = around coding (path ++ seg_of T i ∷ []) outer r in
+    let inner = around coding (path ++ segment_of T i ∷ []) outer r in
     let next = parts_from (part_at coding path T count) (count - suc i) (suc i) in
-    rw (around-front coding (path ++ seg_of T i ∷ []) outer front r, with_front-within front (Part T i count) inner)
+    rw (around-front coding (path ++ segment_of T i ∷ []) outer front r, with_front-within front (Part T i count) inner)
     (with_front-followed front (within (Part T i count) inner) next)
 around-front coding path (Member T i ∷ outer) front r =
-    rw (around-front coding (path ++ seg_of T i ∷ []) outer front r) (with_front-within front (Member T i) (around coding (path ++ seg_of T i ∷ []) outer r))
+    rw (around-front coding (path ++ segment_of T i ∷ []) outer front r) (with_front-within front (Member T i) (around coding (path ++ segment_of T i ∷ []) outer r))
 around-front coding path (Inside T c end ∷ outer) front r =
     rw (around-front c (path ++ Held ∷ []) outer front r) (with_front-enclosed front path T c end (around c (path ++ Held ∷ []) outer r) [])
 
 -- Before the first octet.
-pub block_none : (n at : ℕ) → 0 < n → block n at [] ≡ Waiting [] at
-block_none n at pos = block_waits n at [] pos ∙ ap (Waiting []) (add-zero at)
+pub block_none : (n at : ℕ) → 0 < n → block n at [] ≡ Partial [] at
+block_none n at pos = block_waits n at [] pos ∙ ap (Partial []) (add-zero at)
 
 -- the first of several parts, and what comes behind it
-pub first_part : (coding : Coding) (path : List Seg) (T : Ty) (count more i : ℕ) (at : ℕ) →
+pub first_part : (coding : Coding) (path : List PathSegment) (T : Ty) (count more i : ℕ) (at : ℕ) →
     (read coding (inner_path path T i) (part_of T i) at []
     ≡ Short [] at (start_outer (part_of T i)) (start_leaf (part_of T i))) →
     parts_from (part_at coding path T count) (suc more) i at []
     ≡ Short [] at (Part T i count ∷ start_outer (part_of T i)) (start_leaf (part_of T i))
 first_part coding path T count more i at e = rw e refl
 
-pub read_none : (coding : Coding) (path : List Seg) (d : ℕ) (T : Ty) (at : ℕ) → IsFit d T →
+pub read_none : (coding : Coding) (path : List PathSegment) (d : ℕ) (T : Ty) (at : ℕ) → IsFit d T →
     read coding path T at [] ≡ Short [] at (start_outer T) (start_leaf T)
 unfolding IsFit
 read_none coding path zero T at h = absurd h
@@ -90,7 +90,7 @@ fit_part d (Array n T) i count fit kind below = fit.1
 fit_part d (Sequence bound T) i count fit kind below = fit
 fit_part d T i count fit kind below = absurd kind
 
-pub next_part : (coding : Coding) (path : List Seg) (d : ℕ) (T : Ty) (i count at : ℕ) →
+pub next_part : (coding : Coding) (path : List PathSegment) (d : ℕ) (T : Ty) (i count at : ℕ) →
     IsFit (suc d) T → HasParts T count → suc i < count →
     resumed coding path (Part T i count) (Done [] at [])
     ≡ Short [] at (Part T (suc i) count ∷ start_outer (part_of T (suc i)))
@@ -106,7 +106,7 @@ next_part coding path d T i count at fit kind below = go (count - suc i) refl
         ap (with_front []) (first_part coding path T count more (suc i) at (read_none coding (inner_path path T (suc i)) d (part_of T (suc i))
         at (fit_part d T (suc i) count fit kind below)))
 
-pub last_part : (coding : Coding) (path : List Seg) (T : Ty) (i count at : ℕ) → count ≤ suc i →
+pub last_part : (coding : Coding) (path : List PathSegment) (T : Ty) (i count at : ℕ) → count ≤ suc i →
     resumed coding path (Part T i count) (Done [] at []) ≡ Done [] at []
 last_part coding path T i count at h =
     let e : count - suc i ≡ 0 = omega arith in

@@ -1,10 +1,10 @@
 -- How a type begins.
 use Rattle.std.proofs.Common.{◌≡◌, ℕ, zero, suc, pred, ◌<◌, List, [], ◌∷◌, ◌++◌, map, refl, sym, ◌∙◌, ap, arith, append_assoc}
 use Rattle.std.specs.List.{AllByRecursion}
-use Rattle.giop_decode.specs.Spine.{Place, Part}
+use Rattle.giop_decode.specs.ReadResult.{OpenPart, Part}
 use Rattle.giop_decode.specs.Fits.{HasParts, IsEncapsulation}
 use Rattle.giop_decode.specs.Begins.{start_outer, start_leaf}
-use Rattle.giop_decode.specs.Turns.{IsWhole, part_in}
+use Rattle.giop_decode.specs.Transitions.{IsWhole, part_in}
 use Rattle.giop_sig.specs.Types.{Ty, Struct, Array, part_of, shape_in, HasPlace, IsUnion}
 use Rattle.giop_sig.specs.Fits.{IsFit}
 
@@ -58,6 +58,6 @@ pub map_push : {X Y : Type 0} (f : X → Y) (xs : List X) (x : X) →
 map_push f [] x = refl
 map_push f (y ∷ xs) x = ap (λ ys. f y ∷ ys) (map_push f xs x)
 
-pub begins_places : (d : ℕ) (ps : List Place) (T : Ty) (count : ℕ) → Begins d T count →
+pub begins_places : (d : ℕ) (ps : List OpenPart) (T : Ty) (count : ℕ) → Begins d T count →
     (ps ++ part_in T 0 count ∷ []) ++ start_outer (part_of T 0) ≡ ps ++ start_outer T
 begins_places d ps T count b = append_assoc ps (part_in T 0 count ∷ []) (start_outer (part_of T 0)) ∙ ap (λ qs. ps ++ qs) (sym b.outer)

@@ -4,7 +4,7 @@ use Rattle.std.specs.Prelude.{IfSome}
 use Rattle.std.proofs.lemmas.List.{map-append, take_more}
 use Rattle.giop_cdr.specs.declared.order.Order.{Order}
 use Rattle.giop_decode.specs.declared.frame.Frame.{Frame}
-use Rattle.giop_decode.specs.Turns.{IsAhead, AreAhead, coding_by, coding_of, is_inside, tick_of, tick_by_of, ticked, ticked_at, ticked_by, ticked_by_at}
+use Rattle.giop_decode.specs.Transitions.{HasOctetsLeft, HaveOctetsLeft, coding_by, coding_of, is_inside, tick_of, tick_by_of, ticked, ticked_at, ticked_by, ticked_by_at}
 use Rattle.giop_decode.proofs.Surrounding.{free_first}
 
 none_at : (inside : Option Order) (i : ℕ) → ticked_by_at 0 inside i ≡ i
@@ -39,8 +39,8 @@ fewer_at m n None i count le h = tt
 fewer_at m n (Some order) i count le h = omega (arith, le, h)
 
 -- some octet is still to come after fewer of them
-pub ahead_fewer : (m n : ℕ) (frames : List Frame) → m ≤ n → AreAhead (ticked_by n frames) →
-    AreAhead (ticked_by m frames)
+pub ahead_fewer : (m n : ℕ) (frames : List Frame) → m ≤ n → HaveOctetsLeft (ticked_by n frames) →
+    HaveOctetsLeft (ticked_by m frames)
 ahead_fewer m n [] le h = tt
 ahead_fewer m n (f ∷ frames) le h = (fewer_at m n f.inside f.index f.count le h.0, ahead_fewer m n frames le h.1)
 
@@ -51,8 +51,8 @@ first_at n None i count h = tt
 first_at n (Some order) i count h = omega (arith, h)
 
 -- and after the first of them
-pub ahead_first : (n : ℕ) (frames : List Frame) → AreAhead (ticked_by (suc n) frames) →
-    AreAhead (ticked frames)
+pub ahead_first : (n : ℕ) (frames : List Frame) → HaveOctetsLeft (ticked_by (suc n) frames) →
+    HaveOctetsLeft (ticked frames)
 ahead_first n [] h = tt
 ahead_first n (f ∷ frames) h = (first_at n f.inside f.index f.count h.0, ahead_first n frames h.1)
 
@@ -69,15 +69,15 @@ free_ticked_by n (f ∷ frames) h =
 
 -- the frames before an index leave room for these octets, and the one at it for fewer
 pub before_more : (outer : List Frame) (i before now : ℕ) (d : Frame) → i < length outer →
-    now ≤ before → AreAhead (ticked_by before (take i outer)) →
-    IsAhead (tick_by_of now (get_or outer i d)) → AreAhead (ticked_by now (take (i + 1) outer))
+    now ≤ before → HaveOctetsLeft (ticked_by before (take i outer)) →
+    HasOctetsLeft (tick_by_of now (get_or outer i d)) → HaveOctetsLeft (ticked_by now (take (i + 1) outer))
 before_more outer i before now d below le h one =
     let f = get_or outer i d in
     rw (take_more outer i d below, map-append (tick_by_of now) (take i outer) (f ∷ []))
     (push (ticked_by now (take i outer)) (tick_by_of now f) (ahead_fewer now before (take i outer) le h) one)
   where
-    push : (frames : List Frame) (f : Frame) → AreAhead frames → IsAhead f →
-        AreAhead (frames ++ f ∷ [])
+    push : (frames : List Frame) (f : Frame) → HaveOctetsLeft frames → HasOctetsLeft f →
+        HaveOctetsLeft (frames ++ f ∷ [])
     push [] f h k = (k, tt)
     push (g ∷ frames) f h k = (h.0, push frames f h.1 k)
 

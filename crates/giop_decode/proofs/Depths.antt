@@ -3,9 +3,9 @@ use Rattle.std.proofs.Common.{◌≡◌, ℕ, zero, suc, ◌<◌, ◌≤◌, max
 use Rattle.std.proofs.lemmas.Bool.{cases_lt}
 use Rattle.giop_decode.specs.declared.decoder.Decoder.{Decoder}
 use Rattle.giop_decode.specs.Fits.{FitsIn, HasParts, HasCase, IsEncapsulation}
-use Rattle.giop_decode.specs.Holding.{Fits}
-use Rattle.giop_decode.specs.Spine.{Place, Part, Member, Inside, Leaf}
-use Rattle.giop_decode.specs.Turns.{places}
+use Rattle.giop_decode.specs.DecoderState.{Fits}
+use Rattle.giop_decode.specs.ReadResult.{OpenPart, Part, Member, Inside, Leaf}
+use Rattle.giop_decode.specs.Transitions.{open_parts}
 use Rattle.giop_decode.proofs.Going.{length_places}
 use Rattle.giop_sig.proofs.PartLaws.{depth_is}
 use Rattle.giop_sig.specs.Table.{Table}
@@ -43,7 +43,7 @@ unfolding depth
 inside_shallower (Encapsulation T) kind = omega arith
 inside_shallower T kind = absurd kind
 
-fits_shallow : (ps : List Place) (T : Ty) (leaf : Leaf) → FitsIn T ps leaf → length ps < depth T
+fits_shallow : (ps : List OpenPart) (T : Ty) (leaf : Leaf) → FitsIn T ps leaf → length ps < depth T
 fits_shallow [] T leaf fits = depth_some T
 fits_shallow (Part U i count ∷ ps) T leaf fits = omega (arith, fits_shallow ps (part_of T i) leaf fits.1, part_shallower T i count fits.0.kind fits.0.below)
 fits_shallow (Member U i ∷ ps) T leaf fits = omega (arith, fits_shallow ps (part_of T i) leaf fits.1, case_shallower T i fits.0.kind)
@@ -52,4 +52,4 @@ fits_shallow (Inside U coding end ∷ ps) T leaf fits = omega (arith, fits_shall
 -- They are fewer than the types of a table are deep.
 pub fits_depth : (C : Table) (d : Decoder) → Fits C d → length d.outer.items < depth_of C.types
 fits_depth C d h =
-    omega (arith, length_places C h.here d.outer.items, fits_shallow (places C h.here d.outer.items) (tree C h.root) _ h.fits, depth_is C h.root h.known_root)
+    omega (arith, length_places C h.here d.outer.items, fits_shallow (open_parts C h.here d.outer.items) (tree C h.root) _ h.fits, depth_is C h.root h.known_root)

@@ -8,20 +8,20 @@ use Rattle.giop_decode.specs.declared.frame.Frame.{Frame}
 use Rattle.giop_decode.specs.declared.leaf.Leaf.{Leaf as Innermost}
 use Rattle.giop_decode.specs.declared.leaf.Leaf.TheVariants as innermost
 use Rattle.giop_decode.specs.declared.progress.Progress.TheVariants as progress
-use Rattle.giop_decode.specs.Holding.{Fits, IsHere, Minds, standing_in}
-use Rattle.giop_decode.specs.Reading.{headed, read}
-use Rattle.giop_decode.specs.Runs.{dues, AllGathered}
+use Rattle.giop_decode.specs.DecoderState.{Fits, CanStandAt, KeepsNoted, read_by_leaf}
+use Rattle.giop_decode.specs.Reading.{after_leading_number, read}
+use Rattle.giop_decode.specs.Runs.{added_lines_of_run, AllGathered}
 use Rattle.giop_decode.specs.Pieces.{tail}
-use Rattle.giop_decode.specs.Spine.{plain, lines_of}
-use Rattle.giop_decode.specs.Steps.{after, coding_in, head_width, AreHeld}
-use Rattle.giop_decode.specs.Turns.{coding_by, is_inside, places, ticked, ticked_by, AreAhead, IsClean}
+use Rattle.giop_decode.specs.ReadResult.{plain, lines_of}
+use Rattle.giop_decode.specs.ReadingSteps.{after, coding_in, leading_width, AreHeld}
+use Rattle.giop_decode.specs.Transitions.{coding_by, is_inside, open_parts, ticked, ticked_by, HaveOctetsLeft, IsClean}
 use Rattle.giop_decode.proofs.Advancing.{same_some}
 use Rattle.giop_decode.proofs.Counting.{ahead_first, coding_ticked, free_ticked_by, ticked_more, ticked_none}
 use Rattle.giop_decode.proofs.PieceLaws.{content_held}
 use Rattle.giop_decode.proofs.Runs.{dues_both, dues_none, takes_one, takes_both}
 use Rattle.giop_decode.proofs.Surrounding.{coded_in, free_coding_by}
 use Rattle.giop_decode.proofs.Taking.{takes_to, due_is}
-use Rattle.giop_decode.proofs.Waiting.{Holds, step_held, held_comes, held_here, held_fits, held_minds}
+use Rattle.giop_decode.proofs.PartialBlocks.{Holds, step_held, held_comes, held_here, held_fits, held_minds}
 use Rattle.giop_sig.specs.Table.{Table}
 use Rattle.giop_sig.specs.Trees.{tree}
 
@@ -35,17 +35,17 @@ pub record IsFurther (d new : Decoder) (count : ℕ) (frames : List Frame) : Typ
   pub outer : new.outer.items ≡ frames
   pub inside : new.inside ≡ d.inside
   pub leaf : new.leaf ≡ d.leaf
-  pub memory : new.memory ≡ d.memory
+  pub notes : new.notes ≡ d.notes
 
 -- so many octets were counted in each encapsulation, and none has ended
 abbrev pub IsCountedBy : Decoder → Decoder → ℕ → Type 0
 IsCountedBy d new count =
     IsFurther d new count (ticked_by count d.outer.items)
-    × AreAhead (ticked_by count d.outer.items)
+    × HaveOctetsLeft (ticked_by count d.outer.items)
 
 module _ (C : Table) (d new : Decoder) where
-  still_here : (here : ℕ) → IsFurther d new 0 d.outer.items → d.at < 8 → IsHere d here →
-      IsHere new here
+  still_here : (here : ℕ) → IsFurther d new 0 d.outer.items → d.at < 8 → CanStandAt d here →
+      CanStandAt new here
   still_here here on small h = (omega (arith, on.at, h.0, small), rw on.outer h.1)
 
   -- no octet
@@ -69,28 +69,28 @@ module _ (C : Table) (d new : Decoder) where
       known = f.known;
       clean = rw (carry, piece) f.clean;
       at = omega (arith, on.at);
-      heeds = rw (on.root, on.memory) f.heeds;
+      heeds = rw (on.root, on.notes) f.heeds;
     },
     λ T order at message root s r.
-        let same : standing_in C d d.leaf r.lines (at + length s) ≡ standing_in C new new.leaf r.lines (at + length s) =
-        ap (λ l. standing_in C d l r.lines (at + length s)) f.goes_on
+        let same : read_by_leaf C d d.leaf r.lines (at + length s) ≡ read_by_leaf C new new.leaf r.lines (at + length s) =
+        ap (λ l. read_by_leaf C d l r.lines (at + length s)) f.goes_on
         ∙ (sym (rw (on.outer, carry, piece) refl)
-        ∙ ap (λ l. standing_in C new l r.lines (at + length s)) (sym (on.leaf ∙ f.goes_on))) in
-        let minds : Minds root new (read (plain order) [] T at s) =
-        rw on.memory r.minds in
+        ∙ ap (λ l. read_by_leaf C new l r.lines (at + length s)) (sym (on.leaf ∙ f.goes_on))) in
+        let keeps_noted : KeepsNoted root new (read (plain order) [] T at s) =
+        rw on.notes r.keeps_noted in
         record {
           takes = record {
             answers = refl;
             reads = λ unfaulty. rw (append-nil s) (record {
               lines = r.lines;
               is = r.is ∙ same;
-              minds = minds;
+              keeps_noted = keeps_noted;
               same_order = on.order ∙ r.same_order;
               same_message = on.message ∙ r.same_message;
               same_root = on.root ∙ r.same_root;
               offset = still_here (at + length s) on f.at r.offset;
             });
-            minds = rw (append-nil s) minds;
+            keeps_noted = rw (append-nil s) keeps_noted;
           };
           quiet = dues_none order T at s;
         },
@@ -103,19 +103,19 @@ module _ (C : Table) (d new : Decoder) where
 
 module _ (C : Table) (d new : Decoder) (leaf : Innermost) (b : ℕ) where
   -- one octet that is held, and at which no encapsulation ends
-  one_gathered : AreAhead (ticked d.outer.items) → IsFurther d new 1 (ticked d.outer.items) →
+  one_gathered : HaveOctetsLeft (ticked d.outer.items) → IsFurther d new 1 (ticked d.outer.items) →
       Fits C d → d.leaf ≡ Some leaf → IsClean leaf new.carry new.piece.items →
-      ((here : ℕ) → IsHere d here → Holds C d new leaf here b) →
+      ((here : ℕ) → CanStandAt d here → Holds C d new leaf here b) →
       Fits C new × AllGathered C d new (b ∷ [])
   one_gathered ahead on f e clean holds =
       let e' = on.leaf ∙ e in (
-        held_fits C d new leaf b ahead f e e' on.outer on.root on.memory on.inside on.at clean (holds f.here f.stands),
+        held_fits C d new leaf b ahead f e e' on.outer on.root on.notes on.inside on.at clean (holds f.here f.stands),
         λ T order at message root s r. record {
           takes = takes_one C T order at message root new s b progress.More
               (takes_to C T order at message root d new s b progress.More f on.order on.root on.message
               (λ here h. held_here C d new leaf b ahead f e e' on.outer here on.at h)
               (λ here h. held_comes C d new leaf b ahead f e e' on.outer here h (holds here h))
-              (λ here front h old. held_minds C d new leaf b ahead f e e' on.outer here front on.memory h (holds here h) old) r);
+              (λ here front h old. held_minds C d new leaf b ahead f e e' on.outer here front on.notes h (holds here h) old) r);
           quiet = due_is C T order at message root d s b f r
               ∙ ap lines_of (step_held C d new leaf b ahead f e e' on.outer (at + length s) r.offset (holds (at + length s) r.offset));
         },
@@ -129,7 +129,7 @@ module _ (C : Table) (d new : Decoder) (leaf : Innermost) (b : ℕ) where
       let others = h T order at message root (s ++ b ∷ []) (one.takes.reads (λ fault. fault)) in
       record {
         takes = takes_both C T order at message root new s (b ∷ []) bs progress.More one.takes.answers others.takes;
-        quiet = dues_both order T at s (b ∷ []) bs ∙ (ap (λ z. z ++ dues order T at (s ++ b ∷ []) bs) one.quiet ∙ others.quiet);
+        quiet = dues_both order T at s (b ∷ []) bs ∙ (ap (λ z. z ++ added_lines_of_run order T at (s ++ b ∷ []) bs) one.quiet ∙ others.quiet);
       }
 
 -- the decoder behind the first of several octets
@@ -144,12 +144,12 @@ next_in d carry piece = record {
   leaf = d.leaf;
   carry = carry;
   piece = record { items = piece };
-  memory = d.memory;
+  notes = d.notes;
 }
 
 next_on : (d : Decoder) (carry piece : List ℕ) →
     IsFurther d (next_in d carry piece) 1 (ticked d.outer.items)
-next_on d carry piece = record { order = refl; root = refl; message = refl; at = refl; outer = refl; inside = refl; leaf = refl; memory = refl }
+next_on d carry piece = record { order = refl; root = refl; message = refl; at = refl; outer = refl; inside = refl; leaf = refl; notes = refl }
 
 others_on : (d new : Decoder) (carry piece : List ℕ) (count : ℕ) →
     IsCountedBy d new (suc count) → IsCountedBy (next_in d carry piece) new count
@@ -163,16 +163,16 @@ others_on d new carry piece count on =
         outer = on.0.outer ∙ sym same;
         inside = on.0.inside;
         leaf = on.0.leaf;
-        memory = on.0.memory;
+        notes = on.0.notes;
       },
-      subst AreAhead (sym same) on.1,
+      subst HaveOctetsLeft (sym same) on.1,
     )
 
 -- in no encapsulation
 pub counted_free : (d new : Decoder) (count : ℕ) → is_inside d.outer.items ≡ false →
-    AreAhead d.outer.items → IsFurther d new count d.outer.items → IsCountedBy d new count
+    HaveOctetsLeft d.outer.items → IsFurther d new count d.outer.items → IsCountedBy d new count
 counted_free d new count free ahead on =
-    subst (λ fs. IsFurther d new count fs × AreAhead fs) (free_ticked_by count d.outer.items free) (on, ahead)
+    subst (λ fs. IsFurther d new count fs × HaveOctetsLeft fs) (free_ticked_by count d.outer.items free) (on, ahead)
 
 -- ---- of a content
 
@@ -219,7 +219,7 @@ content_gathered C of total offset d new (b ∷ bs) on carry piece f e room some
 pub number_counted : (C : Table) (of : TypeId) (d new : Decoder) (octets : List ℕ) →
     IsCountedBy d new (length octets) → new.piece.items ≡ d.piece.items → Fits C d →
     d.leaf ≡ Some (innermost.Number of) →
-    AreHeld (head_width (tree C of.0)) (coding_by d.order d.at d.outer.items).1 d.carry octets
+    AreHeld (leading_width (tree C of.0)) (coding_by d.order d.at d.outer.items).1 d.carry octets
     new.carry → Fits C new × AllGathered C d new octets
 number_counted C of d new [] on piece f e held = none_counted C d new on held piece f
 number_counted C of d new (b ∷ bs) on piece f e held =
@@ -228,10 +228,10 @@ number_counted C of d new (b ∷ bs) on piece f e held =
     let it : f.leaf ≡ leaf = same_some f.leaf leaf (sym f.goes_on ∙ e) in
     let clean : IsClean leaf d.carry d.piece.items = subst (λ l. IsClean l d.carry d.piece.items) it f.clean in
     let one = one_gathered C d mid leaf b (ahead_first (length bs) d.outer.items on.1) (next_on d held.0 d.piece.items) f e clean (λ here h path.
-    let c = coding_in (plain d.order) (places C here d.outer.items) in
+    let c = coding_in (plain d.order) (open_parts C here d.outer.items) in
     let k = coded_in C here (plain d.order) d.order d.at d.outer.items h.1 (record { order = refl; at = omega (arith, h.0) }) in
-    ap (headed (tree C of.0) (λ xs at rest. after c path (tree C of.0) (num c.order xs) at rest)) (held.1 c.origin here k.at)) in
-    let rest = subst (λ (c : Order × ℕ). AreHeld (head_width (tree C of.0)) c.1 held.0 bs new.carry) (sym (coding_ticked d.order d.at d.outer.items)) held.2 in
+    ap (after_leading_number (tree C of.0) (λ xs at rest. after c path (tree C of.0) (num c.order xs) at rest)) (held.1 c.origin here k.at)) in
+    let rest = subst (λ (c : Order × ℕ). AreHeld (leading_width (tree C of.0)) c.1 held.0 bs new.carry) (sym (coding_ticked d.order d.at d.outer.items)) held.2 in
     let others = number_counted C of mid new bs (others_on d new held.0 d.piece.items (length bs) on) piece one.0 e rest in
     (others.0, then_gathered C d new leaf b mid bs one.1 others.1)
 
@@ -239,7 +239,7 @@ number_counted C of d new (b ∷ bs) on piece f e held =
 pub number_gathered : (C : Table) (of : TypeId) (d new : Decoder) (octets : List ℕ) →
     is_inside d.outer.items ≡ false → IsFurther d new (length octets) d.outer.items →
     new.piece.items ≡ d.piece.items → Fits C d → d.leaf ≡ Some (innermost.Number of) →
-    AreHeld (head_width (tree C of.0)) d.at d.carry octets new.carry →
+    AreHeld (leading_width (tree C of.0)) d.at d.carry octets new.carry →
     Fits C new × AllGathered C d new octets
 number_gathered C of d new octets free on piece f e held =
     number_counted C of d new octets (counted_free d new (length octets) free f.ahead on) piece f e

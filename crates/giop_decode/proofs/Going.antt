@@ -1,14 +1,14 @@
 -- Behind a part that has ended.
 use Rattle.std.proofs.Common.{◌≡◌, ℕ, zero, suc, ◌+◌, ◌-◌, ◌<◌, ◌≤◌, List, [], ◌∷◌, ◌++◌, length, Some, None, refl, ◌∙◌, ap, subst, arith}
 use Rattle.std.specs.List.{AllByRecursion}
-use Rattle.giop_decode.specs.Spine.{Coding, Seg, Place, Part, Member, Done, Short, coded, Inside, Content}
-use Rattle.giop_decode.specs.Steps.{around, path_in, coding_in}
+use Rattle.giop_decode.specs.ReadResult.{Coding, PathSegment, OpenPart, Part, Member, Done, Short, coded, Inside, Content}
+use Rattle.giop_decode.specs.ReadingSteps.{around, path_in, coding_in}
 use Rattle.giop_decode.specs.Fits.{HasParts, HasCase, IsOpen, OpenFrom, IsEncapsulation}
 use Rattle.giop_decode.specs.Begins.{start_outer, start_leaf}
-use Rattle.giop_decode.specs.Turns.{IsWithin, part_in, place_in, place, places, IsKnown, AreKnown}
+use Rattle.giop_decode.specs.Transitions.{IsWithin, part_in, open_part_in, open_part, open_parts, IsKnown, AreKnown}
 use Rattle.giop_decode.specs.declared.frame.Frame.{Frame}
 use Rattle.giop_decode.specs.Pieces.{full_pieces}
-use Rattle.giop_decode.proofs.Turning.{content_none}
+use Rattle.giop_decode.proofs.TransitionLaws.{content_none}
 use Rattle.giop_decode.proofs.Beginning.{map_push}
 use Rattle.giop_decode.proofs.Around.{around-append, next_part, last_part}
 use Rattle.giop_sig.specs.Types.{Cases, Ty, Struct, Union, Sequence, Array, part_of, shape_in, HasPlace, IsUnion, Tag, Encapsulation}
@@ -18,17 +18,17 @@ use Rattle.giop_sig.specs.Trees.{tree}
 use Rattle.giop_sig.specs.Table.{Table}
 
 -- the innermost place, and how much depth is left at it
-pub record Innermost (d : ℕ) (ps : List Place) (p : Place) : Type 0 where
+pub record Innermost (d : ℕ) (ps : List OpenPart) (p : OpenPart) : Type 0 where
   pub front : OpenFrom d ps
   pub left : ℕ
   pub depth : d ≡ length ps + suc left
   pub «open» : IsOpen (suc left) p
 
-innermost_deeper : (d : ℕ) (q : Place) (ps : List Place) (p : Place) → IsOpen (suc d) q →
+innermost_deeper : (d : ℕ) (q : OpenPart) (ps : List OpenPart) (p : OpenPart) → IsOpen (suc d) q →
     Innermost d ps p → Innermost (suc d) (q ∷ ps) p
 innermost_deeper d q ps p is i = record { front = (is, i.front); left = i.left; depth = omega (arith, i.depth); «open» = i.«open» }
 
-pub innermost : (d : ℕ) (ps : List Place) (p : Place) → OpenFrom d (ps ++ p ∷ []) → Innermost d ps p
+pub innermost : (d : ℕ) (ps : List OpenPart) (p : OpenPart) → OpenFrom d (ps ++ p ∷ []) → Innermost d ps p
 innermost zero [] p h = absurd h
 innermost zero (q ∷ ps) p h = absurd h
 innermost (suc d) [] p h = record { front = tt; left = d; depth = omega arith; «open» = h.0 }
@@ -51,7 +51,7 @@ next_in d (Union (Cases n) scalar select names cases) i count h none below = abs
 next_in d (Union Tag scalar select names cases) i count h none below = absurd (let e : count ≡ 0 = none tt in omega arith)
 next_in d T i count h none below = absurd h.0
 
-pub goes_next : (coding : Coding) (path : List Seg) (ps : List Place) (T : Ty) (i count at e : ℕ) →
+pub goes_next : (coding : Coding) (path : List PathSegment) (ps : List OpenPart) (T : Ty) (i count at e : ℕ) →
     Next (suc e) T i count → suc i < count →
     around coding path (ps ++ part_in T i count ∷ []) (Done [] at [])
     ≡ around coding path ps (Short [] at (part_in T (suc i) count ∷ start_outer (part_of T (suc i)))
@@ -61,7 +61,7 @@ goes_next coding path ps T i count at e next below = rw (next.is, next.then)
     ∙ ap (around coding path ps) (next_part (coding_in coding ps) (path_in path ps) e T i count at next.fit next.parts below))
 
 -- behind the value in an encapsulation
-pub goes_rest : (coding : Coding) (path : List Seg) (ps : List Place) (T : Ty) (inner : Coding)
+pub goes_rest : (coding : Coding) (path : List PathSegment) (ps : List OpenPart) (T : Ty) (inner : Coding)
     (end at left : ℕ) → 0 < left → end - at ≡ left →
     around coding path (ps ++ Inside T inner end ∷ []) (Done [] at [])
     ≡ around coding path ps (Short [] at [] (Content T left 0 []))
@@ -71,14 +71,14 @@ goes_rest coding path ps T inner end at (suc left) some e =
     ∙ ap (around coding path ps) (rw (e, content_none (path_in path ps) T (suc left) (full_pieces (suc left)) 0 at (omega arith)) refl)
 
 pub part_is : (C : Table) (at : ℕ) (f : Frame) → f.inside ≡ None →
-    place C at f ≡ part_in (tree C f.of.0) f.index f.count
-part_is C at f none = ap (λ x. place_in at x (tree C f.of.0) f.index f.count) none
+    open_part C at f ≡ part_in (tree C f.of.0) f.index f.count
+part_is C at f none = ap (λ x. open_part_in at x (tree C f.of.0) f.index f.count) none
 
 pub held_is : (C : Table) (at : ℕ) (f : Frame) (order : Order) → f.inside ≡ Some order →
-    place C at f ≡ Inside (tree C f.of.0) (coded order (at - f.index)) (at + (f.count - f.index))
-held_is C at f order some = ap (λ x. place_in at x (tree C f.of.0) f.index f.count) some
+    open_part C at f ≡ Inside (tree C f.of.0) (coded order (at - f.index)) (at + (f.count - f.index))
+held_is C at f order some = ap (λ x. open_part_in at x (tree C f.of.0) f.index f.count) some
 
-module _ (coding : Coding) (path : List Seg) (ps : List Place) where
+module _ (coding : Coding) (path : List PathSegment) (ps : List OpenPart) where
   pub goes_past : (T : Ty) (inner : Coding) (end at : ℕ) → end - at ≡ 0 →
       around coding path (ps ++ Inside T inner end ∷ []) (Done [] at [])
       ≡ around coding path ps (Done [] at [])
@@ -106,16 +106,16 @@ all_pop P (y ∷ xs) x h = let r = all_pop P xs x h.1 in ((h.0, r.0), r.1)
 pub record Popped (C : Table) (at : ℕ) (rest : List Frame) (f : Frame) : Type 0 where
   pub known_rest : AreKnown C rest
   pub known : IsKnown C f
-  pub inner : Innermost 24 (places C at rest) (place C at f)
+  pub inner : Innermost 24 (open_parts C at rest) (open_part C at f)
 
 pub popped : (C : Table) (at : ℕ) (items rest : List Frame) (f : Frame) → AreKnown C items →
-    OpenFrom 24 (places C at items) → items ≡ rest ++ f ∷ [] → Popped C at rest f
+    OpenFrom 24 (open_parts C at items) → items ≡ rest ++ f ∷ [] → Popped C at rest f
 popped C at items rest f known are_open e =
     let k = all_pop (IsKnown C) rest f (subst (AreKnown C) e known) in
     record {
       known_rest = k.0;
       known = k.1;
-      inner = innermost 24 (places C at rest) (place C at f) (subst (OpenFrom 24) (ap (places C at) e ∙ map_push (place C at) rest f) are_open);
+      inner = innermost 24 (open_parts C at rest) (open_part C at f) (subst (OpenFrom 24) (ap (open_parts C at) e ∙ map_push (open_part C at) rest f) are_open);
     }
 
 -- a frame that is no encapsulation's
@@ -124,19 +124,19 @@ pub record PartPopped (C : Table) (at : ℕ) (rest : List Frame) (f : Frame) : T
   pub known : f.of.0 < length C.types
   pub bare : IsEncapsulation (tree C f.of.0) → ⊥
   pub uncounted : IsUnion (shape_in (tree C f.of.0)) → f.count ≡ 0
-  pub front : OpenFrom 24 (places C at rest)
+  pub front : OpenFrom 24 (open_parts C at rest)
   pub left : ℕ
-  pub depth : 24 ≡ length (places C at rest) + suc left
+  pub depth : 24 ≡ length (open_parts C at rest) + suc left
   pub «open» : IsOpen (suc left) (part_in (tree C f.of.0) f.index f.count)
-  pub is : place C at f ≡ part_in (tree C f.of.0) f.index f.count
+  pub is : open_part C at f ≡ part_in (tree C f.of.0) f.index f.count
 
 pub part_popped : (C : Table) (at : ℕ) (items rest : List Frame) (f : Frame) → AreKnown C items →
-    OpenFrom 24 (places C at items) → items ≡ rest ++ f ∷ [] → f.inside ≡ None →
+    OpenFrom 24 (open_parts C at items) → items ≡ rest ++ f ∷ [] → f.inside ≡ None →
     PartPopped C at rest f
 part_popped C at items rest f known are_open e none =
     let p = popped C at items rest f known are_open e in
     let w : IsWithin None f.index f.count (tree C f.of.0) = subst (λ x. IsWithin x f.index f.count (tree C f.of.0)) none p.known.within in
-    let is : place C at f ≡ part_in (tree C f.of.0) f.index f.count = ap (λ x. place_in at x (tree C f.of.0) f.index f.count) none in
+    let is : open_part C at f ≡ part_in (tree C f.of.0) f.index f.count = ap (λ x. open_part_in at x (tree C f.of.0) f.index f.count) none in
     record {
       known_rest = p.known_rest;
       known = p.known.known;
@@ -156,12 +156,12 @@ pub record HeldPopped (C : Table) (at : ℕ) (rest : List Frame) (f : Frame) (or
     pub known : f.of.0 < length C.types
     pub kind : IsEncapsulation (tree C f.of.0)
     pub within : f.index ≤ f.count
-    pub front : OpenFrom 24 (places C at rest)
-    pub is : place C at f ≡ Inside (tree C f.of.0) (coded order (at - f.index))
+    pub front : OpenFrom 24 (open_parts C at rest)
+    pub is : open_part C at f ≡ Inside (tree C f.of.0) (coded order (at - f.index))
         (at + (f.count - f.index))
 
 pub held_popped : (C : Table) (at : ℕ) (items rest : List Frame) (f : Frame) (order : Order) →
-    AreKnown C items → OpenFrom 24 (places C at items) → items ≡ rest ++ f ∷ [] →
+    AreKnown C items → OpenFrom 24 (open_parts C at items) → items ≡ rest ++ f ∷ [] →
     f.inside ≡ Some order → HeldPopped C at rest f order
 held_popped C at items rest f order known are_open e some =
     let p = popped C at items rest f known are_open e in
@@ -172,11 +172,11 @@ held_popped C at items rest f order known are_open e some =
       kind = w.0;
       within = w.2;
       front = p.inner.front;
-      is = ap (λ x. place_in at x (tree C f.of.0) f.index f.count) some;
+      is = ap (λ x. open_part_in at x (tree C f.of.0) f.index f.count) some;
     }
 
 pub length_places : (C : Table) (at : ℕ) (frames : List Frame) →
-    length (places C at frames) ≡ length frames
+    length (open_parts C at frames) ≡ length frames
 length_places C at [] = refl
 length_places C at (f ∷ frames) = ap suc (length_places C at frames)
 

@@ -9,19 +9,19 @@ use Rattle.giop_cdr.specs.Alignment.{padding}
 use Rattle.giop_cdr.specs.Numbers.{num}
 use Rattle.giop_cdr.specs.Primitives.{size_of}
 use Rattle.giop_cdr.specs.declared.prim.Primitive.{Primitive}
-use Rattle.giop_decode.specs.Pieces.{Got, Grab, Waiting, block, content, ends, full_piece, full_pieces, last_piece, number, octets, over, tail, text, unless}
-use Rattle.giop_decode.specs.Reading.{headed, member, parts_from, read, refused, single, wrong}
-use Rattle.giop_decode.specs.Spine.{Coding, Count, Done, Fault, Line, Member, Name, Part, Piece, Place, Read, Seg, Short, Switch, followed, line, with_front, within}
-use Rattle.giop_decode.specs.Steps.{advance, after, block_step, head_width, inner_path, number_step, part_at, step}
+use Rattle.giop_decode.specs.Pieces.{Complete, Block, Partial, block, content, ends, full_piece, full_pieces, last_piece, number, octets, over, tail, text, unless}
+use Rattle.giop_decode.specs.Reading.{after_leading_number, member, parts_from, read, refused, single, wrong}
+use Rattle.giop_decode.specs.ReadResult.{Coding, Count, Done, Fault, Line, Member, Name, Part, Piece, OpenPart, Read, PathSegment, Short, Switch, followed, line, with_front, within}
+use Rattle.giop_decode.specs.ReadingSteps.{advance, after, block_step, leading_width, inner_path, number_step, part_at, step}
 use Rattle.giop_decode.specs.declared.progress.Kind.{Kind}
 use Rattle.giop_sig.specs.Types.{Choice, Enum, Octets, Plain, Scalar, Sequence, Single, Text, Ty, Union, part_of, width, tag_of}
 use Rattle.giop_sig.specs.declared.types.Selected.{Selected}
 use Rattle.giop_sig.specs.declared.types.Selected.TheVariants.{Case, Nothing, Refused}
 use Rattle.giop_cdr.specs.declared.prim.Primitive.TheVariants as prims
-use Rattle.giop_decode.specs.Spine
+use Rattle.giop_decode.specs.ReadResult
 
 -- a reader that goes on as the machine does
-abbrev pub Goes : Coding → List Seg → (ℕ → List ℕ → Read) → Type 0
+abbrev pub Goes : Coding → List PathSegment → (ℕ → List ℕ → Read) → Type 0
 Goes coding path reader = (at : ℕ) (s : List ℕ) (b : ℕ) → reader at (s ++ b ∷ []) ≡ advance coding path (reader at s) b
 
 -- with_front
@@ -36,7 +36,7 @@ pub with_front_none : (r : Read) → with_front [] r ≡ r
 with_front_none (Done lines at rest) = refl
 with_front_none r = refl
 
-pub with_front-advance : (coding : Coding) (path : List Seg) (front : List Line) (r : Read)
+pub with_front-advance : (coding : Coding) (path : List PathSegment) (front : List Line) (r : Read)
     (b : ℕ) → with_front front (advance coding path r b)
     ≡ advance coding path (with_front front r) b
 with_front-advance coding path front (Short lines at outer leaf) b = with_front_twice front lines (step coding path outer leaf at b)
@@ -47,14 +47,14 @@ pub with_front-followed : (front : List Line) (r : Read) (next : ℕ → List �
 with_front-followed front (Done lines at rest) next = sym (with_front_twice front lines (next at rest))
 with_front-followed front r next = refl
 
-pub with_front-within : (front : List Line) (place : Place) (r : Read) →
+pub with_front-within : (front : List Line) (place : OpenPart) (r : Read) →
     within place (with_front front r) ≡ with_front front (within place r)
 with_front-within front place (Done lines at rest) = refl
 with_front-within front place r = refl
 
 -- a part, and what follows it
 
-module _ (coding : Coding) (path : List Seg) (T : Ty) (count : ℕ) where
+module _ (coding : Coding) (path : List PathSegment) (T : Ty) (count : ℕ) where
   abbrev parts : ℕ → ℕ → ℕ → List ℕ → Read
   parts more i = parts_from (part_at coding path T count) more i
 
@@ -82,7 +82,7 @@ module _ (coding : Coding) (path : List Seg) (T : Ty) (count : ℕ) where
       ∙ part_goes i more is_next (parts_go each more (suc i) is_next) (read coding (inner_path path T i) (part_of T i) at s) b
 
 -- a union's member, behind which nothing follows
-pub member_goes : (coding : Coding) (path : List Seg) (T : Ty) (i : ℕ) (r : Read) (b : ℕ) →
+pub member_goes : (coding : Coding) (path : List PathSegment) (T : Ty) (i : ℕ) (r : Read) (b : ℕ) →
     within (Member T i) (advance coding (inner_path path T i) r b)
     ≡ advance coding path (within (Member T i) r) b
 member_goes coding path T i (Short lines at outer leaf) b = with_front-within lines (Member T i) (step coding (inner_path path T i) outer leaf at b)
@@ -91,26 +91,26 @@ member_goes coding path T i r b = refl
 -- octets
 
 -- octets taken, after one more
-abbrev pub more_of : (ℕ → List ℕ → ℕ → Grab) → Grab → ℕ → Grab
-more_of on (Waiting held at) b = on at held b
-more_of on (Got octets at rest) b = Got octets at (rest ++ b ∷ [])
+abbrev pub more_of : (ℕ → List ℕ → ℕ → Block) → Block → ℕ → Block
+more_of on (Partial held at) b = on at held b
+more_of on (Complete octets at rest) b = Complete octets at (rest ++ b ∷ [])
 
-pub block_waits : (n at : ℕ) (s : List ℕ) → length s < n → block n at s ≡ Waiting s (at + length s)
+pub block_waits : (n at : ℕ) (s : List ℕ) → length s < n → block n at s ≡ Partial s (at + length s)
 unfolding block
 block_waits n at s h = rw lt-ltb refl
 
 pub block_got : (n at : ℕ) (s : List ℕ) → n ≤ length s →
-    block n at s ≡ Got (take n s) (at + n) (drop n s)
+    block n at s ≡ Complete (take n s) (at + n) (drop n s)
 unfolding block
 block_got n at s h = rw le-ltb refl
 
 pub block_step_waits : (n at : ℕ) (held : List ℕ) (b : ℕ) → length held + 1 < n →
-    block_step n at held b ≡ Waiting (held ++ b ∷ []) (at + 1)
+    block_step n at held b ≡ Partial (held ++ b ∷ []) (at + 1)
 unfolding block_step
 block_step_waits n at held b h = rw lt-ltb refl
 
 pub block_step_got : (n at : ℕ) (held : List ℕ) (b : ℕ) → n ≤ length held + 1 →
-    block_step n at held b ≡ Got (held ++ b ∷ []) (at + 1) []
+    block_step n at held b ≡ Complete (held ++ b ∷ []) (at + 1) []
 unfolding block_step
 block_step_got n at held b h = rw le-ltb refl
 
@@ -125,7 +125,7 @@ block_goes n at s b = go (cases_lt (length s) n) (cases_lt (length s + 1) n)
         block n at (s ++ b ∷ []) ≡ more_of (block_step n) (block n at s) b
     go (inl h) (inl k) =
         let l : length (s ++ b ∷ []) < n = rw length_one_more k in
-        block_waits n at (s ++ b ∷ []) l ∙ (ap (Waiting (s ++ b ∷ [])) (omega (arith, length_one_more s b))
+        block_waits n at (s ++ b ∷ []) l ∙ (ap (Partial (s ++ b ∷ [])) (omega (arith, length_one_more s b))
         ∙ (sym (block_step_waits n (at + length s) s b k) ∙ ap (λ g. more_of (block_step n) g b) (sym (block_waits n at s h))))
     go (inl h) (inr k) =
         let l : n ≡ length (s ++ b ∷ []) = omega (arith, length_one_more s b) in
@@ -197,7 +197,7 @@ pad_end_from o at n h = go (cases_lt at o)
         rw e (pad_end (at - o) n h)
 
 pub number_waits : (o n at : ℕ) (s : List ℕ) → length s < padding (at - o) n →
-    number o n at s ≡ Waiting [] (at + length s)
+    number o n at s ≡ Partial [] (at + length s)
 unfolding number
 number_waits o n at s h = rw lt-ltb refl
 
@@ -207,7 +207,7 @@ unfolding number
 number_blocks o n at s h = rw le-ltb refl
 
 pub number_step_pads : (o n at b : ℕ) → 0 < padding (at - o) n →
-    number_step o n at [] b ≡ Waiting [] (at + 1)
+    number_step o n at [] b ≡ Partial [] (at + 1)
 unfolding number_step
 number_step_pads o n at b h = rw lt-ltb refl
 
@@ -246,7 +246,7 @@ number_goes o n at s b pos = go (cases_lt (length s) (padding (at - o) n)) (case
         rw (number_waits o n at s h, number_blocks o n at (s ++ b ∷ []) (le_of_eq l))
         (rw (number_step_pads o n (at + length s) b (pad_more_from o at (length s) n pos h))
         (rw (drop_all (padding (at - o) n) (s ++ b ∷ []) (le_of_eq (sym l)), block_waits n (at + padding (at - o) n) [] pos)
-        (ap (Waiting []) (omega (arith, length_one_more s b)))))
+        (ap (Partial []) (omega (arith, length_one_more s b)))))
     go (inr h) _ =
         let l : padding (at - o) n ≤ length (s ++ b ∷ []) = omega (arith, length_one_more s b) in
         rw (number_blocks o n at s h, number_blocks o n at (s ++ b ∷ []) l, drop-append-le)
@@ -255,30 +255,30 @@ number_goes o n at s b pos = go (cases_lt (length s) (padding (at - o) n)) (case
 
 -- content
 
-module _ (coding : Coding) (path : List Seg) where
+module _ (coding : Coding) (path : List PathSegment) where
   pub unless_goes : (T : Ty) (why : Option Kind) (at : ℕ) (r : Read) (b : ℕ) →
       unless T why at (advance coding path r b) ≡ advance coding path (unless T why at r) b
   unless_goes T None at r b = refl
   unless_goes T (Some kind) at r b = refl
 
-  last_piece_goes : (T : Ty) (total offset : ℕ) → total - offset ≤ 32 → (g : Grab) (b : ℕ) →
+  last_piece_goes : (T : Ty) (total offset : ℕ) → total - offset ≤ 32 → (g : Block) (b : ℕ) →
       last_piece T path total offset (more_of (block_step (total - offset + tail T)) g b)
       ≡ advance coding path (last_piece T path total offset g) b
-  last_piece_goes T total offset h (Waiting piece at) b =
+  last_piece_goes T total offset h (Partial piece at) b =
       rw (le-ltb, with_front_none (last_piece T path total offset (block_step (total - offset + tail T) at piece b))) refl
-  last_piece_goes T total offset h (Got xs at rest) b =
+  last_piece_goes T total offset h (Complete xs at rest) b =
       unless_goes T (ends T (total - offset) xs) at (Done (line at path (Piece T offset (take (total - offset) xs) false) ∷ []) at rest) b
 
   full_piece_goes : (T : Ty) (total offset full : ℕ) → suc full ≡ full_pieces (total - offset) →
-      Goes coding path (content T path total full (offset + 32)) → (g : Grab) (b : ℕ) →
+      Goes coding path (content T path total full (offset + 32)) → (g : Block) (b : ℕ) →
       full_piece T path total offset (content T path total full (offset + 32))
       (more_of (block_step 32) g b) ≡ advance coding path (full_piece T path total offset
       (content T path total full (offset + 32)) g) b
-  full_piece_goes T total offset full is goes (Waiting piece at) b =
+  full_piece_goes T total offset full is goes (Partial piece at) b =
       let more : 32 < total - offset = omega arith in
       let rest : full_pieces (total - (offset + 32)) ≡ full = omega arith in
       rw (lt-ltb, rest, with_front_none (full_piece T path total offset (content T path total full (offset + 32)) (block_step 32 at piece b))) refl
-  full_piece_goes T total offset full is goes (Got xs at rest) b =
+  full_piece_goes T total offset full is goes (Complete xs at rest) b =
       let front = line at path (Piece T offset xs true) ∷ [] in
       ap (with_front front) (goes at rest b) ∙ with_front-advance coding path front (content T path total full (offset + 32) at rest) b
 
@@ -305,27 +305,27 @@ module _ (coding : Coding) (path : List Seg) where
 -- what begins with a number
 
 -- what follows the number, once that has come
-abbrev pub headed_by : Coding → List Seg → Ty → Grab → Read
+abbrev pub headed_by : Coding → List PathSegment → Ty → Block → Read
 headed_by coding path T g =
-    headed T (λ xs at rest. after coding path T (num coding.order xs) at rest) g
+    after_leading_number T (λ xs at rest. after coding path T (num coding.order xs) at rest) g
 
-pub headed_goes : (coding : Coding) (path : List Seg) (T : Ty) → 0 < head_width T →
+pub headed_goes : (coding : Coding) (path : List PathSegment) (T : Ty) → 0 < leading_width T →
     ((n : ℕ) → Goes coding path (after coding path T n)) →
-    Goes coding path (λ at s. headed_by coding path T (number coding.origin (head_width T) at s))
+    Goes coding path (λ at s. headed_by coding path T (number coding.origin (leading_width T) at s))
 headed_goes coding path T pos goes at s b =
-    ap (headed_by coding path T) (number_goes coding.origin (head_width T) at s b pos)
-    ∙ go (number coding.origin (head_width T) at s)
+    ap (headed_by coding path T) (number_goes coding.origin (leading_width T) at s b pos)
+    ∙ go (number coding.origin (leading_width T) at s)
   where
-    go : (g : Grab) → headed_by coding path T (more_of (number_step coding.origin (head_width T)) g
+    go : (g : Block) → headed_by coding path T (more_of (number_step coding.origin (leading_width T)) g
         b) ≡ advance coding path (headed_by coding path T g) b
-    go (Waiting carry at) =
-        sym (with_front_none (headed_by coding path T (number_step coding.origin (head_width T) at carry b)))
-    go (Got xs at rest) = goes (num coding.order xs) at rest b
+    go (Partial carry at) =
+        sym (with_front_none (headed_by coding path T (number_step coding.origin (leading_width T) at carry b)))
+    go (Complete xs at rest) = goes (num coding.order xs) at rest b
 
-pub single_goes : (coding : Coding) (path inner : List Seg) (scalar : Scalar) (n : ℕ) →
+pub single_goes : (coding : Coding) (path inner : List PathSegment) (scalar : Scalar) (n : ℕ) →
     Goes coding path (single inner scalar n)
 single_goes coding path inner scalar n at s b =
-    unless_goes coding path (Single scalar) (wrong scalar n) at (Done (line at inner (Spine.Number scalar n) ∷ []) at s) b
+    unless_goes coding path (Single scalar) (wrong scalar n) at (Done (line at inner (ReadResult.Number scalar n) ∷ []) at s) b
 
 pub size_pos : (p : Primitive) → 0 < size_of p
 size_pos prims.Octet = lit< tt
@@ -335,7 +335,7 @@ pub width_pos : (scalar : Scalar) → 0 < width scalar
 width_pos (Plain p) = size_pos p
 width_pos (Enum count names) = lit< tt
 
-pub counted_goes : (coding : Coding) (path : List Seg) (bound : Option ℕ) (T : Ty) (n : ℕ) →
+pub counted_goes : (coding : Coding) (path : List PathSegment) (bound : Option ℕ) (T : Ty) (n : ℕ) →
     Goes coding path (parts_from (part_at coding path (Sequence bound T) n) n 0) →
     Goes coding path (after coding path (Sequence bound T) n)
 counted_goes coding path bound T n goes at s b =
@@ -345,7 +345,7 @@ counted_goes coding path bound T n goes at s b =
     ∙ (ap (unless (Sequence bound T) (over bound n) at) (with_front-advance coding path front (elements at s) b)
     ∙ unless_goes coding path (Sequence bound T) (over bound n) at (with_front front (elements at s)) b)
 
-pub selected_goes : (coding : Coding) (path : List Seg) (T : Ty) (selected : Selected) →
+pub selected_goes : (coding : Coding) (path : List PathSegment) (T : Ty) (selected : Selected) →
     ((i : ℕ) → Goes coding (inner_path path T i) (read coding (inner_path path T i) (part_of T i)))
     → Goes coding path (member selected (λ i at s. within (Member T i)
     (read coding (inner_path path T i) (part_of T i) at s)))
@@ -353,14 +353,14 @@ selected_goes coding path T (Case i) each at s b =
     ap (within (Member T i)) (each i at s b) ∙ member_goes coding path T i (read coding (inner_path path T i) (part_of T i) at s) b
 selected_goes coding path T _ each at s b = refl
 
-pub union_goes : (coding : Coding) (path : List Seg) (choice : Choice) (scalar : Scalar)
+pub union_goes : (coding : Coding) (path : List PathSegment) (choice : Choice) (scalar : Scalar)
     (select : ℕ → Selected) (names : ℕ → List ℕ) (cases : ℕ → Ty) (n : ℕ) →
     ((i : ℕ) → Goes coding (path ++ Name (names i) ∷ []) (read coding (path ++ Name (names i) ∷ [])
     (cases i))) → Goes coding path (after coding path (Union choice scalar select names cases) n)
 union_goes coding path choice scalar select names cases n each at s b =
     let T = Union choice scalar select names cases in
     let next : ℕ → List ℕ → Read = member (select n) (λ i at' s'. within (Member T i) (read coding (inner_path path T i) (part_of T i) at' s')) in
-    let front : List Line = line at (path ++ Switch (tag_of choice names) ∷ []) (Spine.Number scalar n) ∷ [] in
+    let front : List Line = line at (path ++ Switch (tag_of choice names) ∷ []) (ReadResult.Number scalar n) ∷ [] in
     ap (λ r. unless T (wrong scalar n) at (unless T (refused (select n)) at (with_front front r))) (selected_goes coding path T (select n) each at s b)
     ∙ (ap (λ r. unless T (wrong scalar n) at (unless T (refused (select n)) at r)) (with_front-advance coding path front (next at s) b)
     ∙ (ap (unless T (wrong scalar n) at) (unless_goes coding path T (refused (select n)) at (with_front front (next at s)) b)

@@ -3,11 +3,11 @@ use Rattle.std.proofs.Common.{◌≡◌, ℕ, zero, suc, ◌+◌, ◌-◌, ◌<�
 use Rattle.std.proofs.lemmas.Bool.{cases_lt}
 use Rattle.giop_cdr.specs.Alignment.{padding}
 use Rattle.giop_cdr.specs.Numbers.{num}
-use Rattle.giop_decode.specs.Fits.{leaf_ty, Sound, FitsIn, HasCase, HasContent, HasHead, IsOpen, OpenFrom, IsEncapsulation, Surrounds}
-use Rattle.giop_decode.specs.Pieces.{Got, Grab, Waiting, content, full_pieces, tail}
+use Rattle.giop_decode.specs.Fits.{leaf_ty, Sound, FitsIn, HasCase, HasContent, HasLeadingNumber, IsOpen, OpenFrom, IsEncapsulation, Surrounds}
+use Rattle.giop_decode.specs.Pieces.{Complete, Block, Partial, content, full_pieces, tail}
 use Rattle.giop_decode.specs.Reading.{parts_from, enclosed, order_of, ordered}
-use Rattle.giop_decode.specs.Spine.{Coding, Content, Head, Leaf, Member, Part, Place, Seg, Held, Inside, Opening}
-use Rattle.giop_decode.specs.Steps.{after, block_step, content_step, head_width, leaf_step, number_step, part_at, seg_of, step, held}
+use Rattle.giop_decode.specs.ReadResult.{Coding, Content, LeadingNumber, Leaf, Member, Part, OpenPart, PathSegment, Held, Inside, Opening}
+use Rattle.giop_decode.specs.ReadingSteps.{after, block_step, content_step, leading_width, leaf_step, number_step, part_at, segment_of, step, held}
 use Rattle.giop_sig.specs.Fits.{IsFit}
 use Rattle.giop_sig.specs.Types.{Encapsulation, Ty, Union, part_of}
 use Rattle.giop_decode.proofs.Law.{headed_by, block_step_waits, block_step_got, number_step_pads, number_step_blocks, length_one_more}
@@ -15,7 +15,7 @@ use Rattle.giop_decode.proofs.Around.{fit_none, fit_part}
 use Rattle.giop_decode.proofs.Sound.{Takes, ordered_sound, sound_enclosed, sound_followed, sound_part, sound_member, parts_keep, after_keeps, read_keeps, full_piece_sound, last_piece_sound, content_keeps}
 
 -- the leaf, with how much depth is left at it
-pub record LeafAt (d : ℕ) (outer : List Place) (leaf : Leaf) : Type 0 where
+pub record LeafAt (d : ℕ) (outer : List OpenPart) (leaf : Leaf) : Type 0 where
   pub are_open : OpenFrom d outer
   pub left : ℕ
   pub depth : d ≡ length outer + left
@@ -32,15 +32,15 @@ unfolding IsFit
 fit_held d (Encapsulation T) fit kind = fit
 fit_held d T fit kind = absurd kind
 
-deeper : (d : ℕ) (place : Place) (outer : List Place) (leaf : Leaf) → IsOpen (suc d) place →
+deeper : (d : ℕ) (place : OpenPart) (outer : List OpenPart) (leaf : Leaf) → IsOpen (suc d) place →
     LeafAt d outer leaf → LeafAt (suc d) (place ∷ outer) leaf
 deeper d place outer leaf is l = record { are_open = (is, l.are_open); left = l.left; depth = omega (arith, l.depth); fit = l.fit; fits = l.fits }
 
 leaf_same : (T : Ty) (leaf : Leaf) → FitsIn T [] leaf → leaf_ty leaf ≡ T
-leaf_same T (Head U carry) fits = fits.same
+leaf_same T (LeadingNumber U carry) fits = fits.same
 leaf_same T leaf fits = fits.same
 
-pub leaf_at : (d : ℕ) (T : Ty) (outer : List Place) (leaf : Leaf) → FitsIn T outer leaf →
+pub leaf_at : (d : ℕ) (T : Ty) (outer : List OpenPart) (leaf : Leaf) → FitsIn T outer leaf →
     IsFit d T → LeafAt d outer leaf
 unfolding IsFit
 leaf_at d T [] leaf fits fit =
@@ -78,13 +78,13 @@ number_step_takes o n at [] b room = go (cases_lt 0 (padding (at - o) n))
     go (inr h) = rw (number_step_blocks o n at [] b (inr (omega arith))) (block_step_takes n at [] b room)
 number_step_takes o n at (x ∷ xs) b room = rw (number_step_blocks o n at (x ∷ xs) b (inl (omega arith))) (block_step_takes n at (x ∷ xs) b room)
 
-headed_sound : (d : ℕ) (coding : Coding) (path : List Seg) (T : Ty) (end : ℕ) → IsFit d T →
-    HasHead T → (g : Grab) → Takes (head_width T) end g → Sound T end (headed_by coding path T g)
-headed_sound d coding path T end fit kind (Waiting carry at) h = (h.0, record { same = refl; kind = kind; room = h.1 }, tt)
-headed_sound d coding path T end fit kind (Got xs at rest) h =
+headed_sound : (d : ℕ) (coding : Coding) (path : List PathSegment) (T : Ty) (end : ℕ) → IsFit d T →
+    HasLeadingNumber T → (g : Block) → Takes (leading_width T) end g → Sound T end (headed_by coding path T g)
+headed_sound d coding path T end fit kind (Partial carry at) h = (h.0, record { same = refl; kind = kind; room = h.1 }, tt)
+headed_sound d coding path T end fit kind (Complete xs at rest) h =
     subst (λ e. Sound T e (after coding path T (num coding.order xs) at rest)) h.0 (after_keeps d coding path T (num coding.order xs) fit at rest)
 
-content_step_sound : (T : Ty) (path : List Seg) (total offset at : ℕ) (piece : List ℕ) (b : ℕ) →
+content_step_sound : (T : Ty) (path : List PathSegment) (total offset at : ℕ) (piece : List ℕ) (b : ℕ) →
     HasContent T → offset ≤ total → (32 < total - offset → length piece < 32) →
     (total - offset ≤ 32 → length piece < total - offset + tail T) →
     Sound T (at + 1) (content_step T path total offset at piece b)
@@ -98,11 +98,11 @@ content_step_sound T path total offset at piece b kind ahead room_full room_last
     go (inr h) = rw le-ltb (last_piece_sound T path total offset (at + 1) kind h ahead (block_step (total - offset + tail T) at piece b)
         (block_step_takes (total - offset + tail T) at piece b (room_last h)))
 
-leaf_step_sound : (d : ℕ) (coding : Coding) (path : List Seg) (T : Ty) (leaf : Leaf) (at b : ℕ) →
+leaf_step_sound : (d : ℕ) (coding : Coding) (path : List PathSegment) (T : Ty) (leaf : Leaf) (at b : ℕ) →
     IsFit d T → FitsIn T [] leaf → Sound T (at + 1) (leaf_step coding path leaf at b)
-leaf_step_sound d coding path T (Head U carry) at b fit fits =
-    rw fits.same (headed_sound d coding path T (at + 1) fit fits.kind (number_step coding.origin (head_width T) at carry b)
-    (number_step_takes coding.origin (head_width T) at carry b fits.room))
+leaf_step_sound d coding path T (LeadingNumber U carry) at b fit fits =
+    rw fits.same (headed_sound d coding path T (at + 1) fit fits.kind (number_step coding.origin (leading_width T) at carry b)
+    (number_step_takes coding.origin (leading_width T) at carry b fits.room))
 leaf_step_sound zero coding path T (Opening U n) at b fit fits = absurd (fit_none T fit)
 leaf_step_sound (suc d) coding path T (Opening U n) at b fit fits =
     rw (fits.same, block_step_got 1 at [] b (omega arith)) (subst (λ m. Sound T m (ordered path T (held path T) at n (order_of b) (at + 1) []))
@@ -113,24 +113,24 @@ leaf_step_sound d coding path T (Content U total offset piece) at b fit fits =
     rw fits.same (content_step_sound T path total offset at piece b fits.kind fits.ahead fits.room_full fits.room_last)
 
 -- What one octet more leaves fits as well.
-pub step_keeps : (d : ℕ) (coding : Coding) (path : List Seg) (T : Ty) (outer : List Place)
+pub step_keeps : (d : ℕ) (coding : Coding) (path : List PathSegment) (T : Ty) (outer : List OpenPart)
     (leaf : Leaf) (at b : ℕ) → IsFit d T → FitsIn T outer leaf → Surrounds at outer →
     Sound T (at + 1) (step coding path outer leaf at b)
 step_keeps d coding path T [] leaf at b fit fits around = leaf_step_sound d coding path T leaf at b fit fits
 step_keeps zero coding path T (Part U i count ∷ outer) leaf at b fit fits around = absurd (fit_none T fit)
 step_keeps (suc d) coding path T (Part U i count ∷ outer) leaf at b fit fits around =
-    let inner = step coding (path ++ seg_of T i ∷ []) outer leaf at b in
+    let inner = step coding (path ++ segment_of T i ∷ []) outer leaf at b in
     let part_fits : (j : ℕ) → j < count → IsFit d (part_of T j) = λ j below. fit_part d T j count fit fits.0.kind below in
     rw fits.0.same (sound_followed T (at + 1) _ (parts_from (part_at coding path T count) (count - suc i) (suc i))
     (sound_part T (at + 1) i count inner fits.0.kind fits.0.below
-    (step_keeps d coding (path ++ seg_of T i ∷ []) (part_of T i) outer leaf at b (part_fits i fits.0.below) fits.1 around.1))
-    (parts_keep coding path T count fits.0.kind (λ j below. read_keeps d coding (path ++ seg_of T j ∷ []) (part_of T j) (part_fits j below)) (count - suc i)
+    (step_keeps d coding (path ++ segment_of T i ∷ []) (part_of T i) outer leaf at b (part_fits i fits.0.below) fits.1 around.1))
+    (parts_keep coding path T count fits.0.kind (λ j below. read_keeps d coding (path ++ segment_of T j ∷ []) (part_of T j) (part_fits j below)) (count - suc i)
     (suc i) refl))
 step_keeps zero coding path T (Member U i ∷ outer) leaf at b fit fits around = absurd (fit_none T fit)
 step_keeps (suc d) coding path T (Member U i ∷ outer) leaf at b fit fits around =
-    let inner = step coding (path ++ seg_of T i ∷ []) outer leaf at b in
+    let inner = step coding (path ++ segment_of T i ∷ []) outer leaf at b in
     rw fits.0.same (sound_member T (at + 1) i inner fits.0.kind
-    (step_keeps d coding (path ++ seg_of T i ∷ []) (part_of T i) outer leaf at b (fit_case d T i fit fits.0.kind) fits.1 around.1))
+    (step_keeps d coding (path ++ segment_of T i ∷ []) (part_of T i) outer leaf at b (fit_case d T i fit fits.0.kind) fits.1 around.1))
 step_keeps zero coding path T (Inside U c end ∷ outer) leaf at b fit fits around = absurd (fit_none T fit)
 step_keeps (suc d) coding path T (Inside U c end ∷ outer) leaf at b fit fits around =
     let inner = step c (path ++ Held ∷ []) outer leaf at b in

@@ -2,7 +2,7 @@
 use Rattle.std.proofs.Common.{◌≡◌, ℕ, zero, suc, ◌+◌, true, false, List, [], ◌∷◌, ◌++◌, length, take, drop, refl, sym, ap, ◌∙◌, append_assoc, true≢false}
 use Rattle.std.specs.Prelude.{flat_map}
 use Rattle.std.proofs.lemmas.List.{take-append-drop}
-use Rattle.giop_decode.specs.Memories.{TextPiece, AreUnended, piece, cut_from, pieces_of}
+use Rattle.giop_decode.specs.NotedFromLines.{TextPiece, AreUnended, piece, cut_from, pieces_of}
 use Rattle.giop_decode.specs.Pieces.{full_pieces}
 
 -- what is in front of two lists, and the rests of these

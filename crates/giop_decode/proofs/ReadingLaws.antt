@@ -9,38 +9,38 @@ use Rattle.giop_sig.specs.Table.{Table}
 use Rattle.giop_sig.specs.Trees.{depth_of}
 use Rattle.giop_sig.specs.Types.{Scalar, Ty, part_of, width}
 use Rattle.giop_decode.specs.declared.decoder.Decoder.{Decoder}
-use Rattle.giop_decode.specs.Holding.{Fits}
-use Rattle.giop_decode.specs.Spine.{Coding, Seg, Switch, Line, Place, Part, Leaf, Read, Done, Short, with_front, within, lines_of}
-use Rattle.giop_decode.specs.Pieces.{Waiting, block, number}
+use Rattle.giop_decode.specs.DecoderState.{Fits}
+use Rattle.giop_decode.specs.ReadResult.{Coding, PathSegment, Switch, Line, OpenPart, Part, Leaf, Read, Done, Short, with_front, within, lines_of}
+use Rattle.giop_decode.specs.Pieces.{Partial, block, number}
 use Rattle.giop_decode.specs.Reading.{cut_off, parts_from, read, rest_of}
 use Rattle.giop_decode.specs.Begins.{start_outer, start_leaf}
-use Rattle.giop_decode.specs.Steps.{Now, Quiet, advance, part_at, resumed, step}
+use Rattle.giop_decode.specs.ReadingSteps.{IsOctetResult, IsEmptyResult, advance, part_at, resumed, step}
 use Rattle.giop_decode.specs.Fits.{HasParts, Sound}
-use Rattle.giop_decode.specs.Heard.{Heard, heard, in_content, in_string, is_member, is_text}
-use Rattle.giop_decode.specs.Runs.{dues}
+use Rattle.giop_decode.specs.Noted.{Noted, noted, in_content, ends_in_string, is_member, is_text}
+use Rattle.giop_decode.specs.Runs.{added_lines_of_run}
 use Rattle.giop_decode.specs.Spelling.{lines_text}
 use Rattle.giop_decode.proofs.Law as law
 use Rattle.giop_decode.proofs.Enclosing as enclosing
-use Rattle.giop_decode.proofs.Now as now
+use Rattle.giop_decode.proofs.OctetResults as now
 use Rattle.giop_decode.proofs.Around as around
 use Rattle.giop_decode.proofs.Sound as sound
 use Rattle.giop_decode.proofs.Resuming as resuming
-use Rattle.giop_decode.proofs.Hearing as hearing
+use Rattle.giop_decode.proofs.Noting as hearing
 use Rattle.giop_decode.proofs.Runs as runs
 use Rattle.giop_decode.proofs.Depths as depths
 
 -- The laws of `reading_laws`: one octet more is one step;
-pub read_goes : (coding : Coding) (path : List Seg) (T : Ty) (at : ℕ) (s : List ℕ) (b : ℕ) →
+pub read_goes : (coding : Coding) (path : List PathSegment) (T : Ty) (at : ℕ) (s : List ℕ) (b : ℕ) →
     read coding path T at (s ++ b ∷ []) ≡ advance coding path (read coding path T at s) b
 read_goes coding path T at s b = enclosing.read_goes coding path T at s b
 
 -- a step has at most one line, which stands at its octet;
-pub step_now : (coding : Coding) (path : List Seg) (outer : List Place) (leaf : Leaf) (at b : ℕ) →
-    Now (at + 1) (step coding path outer leaf at b)
+pub step_now : (coding : Coding) (path : List PathSegment) (outer : List OpenPart) (leaf : Leaf) (at b : ℕ) →
+    IsOctetResult (at + 1) (step coding path outer leaf at b)
 step_now coding path outer leaf at b = now.step_now coding path outer leaf at b
 
 -- the parts begun fit in the type.
-pub read_keeps : (d : ℕ) (coding : Coding) (path : List Seg) (T : Ty) → IsFit d T →
+pub read_keeps : (d : ℕ) (coding : Coding) (path : List PathSegment) (T : Ty) → IsFit d T →
     (at : ℕ) (s : List ℕ) → Sound T (at + length s) (read coding path T at s)
 read_keeps d coding path T fit at s = sound.read_keeps d coding path T fit at s
 
@@ -50,15 +50,15 @@ pub lines_front : (front : List Line) (r : Read) →
     lines_of (with_front front r) ≡ front ++ lines_of r
 lines_front front r = resuming.lines_front front r
 
-pub heard-append : (header : Bool) (h : Heard) (xs ys : List Line) →
-    heard header h (xs ++ ys) ≡ heard header (heard header h xs) ys
-heard-append header h xs ys = resuming.heard-append header h xs ys
+pub noted-append : (header : Bool) (h : Noted) (xs ys : List Line) →
+    noted header h (xs ++ ys) ≡ noted header (noted header h xs) ys
+noted-append header h xs ys = resuming.noted-append header h xs ys
 
-pub front_inside : (front : List Line) (r : Read) → in_string (with_front front r) ≡ in_string r
+pub front_inside : (front : List Line) (r : Read) → ends_in_string (with_front front r) ≡ ends_in_string r
 front_inside front r = hearing.front_inside front r
 
 -- What a step comes to stays what an octet comes to, inside a part.
-pub now_within : (n : ℕ) (place : Place) (r : Read) → Now n r → Now n (within place r)
+pub now_within : (n : ℕ) (place : OpenPart) (r : Read) → IsOctetResult n r → IsOctetResult n (within place r)
 now_within n place r h = now.now_within n place r h
 
 -- what the end of an encapsulation cuts off inside a string is one
@@ -66,33 +66,33 @@ pub cut_inside : (leaf : Leaf) → is_text (cut_off leaf) ≡ in_content leaf
 cut_inside leaf = hearing.cut_inside leaf
 
 -- a discriminator is no member
-pub switch_member : (name : List ℕ) (path : List Seg) (tag : Option (List ℕ)) →
+pub switch_member : (name : List ℕ) (path : List PathSegment) (tag : Option (List ℕ)) →
     is_member name (path ++ Switch tag ∷ []) ≡ false
 switch_member name path tag = hearing.switch_member name path tag
 
 -- No octets: nothing is said of a value, of its parts, or of those from a place on.
 
-pub read_quiet : (coding : Coding) (path : List Seg) (T : Ty) (n : ℕ) →
-    Quiet n (read coding path T n [])
+pub read_quiet : (coding : Coding) (path : List PathSegment) (T : Ty) (n : ℕ) →
+    IsEmptyResult n (read coding path T n [])
 read_quiet coding path T n = now.read_quiet coding path T n
 
 -- and of what is left of an encapsulation
-pub rest_quiet : (n : ℕ) (path : List Seg) (T : Ty) (k : ℕ) → Quiet n (rest_of path T k n [])
+pub rest_quiet : (n : ℕ) (path : List PathSegment) (T : Ty) (k : ℕ) → IsEmptyResult n (rest_of path T k n [])
 rest_quiet n path T k = now.rest_quiet n path T k
 
-pub quiet_within : (n : ℕ) (place : Place) (r : Read) → Quiet n r → Quiet n (within place r)
+pub quiet_within : (n : ℕ) (place : OpenPart) (r : Read) → IsEmptyResult n r → IsEmptyResult n (within place r)
 quiet_within n place r h = now.quiet_within n place r h
 
-pub quiet_parts : (n : ℕ) (part : ℕ → ℕ → List ℕ → Read) → ((i : ℕ) → Quiet n (part i n [])) →
-    (more i : ℕ) → Quiet n (parts_from part more i n [])
+pub quiet_parts : (n : ℕ) (part : ℕ → ℕ → List ℕ → Read) → ((i : ℕ) → IsEmptyResult n (part i n [])) →
+    (more i : ℕ) → IsEmptyResult n (parts_from part more i n [])
 quiet_parts n part h more i = now.quiet_parts n part h more i
 
-pub part_quiet : (coding : Coding) (path : List Seg) (T : Ty) (count n i : ℕ) →
-    Quiet n (part_at coding path T count i n [])
+pub part_quiet : (coding : Coding) (path : List PathSegment) (T : Ty) (count n i : ℕ) →
+    IsEmptyResult n (part_at coding path T count i n [])
 part_quiet coding path T count n i = now.part_quiet coding path T count n i
 
-pub parts_quiet : (coding : Coding) (path : List Seg) (T : Ty) (count n more i : ℕ) →
-    Quiet n (parts_from (part_at coding path T count) more i n [])
+pub parts_quiet : (coding : Coding) (path : List PathSegment) (T : Ty) (count n more i : ℕ) →
+    IsEmptyResult n (parts_from (part_at coding path T count) more i n [])
 parts_quiet coding path T count n more i = now.parts_quiet coding path T count n more i
 
 -- A number, and a block of octets, of which some are to come.
@@ -100,14 +100,14 @@ parts_quiet coding path T count n more i = now.parts_quiet coding path T count n
 pub width_pos : (scalar : Scalar) → 0 < width scalar
 width_pos scalar = law.width_pos scalar
 
-pub number_none : (o w n : ℕ) → 0 < w → number o w n [] ≡ Waiting [] n
+pub number_none : (o w n : ℕ) → 0 < w → number o w n [] ≡ Partial [] n
 number_none o w n pos = now.number_none o w n pos
 
-pub block_waits : (n at : ℕ) (s : List ℕ) → length s < n → block n at s ≡ Waiting s (at + length s)
+pub block_waits : (n at : ℕ) (s : List ℕ) → length s < n → block n at s ≡ Partial s (at + length s)
 block_waits n at s h = law.block_waits n at s h
 
 -- Where a part has ended and another follows, that one is begun.
-pub next_part : (coding : Coding) (path : List Seg) (d : ℕ) (T : Ty) (i count at : ℕ) →
+pub next_part : (coding : Coding) (path : List PathSegment) (d : ℕ) (T : Ty) (i count at : ℕ) →
     IsFit (suc d) T → HasParts T count → suc i < count →
     resumed coding path (Part T i count) (Done [] at [])
     ≡ Short [] at (Part T (suc i) count ∷ start_outer (part_of T (suc i)))
@@ -126,13 +126,13 @@ each_append P xs ys h k = now.each_append P xs ys h k
 -- The text of the lines that octets more give: of none, and of two lists one after the other.
 
 pub text_none : (message : ℕ) (root : Root) (order : Order) (T : Ty) (at : ℕ) (s : List ℕ) →
-    lines_text message root (dues order T at s []) ≡ []
+    lines_text message root (added_lines_of_run order T at s []) ≡ []
 text_none message root order T at s = runs.text_none message root order T at s
 
 pub text_both : (message : ℕ) (root : Root) (order : Order) (T : Ty) (at : ℕ) (s xs ys : List ℕ) →
-    lines_text message root (dues order T at s (xs ++ ys))
-    ≡ lines_text message root (dues order T at s xs) ++ lines_text message root
-    (dues order T at (s ++ xs) ys)
+    lines_text message root (added_lines_of_run order T at s (xs ++ ys))
+    ≡ lines_text message root (added_lines_of_run order T at s xs) ++ lines_text message root
+    (added_lines_of_run order T at (s ++ xs) ys)
 text_both message root order T at s xs ys = runs.text_both message root order T at s xs ys
 
 -- The parts of a decoder that are begun and not ended are fewer than the types of the table are deep.

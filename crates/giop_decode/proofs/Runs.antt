@@ -6,11 +6,11 @@ use Rattle.std.proofs.lemmas.Bool.{false≢true}
 use Rattle.giop_cdr.specs.declared.order.Order.{Order}
 use Rattle.giop_decode.specs.declared.progress.Progress.{Progress}
 use Rattle.giop_decode.specs.declared.progress.Progress.TheVariants as progress
-use Rattle.giop_decode.specs.Spine.{plain, Line, lines_of}
+use Rattle.giop_decode.specs.ReadResult.{plain, Line, lines_of}
 use Rattle.giop_decode.specs.Reading.{read}
 use Rattle.giop_decode.specs.declared.decoder.Decoder.{Decoder}
-use Rattle.giop_decode.specs.Holding.{Reads, Takes, Minds, due}
-use Rattle.giop_decode.specs.Runs.{dues, Answers, AreAnswered, TakesRun, BreaksOff, WritesRun}
+use Rattle.giop_decode.specs.DecoderState.{Reads, Takes, KeepsNoted, added_lines}
+use Rattle.giop_decode.specs.Runs.{added_lines_of_run, Answers, AreAnswered, TakesRun, BreaksOff, WritesRun}
 use Rattle.giop_decode.specs.Spelling.{line_text, lines_text}
 use Rattle.giop_decode.proofs.Resuming.{lines_begin}
 use Rattle.giop_print.proofs.Writing.{wrote-front}
@@ -31,41 +31,41 @@ lines_text_both message root (x ∷ xs) ys =
 
 dues_begin : (order : Order) (T : Ty) (at : ℕ) (s xs : List ℕ) →
     lines_of (read (plain order) [] T at (s ++ xs))
-    ≡ lines_of (read (plain order) [] T at s) ++ dues order T at s xs
+    ≡ lines_of (read (plain order) [] T at s) ++ added_lines_of_run order T at s xs
 dues_begin order T at s xs =
     let front = lines_of (read (plain order) [] T at s) in
     let more = lines_begin (plain order) [] T at s xs in
     more.1 ∙ ap (λ z. front ++ z) (sym (ap (drop (length front)) more.1 ∙ drop-append_seam front more.0))
 
 pub dues_both : (order : Order) (T : Ty) (at : ℕ) (s xs ys : List ℕ) →
-    dues order T at s (xs ++ ys) ≡ dues order T at s xs ++ dues order T at (s ++ xs) ys
+    added_lines_of_run order T at s (xs ++ ys) ≡ added_lines_of_run order T at s xs ++ added_lines_of_run order T at (s ++ xs) ys
 dues_both order T at s xs ys =
     let front = lines_of (read (plain order) [] T at s) in
-    let first = dues order T at s xs in
-    let second = dues order T at (s ++ xs) ys in
+    let first = added_lines_of_run order T at s xs in
+    let second = added_lines_of_run order T at (s ++ xs) ys in
     let e : lines_of (read (plain order) [] T at (s ++ (xs ++ ys))) ≡ front ++ (first ++ second) =
     ap (λ z. lines_of (read (plain order) [] T at z)) (sym (append_assoc s xs ys)) ∙ (dues_begin order T at (s ++ xs) ys
     ∙ (ap (λ z. z ++ second) (dues_begin order T at s xs) ∙ append_assoc front first second)) in
     ap (drop (length front)) e ∙ drop-append_seam front (first ++ second)
 
-pub dues_none : (order : Order) (T : Ty) (at : ℕ) (s : List ℕ) → dues order T at s [] ≡ []
+pub dues_none : (order : Order) (T : Ty) (at : ℕ) (s : List ℕ) → added_lines_of_run order T at s [] ≡ []
 dues_none order T at s =
     let front = lines_of (read (plain order) [] T at s) in
     ap (λ z. drop (length front) (lines_of (read (plain order) [] T at z))) (append-nil s)
     ∙ (ap (drop (length front)) (sym (append-nil front)) ∙ drop-append_seam front [])
 
 pub text_none : (message : ℕ) (root : Root) (order : Order) (T : Ty) (at : ℕ) (s : List ℕ) →
-    lines_text message root (dues order T at s []) ≡ []
+    lines_text message root (added_lines_of_run order T at s []) ≡ []
 unfolding lines_text
 text_none message root order T at s = ap (lines_text message root) (dues_none order T at s)
 
 pub text_both : (message : ℕ) (root : Root) (order : Order) (T : Ty) (at : ℕ) (s xs ys : List ℕ) →
-    lines_text message root (dues order T at s (xs ++ ys))
-    ≡ lines_text message root (dues order T at s xs) ++ lines_text message root
-    (dues order T at (s ++ xs) ys)
+    lines_text message root (added_lines_of_run order T at s (xs ++ ys))
+    ≡ lines_text message root (added_lines_of_run order T at s xs) ++ lines_text message root
+    (added_lines_of_run order T at (s ++ xs) ys)
 text_both message root order T at s xs ys =
     ap (lines_text message root) (dues_both order T at s xs ys)
-    ∙ lines_text_both message root (dues order T at s xs) (dues order T at (s ++ xs) ys)
+    ∙ lines_text_both message root (added_lines_of_run order T at s xs) (added_lines_of_run order T at (s ++ xs) ys)
 
 -- ---- what has come of them
 
@@ -84,7 +84,7 @@ answered_both order T at root s (x ∷ x' ∷ xs) ys p h k = (
 pub takes_one : (C : Table) (T : Ty) (order : Order) (at message : ℕ) (root : Root) (d : Decoder)
     (s : List ℕ) (octet : ℕ) (p : Progress) → Takes C T order at message root d s octet p →
     TakesRun C T order at message root d s (octet ∷ []) p
-takes_one C T order at message root d s octet p t = record { answers = t.answer; reads = t.reads; minds = t.minds }
+takes_one C T order at message root d s octet p t = record { answers = t.answer; reads = t.reads; keeps_noted = t.keeps_noted }
 
 pub takes_both : (C : Table) (T : Ty) (order : Order) (at message : ℕ) (root : Root) (d : Decoder)
     (s xs ys : List ℕ) (p : Progress) → AreAnswered order T at root s xs progress.More →
@@ -95,7 +95,7 @@ takes_both C T order at message root d s xs ys p h t =
     record {
       answers = answered_both order T at root s xs ys p h t.answers;
       reads = λ unfaulty. subst (Reads C T order at message root d) e (t.reads unfaulty);
-      minds = subst (λ z. Minds root d (read (plain order) [] T at z)) e t.minds;
+      keeps_noted = subst (λ z. KeepsNoted root d (read (plain order) [] T at z)) e t.keeps_noted;
     }
 
 -- ---- the octets so far, and one more
@@ -105,11 +105,11 @@ pub take_more : (xs : List ℕ) (i : ℕ) → i < length xs →
 take_more xs i h = rw add-one (take-suc xs i 0 h)
 
 pub text_more : (message : ℕ) (root : Root) (order : Order) (T : Ty) (at : ℕ) (s octets : List ℕ)
-    (i : ℕ) → i < length octets → lines_text message root (dues order T at s (take (i + 1) octets))
-    ≡ lines_text message root (dues order T at s (take i octets)) ++ lines_text message root
-    (due order T at (s ++ take i octets) (get_or octets i 0))
+    (i : ℕ) → i < length octets → lines_text message root (added_lines_of_run order T at s (take (i + 1) octets))
+    ≡ lines_text message root (added_lines_of_run order T at s (take i octets)) ++ lines_text message root
+    (added_lines order T at (s ++ take i octets) (get_or octets i 0))
 text_more message root order T at s octets i h =
-    ap (λ xs. lines_text message root (dues order T at s xs)) (take_more octets i h)
+    ap (λ xs. lines_text message root (added_lines_of_run order T at s xs)) (take_more octets i h)
     ∙ text_both message root order T at s (take i octets) (get_or octets i 0 ∷ [])
 
 pub takes_more : (C : Table) (T : Ty) (order : Order) (at message : ℕ) (root : Root) (d : Decoder)
@@ -125,8 +125,8 @@ takes_more C T order at message root d s octets i p below h t =
 pub breaks_off : (T : Ty) (order : Order) (at message : ℕ) (root : Root) (s octets : List ℕ) (i : ℕ)
     (a b c : OutLog) → i < length octets →
     AreAnswered order T at root s (take i octets) progress.More →
-    Wrote a b (lines_text message root (dues order T at s (take i octets))) →
-    WroteFront b c (lines_text message root (due order T at (s ++ take i octets)
+    Wrote a b (lines_text message root (added_lines_of_run order T at s (take i octets))) →
+    WroteFront b c (lines_text message root (added_lines order T at (s ++ take i octets)
     (get_or octets i 0))) → BreaksOff T order at message root s octets a c
 breaks_off T order at message root s octets i a b c below h v w =
     record {
@@ -152,7 +152,7 @@ writes_broken (Err e) T order at message root s octets a b _ h = h
 
 pub breaks_both : (T : Ty) (order : Order) (at message : ℕ) (root : Root) (s xs ys : List ℕ)
     (a b c : OutLog) → AreAnswered order T at root s xs progress.More →
-    Wrote a b (lines_text message root (dues order T at s xs)) →
+    Wrote a b (lines_text message root (added_lines_of_run order T at s xs)) →
     BreaksOff T order at message root (s ++ xs) ys b c →
     BreaksOff T order at message root s (xs ++ ys) a c
 breaks_both T order at message root s xs ys a b c h v w =
@@ -174,10 +174,10 @@ one_taken (suc zero) octet h = refl
 one_taken (suc (suc n)) octet h = refl
 
 pub text_one : (message : ℕ) (root : Root) (order : Order) (T : Ty) (at : ℕ) (s : List ℕ)
-    (n octet : ℕ) → 0 < n → lines_text message root (dues order T at s (take n (octet ∷ [])))
-    ≡ lines_text message root (due order T at s octet)
+    (n octet : ℕ) → 0 < n → lines_text message root (added_lines_of_run order T at s (take n (octet ∷ [])))
+    ≡ lines_text message root (added_lines order T at s octet)
 text_one message root order T at s n octet some =
-    ap (λ xs. lines_text message root (dues order T at s xs)) (one_taken n octet some)
+    ap (λ xs. lines_text message root (added_lines_of_run order T at s xs)) (one_taken n octet some)
 
 pub taken_one : (C : Table) (T : Ty) (order : Order) (at message : ℕ) (root : Root) (d : Decoder)
     (s : List ℕ) (n octet : ℕ) (p : Progress) → 0 < n →
@@ -185,7 +185,7 @@ pub taken_one : (C : Table) (T : Ty) (order : Order) (at message : ℕ) (root : 
     Takes C T order at message root d s octet p
 taken_one C T order at message root d s n octet p some t =
     let run = subst (λ xs. TakesRun C T order at message root d s xs p) (one_taken n octet some) t in
-    record { answer = run.answers; reads = run.reads; minds = run.minds }
+    record { answer = run.answers; reads = run.reads; keeps_noted = run.keeps_noted }
 
 -- the front of one octet up to an octet of it is that octet
 lone_front : (front : List ℕ) (octet last : ℕ) (rest : List ℕ) →
@@ -196,7 +196,7 @@ lone_front (x ∷ xs) octet last rest e =
 
 pub one_broken : (T : Ty) (order : Order) (at message : ℕ) (root : Root) (s : List ℕ) (octet : ℕ)
     (a b : OutLog) → BreaksOff T order at message root s (octet ∷ []) a b →
-    WroteFront a b (lines_text message root (due order T at s octet))
+    WroteFront a b (lines_text message root (added_lines order T at s octet))
 one_broken T order at message root s octet a b h =
-    subst (λ xs. WroteFront a b (lines_text message root (dues order T at s xs)))
+    subst (λ xs. WroteFront a b (lines_text message root (added_lines_of_run order T at s xs)))
     (lone_front h.front octet h.octet h.rest h.all) h.wrote

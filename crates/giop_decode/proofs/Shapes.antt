@@ -4,8 +4,8 @@ use Rattle.giop_cdr.specs.Alignment.{IsAlignment}
 use Rattle.giop_cdr.specs.Primitives.{size_of}
 use Rattle.giop_cdr.specs.declared.prim.Primitive.{Primitive}
 use Rattle.giop_cdr.specs.declared.prim.Primitive.TheVariants as prims
-use Rattle.giop_decode.specs.Fits.{HasHead}
-use Rattle.giop_decode.specs.Turns.{IsWhole}
+use Rattle.giop_decode.specs.Fits.{HasLeadingNumber}
+use Rattle.giop_decode.specs.Transitions.{IsWhole}
 use Rattle.giop_sig.specs.Fits.{IsEmptyStruct}
 use Rattle.giop_sig.specs.Types.{Ty, Struct, HasShape}
 use Rattle.giop_sig.specs.declared.types.Shape.TheVariants as shapes
@@ -16,19 +16,19 @@ whole_members T n h = rw h.2 refl
 pub whole_array : (T : Ty) (n : ℕ) → HasShape T (shapes.Array n) → IsWhole T n
 whole_array T n h = rw h.1 refl
 
-pub head_prim : (T : Ty) (p : Primitive) → HasShape T (shapes.Prim p) → HasHead T
+pub head_prim : (T : Ty) (p : Primitive) → HasShape T (shapes.Prim p) → HasLeadingNumber T
 head_prim T p h = rw h tt
 
-pub head_enum : (T : Ty) (n : ℕ) → HasShape T (shapes.Enumeration n) → HasHead T
+pub head_enum : (T : Ty) (n : ℕ) → HasShape T (shapes.Enumeration n) → HasLeadingNumber T
 head_enum T n h = rw h.1 tt
 
-pub head_union : (T : Ty) (n : ℕ) → HasShape T (shapes.Union n) → HasHead T
+pub head_union : (T : Ty) (n : ℕ) → HasShape T (shapes.Union n) → HasLeadingNumber T
 head_union T n h = rw h.4 tt
 
-pub head_tag : (T : Ty) → HasShape T shapes.Tagged → HasHead T
+pub head_tag : (T : Ty) → HasShape T shapes.Tagged → HasLeadingNumber T
 head_tag T h = rw h.4 tt
 
-pub head_encapsulation : (T : Ty) → HasShape T shapes.Encapsulation → HasHead T
+pub head_encapsulation : (T : Ty) → HasShape T shapes.Encapsulation → HasLeadingNumber T
 head_encapsulation T h = rw h.1 tt
 
 pub ruleset shape_laws = (whole_members, whole_array, head_prim, head_enum, head_union, head_tag, head_encapsulation)

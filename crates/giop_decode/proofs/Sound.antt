@@ -5,12 +5,12 @@ use Rattle.std.proofs.lemmas.List.{take_all, drop_all}
 use Rattle.giop_cdr.specs.declared.order.Order.{Order}
 use Rattle.giop_cdr.specs.Alignment.{padding}
 use Rattle.giop_cdr.specs.Numbers.{num}
-use Rattle.giop_decode.specs.Fits.{Sound, HasCase, HasContent, HasHead, HasParts, IsEncapsulation}
-use Rattle.giop_decode.specs.Pieces.{Got, Grab, Waiting, block, content, ends, full_piece, full_pieces, last_piece, number, octets, over, tail, text, unless}
+use Rattle.giop_decode.specs.Fits.{Sound, HasCase, HasContent, HasLeadingNumber, HasParts, IsEncapsulation}
+use Rattle.giop_decode.specs.Pieces.{Complete, Block, Partial, block, content, ends, full_piece, full_pieces, last_piece, number, octets, over, tail, text, unless}
 use Rattle.giop_decode.specs.Reading.{enclosed, inside, member, order_of, ordered, parts_from, read, refused, rest_of, single, sized, wrong}
-use Rattle.giop_decode.specs.Spine
-use Rattle.giop_decode.specs.Spine.{Coding, Count, Done, Fault, Index, Line, Member, Name, Part, Piece, Read, Seg, Short, Switch, followed, line, with_front, within, coded, Held, Ordered, Size}
-use Rattle.giop_decode.specs.Steps.{inner_path, after, head_width, part_at, held}
+use Rattle.giop_decode.specs.ReadResult
+use Rattle.giop_decode.specs.ReadResult.{Coding, Count, Done, Fault, Index, Line, Member, Name, Part, Piece, Read, PathSegment, Short, Switch, followed, line, with_front, within, coded, Held, Ordered, Size}
+use Rattle.giop_decode.specs.ReadingSteps.{inner_path, after, leading_width, part_at, held}
 use Rattle.giop_decode.specs.declared.progress.Kind.{Kind}
 use Rattle.giop_sig.specs.Fits.{IsFit, SelectsBelow}
 use Rattle.giop_sig.specs.Types.{places_of, Choice, Array, Octets, Scalar, Sequence, Single, Struct, Text, Ty, Union, part_of, tag_of, Encapsulation}
@@ -50,9 +50,9 @@ sound_member T end i (Short lines at outer leaf) kind h = (h.0, (record { same =
 sound_member T end i (Fault lines at k S) kind h = tt
 
 -- octets taken: the offset at the end, and how many
-abbrev pub Takes : ℕ → ℕ → Grab → Type 0
-Takes n end (Waiting held at) = (at ≡ end) × (length held < n)
-Takes n end (Got xs at rest) = (at + length rest ≡ end) × (length xs ≡ n)
+abbrev pub Takes : ℕ → ℕ → Block → Type 0
+Takes n end (Partial held at) = (at ≡ end) × (length held < n)
+Takes n end (Complete xs at rest) = (at + length rest ≡ end) × (length xs ≡ n)
 
 block_takes : (n at : ℕ) (s : List ℕ) → Takes n (at + length s) (block n at s)
 block_takes n at s = go (cases_lt (length s) n)
@@ -72,7 +72,7 @@ number_takes o n at s pos = go (cases_lt (length s) (padding (at - o) n))
         rw (number_blocks o n at s h) (subst (λ end. Takes n end (block n (at + padding (at - o) n) (drop (padding (at - o) n) s))) e
         (block_takes n (at + padding (at - o) n) (drop (padding (at - o) n) s)))
 
-pub parts_keep : (coding : Coding) (path : List Seg) (T : Ty) (count : ℕ) → HasParts T count →
+pub parts_keep : (coding : Coding) (path : List PathSegment) (T : Ty) (count : ℕ) → HasParts T count →
     ((i : ℕ) → i < count → Keeps (part_of T i) (read coding (inner_path path T i) (part_of T i))) →
     (more i : ℕ) → more ≡ count - i → Keeps T (parts_from (part_at coding path T count) more i)
 parts_keep coding path T count kind each zero i is at s = refl
@@ -82,33 +82,33 @@ parts_keep coding path T count kind each (suc more) i is at s =
     (sound_part T _ i count _ kind below (each i below at s))
     (parts_keep coding path T count kind each more (suc i) (omega arith))
 
-headed_keeps : (coding : Coding) (path : List Seg) (T : Ty) → HasHead T → 0 < head_width T →
+headed_keeps : (coding : Coding) (path : List PathSegment) (T : Ty) → HasLeadingNumber T → 0 < leading_width T →
     ((n : ℕ) → Keeps T (after coding path T n)) →
-    Keeps T (λ at s. headed_by coding path T (number coding.origin (head_width T) at s))
-headed_keeps coding path T kind pos keeps at s = go (number coding.origin (head_width T) at s) (number_takes coding.origin (head_width T) at s pos)
+    Keeps T (λ at s. headed_by coding path T (number coding.origin (leading_width T) at s))
+headed_keeps coding path T kind pos keeps at s = go (number coding.origin (leading_width T) at s) (number_takes coding.origin (leading_width T) at s pos)
   where
-    go : (g : Grab) → Takes (head_width T) (at + length s) g →
+    go : (g : Block) → Takes (leading_width T) (at + length s) g →
         Sound T (at + length s) (headed_by coding path T g)
-    go (Waiting carry at') h = (h.0, record { same = refl; kind = kind; room = h.1 }, tt)
-    go (Got xs at' rest) h = subst (λ e. Sound T e (after coding path T (num coding.order xs) at' rest)) h.0 (keeps (num coding.order xs) at' rest)
+    go (Partial carry at') h = (h.0, record { same = refl; kind = kind; room = h.1 }, tt)
+    go (Complete xs at' rest) h = subst (λ e. Sound T e (after coding path T (num coding.order xs) at' rest)) h.0 (keeps (num coding.order xs) at' rest)
 
-pub last_piece_sound : (T : Ty) (path : List Seg) (total offset end : ℕ) → HasContent T →
-    total - offset ≤ 32 → offset ≤ total → (g : Grab) → Takes (total - offset + tail T) end g →
+pub last_piece_sound : (T : Ty) (path : List PathSegment) (total offset end : ℕ) → HasContent T →
+    total - offset ≤ 32 → offset ≤ total → (g : Block) → Takes (total - offset + tail T) end g →
     Sound T end (last_piece T path total offset g)
-last_piece_sound T path total offset end kind small ahead (Waiting piece at) h =
+last_piece_sound T path total offset end kind small ahead (Partial piece at) h =
     (h.0, record { same = refl; kind = kind; ahead = ahead; room_full = λ more. absurd (omega arith); room_last = λ _. h.1 }, tt)
-last_piece_sound T path total offset end kind small ahead (Got xs at rest) h =
+last_piece_sound T path total offset end kind small ahead (Complete xs at rest) h =
     sound_unless T _ T (ends T (total - offset) xs) at _ h.0
 
-pub full_piece_sound : (T : Ty) (path : List Seg) (total offset end : ℕ) → HasContent T →
-    32 < total - offset → (next : ℕ → List ℕ → Read) → Keeps T next → (g : Grab) → Takes 32 end g →
+pub full_piece_sound : (T : Ty) (path : List PathSegment) (total offset end : ℕ) → HasContent T →
+    32 < total - offset → (next : ℕ → List ℕ → Read) → Keeps T next → (g : Block) → Takes 32 end g →
     Sound T end (full_piece T path total offset next g)
-full_piece_sound T path total offset end kind large next keeps (Waiting piece at) h =
+full_piece_sound T path total offset end kind large next keeps (Partial piece at) h =
     (h.0, record { same = refl; kind = kind; ahead = omega arith; room_full = λ _. h.1; room_last = λ small. absurd (omega arith) }, tt)
-full_piece_sound T path total offset end kind large next keeps (Got xs at rest) h =
+full_piece_sound T path total offset end kind large next keeps (Complete xs at rest) h =
     sound_front T _ (line at path (Piece T offset xs true) ∷ []) _ (subst (λ e. Sound T e (next at rest)) h.0 (keeps at rest))
 
-pub content_keeps : (T : Ty) (path : List Seg) (total : ℕ) → HasContent T → (full offset : ℕ) →
+pub content_keeps : (T : Ty) (path : List PathSegment) (total : ℕ) → HasContent T → (full offset : ℕ) →
     full ≡ full_pieces (total - offset) → offset ≤ total →
     Keeps T (content T path total full offset)
 content_keeps T path total kind zero offset is ahead at s =
@@ -118,20 +118,20 @@ content_keeps T path total kind (suc full) offset is ahead at s =
     full_piece_sound T path total offset (at + length s) kind (omega arith) (content T path total full (offset + 32))
     (content_keeps T path total kind full (offset + 32) (omega arith) (omega arith)) (block 32 at s) (block_takes 32 at s)
 
-text_keeps : (path : List Seg) (bound : Option ℕ) (n : ℕ) → Keeps (Text bound) (text bound path n)
+text_keeps : (path : List PathSegment) (bound : Option ℕ) (n : ℕ) → Keeps (Text bound) (text bound path n)
 text_keeps path bound zero at s = refl
 text_keeps path bound (suc n) at s =
     sound_unless (Text bound) _ _ (over bound n) at _ (content_keeps (Text bound) path n tt (full_pieces n) 0 (omega arith) (omega arith) at s)
 
-octets_keeps : (path : List Seg) (bound : Option ℕ) (n : ℕ) →
+octets_keeps : (path : List PathSegment) (bound : Option ℕ) (n : ℕ) →
     Keeps (Octets bound) (octets bound path n)
 octets_keeps path bound n at s =
     sound_unless (Octets bound) _ _ (over bound n) at _ (content_keeps (Octets bound) path n tt (full_pieces n) 0 (omega arith) (omega arith) at s)
 
-single_keeps : (T : Ty) (path : List Seg) (scalar : Scalar) (n : ℕ) → Keeps T (single path scalar n)
+single_keeps : (T : Ty) (path : List PathSegment) (scalar : Scalar) (n : ℕ) → Keeps T (single path scalar n)
 single_keeps T path scalar n at s = sound_unless T _ _ (wrong scalar n) at _ refl
 
-selected_keeps : (coding : Coding) (path : List Seg) (T : Ty) (selected : Selected) →
+selected_keeps : (coding : Coding) (path : List PathSegment) (T : Ty) (selected : Selected) →
     ((i : ℕ) → selected ≡ Case i → HasCase T i) →
     ((i : ℕ) → HasCase T i → Keeps (part_of T i) (read coding (inner_path path T i) (part_of T i)))
     → Keeps T (member selected (λ i at s. within (Member T i)
@@ -141,14 +141,14 @@ selected_keeps coding path T (Case i) kind each at s =
 selected_keeps coding path T _ kind each at s = refl
 
 -- what follows a number, where the parts' readings keep
-pub elements_keep : (coding : Coding) (path : List Seg) (bound : Option ℕ) (T : Ty) (n : ℕ) →
+pub elements_keep : (coding : Coding) (path : List PathSegment) (bound : Option ℕ) (T : Ty) (n : ℕ) →
     ((i : ℕ) → Keeps T (read coding (path ++ Index i ∷ []) T)) →
     Keeps (Sequence bound T) (after coding path (Sequence bound T) n)
 elements_keep coding path bound T n each at s = sound_unless (Sequence bound T) _ _ (over bound n) at _
     (sound_front (Sequence bound T) _ (line at path (Count n) ∷ []) _
     (parts_keep coding path (Sequence bound T) n tt (λ i below. each i) n 0 (omega arith) at s))
 
-pub cases_keep : (coding : Coding) (path : List Seg) (choice : Choice) (scalar : Scalar)
+pub cases_keep : (coding : Coding) (path : List PathSegment) (choice : Choice) (scalar : Scalar)
     (select : ℕ → Selected) (names : ℕ → List ℕ) (cases : ℕ → Ty) (n : ℕ) →
     SelectsBelow (places_of choice) select →
     ((i : ℕ) → i < places_of choice → Keeps (cases i) (read coding (path ++ Name (names i) ∷ [])
@@ -158,12 +158,12 @@ cases_keep coding path choice scalar select names cases n below each at s =
     let T = Union choice scalar select names cases in
     sound_unless T _ T (wrong scalar n) at _
     (sound_unless T _ T (refused (select n)) at _
-    (sound_front T _ (line at (path ++ Switch (tag_of choice names) ∷ []) (Spine.Number scalar n) ∷ []) _
+    (sound_front T _ (line at (path ++ Switch (tag_of choice names) ∷ []) (ReadResult.Number scalar n) ∷ []) _
     (selected_keeps coding path T (select n) (λ i e. below n i e) each at s)))
 
 -- ---- encapsulations
 
-rest_keeps : (T : Ty) (path : List Seg) (n : ℕ) → HasContent T → Keeps T (rest_of path T n)
+rest_keeps : (T : Ty) (path : List PathSegment) (n : ℕ) → HasContent T → Keeps T (rest_of path T n)
 rest_keeps T path zero kind at s = refl
 rest_keeps T path (suc n) kind at s = content_keeps T path (suc n) kind (full_pieces (suc n)) 0 (omega arith) (omega arith) at s
 
@@ -172,7 +172,7 @@ encapsulation_content (Encapsulation T) h = tt
 encapsulation_content T h = absurd h
 
 -- a value in an encapsulation, read up to here, and what follows it, which is nothing while the encapsulation goes on
-pub sound_enclosed : (T : Ty) (path : List Seg) (inner : Coding) (end here : ℕ) →
+pub sound_enclosed : (T : Ty) (path : List PathSegment) (inner : Coding) (end here : ℕ) →
     IsEncapsulation T → inner.origin < here → (r : Read) (more : List ℕ) →
     Sound (part_of T 0) here r → (here < end → more ≡ []) →
     Sound T (here + length more) (enclosed path T inner end r more)
@@ -192,7 +192,7 @@ sound_enclosed T path inner end here kind began (Short lines at outer leaf) more
     go (inr k) = rw le-ltb tt
 sound_enclosed T path inner end here kind began (Fault lines at why S) more h none = tt
 
-inside_sound : (T : Ty) (path : List Seg) (value : Coding → ℕ → List ℕ → Read) (inner : Coding)
+inside_sound : (T : Ty) (path : List PathSegment) (value : Coding → ℕ → List ℕ → Read) (inner : Coding)
     (n at : ℕ) (s : List ℕ) → IsEncapsulation T → inner.origin < at →
     Keeps (part_of T 0) (value inner) → Sound T (at + length s) (inside path T value inner n at s)
 inside_sound T path value inner n at s kind began keeps = go (cases_lt (length s) n)
@@ -211,10 +211,10 @@ inside_sound T path value inner n at s kind began keeps = go (cases_lt (length s
         (λ below. absurd (omega (arith, l, below))))
 
 -- what an encapsulation holds keeps so, in each order and from each origin
-abbrev pub HeldKeeps : Ty → List Seg → Type 0
+abbrev pub HeldKeeps : Ty → List PathSegment → Type 0
 HeldKeeps T path = (inner : Coding) → Keeps (part_of T 0) (held path T inner)
 
-pub ordered_sound : (T : Ty) (path : List Seg) (origin n : ℕ) (order : Option Order) (at : ℕ)
+pub ordered_sound : (T : Ty) (path : List PathSegment) (origin n : ℕ) (order : Option Order) (at : ℕ)
     (s : List ℕ) → IsEncapsulation T → origin < at → HeldKeeps T path →
     Sound T (at + length s) (ordered path T (held path T) origin n order at s)
 ordered_sound T path origin n None at s kind began keeps = tt
@@ -222,7 +222,7 @@ ordered_sound T path origin n (Some order) at s kind began keeps =
     sound_front T _ (line at path (Ordered order) ∷ []) _
     (inside_sound T path (held path T) (coded order origin) n at s kind began (keeps (coded order origin)))
 
-sized_keeps : (T : Ty) (path : List Seg) (n : ℕ) → IsEncapsulation T → HeldKeeps T path →
+sized_keeps : (T : Ty) (path : List PathSegment) (n : ℕ) → IsEncapsulation T → HeldKeeps T path →
     Keeps T (sized path T (held path T) n)
 sized_keeps T path zero kind keeps at s = tt
 sized_keeps T path (suc n) kind keeps at [] = rw (block_waits 1 at [] (lit< tt)) (refl, record { same = refl; kind = kind }, tt)
@@ -231,12 +231,12 @@ sized_keeps T path (suc n) kind keeps at (x ∷ s) =
     rw (block_got 1 at (x ∷ s) (omega arith)) (subst (λ m. Sound T m (ordered path T (held path T) at n (order_of x) (at + 1) s)) e
     (ordered_sound T path at n (order_of x) (at + 1) s kind (omega arith) keeps))
 
-size_keeps : (coding : Coding) (path : List Seg) (T : Ty) (n : ℕ) →
+size_keeps : (coding : Coding) (path : List PathSegment) (T : Ty) (n : ℕ) →
     HeldKeeps (Encapsulation T) path →
     Keeps (Encapsulation T) (after coding path (Encapsulation T) n)
 size_keeps coding path T n keeps at s = sound_front (Encapsulation T) _ (line at path (Size n) ∷ []) _ (sized_keeps (Encapsulation T) path n tt keeps at s)
 
-pub read_keeps : (d : ℕ) (coding : Coding) (path : List Seg) (T : Ty) → IsFit d T →
+pub read_keeps : (d : ℕ) (coding : Coding) (path : List PathSegment) (T : Ty) → IsFit d T →
     Keeps T (read coding path T)
 unfolding IsFit
 read_keeps zero coding path T fit = absurd fit
@@ -257,7 +257,7 @@ read_keeps (suc d) coding path (Union choice scalar select names cases) fit =
 read_keeps (suc d) coding path (Encapsulation T) fit =
     headed_keeps coding path (Encapsulation T) tt (lit< tt) (λ n. size_keeps coding path T n (λ inner. read_keeps d inner (path ++ Held ∷ []) T fit))
 
-pub after_keeps : (d : ℕ) (coding : Coding) (path : List Seg) (T : Ty) (n : ℕ) → IsFit d T →
+pub after_keeps : (d : ℕ) (coding : Coding) (path : List PathSegment) (T : Ty) (n : ℕ) → IsFit d T →
     Keeps T (after coding path T n)
 unfolding IsFit
 after_keeps zero coding path T n fit = absurd fit

@@ -5,11 +5,11 @@ use Rattle.giop_decode.specs.declared.decoder.Decoder.{Decoder}
 use Rattle.giop_decode.specs.declared.leaf.Leaf.TheVariants as innermost
 use Rattle.giop_decode.specs.Begins.{start_outer, start_leaf}
 use Rattle.giop_decode.specs.Fits.{Sound}
-use Rattle.giop_decode.specs.Heard.{nothing}
-use Rattle.giop_decode.specs.Holding.{Fits, Reads, Recalls, standing_in}
+use Rattle.giop_decode.specs.Noted.{nothing_noted}
+use Rattle.giop_decode.specs.DecoderState.{Fits, Reads, HoldsNoted, read_by_leaf}
 use Rattle.giop_decode.specs.Reading.{read}
-use Rattle.giop_decode.specs.Spine.{plain, Head, Short}
-use Rattle.giop_decode.specs.Turns.{places, is_inside, AreKnown, Link, AreAhead, StandAt}
+use Rattle.giop_decode.specs.ReadResult.{plain, LeadingNumber, Short}
+use Rattle.giop_decode.specs.Transitions.{open_parts, is_inside, AreKnown, Link, HaveOctetsLeft, StandAt}
 use Rattle.giop_decode.proofs.Around.{read_none}
 use Rattle.giop_decode.proofs.Sound.{read_keeps}
 use Rattle.giop_print.specs.declared.path.Root.{Root}
@@ -22,17 +22,17 @@ use Rattle.giop_sig.specs.Types.{Ty}
 module _ (C : Table) (T : Ty) (order : Order) (at message : ℕ) (root : Root) (d : Decoder) where
   -- a type that isn't the empty struct begins with a number
   pub first_reads : (first : TypeId) → IsFit 24 T → d.leaf ≡ Some (innermost.Number first) →
-      d.carry ≡ [] → ((here : ℕ) → places C here d.outer.items ≡ start_outer T) →
-      StandAt at d.outer.items → start_leaf T ≡ Head (tree C first.0) [] →
-      Recalls d.memory nothing → d.order ≡ order → d.message ≡ message → d.root ≡ root →
+      d.carry ≡ [] → ((here : ℕ) → open_parts C here d.outer.items ≡ start_outer T) →
+      StandAt at d.outer.items → start_leaf T ≡ LeadingNumber (tree C first.0) [] →
+      HoldsNoted d.notes nothing_noted → d.order ≡ order → d.message ≡ message → d.root ≡ root →
       d.at ≡ at % 8 → Reads C T order at message root d []
   first_reads first fit goes_on empty are stand leaf recalls same_order same_message same_root offset =
-      let none : read (plain order) [] T at [] ≡ Short [] at (start_outer T) (Head (tree C first.0) []) = read_none (plain order) [] 24 T at fit
+      let none : read (plain order) [] T at [] ≡ Short [] at (start_outer T) (LeadingNumber (tree C first.0) []) = read_none (plain order) [] 24 T at fit
       ∙ ap (Short [] at (start_outer T)) leaf in
       record {
         lines = [];
-        is = none ∙ sym (ap (λ l. standing_in C d l [] (at + 0)) goes_on ∙ rw (add-zero at, are at, empty) refl);
-        minds = rw none recalls;
+        is = none ∙ sym (ap (λ l. read_by_leaf C d l [] (at + 0)) goes_on ∙ rw (add-zero at, are at, empty) refl);
+        keeps_noted = rw none recalls;
         same_order = same_order;
         same_message = same_message;
         same_root = same_root;
@@ -41,11 +41,11 @@ module _ (C : Table) (T : Ty) (order : Order) (at message : ℕ) (root : Root) (
 
 pub first_fits : (C : Table) (of : ℕ) (d : Decoder) (first : TypeId) → of < length C.types →
     IsFit 24 (tree C of) → d.leaf ≡ Some (innermost.Number first) → d.carry ≡ [] →
-    d.piece.items ≡ [] → ((here : ℕ) → places C here d.outer.items ≡ start_outer (tree C of)) →
-    StandAt d.at d.outer.items → AreAhead d.outer.items → d.inside ≡ is_inside d.outer.items →
-    start_leaf (tree C of) ≡ Head (tree C first.0) [] → Link C of d.outer.items first.0 →
+    d.piece.items ≡ [] → ((here : ℕ) → open_parts C here d.outer.items ≡ start_outer (tree C of)) →
+    StandAt d.at d.outer.items → HaveOctetsLeft d.outer.items → d.inside ≡ is_inside d.outer.items →
+    start_leaf (tree C of) ≡ LeadingNumber (tree C first.0) [] → Link C of d.outer.items first.0 →
     AreKnown C d.outer.items → first.0 < length C.types → d.at < 8 →
-    d.memory.request_id ≡ None → Fits C d
+    d.notes.request_id ≡ None → Fits C d
 first_fits C of d first known_root fit goes_on empty none are stand ahead inside leaf link known_outer known at none_said =
     let T = tree C of in
     let sound : Sound T (0 + 0) (Short [] 0 (start_outer T) (start_leaf T)) =

@@ -3,13 +3,13 @@ use Rattle.std.proofs.Common.{◌≡◌, ℕ, List, [], Option, Some, None, refl
 use Rattle.giop_cdr.specs.declared.order.Order.{Order}
 use Rattle.giop_decode.specs.declared.decoder.Decoder.{Decoder}
 use Rattle.giop_decode.specs.declared.leaf.Leaf.{Leaf as Innermost}
-use Rattle.giop_decode.specs.declared.memory.Buffer.{Buffer}
-use Rattle.giop_decode.specs.declared.memory.Buffer.TheVariants as buffers
-use Rattle.giop_decode.specs.declared.memory.Memory.{Memory}
-use Rattle.giop_decode.specs.Heard.{Heard}
-use Rattle.giop_decode.specs.Holding.{Fits, IsHeld, Minds, Reads, Recalls, standing, standing_in}
+use Rattle.giop_decode.specs.declared.notes.Buffer.{Buffer}
+use Rattle.giop_decode.specs.declared.notes.Buffer.TheVariants as buffers
+use Rattle.giop_decode.specs.declared.notes.Notes.{Notes}
+use Rattle.giop_decode.specs.Noted.{Noted}
+use Rattle.giop_decode.specs.DecoderState.{Fits, IsHeld, KeepsNoted, Reads, HoldsNoted, read_by_fields, read_by_leaf}
 use Rattle.giop_decode.specs.Reading.{read}
-use Rattle.giop_decode.specs.Spine.{plain, Line, Read}
+use Rattle.giop_decode.specs.ReadResult.{plain, Line, Read}
 use Rattle.giop_decode.specs.Stored.{IsKept, IsRestored, Stored, fixed_octets, kept_name}
 use Rattle.giop_print.specs.declared.path.Root.{Root}
 use Rattle.giop_sig.specs.Table.{Table}
@@ -32,7 +32,7 @@ restored_fits C d e r h = record {
   known = h.known;
   clean = rw (r.carry, r.piece) h.clean;
   at = rw r.at h.at;
-  heeds = rw (r.root, r.memory.request_id) h.heeds;
+  heeds = rw (r.root, r.notes.request_id) h.heeds;
 }
 
 -- ---- readings
@@ -42,22 +42,22 @@ kept_held : (b : Buffer) (octets so_far : List ℕ) (name : Option (List ℕ)) �
 kept_held buffers.TooLong octets so_far name held = (held.0, refl, held.2)
 kept_held buffer octets so_far name held = held
 
-recalls_again : (m n : Memory) (h : Heard) → IsKept m n → Recalls m h → Recalls n h
+recalls_again : (m n : Notes) (h : Noted) → IsKept m n → HoldsNoted m h → HoldsNoted n h
 recalls_again m n h kept recalls = record {
   request_id = kept.request_id ∙ recalls.request_id;
   status = kept.status ∙ recalls.status;
   name = rw (kept.buffer, kept.name) (kept_held m.buffer m.name.items h.so_far h.name recalls.name);
 }
 
-minds_again : (root : Root) (d e : Decoder) (r : Read) → IsRestored d e → Minds root d r →
-    Minds root e r
-minds_again root d e r restored minds = recalls_again d.memory e.memory _ restored.memory minds
+minds_again : (root : Root) (d e : Decoder) (r : Read) → IsRestored d e → KeepsNoted root d r →
+    KeepsNoted root e r
+minds_again root d e r restored keeps_noted = recalls_again d.notes e.notes _ restored.notes keeps_noted
 
 standing_again : (C : Table) (d e : Decoder) (lines : List Line) (at : ℕ) → IsRestored d e →
-    standing C d lines at ≡ standing C e lines at
-standing_again C d e lines at r = same_in d.leaf ∙ ap (λ l. standing_in C e l lines at) (sym r.leaf)
+    read_by_fields C d lines at ≡ read_by_fields C e lines at
+standing_again C d e lines at r = same_in d.leaf ∙ ap (λ l. read_by_leaf C e l lines at) (sym r.leaf)
   where
-    same_in : (l : Option Innermost) → standing_in C d l lines at ≡ standing_in C e l lines at
+    same_in : (l : Option Innermost) → read_by_leaf C d l lines at ≡ read_by_leaf C e l lines at
     same_in None = refl
     same_in (Some leaf) = rw (r.outer, r.carry, r.piece) refl
 
@@ -67,7 +67,7 @@ pub restored_reads : (C : Table) (d e : Decoder) (T : Ty) (order : Order) (at me
 restored_reads C d e T order at message root s r reads = record {
   lines = reads.lines;
   is = reads.is ∙ standing_again C d e reads.lines _ r;
-  minds = minds_again root d e (read (plain order) [] T at s) r reads.minds;
+  keeps_noted = minds_again root d e (read (plain order) [] T at s) r reads.keeps_noted;
   same_order = r.order ∙ reads.same_order;
   same_message = r.message ∙ reads.same_message;
   same_root = r.root ∙ reads.same_root;
@@ -84,8 +84,8 @@ fixed_again : (d e : Decoder) (leaf : Innermost) → IsRestored d e →
     fixed_octets e leaf ≡ fixed_octets d leaf
 unfolding fixed_octets
 fixed_again d e leaf r =
-    rw (r.order, r.root, r.message, r.at, r.carry, r.piece, r.memory.request_id, r.memory.status)
-    (rw (r.memory.buffer, r.memory.name, kept_again d.memory.buffer d.memory.name.items) refl)
+    rw (r.order, r.root, r.message, r.at, r.carry, r.piece, r.notes.request_id, r.notes.status)
+    (rw (r.notes.buffer, r.notes.name, kept_again d.notes.buffer d.notes.name.items) refl)
 
 -- both are stored in the same octets
 pub stored_same : (d e : Decoder) (fixed frames fixed_e frames_e : List ℕ) → IsRestored d e →

@@ -5,17 +5,17 @@ use Rattle.giop_cdr.specs.declared.order.Order.{Order}
 use Rattle.giop_decode.specs.declared.decoder.Decoder.{Decoder}
 use Rattle.giop_decode.specs.declared.frame.Frame.{Frame}
 use Rattle.giop_decode.specs.declared.leaf.Leaf.{Leaf as Innermost}
-use Rattle.giop_decode.specs.Chained.{HasFrame, HasPart, LeafFits, Chained, Chains, root_of}
+use Rattle.giop_decode.specs.FrameChain.{HasFrame, HasPart, LeafFits, Chained, Chains, root_of}
 use Rattle.giop_decode.specs.Fits.{FitsIn, IsEncapsulation}
-use Rattle.giop_decode.specs.Holding.{Fits}
-use Rattle.giop_decode.specs.Spine.{Place, Leaf}
-use Rattle.giop_decode.specs.Turns.{places, part_in, part_index, place_in, AreAhead, AreKnown, IsWithin, Link, StandAt, leaf_of, leaf_type}
+use Rattle.giop_decode.specs.DecoderState.{Fits}
+use Rattle.giop_decode.specs.ReadResult.{OpenPart, Leaf}
+use Rattle.giop_decode.specs.Transitions.{open_parts, part_in, part_index, open_part_in, HaveOctetsLeft, AreKnown, IsWithin, Link, StandAt, leaf_of, leaf_type}
 use Rattle.giop_decode.proofs.Around.{fit_room}
 use Rattle.giop_decode.proofs.Going.{length_places}
 use Rattle.giop_decode.proofs.Starting.{fit_some}
 use Rattle.giop_decode.proofs.Leaving.{leaf_at}
 use Rattle.giop_sig.specs.Fits.{IsFit, IsEmptyStruct}
-use Rattle.giop_sig.specs.Headers.{IsTable}
+use Rattle.giop_sig.specs.HeaderTypes.{IsTable}
 use Rattle.giop_sig.specs.Table.{Table, part_number}
 use Rattle.giop_sig.specs.Trees.{tree}
 use Rattle.giop_sig.specs.Types.{Cases, Tag, Encapsulation, Ty, Single, Text, Octets, Struct, Union, Sequence, Array, HasPlace, IsUnion, part_of, shape_in}
@@ -39,7 +39,7 @@ part_uncounted (Text bound) i count has is = absurd has.0
 part_uncounted (Octets bound) i count has is = absurd has.0
 part_uncounted T i count has is = absurd is
 
-fits_one_more : (T : Ty) (i count : ℕ) (outer : List Place) (leaf : Leaf) → HasPart T i count →
+fits_one_more : (T : Ty) (i count : ℕ) (outer : List OpenPart) (leaf : Leaf) → HasPart T i count →
     FitsIn (part_of T i) outer leaf → FitsIn T (part_in T i count ∷ outer) leaf
 fits_one_more (Union choice scalar select names cases) i count outer leaf has fits = (record { same = refl; kind = has.0 }, fits)
 fits_one_more (Struct n names parts) i count outer leaf has fits = (record { same = refl; kind = has.0; below = has.1 }, fits)
@@ -47,7 +47,7 @@ fits_one_more (Array n T) i count outer leaf has fits = (record { same = refl; k
 fits_one_more (Sequence bound T) i count outer leaf has fits = (record { same = refl; kind = has.0; below = has.1 }, fits)
 fits_one_more T i count outer leaf has fits = absurd has.0
 
-fits_part : (T : Ty) (i count : ℕ) (outer : List Place) (leaf : Leaf) →
+fits_part : (T : Ty) (i count : ℕ) (outer : List OpenPart) (leaf : Leaf) →
     FitsIn T (part_in T i count ∷ outer) leaf → (IsUnion (shape_in T) → count ≡ 0) →
     HasPart T i count × FitsIn (part_of T i) outer leaf
 fits_part (Union (Cases n) scalar select names cases) i count outer leaf fits uncounted = ((fits.0.kind, uncounted tt), fits.1)
@@ -82,21 +82,21 @@ frame_ahead : (inside : Option Order) (T : Ty) (i count : ℕ) → HasFrame insi
 frame_ahead None T i count has = tt
 frame_ahead (Some order) T i count has = has.2
 
-frame_fits : (here : ℕ) (inside : Option Order) (T : Ty) (i count : ℕ) (outer : List Place)
+frame_fits : (here : ℕ) (inside : Option Order) (T : Ty) (i count : ℕ) (outer : List OpenPart)
     (leaf : Leaf) → HasFrame inside T i count →
     FitsIn (part_of T (part_index inside i)) outer leaf →
-    FitsIn T (place_in here inside T i count ∷ outer) leaf
+    FitsIn T (open_part_in here inside T i count ∷ outer) leaf
 frame_fits here None T i count outer leaf has fits = fits_one_more T i count outer leaf has fits
 frame_fits here (Some order) T i count outer leaf has fits = (record { same = refl; kind = has.0 }, fits)
 
-record FrameIs (inside : Option Order) (T : Ty) (i count : ℕ) (outer : List Place)
+record FrameIs (inside : Option Order) (T : Ty) (i count : ℕ) (outer : List OpenPart)
     (leaf : Leaf) : Type 0 where
   has : HasFrame inside T i count
   fits : FitsIn (part_of T (part_index inside i)) outer leaf
 
-frame_is : (here : ℕ) (inside : Option Order) (T : Ty) (i count : ℕ) (outer : List Place)
+frame_is : (here : ℕ) (inside : Option Order) (T : Ty) (i count : ℕ) (outer : List OpenPart)
     (leaf : Leaf) → IsWithin inside i count T → IfSome inside (λ order. i < count) →
-    FitsIn T (place_in here inside T i count ∷ outer) leaf → FrameIs inside T i count outer leaf
+    FitsIn T (open_part_in here inside T i count ∷ outer) leaf → FrameIs inside T i count outer leaf
 frame_is here None T i count outer leaf within ahead fits =
     let p = fits_part T i count outer leaf fits within.2 in
     record { has = p.0; fits = p.1 }
@@ -106,8 +106,8 @@ frame_is here (Some order) T i count outer leaf within ahead fits = record { has
 
 record ChainFits (C : Table) (here id : ℕ) (frames : List Frame) (leaf : Innermost)
     (carry piece : List ℕ) : Type 0 where
-  fits : FitsIn (tree C id) (places C here frames) (leaf_of C leaf carry piece)
-  ahead : AreAhead frames
+  fits : FitsIn (tree C id) (open_parts C here frames) (leaf_of C leaf carry piece)
+  ahead : HaveOctetsLeft frames
   known_outer : AreKnown C frames
   link : Link C id frames (leaf_type leaf)
 
@@ -127,12 +127,12 @@ chain_fits C here id (f ∷ frames) leaf carry piece laws known h inner =
     let p = part_is C id i laws known (frame_place f.inside (tree C id) f.index f.count has) in
     let below : part_number C id i < length C.types = let b = p.below in omega arith in
     let rest = chain_fits C here (part_number C id i) frames leaf carry piece laws below h.2 inner in
-    let ps = places C here frames in
+    let ps = open_parts C here frames in
     let inmost = leaf_of C leaf carry piece in
     let fits = frame_fits here f.inside (tree C id) f.index f.count ps inmost has (subst (λ (T : Ty). FitsIn T ps inmost) p.same rest.fits) in
     let is : id ≡ f.of.0 = sym h.0 in
     record {
-      fits = subst (λ (n : ℕ). FitsIn (tree C id) (place_in here f.inside (tree C n) f.index f.count ∷ ps) inmost) is fits;
+      fits = subst (λ (n : ℕ). FitsIn (tree C id) (open_part_in here f.inside (tree C n) f.index f.count ∷ ps) inmost) is fits;
       ahead = (frame_ahead f.inside (tree C id) f.index f.count has, rest.ahead);
       known_outer = (
         record {
@@ -151,7 +151,7 @@ record FitsChain (C : Table) (id : ℕ) (frames : List Frame) (leaf : Innermost)
 
 fits_chain : (C : Table) (here id : ℕ) (frames : List Frame) (leaf : Innermost)
     (carry piece : List ℕ) → IsTable C → id < length C.types →
-    FitsIn (tree C id) (places C here frames) (leaf_of C leaf carry piece) → AreAhead frames →
+    FitsIn (tree C id) (open_parts C here frames) (leaf_of C leaf carry piece) → HaveOctetsLeft frames →
     AreKnown C frames → Link C id frames (leaf_type leaf) → FitsChain C id frames leaf carry piece
 fits_chain C here id [] leaf carry piece laws known fits ahead are link =
     record {
@@ -160,10 +160,10 @@ fits_chain C here id [] leaf carry piece laws known fits ahead are link =
           (leaf_of C leaf carry piece)) (sym link) fits;
     }
 fits_chain C here id (f ∷ frames) leaf carry piece laws known fits ahead are link =
-    let ps = places C here frames in
+    let ps = open_parts C here frames in
     let inmost = leaf_of C leaf carry piece in
     let i = part_index f.inside f.index in
-    let there = subst (λ (n : ℕ). FitsIn (tree C id) (place_in here f.inside (tree C n) f.index f.count ∷ ps) inmost) link.0 fits in
+    let there = subst (λ (n : ℕ). FitsIn (tree C id) (open_part_in here f.inside (tree C n) f.index f.count ∷ ps) inmost) link.0 fits in
     let within = subst (λ (n : ℕ). IsWithin f.inside f.index f.count (tree C n)) link.0 are.0.within in
     let u = frame_is here f.inside (tree C id) f.index f.count ps inmost within ahead.0 there in
     let p = part_is C id i laws known (frame_place f.inside (tree C id) f.index f.count u.has) in
@@ -247,5 +247,5 @@ fits_chains C d laws h =
 -- room is left for the innermost part's frame
 pub fits_few : (C : Table) (d : Decoder) → Fits C d → length d.outer.items < 24
 fits_few C d h =
-    let l = leaf_at 24 (tree C h.root) (places C h.here d.outer.items) (leaf_of C h.leaf d.carry d.piece.items) h.fits h.fit in
+    let l = leaf_at 24 (tree C h.root) (open_parts C h.here d.outer.items) (leaf_of C h.leaf d.carry d.piece.items) h.fits h.fit in
     omega (arith, length_places C h.here d.outer.items, l.depth, fit_room l.left _ l.fit)

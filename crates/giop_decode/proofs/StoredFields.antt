@@ -4,10 +4,10 @@ use Rattle.giop_decode.specs.declared.decoder.Decoder.{Decoder}
 use Rattle.giop_decode.specs.declared.frame.Frame.{Frame}
 use Rattle.giop_decode.specs.declared.leaf.Leaf.{Leaf as Innermost}
 use Rattle.giop_decode.specs.declared.leaf.Leaf.TheVariants as innermost
-use Rattle.giop_decode.specs.declared.memory.Memory.{Memory}
-use Rattle.giop_decode.specs.declared.memory.Buffer.{Buffer}
-use Rattle.giop_decode.specs.declared.memory.Buffer.TheVariants as buffers
-use Rattle.giop_decode.specs.Stored.{order_octet, root_octet, leaf_octets, buffer_octet, kept_name, name_octets, memory_octets, fixed_octets, frame_size, frame_octets, HasRange}
+use Rattle.giop_decode.specs.declared.notes.Notes.{Notes}
+use Rattle.giop_decode.specs.declared.notes.Buffer.{Buffer}
+use Rattle.giop_decode.specs.declared.notes.Buffer.TheVariants as buffers
+use Rattle.giop_decode.specs.Stored.{order_octet, root_octet, leaf_octets, buffer_octet, kept_name, name_octets, notes_octets, fixed_octets, frame_size, frame_octets, HasRange}
 use Rattle.giop_octets.specs.Fields.{four, eight, optional, held}
 use Rattle.giop_octets.proofs.FieldLaws.{eight_long, optional_long, held_long, behind}
 
@@ -28,7 +28,7 @@ pub kept_short : (b : Buffer) (name : List ℕ) → length name ≤ 128 → leng
 kept_short buffers.TooLong name few = omega arith
 kept_short buffer name few = few
 
-pub record MemoryStands (m : Memory) (at : ℕ) (octets : List ℕ) : Type 0 where
+pub record MemoryStands (m : Notes) (at : ℕ) (octets : List ℕ) : Type 0 where
   pub request_id : Stands at octets (optional m.request_id)
   pub status : Stands (at + 5) octets (optional m.status)
   pub buffer : Stands (at + 10) octets (buffer_octet m.buffer ∷ [])
@@ -42,8 +42,8 @@ further at a b c octets xs e is = let same : at + a + b ≡ at + c = omega arith
 pub three : (a b c d : List ℕ) → (a ++ b ++ c) ++ d ≡ a ++ (b ++ (c ++ d))
 three a b c d = simp append_assoc
 
-pub memory_stands : (m : Memory) (at : ℕ) (octets rest : List ℕ) →
-    drop at octets ≡ memory_octets m ++ rest → MemoryStands m at octets
+pub memory_stands : (m : Notes) (at : ℕ) (octets rest : List ℕ) →
+    drop at octets ≡ notes_octets m ++ rest → MemoryStands m at octets
 memory_stands m at octets rest is =
     let id : drop at octets ≡ optional m.request_id ++ (optional m.status ++ ((buffer_octet m.buffer ∷ name_octets m) ++ rest)) = is
     ∙ three (optional m.request_id) (optional m.status) (buffer_octet m.buffer ∷ name_octets m) rest in
@@ -63,7 +63,7 @@ pub record FieldsStand (d : Decoder) (inner : Innermost) (fixed : List ℕ) : Ty
   pub leaf : Stands 11 fixed (leaf_octets inner)
   pub carry : Stands 24 fixed (held 8 d.carry)
   pub piece : Stands 33 fixed (held 32 d.piece.items)
-  pub memory : Stands 66 fixed (memory_octets d.memory)
+  pub notes : Stands 66 fixed (notes_octets d.notes)
 
 six : (a b c d e f : List ℕ) → a ++ b ++ c ++ d ++ e ++ f ≡ a ++ (b ++ (c ++ (d ++ (e ++ f))))
 six a b c d e f = simp append_assoc
@@ -73,16 +73,16 @@ pub fields_stand : (d : Decoder) (leaf : Innermost) (fixed : List ℕ) → fixed
 unfolding fixed_octets
 fields_stand d leaf fixed is range =
     let zeros : List ℕ = replicate 2 0 in
-    let memory_on : List ℕ = memory_octets d.memory ++ zeros in
+    let memory_on : List ℕ = notes_octets d.notes ++ zeros in
     let piece_on : List ℕ = held 32 d.piece.items ++ memory_on in
     let carry_on : List ℕ = held 8 d.carry ++ piece_on in
     let message : drop 2 fixed ≡ eight d.message ++ ((d.at ∷ leaf_octets leaf) ++ carry_on) =
-    ap (drop 2) is ∙ six (eight d.message) (d.at ∷ leaf_octets leaf) (held 8 d.carry) (held 32 d.piece.items) (memory_octets d.memory) zeros in
+    ap (drop 2) is ∙ six (eight d.message) (d.at ∷ leaf_octets leaf) (held 8 d.carry) (held 32 d.piece.items) (notes_octets d.notes) zeros in
     let at : drop 10 fixed ≡ (d.at ∷ []) ++ (leaf_octets leaf ++ carry_on) = behind 2 8 fixed _ _ message (eight_long d.message) in
     let inner : drop 11 fixed ≡ leaf_octets leaf ++ carry_on = behind 10 1 fixed (d.at ∷ []) _ at refl in
     let carry : drop 24 fixed ≡ held 8 d.carry ++ piece_on = behind 11 13 fixed _ _ inner (leaf_long leaf) in
     let piece : drop 33 fixed ≡ held 32 d.piece.items ++ memory_on = behind 24 9 fixed (held 8 d.carry) _ carry (held_long 8 d.carry range.carry) in
-    let memory : drop 66 fixed ≡ memory_octets d.memory ++ zeros = behind 33 33 fixed (held 32 d.piece.items) _ piece
+    let notes : drop 66 fixed ≡ notes_octets d.notes ++ zeros = behind 33 33 fixed (held 32 d.piece.items) _ piece
     (held_long 32 d.piece.items range.piece) in
     record {
       order = (_, is);
@@ -92,7 +92,7 @@ fields_stand d leaf fixed is range =
       leaf = (_, inner);
       carry = (_, carry);
       piece = (_, piece);
-      memory = (_, memory);
+      notes = (_, notes);
     }
 
 -- the fields, written one behind the other
@@ -100,7 +100,7 @@ pub fields_written : (d : Decoder) (leaf : Innermost) (carry piece o0 o1 o2 o3 o
     o9 : List ℕ) → carry ≡ d.carry → piece ≡ d.piece.items → o0 ≡ [] →
     o1 ≡ o0 ++ order_octet d.order ∷ [] → o2 ≡ o1 ++ root_octet d.root ∷ [] →
     o3 ≡ o2 ++ eight d.message → o4 ≡ o3 ++ d.at ∷ [] → o5 ≡ o4 ++ leaf_octets leaf →
-    o6 ≡ o5 ++ held 8 carry → o7 ≡ o6 ++ held 32 piece → o8 ≡ o7 ++ memory_octets d.memory →
+    o6 ≡ o5 ++ held 8 carry → o7 ≡ o6 ++ held 32 piece → o8 ≡ o7 ++ notes_octets d.notes →
     o9 ≡ o8 ++ replicate 2 0 → o9 ≡ fixed_octets d leaf
 unfolding fixed_octets
 fields_written d leaf carry piece o0 o1 o2 o3 o4 o5 o6 o7 o8 o9 a b e0 e1 e2 e3 e4 e5 e6 e7 e8 e9 =

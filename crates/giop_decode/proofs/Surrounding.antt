@@ -5,15 +5,15 @@ use Rattle.std.proofs.lemmas.Bool.{cases_lt, eq-eqb}
 use Rattle.std.proofs.lemmas.List.{map-append, take_more, take_more_set}
 use Rattle.giop_cdr.specs.declared.order.Order.{Order}
 use Rattle.giop_decode.specs.declared.frame.Frame.{Frame}
-use Rattle.giop_decode.specs.Moves.{stopped_with}
+use Rattle.giop_decode.specs.DecoderSteps.{stopped_with}
 use Rattle.giop_sig.specs.declared.types.TypeId.{TypeId}
 use Rattle.giop_decode.specs.declared.progress.Kind.TheVariants as kinds
 use Rattle.giop_decode.specs.declared.leaf.Leaf.{Leaf as Innermost}
 use Rattle.giop_decode.specs.Fits.{Surround, Surrounds}
 use Rattle.giop_decode.specs.Reading.{cut_off}
-use Rattle.giop_decode.specs.Spine.{Done, with_front, Coding, Fault, Leaf, Line, Place, Read, Seg, Short, lines_of}
-use Rattle.giop_decode.specs.Steps.{around, coding_at, coding_in, resumed, seg_in}
-use Rattle.giop_decode.specs.Turns.{IsAhead, tick_of, tick_by_of, AreAhead, AreKnown, IsWithin, StandAt, StandsAt, coding_by, coding_of, ended_at, gone_on, gone_to, leaf_of, has_ended, is_inside, is_some_order, part_in, place, place_in, places, ticked, ticked_at, ticked_by}
+use Rattle.giop_decode.specs.ReadResult.{Done, with_front, Coding, Fault, Leaf, Line, OpenPart, Read, PathSegment, Short, lines_of}
+use Rattle.giop_decode.specs.ReadingSteps.{around, coding_at, coding_in, resumed, segment_in}
+use Rattle.giop_decode.specs.Transitions.{HasOctetsLeft, tick_of, tick_by_of, HaveOctetsLeft, AreKnown, IsWithin, StandAt, StandsAt, coding_by, coding_of, ended_at, gone_on, gone_to, leaf_of, has_ended, is_inside, is_some_order, part_in, open_part, open_part_in, open_parts, ticked, ticked_at, ticked_by}
 use Rattle.giop_sig.specs.Table.{Table}
 use Rattle.giop_sig.specs.Trees.{tree}
 use Rattle.giop_sig.specs.Types.{Ty, Union}
@@ -22,19 +22,19 @@ use Rattle.giop_sig.specs.Types.{Ty, Union}
 
 place_ticked : (here : ℕ) (inside : Option Order) (T : Ty) (i count : ℕ) →
     IfSome inside (λ order. i < count) →
-    place_in (here + 1) inside T (ticked_at inside i) count ≡ place_in here inside T i count
+    open_part_in (here + 1) inside T (ticked_at inside i) count ≡ open_part_in here inside T i count
 place_ticked here None T i count h = refl
 place_ticked here (Some order) T i count h =
     let e : (here + 1) - (i + 1) ≡ here - i = omega arith in
     let k : (here + 1) + (count - (i + 1)) ≡ here + (count - i) = omega (arith, h) in
     rw (e, k) refl
 
-pub places_ticked : (C : Table) (here : ℕ) (frames : List Frame) → AreAhead frames →
-    places C (here + 1) (ticked frames) ≡ places C here frames
+pub places_ticked : (C : Table) (here : ℕ) (frames : List Frame) → HaveOctetsLeft frames →
+    open_parts C (here + 1) (ticked frames) ≡ open_parts C here frames
 places_ticked C here [] h = refl
 places_ticked C here (f ∷ frames) h =
-    ap (λ p. p ∷ places C (here + 1) (ticked frames)) (place_ticked here f.inside (tree C f.of.0) f.index f.count h.0)
-    ∙ ap (λ ps. place C here f ∷ ps) (places_ticked C here frames h.1)
+    ap (λ p. p ∷ open_parts C (here + 1) (ticked frames)) (place_ticked here f.inside (tree C f.of.0) f.index f.count h.0)
+    ∙ ap (λ ps. open_part C here f ∷ ps) (places_ticked C here frames h.1)
 
 within_ticked : (inside : Option Order) (i count : ℕ) (T : Ty) →
     IfSome inside (λ order. i < count) → IsWithin inside i count T →
@@ -42,7 +42,7 @@ within_ticked : (inside : Option Order) (i count : ℕ) (T : Ty) →
 within_ticked None i count T h k = k
 within_ticked (Some order) i count T h k = (k.0, omega arith, omega (arith, h))
 
-pub known_ticked : (C : Table) (frames : List Frame) → AreAhead frames → AreKnown C frames →
+pub known_ticked : (C : Table) (frames : List Frame) → HaveOctetsLeft frames → AreKnown C frames →
     AreKnown C (ticked frames)
 known_ticked C [] h k = tt
 known_ticked C (f ∷ frames) h k =
@@ -81,7 +81,7 @@ ahead_at (Some order) i count T k h = go (cases_lt i count)
         absurd cc
 
 pub ahead_by : (C : Table) (frames : List Frame) → AreKnown C frames → has_ended frames ≡ false →
-    AreAhead frames
+    HaveOctetsLeft frames
 ahead_by C [] k h = tt
 ahead_by C (f ∷ frames) k h =
     let n = neither (ended_at f.inside f.index f.count) (has_ended frames) h in
@@ -93,47 +93,47 @@ part_surrounds here T i count = tt
 
 surround_at : (here : ℕ) (inside : Option Order) (T : Ty) (i count : ℕ) →
     IsWithin inside i count T → IfSome inside (λ order. i < count) →
-    IfSome inside (λ order. i ≤ here) → Surround here (place_in here inside T i count)
+    IfSome inside (λ order. i ≤ here) → Surround here (open_part_in here inside T i count)
 surround_at here None T i count k a s = part_surrounds here T i count
 surround_at here (Some order) T i count k a s = (omega (arith, a), omega (arith, k.1, s))
 
-pub surrounds : (C : Table) (here : ℕ) (frames : List Frame) → AreKnown C frames → AreAhead frames →
-    StandAt here frames → Surrounds here (places C here frames)
+pub surrounds : (C : Table) (here : ℕ) (frames : List Frame) → AreKnown C frames → HaveOctetsLeft frames →
+    StandAt here frames → Surrounds here (open_parts C here frames)
 surrounds C here [] k a s = tt
 surrounds C here (f ∷ frames) k a s =
     (surround_at here f.inside (tree C f.of.0) f.index f.count k.0.within a.0 s.0, surrounds C here frames k.1 a.1 s.1)
 
 -- ---- a part that goes on in these frames
 
-resumed_short : (coding : Coding) (path : List Seg) (T : Ty) (i count : ℕ) (lines : List Line)
-    (at : ℕ) (outer : List Place) (leaf : Leaf) →
+resumed_short : (coding : Coding) (path : List PathSegment) (T : Ty) (i count : ℕ) (lines : List Line)
+    (at : ℕ) (outer : List OpenPart) (leaf : Leaf) →
     resumed coding path (part_in T i count) (Short lines at outer leaf)
     ≡ Short lines at (part_in T i count ∷ outer) leaf
 resumed_short coding path (Union n scalar select names cases) i count lines at outer leaf = refl
 resumed_short coding path T i count lines at outer leaf = refl
 
-resumed_fault : (coding : Coding) (path : List Seg) (T : Ty) (i count : ℕ) (lines : List Line)
+resumed_fault : (coding : Coding) (path : List PathSegment) (T : Ty) (i count : ℕ) (lines : List Line)
     (at : ℕ) (S : Ty) → resumed coding path (part_in T i count) (Fault lines at kinds.EncapShort S)
     ≡ Fault lines at kinds.EncapShort S
 resumed_fault coding path (Union n scalar select names cases) i count lines at S = refl
 resumed_fault coding path T i count lines at S = refl
 
 -- so far inside these places, or cut off
-abbrev pub shut : Bool → List Line → ℕ → List Place → Leaf → Read
+abbrev pub shut : Bool → List Line → ℕ → List OpenPart → Leaf → Read
 shut ended lines at outer leaf = cond ended (Fault lines at kinds.EncapShort (cut_off leaf)) (Short lines at outer leaf)
 
-resumed_shut : (coding : Coding) (path : List Seg) (inside : Option Order) (T : Ty) (i count : ℕ)
-    (ended : Bool) (lines : List Line) (at : ℕ) (outer : List Place) (leaf : Leaf) →
-    IsWithin inside i count T → resumed coding path (place_in at inside T i count)
+resumed_shut : (coding : Coding) (path : List PathSegment) (inside : Option Order) (T : Ty) (i count : ℕ)
+    (ended : Bool) (lines : List Line) (at : ℕ) (outer : List OpenPart) (leaf : Leaf) →
+    IsWithin inside i count T → resumed coding path (open_part_in at inside T i count)
     (shut ended lines at outer leaf) ≡ shut (ended_at inside i count || ended) lines
-    at (place_in at inside T i count ∷ outer) leaf
+    at (open_part_in at inside T i count ∷ outer) leaf
 resumed_shut coding path None T i count true lines at outer leaf k = resumed_fault coding path T i count lines at (cut_off leaf)
 resumed_shut coding path None T i count false lines at outer leaf k = resumed_short coding path T i count lines at outer leaf
 resumed_shut coding path (Some order) T i count ended lines at outer leaf k = go (cases_lt i count) ended
   where
     go : (i < count) ⊎ (count ≤ i) → (b : Bool) →
-        resumed coding path (place_in at (Some order) T i count) (shut b lines at outer leaf)
-        ≡ shut (eqb i count || b) lines at (place_in at (Some order) T i count ∷ outer) leaf
+        resumed coding path (open_part_in at (Some order) T i count) (shut b lines at outer leaf)
+        ≡ shut (eqb i count || b) lines at (open_part_in at (Some order) T i count ∷ outer) leaf
     go (inl l) true = rw (ne_eqb i count (λ e. absurd (omega arith))) refl
     go (inl l) false =
         let below : at < at + (count - i) = omega arith in
@@ -148,24 +148,24 @@ resumed_shut coding path (Some order) T i count ended lines at outer leaf k = go
         let over : at + (count - i) ≤ at = omega arith in
         rw (same, le-ltb at (at + (count - i)) over) refl
 
-pub around_shut : (C : Table) (coding : Coding) (path : List Seg) (at : ℕ) (frames : List Frame)
-    (lines : List Line) (inner : List Place) (leaf : Leaf) → AreKnown C frames →
-    around coding path (places C at frames) (Short lines at inner leaf)
-    ≡ shut (has_ended frames) lines at (places C at frames ++ inner) leaf
+pub around_shut : (C : Table) (coding : Coding) (path : List PathSegment) (at : ℕ) (frames : List Frame)
+    (lines : List Line) (inner : List OpenPart) (leaf : Leaf) → AreKnown C frames →
+    around coding path (open_parts C at frames) (Short lines at inner leaf)
+    ≡ shut (has_ended frames) lines at (open_parts C at frames ++ inner) leaf
 around_shut C coding path at [] lines inner leaf k = refl
 around_shut C coding path at (f ∷ frames) lines inner leaf k =
-    ap (resumed coding path (place C at f)) (around_shut C (coding_at coding (place C at f)) (path ++ seg_in (place C at f) ∷ []) at frames lines inner leaf
+    ap (resumed coding path (open_part C at f)) (around_shut C (coding_at coding (open_part C at f)) (path ++ segment_in (open_part C at f) ∷ []) at frames lines inner leaf
     k.1)
-    ∙ resumed_shut coding path f.inside (tree C f.of.0) f.index f.count (has_ended frames) lines at (places C at frames ++ inner) leaf k.0.within
+    ∙ resumed_shut coding path f.inside (tree C f.of.0) f.index f.count (has_ended frames) lines at (open_parts C at frames ++ inner) leaf k.0.within
 
-pub around_gone : (C : Table) (coding : Coding) (path : List Seg) (at : ℕ) (frames : List Frame)
+pub around_gone : (C : Table) (coding : Coding) (path : List PathSegment) (at : ℕ) (frames : List Frame)
     (lines : List Line) (leaf : Leaf) → AreKnown C frames →
-    around coding path (places C at frames) (Short lines at [] leaf)
+    around coding path (open_parts C at frames) (Short lines at [] leaf)
     ≡ gone_to C lines at frames leaf
 around_gone C coding path at frames lines leaf k =
-    around_shut C coding path at frames lines [] leaf k ∙ ap (λ ps. shut (has_ended frames) lines at ps leaf) (append-nil (places C at frames))
+    around_shut C coding path at frames lines [] leaf k ∙ ap (λ ps. shut (has_ended frames) lines at ps leaf) (append-nil (open_parts C at frames))
 
-pub lines_shut : (ended : Bool) (lines : List Line) (at : ℕ) (outer : List Place) (leaf : Leaf) →
+pub lines_shut : (ended : Bool) (lines : List Line) (at : ℕ) (outer : List OpenPart) (leaf : Leaf) →
     lines_of (shut ended lines at outer leaf) ≡ lines
 lines_shut true lines at outer leaf = refl
 lines_shut false lines at outer leaf = refl
@@ -211,7 +211,7 @@ pub record IsCoded (here : ℕ) (c : Coding) (by : Order × ℕ) : Type 0 where
 
 coded_at : (C : Table) (here : ℕ) (c : Coding) (by : Order × ℕ) (inside : Option Order) (T : Ty)
     (i count : ℕ) → IfSome inside (λ order. i ≤ here) → IsCoded here c by →
-    IsCoded here (coding_at c (place_in here inside T i count)) (coding_of by inside i)
+    IsCoded here (coding_at c (open_part_in here inside T i count)) (coding_of by inside i)
 coded_at C here c by None T i count s h = rw (part_coding c T i count) h
 coded_at C here c by (Some order) T i count s h =
     let e : here - (here - i) ≡ i = omega (arith, s) in
@@ -219,11 +219,11 @@ coded_at C here c by (Some order) T i count s h =
 
 pub coded_in : (C : Table) (here : ℕ) (c : Coding) (order : Order) (at : ℕ) (frames : List Frame) →
     StandAt here frames → IsCoded here c (order, at) →
-    IsCoded here (coding_in c (places C here frames)) (coding_by order at frames)
+    IsCoded here (coding_in c (open_parts C here frames)) (coding_by order at frames)
 coded_in C here c order at [] s h = h
 coded_in C here c order at (f ∷ frames) s h =
     let by = coding_of (order, at) f.inside f.index in
-    coded_in C here (coding_at c (place C here f)) by.0 by.1 frames s.1 (coded_at C here c (order, at) f.inside (tree C f.of.0) f.index f.count s.0 h)
+    coded_in C here (coding_at c (open_part C here f)) by.0 by.1 frames s.1 (coded_at C here c (order, at) f.inside (tree C f.of.0) f.index f.count s.0 h)
 
 -- ---- where there is none
 
@@ -233,7 +233,7 @@ free_first None rest h = (refl, h)
 free_first (Some order) rest h = let e = h in absurd cc
 
 pub free_coded : (C : Table) (here : ℕ) (c : Coding) (frames : List Frame) →
-    is_inside frames ≡ false → coding_in c (places C here frames) ≡ c
+    is_inside frames ≡ false → coding_in c (open_parts C here frames) ≡ c
 free_coded C here c [] h = refl
 free_coded C here c (f ∷ frames) h =
     let n = free_first f.inside (is_inside frames) h in
@@ -327,28 +327,28 @@ counted_more tick i now old d y h below is =
       same = length-set now i y ∙ h.same;
     }
 
-pub ahead_get : (frames : List Frame) (i : ℕ) (d : Frame) → AreAhead frames → i < length frames →
-    IsAhead (get_or frames i d)
+pub ahead_get : (frames : List Frame) (i : ℕ) (d : Frame) → HaveOctetsLeft frames → i < length frames →
+    HasOctetsLeft (get_or frames i d)
 ahead_get [] i d h below = absurd (omega arith)
 ahead_get (f ∷ frames) zero d h below = h.0
 ahead_get (f ∷ frames) (suc i) d h below = ahead_get frames i d h.1 (omega arith)
 
 pub counted_ahead : (tick : Frame → Frame) (i : ℕ) (now old : List Frame) (d : Frame) →
-    IsCounted tick i now old → AreAhead old → i < length now → IsAhead (get_or now i d)
+    IsCounted tick i now old → HaveOctetsLeft old → i < length now → HasOctetsLeft (get_or now i d)
 counted_ahead tick i now old d h ahead below =
     let lt : i < length old = omega (arith, h.same) in
     rw (get_at i now old d h.back) (ahead_get old i d ahead lt)
 
 -- several octets counted together
 ahead_ticked_get : (n : ℕ) (frames : List Frame) (i : ℕ) (d : Frame) →
-    AreAhead (ticked_by n frames) → i < length frames → IsAhead (tick_by_of n (get_or frames i d))
+    HaveOctetsLeft (ticked_by n frames) → i < length frames → HasOctetsLeft (tick_by_of n (get_or frames i d))
 ahead_ticked_get n [] i d h below = absurd (omega arith)
 ahead_ticked_get n (f ∷ frames) zero d h below = h.0
 ahead_ticked_get n (f ∷ frames) (suc i) d h below = ahead_ticked_get n frames i d h.1 (omega arith)
 
 pub counted_ahead_by : (n i : ℕ) (now old : List Frame) (d : Frame) →
-    IsCounted (tick_by_of n) i now old → AreAhead (ticked_by n old) → i < length now →
-    IsAhead (tick_by_of n (get_or now i d))
+    IsCounted (tick_by_of n) i now old → HaveOctetsLeft (ticked_by n old) → i < length now →
+    HasOctetsLeft (tick_by_of n (get_or now i d))
 counted_ahead_by n i now old d h ahead below =
     let lt : i < length old = omega (arith, h.same) in
     rw (get_at i now old d h.back) (ahead_ticked_get n old i d ahead lt)
@@ -365,7 +365,7 @@ abbrev pub gone_behind : Table → List Line → ℕ → List Frame → Option I
 gone_behind C lines at frames None = Done lines at []
 gone_behind C lines at frames (Some leaf) = gone_to C lines at frames (leaf_of C leaf [] [])
 
-front_shut : (ended : Bool) (front : List Line) (at : ℕ) (outer : List Place) (leaf : Leaf) →
+front_shut : (ended : Bool) (front : List Line) (at : ℕ) (outer : List OpenPart) (leaf : Leaf) →
     with_front front (shut ended [] at outer leaf) ≡ shut ended front at outer leaf
 front_shut true front at outer leaf = ap (λ ls. Fault ls at kinds.EncapShort (cut_off leaf)) (append-nil front)
 front_shut false front at outer leaf = ap (λ ls. Short ls at outer leaf) (append-nil front)
@@ -374,7 +374,7 @@ pub front_gone : (C : Table) (lines : List Line) (at : ℕ) (frames : List Frame
     (leaf : Option Innermost) → with_front lines (gone_on C at frames leaf)
     ≡ gone_behind C lines at frames leaf
 front_gone C lines at frames None = ap (λ ls. Done ls at []) (append-nil lines)
-front_gone C lines at frames (Some leaf) = front_shut (has_ended frames) lines at (places C at frames) (leaf_of C leaf [] [])
+front_gone C lines at frames (Some leaf) = front_shut (has_ended frames) lines at (open_parts C at frames) (leaf_of C leaf [] [])
 
 pub behind_stopped : (C : Table) (frames : List Frame) (carry piece : List ℕ)
     (leaf : Option Innermost) (lines : List Line) (at : ℕ) → carry ≡ [] → piece ≡ [] →

@@ -5,7 +5,7 @@ use Rattle.std.proofs.lemmas.List.{get_or-drop, length-take-le}
 use Rattle.giop_cdr.proofs.NumberLaws.{num_bound}
 use Rattle.giop_cdr.proofs.PaddingLaws.{by_alignment, padding-aligned}
 use Rattle.giop_cdr.specs.Alignment.{IsAlignment, padding}
-use Rattle.giop_cdr.specs.Numbers.{AreOctets, num, taken_as}
+use Rattle.giop_cdr.specs.Numbers.{AreOctets, num, interpreted_as}
 use Rattle.giop_cdr.specs.Primitives.{size_of}
 use Rattle.giop_cdr.specs.declared.number.Number.{Number as Taken}
 use Rattle.giop_cdr.specs.declared.order.Order.{Order}
@@ -14,32 +14,32 @@ use Rattle.giop_decode.specs.declared.decoder.Decoder.{Decoder}
 use Rattle.giop_decode.specs.declared.leaf.Leaf.{Leaf as Innermost}
 use Rattle.giop_decode.specs.declared.leaf.Leaf.TheVariants as innermost
 use Rattle.giop_decode.specs.declared.leaf.Step.{Step}
-use Rattle.giop_decode.specs.declared.leaf.Turn.TheVariants as turns
-use Rattle.giop_decode.specs.declared.leaf.Spoken.{Spoken}
-use Rattle.giop_decode.specs.declared.leaf.Spoken.TheVariants as spokens
+use Rattle.giop_decode.specs.declared.leaf.Transition.TheVariants as transitions
+use Rattle.giop_decode.specs.declared.leaf.Output.{Output}
+use Rattle.giop_decode.specs.declared.leaf.Output.TheVariants as outputs
 use Rattle.giop_decode.specs.Fits.{ContentFits, IsBare}
-use Rattle.giop_decode.specs.Heard.{Heard, heard, hushed, in_string, is_header_root, is_text, nothing}
-use Rattle.giop_decode.specs.Holding.{Fits, IsHere, Minds, Recalls, standing}
-use Rattle.giop_decode.specs.Moves.{IsAround, leaf_in, stepped, told}
+use Rattle.giop_decode.specs.Noted.{Noted, noted, without_name_if, ends_in_string, is_header_root, is_text, nothing_noted}
+use Rattle.giop_decode.specs.DecoderState.{Fits, CanStandAt, KeepsNoted, HoldsNoted, read_by_fields}
+use Rattle.giop_decode.specs.DecoderSteps.{IsAround, leaf_in, decoder_step, emitted}
 use Rattle.giop_decode.specs.Pieces.{tail}
-use Rattle.giop_decode.specs.Reading.{headed}
-use Rattle.giop_decode.specs.Recalling.{Voices, hushes, leaf_in_string, turn_in_string}
+use Rattle.giop_decode.specs.Reading.{after_leading_number}
+use Rattle.giop_decode.specs.NotingSteps.{OutputFitsString, clears_name, leaf_in_string, transition_in_string}
 use Rattle.giop_decode.specs.Runs.{Adds, AllGathered, ComesWhole}
-use Rattle.giop_decode.specs.Spine.{plain, line, Coding, Line, Seg, Piece, lines_of, with_front}
-use Rattle.giop_decode.specs.Steps.{AreHeld, after, around, head_width, leaf_step, path_in, step}
-use Rattle.giop_decode.specs.Turns.{CanSpeak, IsClean, IsSpoken, IsWholeNumber, StandsWhole, Turns, TurnsIn, is_inside, leaf_of, leaf_type, places, still_held}
+use Rattle.giop_decode.specs.ReadResult.{plain, line, Coding, Line, PathSegment, Piece, lines_of, with_front}
+use Rattle.giop_decode.specs.ReadingSteps.{AreHeld, after, around, leading_width, leaf_step, path_in, step}
+use Rattle.giop_decode.specs.Transitions.{HasOutput, IsClean, IsOutput, IsWholeNumber, StandsWhole, TransitionGives, TransitionFits, is_inside, leaf_of, leaf_type, open_parts, still_held}
 use Rattle.giop_decode.proofs.Advancing.{lines_turned, same_some, stands_at}
 use Rattle.giop_decode.proofs.Gathering.{IsFurther, counted_free, number_gathered, waits_gathered}
-use Rattle.giop_decode.proofs.Hearing.{heard_on, leaf_inside}
+use Rattle.giop_decode.proofs.Noting.{heard_on, leaf_inside}
 use Rattle.giop_decode.proofs.PieceLaws.{full_whole, octets_last, text_last}
 use Rattle.giop_decode.proofs.Surrounding.{free_coded}
-use Rattle.giop_decode.proofs.Waiting.{held_in}
+use Rattle.giop_decode.proofs.PartialBlocks.{held_in}
 use Rattle.giop_sig.specs.declared.types.TypeId.{TypeId}
 use Rattle.giop_sig.specs.Table.{Table}
 use Rattle.giop_sig.specs.Trees.{tree}
 use Rattle.giop_decode.proofs.Padding.{padded_held, takes_last}
 use Rattle.giop_decode.proofs.Runs.{take_more}
-use Rattle.giop_decode.proofs.Turning.{number_prim, turns_number}
+use Rattle.giop_decode.proofs.TransitionLaws.{number_prim, turns_number}
 use Rattle.giop_sig.specs.Types.{Encapsulation, Octets, Plain, Single, Text, Ty}
 
 -- ---- where they stand
@@ -84,7 +84,7 @@ stands_whole w at pad count octets k small padded counted within =
 pub whole_number : (p : Primitive) (order : Order) (at count : ℕ) (octets all : List ℕ)
     (number : Taken) →
     StandsWhole (size_of p) at octets count all → length all ≡ size_of p → AreOctets all →
-    taken_as p (num order all) ≡ Some number →
+    interpreted_as p (num order all) ≡ Some number →
     IsWholeNumber (Single (Plain p)) order at octets count number
 whole_number p order at count octets all number stands width are taken = record {
   all = all;
@@ -96,8 +96,8 @@ whole_number p order at count octets all number stands width are taken = record 
 
 -- ---- a number ahead
 
-still_nothing : (spoken : Spoken) → still_held spoken [] ≡ []
-still_nothing spokens.Nothing = refl
+still_nothing : (output : Output) → still_held output [] ≡ []
+still_nothing outputs.Nothing = refl
 still_nothing _ = refl
 
 module _ (C : Table) (d : Decoder) (of : TypeId) (octets : List ℕ) (count : ℕ) (f : Fits C d)
@@ -108,15 +108,15 @@ module _ (C : Table) (d : Decoder) (of : TypeId) (octets : List ℕ) (count : �
       subst (λ l. IsClean l d.carry d.piece.items) it f.clean
 
   pub comes_head : (all : List ℕ) (s : Step) →
-      StandsWhole (head_width (tree C of.0)) d.at octets count all →
-      TurnsIn (tree C of.0) of.0 s.turn [] [] → CanSpeak (tree C of.0) s.spoken →
-      Voices (tree C of.0) false s.turn s.spoken →
-      ((coding : Coding) (path : List Seg) (at : ℕ) → Turns C (tree C of.0) s.turn s.spoken [] [] path at
+      StandsWhole (leading_width (tree C of.0)) d.at octets count all →
+      TransitionFits (tree C of.0) of.0 s.transition [] [] → HasOutput (tree C of.0) s.output →
+      OutputFitsString (tree C of.0) false s.transition s.output →
+      ((coding : Coding) (path : List PathSegment) (at : ℕ) → TransitionGives C (tree C of.0) s.transition s.output [] [] path at
       (after coding path (tree C of.0) (num d.order all) at [])) →
       ComesWhole C d octets of count s []
-  comes_head all s stands turns_in speaks voices turns =
+  comes_head all s stands transition_fits has_output output_fits_string transitions =
       let T = tree C of.0 in
-      let nothing_held : still_held s.spoken d.piece.items ≡ [] = ap (still_held s.spoken) no_piece ∙ still_nothing s.spoken in
+      let nothing_held : still_held s.output d.piece.items ≡ [] = ap (still_held s.output) no_piece ∙ still_nothing s.output in
       record {
         leaf = innermost.Number of;
         goes_on = e;
@@ -128,24 +128,24 @@ module _ (C : Table) (d : Decoder) (of : TypeId) (octets : List ℕ) (count : �
         carry = stands.held;
         piece = d.piece.items;
         adds = (rw empty stands.are_held, refl);
-        turns_in = rw (empty, nothing_held) turns_in;
-        speaks = speaks;
-        voices = voices;
-        lines = λ path here. (turns (plain d.order) path (here + 1)).lines;
+        transition_fits = rw (empty, nothing_held) transition_fits;
+        has_output = has_output;
+        output_fits_string = output_fits_string;
+        lines = λ path here. (transitions (plain d.order) path (here + 1)).lines;
         comes = λ path here at.
-            let t = turns (plain d.order) path (here + 1) in
+            let t = transitions (plain d.order) path (here + 1) in
             rw (empty, nothing_held)
-            (ap (headed T (λ xs at rest. after (plain d.order) path T (num d.order xs) at rest)) (stands.last 0 here (omega (arith, at)))
-            ∙ rw (still_nothing s.spoken) at t.comes);
-        says = λ path here. rw no_piece (turns (plain d.order) path (here + 1)).says;
+            (ap (after_leading_number T (λ xs at rest. after (plain d.order) path T (num d.order xs) at rest)) (stands.last 0 here (omega (arith, at)))
+            ∙ rw (still_nothing s.output) at t.comes);
+        says = λ path here. rw no_piece (transitions (plain d.order) path (here + 1)).says;
       }
 
   pub comes_number : (number : Taken) →
       IsWholeNumber (tree C of.0) d.order d.at octets count number →
-      ComesWhole C d octets of count (record { turn = turns.Ended; spoken = spokens.Number number }) []
+      ComesWhole C d octets of count (record { transition = transitions.Ended; output = outputs.Number number }) []
   comes_number number h =
-      comes_head h.all (record { turn = turns.Ended; spoken = spokens.Number number }) h.stands tt h.is (refl, refl)
-      (λ coding path at. subst (λ n. Turns C (tree C of.0) turns.Ended (spokens.Number number) [] [] path at (after coding path (tree C of.0) n at []))
+      comes_head h.all (record { transition = transitions.Ended; output = outputs.Number number }) h.stands tt h.is (refl, refl)
+      (λ coding path at. subst (λ n. TransitionGives C (tree C of.0) transitions.Ended (outputs.Number number) [] [] path at (after coding path (tree C of.0) n at []))
       h.spelled (turns_number C coding path (tree C of.0) at number h.is))
 
 -- ---- the rest of a piece ahead
@@ -176,7 +176,7 @@ module _ (C : Table) (d : Decoder) (of : TypeId) (total offset : ℕ) (octets : 
 
   pub comes_full : 32 < total - offset → count ≡ 32 - length d.piece.items → count ≤ length octets →
       ComesWhole C d octets of count
-      (record { turn = turns.More (innermost.Content of total (offset + 32)); spoken = spokens.Piece offset true })
+      (record { transition = transitions.More (innermost.Content of total (offset + 32)); output = outputs.Piece offset true })
       (take count octets)
   comes_full large counted within =
       let T = tree C of.0 in
@@ -196,9 +196,9 @@ module _ (C : Table) (d : Decoder) (of : TypeId) (total offset : ℕ) (octets : 
         carry = d.carry;
         piece = piece;
         adds = (refl, refl, (λ _. omega (arith, size)), (λ small. absurd (omega (arith, large, small))));
-        turns_in = (refl, no_carry);
-        speaks = content.kind;
-        voices = sym (and-true (is_text T));
+        transition_fits = (refl, no_carry);
+        has_output = content.kind;
+        output_fits_string = sym (and-true (is_text T));
         lines = λ path here. line (here + 1) path (Piece T offset (d.piece.items ++ take count octets) true) ∷ [];
         comes = λ path here at. rw (← with_last some within) (full_whole T path total offset here piece b large (omega (arith, size)));
         says = λ path here. refl;
@@ -207,7 +207,7 @@ module _ (C : Table) (d : Decoder) (of : TypeId) (total offset : ℕ) (octets : 
   pub comes_bare : IsBare (tree C of.0) → total - offset ≤ 32 →
       count ≡ total - offset - length d.piece.items →
       count ≤ length octets →
-      ComesWhole C d octets of count (record { turn = turns.Ended; spoken = spokens.Piece offset false }) (take count octets)
+      ComesWhole C d octets of count (record { transition = transitions.Ended; output = outputs.Piece offset false }) (take count octets)
   comes_bare bare small counted within =
       let T = tree C of.0 in
       let none = bare_tail T bare in
@@ -227,9 +227,9 @@ module _ (C : Table) (d : Decoder) (of : TypeId) (total offset : ℕ) (octets : 
         carry = d.carry;
         piece = piece;
         adds = (refl, refl, (λ large. absurd (omega (arith, large, small))), (λ _. omega (arith, size)));
-        turns_in = tt;
-        speaks = content.kind;
-        voices = sym (and-false (is_text T));
+        transition_fits = tt;
+        has_output = content.kind;
+        output_fits_string = sym (and-false (is_text T));
         lines = λ path here. line (here + 1) path (Piece T offset (d.piece.items ++ take count octets) false) ∷ [];
         comes = λ path here at. rw (← with_last some within) (octets_last T path total offset here piece b bare small size);
         says = λ path here. refl;
@@ -243,7 +243,7 @@ module _ (C : Table) (d : Decoder) (of : TypeId) (total offset : ℕ) (octets : 
   pub comes_text : (bound : _) (size : ℕ) → tree C of.0 ≡ Text bound → total - offset ≤ 32 →
       size ≡ total - offset - length d.piece.items → count ≡ size + 1 → count ≤ length octets →
       get_or octets size 0 ≡ 0 →
-      ComesWhole C d octets of count (record { turn = turns.Ended; spoken = spokens.Piece offset false }) (take size octets)
+      ComesWhole C d octets of count (record { transition = transitions.Ended; output = outputs.Piece offset false }) (take size octets)
   comes_text bound size is small sized counted within zero_end =
       let T = tree C of.0 in
       let one : tail T ≡ 1 = ap tail is in
@@ -263,9 +263,9 @@ module _ (C : Table) (d : Decoder) (of : TypeId) (total offset : ℕ) (octets : 
         carry = d.carry;
         piece = piece;
         adds = (refl, rw n refl, (λ large. absurd (omega (arith, large, small))), (λ _. omega (arith, all, one)));
-        turns_in = tt;
-        speaks = content.kind;
-        voices = sym (and-false (is_text T));
+        transition_fits = tt;
+        has_output = content.kind;
+        output_fits_string = sym (and-false (is_text T));
         lines = λ path here. line (here + 1) path (Piece T offset piece false) ∷ [];
         comes = λ path here at. rw n (text_last T path total offset here piece b bound is small all zero_end);
         says = λ path here. refl;
@@ -314,22 +314,22 @@ module _ (C : Table) (d : Decoder) (octets : List ℕ) (of : TypeId) (count : �
   gathered_whole at e =
       let size = length-take-le (count - 1) octets (omega (arith, h.within)) in
       adds_gathered C d (before_last at) h.leaf (take (count - 1) octets) free
-      (record { order = refl; root = refl; message = refl; at = rw size e; outer = refl; inside = refl; leaf = refl; memory = refl })
+      (record { order = refl; root = refl; message = refl; at = rw size e; outer = refl; inside = refl; leaf = refl; notes = refl })
       f h.goes_on h.adds
 
   -- the lines that the last gives
   abbrev pub lines_at : ℕ → List Line
-  lines_at here = h.lines (path_in [] (places C here d.outer.items)) here
+  lines_at here = h.lines (path_in [] (open_parts C here d.outer.items)) here
 
-  pub says_at : (here : ℕ) → IsSpoken (tree C of.0) (path_in [] (places C here d.outer.items))
-      (here + 1) s.spoken (d.piece.items ++ rest) (lines_at here)
-  says_at here = h.says (path_in [] (places C here d.outer.items)) here
+  pub says_at : (here : ℕ) → IsOutput (tree C of.0) (path_in [] (open_parts C here d.outer.items))
+      (here + 1) s.output (d.piece.items ++ rest) (lines_at here)
+  says_at here = h.says (path_in [] (open_parts C here d.outer.items)) here
 
-  pub told_whole : (at here : ℕ) → at ≡ (d.at + (count - 1)) % 8 → IsHere (before_last at) here →
-      stepped C (before_last at) here (get_or octets (count - 1) 0) ≡ told C d of.0 s.turn s.spoken
+  pub told_whole : (at here : ℕ) → at ≡ (d.at + (count - 1)) % 8 → CanStandAt (before_last at) here →
+      decoder_step C (before_last at) here (get_or octets (count - 1) 0) ≡ emitted C d of.0 s.transition s.output
       (lines_at here) here
   told_whole at here e stands =
-      let ps = places C here d.outer.items in
+      let ps = open_parts C here d.outer.items in
       let b = get_or octets (count - 1) 0 in
       let path = path_in [] ps in
       ap (λ l. step (plain d.order) [] ps (leaf_in C (before_last at) l) here b) h.goes_on
@@ -337,30 +337,30 @@ module _ (C : Table) (d : Decoder) (octets : List ℕ) (of : TypeId) (count : �
       (free_coded C here (plain d.order) d.outer.items free)
       ∙ ap (around (plain d.order) [] ps) (h.comes path here (stands.0 ∙ e)))
 
-  pub lines_whole : (at here : ℕ) → at ≡ (d.at + (count - 1)) % 8 → IsHere (before_last at) here → lines_of (stepped C (before_last at) here (get_or octets (count - 1) 0)) ≡ lines_at here
+  pub lines_whole : (at here : ℕ) → at ≡ (d.at + (count - 1)) % 8 → CanStandAt (before_last at) here → lines_of (decoder_step C (before_last at) here (get_or octets (count - 1) 0)) ≡ lines_at here
   lines_whole at here e stands =
       ap lines_of (told_whole at here e stands)
-      ∙ lines_turned C here (plain d.order) [] d.outer.items (tree C of.0) s.turn d.carry (still_held s.spoken d.piece.items)
+      ∙ lines_turned C here (plain d.order) [] d.outer.items (tree C of.0) s.transition d.carry (still_held s.output d.piece.items)
       (lines_at here) f.ahead f.known_outer
 
-  pub minds_whole : (new : Decoder) (at here : ℕ) (front : List Line) → at ≡ (d.at + (count - 1)) % 8 → IsHere (before_last at) here →
-      in_string (told C d of.0 s.turn s.spoken (lines_at here) here) ≡ turn_in_string (tree C of.0)
-      s.turn →
-      ((o : Heard) → Recalls d.memory o → Recalls new.memory (hushed (hushes s.spoken)
-      (heard (is_header_root d.root) o (lines_at here)))) →
-      Minds d.root (before_last at) (standing C (before_last at) front here) → Minds d.root new (with_front front (stepped C (before_last at) here (get_or octets (count - 1) 0)))
+  pub minds_whole : (new : Decoder) (at here : ℕ) (front : List Line) → at ≡ (d.at + (count - 1)) % 8 → CanStandAt (before_last at) here →
+      ends_in_string (emitted C d of.0 s.transition s.output (lines_at here) here) ≡ transition_in_string (tree C of.0)
+      s.transition →
+      ((o : Noted) → HoldsNoted d.notes o → HoldsNoted new.notes (without_name_if (clears_name s.output)
+      (noted (is_header_root d.root) o (lines_at here)))) →
+      KeepsNoted d.root (before_last at) (read_by_fields C (before_last at) front here) → KeepsNoted d.root new (with_front front (decoder_step C (before_last at) here (get_or octets (count - 1) 0)))
   minds_whole new at here front e stands inside hears old =
-      let r = stepped C (before_last at) here (get_or octets (count - 1) 0) in
+      let r = decoder_step C (before_last at) here (get_or octets (count - 1) 0) in
       let header = is_header_root d.root in
-      let path = path_in [] (places C here d.outer.items) in
+      let path = path_in [] (open_parts C here d.outer.items) in
       let back = sym h.same in
       let T = tree C (leaf_type h.leaf) in
-      let before : Recalls d.memory (hushed (leaf_in_string T h.leaf) (heard header nothing front)) =
-      subst (λ b. Recalls d.memory (hushed b (heard header nothing front))) (leaf_inside C h.leaf h.carry h.piece)
+      let before : HoldsNoted d.notes (without_name_if (leaf_in_string T h.leaf) (noted header nothing_noted front)) =
+      subst (λ b. HoldsNoted d.notes (without_name_if b (noted header nothing_noted front))) (leaf_inside C h.leaf h.carry h.piece)
       (rw h.goes_on at old) in
-      let on = heard_on header C h.leaf s.turn s.spoken path (here + 1) (d.piece.items ++ rest) front (lines_at here) r
-      (subst (λ t. Voices (tree C t) (leaf_in_string (tree C t) h.leaf) s.turn s.spoken) back h.voices)
-      (subst (λ t. IsSpoken (tree C t) path (here + 1) s.spoken (d.piece.items ++ rest) (lines_at here)) back (says_at here))
-      (subst (λ t. in_string r ≡ turn_in_string (tree C t) s.turn) back (ap in_string (told_whole at here e stands) ∙ inside))
+      let on = heard_on header C h.leaf s.transition s.output path (here + 1) (d.piece.items ++ rest) front (lines_at here) r
+      (subst (λ t. OutputFitsString (tree C t) (leaf_in_string (tree C t) h.leaf) s.transition s.output) back h.output_fits_string)
+      (subst (λ t. IsOutput (tree C t) path (here + 1) s.output (d.piece.items ++ rest) (lines_at here)) back (says_at here))
+      (subst (λ t. ends_in_string r ≡ transition_in_string (tree C t) s.transition) back (ap ends_in_string (told_whole at here e stands) ∙ inside))
       (lines_whole at here e stands) in
-      subst (Recalls new.memory) on (hears (hushed (leaf_in_string T h.leaf) (heard header nothing front)) before)
+      subst (HoldsNoted new.notes) on (hears (without_name_if (leaf_in_string T h.leaf) (noted header nothing_noted front)) before)

@@ -9,17 +9,17 @@ use Rattle.std.proofs.lemmas.List.Elements.{filter_map-append}
 use Rattle.std.proofs.Math.Seq.{drop-append_seam}
 use Rattle.giop_cdr.specs.Numbers.{num}
 use Rattle.giop_cdr.specs.declared.order.Order.{Order}
-use Rattle.giop_decode.specs.Heard.{in_string}
-use Rattle.giop_decode.specs.Memories.{piece, text_of, text_pieces, cut_from, pieces_of, Strings}
-use Rattle.giop_decode.specs.Pieces.{Got, Grab, Waiting, block, content, ends, full_piece, full_pieces, last_piece, octets, over, tail, text, unless}
-use Rattle.giop_decode.specs.Reading.{cut_off, enclosed, headed, inside, member, opening, order_of, ordered, parts_from, read, refused, rest_of, single, sized, wrong}
-use Rattle.giop_decode.specs.Spine.{Coding, Count, Done, Fault, Held, Index, Inside, Line, Member, Name, Number, Opening, Ordered, Part, Piece, Place, Read, Seg, Short, Size, Switch, coded, followed, line, with_front, within, lines_of}
+use Rattle.giop_decode.specs.Noted.{ends_in_string}
+use Rattle.giop_decode.specs.NotedFromLines.{piece, text_of, text_pieces, cut_from, pieces_of, Strings}
+use Rattle.giop_decode.specs.Pieces.{Complete, Block, Partial, block, content, ends, full_piece, full_pieces, last_piece, octets, over, tail, text, unless}
+use Rattle.giop_decode.specs.Reading.{cut_off, enclosed, after_leading_number, inside, member, opening, order_of, ordered, parts_from, read, refused, rest_of, single, sized, wrong}
+use Rattle.giop_decode.specs.ReadResult.{Coding, Count, Done, Fault, Held, Index, Inside, Line, Member, Name, Number, Opening, Ordered, Part, Piece, OpenPart, Read, PathSegment, Short, Size, Switch, coded, followed, line, with_front, within, lines_of}
 use Rattle.giop_decode.specs.declared.progress.Kind.{Kind}
 use Rattle.giop_decode.specs.declared.progress.Kind.TheVariants as kinds
 use Rattle.giop_sig.specs.Types.{tag_of, Array, Encapsulation, Octets, Scalar, Sequence, Single, Struct, Text, Ty, Union}
 use Rattle.giop_sig.specs.declared.types.Selected.{Selected}
 use Rattle.giop_sig.specs.declared.types.Selected.TheVariants.{Case, Nothing, Refused}
-use Rattle.giop_decode.proofs.Hearing.{cut_inside, front_inside}
+use Rattle.giop_decode.proofs.Noting.{cut_inside, front_inside}
 use Rattle.giop_decode.proofs.Law.{block_got, block_waits}
 use Rattle.giop_decode.proofs.Resuming.{lines_front}
 
@@ -52,7 +52,7 @@ followed_strings (Done lines at rest) next h k =
     (k at rest)
 followed_strings _ next h k = h
 
-within_strings : (place : Place) (r : Read) → Strings r → Strings (within place r)
+within_strings : (place : OpenPart) (r : Read) → Strings r → Strings (within place r)
 within_strings place (Short lines at outer leaf) h = record { contents = h.contents; begun = h.begun; lines = h.lines; unended = h.unended; none = h.none }
 within_strings place r h = h
 
@@ -62,10 +62,10 @@ unless_strings T None at r h = h
 unless_strings T (Some kind) at r h = no_strings (Fault [] at kind T) refl
 
 headed_strings : (T : Ty) (after : List ℕ → ℕ → List ℕ → Read) →
-    ((xs : List ℕ) (at : ℕ) (s : List ℕ) → Strings (after xs at s)) → (g : Grab) →
-    Strings (headed T after g)
-headed_strings T after h (Waiting carry at) = no_strings (Short [] at [] _) refl
-headed_strings T after h (Got xs at rest) = h xs at rest
+    ((xs : List ℕ) (at : ℕ) (s : List ℕ) → Strings (after xs at s)) → (g : Block) →
+    Strings (after_leading_number T after g)
+headed_strings T after h (Partial carry at) = no_strings (Short [] at [] _) refl
+headed_strings T after h (Complete xs at rest) = h xs at rest
 
 parts_strings : (part : ℕ → ℕ → List ℕ → Read) → ((i at : ℕ) (s : List ℕ) → Strings (part i at s)) →
     (more i at : ℕ) (s : List ℕ) → Strings (parts_from part more i at s)
@@ -78,9 +78,9 @@ parts_strings part h (suc more) i at s = followed_strings (part i at s) (parts_f
 abbrev Comes : ℕ → ℕ → ℕ → Read → Type 0
 Comes total full offset r =
     ((octets : List ℕ) × (offset + length octets ≡ total) × (text_pieces (lines_of r) ≡ cut_from full offset octets))
-    ⊎ ((in_string r ≡ true) × Each (λ p. p.more ≡ true) (text_pieces (lines_of r)))
+    ⊎ ((ends_in_string r ≡ true) × Each (λ p. p.more ≡ true) (text_pieces (lines_of r)))
 
-last_comes : (bound : Option ℕ) (path : List Seg) (total offset at : ℕ) (s : List ℕ) →
+last_comes : (bound : Option ℕ) (path : List PathSegment) (total offset at : ℕ) (s : List ℕ) →
     offset ≤ total → Comes total 0 offset (last_piece (Text bound) path total offset
     (block (total - offset + 1) at s))
 last_comes bound path total offset at s ahead = go (cases_lt (length s) (total - offset + 1))
@@ -107,7 +107,7 @@ cut_more full offset xs ys h =
     let behind : drop 32 (xs ++ ys) ≡ ys = ap (λ n. drop n (xs ++ ys)) (sym h) ∙ drop-append_seam xs ys in
     rw (front, behind) refl
 
-full_comes : (bound : Option ℕ) (path : List Seg) (total full offset : ℕ) (next : ℕ → List ℕ → Read)
+full_comes : (bound : Option ℕ) (path : List PathSegment) (total full offset : ℕ) (next : ℕ → List ℕ → Read)
     (xs rest : List ℕ) (at : ℕ) → length xs ≡ 32 → Comes total full (offset + 32) (next at rest) →
     Comes total (suc full) offset (with_front (line at path
     (Piece (Text bound) offset xs true) ∷ []) (next at rest))
@@ -119,7 +119,7 @@ full_comes bound path total full offset next xs rest at h (inr (inside, each)) =
     let front : List Line = line at path (Piece (Text bound) offset xs true) ∷ [] in
     inr (front_inside front (next at rest) ∙ inside, rw (lines_front front (next at rest)) (refl, each))
 
-content_comes : (bound : Option ℕ) (path : List Seg) (total full offset at : ℕ) (s : List ℕ) →
+content_comes : (bound : Option ℕ) (path : List PathSegment) (total full offset at : ℕ) (s : List ℕ) →
     offset + 32 * full ≤ total → Comes total full offset (content (Text bound) path total full
     offset at s)
 content_comes bound path total zero offset at s ahead = last_comes bound path total offset at s (omega arith)
@@ -152,7 +152,7 @@ comes_strings total r (inr (inside, each)) = record {
   none = λ outside. absurd (true≢false (sym inside ∙ outside));
 }
 
-text_strings : (bound : Option ℕ) (path : List Seg) (n at : ℕ) (s : List ℕ) →
+text_strings : (bound : Option ℕ) (path : List PathSegment) (n at : ℕ) (s : List ℕ) →
     Strings (text bound path n at s)
 text_strings bound path zero at s = record { contents = [] ∷ []; begun = []; lines = refl; unended = tt; none = λ _. refl }
 text_strings bound path (suc n) at s =
@@ -165,25 +165,25 @@ text_strings bound path (suc n) at s =
 module _ (T : Ty) (none : (offset : ℕ) (octets : List ℕ) (more : Bool) →
     text_of (Piece T offset octets more) ≡ None)
     (endless : (n : ℕ) (xs : List ℕ) → ends T n xs ≡ None) where
-  bare_last : (path : List Seg) (total offset : ℕ) (g : Grab) →
+  bare_last : (path : List PathSegment) (total offset : ℕ) (g : Block) →
       text_pieces (lines_of (last_piece T path total offset g)) ≡ []
-  bare_last path total offset (Waiting held at) = refl
-  bare_last path total offset (Got xs at rest) = rw (endless (total - offset) xs, none offset (take (total - offset) xs) false) refl
+  bare_last path total offset (Partial held at) = refl
+  bare_last path total offset (Complete xs at rest) = rw (endless (total - offset) xs, none offset (take (total - offset) xs) false) refl
 
-  bare_full : (path : List Seg) (total offset : ℕ) (next : ℕ → List ℕ → Read) (g : Grab) →
+  bare_full : (path : List PathSegment) (total offset : ℕ) (next : ℕ → List ℕ → Read) (g : Block) →
       ((at : ℕ) (s : List ℕ) → text_pieces (lines_of (next at s)) ≡ []) →
       text_pieces (lines_of (full_piece T path total offset next g)) ≡ []
-  bare_full path total offset next (Waiting held at) h = refl
-  bare_full path total offset next (Got xs at rest) h =
+  bare_full path total offset next (Partial held at) h = refl
+  bare_full path total offset next (Complete xs at rest) h =
       rw (lines_front (line at path (Piece T offset xs true) ∷ []) (next at rest), none offset xs true) (h at rest)
 
-  bare_none : (path : List Seg) (total full offset at : ℕ) (s : List ℕ) →
+  bare_none : (path : List PathSegment) (total full offset at : ℕ) (s : List ℕ) →
       text_pieces (lines_of (content T path total full offset at s)) ≡ []
   bare_none path total zero offset at s = bare_last path total offset (block (total - offset + tail T) at s)
   bare_none path total (suc full) offset at s =
       bare_full path total offset (content T path total full (offset + 32)) (block 32 at s) (bare_none path total full (offset + 32))
 
-octets_strings : (bound : Option ℕ) (path : List Seg) (n at : ℕ) (s : List ℕ) →
+octets_strings : (bound : Option ℕ) (path : List PathSegment) (n at : ℕ) (s : List ℕ) →
     Strings (octets bound path n at s)
 octets_strings bound path n at s =
     unless_strings (Octets bound) (over bound n) at _ (no_strings _ (bare_none (Octets bound) (λ offset octets more. refl) (λ n xs. refl) path n (full_pieces n)
@@ -191,7 +191,7 @@ octets_strings bound path n at s =
 
 -- ---- any type
 
-single_strings : (path : List Seg) (scalar : Scalar) (n at : ℕ) (s : List ℕ) →
+single_strings : (path : List PathSegment) (scalar : Scalar) (n at : ℕ) (s : List ℕ) →
     Strings (single path scalar n at s)
 single_strings path scalar n at s = unless_strings (Single scalar) (wrong scalar n) at _ (no_strings _ refl)
 
@@ -203,7 +203,7 @@ member_strings _ case h at s = no_strings (Done [] at s) refl
 
 -- ---- encapsulations
 
-module _ (path : List Seg) (T : Ty) where
+module _ (path : List PathSegment) (T : Ty) where
   rest_strings : (n at : ℕ) (s : List ℕ) → Strings (rest_of path (Encapsulation T) n at s)
   rest_strings zero at s = no_strings (Done [] at s) refl
   rest_strings (suc n) at s = no_strings _ (bare_none (Encapsulation T) (λ offset octets more. refl) (λ n xs. refl) path (suc n) (full_pieces (suc n)) 0 at s)
@@ -223,7 +223,7 @@ module _ (path : List Seg) (T : Ty) where
       go false = record { contents = h.contents; begun = h.begun; lines = h.lines; unended = h.unended; none = λ k. h.none (sym (cut_inside leaf) ∙ k) }
   enclosed_strings coding end (Fault lines at kind S) more h = h
 
-module _ (path : List Seg) (T : Ty) (value : Coding → ℕ → List ℕ → Read)
+module _ (path : List PathSegment) (T : Ty) (value : Coding → ℕ → List ℕ → Read)
     (strings : (coding : Coding) (at : ℕ) (s : List ℕ) → Strings (value coding at s)) where
   ordered_strings : (origin n : ℕ) (order : Option Order) (at : ℕ) (rest : List ℕ) →
       Strings (ordered path (Encapsulation T) value origin n order at rest)
@@ -232,17 +232,17 @@ module _ (path : List Seg) (T : Ty) (value : Coding → ℕ → List ℕ → Rea
       then_strings (line at path (Ordered order) ∷ []) _ refl
       (enclosed_strings path T (coded order origin) (at + n) _ (drop n rest) (strings (coded order origin) at (take n rest)))
 
-  opening_strings : (origin n : ℕ) (g : Grab) →
+  opening_strings : (origin n : ℕ) (g : Block) →
       Strings (opening path (Encapsulation T) value origin n g)
-  opening_strings origin n (Waiting none at) = no_strings (Short [] at [] (Opening (Encapsulation T) n)) refl
-  opening_strings origin n (Got octets at rest) = ordered_strings origin n (order_of (get_or octets 0 0)) at rest
+  opening_strings origin n (Partial none at) = no_strings (Short [] at [] (Opening (Encapsulation T) n)) refl
+  opening_strings origin n (Complete octets at rest) = ordered_strings origin n (order_of (get_or octets 0 0)) at rest
 
   sized_strings : (n at : ℕ) (s : List ℕ) → Strings (sized path (Encapsulation T) value n at s)
   sized_strings zero at s = no_strings (Fault [] at kinds.EncapShort (Encapsulation T)) refl
   sized_strings (suc n) at s = opening_strings at n (block 1 at s)
 
 -- The strings of any reading.
-pub read_strings : (coding : Coding) (path : List Seg) (T : Ty) (at : ℕ) (s : List ℕ) →
+pub read_strings : (coding : Coding) (path : List PathSegment) (T : Ty) (at : ℕ) (s : List ℕ) →
     Strings (read coding path T at s)
 read_strings coding path (Single scalar) at s =
     headed_strings (Single scalar) _ (λ xs at rest. single_strings path scalar (num coding.order xs) at rest) _

@@ -1,17 +1,17 @@
 -- Which places and leaf can stand inside a type (state).
 use Rattle.std.specs.Prelude.{◌≡◌, ℕ, zero, suc, ◌+◌, ◌-◌, ◌<◌, ◌≤◌, List, [], ◌∷◌, length}
-use Rattle.giop_decode.specs.Spine.{Place, Part, Member, Inside, Leaf, Head, Opening, Content, Read, Done, Short, Fault}
+use Rattle.giop_decode.specs.ReadResult.{OpenPart, Part, Member, Inside, Leaf, LeadingNumber, Opening, Content, Read, Done, Short, Fault}
 use Rattle.giop_decode.specs.Pieces.{tail}
-use Rattle.giop_decode.specs.Steps.{head_width}
+use Rattle.giop_decode.specs.ReadingSteps.{leading_width}
 use Rattle.giop_sig.specs.Types.{places_of, Ty, Text, Octets, Struct, Union, Sequence, Array, part_of, Encapsulation}
 use Rattle.giop_sig.specs.Fits.{IsFit}
 use Rattle.std.specs.List.{AllByRecursion}
 
 -- a type that begins with a number
-abbrev pub HasHead : Ty → Type 0
-HasHead (Struct count names parts) = ⊥
-HasHead (Array count T) = ⊥
-HasHead T = Unit {0}
+abbrev pub HasLeadingNumber : Ty → Type 0
+HasLeadingNumber (Struct count names parts) = ⊥
+HasLeadingNumber (Array count T) = ⊥
+HasLeadingNumber T = Unit {0}
 
 -- a type that has a content behind its length: a string, or an octet sequence
 abbrev pub HasContent : Ty → Type 0
@@ -43,10 +43,10 @@ HasCase (Union choice scalar select names cases) i = i < places_of choice
 HasCase T i = ⊥
 
 -- a number that begins a type: some of its octets are missing
-pub record HeadFits (T U : Ty) (carry : List ℕ) : Type 0 where
+pub record LeadingNumberFits (T U : Ty) (carry : List ℕ) : Type 0 where
   pub same : U ≡ T
-  pub kind : HasHead T
-  pub room : length carry < head_width T
+  pub kind : HasLeadingNumber T
+  pub room : length carry < leading_width T
 
 -- a content of a type: its piece begins in it, and is not whole
 pub record ContentFits (T U : Ty) (total offset : ℕ) (piece : List ℕ) : Type 0 where
@@ -79,8 +79,8 @@ pub record InsideFits (T U : Ty) : Type 0 where
   pub kind : IsEncapsulation T
 
 -- places and a leaf that can stand in a type, each in the one before
-abbrev pub FitsIn : Ty → List Place → Leaf → Type 0
-FitsIn T [] (Head U carry) = HeadFits T U carry
+abbrev pub FitsIn : Ty → List OpenPart → Leaf → Type 0
+FitsIn T [] (LeadingNumber U carry) = LeadingNumberFits T U carry
 FitsIn T [] (Opening U n) = OpeningFits T U
 FitsIn T [] (Content U total offset piece) = ContentFits T U total offset piece
 FitsIn T (Part U i count ∷ outer) leaf = PartFits T U i count × FitsIn (part_of T i) outer leaf
@@ -88,28 +88,28 @@ FitsIn T (Member U i ∷ outer) leaf = MemberFits T U i × FitsIn (part_of T i) 
 FitsIn T (Inside U coding end ∷ outer) leaf = InsideFits T U × FitsIn (part_of T 0) outer leaf
 
 -- where so many octets of a message were read, no encapsulation around has ended, and each began among these octets
-abbrev pub Surround : ℕ → Place → Type 0
+abbrev pub Surround : ℕ → OpenPart → Type 0
 Surround at (Inside T coding end) = (at < end) × (coding.origin < at)
 Surround at place = Unit {0}
 
-abbrev pub Surrounds : ℕ → List Place → Type 0
-Surrounds at places = AllByRecursion (Surround at) places
+abbrev pub Surrounds : ℕ → List OpenPart → Type 0
+Surrounds at open_parts = AllByRecursion (Surround at) open_parts
 
 -- a place at which so much depth is left: its whole fits, and has that part
-abbrev pub IsOpen : ℕ → Place → Type 0
+abbrev pub IsOpen : ℕ → OpenPart → Type 0
 IsOpen d (Part T i count) = HasParts T count × (i < count) × IsFit d T
 IsOpen d (Member T i) = HasCase T i × IsFit d T
 IsOpen d (Inside T coding end) = IsEncapsulation T × IsFit d T
 
 -- places one in the other, the outermost of which has so much depth left
-abbrev pub OpenFrom : ℕ → List Place → Type 0
+abbrev pub OpenFrom : ℕ → List OpenPart → Type 0
 OpenFrom d [] = Unit {0}
 OpenFrom zero (place ∷ outer) = ⊥
 OpenFrom (suc d) (place ∷ outer) = IsOpen (suc d) place × OpenFrom d outer
 
 -- the type of a leaf
 abbrev pub leaf_ty : Leaf → Ty
-leaf_ty (Head T carry) = T
+leaf_ty (LeadingNumber T carry) = T
 leaf_ty (Opening T n) = T
 leaf_ty (Content T total offset piece) = T
 

@@ -4,22 +4,22 @@ use Rattle.std.specs.Prelude.{ℕ, zero, suc, ◌+◌, ◌-◌, ◌/◌, false, 
 use Rattle.giop_cdr.specs.Alignment.{padding}
 use Rattle.giop_decode.specs.declared.progress.Kind.{Kind}
 use Rattle.giop_decode.specs.declared.progress.Kind.TheVariants as kinds
-use Rattle.giop_decode.specs.Spine.{Seg, Piece, line, Content, Read, Done, Short, Fault, with_front}
+use Rattle.giop_decode.specs.ReadResult.{PathSegment, Piece, line, Content, Read, Done, Short, Fault, with_front}
 use Rattle.giop_sig.specs.Types.{Ty, Text, Octets}
 
 -- so many octets, the offset behind them, and what follows; or too few of them
-pub data Grab : Type 0 where
-  Waiting : List ℕ → ℕ → Grab
-  Got : List ℕ → ℕ → List ℕ → Grab
+pub data Block : Type 0 where
+  Partial : List ℕ → ℕ → Block
+  Complete : List ℕ → ℕ → List ℕ → Block
 
 -- the next n octets
-unfoldable pub block : ℕ → ℕ → List ℕ → Grab
+unfoldable pub block : ℕ → ℕ → List ℕ → Block
 block n at s =
-    cond (ltb (length s) n) (Waiting s (at + length s)) (Got (take n s) (at + n) (drop n s))
+    cond (ltb (length s) n) (Partial s (at + length s)) (Complete (take n s) (at + n) (drop n s))
 
 -- a number of n octets, after its padding, which is counted from an origin
-unfoldable pub number : ℕ → ℕ → ℕ → List ℕ → Grab
-number origin n at s = cond (ltb (length s) (padding (at - origin) n)) (Waiting [] (at + length s))
+unfoldable pub number : ℕ → ℕ → ℕ → List ℕ → Block
+number origin n at s = cond (ltb (length s) (padding (at - origin) n)) (Partial [] (at + length s))
     (block n (at + padding (at - origin) n) (drop (padding (at - origin) n) s))
 
 -- a fault takes the place of a value
@@ -47,33 +47,33 @@ ends (Text bound) n octets = cond (eqb (get_or octets n 0) 0) None (Some kinds.S
 ends T n octets = None
 
 -- the last piece of a content, or the wait for it: up to 32 octets from an offset in the content
-abbrev pub last_piece : Ty → List Seg → ℕ → ℕ → Grab → Read
-last_piece T path total offset (Waiting piece at) = Short [] at [] (Content T total offset piece)
-last_piece T path total offset (Got octets at rest) = unless T (ends T (total - offset) octets) at
+abbrev pub last_piece : Ty → List PathSegment → ℕ → ℕ → Block → Read
+last_piece T path total offset (Partial piece at) = Short [] at [] (Content T total offset piece)
+last_piece T path total offset (Complete octets at rest) = unless T (ends T (total - offset) octets) at
     (Done (line at path (Piece T offset (take (total - offset) octets) false) ∷ []) at rest)
 
 -- a piece of 32 octets at an offset in the content, and what comes next
-abbrev pub full_piece : Ty → List Seg → ℕ → ℕ → (ℕ → List ℕ → Read) → Grab → Read
-full_piece T path total offset next (Waiting piece at) =
+abbrev pub full_piece : Ty → List PathSegment → ℕ → ℕ → (ℕ → List ℕ → Read) → Block → Read
+full_piece T path total offset next (Partial piece at) =
     Short [] at [] (Content T total offset piece)
-full_piece T path total offset next (Got octets at rest) =
+full_piece T path total offset next (Complete octets at rest) =
     with_front (line at path (Piece T offset octets true) ∷ []) (next at rest)
 
 -- a content of so many octets, of which so many pieces more aren't the last, from an offset in it on
-abbrev pub content : Ty → List Seg → ℕ → ℕ → ℕ → ℕ → List ℕ → Read
+abbrev pub content : Ty → List PathSegment → ℕ → ℕ → ℕ → ℕ → List ℕ → Read
 content T path total zero offset at s =
     last_piece T path total offset (block (total - offset + tail T) at s)
 content T path total (suc full) offset at s =
     full_piece T path total offset (content T path total full (offset + 32)) (block 32 at s)
 
 -- behind the length of a string, which counts its zero: a string of length 0 is the empty one, and ends there
-abbrev pub text : Option ℕ → List Seg → ℕ → ℕ → List ℕ → Read
+abbrev pub text : Option ℕ → List PathSegment → ℕ → ℕ → List ℕ → Read
 text bound path zero at rest = Done (line at path (Piece (Text bound) 0 [] false) ∷ []) at rest
 text bound path (suc n) at rest =
     unless (Text bound) (over bound n) at (content (Text bound) path n (full_pieces n) 0 at rest)
 
 -- behind the length of an octet sequence
-abbrev pub octets : Option ℕ → List Seg → ℕ → ℕ → List ℕ → Read
+abbrev pub octets : Option ℕ → List PathSegment → ℕ → ℕ → List ℕ → Read
 octets bound path n at rest =
     unless (Octets bound) (over bound n) at
     (content (Octets bound) path n (full_pieces n) 0 at rest)

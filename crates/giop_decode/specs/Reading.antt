@@ -6,16 +6,16 @@ use Rattle.giop_cdr.specs.declared.order.Order.TheVariants.{Big, Little}
 use Rattle.giop_cdr.specs.declared.prim.Primitive.TheVariants as prims
 use Rattle.giop_decode.specs.declared.progress.Kind.{Kind}
 use Rattle.giop_decode.specs.declared.progress.Kind.TheVariants as kinds
-use Rattle.giop_decode.specs.Spine.{Coding, Seg, Name, Index, Switch, Number, Count, line, Part, Member, Head, Read, Done, Short, with_front, followed, within, Held, Size, Ordered, coded, Inside, Leaf, Opening, Content, Fault}
-use Rattle.giop_decode.specs.Pieces.{Grab, Waiting, Got, number, unless, over, text, octets, block, content, full_pieces}
+use Rattle.giop_decode.specs.ReadResult.{Coding, PathSegment, Name, Index, Switch, Number, Count, line, Part, Member, LeadingNumber, Read, Done, Short, with_front, followed, within, Held, Size, Ordered, coded, Inside, Leaf, Opening, Content, Fault}
+use Rattle.giop_decode.specs.Pieces.{Block, Partial, Complete, number, unless, over, text, octets, block, content, full_pieces}
 use Rattle.giop_sig.specs.Types.{Scalar, Plain, Enum, width, Ty, Single, Text, Octets, Struct, Union, Sequence, Array, tag_of, Encapsulation}
 use Rattle.giop_sig.specs.declared.types.Selected.{Selected}
 use Rattle.giop_sig.specs.declared.types.Selected.TheVariants.{Case, Nothing, Refused}
 
 -- what follows the number that begins a type
-abbrev pub headed : Ty → (List ℕ → ℕ → List ℕ → Read) → Grab → Read
-headed T after (Waiting carry at) = Short [] at [] (Head T carry)
-headed T after (Got octets at rest) = after octets at rest
+abbrev pub after_leading_number : Ty → (List ℕ → ℕ → List ℕ → Read) → Block → Read
+after_leading_number T after (Partial carry at) = Short [] at [] (LeadingNumber T carry)
+after_leading_number T after (Complete octets at rest) = after octets at rest
 
 -- why a number is no value: a boolean is 0 or 1, and an enum's numbers are those of its names
 abbrev pub wrong : Scalar → ℕ → Option Kind
@@ -24,7 +24,7 @@ wrong (Plain p) n = None
 wrong (Enum count names) n = cond (ltb n count) None (Some kinds.Enum)
 
 -- a value of one number, behind its octets
-abbrev pub single : List Seg → Scalar → ℕ → ℕ → List ℕ → Read
+abbrev pub single : List PathSegment → Scalar → ℕ → ℕ → List ℕ → Read
 single path scalar n at rest =
     unless (Single scalar) (wrong scalar n) at (Done (line at path (Number scalar n) ∷ []) at rest)
 
@@ -45,7 +45,7 @@ refused Refused = Some kinds.Disposition
 refused _ = None
 
 -- a union behind its discriminator, which has a line where it is a value that can stand there
-abbrev pub chosen : List Seg → Ty → Option (List ℕ) → Scalar → Selected → ℕ →
+abbrev pub chosen : List PathSegment → Ty → Option (List ℕ) → Scalar → Selected → ℕ →
     (ℕ → ℕ → List ℕ → Read) → ℕ → List ℕ → Read
 chosen path T tag scalar selected n case at rest =
     unless T (wrong scalar n) at (unless T (refused selected) at
@@ -61,19 +61,19 @@ order_of (suc zero) = Some Little
 order_of n = None
 
 -- what is left of an encapsulation behind its value
-abbrev pub rest_of : List Seg → Ty → ℕ → ℕ → List ℕ → Read
+abbrev pub rest_of : List PathSegment → Ty → ℕ → ℕ → List ℕ → Read
 rest_of path T zero at s = Done [] at s
 rest_of path T (suc n) at s = content T path (suc n) (full_pieces (suc n)) 0 at s
 
 -- whose value the end of an encapsulation cuts off: that of a content whose length was there, or of the encapsulation itself
 abbrev pub cut_off : Leaf → Ty
 cut_off (Content T total offset piece) = T
-cut_off (Head T carry) = Encapsulation T
+cut_off (LeadingNumber T carry) = Encapsulation T
 cut_off (Opening T n) = Encapsulation T
 
 -- An encapsulation that ends at this offset, of which a value was read so far, and what follows the octets read: the value
 -- has ended, and what is left is the rest; or it needs an octet more, of which there is none where its octets have ended.
-abbrev pub enclosed : List Seg → Ty → Coding → ℕ → Read → List ℕ → Read
+abbrev pub enclosed : List PathSegment → Ty → Coding → ℕ → Read → List ℕ → Read
 enclosed path T coding end (Done lines at rest) more =
     with_front lines (rest_of path T (end - at) at (rest ++ more))
 enclosed path T coding end (Short lines at outer leaf) more =
@@ -82,12 +82,12 @@ enclosed path T coding end (Short lines at outer leaf) more =
 enclosed path T coding end (Fault lines at kind S) more = Fault lines at kind S
 
 -- The reading of a value sees none but the n octets.
-abbrev pub inside : List Seg → Ty → (Coding → ℕ → List ℕ → Read) → Coding → ℕ → ℕ → List ℕ → Read
+abbrev pub inside : List PathSegment → Ty → (Coding → ℕ → List ℕ → Read) → Coding → ℕ → ℕ → List ℕ → Read
 inside path T value coding n at s =
     enclosed path T coding (at + n) (value coding at (take n s)) (drop n s)
 
 -- behind the octet that says the byte order, from which alignment is counted
-abbrev pub ordered : List Seg → Ty → (Coding → ℕ → List ℕ → Read) → ℕ → ℕ → Option Order → ℕ →
+abbrev pub ordered : List PathSegment → Ty → (Coding → ℕ → List ℕ → Read) → ℕ → ℕ → Option Order → ℕ →
     List ℕ → Read
 ordered path T value origin n None at rest = Fault [] at kinds.EncapOrder T
 ordered path T value origin n (Some order) at rest =
@@ -95,28 +95,28 @@ ordered path T value origin n (Some order) at rest =
     (inside path T value (coded order origin) n at rest)
 
 -- from the octet with the byte order on
-abbrev pub opening : List Seg → Ty → (Coding → ℕ → List ℕ → Read) → ℕ → ℕ → Grab → Read
-opening path T value origin n (Waiting none at) = Short [] at [] (Opening T n)
-opening path T value origin n (Got octets at rest) =
+abbrev pub opening : List PathSegment → Ty → (Coding → ℕ → List ℕ → Read) → ℕ → ℕ → Block → Read
+opening path T value origin n (Partial none at) = Short [] at [] (Opening T n)
+opening path T value origin n (Complete octets at rest) =
     ordered path T value origin n (order_of (get_or octets 0 0)) at rest
 
 -- the octets of an encapsulation, behind their number
-abbrev pub sized : List Seg → Ty → (Coding → ℕ → List ℕ → Read) → ℕ → ℕ → List ℕ → Read
+abbrev pub sized : List PathSegment → Ty → (Coding → ℕ → List ℕ → Read) → ℕ → ℕ → List ℕ → Read
 sized path T value zero at s = Fault [] at kinds.EncapShort T
 sized path T value (suc n) at s = opening path T value at n (block 1 at s)
 
 -- ---- any type
 
 -- read coding path T at s: a value of T from the list s, whose first octet stands at that offset of the message
-abbrev pub read : Coding → List Seg → Ty → ℕ → List ℕ → Read
+abbrev pub read : Coding → List PathSegment → Ty → ℕ → List ℕ → Read
 read coding path (Single scalar) at s =
-    headed (Single scalar) (λ xs at rest. single path scalar (num coding.order xs) at rest)
+    after_leading_number (Single scalar) (λ xs at rest. single path scalar (num coding.order xs) at rest)
     (number coding.origin (width scalar) at s)
 read coding path (Text bound) at s =
-    headed (Text bound) (λ xs at rest. text bound path (num coding.order xs) at rest)
+    after_leading_number (Text bound) (λ xs at rest. text bound path (num coding.order xs) at rest)
     (number coding.origin 4 at s)
 read coding path (Octets bound) at s =
-    headed (Octets bound) (λ xs at rest. octets bound path (num coding.order xs) at rest)
+    after_leading_number (Octets bound) (λ xs at rest. octets bound path (num coding.order xs) at rest)
     (number coding.origin 4 at s)
 read coding path (Struct count names parts) at s =
     parts_from (λ i at s. within (Part (Struct count names parts) i count)
@@ -125,21 +125,21 @@ read coding path (Array count T) at s =
     parts_from (λ i at s. within (Part (Array count T) i count)
     (read coding (path ++ Index i ∷ []) T at s)) count 0 at s
 read coding path (Sequence bound T) at s =
-    headed (Sequence bound T) (λ xs at rest.
+    after_leading_number (Sequence bound T) (λ xs at rest.
     unless (Sequence bound T) (over bound (num coding.order xs)) at
     (with_front (line at path (Count (num coding.order xs)) ∷ [])
     (parts_from (λ i at s. within (Part (Sequence bound T) i (num coding.order xs))
     (read coding (path ++ Index i ∷ []) T at s)) (num coding.order xs) 0 at rest)))
     (number coding.origin 4 at s)
 read coding path (Union choice scalar select names cases) at s =
-    headed (Union choice scalar select names cases) (λ xs at rest.
+    after_leading_number (Union choice scalar select names cases) (λ xs at rest.
     chosen path (Union choice scalar select names cases) (tag_of choice names) scalar
     (select (num coding.order xs)) (num coding.order xs)
     (λ i at s. within (Member (Union choice scalar select names cases) i)
     (read coding (path ++ Name (names i) ∷ []) (cases i) at s)) at rest)
     (number coding.origin (width scalar) at s)
 read coding path (Encapsulation T) at s =
-    headed (Encapsulation T) (λ xs at rest.
+    after_leading_number (Encapsulation T) (λ xs at rest.
     with_front (line at path (Size (num coding.order xs)) ∷ [])
     (sized path (Encapsulation T) (λ inner. read inner (path ++ Held ∷ []) T)
     (num coding.order xs) at rest))

@@ -4,10 +4,10 @@ use Rattle.giop_cdr.specs.declared.order.Order.{Order}
 use Rattle.giop_decode.specs.declared.decoder.Decoder.{Decoder}
 use Rattle.giop_decode.specs.declared.progress.Progress.{Progress}
 use Rattle.giop_decode.specs.declared.progress.Progress.TheVariants as progress
-use Rattle.giop_decode.specs.Spine.{plain, Line, Seg, lines_of}
+use Rattle.giop_decode.specs.ReadResult.{plain, Line, PathSegment, lines_of}
 use Rattle.giop_decode.specs.Reading.{read}
-use Rattle.giop_decode.specs.Heard.{is_header_root, names_operation}
-use Rattle.giop_decode.specs.Holding.{Reads, Minds, IsAnswer, IsFault, due}
+use Rattle.giop_decode.specs.Noted.{is_header_root, names_operation}
+use Rattle.giop_decode.specs.DecoderState.{Reads, KeepsNoted, IsAnswer, IsFault, added_lines}
 use Rattle.giop_decode.specs.Spelling.{lines_text}
 use Rattle.giop_print.specs.Output.{OutLog, Wrote, WroteFront}
 use Rattle.giop_print.specs.declared.path.Root.{Root}
@@ -19,13 +19,13 @@ use Rattle.giop_decode.specs.declared.leaf.Leaf.{Leaf as Innermost}
 use Rattle.giop_decode.specs.declared.leaf.Leaf.TheVariants as innermost
 use Rattle.giop_decode.specs.declared.leaf.Step.{Step}
 use Rattle.giop_decode.specs.Pieces.{tail}
-use Rattle.giop_decode.specs.Recalling.{Voices, leaf_in_string}
-use Rattle.giop_decode.specs.Steps.{AreHeld, head_width, leaf_step}
-use Rattle.giop_decode.specs.Turns.{CanSpeak, IsSpoken, TurnsIn, leaf_of, leaf_type, still_held, turned}
+use Rattle.giop_decode.specs.NotingSteps.{OutputFitsString, leaf_in_string}
+use Rattle.giop_decode.specs.ReadingSteps.{AreHeld, leading_width, leaf_step}
+use Rattle.giop_decode.specs.Transitions.{HasOutput, IsOutput, TransitionFits, leaf_of, leaf_type, still_held, after_transition}
 
 -- the lines that octets more give
-abbrev pub dues : Order → Ty → ℕ → List ℕ → List ℕ → List Line
-dues order T at s octets =
+abbrev pub added_lines_of_run : Order → Ty → ℕ → List ℕ → List ℕ → List Line
+added_lines_of_run order T at s octets =
     drop (length (lines_of (read (plain order) [] T at s)))
     (lines_of (read (plain order) [] T at (s ++ octets)))
 
@@ -33,7 +33,7 @@ dues order T at s octets =
 abbrev pub Answers : Order → Ty → ℕ → Root → List ℕ → ℕ → Progress → Type 0
 Answers order T at root s octet p =
     IsAnswer (at + length (s ++ octet ∷ []))
-    (names_operation (is_header_root root) (due order T at s octet)) p
+    (names_operation (is_header_root root) (added_lines order T at s octet)) p
     (read (plain order) [] T at (s ++ octet ∷ []))
 
 -- Octets more, one after another: behind each but the last the value goes on, and no operation has ended there.
@@ -49,7 +49,7 @@ pub record TakesRun (C : Table) (T : Ty) (order : Order) (at message : ℕ) (roo
     (d : Decoder) (s octets : List ℕ) (p : Progress) : Type 0 where
   pub answers : AreAnswered order T at root s octets p
   pub reads : (IsFault p → ⊥) → Reads C T order at message root d (s ++ octets)
-  pub minds : Minds root d (read (plain order) [] T at (s ++ octets))
+  pub keeps_noted : KeepsNoted root d (read (plain order) [] T at (s ++ octets))
 
 -- A put failed at one of these octets, before which the value went on: a front of the lines up to it
 -- was written.
@@ -61,7 +61,7 @@ pub record BreaksOff (T : Ty) (order : Order) (at message : ℕ) (root : Root) (
   pub all : octets ≡ front ++ octet ∷ rest
   pub answers : AreAnswered order T at root s front progress.More
   pub wrote : WroteFront before after
-      (lines_text message root (dues order T at s (front ++ octet ∷ [])))
+      (lines_text message root (added_lines_of_run order T at s (front ++ octet ∷ [])))
 
 -- the lines of the octets that a run took, or those up to the octet at which a put failed
 abbrev pub WritesRun : {E : Type 0} → Result (ℕ × Progress) E → Ty → Order → ℕ → ℕ → Root →
@@ -69,7 +69,7 @@ abbrev pub WritesRun : {E : Type 0} → Result (ℕ × Progress) E → Ty → Or
 WritesRun result T order at message root s octets before after =
     MatchResult result
     (λ taken. Wrote before after
-    (lines_text message root (dues order T at s (take taken.0 octets))))
+    (lines_text message root (added_lines_of_run order T at s (take taken.0 octets))))
     (λ _. BreaksOff T order at message root s octets before after)
 
 -- ---- octets that only add to a piece
@@ -78,7 +78,7 @@ WritesRun result T order at message root s octets before after =
 pub record Gathered (C : Table) (T : Ty) (order : Order) (at message : ℕ) (root : Root)
     (new : Decoder) (s octets : List ℕ) : Type 0 where
   pub takes : TakesRun C T order at message root new s octets progress.More
-  pub quiet : dues order T at s octets ≡ []
+  pub quiet : added_lines_of_run order T at s octets ≡ []
 
 -- the same of any list that the decoder before reads
 abbrev pub AllGathered : Table → Decoder → Decoder → List ℕ → Type 0
@@ -90,7 +90,7 @@ AllGathered C d new octets = (T : Ty) (order : Order) (at message : ℕ) (root :
 -- what is held behind octets that only add to it, in no encapsulation
 abbrev pub Adds : Table → Decoder → Innermost → List ℕ → List ℕ → List ℕ → Type 0
 Adds C d (innermost.Number of) octets carry piece =
-    AreHeld (head_width (tree C of.0)) d.at d.carry octets carry × (piece ≡ d.piece.items)
+    AreHeld (leading_width (tree C of.0)) d.at d.carry octets carry × (piece ≡ d.piece.items)
 Adds C d (innermost.Opening of count) octets carry piece = ⊥
 Adds C d (innermost.Content of total offset) octets carry piece =
     (carry ≡ d.carry) × (piece ≡ d.piece.items ++ octets)
@@ -113,15 +113,15 @@ pub record ComesWhole (C : Table) (d : Decoder) (octets : List ℕ) (of : TypeId
   pub piece : List ℕ
   pub adds : Adds C d leaf (take (count - 1) octets) carry piece
   -- what the last comes to, and says
-  pub turns_in : TurnsIn (tree C of.0) of.0 step.turn d.carry
-      (still_held step.spoken d.piece.items)
-  pub speaks : CanSpeak (tree C of.0) step.spoken
-  pub voices : Voices (tree C of.0) (leaf_in_string (tree C of.0) leaf) step.turn step.spoken
-  pub lines : List Seg → ℕ → List Line
-  pub comes : (path : List Seg) (here : ℕ) → here % 8 ≡ (d.at + (count - 1)) % 8 →
+  pub transition_fits : TransitionFits (tree C of.0) of.0 step.transition d.carry
+      (still_held step.output d.piece.items)
+  pub has_output : HasOutput (tree C of.0) step.output
+  pub output_fits_string : OutputFitsString (tree C of.0) (leaf_in_string (tree C of.0) leaf) step.transition step.output
+  pub lines : List PathSegment → ℕ → List Line
+  pub comes : (path : List PathSegment) (here : ℕ) → here % 8 ≡ (d.at + (count - 1)) % 8 →
       leaf_step (plain d.order) path (leaf_of C leaf carry piece) here
       (get_or octets (count - 1) 0)
-      ≡ turned C (tree C of.0) step.turn d.carry (still_held step.spoken d.piece.items)
+      ≡ after_transition C (tree C of.0) step.transition d.carry (still_held step.output d.piece.items)
       (lines path here) (here + 1)
-  pub says : (path : List Seg) (here : ℕ) →
-      IsSpoken (tree C of.0) path (here + 1) step.spoken (d.piece.items ++ rest) (lines path here)
+  pub says : (path : List PathSegment) (here : ℕ) →
+      IsOutput (tree C of.0) path (here + 1) step.output (d.piece.items ++ rest) (lines path here)

@@ -1,10 +1,10 @@
 -- The text of a reading's lines, in a message and below a root (docs/FORMATS.md; meaning).
 use Rattle.std.specs.Prelude.{ℕ, List, [], ◌∷◌, ◌++◌, Option, Some, None, codes, decimal}
-use Rattle.giop_cdr.specs.Numbers.{taken_as}
+use Rattle.giop_cdr.specs.Numbers.{interpreted_as}
 use Rattle.giop_cdr.specs.Primitives.{size_of}
 use Rattle.giop_cdr.specs.declared.number.Number.{Number as Taken}
 use Rattle.giop_cdr.specs.declared.prim.Primitive.{Primitive}
-use Rattle.giop_decode.specs.Spine.{Seg, Name, Index, Switch, Value, Number, Count, Piece, Line, Held, Size, Ordered}
+use Rattle.giop_decode.specs.ReadResult.{PathSegment, Name, Index, Switch, Value, Number, Count, Piece, Line, Held, Size, Ordered}
 use Rattle.giop_print.specs.Lines.{kind_word, spaced, number_text, spaced_hex, more_word, order_word}
 use Rattle.giop_print.specs.Paths.{root_word, name_segment, index_segment}
 use Rattle.giop_print.specs.Text.{joined, quoted}
@@ -12,21 +12,21 @@ use Rattle.giop_print.specs.declared.path.Root.{Root}
 use Rattle.giop_sig.specs.Types.{Plain, Enum, Text, Octets, Encapsulation}
 
 -- the text of a segment: a name behind a point, or an index in brackets
-abbrev pub seg_text : Seg → List ℕ
-seg_text (Name name) = name_segment name
-seg_text (Index i) = index_segment i
-seg_text (Switch None) = name_segment (codes "switch")
-seg_text (Switch (Some name)) = name_segment name
-seg_text Held = []
+abbrev pub segment_text : PathSegment → List ℕ
+segment_text (Name name) = name_segment name
+segment_text (Index i) = index_segment i
+segment_text (Switch None) = name_segment (codes "switch")
+segment_text (Switch (Some name)) = name_segment name
+segment_text Held = []
 
 -- the text of segments, one after the other
-abbrev pub segs_text : List Seg → List ℕ
-segs_text [] = []
-segs_text (s ∷ ss) = seg_text s ++ segs_text ss
+abbrev pub segments_text : List PathSegment → List ℕ
+segments_text [] = []
+segments_text (s ∷ ss) = segment_text s ++ segments_text ss
 
 -- the text of a path below a root
-unfoldable pub path_text : Root → List Seg → List ℕ
-path_text root path = root_word root ++ segs_text path
+unfoldable pub path_text : Root → List PathSegment → List ℕ
+path_text root path = root_word root ++ segments_text path
 
 -- a number that is a value of its primitive
 abbrev pub number_words : Primitive → Option Taken → List (List ℕ)
@@ -35,7 +35,7 @@ number_words p (Some number) = spaced (kind_word p) ∷ number_text (size_of p) 
 
 -- the words of a value's line behind its path
 abbrev pub value_words : Value → List (List ℕ)
-value_words (Number (Plain p) n) = number_words p (taken_as p n)
+value_words (Number (Plain p) n) = number_words p (interpreted_as p n)
 value_words (Number (Enum count names) n) = codes " enum " ∷ names n ∷ []
 value_words (Count n) = codes " count " ∷ decimal n ∷ []
 value_words (Piece (Text bound) offset octets more) =

@@ -30,11 +30,11 @@ use Rattle.giop_decode.specs.declared.decoder.Decoder.{Decoder}
 use Rattle.giop_decode.specs.declared.frame.Frame.{Frame}
 use Rattle.giop_decode.specs.declared.leaf.Leaf.{Leaf as Innermost}
 use Rattle.giop_decode.specs.declared.leaf.Leaf.TheVariants as innermost
-use Rattle.giop_decode.specs.declared.memory.Memory.{Memory}
-use Rattle.giop_decode.specs.declared.memory.Buffer.{Buffer}
-use Rattle.giop_decode.specs.declared.memory.Buffer.TheVariants as buffers
+use Rattle.giop_decode.specs.declared.notes.Notes.{Notes}
+use Rattle.giop_decode.specs.declared.notes.Buffer.{Buffer}
+use Rattle.giop_decode.specs.declared.notes.Buffer.TheVariants as buffers
 use Rattle.giop_decode.specs.declared.stored.TheConstants.{FRAME_SIZE}
-use Rattle.giop_decode.specs.Turns.{leaf_type, is_inside}
+use Rattle.giop_decode.specs.Transitions.{leaf_type, is_inside}
 use Rattle.giop_octets.specs.Fields.{four, eight, optional, held}
 use Rattle.giop_print.specs.declared.path.Root.{Root}
 use Rattle.giop_print.specs.declared.path.Root.TheVariants as roots
@@ -67,18 +67,18 @@ kept_name buffers.TooLong name = []
 kept_name buffers.Begun name = name
 kept_name buffers.Whole name = name
 
-abbrev pub name_octets : Memory → List ℕ
+abbrev pub name_octets : Notes → List ℕ
 name_octets m = held 128 (kept_name m.buffer m.name.items)
 
-abbrev pub memory_octets : Memory → List ℕ
-memory_octets m =
+abbrev pub notes_octets : Notes → List ℕ
+notes_octets m =
     optional m.request_id ++ optional m.status ++ buffer_octet m.buffer ∷ name_octets m
 
 -- of a decoder whose innermost part this is
 unfoldable pub fixed_octets : Decoder → Innermost → List ℕ
 fixed_octets d leaf =
     order_octet d.order ∷ root_octet d.root ∷ eight d.message ++ d.at ∷ leaf_octets leaf
-    ++ held 8 d.carry ++ held 32 d.piece.items ++ memory_octets d.memory ++ replicate 2 0
+    ++ held 8 d.carry ++ held 32 d.piece.items ++ notes_octets d.notes ++ replicate 2 0
 
 -- how many octets a frame has
 abbrev pub frame_size : ℕ
@@ -114,7 +114,7 @@ LeafHasRange (innermost.Content of total offset) =
     (of.0 < 2 ^ 32) × (total < 2 ^ 32) × (offset < 2 ^ 32)
 LeafHasRange (innermost.Opening of count) = (of.0 < 2 ^ 32) × (count < 2 ^ 32)
 
-pub record MemoryHasRange (m : Memory) : Type 0 where
+pub record NotesHaveRange (m : Notes) : Type 0 where
   pub request_id : IfSome m.request_id (λ n. n < 2 ^ 32)
   pub status : IfSome m.status (λ n. n < 2 ^ 32)
   pub name : length m.name.items ≤ 128
@@ -124,7 +124,7 @@ pub record HasRange (d : Decoder) : Type 0 where
   pub message : d.message < 2 ^ 64
   pub carry : length d.carry ≤ 8
   pub piece : length d.piece.items ≤ 32
-  pub memory : MemoryHasRange d.memory
+  pub notes : NotesHaveRange d.notes
 
 -- ---- a decoder that is stored
 
@@ -140,7 +140,7 @@ pub record Stored (d : Decoder) (fixed frames : List ℕ) : Type 0 where
   pub few : length d.outer.items < 24
 
 -- the memory is what is kept of another
-pub record IsKept (m n : Memory) : Type 0 where
+pub record IsKept (m n : Notes) : Type 0 where
   pub request_id : n.request_id ≡ m.request_id
   pub status : n.status ≡ m.status
   pub buffer : n.buffer ≡ m.buffer
@@ -157,4 +157,4 @@ pub record IsRestored (d e : Decoder) : Type 0 where
   pub inside : e.inside ≡ is_inside e.outer.items
   pub carry : e.carry ≡ d.carry
   pub piece : e.piece.items ≡ d.piece.items
-  pub memory : IsKept d.memory e.memory
+  pub notes : IsKept d.notes e.notes

@@ -1,16 +1,16 @@
 //! Whether the parts of a decoder that comes from octets fit a catalogue.
 
 ghost use Rattle.std.specs.Prelude.{◌≡◌, ◌↔◌, IsTrue, ℕ, ◌+◌, ◌-◌, ◌<◌, ◌≤◌, List, [], length};
-ghost use Rattle.giop_decode.specs.Chained.{HasFrame, HasPart, LeafFits, Chained, Chains, root_of};
-ghost use Rattle.giop_decode.specs.Fits.{HasHead, IsEncapsulation};
-ghost use Rattle.giop_decode.specs.Turns.{leaf_type, part_index};
+ghost use Rattle.giop_decode.specs.FrameChain.{HasFrame, HasPart, LeafFits, Chained, Chains, root_of};
+ghost use Rattle.giop_decode.specs.Fits.{HasLeadingNumber, IsEncapsulation};
+ghost use Rattle.giop_decode.specs.Transitions.{leaf_type, part_index};
 ghost use Rattle.giop_sig.specs.Trees.{tree};
 
 use crate::decoder::Decoder;
 use crate::frame::{Frame, is_empty, is_inside, whole};
-use crate::heads::width;
+use crate::leading_numbers::width;
 use crate::leaf::Leaf;
-use crate::memory::is_header;
+use crate::notes::is_header;
 use giop_cdr::Carry;
 use giop_sig::{Catalogue, Shape, TypeId};
 
@@ -24,7 +24,7 @@ impl Decoder {
         };
         let root = root_of(self.outer.as_slice(), leaf);
         self.at < 8
-            && (is_header(self.root) || self.memory.request_id.is_none())
+            && (is_header(self.root) || self.notes.request_id.is_none())
             && catalogue.has(leaf.of())
             && catalogue.has(root)
             && !is_empty(catalogue, root)
@@ -134,7 +134,7 @@ fn leaf_fits(catalogue: &Catalogue, leaf: Leaf, carry: &Carry, piece: &[u8]) -> 
     match leaf {
         Leaf::Number(of) => {
             piece.is_empty()
-                && has_head(catalogue, of)
+                && has_leading_number(catalogue, of)
                 && carry.len() < usize::from(width(catalogue, of))
         }
         Leaf::Opening { of, count } => {
@@ -153,9 +153,9 @@ fn leaf_fits(catalogue: &Catalogue, leaf: Leaf, carry: &Carry, piece: &[u8]) -> 
 }
 
 /// Whether a type begins with a number.
-fn has_head(catalogue: &Catalogue, of: TypeId) -> bool
+fn has_leading_number(catalogue: &Catalogue, of: TypeId) -> bool
     requires { of.0 < length catalogue.now.types }
-    ensures { IsTrue result ↔ HasHead (tree catalogue.now of.0) }
+    ensures { IsTrue result ↔ HasLeadingNumber (tree catalogue.now of.0) }
 {
     whole(catalogue, of).is_none()
 }

@@ -3,17 +3,17 @@
 
 ghost use Rattle.std.specs.Prelude.{◌≡◌, ℕ, ◌+◌, ◌-◌, ◌<◌, ◌≤◌, List, [], ◌++◌, length, take, false};
 ghost use Rattle.arrayvec.specs.ArrayVec.{array_vec_len};
-ghost use Rattle.giop_decode.specs.Spine.{Seg};
-ghost use Rattle.giop_decode.specs.Heard.{is_text};
+ghost use Rattle.giop_decode.specs.ReadResult.{PathSegment};
+ghost use Rattle.giop_decode.specs.Noted.{is_text};
 ghost use Rattle.giop_decode.specs.Pieces.{tail};
-ghost use Rattle.giop_decode.specs.Recalling.{Voices};
-ghost use Rattle.giop_decode.specs.Steps.{content_step};
+ghost use Rattle.giop_decode.specs.NotingSteps.{OutputFitsString};
+ghost use Rattle.giop_decode.specs.ReadingSteps.{content_step};
 ghost use Rattle.giop_decode.specs.Fits.{HasContent, IsBare};
-ghost use Rattle.giop_decode.specs.Turns.{Turns, TurnsIn, CanSpeak, still_held};
+ghost use Rattle.giop_decode.specs.Transitions.{TransitionGives, TransitionFits, HasOutput, still_held};
 ghost use Rattle.giop_sig.specs.Types.{Text, Octets};
 ghost use Rattle.giop_sig.specs.Trees.{tree};
 
-use crate::leaf::{Leaf, Spoken, Step, Turn, refused};
+use crate::leaf::{Leaf, Output, Step, Transition, refused};
 use crate::progress::Kind;
 use arrayvec::ArrayVec;
 use giop_sig::{Catalogue, Shape, TypeId};
@@ -50,13 +50,13 @@ pub(crate) fn take_content(
     requires room_full { 32 < total - offset → array_vec_len piece.old < 32 }
     requires room_last { total - offset ≤ 32 →
         array_vec_len piece.old < total - offset + tail (tree catalogue.now of.0) }
-    ensures turns_in { TurnsIn (tree catalogue.now of.0) of.0 result.turn []
-        (still_held result.spoken piece.new.items) }
-    ensures speaks { CanSpeak (tree catalogue.now of.0) result.spoken }
-    ensures voices { Voices (tree catalogue.now of.0) (is_text (tree catalogue.now of.0))
-        result.turn result.spoken }
-    ensures turns { (path : List Seg) (at : ℕ) →
-        Turns catalogue.now (tree catalogue.now of.0) result.turn result.spoken []
+    ensures transition_fits { TransitionFits (tree catalogue.now of.0) of.0 result.transition []
+        (still_held result.output piece.new.items) }
+    ensures has_output { HasOutput (tree catalogue.now of.0) result.output }
+    ensures output_fits_string { OutputFitsString (tree catalogue.now of.0) (is_text (tree catalogue.now of.0))
+        result.transition result.output }
+    ensures transitions { (path : List PathSegment) (at : ℕ) →
+        TransitionGives catalogue.now (tree catalogue.now of.0) result.transition result.output []
         piece.new.items path (at + 1)
         (content_step (tree catalogue.now of.0) path total offset at piece.old.items octet) }
 {
@@ -67,12 +67,12 @@ pub(crate) fn take_content(
             return goes_on(of, total, offset);
         }
         return Step {
-            turn: Turn::More(Leaf::Content {
+            transition: Transition::More(Leaf::Content {
                 of,
                 total,
                 offset: offset + 32,
             }),
-            spoken: Spoken::Piece { offset, more: true },
+            output: Output::Piece { offset, more: true },
         };
     }
     match catalogue.shape(of) {
@@ -85,8 +85,8 @@ pub(crate) fn take_content(
                 return refused(Kind::StringEnd);
             }
             Step {
-                turn: Turn::Ended,
-                spoken: Spoken::Piece {
+                transition: Transition::Ended,
+                output: Output::Piece {
                     offset,
                     more: false,
                 },
@@ -112,13 +112,13 @@ fn take_last(
     requires ahead { offset ≤ total }
     requires last { total - offset ≤ 32 }
     requires room { array_vec_len piece.old < total - offset }
-    ensures turns_in { TurnsIn (tree catalogue.now of.0) of.0 result.turn []
-        (still_held result.spoken piece.new.items) }
-    ensures speaks { CanSpeak (tree catalogue.now of.0) result.spoken }
-    ensures voices { Voices (tree catalogue.now of.0) (is_text (tree catalogue.now of.0))
-        result.turn result.spoken }
-    ensures turns { (path : List Seg) (at : ℕ) →
-        Turns catalogue.now (tree catalogue.now of.0) result.turn result.spoken []
+    ensures transition_fits { TransitionFits (tree catalogue.now of.0) of.0 result.transition []
+        (still_held result.output piece.new.items) }
+    ensures has_output { HasOutput (tree catalogue.now of.0) result.output }
+    ensures output_fits_string { OutputFitsString (tree catalogue.now of.0) (is_text (tree catalogue.now of.0))
+        result.transition result.output }
+    ensures transitions { (path : List PathSegment) (at : ℕ) →
+        TransitionGives catalogue.now (tree catalogue.now of.0) result.transition result.output []
         piece.new.items path (at + 1)
         (content_step (tree catalogue.now of.0) path total offset at piece.old.items octet) }
 {
@@ -129,8 +129,8 @@ fn take_last(
         return goes_on(of, total, offset);
     }
     Step {
-        turn: Turn::Ended,
-        spoken: Spoken::Piece {
+        transition: Transition::Ended,
+        output: Output::Piece {
             offset,
             more: false,
         },
@@ -140,28 +140,28 @@ fn take_last(
 /// A content that goes on with nothing to say.
 #[inline(always)]
 fn goes_on(of: TypeId, total: u32, offset: u32) -> Step
-    ensures turn { result.turn ≡ Turn.More (Leaf.Content of total offset) }
-    ensures spoken { result.spoken ≡ Spoken.Nothing }
+    ensures transition { result.transition ≡ Transition.More (Leaf.Content of total offset) }
+    ensures output { result.output ≡ Output.Nothing }
 {
     Step {
-        turn: Turn::More(Leaf::Content { of, total, offset }),
-        spoken: Spoken::Nothing,
+        transition: Transition::More(Leaf::Content { of, total, offset }),
+        output: Output::Nothing,
     }
 }
 
 /// Lets go of the piece that is held, if it was said.
 #[inline(always)]
-pub(crate) fn let_go(spoken: Spoken, piece: &mut ArrayVec<u8, 32>)
-    ensures { piece.new.items ≡ still_held spoken piece.old.items }
+pub(crate) fn let_go(output: Output, piece: &mut ArrayVec<u8, 32>)
+    ensures { piece.new.items ≡ still_held output piece.old.items }
 {
-    match spoken {
-        Spoken::Piece { .. } => *piece = ArrayVec::new(),
-        Spoken::Nothing => {}
-        Spoken::Length => {}
-        Spoken::Number(_) => {}
-        Spoken::Switch(_) => {}
-        Spoken::Count(_) => {}
-        Spoken::Size(_) => {}
-        Spoken::Ordered(_) => {}
+    match output {
+        Output::Piece { .. } => *piece = ArrayVec::new(),
+        Output::Nothing => {}
+        Output::Length => {}
+        Output::Number(_) => {}
+        Output::Switch(_) => {}
+        Output::Count(_) => {}
+        Output::Size(_) => {}
+        Output::Ordered(_) => {}
     }
 }

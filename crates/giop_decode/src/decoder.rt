@@ -4,26 +4,26 @@ ghost use Rattle.std.specs.Prelude.{◌≡◌, ℕ, ◌+◌, ◌-◌, ◌%◌, �
 ghost use Rattle.std.specs.Option.{option_map};
 ghost use Rattle.giop_cdr.specs.declared.order.Order.{Order as ByteOrder};
 ghost use Rattle.giop_decode.specs.declared.leaf.Leaf.{Leaf as Innermost};
-ghost use Rattle.giop_decode.specs.Spine.{Coding, Seg, Line, Read, lines_of, with_front};
+ghost use Rattle.giop_decode.specs.ReadResult.{Coding, PathSegment, Line, Read, lines_of, with_front};
 ghost use Rattle.giop_decode.specs.Spelling.{lines_text};
 ghost use Rattle.giop_print.specs.Output.{Writes};
 ghost use Rattle.giop_print.specs.declared.path.Root.{Root as PathRoot};
-ghost use Rattle.giop_decode.specs.Steps.{around, path_in};
+ghost use Rattle.giop_decode.specs.ReadingSteps.{around, path_in};
 ghost use Rattle.giop_decode.specs.Fits.{OpenFrom};
-ghost use Rattle.giop_decode.specs.Turns.{places, AreKnown, Link, TurnsIn, CanSpeak, IsSpoken, turned, still_held, leaf_type, IsClean, StandAt, is_inside};
-ghost use Rattle.giop_decode.specs.Heard.{Heard, heard, heard_of, hushed, in_string, is_header_root};
-ghost use Rattle.giop_decode.specs.Recalling.{IsPlain, hushes, turn_in_string};
-ghost use Rattle.giop_decode.specs.Holding.{Fits, IsDone, IsHere, Reads, Recalls, Takes, Minds, GoesOn, standing, due};
-ghost use Rattle.giop_decode.specs.Moves.{settled, stepped, told, Comes, IsAround, IsNext, IsMoved};
+ghost use Rattle.giop_decode.specs.Transitions.{open_parts, AreKnown, Link, TransitionFits, HasOutput, IsOutput, after_transition, still_held, leaf_type, IsClean, StandAt, is_inside};
+ghost use Rattle.giop_decode.specs.Noted.{Noted, noted, noted_of, without_name_if, ends_in_string, is_header_root};
+ghost use Rattle.giop_decode.specs.NotingSteps.{IsPlain, clears_name, transition_in_string};
+ghost use Rattle.giop_decode.specs.DecoderState.{Fits, IsDone, CanStandAt, Reads, HoldsNoted, Takes, KeepsNoted, GoesOn, read_by_fields, added_lines};
+ghost use Rattle.giop_decode.specs.DecoderSteps.{transition_result, decoder_step, emitted, Comes, IsAround, IsNext, IsMoved};
 ghost use Rattle.giop_sig.specs.Types.{Ty};
 ghost use Rattle.giop_sig.specs.Fits.{IsFit, IsEmptyStruct};
 ghost use Rattle.giop_sig.specs.Trees.{tree};
 
 use crate::contents::let_go;
 use crate::frame::{Frame, begin, coding, go_on, has_ended, is_empty, is_inside, tick};
-use crate::leaf::{Leaf, Step, Turn, take_octet};
-use crate::line::say;
-use crate::memory::Memory;
+use crate::leaf::{Leaf, Step, Transition, take_octet};
+use crate::line::write_line;
+use crate::notes::Notes;
 use crate::progress::{Progress, progress_of};
 use arrayvec::ArrayVec;
 use giop_cdr::{Carry, Order};
@@ -45,7 +45,7 @@ pub struct Decoder {
     pub(crate) leaf: Option<Leaf>,
     pub(crate) carry: Carry,
     pub(crate) piece: ArrayVec<u8, 32>,
-    pub(crate) memory: Memory,
+    pub(crate) notes: Notes,
 }
 
 impl Decoder {
@@ -74,7 +74,7 @@ impl Decoder {
             leaf: None,
             carry: Carry::new(),
             piece: ArrayVec::new(),
-            memory: Memory::new(),
+            notes: Notes::new(),
         };
         if is_empty(catalogue, of) {
             return decoder;
@@ -97,7 +97,7 @@ impl Decoder {
             (s : List ℕ) →
             Reads catalogue.now T order at message root self.old s →
             Writes result (O.log out.old) (O.log out.new)
-            (lines_text message root (due order T at s octet)) }
+            (lines_text message root (added_lines order T at s octet)) }
         ensures takes { IfOk result (λ p. (T : Ty) (order : ByteOrder) (at message : ℕ)
             (root : PathRoot) (s : List ℕ) →
             Reads catalogue.now T order at message root self.old s →
@@ -118,67 +118,67 @@ impl Decoder {
 
     /// The request id of a header, once that was read. No other value has one.
     pub fn request_id(&self) -> Option<u32>
-        ensures { (root : PathRoot) (r : Read) → Minds root self.now r →
-            result ≡ (heard_of (is_header_root root) r).request_id }
+        ensures { (root : PathRoot) (r : Read) → KeepsNoted root self.now r →
+            result ≡ (noted_of (is_header_root root) r).request_id }
     {
-        self.memory.request_id()
+        self.notes.request_id()
     }
 
     /// The number of the last enum: of a reply header the status.
     pub fn status(&self) -> Option<u32>
-        ensures { (root : PathRoot) (r : Read) → Minds root self.now r →
-            result ≡ (heard_of (is_header_root root) r).status }
+        ensures { (root : PathRoot) (r : Read) → KeepsNoted root self.now r →
+            result ≡ (noted_of (is_header_root root) r).status }
     {
-        self.memory.status()
+        self.notes.status()
     }
 
     /// The last string, once that has ended and where it is a name: of at most 128 octets.
     pub fn name(&self) -> Option<&[u8]>
-        ensures { (root : PathRoot) (r : Read) → Minds root self.now r →
-            option_map (λ octets. octets.now) result ≡ (heard_of (is_header_root root) r).name }
+        ensures { (root : PathRoot) (r : Read) → KeepsNoted root self.now r →
+            option_map (λ octets. octets.now) result ≡ (noted_of (is_header_root root) r).name }
     {
-        self.memory.name()
+        self.notes.name()
     }
 
     /// Goes on from what the innermost part, of this type, has come to.
     #[inline(always)]
-    fn settle(&mut self, catalogue: &Catalogue, of: TypeId, turn: Turn)
+    fn advance_frames(&mut self, catalogue: &Catalogue, of: TypeId, transition: Transition)
         requires known { of.0 < length catalogue.now.types }
         requires known_outer { AreKnown catalogue.now self.old.outer.items }
         requires encloses { self.old.inside ≡ is_inside self.old.outer.items }
-        requires open { (at : ℕ) × OpenFrom 24 (places catalogue.now at self.old.outer.items) }
+        requires open { (at : ℕ) × OpenFrom 24 (open_parts catalogue.now at self.old.outer.items) }
         requires fit { IsFit (24 - length self.old.outer.items) (tree catalogue.now of.0) }
-        requires turns_in { TurnsIn (tree catalogue.now of.0) of.0 turn
+        requires transition_fits { TransitionFits (tree catalogue.now of.0) of.0 transition
             self.old.carry self.old.piece.items }
         ensures known_outer { AreKnown catalogue.now self.new.outer.items }
         ensures encloses { self.new.inside ≡ is_inside self.new.outer.items }
-        ensures known { (leaf : Innermost) → IsMoved turn → self.new.leaf ≡ Some leaf →
+        ensures known { (leaf : Innermost) → IsMoved transition → self.new.leaf ≡ Some leaf →
             leaf_type leaf < length catalogue.now.types }
-        ensures clean { (leaf : Innermost) → IsMoved turn → self.new.leaf ≡ Some leaf →
+        ensures clean { (leaf : Innermost) → IsMoved transition → self.new.leaf ≡ Some leaf →
             IsClean leaf self.new.carry self.new.piece.items }
-        ensures link { (root : ℕ) (leaf : Innermost) → IsMoved turn →
+        ensures link { (root : ℕ) (leaf : Innermost) → IsMoved transition →
             Link catalogue.now root self.old.outer.items of.0 → self.new.leaf ≡ Some leaf →
             Link catalogue.now root self.new.outer.items (leaf_type leaf) }
         ensures order { self.new.order ≡ self.old.order }
         ensures root { self.new.root ≡ self.old.root }
         ensures message { self.new.message ≡ self.old.message }
-        ensures memory { self.new.memory ≡ self.old.memory }
+        ensures notes { self.new.notes ≡ self.old.notes }
         ensures at { self.new.at ≡ self.old.at }
         ensures inside { (at : ℕ) (lines : List Line) →
-            in_string (settled catalogue.now (tree catalogue.now of.0) self.new turn lines at)
-            ≡ turn_in_string (tree catalogue.now of.0) turn }
+            ends_in_string (transition_result catalogue.now (tree catalogue.now of.0) self.new transition lines at)
+            ≡ transition_in_string (tree catalogue.now of.0) transition }
         ensures stand { (at : ℕ) → 0 < at → StandAt at self.old.outer.items →
             StandAt at self.new.outer.items }
-        ensures settles { (coding : Coding) (path : List Seg) (at : ℕ) (lines : List Line) →
-            around coding path (places catalogue.now at self.old.outer.items)
-            (turned catalogue.now (tree catalogue.now of.0) turn
+        ensures settles { (coding : Coding) (path : List PathSegment) (at : ℕ) (lines : List Line) →
+            around coding path (open_parts catalogue.now at self.old.outer.items)
+            (after_transition catalogue.now (tree catalogue.now of.0) transition
             self.old.carry self.old.piece.items lines at)
-            ≡ settled catalogue.now (tree catalogue.now of.0) self.new turn lines at }
+            ≡ transition_result catalogue.now (tree catalogue.now of.0) self.new transition lines at }
     {
-        match turn {
-            Turn::More(leaf) => self.leaf = Some(leaf),
-            Turn::Refused(_) => {}
-            Turn::Opened(count) => {
+        match transition {
+            Transition::More(leaf) => self.leaf = Some(leaf),
+            Transition::Refused(_) => {}
+            Transition::Opened(count) => {
                 self.carry.clear();
                 self.piece.clear();
                 self.outer.push(Frame {
@@ -190,7 +190,7 @@ impl Decoder {
                 let part = catalogue.part(of, 0);
                 self.leaf = Some(Leaf::Number(begin(catalogue, &mut self.outer, part)));
             }
-            Turn::Selected(index) => {
+            Transition::Selected(index) => {
                 self.carry.clear();
                 self.piece.clear();
                 self.outer.push(Frame {
@@ -202,7 +202,7 @@ impl Decoder {
                 let part = catalogue.part(of, index);
                 self.leaf = Some(Leaf::Number(begin(catalogue, &mut self.outer, part)));
             }
-            Turn::Entered(order, count) => {
+            Transition::Entered(order, count) => {
                 self.carry.clear();
                 self.piece.clear();
                 self.outer.push(Frame {
@@ -215,7 +215,7 @@ impl Decoder {
                 let part = catalogue.part(of, 0);
                 self.leaf = Some(Leaf::Number(begin(catalogue, &mut self.outer, part)));
             }
-            Turn::Ended => {
+            Transition::Ended => {
                 self.carry.clear();
                 self.piece.clear();
                 self.leaf = go_on(catalogue, &mut self.outer);
@@ -237,18 +237,18 @@ impl Decoder {
         ensures order { OnOk result (self.new.order ≡ self.old.order) }
         ensures root { OnOk result (self.new.root ≡ self.old.root) }
         ensures message { OnOk result (self.new.message ≡ self.old.message) }
-        ensures here { OnOk result ((here : ℕ) → IsHere self.old here →
-            IsHere self.new (here + 1)) }
+        ensures here { OnOk result ((here : ℕ) → CanStandAt self.old here →
+            CanStandAt self.new (here + 1)) }
         ensures fits { IfOk result (λ p. GoesOn p → Fits catalogue.now self.new) }
-        ensures writes { (here : ℕ) → IsHere self.old here →
+        ensures writes { (here : ℕ) → CanStandAt self.old here →
             Writes result (O.log out.old) (O.log out.new) (lines_text self.old.message self.old.root
-            (lines_of (stepped catalogue.now self.old here octet))) }
-        ensures steps { IfOk result (λ p. (here : ℕ) → IsHere self.old here →
-            Comes catalogue.now self.new p (here + 1) (stepped catalogue.now self.old here octet)) }
-        ensures minds { OnOk result ((here : ℕ) (front : List Line) → IsHere self.old here →
-            Minds self.old.root self.old (standing catalogue.now self.old front here) →
-            Minds self.old.root self.new
-            (with_front front (stepped catalogue.now self.old here octet))) }
+            (lines_of (decoder_step catalogue.now self.old here octet))) }
+        ensures steps { IfOk result (λ p. (here : ℕ) → CanStandAt self.old here →
+            Comes catalogue.now self.new p (here + 1) (decoder_step catalogue.now self.old here octet)) }
+        ensures keeps_noted { OnOk result ((here : ℕ) (front : List Line) → CanStandAt self.old here →
+            KeepsNoted self.old.root self.old (read_by_fields catalogue.now self.old front here) →
+            KeepsNoted self.old.root self.new
+            (with_front front (decoder_step catalogue.now self.old here octet))) }
     {
         let Some(leaf) = self.leaf else {
             unreachable!();
@@ -264,14 +264,14 @@ impl Decoder {
             &mut self.carry,
             &mut self.piece,
         );
-        let progress = self.tell(catalogue, of, step, &[], false, out)?;
+        let progress = self.emit(catalogue, of, step, &[], false, out)?;
         Ok(progress)
     }
 
     /// Says and hears what the innermost part, of this type, gives to say by an octet, and goes on from what it has come
     /// to. A piece that is said has the octets that are held, and these. A number may be known as a primitive's.
     #[inline(always)]
-    pub(crate) fn tell<O: Out>(
+    pub(crate) fn emit<O: Out>(
         &mut self,
         catalogue: &Catalogue,
         of: TypeId,
@@ -281,68 +281,68 @@ impl Decoder {
         out: &mut O,
     ) -> Result<Progress, OutFault>
         requires around { IsAround catalogue.now self.old of.0 }
-        requires turns_in { TurnsIn (tree catalogue.now of.0) of.0 step.turn
-            self.old.carry (still_held step.spoken self.old.piece.items) }
-        requires speaks { CanSpeak (tree catalogue.now of.0) step.spoken }
-        requires plain { IsTrue is_plain → IsPlain (tree catalogue.now of.0) step.spoken }
+        requires transition_fits { TransitionFits (tree catalogue.now of.0) of.0 step.transition
+            self.old.carry (still_held step.output self.old.piece.items) }
+        requires has_output { HasOutput (tree catalogue.now of.0) step.output }
+        requires plain { IsTrue is_plain → IsPlain (tree catalogue.now of.0) step.output }
         requires short { 0 < length rest.now →
             length self.old.piece.items + length rest.now ≤ 32 }
         ensures order { OnOk result (self.new.order ≡ self.old.order) }
         ensures root { OnOk result (self.new.root ≡ self.old.root) }
         ensures message { OnOk result (self.new.message ≡ self.old.message) }
-        ensures here { OnOk result ((here : ℕ) → IsHere self.old here →
-            IsHere self.new (here + 1)) }
+        ensures here { OnOk result ((here : ℕ) → CanStandAt self.old here →
+            CanStandAt self.new (here + 1)) }
         ensures next { IfOk result (λ p. GoesOn p → IsNext catalogue.now self.old self.new of.0) }
         ensures writes { (here at : ℕ) (lines : List Line) →
-            IsSpoken (tree catalogue.now of.0)
-            (path_in [] (places catalogue.now here self.old.outer.items))
-            at step.spoken (self.old.piece.items ++ rest.now) lines →
+            IsOutput (tree catalogue.now of.0)
+            (path_in [] (open_parts catalogue.now here self.old.outer.items))
+            at step.output (self.old.piece.items ++ rest.now) lines →
             Writes result (O.log out.old) (O.log out.new)
             (lines_text self.old.message self.old.root lines) }
         ensures steps { IfOk result (λ p. (here : ℕ) (lines : List Line) →
-            IsSpoken (tree catalogue.now of.0)
-            (path_in [] (places catalogue.now here self.old.outer.items))
-            (here + 1) step.spoken (self.old.piece.items ++ rest.now) lines →
+            IsOutput (tree catalogue.now of.0)
+            (path_in [] (open_parts catalogue.now here self.old.outer.items))
+            (here + 1) step.output (self.old.piece.items ++ rest.now) lines →
             Comes catalogue.now self.new p (here + 1)
-            (told catalogue.now self.old of.0 step.turn step.spoken lines here)) }
+            (emitted catalogue.now self.old of.0 step.transition step.output lines here)) }
         ensures inside { OnOk result ((here : ℕ) (lines : List Line) →
-            in_string (told catalogue.now self.old of.0 step.turn step.spoken lines here)
-            ≡ turn_in_string (tree catalogue.now of.0) step.turn) }
+            ends_in_string (emitted catalogue.now self.old of.0 step.transition step.output lines here)
+            ≡ transition_in_string (tree catalogue.now of.0) step.transition) }
         ensures id { OnOk result (is_header_root self.old.root ≡ false →
-            self.new.memory.request_id ≡ self.old.memory.request_id) }
-        ensures hears { OnOk result ((h : Heard) (here at : ℕ) (lines : List Line) → Recalls self.old.memory h →
-            IsSpoken (tree catalogue.now of.0)
-            (path_in [] (places catalogue.now here self.old.outer.items))
-            at step.spoken (self.old.piece.items ++ rest.now) lines →
-            Recalls self.new.memory (hushed (hushes step.spoken)
-            (heard (is_header_root self.old.root) h lines))) }
+            self.new.notes.request_id ≡ self.old.notes.request_id) }
+        ensures hears { OnOk result ((h : Noted) (here at : ℕ) (lines : List Line) → HoldsNoted self.old.notes h →
+            IsOutput (tree catalogue.now of.0)
+            (path_in [] (open_parts catalogue.now here self.old.outer.items))
+            at step.output (self.old.piece.items ++ rest.now) lines →
+            HoldsNoted self.new.notes (without_name_if (clears_name step.output)
+            (noted (is_header_root self.old.root) h lines))) }
     {
-        say(
+        write_line(
             catalogue,
             self.message,
             self.root,
             self.outer.as_slice(),
             of,
-            step.spoken,
+            step.output,
             &self.piece,
             rest,
             out,
         )?;
-        let named = self.memory.hear(
+        let named = self.notes.note(
             catalogue,
             self.root,
             self.outer.as_slice(),
             of,
-            step.spoken,
+            step.output,
             &self.piece,
             rest,
             is_plain,
         );
-        let_go(step.spoken, &mut self.piece);
+        let_go(step.output, &mut self.piece);
         self.at = (self.at + 1) % 8;
         tick(self.inside, &mut self.outer);
-        self.settle(catalogue, of, step.turn);
+        self.advance_frames(catalogue, of, step.transition);
         let ended = has_ended(self.inside, self.outer.as_slice());
-        Ok(progress_of(named, ended, step.turn, self.leaf))
+        Ok(progress_of(named, ended, step.transition, self.leaf))
     }
 }

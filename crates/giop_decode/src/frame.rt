@@ -3,13 +3,13 @@
 ghost use Rattle.std.specs.Prelude.{◌≡◌, ℕ, ◌+◌, ◌-◌, ◌<◌, ◌≤◌, List, [], ◌++◌, length, ◌↔◌, IsTrue, IfSome, IfNone, false};
 ghost use Rattle.std.specs.Option.{option_map};
 ghost use Rattle.arrayvec.specs.ArrayVec.{array_vec_len};
-ghost use Rattle.giop_decode.specs.Spine.{Coding, Seg, Head, Done};
-ghost use Rattle.giop_decode.specs.Steps.{around};
-ghost use Rattle.giop_decode.specs.Fits.{HasHead, OpenFrom};
+ghost use Rattle.giop_decode.specs.ReadResult.{Coding, PathSegment, LeadingNumber, Done};
+ghost use Rattle.giop_decode.specs.ReadingSteps.{around};
+ghost use Rattle.giop_decode.specs.Fits.{HasLeadingNumber, OpenFrom};
 ghost use Rattle.giop_decode.specs.Begins.{start_outer, start_leaf};
-ghost use Rattle.giop_decode.specs.Turns.{IsAhead, coding_of, tick_of, tick_by_of, ended_at, places, AreKnown, AreAhead, StandAt, IsClean, Link, IsWhole, coding_by, gone_on, has_ended, is_inside, leaf_type, ticked, ticked_by};
+ghost use Rattle.giop_decode.specs.Transitions.{HasOctetsLeft, coding_of, tick_of, tick_by_of, ended_at, open_parts, AreKnown, HaveOctetsLeft, StandAt, IsClean, Link, IsWhole, coding_by, gone_on, has_ended, is_inside, leaf_type, ticked, ticked_by};
 ghost use Rattle.giop_sig.specs.Fits.{IsFit, IsEmptyStruct, IsRoot};
-ghost use Rattle.giop_decode.specs.Recalling.{leaf_in_string};
+ghost use Rattle.giop_decode.specs.NotingSteps.{leaf_in_string};
 ghost use Rattle.giop_sig.specs.Trees.{tree};
 
 use crate::leaf::Leaf;
@@ -53,7 +53,7 @@ pub(crate) fn is_inside(was: bool, outer: &[Frame]) -> bool
 /// Counts an octet in each encapsulation, of which there is one or none.
 pub(crate) fn tick(inside: bool, outer: &mut ArrayVec<Frame, 24>)
     requires inside { inside ≡ is_inside outer.old.items }
-    requires ahead { AreAhead outer.old.items }
+    requires ahead { HaveOctetsLeft outer.old.items }
     ensures ticked { outer.new.items ≡ ticked outer.old.items }
 {
     if !inside {
@@ -66,7 +66,7 @@ pub(crate) fn tick(inside: bool, outer: &mut ArrayVec<Frame, 24>)
 
 /// A frame after an octet more, which is counted in an encapsulation.
 fn counted(frame: Frame) -> Frame
-    requires ahead { IsAhead frame }
+    requires ahead { HasOctetsLeft frame }
     ensures ticked { result ≡ tick_of frame }
 {
     match frame.inside {
@@ -82,7 +82,7 @@ fn counted(frame: Frame) -> Frame
 #[inline(always)]
 pub(crate) fn tick_by(inside: bool, outer: &mut ArrayVec<Frame, 24>, octets: usize)
     requires inside { inside ≡ is_inside outer.old.items }
-    requires ahead { AreAhead (ticked_by octets outer.old.items) }
+    requires ahead { HaveOctetsLeft (ticked_by octets outer.old.items) }
     ensures ticked { outer.new.items ≡ ticked_by octets outer.old.items }
 {
     if inside {
@@ -92,7 +92,7 @@ pub(crate) fn tick_by(inside: bool, outer: &mut ArrayVec<Frame, 24>, octets: usi
 
 /// Counts so many octets in each frame that is an encapsulation.
 fn tick_all(outer: &mut ArrayVec<Frame, 24>, octets: usize)
-    requires ahead { AreAhead (ticked_by octets outer.old.items) }
+    requires ahead { HaveOctetsLeft (ticked_by octets outer.old.items) }
     ensures ticked { outer.new.items ≡ ticked_by octets outer.old.items }
 {
     for frame in outer.iter_mut() {
@@ -102,7 +102,7 @@ fn tick_all(outer: &mut ArrayVec<Frame, 24>, octets: usize)
 
 /// A frame after so many octets more, which are counted in an encapsulation.
 fn counted_by(frame: Frame, octets: usize) -> Frame
-    requires ahead { IsAhead (tick_by_of octets frame) }
+    requires ahead { HasOctetsLeft (tick_by_of octets frame) }
     ensures ticked { result ≡ tick_by_of octets frame }
 {
     match frame.inside {
@@ -118,9 +118,9 @@ fn counted_by(frame: Frame, octets: usize) -> Frame
 #[inline(always)]
 pub(crate) fn before_end(inside: bool, outer: &[Frame], octets: usize) -> usize
     requires inside { inside ≡ is_inside outer.now }
-    requires ahead { AreAhead outer.now }
+    requires ahead { HaveOctetsLeft outer.now }
     ensures within { result ≤ octets }
-    ensures ahead { AreAhead (ticked_by result outer.now) }
+    ensures ahead { HaveOctetsLeft (ticked_by result outer.now) }
 {
     if !inside {
         return octets;
@@ -130,9 +130,9 @@ pub(crate) fn before_end(inside: bool, outer: &[Frame], octets: usize) -> usize
 
 /// How many of so many octets stand before the last one of each frame that is an encapsulation.
 fn before_ends(outer: &[Frame], octets: usize) -> usize
-    requires ahead { AreAhead outer.now }
+    requires ahead { HaveOctetsLeft outer.now }
     ensures within { result ≤ octets }
-    ensures ahead { AreAhead (ticked_by result outer.now) }
+    ensures ahead { HaveOctetsLeft (ticked_by result outer.now) }
 {
     let mut count = octets;
     for frame in outer {
@@ -143,9 +143,9 @@ fn before_ends(outer: &[Frame], octets: usize) -> usize
 
 /// How many of so many octets stand before the last one of a frame that is an encapsulation.
 fn before_last(frame: Frame, octets: usize) -> usize
-    requires ahead { IsAhead frame }
+    requires ahead { HasOctetsLeft frame }
     ensures within { result ≤ octets }
-    ensures ahead { IsAhead (tick_by_of result frame) }
+    ensures ahead { HasOctetsLeft (tick_by_of result frame) }
 {
     match frame.inside {
         Some(_) => octets.min((frame.count - frame.index - 1) as usize),
@@ -222,7 +222,7 @@ pub(crate) fn is_empty(catalogue: &Catalogue, t: TypeId) -> bool
 pub(crate) fn whole(catalogue: &Catalogue, t: TypeId) -> Option<u32>
     requires { t.0 < length catalogue.now.types }
     ensures whole { IfSome result (λ count. IsWhole (tree catalogue.now t.0) count) }
-    ensures number { IfNone result (HasHead (tree catalogue.now t.0)) }
+    ensures number { IfNone result (HasLeadingNumber (tree catalogue.now t.0)) }
 {
     match catalogue.shape(t) {
         Shape::Members(count) => Some(count),
@@ -246,12 +246,12 @@ pub(crate) fn begin(catalogue: &Catalogue, outer: &mut ArrayVec<Frame, 24>, t: T
     requires fit { IsFit (24 - array_vec_len outer.old) (tree catalogue.now t.0) }
     ensures known { result.0 < length catalogue.now.types }
     ensures known_outer { AreKnown catalogue.now outer.new.items }
-    ensures places { (at : ℕ) → places catalogue.now at outer.new.items
-        ≡ places catalogue.now at outer.old.items ++ start_outer (tree catalogue.now t.0) }
+    ensures open_parts { (at : ℕ) → open_parts catalogue.now at outer.new.items
+        ≡ open_parts catalogue.now at outer.old.items ++ start_outer (tree catalogue.now t.0) }
     ensures ended { has_ended outer.new.items ≡ has_ended outer.old.items }
     ensures inside { is_inside outer.new.items ≡ is_inside outer.old.items }
     ensures stand { (at : ℕ) → StandAt at outer.old.items → StandAt at outer.new.items }
-    ensures leaf { start_leaf (tree catalogue.now t.0) ≡ Head (tree catalogue.now result.0) [] }
+    ensures leaf { start_leaf (tree catalogue.now t.0) ≡ LeadingNumber (tree catalogue.now result.0) [] }
     ensures linked { (root : ℕ) → Link catalogue.now root outer.old.items t.0 →
         Link catalogue.now root outer.new.items result.0 }
 {
@@ -273,7 +273,7 @@ pub(crate) fn begin(catalogue: &Catalogue, outer: &mut ArrayVec<Frame, 24>, t: T
 #[inline(always)]
 pub(crate) fn go_on(catalogue: &Catalogue, outer: &mut ArrayVec<Frame, 24>) -> Option<Leaf>
     requires known { AreKnown catalogue.now outer.old.items }
-    requires open { (at : ℕ) × OpenFrom 24 (places catalogue.now at outer.old.items) }
+    requires open { (at : ℕ) × OpenFrom 24 (open_parts catalogue.now at outer.old.items) }
     ensures known { IfSome result (λ leaf. leaf_type leaf < length catalogue.now.types) }
     ensures clean { IfSome result (λ leaf. IsClean leaf [] []) }
     ensures silent { IfSome result (λ leaf.
@@ -281,8 +281,8 @@ pub(crate) fn go_on(catalogue: &Catalogue, outer: &mut ArrayVec<Frame, 24>) -> O
     ensures known_outer { AreKnown catalogue.now outer.new.items }
     ensures outside { is_inside outer.old.items ≡ false → is_inside outer.new.items ≡ false }
     ensures stand { (at : ℕ) → StandAt at outer.old.items → StandAt at outer.new.items }
-    ensures gone { (coding : Coding) (path : List Seg) (at : ℕ) →
-        around coding path (places catalogue.now at outer.old.items) (Done [] at [])
+    ensures gone { (coding : Coding) (path : List PathSegment) (at : ℕ) →
+        around coding path (open_parts catalogue.now at outer.old.items) (Done [] at [])
         ≡ gone_on catalogue.now at outer.new.items result }
     ensures linked { IfSome result (λ leaf. (root inner : ℕ) →
         Link catalogue.now root outer.old.items inner →

@@ -3,41 +3,41 @@
 ghost use Rattle.std.specs.Prelude.{◌≡◌, ℕ, ◌+◌, Bool, List, [], ◌∷◌, ◌++◌, length, flat_map};
 ghost use Rattle.giop_sig.specs.Types.{Ty};
 ghost use Rattle.giop_sig.specs.Fits.{IsFit};
-ghost use Rattle.giop_decode.specs.Spine.{Coding, Seg, Line, Place, Leaf, Short, lines_of};
+ghost use Rattle.giop_decode.specs.ReadResult.{Coding, PathSegment, Line, OpenPart, Leaf, Short, lines_of};
 ghost use Rattle.giop_decode.specs.Reading.{read};
 ghost use Rattle.giop_decode.specs.Begins.{start_outer, start_leaf};
-ghost use Rattle.giop_decode.specs.Steps.{step, advance, resumes, Now};
+ghost use Rattle.giop_decode.specs.ReadingSteps.{step, advance, resumes, IsOctetResult};
 ghost use Rattle.giop_decode.specs.Fits.{FitsIn, Sound, Surrounds};
-ghost use Rattle.giop_decode.specs.Heard.{heard_of};
-ghost use Rattle.giop_decode.specs.Memories.{TextPiece, pieces_of, AreUnended, IsLeft};
+ghost use Rattle.giop_decode.specs.Noted.{noted_of};
+ghost use Rattle.giop_decode.specs.NotedFromLines.{TextPiece, pieces_of, AreUnended, IsLeft};
 
 /// The reading of a list is told by the parts that the reading of a front of it has begun and not ended. It has no body,
 /// and is called for its contract.
 pub fn reading_laws()
     // One octet more is one step on those parts.
-    ensures step { (coding : Coding) (path : List Seg) (T : Ty) (at : ℕ) (s : List ℕ) (b : ℕ) →
+    ensures step { (coding : Coding) (path : List PathSegment) (T : Ty) (at : ℕ) (s : List ℕ) (b : ℕ) →
         read coding path T at (s ++ b ∷ []) ≡ advance coding path (read coding path T at s) b }
     // Many octets more are as many steps: a reading may be left and resumed anywhere.
-    ensures resumption { (coding : Coding) (path : List Seg) (T : Ty) (at : ℕ) (s t : List ℕ) →
+    ensures resumption { (coding : Coding) (path : List PathSegment) (T : Ty) (at : ℕ) (s t : List ℕ) →
         read coding path T at (s ++ t) ≡ resumes coding path (read coding path T at s) t }
     // The lines of a longer list begin with those of a shorter.
-    ensures lines { (coding : Coding) (path : List Seg) (T : Ty) (at : ℕ) (s t : List ℕ) →
+    ensures lines { (coding : Coding) (path : List PathSegment) (T : Ty) (at : ℕ) (s t : List ℕ) →
         (more : List Line)
         × (lines_of (read coding path T at (s ++ t)) ≡ lines_of (read coding path T at s) ++ more) }
     // A step has at most one line, which stands at its octet, and none where that breaks a rule of its own value; an octet
     // that only ends an encapsulation too soon has the line of what it completes.
-    ensures prompt { (coding : Coding) (path : List Seg) (outer : List Place) (leaf : Leaf)
+    ensures prompt { (coding : Coding) (path : List PathSegment) (outer : List OpenPart) (leaf : Leaf)
         (at b : ℕ) →
-        Now (at + 1) (step coding path outer leaf at b) }
+        IsOctetResult (at + 1) (step coding path outer leaf at b) }
     // Where each part takes some octet, the parts begun before the first octet are those that stand first in their wholes.
-    ensures begins { (d : ℕ) (coding : Coding) (path : List Seg) (T : Ty) (at : ℕ) → IsFit d T →
+    ensures begins { (d : ℕ) (coding : Coding) (path : List PathSegment) (T : Ty) (at : ℕ) → IsFit d T →
         read coding path T at [] ≡ Short [] at (start_outer T) (start_leaf T) }
     // The parts begun and not ended fit in the type, each in the one before, and no encapsulation among them has ended,
-    ensures sound { (d : ℕ) (coding : Coding) (path : List Seg) (T : Ty) (at : ℕ) (s : List ℕ) →
+    ensures sound { (d : ℕ) (coding : Coding) (path : List PathSegment) (T : Ty) (at : ℕ) (s : List ℕ) →
         IsFit d T →
         Sound T (at + length s) (read coding path T at s) }
     // and a step from any parts that fit, of which no encapsulation has ended, leaves such parts.
-    ensures kept { (d : ℕ) (coding : Coding) (path : List Seg) (T : Ty) (outer : List Place)
+    ensures kept { (d : ℕ) (coding : Coding) (path : List PathSegment) (T : Ty) (outer : List OpenPart)
         (leaf : Leaf) (at b : ℕ) → IsFit d T →
         FitsIn T outer leaf → Surrounds at outer →
         Sound T (at + 1) (step coding path outer leaf at b) }
@@ -45,10 +45,10 @@ pub fn reading_laws()
 
 /// What a reading leaves in mind is what its lines say last: of the values at the request id of a header, of the enums, and
 /// of the strings that are whole. It has no body, and is called for its contract.
-pub fn memory_laws()
-    ensures left { (is_header : Bool) (coding : Coding) (path : List Seg) (T : Ty) (at : ℕ)
+pub fn noting_laws()
+    ensures left { (is_header : Bool) (coding : Coding) (path : List PathSegment) (T : Ty) (at : ℕ)
         (s : List ℕ) →
-        IsLeft is_header (read coding path T at s) (heard_of is_header (read coding path T at s)) }
+        IsLeft is_header (read coding path T at s) (noted_of is_header (read coding path T at s)) }
     // Lines are the pieces of one list of contents at most.
     ensures one { (contents others : List (List ℕ)) (begun other : List TextPiece) →
         AreUnended begun → AreUnended other →

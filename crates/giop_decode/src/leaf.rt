@@ -1,17 +1,17 @@
 //! The innermost part that is begun and not ended, and what an octet turns it into.
 
 ghost use Rattle.std.specs.Prelude.{◌≡◌, ℕ, ◌+◌, ◌-◌, ◌%◌, ◌<◌, List, [], length};
-ghost use Rattle.giop_decode.specs.Spine.{Coding, Seg};
-ghost use Rattle.giop_decode.specs.Recalling.{Voices, leaf_in_string};
-ghost use Rattle.giop_decode.specs.Steps.{leaf_step};
+ghost use Rattle.giop_decode.specs.ReadResult.{Coding, PathSegment};
+ghost use Rattle.giop_decode.specs.NotingSteps.{OutputFitsString, leaf_in_string};
+ghost use Rattle.giop_decode.specs.ReadingSteps.{leaf_step};
 ghost use Rattle.giop_decode.specs.Fits.{FitsIn};
-ghost use Rattle.giop_decode.specs.Turns.{leaf_of, leaf_type, Turns, TurnsIn, CanSpeak, IsClean, still_held};
+ghost use Rattle.giop_decode.specs.Transitions.{leaf_of, leaf_type, TransitionGives, TransitionFits, HasOutput, IsClean, still_held};
 ghost use Rattle.giop_sig.specs.Fits.{IsFit};
 ghost use Rattle.giop_sig.specs.Trees.{tree};
 
 use crate::contents::take_content;
 use crate::encapsulation::take_order;
-use crate::heads::{take_number, take_value, width};
+use crate::leading_numbers::{take_number, take_value, width};
 use crate::progress::Kind;
 use arrayvec::ArrayVec;
 use giop_cdr::{Carry, Number, Order};
@@ -55,7 +55,7 @@ impl Leaf {
 
 /// What the innermost part has come to.
 #[derive(Clone, Copy, Debug, PartialEq, Eq)]
-pub(crate) enum Turn {
+pub(crate) enum Transition {
     /// It goes on.
     More(Leaf),
     /// It has ended.
@@ -72,7 +72,7 @@ pub(crate) enum Turn {
 
 /// What an octet gives to say.
 #[derive(Clone, Copy, Debug, PartialEq, Eq)]
-pub(crate) enum Spoken {
+pub(crate) enum Output {
     /// Nothing.
     Nothing,
     /// Nothing either: the length of a string has come, or was too great.
@@ -99,19 +99,19 @@ pub(crate) enum Spoken {
 /// What an octet does.
 #[derive(Clone, Copy, Debug)]
 pub(crate) struct Step {
-    pub(crate) turn: Turn,
-    pub(crate) spoken: Spoken,
+    pub(crate) transition: Transition,
+    pub(crate) output: Output,
 }
 
 /// An octet that breaks a rule.
 #[inline(always)]
 pub(crate) fn refused(kind: Kind) -> Step
-    ensures turn { result.turn ≡ Turn.Refused kind }
-    ensures spoken { result.spoken ≡ Spoken.Nothing }
+    ensures transition { result.transition ≡ Transition.Refused kind }
+    ensures output { result.output ≡ Output.Nothing }
 {
     Step {
-        turn: Turn::Refused(kind),
-        spoken: Spoken::Nothing,
+        transition: Transition::Refused(kind),
+        output: Output::Nothing,
     }
 }
 
@@ -131,14 +131,14 @@ pub(crate) fn take_octet(
         (leaf_of catalogue.now leaf carry.old piece.old.items) }
     requires fit { (d : ℕ) × IsFit d (tree catalogue.now (leaf_type leaf)) }
     requires clean { IsClean leaf carry.old piece.old.items }
-    ensures turns_in { TurnsIn (tree catalogue.now (leaf_type leaf)) (leaf_type leaf)
-        result.turn carry.new (still_held result.spoken piece.new.items) }
-    ensures speaks { CanSpeak (tree catalogue.now (leaf_type leaf)) result.spoken }
-    ensures voices { Voices (tree catalogue.now (leaf_type leaf))
-        (leaf_in_string (tree catalogue.now (leaf_type leaf)) leaf) result.turn result.spoken }
-    ensures turns { (coding : Coding) (path : List Seg) (here : ℕ) →
+    ensures transition_fits { TransitionFits (tree catalogue.now (leaf_type leaf)) (leaf_type leaf)
+        result.transition carry.new (still_held result.output piece.new.items) }
+    ensures has_output { HasOutput (tree catalogue.now (leaf_type leaf)) result.output }
+    ensures output_fits_string { OutputFitsString (tree catalogue.now (leaf_type leaf))
+        (leaf_in_string (tree catalogue.now (leaf_type leaf)) leaf) result.transition result.output }
+    ensures transitions { (coding : Coding) (path : List PathSegment) (here : ℕ) →
         coding.order ≡ order → (here - coding.origin) % 8 ≡ at →
-        Turns catalogue.now (tree catalogue.now (leaf_type leaf)) result.turn result.spoken
+        TransitionGives catalogue.now (tree catalogue.now (leaf_type leaf)) result.transition result.output
         carry.new piece.new.items path (here + 1)
         (leaf_step coding path (leaf_of catalogue.now leaf carry.old piece.old.items) here octet) }
 {
@@ -146,8 +146,8 @@ pub(crate) fn take_octet(
         Leaf::Number(of) => {
             if !take_number(carry, at, width(catalogue, of), octet) {
                 return Step {
-                    turn: Turn::More(leaf),
-                    spoken: Spoken::Nothing,
+                    transition: Transition::More(leaf),
+                    output: Output::Nothing,
                 };
             }
             let step = take_value(catalogue, order, of, carry.as_slice());

@@ -1,19 +1,19 @@
 //! The lines of a value: where it stands, and what is said of it.
 
 ghost use Rattle.std.specs.Prelude.{ℕ, ◌+◌, ◌<◌, ◌≤◌, List, [], ◌++◌, length};
-ghost use Rattle.giop_decode.specs.Spine.{Line};
-ghost use Rattle.giop_decode.specs.Spine as spines;
+ghost use Rattle.giop_decode.specs.ReadResult.{Line};
+ghost use Rattle.giop_decode.specs.ReadResult as spines;
 ghost use Rattle.giop_decode.specs.Fits.{HasContent};
 ghost use Rattle.giop_decode.specs.Spelling.{value_text, lines_text};
-ghost use Rattle.giop_decode.specs.Steps.{path_in};
-ghost use Rattle.giop_decode.specs.Turns.{places, AreKnown, IsNumberOf, IsSpoken, CanSpeak};
-ghost use Rattle.giop_decode.specs.Segments.{here_text};
+ghost use Rattle.giop_decode.specs.ReadingSteps.{path_in};
+ghost use Rattle.giop_decode.specs.Transitions.{open_parts, AreKnown, IsNumberOf, IsOutput, HasOutput};
+ghost use Rattle.giop_decode.specs.Segments.{current_path_text};
 ghost use Rattle.giop_print.specs.Output.{Writes};
 ghost use Rattle.giop_sig.specs.Trees.{tree};
 
+use crate::current_path::CurrentPath;
 use crate::frame::Frame;
-use crate::here::Here;
-use crate::leaf::Spoken;
+use crate::leaf::Output;
 use giop_cdr::Number;
 use giop_print::{
     Out, OutFault, Piece, Root, Value, encapsulation_line, order_line, split_inner_rest_line,
@@ -26,7 +26,7 @@ use giop_sig::{Catalogue, Shape, TypeId};
 fn number_line<O: Out>(
     catalogue: &Catalogue,
     message: u64,
-    path: &Here<'_>,
+    path: &CurrentPath<'_>,
     t: TypeId,
     number: Number,
     out: &mut O,
@@ -35,7 +35,7 @@ fn number_line<O: Out>(
     requires number { IsNumberOf (tree catalogue.now t.0) number }
     ensures { (is : IsNumberOf (tree catalogue.now t.0) number) →
         Writes result (O.log out.old) (O.log out.new)
-        (value_text message (here_text path.now) (spines.Number is.scalar is.n)) }
+        (value_text message (current_path_text path.now) (spines.Number is.scalar is.n)) }
 {
     match catalogue.shape(t) {
         Shape::Prim(prim) => value_line(out, message, path, Value::Primitive(prim, number)),
@@ -55,7 +55,7 @@ fn number_line<O: Out>(
 fn octets_line<O: Out>(
     catalogue: &Catalogue,
     message: u64,
-    path: &Here<'_>,
+    path: &CurrentPath<'_>,
     t: TypeId,
     held: &[u8],
     rest: &[u8],
@@ -67,7 +67,7 @@ fn octets_line<O: Out>(
     requires content { HasContent (tree catalogue.now t.0) }
     requires short { length held.now + length rest.now ≤ 32 }
     ensures { Writes result (O.log out.old) (O.log out.new)
-        (value_text message (here_text path.now)
+        (value_text message (current_path_text path.now)
         (spines.Piece (tree catalogue.now t.0) offset (held.now ++ rest.now) more)) }
 {
     match catalogue.shape(t) {
@@ -104,13 +104,13 @@ fn octets_line<O: Out>(
 /// Says what an octet of an innermost part of this type gives to say, where a piece has the octets that are held
 /// and the rest.
 #[inline(always)]
-pub(crate) fn say<O: Out>(
+pub(crate) fn write_line<O: Out>(
     catalogue: &Catalogue,
     message: u64,
     root: Root,
     outer: &[Frame],
     of: TypeId,
-    spoken: Spoken,
+    output: Output,
     held: &[u8],
     rest: &[u8],
     out: &mut O,
@@ -118,25 +118,25 @@ pub(crate) fn say<O: Out>(
     requires known { of.0 < length catalogue.now.types }
     requires known_outer { AreKnown catalogue.now outer.now }
     requires room { length outer.now < 24 }
-    requires speaks { CanSpeak (tree catalogue.now of.0) spoken }
+    requires has_output { HasOutput (tree catalogue.now of.0) output }
     requires short { length held.now + length rest.now ≤ 32 }
     ensures { (here at : ℕ) (lines : List Line) →
-        IsSpoken (tree catalogue.now of.0) (path_in [] (places catalogue.now here outer.now))
-        at spoken (held.now ++ rest.now) lines →
+        IsOutput (tree catalogue.now of.0) (path_in [] (open_parts catalogue.now here outer.now))
+        at output (held.now ++ rest.now) lines →
         Writes result (O.log out.old) (O.log out.new) (lines_text message root lines) }
 {
-    let here = Here {
+    let here = CurrentPath {
         catalogue,
         root,
         outer,
         switch: None,
     };
-    match spoken {
-        Spoken::Nothing => Ok(()),
-        Spoken::Length => Ok(()),
-        Spoken::Number(number) => number_line(catalogue, message, &here, of, number, out),
-        Spoken::Switch(number) => {
-            let path = Here {
+    match output {
+        Output::Nothing => Ok(()),
+        Output::Length => Ok(()),
+        Output::Number(number) => number_line(catalogue, message, &here, of, number, out),
+        Output::Switch(number) => {
+            let path = CurrentPath {
                 catalogue,
                 root,
                 outer,
@@ -145,10 +145,10 @@ pub(crate) fn say<O: Out>(
             let switch = catalogue.switch_type(of);
             number_line(catalogue, message, &path, switch, number, out)
         }
-        Spoken::Count(count) => value_line(out, message, &here, Value::Count(count)),
-        Spoken::Size(size) => encapsulation_line(out, message, &here, size),
-        Spoken::Ordered(order) => order_line(out, message, &here, order),
-        Spoken::Piece { offset, more } => {
+        Output::Count(count) => value_line(out, message, &here, Value::Count(count)),
+        Output::Size(size) => encapsulation_line(out, message, &here, size),
+        Output::Ordered(order) => order_line(out, message, &here, order),
+        Output::Piece { offset, more } => {
             octets_line(catalogue, message, &here, of, held, rest, offset, more, out)
         }
     }

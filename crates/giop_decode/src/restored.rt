@@ -7,10 +7,10 @@ ghost use Rattle.giop_cdr.specs.declared.order.Order.{Order as ByteOrder};
 ghost use Rattle.giop_decode.specs.declared.decoder.Decoder.{Decoder as State};
 ghost use Rattle.giop_decode.specs.declared.frame.Frame.{Frame as FrameState};
 ghost use Rattle.giop_decode.specs.declared.leaf.Leaf.{Leaf as Innermost};
-ghost use Rattle.giop_decode.specs.declared.memory.Buffer.{Buffer as BufferState};
-ghost use Rattle.giop_decode.specs.declared.memory.Memory.{Memory as MemoryState};
-ghost use Rattle.giop_decode.specs.Holding.{Fits, Reads};
-ghost use Rattle.giop_decode.specs.Stored.{order_octet, root_octet, leaf_octets, buffer_octet, memory_octets, inside_octet, frame_octets, frames_octets, frame_size, FrameHasRange, LeafHasRange, MemoryHasRange, Stored, IsKept, IsRestored};
+ghost use Rattle.giop_decode.specs.declared.notes.Buffer.{Buffer as BufferState};
+ghost use Rattle.giop_decode.specs.declared.notes.Notes.{Notes as MemoryState};
+ghost use Rattle.giop_decode.specs.DecoderState.{Fits, Reads};
+ghost use Rattle.giop_decode.specs.Stored.{order_octet, root_octet, leaf_octets, buffer_octet, notes_octets, inside_octet, frame_octets, frames_octets, frame_size, FrameHasRange, LeafHasRange, NotesHaveRange, Stored, IsKept, IsRestored};
 ghost use Rattle.giop_print.specs.declared.path.Root.{Root as PathRoot};
 ghost use Rattle.giop_sig.specs.Table.{Table};
 ghost use Rattle.giop_sig.specs.Types.{Ty};
@@ -18,7 +18,7 @@ ghost use Rattle.giop_sig.specs.Types.{Ty};
 use crate::decoder::Decoder;
 use crate::frame::{Frame, is_inside};
 use crate::leaf::Leaf;
-use crate::memory::{Buffer, Memory};
+use crate::notes::{Buffer, Notes};
 use crate::stored::FRAME_SIZE;
 use arrayvec::ArrayVec;
 use giop_cdr::{Carry, Order};
@@ -94,7 +94,7 @@ fn parsed(fixed: &[u8; 208], frames: &[u8]) -> Decoder
         leaf: Some(leaf_at(fixed, 11)),
         carry: carried(carry.as_slice()),
         piece: held_at(fixed, 33),
-        memory: memory_at(fixed, 66),
+        notes: notes_at(fixed, 66),
     }
 }
 
@@ -158,12 +158,12 @@ fn carried(octets: &[u8]) -> Carry
 }
 
 /// What was last heard, as it stands there.
-fn memory_at(octets: &[u8], at: usize) -> Memory
+fn notes_at(octets: &[u8], at: usize) -> Notes
     requires room { at + 140 ≤ length octets.now }
-    ensures { (memory : MemoryState) (rest : List ℕ) → MemoryHasRange memory →
-        drop at octets.now ≡ memory_octets memory ++ rest → IsKept memory result }
+    ensures { (notes : MemoryState) (rest : List ℕ) → NotesHaveRange notes →
+        drop at octets.now ≡ notes_octets notes ++ rest → IsKept notes result }
 {
-    Memory {
+    Notes {
         request_id: optional_at(octets, at),
         status: optional_at(octets, at + 5),
         buffer: buffer_at(octets, at + 10),

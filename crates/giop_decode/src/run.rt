@@ -2,19 +2,19 @@
 
 ghost use Rattle.std.specs.Prelude.{◌≡◌, ℕ, ◌+◌, ◌%◌, ◌^◌, ◌<◌, ◌≤◌, List, length, take, IfOk, IsTrue};
 ghost use Rattle.giop_cdr.specs.declared.order.Order.{Order as ByteOrder};
-ghost use Rattle.giop_decode.specs.Holding.{Fits, GoesOn, IsDone, Reads};
-ghost use Rattle.giop_decode.specs.Recalling.{IsPlain};
+ghost use Rattle.giop_decode.specs.DecoderState.{Fits, GoesOn, IsDone, Reads};
+ghost use Rattle.giop_decode.specs.NotingSteps.{IsPlain};
 ghost use Rattle.giop_decode.specs.Runs.{TakesRun, WritesRun, AllGathered, ComesWhole};
 ghost use Rattle.giop_print.specs.declared.path.Root.{Root as PathRoot};
 ghost use Rattle.giop_sig.specs.Trees.{tree};
 ghost use Rattle.giop_sig.specs.Types.{Ty};
 
-use crate::ahead::Ahead;
 use crate::contents::gather_content;
 use crate::decoder::Decoder;
 use crate::frame::{before_end, coding, tick_by};
-use crate::heads::{gather_number, width};
+use crate::leading_numbers::{gather_number, width};
 use crate::leaf::Leaf;
+use crate::lookahead::Lookahead;
 use crate::progress::Progress;
 use giop_print::{Out, OutFault};
 use giop_sig::Catalogue;
@@ -105,7 +105,7 @@ impl Decoder {
         &mut self,
         catalogue: &Catalogue,
         octets: &[u8],
-        ahead: Ahead<'_>,
+        ahead: Lookahead<'_>,
         is_plain: bool,
         out: &mut O,
     ) -> Result<(usize, Progress), OutFault>
@@ -113,7 +113,7 @@ impl Decoder {
         requires ahead { ComesWhole catalogue.now self.old octets.now ahead.of ahead.count
             ahead.step ahead.rest.now }
         requires plain { IsTrue is_plain →
-            IsPlain (tree catalogue.now ahead.of.0) ahead.step.spoken }
+            IsPlain (tree catalogue.now ahead.of.0) ahead.step.output }
         ensures writes { (T : Ty) (order : ByteOrder) (at message : ℕ) (root : PathRoot)
             (s : List ℕ) →
             Reads catalogue.now T order at message root self.old s →
@@ -130,7 +130,7 @@ impl Decoder {
     {
         let _octets = octets;
         self.at = further(self.at, ahead.count - 1);
-        let progress = self.tell(catalogue, ahead.of, ahead.step, ahead.rest, is_plain, out)?;
+        let progress = self.emit(catalogue, ahead.of, ahead.step, ahead.rest, is_plain, out)?;
         Ok((ahead.count, progress))
     }
 

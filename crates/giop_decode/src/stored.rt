@@ -3,15 +3,15 @@
 ghost use Rattle.std.specs.Prelude.{◌≡◌, ◌+◌, ◌*◌, ◌<◌, ◌≤◌, [], ◌∷◌, ◌++◌, length, take, drop};
 ghost use Rattle.std.specs.List.{AllByRecursion};
 ghost use Rattle.arrayvec.specs.ArrayVec.{array_vec_len};
-ghost use Rattle.giop_decode.specs.Holding.{Fits};
-ghost use Rattle.giop_decode.specs.Stored.{order_octet, root_octet, leaf_octets, buffer_octet, kept_name, memory_octets, fixed_octets, frame_size, inside_octet, frame_octets, frames_octets, own_frame, FrameHasRange, LeafHasRange, MemoryHasRange, HasRange, Stored};
+ghost use Rattle.giop_decode.specs.DecoderState.{Fits};
+ghost use Rattle.giop_decode.specs.Stored.{order_octet, root_octet, leaf_octets, buffer_octet, kept_name, notes_octets, fixed_octets, frame_size, inside_octet, frame_octets, frames_octets, own_frame, FrameHasRange, LeafHasRange, NotesHaveRange, HasRange, Stored};
 ghost use Rattle.giop_sig.specs.Table.{Table};
 ghost use Rattle.giop_sig.specs.Trees.{depth_of};
 
 use crate::decoder::Decoder;
 use crate::frame::Frame;
 use crate::leaf::Leaf;
-use crate::memory::{Buffer, Memory};
+use crate::notes::{Buffer, Notes};
 use arrayvec::ArrayVec;
 use giop_cdr::Order;
 use giop_octets::{put_eight, put_four, put_held, put_optional, put_zeros};
@@ -63,7 +63,7 @@ impl Decoder {
         put_leaf(out, leaf);
         put_held(out, self.carry.as_slice(), 8);
         put_held(out, self.piece.as_slice(), 32);
-        put_memory(out, &self.memory);
+        put_notes(out, &self.notes);
         put_zeros(out, 2);
     }
 }
@@ -119,16 +119,16 @@ fn put_leaf(out: &mut ArrayVec<u8, 208>, leaf: Leaf)
 }
 
 /// Writes what was last heard, in 140 octets.
-fn put_memory(out: &mut ArrayVec<u8, 208>, memory: &Memory)
+fn put_notes(out: &mut ArrayVec<u8, 208>, notes: &Notes)
     requires room { array_vec_len out.old + 140 ≤ 208 }
-    ensures put { out.new.items ≡ out.old.items ++ memory_octets memory.now }
+    ensures put { out.new.items ≡ out.old.items ++ notes_octets notes.now }
     ensures len { array_vec_len out.new ≡ array_vec_len out.old + 140 }
-    ensures range { MemoryHasRange memory.now }
+    ensures range { NotesHaveRange notes.now }
 {
-    put_optional(out, memory.request_id);
-    put_optional(out, memory.status);
-    out.push(buffer_octet(memory.buffer));
-    put_held(out, kept_name(memory), 128);
+    put_optional(out, notes.request_id);
+    put_optional(out, notes.status);
+    out.push(buffer_octet(notes.buffer));
+    put_held(out, kept_name(notes), 128);
 }
 
 /// The octet of a name buffer.
@@ -143,13 +143,13 @@ fn buffer_octet(buffer: Buffer) -> u8
 }
 
 /// What is kept of the name: nothing where the buffer is too short.
-fn kept_name(memory: &Memory) -> &[u8]
-    ensures name { result.now ≡ kept_name memory.now.buffer memory.now.name.items }
+fn kept_name(notes: &Notes) -> &[u8]
+    ensures name { result.now ≡ kept_name notes.now.buffer notes.now.name.items }
     ensures short { length result.now ≤ 128 }
-    ensures room { length memory.now.name.items ≤ 128 }
+    ensures room { length notes.now.name.items ≤ 128 }
 {
-    let name = memory.name.as_slice();
-    match memory.buffer {
+    let name = notes.name.as_slice();
+    match notes.buffer {
         Buffer::Begun => name,
         Buffer::Whole => name,
         Buffer::TooLong => &[],

@@ -1,5 +1,5 @@
 //! The decoder over an out with less room than its lines need.
-ghost use Rattle.giop_decode.specs.Holding.{Fits};
+ghost use Rattle.giop_decode.specs.DecoderState.{Fits};
 
 use crate::header_rows;
 use crate::octets::octets_of;

@@ -1,6 +1,6 @@
 //! The decoder by runs of octets: what the rows of the tables want comes of their octets however these are cut.
 ghost use Rattle.std.specs.Prelude.{◌≤◌, length, IfOk, IsTrue};
-ghost use Rattle.giop_decode.specs.Holding.{Fits, GoesOn};
+ghost use Rattle.giop_decode.specs.DecoderState.{Fits, GoesOn};
 
 use crate::declared_rows::declared_of;
 use crate::declared_tests::parameters_of;

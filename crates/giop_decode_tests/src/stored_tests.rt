@@ -1,6 +1,6 @@
 //! Decoders in mid-value, stored in octets and restored from them.
 ghost use Rattle.std.specs.Prelude.{IfOk, IfSome, OnOk};
-ghost use Rattle.giop_decode.specs.Holding.{Fits};
+ghost use Rattle.giop_decode.specs.DecoderState.{Fits};
 
 use crate::declared_tests::parameters_of;
 use crate::octets::octets_of;

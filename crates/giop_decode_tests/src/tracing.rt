@@ -1,7 +1,7 @@
 //! What comes of a value's octets, each told behind the number of octets taken: its lines, the answers other than that the
 //! value goes on, and what the readers tell where that has changed.
 ghost use Rattle.std.specs.Prelude.{IfOk, IsTrue};
-ghost use Rattle.giop_decode.specs.Holding.{Fits};
+ghost use Rattle.giop_decode.specs.DecoderState.{Fits};
 
 use crate::rows::Row;
 use giop_decode::{Decoder, Progress};

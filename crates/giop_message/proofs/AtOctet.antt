@@ -5,13 +5,13 @@ use Rattle.std.specs.List.{filter, list_any, AllByRecursion as Each}
 use Rattle.std.proofs.Math.Seq.{drop-append_seam}
 use Rattle.std.proofs.lemmas.Bool.{eq-eqb, ne_eqb}
 use Rattle.std.proofs.lemmas.List.Elements.{filter-append}
-use Rattle.giop_message.specs.Reading as said
-use Rattle.giop_message.specs.Reading.{Remark, is_fault}
-use Rattle.giop_message.specs.Text.{saying_line, said_text}
+use Rattle.giop_message.specs.MessageReader as said
+use Rattle.giop_message.specs.MessageReader.{TimedLine, is_fault}
+use Rattle.giop_message.specs.Text.{line_class_text, said_text}
 use Rattle.giop_message.specs.Signatures.{Signatures}
-use Rattle.giop_message.specs.Messages.{Speech, Said, Called, Left, Wrong, Incomplete, Ends, Told, may_lack, Stage, In_typed, In_padding, In_rest, Over, message, told_of, stage_of, close}
-use Rattle.giop_message.specs.MessageReading.{saying_of, text_of, remark_of, closing_of, reading_by, is_over, is_wrong}
-use Rattle.giop_message.specs.Holding.{speech_line, told_text, due, due_text, is_short, closing_text, remarks_text, closes_text}
+use Rattle.giop_message.specs.Messages.{MessageLine, ValueLine, CallLine, RestLine, FaultLine, ShortLine, EndLine, LineAt, body_may_be_missing, Stage, In_typed, In_padding, In_rest, Over, message, message_lines, stage_of, close}
+use Rattle.giop_message.specs.ReaderOfTable.{line_class_of, text_of, timed_line_of, closing_of, reader_by, is_over, is_wrong}
+use Rattle.giop_message.specs.MessageState.{message_line_text, message_lines_text, due, due_text, is_short, closing_text, timed_lines_text, closes_text}
 use Rattle.giop_message.proofs.Going.{message_goes}
 use Rattle.giop_message.proofs.Causal.{ToldAt, map_both, stands, one_more, ordered}
 use Rattle.giop_message.proofs.Faults.{over_where_faulted}
@@ -19,62 +19,62 @@ use Rattle.std.proofs.lemmas.List.{drop-map, length-map}
 
 -- ---- what is told of an octet, and what is said at it
 
-none_before : (n : ℕ) (told : List Told) → Each (λ t. t.at ≤ 12 + n) told →
-    filter (λ r. r.at == suc n) (map remark_of told) ≡ []
+none_before : (n : ℕ) (emitted : List LineAt) → Each (λ t. t.at ≤ 12 + n) emitted →
+    filter (λ r. r.at == suc n) (map timed_line_of emitted) ≡ []
 none_before n [] h = refl
 none_before n (t ∷ ts) h = rw (ne_eqb (t.at - 12) (suc n) (λ e. omega (arith, h.0))) (none_before n ts h.1)
 
-all_here : (n : ℕ) (told : List Told) → ToldAt ((12 + n) + 1) told →
-    filter (λ r. r.at == suc n) (map remark_of told) ≡ map remark_of told
+all_here : (n : ℕ) (emitted : List LineAt) → ToldAt ((12 + n) + 1) emitted →
+    filter (λ r. r.at == suc n) (map timed_line_of emitted) ≡ map timed_line_of emitted
 all_here n [] h = refl
 all_here n (t ∷ ts) h =
     let e : t.at - 12 ≡ suc n = omega (arith, h.0) in
-    rw (eq-eqb (t.at - 12) (suc n) e) (ap (λ (rs : List Remark). remark_of t ∷ rs) (all_here n ts h.1))
+    rw (eq-eqb (t.at - 12) (suc n) e) (ap (λ (rs : List TimedLine). timed_line_of t ∷ rs) (all_here n ts h.1))
 
 -- What is told of one octet more: where it stands, and that the reading says it.
 record One (S : Signatures) (header xs : List ℕ) (x : ℕ) : Type 0 where
-  told : told_of (message S header (xs ++ x ∷ []))
-      ≡ told_of (message S header xs) ++ due S header xs (x ∷ [])
+  emitted : message_lines (message S header (xs ++ x ∷ []))
+      ≡ message_lines (message S header xs) ++ due S header xs (x ∷ [])
   here : ToldAt ((12 + length xs) + 1) (due S header xs (x ∷ []))
-  said : said.due (reading_by S) header xs x ≡ map remark_of (due S header xs (x ∷ []))
+  said : said.due (reader_by S) header xs x ≡ map timed_line_of (due S header xs (x ∷ []))
 
 one_octet : (S : Signatures) (header xs : List ℕ) (x : ℕ) → One S header xs x
-unfolding due reading_by
+unfolding due reader_by
 one_octet S header xs x =
     let one = one_more S header (12 + length xs) (message S header xs) x (stands S header xs) in
-    let old = told_of (message S header xs) in
-    let told : told_of (message S header (xs ++ x ∷ [])) ≡ old ++ one.0 = ap told_of (message_goes S header xs x) ∙ one.1 in
-    let due_is : drop (length old) (told_of (message S header (xs ++ x ∷ []))) ≡ one.0 = ap (drop (length old)) told ∙ drop-append_seam old one.0 in
-    let here : Remark → Bool = λ r. r.at == suc (length xs) in
-    let said_is : filter here (map remark_of (told_of (message S header (xs ++ x ∷ [])))) ≡ map remark_of one.0 =
-    ap (λ ts. filter here (map remark_of ts)) told
-    ∙ (ap (filter here) (map_both remark_of old one.0)
-    ∙ (filter-append here (map remark_of old) (map remark_of one.0)
-    ∙ (ap (λ rs. rs ++ filter here (map remark_of one.0)) (none_before (length xs) old (ordered 0 S header xs).0)
+    let old = message_lines (message S header xs) in
+    let emitted : message_lines (message S header (xs ++ x ∷ [])) ≡ old ++ one.0 = ap message_lines (message_goes S header xs x) ∙ one.1 in
+    let due_is : drop (length old) (message_lines (message S header (xs ++ x ∷ []))) ≡ one.0 = ap (drop (length old)) emitted ∙ drop-append_seam old one.0 in
+    let here : TimedLine → Bool = λ r. r.at == suc (length xs) in
+    let said_is : filter here (map timed_line_of (message_lines (message S header (xs ++ x ∷ [])))) ≡ map timed_line_of one.0 =
+    ap (λ ts. filter here (map timed_line_of ts)) emitted
+    ∙ (ap (filter here) (map_both timed_line_of old one.0)
+    ∙ (filter-append here (map timed_line_of old) (map timed_line_of one.0)
+    ∙ (ap (λ rs. rs ++ filter here (map timed_line_of one.0)) (none_before (length xs) old (ordered 0 S header xs).0)
     ∙ all_here (length xs) one.0 one.2.0))) in
     record {
-      told = told ∙ ap (λ ts. old ++ ts) (sym due_is);
+      emitted = emitted ∙ ap (λ ts. old ++ ts) (sym due_is);
       here = rw due_is one.2.0;
-      said = said_is ∙ ap (map remark_of) (sym due_is);
+      said = said_is ∙ ap (map timed_line_of) (sym due_is);
     }
 
 -- what is said of one octet more
 pub due_said_is : (S : Signatures) (header xs : List ℕ) (x : ℕ) →
-    said.due (reading_by S) header xs x ≡ map remark_of (due S header xs (x ∷ []))
+    said.due (reader_by S) header xs x ≡ map timed_line_of (due S header xs (x ∷ []))
 due_said_is S header xs x = (one_octet S header xs x).said
 
-told_here : (number place offset : ℕ) (told : List Told) → ToldAt (offset + 1) told →
-    told_text number place offset told ≡ said_text (suc place) number (map remark_of told)
-unfolding told_text said_text speech_line
+told_here : (number place offset : ℕ) (emitted : List LineAt) → ToldAt (offset + 1) emitted →
+    message_lines_text number place offset emitted ≡ said_text (suc place) number (map timed_line_of emitted)
+unfolding message_lines_text said_text message_line_text
 told_here number place offset [] h = refl
 told_here number place offset (t ∷ ts) h =
     let e : place + (t.at - offset) ≡ suc place = omega (arith, h.0) in
-    rw e (ap (λ (z : List ℕ). saying_line (suc place) number (saying_of t.speech) (text_of t.speech) ++ z) (told_here number place offset ts h.1))
+    rw e (ap (λ (z : List ℕ). line_class_text (suc place) number (line_class_of t.message_line) (text_of t.message_line) ++ z) (told_here number place offset ts h.1))
 
 -- The text of an octet is that of what is said at it.
 pub octet_text : (S : Signatures) (number place : ℕ) (header xs : List ℕ) (x : ℕ) →
     due_text S number place header xs (x ∷ [])
-    ≡ said_text (suc place) number (said.due (reading_by S) header xs x)
+    ≡ said_text (suc place) number (said.due (reader_by S) header xs x)
 unfolding due_text
 octet_text S number place header xs x =
     let one = one_octet S header xs x in
@@ -82,27 +82,27 @@ octet_text S number place header xs x =
 
 -- ---- faults
 
-wrong_is : (t : Told) → is_wrong t ≡ is_fault (saying_of t.speech)
-unfolding is_wrong saying_of
-wrong_is t = go t.speech
+wrong_is : (t : LineAt) → is_wrong t ≡ is_fault (line_class_of t.message_line)
+unfolding is_wrong line_class_of
+wrong_is t = go t.message_line
   where
-    go : (s : Speech) → is_wrong (record { at = t.at; speech = s }) ≡ is_fault (saying_of s)
-    go (Said root path v) = refl
-    go (Called id operation) = refl
-    go (Left offset octets) = refl
-    go (Wrong why) = refl
-    go Incomplete = refl
-    go Ends = refl
+    go : (s : MessageLine) → is_wrong (record { at = t.at; message_line = s }) ≡ is_fault (line_class_of s)
+    go (ValueLine root path v) = refl
+    go (CallLine id operation) = refl
+    go (RestLine offset octets) = refl
+    go (FaultLine why) = refl
+    go ShortLine = refl
+    go EndLine = refl
 
-wrongs_are : (told : List Told) → list_any is_wrong told
-    ≡ list_any (λ r. is_fault r.saying) (map remark_of told)
+wrongs_are : (emitted : List LineAt) → list_any is_wrong emitted
+    ≡ list_any (λ r. is_fault r.line_class) (map timed_line_of emitted)
 wrongs_are [] = refl
 wrongs_are (t ∷ ts) = rw (wrong_is t, wrongs_are ts) refl
 
 or_of : (a b c : Bool) → (b ≡ c) → (a || b) ≡ (a || c)
 or_of a b c e = ap (λ (d : Bool). a || d) e
 
-any_both : (xs ys : List Told) → list_any is_wrong (xs ++ ys)
+any_both : (xs ys : List LineAt) → list_any is_wrong (xs ++ ys)
     ≡ (list_any is_wrong xs || list_any is_wrong ys)
 any_both [] ys = refl
 any_both (x ∷ xs) ys = or_of (is_wrong x) (list_any is_wrong (xs ++ ys)) (list_any is_wrong xs || list_any is_wrong ys) (any_both xs ys)
@@ -114,13 +114,13 @@ any_both (x ∷ xs) ys = or_of (is_wrong x) (list_any is_wrong (xs ++ ys)) (list
 
 over_more : (S : Signatures) (header xs : List ℕ) (x : ℕ) →
     is_over (stage_of (message S header (xs ++ x ∷ [])))
-    ≡ (is_over (stage_of (message S header xs)) || list_any (λ r. is_fault r.saying)
-    (said.due (reading_by S) header xs x))
+    ≡ (is_over (stage_of (message S header xs)) || list_any (λ r. is_fault r.line_class)
+    (said.due (reader_by S) header xs x))
 over_more S header xs x =
     let one = one_octet S header xs x in
-    let old = told_of (message S header xs) in
+    let old = message_lines (message S header xs) in
     over_where_faulted S header (xs ++ x ∷ [])
-    ∙ (ap (list_any is_wrong) one.told
+    ∙ (ap (list_any is_wrong) one.emitted
     ∙ (any_both old (due S header xs (x ∷ []))
     ∙ rw (over_where_faulted S header xs, one.said, wrongs_are (due S header xs (x ∷ []))) refl))
 
@@ -128,7 +128,7 @@ over_more S header xs x =
 pub octet_over : (S : Signatures) (header xs : List ℕ) (x : ℕ) →
     is_over (stage_of (message S header xs)) ≡ false →
     is_over (stage_of (message S header (xs ++ x ∷ [])))
-    ≡ list_any (λ r. is_fault r.saying) (said.due (reading_by S) header xs x)
+    ≡ list_any (λ r. is_fault r.line_class) (said.due (reader_by S) header xs x)
 octet_over S header xs x h = over_more S header xs x ∙ rw h refl
 
 -- ---- a close
@@ -136,52 +136,52 @@ octet_over S header xs x h = over_more S header xs x ∙ rw h refl
 -- A close says a fault where it is short.
 pub close_short : (S : Signatures) (header xs : List ℕ) →
     is_short (close (stage_of (message S header xs)))
-    ≡ list_any (λ l. is_fault l.0) ((reading_by S).closes header xs)
-unfolding reading_by is_short saying_of close
+    ≡ list_any (λ l. is_fault l.0) ((reader_by S).closes header xs)
+unfolding reader_by is_short line_class_of close
 close_short S header xs = go (stage_of (message S header xs))
   where
-    lack : (test : Bool) → is_short (if test then Ends ∷ [] else Incomplete ∷ [])
+    lack : (test : Bool) → is_short (if test then EndLine ∷ [] else ShortLine ∷ [])
         ≡ list_any (λ l. is_fault l.0)
-        (map closing_of (if test then Ends ∷ [] else Incomplete ∷ []))
+        (map closing_of (if test then EndLine ∷ [] else ShortLine ∷ []))
     lack true = refl
     lack false = refl
 
     go : (stage : Stage) → is_short (close stage)
         ≡ list_any (λ l. is_fault l.0) (map closing_of (close stage))
     go (In_typed section h outer leaf) = refl
-    go (In_padding t) = lack (may_lack t)
+    go (In_padding t) = lack (body_may_be_missing t)
     go (In_rest offset []) = refl
     go (In_rest offset (x ∷ held)) = refl
     go Over = refl
 
-each_remark : (number place n : ℕ) (told : List Told) →
-    flat_map (λ t. speech_line number (place + (t.at - (12 + n))) t.speech) told
-    ≡ remarks_text number place n (map remark_of told)
-unfolding speech_line remarks_text
+each_remark : (number place n : ℕ) (emitted : List LineAt) →
+    flat_map (λ t. message_line_text number (place + (t.at - (12 + n))) t.message_line) emitted
+    ≡ timed_lines_text number place n (map timed_line_of emitted)
+unfolding message_line_text timed_lines_text
 each_remark number place n [] = refl
 each_remark number place n (t ∷ ts) =
     let e : t.at - (12 + n) ≡ (t.at - 12) - n = omega arith in
-    rw e (ap (λ z. saying_line (place + ((t.at - 12) - n)) number (saying_of t.speech) (text_of t.speech) ++ z) (each_remark number place n ts))
+    rw e (ap (λ z. line_class_text (place + ((t.at - 12) - n)) number (line_class_of t.message_line) (text_of t.message_line) ++ z) (each_remark number place n ts))
 
 pub text_is : (S : Signatures) (number place : ℕ) (header s more : List ℕ) →
-    due_text S number place header s more ≡ remarks_text number place (length s)
-    (drop (length ((reading_by S).reads header s)) ((reading_by S).reads header (s ++ more)))
-unfolding due_text told_text due reading_by
+    due_text S number place header s more ≡ timed_lines_text number place (length s)
+    (drop (length ((reader_by S).reads header s)) ((reader_by S).reads header (s ++ more)))
+unfolding due_text message_lines_text due reader_by
 text_is S number place header s more =
-    each_remark number place (length s) (drop (length (told_of (message S header s))) (told_of (message S header (s ++ more))))
-    ∙ ap (remarks_text number place (length s))
-    (sym (ap (λ n. drop n (map remark_of (told_of (message S header (s ++ more))))) (length-map (told_of (message S header s)) remark_of)
-    ∙ drop-map remark_of (length (told_of (message S header s))) (told_of (message S header (s ++ more)))))
+    each_remark number place (length s) (drop (length (message_lines (message S header s))) (message_lines (message S header (s ++ more))))
+    ∙ ap (timed_lines_text number place (length s))
+    (sym (ap (λ n. drop n (map timed_line_of (message_lines (message S header (s ++ more))))) (length-map (message_lines (message S header s)) timed_line_of)
+    ∙ drop-map timed_line_of (length (message_lines (message S header s))) (message_lines (message S header (s ++ more)))))
 
-each_close : (number place : ℕ) (speeches : List Speech) →
-    flat_map (speech_line number place) speeches
+each_close : (number place : ℕ) (speeches : List MessageLine) →
+    flat_map (message_line_text number place) speeches
     ≡ closes_text number place (map closing_of speeches)
-unfolding speech_line closes_text
+unfolding message_line_text closes_text
 each_close number place [] = refl
-each_close number place (s ∷ ss) = ap (λ z. saying_line place number (saying_of s) (text_of s) ++ z) (each_close number place ss)
+each_close number place (s ∷ ss) = ap (λ z. line_class_text place number (line_class_of s) (text_of s) ++ z) (each_close number place ss)
 
 pub close_is : (S : Signatures) (number place : ℕ) (header s : List ℕ) →
     closing_text number place (close (stage_of (message S header s)))
-    ≡ closes_text number place ((reading_by S).closes header s)
-unfolding closing_text reading_by
+    ≡ closes_text number place ((reader_by S).closes header s)
+unfolding closing_text reader_by
 close_is S number place header s = each_close number place (close (stage_of (message S header s)))

@@ -8,49 +8,49 @@ use Rattle.giop_cdr.specs.Alignment.{padding}
 use Rattle.giop_print.specs.declared.path.Root.{Root}
 use Rattle.giop_sig.specs.Types.{Ty}
 use Rattle.giop_decode.specs.declared.progress.Kind.{Kind}
-use Rattle.giop_decode.specs.Spine.{plain, Seg, Value as Valued, Line, Read, Done, Short, Fault}
+use Rattle.giop_decode.specs.ReadResult.{plain, PathSegment, Value as Valued, Line, Read, Done, Short, Fault}
 use Rattle.giop_decode.specs.Reading.{read}
-use Rattle.giop_decode.specs.Steps as decoder
-use Rattle.giop_decode.specs.Steps.{Quiet, OneAt, Now}
-use Rattle.giop_decode.specs.Heard.{Heard, nothing, hear, heard, ends_operation, is_header_root}
+use Rattle.giop_decode.specs.ReadingSteps as decoder
+use Rattle.giop_decode.specs.ReadingSteps.{IsEmptyResult, OneAt, IsOctetResult}
+use Rattle.giop_decode.specs.Noted.{Noted, nothing_noted, note, noted, ends_operation, is_header_root}
 use Rattle.giop_decode.proofs.ReadingLaws.{length_one_more, each_append, read_quiet, step_now}
 use Rattle.giop_message.specs.declared.part.Section.{Section}
 use Rattle.giop_message.specs.Headers.{order}
-use Rattle.giop_message.specs.Reading.{Saying, Remark, InTurn, IsOrdered, IsCausal}
+use Rattle.giop_message.specs.MessageReader.{LineClass, TimedLine, AreInLineOrder, IsOrdered, IsCausal}
 use Rattle.giop_message.specs.Signatures.{Signatures}
-use Rattle.giop_message.specs.Messages.{Said, Called, Left, Wrong, Told, tell, is_shown, call_of, calls, tells, BodyType, Stage, In_typed, In_padding, In_rest, Over, Message, Comes, with_front, passes, rest_in, rest, body, padded, message, told_of, root_of, may_call, after, through}
-use Rattle.giop_message.specs.Steps.{rest_step, message_step, advance}
-use Rattle.giop_message.specs.MessageReading.{saying_of, remark_of, reading_by}
+use Rattle.giop_message.specs.Messages.{ValueLine, CallLine, RestLine, FaultLine, LineAt, line_at, is_shown, call_of, calls, section_lines, BodyType, Stage, In_typed, In_padding, In_rest, Over, Message, ReadTo, with_front, section_then, rest_in, rest, body, padded, message, message_lines, root_of, may_call, after, section_and_rest}
+use Rattle.giop_message.specs.StageSteps.{rest_step, message_step, advance}
+use Rattle.giop_message.specs.ReaderOfTable.{line_class_of, timed_line_of, reader_by}
 use Rattle.giop_message.proofs.LastParts.{CallsNone, step_none}
 use Rattle.giop_message.proofs.StepLines.{one_faulted}
 use Rattle.giop_message.proofs.Going.{front_none, body_has, after_has, message_has, message_goes}
 
-abbrev pub ToldAt : ℕ → List Told → Type 0
-ToldAt n told = Each (λ t. t.at ≡ n) told
+abbrev pub ToldAt : ℕ → List LineAt → Type 0
+ToldAt n emitted = Each (λ t. t.at ≡ n) emitted
 
 -- what no octets come to
 abbrev pub Silent : ℕ → Message → Type 0
-Silent n (Comes told at stage) = (told ≡ []) × (at ≡ n)
+Silent n (ReadTo emitted at stage) = (emitted ≡ []) × (at ≡ n)
 
 -- lines of one octet
-abbrev pub Turn : ℕ → List Told → Type 0
-Turn n told = ToldAt n told × InTurn (map (λ t. saying_of t.speech) told)
+abbrev pub Turn : ℕ → List LineAt → Type 0
+Turn n emitted = ToldAt n emitted × AreInLineOrder (map (λ t. line_class_of t.message_line) emitted)
 
 -- what an octet comes to, up to this offset
 abbrev pub Prompt : ℕ → Message → Type 0
-Prompt n (Comes told at stage) = Turn n told × ((at ≡ n) ⊎ (stage ≡ Over))
+Prompt n (ReadTo emitted at stage) = Turn n emitted × ((at ≡ n) ⊎ (stage ≡ Over))
 
 silent_prompt : (n : ℕ) (m : Message) → Silent n m → Prompt n m
-silent_prompt n (Comes told at stage) h = rw h.0 ((tt, inl refl), inl h.1)
+silent_prompt n (ReadTo emitted at stage) h = rw h.0 ((tt, inl refl), inl h.1)
 
-prompt_front : (n : ℕ) (front : List Told) (m : Message) → Turn n front → Silent n m →
+prompt_front : (n : ℕ) (front : List LineAt) (m : Message) → Turn n front → Silent n m →
     Prompt n (with_front front m)
 unfolding with_front
-prompt_front n front (Comes told at stage) h k = rw (k.0, append-nil front) (h, inl k.1)
+prompt_front n front (ReadTo emitted at stage) h k = rw (k.0, append-nil front) (h, inl k.1)
 
 -- one call line, or none
-abbrev pub MayCall : ℕ → List Told → Type 0
-MayCall n told = (told ≡ []) ⊎ ((id : ℕ) × (operation : List ℕ) × (told ≡ tell n (Called id operation) ∷ []))
+abbrev pub MayCall : ℕ → List LineAt → Type 0
+MayCall n emitted = (emitted ≡ []) ⊎ ((id : ℕ) × (operation : List ℕ) × (emitted ≡ line_at n (CallLine id operation) ∷ []))
 
 call_is : (n : ℕ) (id : Option ℕ) (name : Option (List ℕ)) → MayCall n (call_of n id name)
 unfolding call_of
@@ -58,61 +58,61 @@ call_is n None name = inl refl
 call_is n (Some id) None = inl refl
 call_is n (Some id) (Some name) = go (is_shown name)
   where
-    go : (test : Bool) → MayCall n (if test then tell n (Called id name) ∷ [] else [])
+    go : (test : Bool) → MayCall n (if test then line_at n (CallLine id name) ∷ [] else [])
     go true = inr (id, name, refl)
     go false = inl refl
 
-call_by : (n : ℕ) (test : Bool) (ts : List Told) → MayCall n ts →
+call_by : (n : ℕ) (test : Bool) (ts : List LineAt) → MayCall n ts →
     MayCall n (if test then ts else [])
 call_by n true ts h = h
 call_by n false ts h = inl refl
 
-pub calls_is : (is : Bool) (l : Line) (h : Heard) → MayCall l.at (calls is l h)
+pub calls_is : (is : Bool) (l : Line) (h : Noted) → MayCall l.at (calls is l h)
 unfolding calls
 calls_is is l h = call_by l.at (ends_operation is l) (call_of l.at h.request_id h.name) (call_is l.at h.request_id h.name)
 
-value_turn : (n : ℕ) (root : Root) (path : List Seg) (v : Valued) (more : List Told) →
-    MayCall n more → Turn n ((tell n (Said root path v) ∷ more) ++ [])
-unfolding tell saying_of
+value_turn : (n : ℕ) (root : Root) (path : List PathSegment) (v : Valued) (more : List LineAt) →
+    MayCall n more → Turn n ((line_at n (ValueLine root path v) ∷ more) ++ [])
+unfolding line_at line_class_of
 value_turn n root path v more (inl e) = rw e ((refl, tt), inr (inl refl))
 value_turn n root path v more (inr f) = rw f.2 ((refl, (refl, tt)), inr (inr (inl refl)))
 
-tells_turn : (root : Root) (is : Bool) (n : ℕ) (h : Heard) (lines : List Line) → OneAt n lines →
-    Turn n (tells root is h lines)
-unfolding tells
+tells_turn : (root : Root) (is : Bool) (n : ℕ) (h : Noted) (lines : List Line) → OneAt n lines →
+    Turn n (section_lines root is h lines)
+unfolding section_lines
 tells_turn root is n h [] e = (tt, inl refl)
 tells_turn root is n h (l ∷ []) e =
-    let now = hear (is_header_root root) h l in
-    subst (λ m. Turn m ((tell l.at (Said root l.path l.value) ∷ calls is l now) ++ [])) e
+    let now = note (is_header_root root) h l in
+    subst (λ m. Turn m ((line_at l.at (ValueLine root l.path l.value) ∷ calls is l now) ++ [])) e
     (value_turn l.at root l.path l.value (calls is l now) (calls_is is l now))
 tells_turn root is n h (l ∷ l' ∷ ls) e = absurd e
 
-module _ (section : Section) (is : Bool) (next : Heard → ℕ → List ℕ → Message) (n : ℕ)
-    (silent : (k : Heard) → Silent n (next k n [])) where
+module _ (section : Section) (is : Bool) (next : Noted → ℕ → List ℕ → Message) (n : ℕ)
+    (silent : (k : Noted) → Silent n (next k n [])) where
   abbrev R : Root
   R = root_of section
 
-  pub passes_silent : (k : Heard) (r : Read) → Quiet n r → Silent n (passes section is next k r)
-  unfolding passes tells
+  pub passes_silent : (k : Noted) (r : Read) → IsEmptyResult n r → Silent n (section_then section is next k r)
+  unfolding section_then section_lines
   passes_silent k (Done lines at s) h = rw (h.0, h.1, h.2, front_none (next k n [])) (silent k)
   passes_silent k (Short lines at outer leaf) h = rw (h.0, h.1) (refl, refl)
   passes_silent k (Fault lines at why T) h = absurd h
 
   -- a fault, and the value that its octet completes
-  faulted_turn : (k : Heard) (lines : List Line) (at : ℕ) (why : Kind) → at ≡ n → OneAt n lines →
+  faulted_turn : (k : Noted) (lines : List Line) (at : ℕ) (why : Kind) → at ≡ n → OneAt n lines →
       Each (λ l. ends_operation is l ≡ false) lines →
-      Turn n (tells R is k lines ++ tell at (Wrong why) ∷ [])
-  unfolding tell tells calls saying_of
+      Turn n (section_lines R is k lines ++ line_at at (FaultLine why) ∷ [])
+  unfolding line_at section_lines calls line_class_of
   faulted_turn k [] at why e one none = ((e, tt), inr (inr (inr (inr (inl refl)))))
   faulted_turn k (l ∷ []) at why e one none = rw none.0 ((one, (e, tt)), inr (inr (inr (inr (inr refl)))))
   faulted_turn k (l ∷ l' ∷ ls) at why e one none = absurd one
 
-  passes_prompt : (k : Heard) (r : Read) → Now n r → CallsNone is r →
-      Prompt n (passes section is next k r)
-  unfolding passes tell tells saying_of
+  passes_prompt : (k : Noted) (r : Read) → IsOctetResult n r → CallsNone is r →
+      Prompt n (section_then section is next k r)
+  unfolding section_then line_at section_lines line_class_of
   passes_prompt k (Done lines at s) h none =
-      let now = heard (is_header_root R) k lines in
-      rw (h.1, h.2) (prompt_front n (tells R is k lines) (next now n []) (tells_turn R is n k lines h.0) (silent now))
+      let now = noted (is_header_root R) k lines in
+      rw (h.1, h.2) (prompt_front n (section_lines R is k lines) (next now n []) (tells_turn R is n k lines h.0) (silent now))
   passes_prompt k (Short lines at outer leaf) h none = (tells_turn R is n k lines h.0, inl h.1)
   passes_prompt k (Fault lines at why T) h none = (faulted_turn k lines at why h.1 (one_faulted n why lines h.0) none, inr refl)
 
@@ -126,10 +126,10 @@ IsSilent reader = (n : ℕ) → Silent n (reader n [])
 
 module _ (S : Signatures) (header : List ℕ) where
   reads_silent : (section : Section) (T : Ty) →
-      ((h : Heard) → IsSilent (after S header section h)) →
-      IsSilent (λ at s. through S header section nothing (read (plain (order header)) [] T at s))
+      ((h : Noted) → IsSilent (after S header section h)) →
+      IsSilent (λ at s. section_and_rest S header section nothing_noted (read (plain (order header)) [] T at s))
   reads_silent section T silent n =
-      passes_silent section (may_call header section) (after S header section) n (λ k. silent k n) nothing (read (plain (order header)) [] T n [])
+      passes_silent section (may_call header section) (after S header section) n (λ k. silent k n) nothing_noted (read (plain (order header)) [] T n [])
       (read_quiet (plain (order header)) [] T n)
 
   padded_silent : (t : BodyType) → IsSilent (body S header t) → IsSilent (padded S header t)
@@ -137,7 +137,7 @@ module _ (S : Signatures) (header : List ℕ) where
   padded_silent t silent n = go (cases_lt 0 (padding n 8))
     where
       go : (0 < padding n 8) ⊎ (padding n 8 ≤ 0) → Silent n
-          (if nat_lt 0 (padding n 8) then Comes [] (n + 0) (In_padding t)
+          (if nat_lt 0 (padding n 8) then ReadTo [] (n + 0) (In_padding t)
           else body S header t (n + padding n 8) (drop (padding n 8) []))
       go (inl h) = rw (lt-ltb 0 (padding n 8) h) (refl, add-zero n)
       go (inr h) = let e : padding n 8 ≡ 0 = omega arith in rw (e, add-zero n) (silent n)
@@ -145,7 +145,7 @@ module _ (S : Signatures) (header : List ℕ) where
   pub body_silent : (t : BodyType) (n : ℕ) → Silent n (body S header t n [])
   body_silent t = body_has S header IsSilent rest_silent reads_silent padded_silent t
 
-  pub after_silent : (section : Section) (k : Heard) (n : ℕ) →
+  pub after_silent : (section : Section) (k : Noted) (n : ℕ) →
       Silent n (after S header section k n [])
   after_silent section k = after_has S header IsSilent rest_silent reads_silent padded_silent section k
 
@@ -154,9 +154,9 @@ module _ (S : Signatures) (header : List ℕ) where
   message_silent = message_has S header IsSilent rest_silent reads_silent padded_silent 12
 
 rest_by : (offset : ℕ) (held : List ℕ) (n : ℕ) (test : Bool) →
-    Prompt n (if test then Comes (tell n (Left offset held) ∷ []) n (In_rest (offset + 32) [])
-    else Comes [] n (In_rest offset held))
-unfolding tell saying_of
+    Prompt n (if test then ReadTo (line_at n (RestLine offset held) ∷ []) n (In_rest (offset + 32) [])
+    else ReadTo [] n (In_rest offset held))
+unfolding line_at line_class_of
 rest_by offset held n true = (((refl, tt), inr (inr (inr (inl refl)))), inl refl)
 rest_by offset held n false = ((tt, inl refl), inl refl)
 
@@ -170,7 +170,7 @@ step_prompt S header at (In_typed section k outer leaf) b =
 step_prompt S header at (In_padding t) b = go (nat_lt 1 (padding at 8))
   where
     go : (test : Bool) → Prompt (at + 1)
-        (if test then Comes [] (at + 1) (In_padding t) else body S header t (at + 1) [])
+        (if test then ReadTo [] (at + 1) (In_padding t) else body S header t (at + 1) [])
     go true = ((tt, inl refl), inl refl)
     go false = silent_prompt (at + 1) (body S header t (at + 1) []) (body_silent S header t (at + 1))
 step_prompt S header at (In_rest offset held) b = rest_by offset (held ++ b ∷ []) (at + 1) (length (held ++ b ∷ []) == 32)
@@ -178,16 +178,16 @@ step_prompt S header at Over b = ((tt, inl refl), inr refl)
 
 -- where a message stands after so many octets, unless it is over
 abbrev pub Stands : ℕ → Message → Type 0
-Stands n (Comes told at stage) = (at ≡ n) ⊎ (stage ≡ Over)
+Stands n (ReadTo emitted at stage) = (at ≡ n) ⊎ (stage ≡ Over)
 
 stands_more : (S : Signatures) (header : List ℕ) (n : ℕ) (m : Message) (b : ℕ) → Stands n m →
     Stands (n + 1) (advance S header m b)
 unfolding advance with_front message_step
-stands_more S header n (Comes told at stage) b (inl h) = go (message_step S header at stage b) (step_prompt S header at stage b)
+stands_more S header n (ReadTo emitted at stage) b (inl h) = go (message_step S header at stage b) (step_prompt S header at stage b)
   where
-    go : (m : Message) → Prompt (at + 1) m → Stands (n + 1) (with_front told m)
-    go (Comes more at' stage') k = rw (← h) k.1
-stands_more S header n (Comes told at stage) b (inr h) = rw h (inr refl)
+    go : (m : Message) → Prompt (at + 1) m → Stands (n + 1) (with_front emitted m)
+    go (ReadTo more at' stage') k = rw (← h) k.1
+stands_more S header n (ReadTo emitted at stage) b (inr h) = rw h (inr refl)
 
 -- Induction that adds at the end.
 grown : {A : Type 0} (P : List A → Type 0) → ((xs : List A) (x : A) → P xs → P (xs ++ x ∷ [])) →
@@ -199,44 +199,44 @@ pub stands : (S : Signatures) (header xs : List ℕ) → Stands (12 + length xs)
 stands S header xs = grown (λ xs. Stands (12 + length xs) (message S header xs)) more [] xs (none (message S header []) (message_silent S header))
   where
     none : (m : Message) → Silent 12 m → Stands 12 m
-    none (Comes told at stage) h = inl h.1
+    none (ReadTo emitted at stage) h = inl h.1
 
     more : (xs : List ℕ) (b : ℕ) → Stands (12 + length xs) (message S header xs) →
         Stands (12 + length (xs ++ b ∷ [])) (message S header (xs ++ b ∷ []))
     more xs b h = rw (message_goes S header xs b, length_one_more xs b, ← add_assoc) (stands_more S header (12 + length xs) (message S header xs) b h)
 
 -- lines behind so many octets
-abbrev pub Behind : ℕ → List Told → Type 0
-Behind n told = Each (λ t. n < t.at) told
+abbrev pub Behind : ℕ → List LineAt → Type 0
+Behind n emitted = Each (λ t. n < t.at) emitted
 
-behind_at : (n : ℕ) (told : List Told) → ToldAt (n + 1) told → Behind n told
+behind_at : (n : ℕ) (emitted : List LineAt) → ToldAt (n + 1) emitted → Behind n emitted
 behind_at n [] h = tt
 behind_at n (t ∷ ts) h = (omega (arith, h.0), behind_at n ts h.1)
 
-behind_less : (n m : ℕ) (told : List Told) → n ≤ m → Behind m told → Behind n told
+behind_less : (n m : ℕ) (emitted : List LineAt) → n ≤ m → Behind m emitted → Behind n emitted
 behind_less n m [] h k = tt
 behind_less n m (t ∷ ts) h k = (omega (arith, k.0), behind_less n m ts h k.1)
 
 pub one_more : (S : Signatures) (header : List ℕ) (n : ℕ) (m : Message) (b : ℕ) → Stands n m →
-    (more : List Told) × (told_of (advance S header m b) ≡ told_of m ++ more) × Turn (n + 1) more
-unfolding advance with_front message_step told_of
-one_more S header n (Comes told at stage) b (inl h) = go (message_step S header at stage b) (step_prompt S header at stage b)
+    (more : List LineAt) × (message_lines (advance S header m b) ≡ message_lines m ++ more) × Turn (n + 1) more
+unfolding advance with_front message_step message_lines
+one_more S header n (ReadTo emitted at stage) b (inl h) = go (message_step S header at stage b) (step_prompt S header at stage b)
   where
     go : (m : Message) → Prompt (at + 1) m →
-        (more : List Told) × (told_of (with_front told m) ≡ told ++ more) × Turn (n + 1) more
-    go (Comes more at' stage') k = (more, refl, rw (← h) k.0)
-one_more S header n (Comes told at stage) b (inr h) = ([], rw h refl, (tt, inl refl))
+        (more : List LineAt) × (message_lines (with_front emitted m) ≡ emitted ++ more) × Turn (n + 1) more
+    go (ReadTo more at' stage') k = (more, refl, rw (← h) k.0)
+one_more S header n (ReadTo emitted at stage) b (inr h) = ([], rw h refl, (tt, inl refl))
 
-pub told_begins : (S : Signatures) (header xs more : List ℕ) → (later : List Told)
-    × (told_of (message S header (xs ++ more)) ≡ told_of (message S header xs) ++ later)
+pub told_begins : (S : Signatures) (header xs more : List ℕ) → (later : List LineAt)
+    × (message_lines (message S header (xs ++ more)) ≡ message_lines (message S header xs) ++ later)
     × Behind (12 + length xs) later
-told_begins S header xs [] = ([], ap (λ s. told_of (message S header s)) (append-nil xs) ∙ sym (append-nil (told_of (message S header xs))), tt)
+told_begins S header xs [] = ([], ap (λ s. message_lines (message S header s)) (append-nil xs) ∙ sym (append-nil (message_lines (message S header xs))), tt)
 told_begins S header xs (b ∷ more) =
     let one = one_more S header (12 + length xs) (message S header xs) b (stands S header xs) in
     let all = told_begins S header (xs ++ b ∷ []) more in (
       one.0 ++ all.0,
-      ap (λ s. told_of (message S header s)) (sym (append_assoc xs (b ∷ []) more))
-          ∙ (all.1 ∙ (ap (λ ts. ts ++ all.0) (ap told_of (message_goes S header xs b) ∙ one.1) ∙ append_assoc (told_of (message S header xs)) one.0 all.0)),
+      ap (λ s. message_lines (message S header s)) (sym (append_assoc xs (b ∷ []) more))
+          ∙ (all.1 ∙ (ap (λ ts. ts ++ all.0) (ap message_lines (message_goes S header xs b) ∙ one.1) ∙ append_assoc (message_lines (message S header xs)) one.0 all.0)),
       each_append (λ t. 12 + length xs < t.at) one.0 all.0 (behind_at (12 + length xs) one.0 one.2.0)
           (behind_less (12 + length xs) (12 + length (xs ++ b ∷ [])) all.0 (omega (arith, length_one_more xs b)) all.2),
     )
@@ -245,90 +245,90 @@ pub map_both : {A B : Type 0} (f : A → B) (xs ys : List A) → map f (xs ++ ys
 map_both f [] ys = refl
 map_both {A} {B} f (x ∷ xs) ys = ap (λ (zs : List B). f x ∷ zs) (map_both f xs ys)
 
-later_none : (n k : ℕ) (told : List Told) → Behind (12 + n) told → k ≤ n →
-    filter (λ r. r.at == k) (map remark_of told) ≡ []
+later_none : (n k : ℕ) (emitted : List LineAt) → Behind (12 + n) emitted → k ≤ n →
+    filter (λ r. r.at == k) (map timed_line_of emitted) ≡ []
 later_none n k [] h below = refl
 later_none n k (t ∷ ts) h below = rw (ne_eqb (t.at - 12) k (λ e. omega (arith, h.0))) (later_none n k ts h.1 below)
 
 -- More octets change nothing that was said of those before them.
-pub is_causal : (S : Signatures) → IsCausal (reading_by S)
-unfolding reading_by
+pub is_causal : (S : Signatures) → IsCausal (reader_by S)
+unfolding reader_by
 is_causal S = record {
   earlier = λ header xs more k below.
       let all = told_begins S header xs more in
-      let at_k : Remark → Bool = λ r. r.at == k in
-      ap (λ ts. filter at_k (map remark_of ts)) all.1
-      ∙ (ap (filter at_k) (map_both remark_of (told_of (message S header xs)) all.0)
-      ∙ (filter-append at_k (map remark_of (told_of (message S header xs))) (map remark_of all.0)
-      ∙ (ap (λ ls. filter at_k (map remark_of (told_of (message S header xs))) ++ ls) (later_none (length xs) k all.0 all.2 below)
-      ∙ append-nil (filter at_k (map remark_of (told_of (message S header xs)))))));
+      let at_k : TimedLine → Bool = λ r. r.at == k in
+      ap (λ ts. filter at_k (map timed_line_of ts)) all.1
+      ∙ (ap (filter at_k) (map_both timed_line_of (message_lines (message S header xs)) all.0)
+      ∙ (filter-append at_k (map timed_line_of (message_lines (message S header xs))) (map timed_line_of all.0)
+      ∙ (ap (λ ls. filter at_k (map timed_line_of (message_lines (message S header xs))) ++ ls) (later_none (length xs) k all.0 all.2 below)
+      ∙ append-nil (filter at_k (map timed_line_of (message_lines (message S header xs)))))));
 }
 
 -- ---- the lines of one octet
 
 module _ (k : ℕ) where
-  abbrev At_k : Remark → Bool
+  abbrev At_k : TimedLine → Bool
   At_k r = r.at == k
 
-  abbrev Sayings : List Told → List Saying
-  Sayings ts = map (λ r. r.saying) (filter At_k (map remark_of ts))
+  abbrev Sayings : List LineAt → List LineClass
+  Sayings ts = map (λ r. r.line_class) (filter At_k (map timed_line_of ts))
 
-  sayings_append : (xs ys : List Told) → Sayings (xs ++ ys) ≡ Sayings xs ++ Sayings ys
+  sayings_append : (xs ys : List LineAt) → Sayings (xs ++ ys) ≡ Sayings xs ++ Sayings ys
   sayings_append xs ys =
-      ap (λ ls. map (λ r. r.saying) (filter At_k ls)) (map_both remark_of xs ys)
-      ∙ (ap (map (λ r. r.saying)) (filter-append At_k (map remark_of xs) (map remark_of ys))
-      ∙ map_both (λ r. r.saying) (filter At_k (map remark_of xs)) (filter At_k (map remark_of ys)))
+      ap (λ ls. map (λ r. r.line_class) (filter At_k ls)) (map_both timed_line_of xs ys)
+      ∙ (ap (map (λ r. r.line_class)) (filter-append At_k (map timed_line_of xs) (map timed_line_of ys))
+      ∙ map_both (λ r. r.line_class) (filter At_k (map timed_line_of xs)) (filter At_k (map timed_line_of ys)))
 
-  sayings_here : (n : ℕ) (ts : List Told) → ToldAt n ts → n - 12 ≡ k →
-      Sayings ts ≡ map (λ t. saying_of t.speech) ts
+  sayings_here : (n : ℕ) (ts : List LineAt) → ToldAt n ts → n - 12 ≡ k →
+      Sayings ts ≡ map (λ t. line_class_of t.message_line) ts
   sayings_here n [] h e = refl
-  sayings_here n (t ∷ ts) h e = rw (h.0, eq-eqb (n - 12) k e) (ap (λ cs. saying_of t.speech ∷ cs) (sayings_here n ts h.1 e))
+  sayings_here n (t ∷ ts) h e = rw (h.0, eq-eqb (n - 12) k e) (ap (λ cs. line_class_of t.message_line ∷ cs) (sayings_here n ts h.1 e))
 
-  sayings_elsewhere : (n : ℕ) (ts : List Told) → ToldAt n ts → n - 12 ≢ k → Sayings ts ≡ []
+  sayings_elsewhere : (n : ℕ) (ts : List LineAt) → ToldAt n ts → n - 12 ≢ k → Sayings ts ≡ []
   sayings_elsewhere n [] h e = refl
   sayings_elsewhere n (t ∷ ts) h e = rw (h.0, ne_eqb (n - 12) k e) (sayings_elsewhere n ts h.1 e)
 
-  sayings_before : (n : ℕ) (ts : List Told) → Each (λ t. t.at ≤ n) ts → n - 12 < k → Sayings ts ≡ []
+  sayings_before : (n : ℕ) (ts : List LineAt) → Each (λ t. t.at ≤ n) ts → n - 12 < k → Sayings ts ≡ []
   sayings_before n [] h e = refl
   sayings_before n (t ∷ ts) h e = rw (ne_eqb (t.at - 12) k (λ f. omega (arith, h.0))) (sayings_before n ts h.1 e)
 
-  up_to : (n m : ℕ) (ts : List Told) → n ≤ m → Each (λ t. t.at ≤ n) ts → Each (λ t. t.at ≤ m) ts
+  up_to : (n m : ℕ) (ts : List LineAt) → n ≤ m → Each (λ t. t.at ≤ n) ts → Each (λ t. t.at ≤ m) ts
   up_to n m [] h j = tt
   up_to n m (t ∷ ts) h j = (omega (arith, j.0), up_to n m ts h j.1)
 
-  here_up_to : (n : ℕ) (ts : List Told) → ToldAt n ts → Each (λ t. t.at ≤ n) ts
+  here_up_to : (n : ℕ) (ts : List LineAt) → ToldAt n ts → Each (λ t. t.at ≤ n) ts
   here_up_to n [] h = tt
   here_up_to n (t ∷ ts) h = (omega (arith, h.0), here_up_to n ts h.1)
 
-  turn_of : (n : ℕ) (old more : List Told) → Each (λ t. t.at ≤ 12 + n) old → InTurn (Sayings old) →
-      Turn ((12 + n) + 1) more → InTurn (Sayings (old ++ more))
+  turn_of : (n : ℕ) (old more : List LineAt) → Each (λ t. t.at ≤ 12 + n) old → AreInLineOrder (Sayings old) →
+      Turn ((12 + n) + 1) more → AreInLineOrder (Sayings (old ++ more))
   turn_of n old more bound old_turn turn = same (cases_lt (n + 1) k) (cases_lt k (n + 1))
     where
-      go : (n + 1 ≡ k) ⊎ (n + 1 ≢ k) → InTurn (Sayings (old ++ more))
+      go : (n + 1 ≡ k) ⊎ (n + 1 ≢ k) → AreInLineOrder (Sayings (old ++ more))
       go (inl e) = rw (sayings_append old more, sayings_before (12 + n) old bound (omega arith), sayings_here ((12 + n) + 1) more turn.0 (omega arith)) turn.1
       go (inr e) =
           let far : ((12 + n) + 1) - 12 ≢ k = λ f. e (omega (arith, f)) in
           rw (sayings_append old more, sayings_elsewhere ((12 + n) + 1) more turn.0 far, append-nil (Sayings old)) old_turn
 
-      same : (n + 1 < k) ⊎ (k ≤ n + 1) → (k < n + 1) ⊎ (n + 1 ≤ k) → InTurn (Sayings (old ++ more))
+      same : (n + 1 < k) ⊎ (k ≤ n + 1) → (k < n + 1) ⊎ (n + 1 ≤ k) → AreInLineOrder (Sayings (old ++ more))
       same (inl h) j = go (inr (λ e. omega arith))
       same (inr h) (inl j) = go (inr (λ e. omega arith))
       same (inr h) (inr j) = go (inl (omega arith))
 
   module _ (S : Signatures) (header : List ℕ) where
     abbrev Ordered : List ℕ → Type 0
-    Ordered xs = Each (λ t. t.at ≤ 12 + length xs) (told_of (message S header xs)) × InTurn (Sayings (told_of (message S header xs)))
+    Ordered xs = Each (λ t. t.at ≤ 12 + length xs) (message_lines (message S header xs)) × AreInLineOrder (Sayings (message_lines (message S header xs)))
 
     ordered_none : (m : Message) → Silent 12 m →
-        Each (λ t. t.at ≤ 12) (told_of m) × InTurn (Sayings (told_of m))
-    unfolding told_of
-    ordered_none (Comes told at stage) h = rw h.0 (tt, inl refl)
+        Each (λ t. t.at ≤ 12) (message_lines m) × AreInLineOrder (Sayings (message_lines m))
+    unfolding message_lines
+    ordered_none (ReadTo emitted at stage) h = rw h.0 (tt, inl refl)
 
     ordered_more : (xs : List ℕ) (b : ℕ) → Ordered xs → Ordered (xs ++ b ∷ [])
     ordered_more xs b h =
         let one = one_more S header (12 + length xs) (message S header xs) b (stands S header xs) in
-        let old = told_of (message S header xs) in
-        let e : told_of (message S header (xs ++ b ∷ [])) ≡ old ++ one.0 = ap told_of (message_goes S header xs b) ∙ one.1 in
+        let old = message_lines (message S header xs) in
+        let e : message_lines (message S header (xs ++ b ∷ [])) ≡ old ++ one.0 = ap message_lines (message_goes S header xs b) ∙ one.1 in
         rw (e, length_one_more xs b, ← add_assoc) (
           each_append (λ t. t.at ≤ (12 + length xs) + 1) old one.0 (up_to (12 + length xs) ((12 + length xs) + 1) old (omega arith) h.0)
               (here_up_to ((12 + length xs) + 1) one.0 one.2.0),
@@ -339,6 +339,6 @@ module _ (k : ℕ) where
     ordered xs = grown Ordered ordered_more [] xs (ordered_none (message S header []) (message_silent S header))
 
 -- The lines of one octet come in their order, and no two say the same.
-pub is_ordered : (S : Signatures) → IsOrdered (reading_by S)
-unfolding reading_by
+pub is_ordered : (S : Signatures) → IsOrdered (reader_by S)
+unfolding reader_by
 is_ordered S = record { ordered = λ header xs k. (ordered k S header xs).1 }

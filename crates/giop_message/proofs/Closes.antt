@@ -2,28 +2,28 @@
 -- faulted there, or ends a part of its rest there, has no rest left.
 use Rattle.std.proofs.Common.{◌≡◌, Bool, true, false, List, [], ◌∷◌, ◌++◌, map, inl, inr, refl, ap, ◌≢◌, ℕ, suc, length, ◌⊎◌}
 use Rattle.std.specs.Prelude.{if◌then◌else◌}
-use Rattle.giop_message.specs.Reading.{Saying, Rest, End, AtClose, IsClosing, Value, Call, Fault, InTurn, is_fault}
+use Rattle.giop_message.specs.MessageReader.{LineClass, Rest, End, AtClose, IsClosing, Value, Call, Fault, AreInLineOrder, is_fault}
 use Rattle.giop_message.specs.Signatures.{Signatures}
-use Rattle.giop_message.specs.Messages.{Speech, Incomplete, Ends, may_lack, Stage, In_typed, In_padding, In_rest, Over, message, stage_of, close}
-use Rattle.giop_message.specs.MessageReading.{saying_of, closing_of, reading_by}
+use Rattle.giop_message.specs.Messages.{MessageLine, ShortLine, EndLine, body_may_be_missing, Stage, In_typed, In_padding, In_rest, Over, message, stage_of, close}
+use Rattle.giop_message.specs.ReaderOfTable.{line_class_of, closing_of, reader_by}
 use Rattle.giop_message.proofs.Leaving.{octet_leaves, Leaves}
 use Rattle.std.specs.List.{list_any}
 use Rattle.giop_message.specs.Apart.{AreApart, IsApart}
-use Rattle.giop_message.specs.Reading as said
+use Rattle.giop_message.specs.MessageReader as said
 use Rattle.giop_message.proofs.Causal.{is_ordered}
 
-abbrev Sayings : List Speech → List Saying
+abbrev Sayings : List MessageLine → List LineClass
 Sayings speeches = map (λ l. l.0) (map closing_of speeches)
 
-lack_says : (test : Bool) → AtClose (Sayings (if test then Ends ∷ [] else Incomplete ∷ []))
-unfolding saying_of
+lack_says : (test : Bool) → AtClose (Sayings (if test then EndLine ∷ [] else ShortLine ∷ []))
+unfolding line_class_of
 lack_says true = inr (inl refl)
 lack_says false = inl refl
 
 closes_say : (stage : Stage) → AtClose (Sayings (close stage))
-unfolding saying_of close
+unfolding line_class_of close
 closes_say (In_typed section h outer leaf) = inl refl
-closes_say (In_padding b) = lack_says (may_lack b)
+closes_say (In_padding b) = lack_says (body_may_be_missing b)
 closes_say (In_rest offset (x ∷ held)) = inr (inr refl)
 closes_say _ = inr (inl refl)
 
@@ -32,8 +32,8 @@ ends_only : (stage : Stage) → Sayings (close stage) ≡ End ∷ [] →
     Sayings (close stage) ≡ Rest ∷ End ∷ [] → ⊥
 ends_only stage e f = absurd cc
 
-pub is_closing : (S : Signatures) → IsClosing (reading_by S)
-unfolding reading_by saying_of close
+pub is_closing : (S : Signatures) → IsClosing (reader_by S)
+unfolding reader_by line_class_of close
 is_closing S = record {
   closed = λ header xs. closes_say (stage_of (message S header xs));
   over = λ header xs x faulted. ap (λ stage. Sayings (close stage)) ((octet_leaves S header xs x).1 faulted);
@@ -41,55 +41,55 @@ is_closing S = record {
       ends_only (stage_of (message S header (xs ++ x ∷ []))) (ap (λ stage. Sayings (close stage)) ((octet_leaves S header xs x).0 rested).1);
 }
 
-leaves_end : (sayings : List Saying) (stage : Stage) → Leaves sayings stage →
-    (sayings ≡ Rest ∷ []) ⊎ (list_any is_fault sayings ≡ true) → Sayings (close stage) ≡ End ∷ []
-unfolding close saying_of
-leaves_end sayings stage h (inl e) = let left = h.0 e in rw left.1 refl
-leaves_end sayings stage h (inr e) = rw (h.1 e) refl
+leaves_end : (line_classes : List LineClass) (stage : Stage) → Leaves line_classes stage →
+    (line_classes ≡ Rest ∷ []) ⊎ (list_any is_fault line_classes ≡ true) → Sayings (close stage) ≡ End ∷ []
+unfolding close line_class_of
+leaves_end line_classes stage h (inl e) = let left = h.0 e in rw left.1 refl
+leaves_end line_classes stage h (inr e) = rw (h.1 e) refl
 
-other : (a b : Saying) → a ≢ b → AreApart (a ∷ b ∷ [])
+other : (a b : LineClass) → a ≢ b → AreApart (a ∷ b ∷ [])
 other a b h = ((h, tt), (tt, tt))
 
 -- one line and those of a close, which are of other kinds
-one_apart : (a : Saying) (sayings : List Saying) → AtClose sayings → a ≢ Fault → a ≢ End →
-    a ≢ Rest → AreApart (a ∷ sayings)
-one_apart a sayings (inl e) f g h = rw e (other a Fault f)
-one_apart a sayings (inr (inl e)) f g h = rw e (other a End g)
-one_apart a sayings (inr (inr e)) f g h = rw e ((h, (g, tt)), (((λ k. cc), tt), (tt, tt)))
+one_apart : (a : LineClass) (line_classes : List LineClass) → AtClose line_classes → a ≢ Fault → a ≢ End →
+    a ≢ Rest → AreApart (a ∷ line_classes)
+one_apart a line_classes (inl e) f g h = rw e (other a Fault f)
+one_apart a line_classes (inr (inl e)) f g h = rw e (other a End g)
+one_apart a line_classes (inr (inr e)) f g h = rw e ((h, (g, tt)), (((λ k. cc), tt), (tt, tt)))
 
-close_apart : (sayings : List Saying) → AtClose sayings → AreApart sayings
-close_apart sayings (inl e) = rw e (tt, tt)
-close_apart sayings (inr (inl e)) = rw e (tt, tt)
-close_apart sayings (inr (inr e)) = rw e (((λ k. cc), tt), (tt, tt))
+close_apart : (line_classes : List LineClass) → AtClose line_classes → AreApart line_classes
+close_apart line_classes (inl e) = rw e (tt, tt)
+close_apart line_classes (inr (inl e)) = rw e (tt, tt)
+close_apart line_classes (inr (inr e)) = rw e (((λ k. cc), tt), (tt, tt))
 
-call_apart : (sayings : List Saying) → AtClose sayings → AreApart (Value ∷ Call ∷ sayings)
-call_apart sayings (inl e) = rw e (((λ k. cc), ((λ k. cc), tt)), other Call Fault (λ k. cc))
-call_apart sayings (inr (inl e)) = rw e (((λ k. cc), ((λ k. cc), tt)), other Call End (λ k. cc))
-call_apart sayings (inr (inr e)) =
+call_apart : (line_classes : List LineClass) → AtClose line_classes → AreApart (Value ∷ Call ∷ line_classes)
+call_apart line_classes (inl e) = rw e (((λ k. cc), ((λ k. cc), tt)), other Call Fault (λ k. cc))
+call_apart line_classes (inr (inl e)) = rw e (((λ k. cc), ((λ k. cc), tt)), other Call End (λ k. cc))
+call_apart line_classes (inr (inr e)) =
     rw e (((λ k. cc), ((λ k. cc), ((λ k. cc), tt))), one_apart Call (Rest ∷ End ∷ []) (inr (inr refl)) (λ k. cc) (λ k. cc) (λ k. cc))
 
-turn_apart : (sayings : List Saying) (stage : Stage) → InTurn sayings → Leaves sayings stage →
-    AtClose (Sayings (close stage)) → AreApart (sayings ++ Sayings (close stage))
-turn_apart sayings stage (inl e) h closed = rw e (close_apart (Sayings (close stage)) closed)
-turn_apart sayings stage (inr (inl e)) h closed =
+turn_apart : (line_classes : List LineClass) (stage : Stage) → AreInLineOrder line_classes → Leaves line_classes stage →
+    AtClose (Sayings (close stage)) → AreApart (line_classes ++ Sayings (close stage))
+turn_apart line_classes stage (inl e) h closed = rw e (close_apart (Sayings (close stage)) closed)
+turn_apart line_classes stage (inr (inl e)) h closed =
     rw e (one_apart Value (Sayings (close stage)) closed (λ k. cc) (λ k. cc) (λ k. cc))
-turn_apart sayings stage (inr (inr (inl e))) h closed = rw e (call_apart (Sayings (close stage)) closed)
-turn_apart sayings stage (inr (inr (inr (inl e)))) h closed =
-    rw (leaves_end sayings stage h (inl e), e) (other Rest End (λ k. cc))
-turn_apart sayings stage (inr (inr (inr (inr (inl e))))) h closed =
-    rw (leaves_end sayings stage h (inr (ap (list_any is_fault) e)), e) (other Fault End (λ k. cc))
-turn_apart sayings stage (inr (inr (inr (inr (inr e))))) h closed =
-    rw (leaves_end sayings stage h (inr (ap (list_any is_fault) e)), e) (((λ k. cc), ((λ k. cc), tt)), other Fault End (λ k. cc))
+turn_apart line_classes stage (inr (inr (inl e))) h closed = rw e (call_apart (Sayings (close stage)) closed)
+turn_apart line_classes stage (inr (inr (inr (inl e)))) h closed =
+    rw (leaves_end line_classes stage h (inl e), e) (other Rest End (λ k. cc))
+turn_apart line_classes stage (inr (inr (inr (inr (inl e))))) h closed =
+    rw (leaves_end line_classes stage h (inr (ap (list_any is_fault) e)), e) (other Fault End (λ k. cc))
+turn_apart line_classes stage (inr (inr (inr (inr (inr e))))) h closed =
+    rw (leaves_end line_classes stage h (inr (ap (list_any is_fault) e)), e) (((λ k. cc), ((λ k. cc), tt)), other Fault End (λ k. cc))
 
 octet_apart : (S : Signatures) (header xs : List ℕ) (x : ℕ) → AreApart
-    (map (λ r. r.saying) (said.due (reading_by S) header xs x)
-    ++ map (λ l. l.0) ((reading_by S).closes header (xs ++ x ∷ [])))
-unfolding reading_by
+    (map (λ r. r.line_class) (said.due (reader_by S) header xs x)
+    ++ map (λ l. l.0) ((reader_by S).closes header (xs ++ x ∷ [])))
+unfolding reader_by
 octet_apart S header xs x =
-    turn_apart (map (λ r. r.saying) (said.due (reading_by S) header xs x)) (stage_of (message S header (xs ++ x ∷ [])))
+    turn_apart (map (λ r. r.line_class) (said.due (reader_by S) header xs x)) (stage_of (message S header (xs ++ x ∷ [])))
     ((is_ordered S).ordered header (xs ++ x ∷ []) (suc (length xs))) (octet_leaves S header xs x)
     ((is_closing S).closed header (xs ++ x ∷ []))
 
 -- No octet has two lines of one kind, with those of a close at it.
-pub is_apart : (S : Signatures) → IsApart (reading_by S)
+pub is_apart : (S : Signatures) → IsApart (reader_by S)
 is_apart S = record { apart = octet_apart S }

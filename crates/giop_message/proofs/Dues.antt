@@ -5,10 +5,10 @@ use Rattle.std.proofs.lemmas.List.{length-take-le, take-append-drop}
 use Rattle.std.proofs.lemmas.List.Concat.{flat_map-append}
 use Rattle.giop_message.specs.Signatures.{Signatures}
 use Rattle.giop_message.specs.Messages
-use Rattle.giop_message.specs.Messages.{Told, Stage, Over, Message, Comes, message, told_of, stage_of}
-use Rattle.giop_message.specs.Steps.{goes_on}
-use Rattle.giop_message.specs.MessageReading.{is_over}
-use Rattle.giop_message.specs.Holding.{speech_line, told_text, due, due_text, FaultedAt}
+use Rattle.giop_message.specs.Messages.{LineAt, Stage, Over, Message, ReadTo, message, message_lines, stage_of}
+use Rattle.giop_message.specs.StageSteps.{goes_on}
+use Rattle.giop_message.specs.ReaderOfTable.{is_over}
+use Rattle.giop_message.specs.MessageState.{message_line_text, message_lines_text, due, due_text, FaultedAt}
 use Rattle.giop_message.proofs.Going.{stays, message_resumes}
 use Rattle.giop_message.proofs.Causal.{Behind, told_begins}
 use Rattle.giop_message.proofs.Followings.{told_more}
@@ -17,69 +17,69 @@ due_both : (S : Signatures) (header s xs ys : List ℕ) →
     due S header s (xs ++ ys) ≡ due S header s xs ++ due S header (s ++ xs) ys
 unfolding due
 due_both S header s xs ys =
-    let front = told_of (message S header s) in
-    let e : told_of (message S header (s ++ (xs ++ ys))) ≡ front ++ (due S header s xs ++ due S header (s ++ xs) ys) =
-    ap (λ z. told_of (message S header z)) (sym (append_assoc s xs ys)) ∙ (told_more S header (s ++ xs) ys
-    ∙ (ap (λ told. told ++ due S header (s ++ xs) ys) (told_more S header s xs) ∙ append_assoc front (due S header s xs) (due S header (s ++ xs) ys))) in
+    let front = message_lines (message S header s) in
+    let e : message_lines (message S header (s ++ (xs ++ ys))) ≡ front ++ (due S header s xs ++ due S header (s ++ xs) ys) =
+    ap (λ z. message_lines (message S header z)) (sym (append_assoc s xs ys)) ∙ (told_more S header (s ++ xs) ys
+    ∙ (ap (λ emitted. emitted ++ due S header (s ++ xs) ys) (told_more S header s xs) ∙ append_assoc front (due S header s xs) (due S header (s ++ xs) ys))) in
     ap (drop (length front)) e ∙ drop-append_seam front (due S header s xs ++ due S header (s ++ xs) ys)
 
 -- the places of lines that come behind an offset
-moved : (number place offset more : ℕ) (told : List Told) → Behind (offset + more) told →
-    told_text number place offset told ≡ told_text number (place + more) (offset + more) told
-unfolding told_text
+moved : (number place offset more : ℕ) (emitted : List LineAt) → Behind (offset + more) emitted →
+    message_lines_text number place offset emitted ≡ message_lines_text number (place + more) (offset + more) emitted
+unfolding message_lines_text
 moved number place offset more [] behind = refl
 moved number place offset more (t ∷ ts) behind =
     let e : place + (t.at - offset) ≡ (place + more) + (t.at - (offset + more)) = omega (arith, behind.0) in
-    rw e (ap (λ z. speech_line number ((place + more) + (t.at - (offset + more))) t.speech ++ z) (moved number place offset more ts behind.1))
+    rw e (ap (λ z. message_line_text number ((place + more) + (t.at - (offset + more))) t.message_line ++ z) (moved number place offset more ts behind.1))
 
 due_behind : (S : Signatures) (header s more : List ℕ) →
     Behind (12 + length s) (due S header s more)
 unfolding due
 due_behind S header s more =
     let g = told_begins S header s more in
-    subst (Behind (12 + length s)) (sym (ap (drop (length (told_of (message S header s)))) g.1 ∙ drop-append_seam (told_of (message S header s)) g.0)) g.2
+    subst (Behind (12 + length s)) (sym (ap (drop (length (message_lines (message S header s)))) g.1 ∙ drop-append_seam (message_lines (message S header s)) g.0)) g.2
 
 pub text_both : (S : Signatures) (number place : ℕ) (header s xs ys : List ℕ) →
     due_text S number place header s (xs ++ ys) ≡ due_text S number place header s xs
     ++ due_text S number (place + length xs) header (s ++ xs) ys
-unfolding due_text told_text
+unfolding due_text message_lines_text
 text_both S number place header s xs ys =
     let n = 12 + length s in
     let e : 12 + length (s ++ xs) ≡ n + length xs = omega (arith, length-append s xs) in
-    ap (told_text number place n) (due_both S header s xs ys)
-    ∙ (flat_map-append (λ t. speech_line number (place + (t.at - n)) t.speech) (due S header s xs) (due S header (s ++ xs) ys)
-    ∙ ap (λ z. told_text number place n (due S header s xs) ++ z)
+    ap (message_lines_text number place n) (due_both S header s xs ys)
+    ∙ (flat_map-append (λ t. message_line_text number (place + (t.at - n)) t.message_line) (due S header s xs) (due S header (s ++ xs) ys)
+    ∙ ap (λ z. message_lines_text number place n (due S header s xs) ++ z)
     (moved number place n (length xs) (due S header (s ++ xs) ys) (subst (λ k. Behind k (due S header (s ++ xs) ys)) e (due_behind S header (s ++ xs) ys))
-    ∙ ap (λ k. told_text number (place + length xs) k (due S header (s ++ xs) ys)) (sym e)))
+    ∙ ap (λ k. message_lines_text number (place + length xs) k (due S header (s ++ xs) ys)) (sym e)))
 
 pub text_none : (S : Signatures) (number place : ℕ) (header s : List ℕ) →
     due_text S number place header s [] ≡ []
-unfolding due_text told_text due
+unfolding due_text message_lines_text due
 text_none S number place header s =
-    rw (append-nil s) (ap (flat_map (λ t. speech_line number (place + (t.at - (12 + length s))) t.speech)) (drop_all_of (told_of (message S header s))))
+    rw (append-nil s) (ap (flat_map (λ t. message_line_text number (place + (t.at - (12 + length s))) t.message_line)) (drop_all_of (message_lines (message S header s))))
   where
-    drop_all_of : (told : List Told) → drop (length told) told ≡ []
-    drop_all_of told = ap (drop (length told)) (sym (append-nil told)) ∙ drop-append_seam told []
+    drop_all_of : (emitted : List LineAt) → drop (length emitted) emitted ≡ []
+    drop_all_of emitted = ap (drop (length emitted)) (sym (append-nil emitted)) ∙ drop-append_seam emitted []
 
 -- behind a fault nothing is told
-over_goes : (S : Signatures) (header : List ℕ) (told : List Told) (at : ℕ) (t : List ℕ) →
-    goes_on S header (Comes told at Over) t ≡ Comes told at Over
-over_goes S header told at [] = refl
-over_goes S header told at (b ∷ t) = ap (λ m. goes_on S header m t) (sym (stays S header told at b)) ∙ over_goes S header told at t
+over_goes : (S : Signatures) (header : List ℕ) (emitted : List LineAt) (at : ℕ) (t : List ℕ) →
+    goes_on S header (ReadTo emitted at Over) t ≡ ReadTo emitted at Over
+over_goes S header emitted at [] = refl
+over_goes S header emitted at (b ∷ t) = ap (λ m. goes_on S header m t) (sym (stays S header emitted at b)) ∙ over_goes S header emitted at t
 
 over_same : (S : Signatures) (header t : List ℕ) (m : Message) → is_over (stage_of m) ≡ true →
-    told_of (goes_on S header m t) ≡ told_of m
+    message_lines (goes_on S header m t) ≡ message_lines m
 unfolding is_over stage_of
-over_same S header t (Comes told at Over) e = ap told_of (over_goes S header told at t)
+over_same S header t (ReadTo emitted at Over) e = ap message_lines (over_goes S header emitted at t)
 over_same S header t _ e = absurd cc
 
 pub text_over : (S : Signatures) (number place : ℕ) (header s more : List ℕ) →
     is_over (stage_of (message S header s)) ≡ true → due_text S number place header s more ≡ []
-unfolding due_text told_text due
+unfolding due_text message_lines_text due
 text_over S number place header s more e =
-    let same : told_of (message S header (s ++ more)) ≡ told_of (message S header s) ++ [] =
-    ap told_of (message_resumes S header s more) ∙ (over_same S header more (message S header s) e ∙ sym (append-nil (told_of (message S header s)))) in
-    rw (same, drop-append_seam (told_of (message S header s)) []) refl
+    let same : message_lines (message S header (s ++ more)) ≡ message_lines (message S header s) ++ [] =
+    ap message_lines (message_resumes S header s more) ∙ (over_same S header more (message S header s) e ∙ sym (append-nil (message_lines (message S header s)))) in
+    rw (same, drop-append_seam (message_lines (message S header s)) []) refl
 
 -- ---- the octets so far, and more of them
 

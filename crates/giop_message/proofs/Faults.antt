@@ -5,66 +5,66 @@ use Rattle.std.specs.List.{list_any}
 use Rattle.giop_cdr.specs.Alignment.{padding}
 use Rattle.giop_print.specs.declared.path.Root.{Root}
 use Rattle.giop_sig.specs.Types.{Ty}
-use Rattle.giop_decode.specs.Spine.{plain, Line, Read, Done, Short, Fault}
+use Rattle.giop_decode.specs.ReadResult.{plain, Line, Read, Done, Short, Fault}
 use Rattle.giop_decode.specs.Reading.{read}
-use Rattle.giop_decode.specs.Heard.{Heard, nothing, hear, heard, is_header_root}
+use Rattle.giop_decode.specs.Noted.{Noted, nothing_noted, note, noted, is_header_root}
 use Rattle.giop_message.specs.declared.part.Section.{Section}
 use Rattle.giop_message.specs.Headers.{minor, kind, order}
 use Rattle.giop_message.specs.Signatures.{Signatures}
-use Rattle.giop_message.specs.Messages.{Left, Wrong, Told, tell, calls, tells, BodyType, In_padding, Message, Comes, with_front, passes, rest_in, rest, body, padded, of_header, message, told_of, stage_of, root_of, may_call, after, through}
-use Rattle.giop_message.specs.MessageReading.{saying_of, is_over, is_wrong}
+use Rattle.giop_message.specs.Messages.{RestLine, FaultLine, LineAt, line_at, calls, section_lines, BodyType, In_padding, Message, ReadTo, with_front, section_then, rest_in, rest, body, padded, of_header, message, message_lines, stage_of, root_of, may_call, after, section_and_rest}
+use Rattle.giop_message.specs.ReaderOfTable.{line_class_of, is_over, is_wrong}
 use Rattle.giop_message.proofs.Going.{after_has, message_has}
 use Rattle.giop_message.proofs.Causal.{MayCall, calls_is}
 
 abbrev pub Tallies : Message → Type 0
-Tallies (Comes told at stage) = is_over stage ≡ list_any is_wrong told
+Tallies (ReadTo emitted at stage) = is_over stage ≡ list_any is_wrong emitted
 
 step_by : (a b c d : Bool) → (a || b) ≡ false → (b ≡ false → c ≡ d) → (a || c) ≡ d
 step_by true b c d h f = absurd cc
 step_by false b c d h f = f h
 
-any_append : (xs ys : List Told) → list_any is_wrong xs ≡ false →
+any_append : (xs ys : List LineAt) → list_any is_wrong xs ≡ false →
     list_any is_wrong (xs ++ ys) ≡ list_any is_wrong ys
 any_append [] ys h = refl
 any_append (x ∷ xs) ys h = step_by (is_wrong x) (list_any is_wrong xs) (list_any is_wrong (xs ++ ys)) (list_any is_wrong ys) h (any_append xs ys)
 
-none_call : (n : ℕ) (told : List Told) → MayCall n told → list_any is_wrong told ≡ false
-unfolding is_wrong saying_of tell
-none_call n told (inl e) = rw e refl
-none_call n told (inr f) = rw f.2 refl
+none_call : (n : ℕ) (emitted : List LineAt) → MayCall n emitted → list_any is_wrong emitted ≡ false
+unfolding is_wrong line_class_of line_at
+none_call n emitted (inl e) = rw e refl
+none_call n emitted (inr f) = rw f.2 refl
 
-none_told : (root : Root) (is : Bool) (h : Heard) (lines : List Line) →
-    list_any is_wrong (tells root is h lines) ≡ false
-unfolding tells is_wrong saying_of tell
+none_told : (root : Root) (is : Bool) (h : Noted) (lines : List Line) →
+    list_any is_wrong (section_lines root is h lines) ≡ false
+unfolding section_lines is_wrong line_class_of line_at
 none_told root is h [] = refl
 none_told root is h (l ∷ ls) =
-    let now = hear (is_header_root root) h l in
-    any_append (calls is l now) (tells root is now ls) (none_call l.at (calls is l now) (calls_is is l now)) ∙ none_told root is now ls
+    let now = note (is_header_root root) h l in
+    any_append (calls is l now) (section_lines root is now ls) (none_call l.at (calls is l now) (calls_is is l now)) ∙ none_told root is now ls
 
-front_tallies : (front : List Told) (m : Message) → list_any is_wrong front ≡ false → Tallies m →
+front_tallies : (front : List LineAt) (m : Message) → list_any is_wrong front ≡ false → Tallies m →
     Tallies (with_front front m)
 unfolding with_front
-front_tallies front (Comes told at stage) h k = k ∙ sym (any_append front told h)
+front_tallies front (ReadTo emitted at stage) h k = k ∙ sym (any_append front emitted h)
 
-module _ (section : Section) (is : Bool) (next : Heard → ℕ → List ℕ → Message)
-    (tallies : (k : Heard) (at : ℕ) (s : List ℕ) → Tallies (next k at s)) where
+module _ (section : Section) (is : Bool) (next : Noted → ℕ → List ℕ → Message)
+    (tallies : (k : Noted) (at : ℕ) (s : List ℕ) → Tallies (next k at s)) where
   abbrev R : Root
   R = root_of section
 
-  passes_tallies : (k : Heard) (r : Read) → Tallies (passes section is next k r)
-  unfolding passes is_over is_wrong saying_of tell
+  passes_tallies : (k : Noted) (r : Read) → Tallies (section_then section is next k r)
+  unfolding section_then is_over is_wrong line_class_of line_at
   passes_tallies k (Done lines at s) =
-      let now = heard (is_header_root R) k lines in
-      front_tallies (tells R is k lines) (next now at s) (none_told R is k lines) (tallies now at s)
+      let now = noted (is_header_root R) k lines in
+      front_tallies (section_lines R is k lines) (next now at s) (none_told R is k lines) (tallies now at s)
   passes_tallies k (Short lines at outer leaf) = sym (none_told R is k lines)
   passes_tallies k (Fault lines at why T) =
-      sym (any_append (tells R is k lines) (tell at (Wrong why) ∷ []) (none_told R is k lines))
+      sym (any_append (section_lines R is k lines) (line_at at (FaultLine why) ∷ []) (none_told R is k lines))
 
 rest_tallies : (full offset at : ℕ) (s : List ℕ) → Tallies (rest_in full offset at s)
-unfolding rest_in is_over is_wrong saying_of tell
+unfolding rest_in is_over is_wrong line_class_of line_at
 rest_tallies zero offset at s = refl
 rest_tallies (suc full) offset at s =
-    front_tallies (tell (at + 32) (Left offset (take 32 s)) ∷ []) (rest_in full (offset + 32) (at + 32) (drop 32 s)) refl
+    front_tallies (line_at (at + 32) (RestLine offset (take 32 s)) ∷ []) (rest_in full (offset + 32) (at + 32) (drop 32 s)) refl
     (rest_tallies full (offset + 32) (at + 32) (drop 32 s))
 
 -- what a reader comes to tallies
@@ -76,31 +76,31 @@ unfolding rest
 all_rest at s = rest_tallies _ 0 at s
 
 module _ (S : Signatures) (header : List ℕ) where
-  reads_tally : (section : Section) (T : Ty) → ((h : Heard) → AllTally (after S header section h)) →
-      AllTally (λ at s. through S header section nothing (read (plain (order header)) [] T at s))
+  reads_tally : (section : Section) (T : Ty) → ((h : Noted) → AllTally (after S header section h)) →
+      AllTally (λ at s. section_and_rest S header section nothing_noted (read (plain (order header)) [] T at s))
   reads_tally section T tallies at s =
-      passes_tallies section (may_call header section) (after S header section) tallies nothing (read (plain (order header)) [] T at s)
+      passes_tallies section (may_call header section) (after S header section) tallies nothing_noted (read (plain (order header)) [] T at s)
 
   padded_tallies : (t : BodyType) → AllTally (body S header t) → AllTally (padded S header t)
   unfolding padded is_over
   padded_tallies t tallies at s = go (nat_lt (length s) (padding at 8))
     where
-      go : (test : Bool) → Tallies (if test then Comes [] (at + length s) (In_padding t)
+      go : (test : Bool) → Tallies (if test then ReadTo [] (at + length s) (In_padding t)
           else body S header t (at + padding at 8) (drop (padding at 8) s))
       go true = refl
       go false = tallies (at + padding at 8) (drop (padding at 8) s)
 
-  pub after_tallies : (section : Section) (k : Heard) → AllTally (after S header section k)
+  pub after_tallies : (section : Section) (k : Noted) → AllTally (after S header section k)
   after_tallies section k = after_has S header AllTally all_rest reads_tally padded_tallies section k
 
   message_tallies : AllTally (of_header S header (S.header (minor header) (kind header)))
   message_tallies = message_has S header AllTally all_rest reads_tally padded_tallies
 
-over_of : (m : Message) → Tallies m → is_over (stage_of m) ≡ list_any is_wrong (told_of m)
-unfolding stage_of told_of
-over_of (Comes told at stage) h = h
+over_of : (m : Message) → Tallies m → is_over (stage_of m) ≡ list_any is_wrong (message_lines m)
+unfolding stage_of message_lines
+over_of (ReadTo emitted at stage) h = h
 
 pub over_where_faulted : (S : Signatures) (header s : List ℕ) →
-    is_over (stage_of (message S header s)) ≡ list_any is_wrong (told_of (message S header s))
+    is_over (stage_of (message S header s)) ≡ list_any is_wrong (message_lines (message S header s))
 unfolding message
 over_where_faulted S header s = over_of (message S header s) (message_tallies S header 12 s)

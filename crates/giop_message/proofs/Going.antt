@@ -7,99 +7,99 @@ use Rattle.std.proofs.lemmas.Bool.{cases_lt, lt-ltb, le-ltb, eq-eqb, ne_eqb}
 use Rattle.giop_cdr.specs.Alignment.{padding}
 use Rattle.giop_print.specs.declared.path.Root.{Root}
 use Rattle.giop_sig.specs.Types.{Ty}
-use Rattle.giop_decode.specs.Spine
-use Rattle.giop_decode.specs.Spine.{plain, Line, Read, Done, Short, Fault}
+use Rattle.giop_decode.specs.ReadResult
+use Rattle.giop_decode.specs.ReadResult.{plain, Line, Read, Done, Short, Fault}
 use Rattle.giop_decode.specs.Reading.{read}
-use Rattle.giop_decode.specs.Steps as decoder
-use Rattle.giop_decode.specs.Heard.{Heard, nothing, hear, heard, is_header_root}
-use Rattle.giop_decode.proofs.ReadingLaws.{read_goes, heard-append, length_one_more}
+use Rattle.giop_decode.specs.ReadingSteps as decoder
+use Rattle.giop_decode.specs.Noted.{Noted, nothing_noted, note, noted, is_header_root}
+use Rattle.giop_decode.proofs.ReadingLaws.{read_goes, noted-append, length_one_more}
 use Rattle.giop_message.specs.declared.part.Section.{Section}
 use Rattle.giop_message.specs.declared.part.Section.TheVariants as sections
 use Rattle.giop_message.specs.Headers.{minor, kind, order}
 use Rattle.giop_message.specs.Signatures.{Signatures}
-use Rattle.giop_message.specs.Messages.{Said, Left, Wrong, Told, tell, calls, tells, BodyType, Untyped, Typed, Raised, In_padding, In_rest, Over, Message, Comes, with_front, passes, rest_in, rest, typed, option_typed, members_of, after_exception, body, body_of, has_body, padded, after_header, of_header, message, root_of, may_call, after, through}
-use Rattle.giop_message.specs.Steps.{rest_step, message_step, advance, goes_on}
+use Rattle.giop_message.specs.Messages.{ValueLine, RestLine, FaultLine, LineAt, line_at, calls, section_lines, BodyType, Untyped, Typed, UserException, In_padding, In_rest, Over, Message, ReadTo, with_front, section_then, rest_in, rest, typed, option_typed, members_of, after_exception, body, body_of, has_body, padded, after_header, of_header, message, root_of, may_call, after, section_and_rest}
+use Rattle.giop_message.specs.StageSteps.{rest_step, message_step, advance, goes_on}
 
 -- a reader that goes on as the step does
 abbrev pub Goes : Signatures → List ℕ → (ℕ → List ℕ → Message) → Type 0
 Goes S header reader = (at : ℕ) (s : List ℕ) (b : ℕ) → reader at (s ++ b ∷ []) ≡ advance S header (reader at s) b
 
-pub front_twice : (front mid : List Told) (m : Message) →
+pub front_twice : (front mid : List LineAt) (m : Message) →
     with_front front (with_front mid m) ≡ with_front (front ++ mid) m
 unfolding with_front
-front_twice front mid (Comes told at stage) = ap (λ ls. Comes ls at stage) (sym (append_assoc front mid told))
+front_twice front mid (ReadTo emitted at stage) = ap (λ ls. ReadTo ls at stage) (sym (append_assoc front mid emitted))
 
 pub front_none : (m : Message) → with_front [] m ≡ m
 unfolding with_front
-front_none (Comes told at stage) = refl
+front_none (ReadTo emitted at stage) = refl
 
-pub front_advance : (S : Signatures) (header : List ℕ) (front : List Told) (m : Message) (b : ℕ) →
+pub front_advance : (S : Signatures) (header : List ℕ) (front : List LineAt) (m : Message) (b : ℕ) →
     with_front front (advance S header m b) ≡ advance S header (with_front front m) b
 unfolding with_front advance
-front_advance S header front (Comes told at stage) b = front_twice front told (message_step S header at stage b)
+front_advance S header front (ReadTo emitted at stage) b = front_twice front emitted (message_step S header at stage b)
 
-pub stays : (S : Signatures) (header : List ℕ) (told : List Told) (at b : ℕ) →
-    Comes told at Over ≡ advance S header (Comes told at Over) b
+pub stays : (S : Signatures) (header : List ℕ) (emitted : List LineAt) (at b : ℕ) →
+    ReadTo emitted at Over ≡ advance S header (ReadTo emitted at Over) b
 unfolding with_front advance message_step
-stays S header told at b = ap (λ ls. Comes ls at Over) (sym (append-nil told))
+stays S header emitted at b = ap (λ ls. ReadTo ls at Over) (sym (append-nil emitted))
 
 -- ---- telling in two parts
 
-pub tells_append : (root : Root) (is : Bool) (h : Heard) (xs ys : List Line) →
-    tells root is h (xs ++ ys) ≡ tells root is h xs
-    ++ tells root is (heard (is_header_root root) h xs) ys
-unfolding tells
+pub tells_append : (root : Root) (is : Bool) (h : Noted) (xs ys : List Line) →
+    section_lines root is h (xs ++ ys) ≡ section_lines root is h xs
+    ++ section_lines root is (noted (is_header_root root) h xs) ys
+unfolding section_lines
 tells_append root is h [] ys = refl
 tells_append root is h (x ∷ xs) ys =
-    let now = hear (is_header_root root) h x in
-    let first = tell x.at (Said root x.path x.value) ∷ calls is x now in
+    let now = note (is_header_root root) h x in
+    let first = line_at x.at (ValueLine root x.path x.value) ∷ calls is x now in
     ap (λ ls. first ++ ls) (tells_append root is now xs ys)
-    ∙ sym (append_assoc first (tells root is now xs) (tells root is (heard (is_header_root root) now xs) ys))
+    ∙ sym (append_assoc first (section_lines root is now xs) (section_lines root is (noted (is_header_root root) now xs) ys))
 
-module _ (section : Section) (is : Bool) (next : Heard → ℕ → List ℕ → Message) where
+module _ (section : Section) (is : Bool) (next : Noted → ℕ → List ℕ → Message) where
   abbrev R : Root
   R = root_of section
 
-  pub passes_front : (h : Heard) (front : List Line) (r : Read) →
-      passes section is next h (Spine.with_front front r) ≡ with_front (tells R is h front)
-      (passes section is next (heard (is_header_root R) h front) r)
-  unfolding passes with_front
+  pub passes_front : (h : Noted) (front : List Line) (r : Read) →
+      section_then section is next h (ReadResult.with_front front r) ≡ with_front (section_lines R is h front)
+      (section_then section is next (noted (is_header_root R) h front) r)
+  unfolding section_then with_front
   passes_front h front (Done lines at s) =
-      let now = heard (is_header_root R) h front in
-      rw (tells_append R is h front lines, heard-append (is_header_root R) h front lines)
-      (sym (front_twice (tells R is h front) (tells R is now lines) (next (heard (is_header_root R) now lines) at s)))
+      let now = noted (is_header_root R) h front in
+      rw (tells_append R is h front lines, noted-append (is_header_root R) h front lines)
+      (sym (front_twice (section_lines R is h front) (section_lines R is now lines) (next (noted (is_header_root R) now lines) at s)))
   passes_front h front (Short lines at outer leaf) =
-      rw (tells_append R is h front lines, heard-append (is_header_root R) h front lines) refl
+      rw (tells_append R is h front lines, noted-append (is_header_root R) h front lines) refl
   passes_front h front (Fault lines at why T) =
       rw (tells_append R is h front lines)
-      (ap (λ ls. Comes ls at Over)
-      (append_assoc (tells R is h front) (tells R is (heard (is_header_root R) h front) lines) (tell at (Wrong why) ∷ [])))
+      (ap (λ ls. ReadTo ls at Over)
+      (append_assoc (section_lines R is h front) (section_lines R is (noted (is_header_root R) h front) lines) (line_at at (FaultLine why) ∷ [])))
 
 -- a section goes on as its reading does, where what follows it goes on
 pub through_goes : (S : Signatures) (header : List ℕ) (section : Section) →
-    ((h : Heard) → Goes S header (after S header section h)) → (h : Heard) (r : Read) (b : ℕ) →
-    through S header section h (decoder.advance (plain (order header)) [] r b)
-    ≡ advance S header (through S header section h r) b
-unfolding passes with_front advance message_step
+    ((h : Noted) → Goes S header (after S header section h)) → (h : Noted) (r : Read) (b : ℕ) →
+    section_and_rest S header section h (decoder.advance (plain (order header)) [] r b)
+    ≡ advance S header (section_and_rest S header section h r) b
+unfolding section_then with_front advance message_step
 through_goes S header section goes h (Done lines at s) b =
     let R = root_of section in
-    let now = heard (is_header_root R) h lines in
-    ap (with_front (tells R (may_call header section) h lines)) (goes now at s b)
-    ∙ front_advance S header (tells R (may_call header section) h lines) (after S header section now at s) b
+    let now = noted (is_header_root R) h lines in
+    ap (with_front (section_lines R (may_call header section) h lines)) (goes now at s b)
+    ∙ front_advance S header (section_lines R (may_call header section) h lines) (after S header section now at s) b
 through_goes S header section goes h (Short lines at outer leaf) b =
     passes_front section (may_call header section) (after S header section) h lines (decoder.step (plain (order header)) [] outer leaf at b)
 through_goes S header section goes h (Fault lines at why T) b =
-    stays S header (tells (root_of section) (may_call header section) h lines ++ tell at (Wrong why) ∷ []) at b
+    stays S header (section_lines (root_of section) (may_call header section) h lines ++ line_at at (FaultLine why) ∷ []) at b
 
 -- ---- the rest
 
 pub rest_step_full : (offset : ℕ) (held : List ℕ) (at : ℕ) → length held ≡ 32 →
-    rest_step offset held at ≡ Comes (tell at (Left offset held) ∷ []) at (In_rest (offset + 32) [])
+    rest_step offset held at ≡ ReadTo (line_at at (RestLine offset held) ∷ []) at (In_rest (offset + 32) [])
 unfolding rest_step
 rest_step_full offset held at e = rw eq-eqb refl
 
 pub rest_step_more : (offset : ℕ) (held : List ℕ) (at : ℕ) → length held < 32 →
-    rest_step offset held at ≡ Comes [] at (In_rest offset held)
+    rest_step offset held at ≡ ReadTo [] at (In_rest offset held)
 unfolding rest_step
 rest_step_more offset held at h = rw (ne_eqb (length held) 32 (λ e. omega arith)) refl
 
@@ -118,7 +118,7 @@ rest_in_goes S header zero (suc (suc more)) offset at s b e f = absurd (omega ar
 rest_in_goes S header (suc full) zero offset at s b e f = absurd (omega arith)
 rest_in_goes S header (suc full) (suc more) offset at s b e f =
     let l : 32 ≤ length s = omega arith in
-    let front = tell (at + 32) (Left offset (take 32 s)) ∷ [] in
+    let front = line_at (at + 32) (RestLine offset (take 32 s)) ∷ [] in
     rw (take-append-le 32 s (b ∷ []) l, drop-append-le 32 s (b ∷ []) l)
     (ap (with_front front)
     (rest_in_goes S header full more (offset + 32) (at + 32) (drop 32 s) b (omega (arith, length-drop 32 s)) (omega (arith, length-drop 32 s)))
@@ -131,7 +131,7 @@ rest_goes S header at s b = rest_in_goes S header (length s / 32) (length (s ++ 
 -- ---- the padding
 
 padded_waits : (S : Signatures) (header : List ℕ) (t : BodyType) (at : ℕ) (s : List ℕ) →
-    length s < padding at 8 → padded S header t at s ≡ Comes [] (at + length s) (In_padding t)
+    length s < padding at 8 → padded S header t at s ≡ ReadTo [] (at + length s) (In_padding t)
 unfolding padded
 padded_waits S header t at s h = rw lt-ltb refl
 
@@ -148,14 +148,14 @@ pad_less at k h = omega arith
 
 module _ (S : Signatures) (header : List ℕ) (t : BodyType) (at b : ℕ) (s : List ℕ) where
   padding_waits : 1 < padding (at + length s) 8 →
-      Comes [] (at + length (s ++ b ∷ [])) (In_padding t)
-      ≡ advance S header (Comes [] (at + length s) (In_padding t)) b
+      ReadTo [] (at + length (s ++ b ∷ [])) (In_padding t)
+      ≡ advance S header (ReadTo [] (at + length s) (In_padding t)) b
   unfolding advance message_step
   padding_waits m = rw (lt-ltb 1 (padding (at + length s) 8) m, front_none, length_one_more, add_assoc) refl
 
   padding_begins : padding at 8 ≡ length (s ++ b ∷ []) → padding (at + length s) 8 ≤ 1 →
       body S header t (at + padding at 8) (drop (padding at 8) (s ++ b ∷ []))
-      ≡ advance S header (Comes [] (at + length s) (In_padding t)) b
+      ≡ advance S header (ReadTo [] (at + length s) (In_padding t)) b
   unfolding advance message_step
   padding_begins l m =
       let n : at + padding at 8 ≡ (at + length s) + 1 = omega (arith, length_one_more s b) in
@@ -186,8 +186,8 @@ padded_goes S header t goes at s b = go (cases_lt (length s) (padding at 8)) (ca
 -- What holds of each part of a message and of what follows it: of the rest, of a section where it holds behind that, and
 -- of a body behind padding where it holds of the body.
 module _ (S : Signatures) (header : List ℕ) (P : (ℕ → List ℕ → Message) → Type 0) (rests : P rest)
-    (reads : (section : Section) (T : Ty) → ((h : Heard) → P (after S header section h)) →
-    P (λ at s. through S header section nothing (read (plain (order header)) [] T at s)))
+    (reads : (section : Section) (T : Ty) → ((h : Noted) → P (after S header section h)) →
+    P (λ at s. section_and_rest S header section nothing_noted (read (plain (order header)) [] T at s)))
     (pads : (t : BodyType) → P (body S header t) → P (padded S header t)) where
   typed_has : (T : Ty) → P (typed (order header) T)
   unfolding typed
@@ -198,7 +198,7 @@ module _ (S : Signatures) (header : List ℕ) (P : (ℕ → List ℕ → Message
   option_has None = rests
   option_has (Some T) = typed_has T
 
-  exception_has : (h : Heard) → P (after_exception S header h)
+  exception_has : (h : Noted) → P (after_exception S header h)
   unfolding after_exception
   exception_has h = option_has (members_of S h.name)
 
@@ -206,9 +206,9 @@ module _ (S : Signatures) (header : List ℕ) (P : (ℕ → List ℕ → Message
   unfolding body
   body_has Untyped = rests
   body_has (Typed T) = typed_has T
-  body_has Raised = reads sections.Exception S.exception_id exception_has
+  body_has UserException = reads sections.Exception S.exception_id exception_has
 
-  header_has : (h : Heard) → P (after_header S header h)
+  header_has : (h : Noted) → P (after_header S header h)
   unfolding after_header
   header_has h = go (has_body header) (minor header == 2)
     where
@@ -219,7 +219,7 @@ module _ (S : Signatures) (header : List ℕ) (P : (ℕ → List ℕ → Message
       go true false = body_has (body_of S header h)
       go false is_2 = rests
 
-  pub after_has : (section : Section) (h : Heard) → P (after S header section h)
+  pub after_has : (section : Section) (h : Noted) → P (after S header section h)
   after_has sections.Header h = header_has h
   after_has sections.Exception h = exception_has h
   after_has sections.Body h = rests
@@ -233,13 +233,13 @@ module _ (S : Signatures) (header : List ℕ) (P : (ℕ → List ℕ → Message
   message_has = message_by (S.header (minor header) (kind header))
 
 reads_go : (S : Signatures) (header : List ℕ) (section : Section) (T : Ty) →
-    ((h : Heard) → Goes S header (after S header section h)) →
-    Goes S header (λ at s. through S header section nothing (read (plain (order header)) [] T at s))
+    ((h : Noted) → Goes S header (after S header section h)) →
+    Goes S header (λ at s. section_and_rest S header section nothing_noted (read (plain (order header)) [] T at s))
 reads_go S header section T goes at s b =
-    ap (through S header section nothing) (read_goes (plain (order header)) [] T at s b)
-    ∙ through_goes S header section goes nothing (read (plain (order header)) [] T at s) b
+    ap (section_and_rest S header section nothing_noted) (read_goes (plain (order header)) [] T at s b)
+    ∙ through_goes S header section goes nothing_noted (read (plain (order header)) [] T at s) b
 
-pub after_goes : (S : Signatures) (header : List ℕ) (section : Section) (h : Heard) →
+pub after_goes : (S : Signatures) (header : List ℕ) (section : Section) (h : Noted) →
     Goes S header (after S header section h)
 after_goes S header = after_has S header (Goes S header) (rest_goes S header) (reads_go S header) (padded_goes S header)
 

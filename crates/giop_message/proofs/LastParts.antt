@@ -11,14 +11,14 @@ use Rattle.giop_sig.specs.Types.{Ty, Struct}
 use Rattle.giop_sig.specs.Fits.{IsFit}
 use Rattle.giop_sig.specs.Trees.{trees_after, type_in}
 use Rattle.giop_sig.specs.Builtin.{builtin_types, builtin_table}
-use Rattle.giop_sig.specs.Headers.{header_type, header_number, IsTable, IsCall, IsRaised}
+use Rattle.giop_sig.specs.HeaderTypes.{header_type, header_number, IsTable, IsOperation, IsException}
 use Rattle.giop_sig.proofs.Builtins.{builtin_are, builtin_fit, header_built_in}
-use Rattle.giop_decode.specs.Spine
-use Rattle.giop_decode.specs.Spine.{Coding, Seg, Name, Switch, Held, Line, Place, Part, Member, Inside, Leaf, Head, Opening, Content, Read, Done, Short, Fault, lines_of, with_front, followed, within}
+use Rattle.giop_decode.specs.ReadResult
+use Rattle.giop_decode.specs.ReadResult.{Coding, PathSegment, Name, Switch, Held, Line, OpenPart, Part, Member, Inside, Leaf, LeadingNumber, Opening, Content, Read, Done, Short, Fault, lines_of, with_front, followed, within}
 use Rattle.giop_decode.specs.Reading.{parts_from}
-use Rattle.giop_decode.specs.Steps.{Now, part_at, path_in, seg_of, seg_in, step, resumed, Quiet, leaf_step}
+use Rattle.giop_decode.specs.ReadingSteps.{IsOctetResult, part_at, path_in, segment_of, segment_in, step, resumed, IsEmptyResult, leaf_step}
 use Rattle.giop_decode.specs.Fits.{FitsIn}
-use Rattle.giop_decode.specs.Heard.{is_member, ends_operation, ends_text}
+use Rattle.giop_decode.specs.Noted.{is_member, ends_operation, ends_text}
 use Rattle.giop_decode.proofs.ReadingLaws.{step_now, next_part, switch_member, now_within, parts_quiet}
 use Rattle.giop_message.proofs.StepLines.{IsOf, step_of, Firm, leaf_says}
 
@@ -37,8 +37,8 @@ builtin_is : IsTable builtin_table
 builtin_is = record {
   types = builtin_are;
   begins = ([], sym (append-nil builtin_types));
-  operations = All-from_recursion (IsCall builtin_types) [] tt;
-  exceptions = All-from_recursion (IsRaised builtin_types) [] tt;
+  operations = All-from_recursion (IsOperation builtin_types) [] tt;
+  exceptions = All-from_recursion (IsException builtin_types) [] tt;
   operations_distinct = λ i j h k e. absurd (omega arith);
   exceptions_distinct = λ i j h k e. absurd (omega arith);
   operations_few = omega arith;
@@ -59,19 +59,19 @@ header_fit minor kind T e = subst (λ found. IfSome found (IsFit 24)) e (number_
 -- ---- no operation at the end
 
 -- a path of several steps is no member of the root
-pub deep_member : (name : List ℕ) (a b : Seg) (path : List Seg) (outer : List Place) →
+pub deep_member : (name : List ℕ) (a b : PathSegment) (path : List PathSegment) (outer : List OpenPart) →
     is_member name (path_in (a ∷ b ∷ path) outer) ≡ false
 deep_member name (Name x) b path [] = refl
-deep_member name (Spine.Index x) b path [] = refl
+deep_member name (ReadResult.Index x) b path [] = refl
 deep_member name (Switch tag) b path [] = refl
 deep_member name Held b path [] = refl
-deep_member name a b path (place ∷ outer) = deep_member name a b (path ++ seg_in place ∷ []) outer
+deep_member name a b path (place ∷ outer) = deep_member name a b (path ++ segment_in place ∷ []) outer
 
 both_false : (a b c : Bool) → b ≡ false → (a && (b && c)) ≡ false
 both_false true b c e = rw e refl
 both_false false b c e = refl
 
-no_end : (is : Bool) (path : List Seg) (l : Line) → IsOf path l →
+no_end : (is : Bool) (path : List PathSegment) (l : Line) → IsOf path l →
     is_member (codes "operation") path ≡ false → ends_operation is l ≡ false
 no_end is path l of e = both_false is (is_member (codes "operation") l.path) (ends_text l.value) (go of.stands)
   where
@@ -80,7 +80,7 @@ no_end is path l of e = both_false is (is_member (codes "operation") l.path) (en
     go (inl same) = rw same e
     go (inr same) = rw same.1 (switch_member (codes "operation") path same.0)
 
-pub no_ends : (is : Bool) (path : List Seg) (lines : List Line) → Each (IsOf path) lines →
+pub no_ends : (is : Bool) (path : List PathSegment) (lines : List Line) → Each (IsOf path) lines →
     is_member (codes "operation") path ≡ false → Each (λ l. ends_operation is l ≡ false) lines
 no_ends is path [] each e = tt
 no_ends is path (l ∷ ls) each e = (no_end is path l each.0 e, no_ends is path ls each.1 e)
@@ -90,14 +90,14 @@ abbrev pub done_test : Read → Bool
 done_test (Done lines at rest) = true
 done_test r = false
 
-short_front : (front : List Line) (r : Read) (at : ℕ) (outer : List Place) (leaf : Leaf) →
+short_front : (front : List Line) (r : Read) (at : ℕ) (outer : List OpenPart) (leaf : Leaf) →
     with_front [] r ≡ Short [] at outer leaf → done_test (with_front front r) ≡ false
 short_front front (Done lines at rest) at' outer leaf e = absurd (false≢true (sym (ap done_test e)))
 short_front front r at' outer' leaf' e = refl
 
 -- a struct goes on behind a part that isn't its last
 goes_on : (coding : Coding) (d n : ℕ) (names : ℕ → List ℕ) (parts : ℕ → Ty) (i at : ℕ)
-    (inner : Read) → IsFit (suc d) (Struct (suc n) names parts) → suc i < suc n → Now at inner →
+    (inner : Read) → IsFit (suc d) (Struct (suc n) names parts) → suc i < suc n → IsOctetResult at inner →
     done_test (resumed coding [] (Part (Struct (suc n) names parts) i (suc n)) inner) ≡ false
 goes_on coding d n names parts i at (Done lines at' rest) fit below now =
     let T = Struct (suc n) names parts in
@@ -109,7 +109,7 @@ goes_on coding d n names parts i at _ fit below now = refl
 module _ (coding : Coding) (is : Bool) (n : ℕ) (names : ℕ → List ℕ) (parts : ℕ → Ty)
     (fit : IsFit 24 (Struct (suc n) names parts))
     (other : bytes_eq (codes "operation") (names n) ≡ false) (at b : ℕ) where
-  abbrev NoCalls : List Place → Leaf → Type 0
+  abbrev NoCalls : List OpenPart → Leaf → Type 0
   NoCalls outer leaf = Each (λ l. ends_operation is l ≡ false) (lines_of (step coding [] outer leaf at b))
 
   in_part : (i : ℕ) (leaf : Leaf) → FitsIn (parts i) [] leaf → i < suc n →
@@ -128,9 +128,9 @@ module _ (coding : Coding) (is : Bool) (n : ℕ) (names : ℕ → List ℕ) (par
           no_ends is (Name (names i) ∷ []) _ (step_of coding [] (Part (Struct (suc n) names parts) i (suc n) ∷ []) leaf at b)
           (ap (λ k. bytes_eq (codes "operation") (names k)) e ∙ other)
 
-  in_struct : (outer : List Place) (leaf : Leaf) → FitsIn (Struct (suc n) names parts) outer leaf →
+  in_struct : (outer : List OpenPart) (leaf : Leaf) → FitsIn (Struct (suc n) names parts) outer leaf →
       done_test (step coding [] outer leaf at b) ≡ true → NoCalls outer leaf
-  in_struct [] (Head U carry) fits done = absurd fits.kind
+  in_struct [] (LeadingNumber U carry) fits done = absurd fits.kind
   in_struct [] (Opening U n) fits done = absurd fits.kind
   in_struct [] (Content U total offset piece) fits done = absurd fits.kind
   in_struct (Inside U inner end ∷ outer) leaf fits done = absurd fits.0.kind
@@ -140,11 +140,11 @@ module _ (coding : Coding) (is : Bool) (n : ℕ) (names : ℕ → List ℕ) (par
       subst (λ p. NoCalls (p ∷ []) leaf) (sym same)
       (in_part i leaf fits.1 (rw fits.0.kind at fits.0.below) (subst (λ p. done_test (step coding [] (p ∷ []) leaf at b) ≡ true) same done))
   in_struct (Part U i count ∷ place ∷ outer) leaf fits done =
-      no_ends is (path_in (seg_of U i ∷ seg_in place ∷ []) outer) _ (step_of coding [] (Part U i count ∷ place ∷ outer) leaf at b)
-      (deep_member (codes "operation") (seg_of U i) (seg_in place) [] outer)
+      no_ends is (path_in (segment_of U i ∷ segment_in place ∷ []) outer) _ (step_of coding [] (Part U i count ∷ place ∷ outer) leaf at b)
+      (deep_member (codes "operation") (segment_of U i) (segment_in place) [] outer)
 
 -- What ends a header that ends otherwise calls nothing.
-pub last_no_call : (coding : Coding) (is : Bool) (T : Ty) (outer : List Place) (leaf : Leaf)
+pub last_no_call : (coding : Coding) (is : Bool) (T : Ty) (outer : List OpenPart) (leaf : Leaf)
     (at b : ℕ) → EndsOtherwise T → IsFit 24 T → FitsIn T outer leaf →
     done_test (step coding [] outer leaf at b) ≡ true →
     Each (λ l. ends_operation is l ≡ false) (lines_of (step coding [] outer leaf at b))
@@ -180,42 +180,42 @@ firm_none is (Fault lines at why T) (inr h) = absurd (false≢true (sym h.1))
 
 -- ---- what stands around it
 
-followed_none : (is : Bool) (n : ℕ) (r : Read) (next : ℕ → List ℕ → Read) → Now n r →
-    Quiet n (next n []) → CallsNone is r → CallsNone is (followed r next)
+followed_none : (is : Bool) (n : ℕ) (r : Read) (next : ℕ → List ℕ → Read) → IsOctetResult n r →
+    IsEmptyResult n (next n []) → CallsNone is r → CallsNone is (followed r next)
 followed_none is n (Done lines at rest) next now quiet h = rw (now.1, now.2) (behind (next n []) quiet)
   where
-    behind : (q : Read) → Quiet n q → CallsNone is (Spine.with_front lines q)
+    behind : (q : Read) → IsEmptyResult n q → CallsNone is (ReadResult.with_front lines q)
     behind (Done ls at rest) k = tt
     behind (Short ls at outer leaf) k = tt
     behind (Fault ls at why S) k = absurd k
 followed_none is n (Short lines at outer leaf) next now quiet h = tt
 followed_none is n (Fault lines at why T) next now quiet h = h
 
-within_none : (is : Bool) (place : Place) (r : Read) → CallsNone is r →
+within_none : (is : Bool) (place : OpenPart) (r : Read) → CallsNone is r →
     CallsNone is (within place r)
 within_none is place (Done lines at rest) h = h
 within_none is place r h = h
 
 -- what stands in an encapsulation is no member of the root
-held_member : (name : List ℕ) (path : List Seg) (outer : List Place) →
+held_member : (name : List ℕ) (path : List PathSegment) (outer : List OpenPart) →
     is_member name (path_in (path ++ Held ∷ []) outer) ≡ false
 held_member name [] [] = refl
-held_member name [] (place ∷ outer) = deep_member name Held (seg_in place) [] outer
+held_member name [] (place ∷ outer) = deep_member name Held (segment_in place) [] outer
 held_member name (a ∷ []) outer = deep_member name a Held [] outer
 held_member name (a ∷ b ∷ path) outer = deep_member name a b (path ++ Held ∷ []) outer
 
 -- An octet that ends an encapsulation too soon may say what it completes, which is no operation.
-pub step_none : (is : Bool) (coding : Coding) (path : List Seg) (outer : List Place) (leaf : Leaf)
+pub step_none : (is : Bool) (coding : Coding) (path : List PathSegment) (outer : List OpenPart) (leaf : Leaf)
     (at b : ℕ) → CallsNone is (step coding path outer leaf at b)
 step_none is coding path [] leaf at b = firm_none is (leaf_step coding path leaf at b) (leaf_says coding path leaf at b).firm
 step_none is coding path (Part T i count ∷ outer) leaf at b =
-    let inner = step coding (path ++ seg_of T i ∷ []) outer leaf at b in
+    let inner = step coding (path ++ segment_of T i ∷ []) outer leaf at b in
     followed_none is (at + 1) (within (Part T i count) inner) (parts_from (part_at coding path T count) (count - suc i) (suc i))
-    (now_within (at + 1) (Part T i count) inner (step_now coding (path ++ seg_of T i ∷ []) outer leaf at b))
+    (now_within (at + 1) (Part T i count) inner (step_now coding (path ++ segment_of T i ∷ []) outer leaf at b))
     (parts_quiet coding path T count (at + 1) (count - suc i) (suc i))
-    (within_none is (Part T i count) inner (step_none is coding (path ++ seg_of T i ∷ []) outer leaf at b))
+    (within_none is (Part T i count) inner (step_none is coding (path ++ segment_of T i ∷ []) outer leaf at b))
 step_none is coding path (Member T i ∷ outer) leaf at b =
-    within_none is (Member T i) (step coding (path ++ seg_of T i ∷ []) outer leaf at b) (step_none is coding (path ++ seg_of T i ∷ []) outer leaf at b)
+    within_none is (Member T i) (step coding (path ++ segment_of T i ∷ []) outer leaf at b) (step_none is coding (path ++ segment_of T i ∷ []) outer leaf at b)
 step_none is coding path (Inside T inner end ∷ outer) leaf at b =
     let r = step coding path (Inside T inner end ∷ outer) leaf at b in
     each_none is r (no_ends is (path_in (path ++ Held ∷ []) outer) (lines_of r) (step_of coding path (Inside T inner end ∷ outer) leaf at b)

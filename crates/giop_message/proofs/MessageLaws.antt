@@ -3,11 +3,11 @@
 use Rattle.std.proofs.Common.{false, ◌≡◌, ℕ, List}
 use Rattle.giop_sig.specs.Table.{Table}
 use Rattle.giop_message.specs.declared.message.Message.{Message as MessageValue}
-use Rattle.giop_message.specs.Reading.{IsNamed}
-use Rattle.giop_message.specs.Signatures.{Listed, said_by}
+use Rattle.giop_message.specs.MessageReader.{HasOnlyValuesInId}
+use Rattle.giop_message.specs.Signatures.{RequestTable, signatures_of}
 use Rattle.giop_message.specs.Messages.{message, stage_of}
-use Rattle.giop_message.specs.MessageReading.{message_reading, is_over}
-use Rattle.giop_message.specs.Holding.{Follows}
+use Rattle.giop_message.specs.ReaderOfTable.{message_reader, is_over}
+use Rattle.giop_message.specs.MessageState.{Follows}
 use Rattle.giop_message.proofs.Named as named
 use Rattle.giop_message.proofs.Followings as followings
 -- what the stream asks of a reading (`message_laws`)
@@ -21,16 +21,16 @@ pub use Rattle.giop_message.proofs.Followings.{told_more}
 pub use Rattle.giop_message.proofs.Faults.{over_where_faulted}
 -- the text of octets: of two lists one after the other, of none, and behind a fault
 pub use Rattle.giop_message.proofs.Dues.{text_both, text_none, text_over}
--- one octet, and the close, told by the reading alone (`saying_laws`)
+-- one octet, and the close, told by the reading alone (`message_reader_laws`)
 pub use Rattle.giop_message.proofs.AtOctet.{octet_text, octet_over, close_short}
 pub use Rattle.giop_message.proofs.AtOctet.{close_is}
 
 -- and by a catalogue's table and what is kept of a request list
 
-pub is_named : (C : Table) (listed : Listed) → IsNamed (message_reading C listed)
-is_named C listed = named.is_named (said_by C listed) (named.has_ids C listed)
+pub is_named : (C : Table) (request_table : RequestTable) → HasOnlyValuesInId (message_reader C request_table)
+is_named C request_table = named.is_named (signatures_of C request_table) (named.has_ids C request_table)
 
-pub follows_goes : (C : Table) (listed : Listed) (number : ℕ) (header : List ℕ) (m : MessageValue)
-    (s : List ℕ) → Follows C listed number header m s →
-    is_over (stage_of (message (said_by C listed) header s)) ≡ false
-follows_goes C listed number header m s f = followings.follows_goes f
+pub follows_goes : (C : Table) (request_table : RequestTable) (number : ℕ) (header : List ℕ) (m : MessageValue)
+    (s : List ℕ) → Follows C request_table number header m s →
+    is_over (stage_of (message (signatures_of C request_table) header s)) ≡ false
+follows_goes C request_table number header m s f = followings.follows_goes f

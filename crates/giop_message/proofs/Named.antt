@@ -10,40 +10,40 @@ use Rattle.giop_cdr.specs.declared.prim.Primitive.TheVariants as prims
 use Rattle.giop_print.specs.declared.path.Root.TheVariants as roots
 use Rattle.giop_sig.specs.Types.{Ty, Plain, Single, Struct}
 use Rattle.giop_sig.specs.Table.{Table}
-use Rattle.giop_sig.specs.Headers.{BeginsWithId, IdStandsFirst, header_type}
+use Rattle.giop_sig.specs.HeaderTypes.{BeginsWithId, IdStandsFirst, header_type}
 use Rattle.giop_sig.proofs.HeaderLaws.{id_first}
-use Rattle.giop_decode.specs.Spine as spine
-use Rattle.giop_decode.specs.Spine.{plain, Seg, Name, Line, Number, line, Place, Leaf, Part, Read, Done, Short, followed, within}
+use Rattle.giop_decode.specs.ReadResult as spine
+use Rattle.giop_decode.specs.ReadResult.{plain, PathSegment, Name, Line, Number, line, OpenPart, Leaf, Part, Read, Done, Short, followed, within}
 use Rattle.giop_decode.specs.Pieces.{block, number}
 use Rattle.giop_decode.specs.Reading.{read, parts_from}
-use Rattle.giop_decode.specs.Steps.{Quiet, part_at}
-use Rattle.giop_decode.specs.Heard.{Heard, nothing, heard, is_member, ends_operation}
+use Rattle.giop_decode.specs.ReadingSteps.{IsEmptyResult, part_at}
+use Rattle.giop_decode.specs.Noted.{Noted, nothing_noted, noted, is_member, ends_operation}
 use Rattle.giop_decode.proofs.ReadingLaws.{quiet_parts, part_quiet}
 use Rattle.giop_message.specs.declared.part.Section.TheVariants as sections
 use Rattle.giop_message.specs.Headers.{minor, kind, order, has_more, may_be_fragmented, is_opener, is_fragment, is_cancel, has_name}
-use Rattle.giop_message.specs.Reading.{Value, is_last, IsEnding, IsNamed}
-use Rattle.giop_message.specs.Signatures.{Signatures, Listed, said_by}
-use Rattle.giop_message.specs.Messages.{Said, Incomplete, Ends, Told, tell, calls, tells, may_lack, Stage, In_typed, In_padding, In_rest, Over, Message, Comes, with_front, passes, rest_in, rest, is_request, after_header, of_header, message, told_of, stage_of, close}
-use Rattle.giop_message.specs.MessageReading.{saying_of, remark_of, closing_of, reading_by, HasIds, id_in, first_id, id_said}
+use Rattle.giop_message.specs.MessageReader.{Value, is_last, IsEnding, HasOnlyValuesInId}
+use Rattle.giop_message.specs.Signatures.{Signatures, RequestTable, signatures_of}
+use Rattle.giop_message.specs.Messages.{ValueLine, ShortLine, EndLine, LineAt, line_at, calls, section_lines, body_may_be_missing, Stage, In_typed, In_padding, In_rest, Over, Message, ReadTo, with_front, section_then, rest_in, rest, is_request, after_header, of_header, message, message_lines, stage_of, close}
+use Rattle.giop_message.specs.ReaderOfTable.{line_class_of, timed_line_of, closing_of, reader_by, HasIds, id_in, first_id, first_request_id}
 use Rattle.giop_message.proofs.Going.{passes_front}
 use Rattle.giop_message.proofs.Octets.{told_front, told_silent}
 use Rattle.giop_message.proofs.Causal.{Silent, passes_silent, after_silent, told_begins}
 
 -- ---- the close
 
-pub is_ending : (S : Signatures) → IsEnding (reading_by S)
-unfolding reading_by saying_of close
+pub is_ending : (S : Signatures) → IsEnding (reader_by S)
+unfolding reader_by line_class_of close
 is_ending S = record { ends = λ header xs. go (stage_of (message S header xs)) }
   where
     lack : (test : Bool) →
-        list_any (λ l. is_last l.0) (map closing_of (if test then Ends ∷ [] else Incomplete ∷ []))
+        list_any (λ l. is_last l.0) (map closing_of (if test then EndLine ∷ [] else ShortLine ∷ []))
         ≡ true
     lack true = refl
     lack false = refl
 
     go : (stage : Stage) → list_any (λ l. is_last l.0) (map closing_of (close stage)) ≡ true
     go (In_typed section h outer leaf) = refl
-    go (In_padding t) = lack (may_lack t)
+    go (In_padding t) = lack (body_may_be_missing t)
     go (In_rest offset []) = refl
     go (In_rest offset (x ∷ held)) = refl
     go Over = refl
@@ -59,17 +59,17 @@ no_operation true true = refl
 no_operation true false = refl
 no_operation false path_is = refl
 
-number_no_operation : (is : Bool) (path : List Seg) (n : ℕ) →
+number_no_operation : (is : Bool) (path : List PathSegment) (n : ℕ) →
     ends_operation is (line 16 path (Number (Plain prims.ULong) n)) ≡ false
 number_no_operation is path n = no_operation is (is_member (codes "operation") path)
 
-tells_id : (is : Bool) (path : List Seg) (n : ℕ) →
-    tells roots.Header is nothing (line 16 path (Number (Plain prims.ULong) n) ∷ [])
-    ≡ tell 16 (Said roots.Header path (Number (Plain prims.ULong) n)) ∷ []
-unfolding tells calls
+tells_id : (is : Bool) (path : List PathSegment) (n : ℕ) →
+    section_lines roots.Header is nothing_noted (line 16 path (Number (Plain prims.ULong) n) ∷ [])
+    ≡ line_at 16 (ValueLine roots.Header path (Number (Plain prims.ULong) n)) ∷ []
+unfolding section_lines calls
 tells_id is path n = rw (number_no_operation is path n) refl
 
-module _ (o : Order) (path : List Seg) where
+module _ (o : Order) (path : List PathSegment) where
   read_four : (a b c d : ℕ) →
       read (plain o) path (Single (Plain prims.ULong)) 12 (a ∷ b ∷ c ∷ d ∷ [])
       ≡ Done (line 16 path (Number (Plain prims.ULong) (num o (a ∷ b ∷ c ∷ d ∷ []))) ∷ []) 16 []
@@ -97,68 +97,68 @@ module _ (o : Order) (n : ℕ) (of : ℕ → List ℕ) (parts : ℕ → Ty)
   first_four a b c d =
       first_part (a ∷ b ∷ c ∷ d ∷ []) ∙ ap (λ r. followed (within (Part (Struct (suc n) of parts) 0 (suc n)) r) next) (read_four o (Name (of 0) ∷ []) a b c d)
 
-  next_quiet : Quiet 16 (next 16 [])
+  next_quiet : IsEmptyResult 16 (next 16 [])
   unfolding next
   next_quiet = quiet_parts 16 (part_at (plain o) [] (Struct (suc n) of parts) (suc n)) (part_quiet (plain o) [] (Struct (suc n) of parts) (suc n) 16) n 1
 
-  module _ (is_req : Bool) (onward : Heard → ℕ → List ℕ → Message)
-      (silent : (h : Heard) → Silent 16 (onward h 16 [])) where
-    told_few : (xs : List ℕ) → length xs < 4 → told_of (passes sections.Header is_req onward nothing
+  module _ (is_req : Bool) (onward : Noted → ℕ → List ℕ → Message)
+      (silent : (h : Noted) → Silent 16 (onward h 16 [])) where
+    told_few : (xs : List ℕ) → length xs < 4 → message_lines (section_then sections.Header is_req onward nothing_noted
         (read (plain o) [] (Struct (suc n) of parts) 12 xs)) ≡ []
-    unfolding number block padding passes tells told_of
-    told_few [] h = ap (λ r. told_of (passes sections.Header is_req onward nothing r)) (first_part [])
-    told_few (a ∷ []) h = ap (λ r. told_of (passes sections.Header is_req onward nothing r)) (first_part (a ∷ []))
-    told_few (a ∷ b ∷ []) h = ap (λ r. told_of (passes sections.Header is_req onward nothing r)) (first_part (a ∷ b ∷ []))
-    told_few (a ∷ b ∷ c ∷ []) h = ap (λ r. told_of (passes sections.Header is_req onward nothing r)) (first_part (a ∷ b ∷ c ∷ []))
+    unfolding number block padding section_then section_lines message_lines
+    told_few [] h = ap (λ r. message_lines (section_then sections.Header is_req onward nothing_noted r)) (first_part [])
+    told_few (a ∷ []) h = ap (λ r. message_lines (section_then sections.Header is_req onward nothing_noted r)) (first_part (a ∷ []))
+    told_few (a ∷ b ∷ []) h = ap (λ r. message_lines (section_then sections.Header is_req onward nothing_noted r)) (first_part (a ∷ b ∷ []))
+    told_few (a ∷ b ∷ c ∷ []) h = ap (λ r. message_lines (section_then sections.Header is_req onward nothing_noted r)) (first_part (a ∷ b ∷ c ∷ []))
     told_few (a ∷ b ∷ c ∷ d ∷ xs) h = absurd (omega arith)
 
-    told_four : (a b c d : ℕ) → told_of (passes sections.Header is_req onward nothing
-        (read (plain o) [] (Struct (suc n) of parts) 12 (a ∷ b ∷ c ∷ d ∷ []))) ≡ tell 16
-        (Said roots.Header (Name (of 0) ∷ [])
+    told_four : (a b c d : ℕ) → message_lines (section_then sections.Header is_req onward nothing_noted
+        (read (plain o) [] (Struct (suc n) of parts) 12 (a ∷ b ∷ c ∷ d ∷ []))) ≡ line_at 16
+        (ValueLine roots.Header (Name (of 0) ∷ [])
         (Number (Plain prims.ULong) (num o (a ∷ b ∷ c ∷ d ∷ [])))) ∷ []
     unfolding id_line
     told_four a b c d =
         let l = id_line (a ∷ b ∷ c ∷ d ∷ []) in
-        ap (λ r. told_of (passes sections.Header is_req onward nothing r)) (first_four a b c d)
-        ∙ (ap told_of (passes_front sections.Header is_req onward nothing (l ∷ []) (next 16 []))
-        ∙ (told_front (tells roots.Header is_req nothing (l ∷ [])) (passes sections.Header is_req onward (heard true nothing (l ∷ [])) (next 16 []))
-        ∙ (ap (λ ts. tells roots.Header is_req nothing (l ∷ []) ++ ts)
-        (told_silent 16 (passes sections.Header is_req onward (heard true nothing (l ∷ [])) (next 16 []))
-        (passes_silent sections.Header is_req onward 16 silent (heard true nothing (l ∷ [])) (next 16 []) next_quiet))
-        ∙ (append-nil (tells roots.Header is_req nothing (l ∷ [])) ∙ tells_id is_req (Name (of 0) ∷ []) (num o (a ∷ b ∷ c ∷ d ∷ []))))))
+        ap (λ r. message_lines (section_then sections.Header is_req onward nothing_noted r)) (first_four a b c d)
+        ∙ (ap message_lines (passes_front sections.Header is_req onward nothing_noted (l ∷ []) (next 16 []))
+        ∙ (told_front (section_lines roots.Header is_req nothing_noted (l ∷ [])) (section_then sections.Header is_req onward (noted true nothing_noted (l ∷ [])) (next 16 []))
+        ∙ (ap (λ ts. section_lines roots.Header is_req nothing_noted (l ∷ []) ++ ts)
+        (told_silent 16 (section_then sections.Header is_req onward (noted true nothing_noted (l ∷ [])) (next 16 []))
+        (passes_silent sections.Header is_req onward 16 silent (noted true nothing_noted (l ∷ [])) (next 16 []) next_quiet))
+        ∙ (append-nil (section_lines roots.Header is_req nothing_noted (l ∷ [])) ∙ tells_id is_req (Name (of 0) ∷ []) (num o (a ∷ b ∷ c ∷ d ∷ []))))))
 
 -- of a header that begins with its request id
 module _ (S : Signatures) (header : List ℕ) where
-  id_told : List ℕ → List Told
-  id_told xs = tell 16 (Said roots.Header (Name (codes "request_id") ∷ []) (Number (Plain prims.ULong) (num (order header) xs))) ∷ []
+  id_told : List ℕ → List LineAt
+  id_told xs = line_at 16 (ValueLine roots.Header (Name (codes "request_id") ∷ []) (Number (Plain prims.ULong) (num (order header) xs))) ∷ []
 
   few_by : (T : Ty) → BeginsWithId T → (xs : List ℕ) → length xs < 4 →
-      told_of (of_header S header (Some T) 12 xs) ≡ []
+      message_lines (of_header S header (Some T) 12 xs) ≡ []
   unfolding of_header
   few_by T (n, of, parts, is, name_is, long) xs h =
-      ap (λ U. told_of (of_header S header (Some U) 12 xs)) is
+      ap (λ U. message_lines (of_header S header (Some U) 12 xs)) is
       ∙ told_few (order header) n of parts long (is_request header) (after_header S header) (λ h. after_silent S header sections.Header h 16) xs h
 
   four_by : (T : Ty) → BeginsWithId T → (a b c d : ℕ) →
-      told_of (of_header S header (Some T) 12 (a ∷ b ∷ c ∷ d ∷ [])) ≡ id_told (a ∷ b ∷ c ∷ d ∷ [])
+      message_lines (of_header S header (Some T) 12 (a ∷ b ∷ c ∷ d ∷ [])) ≡ id_told (a ∷ b ∷ c ∷ d ∷ [])
   unfolding of_header id_told
   four_by T (n, of, parts, is, name_is, long) a b c d =
-      ap (λ U. told_of (of_header S header (Some U) 12 (a ∷ b ∷ c ∷ d ∷ []))) is
+      ap (λ U. message_lines (of_header S header (Some U) 12 (a ∷ b ∷ c ∷ d ∷ []))) is
       ∙ (told_four (order header) n of parts long (is_request header) (after_header S header) (λ h. after_silent S header sections.Header h 16) a b c d
-      ∙ ap (λ name. tell 16 (Said roots.Header (Name name ∷ []) (Number (Plain prims.ULong) (num (order header) (a ∷ b ∷ c ∷ d ∷ [])))) ∷ []) name_is)
+      ∙ ap (λ name. line_at 16 (ValueLine roots.Header (Name name ∷ []) (Number (Plain prims.ULong) (num (order header) (a ∷ b ∷ c ∷ d ∷ [])))) ∷ []) name_is)
 
   -- without a header type the first octets are of the rest
-  rest_few : (xs : List ℕ) → length xs ≤ 4 → told_of (of_header S header None 12 xs) ≡ []
-  unfolding of_header rest rest_in told_of
+  rest_few : (xs : List ℕ) → length xs ≤ 4 → message_lines (of_header S header None 12 xs) ≡ []
+  unfolding of_header rest rest_in message_lines
   rest_few (a ∷ b ∷ c ∷ d ∷ e ∷ xs) h = absurd (omega arith)
   rest_few _ h = refl
 
-  are_values : List Told → Type 0
-  are_values ts = Each (λ r. r.saying ≡ Value) (map remark_of ts)
+  are_values : List LineAt → Type 0
+  are_values ts = Each (λ r. r.line_class ≡ Value) (map timed_line_of ts)
 
   named_by : (found : Option Ty) → IfSome found BeginsWithId → (xs : List ℕ) → length xs ≤ 4 →
-      are_values (told_of (of_header S header found 12 xs))
-  unfolding are_values saying_of tell id_told
+      are_values (message_lines (of_header S header found 12 xs))
+  unfolding are_values line_class_of line_at id_told
   named_by None begins xs h = rw (rest_few xs h) tt
   named_by (Some T) begins [] h = rw (few_by T begins [] (omega arith)) tt
   named_by (Some T) begins (a ∷ []) h = rw (few_by T begins (a ∷ []) (omega arith)) tt
@@ -167,25 +167,25 @@ module _ (S : Signatures) (header : List ℕ) where
   named_by (Some T) begins (a ∷ b ∷ c ∷ d ∷ []) h = rw (four_by T begins a b c d) (refl, tt)
   named_by (Some T) begins (a ∷ b ∷ c ∷ d ∷ e ∷ xs) h = absurd (omega arith)
 
-  id_four : (T : Ty) → BeginsWithId T → (a b c d : ℕ) (later : List Told) →
-      id_said (told_of (of_header S header (Some T) 12 (a ∷ b ∷ c ∷ d ∷ [])) ++ later)
+  id_four : (T : Ty) → BeginsWithId T → (a b c d : ℕ) (later : List LineAt) →
+      first_request_id (message_lines (of_header S header (Some T) 12 (a ∷ b ∷ c ∷ d ∷ [])) ++ later)
       ≡ Some (num (order header) (a ∷ b ∷ c ∷ d ∷ []))
-  unfolding id_said id_in first_id tell id_told
+  unfolding first_request_id id_in first_id line_at id_told
   id_four T begins a b c d later = rw (four_by T begins a b c d) refl
 
-pub is_named : (S : Signatures) → HasIds S → IsNamed (reading_by S)
-unfolding reading_by message are_values
+pub is_named : (S : Signatures) → HasIds S → HasOnlyValuesInId (reader_by S)
+unfolding reader_by message are_values
 is_named S ids = record { named = λ header xs by few. named_by S header (S.header (minor header) (kind header)) (ids.begins header by) xs few }
 
 -- The id that the header says is the number of the first four octets.
 pub id_is_said : (S : Signatures) (header : List ℕ) (T : Ty) →
     S.header (minor header) (kind header) ≡ Some T → BeginsWithId T → (a b c d : ℕ) (xs : List ℕ) →
-    id_said (told_of (message S header (a ∷ b ∷ c ∷ d ∷ xs)))
+    first_request_id (message_lines (message S header (a ∷ b ∷ c ∷ d ∷ xs)))
     ≡ Some (num (order header) (a ∷ b ∷ c ∷ d ∷ []))
 unfolding message
 id_is_said S header T found begins a b c d xs =
     let g = told_begins S header (a ∷ b ∷ c ∷ d ∷ []) xs in
-    ap id_said g.1 ∙ rw found (id_four S header T begins a b c d g.0)
+    ap first_request_id g.1 ∙ rw found (id_four S header T begins a b c d g.0)
 
 -- ---- the catalogue's headers
 
@@ -208,6 +208,6 @@ pub begins_with_id : (header : List ℕ) → has_name header ≡ true →
     IfSome (header_type (minor header) (kind header)) BeginsWithId
 begins_with_id header by = id_first (minor header) (kind header) (goes_first header by)
 
-pub has_ids : (C : Table) (listed : Listed) → HasIds (said_by C listed)
-unfolding said_by
-has_ids C listed = record { begins = λ header by. begins_with_id header by }
+pub has_ids : (C : Table) (request_table : RequestTable) → HasIds (signatures_of C request_table)
+unfolding signatures_of
+has_ids C request_table = record { begins = λ header by. begins_with_id header by }

@@ -4,34 +4,34 @@ use Rattle.std.specs.Prelude.{cond, ltb}
 use Rattle.std.specs.List.{AllByRecursion as Each}
 use Rattle.giop_sig.specs.Types.{Encapsulation, Ty, Single, Text, Octets, Struct, Union, Sequence, Array, part_of, width}
 use Rattle.giop_decode.specs.declared.progress.Kind.TheVariants as kinds
-use Rattle.giop_decode.specs.Spine.{Coding, Seg, Name, Index, Held, Place, Part, Member, Inside, Leaf, Read, Done, Short, Fault, followed, within}
+use Rattle.giop_decode.specs.ReadResult.{Coding, PathSegment, Name, Index, Held, OpenPart, Part, Member, Inside, Leaf, Read, Done, Short, Fault, followed, within}
 use Rattle.giop_decode.specs.Pieces.{content, full_pieces, tail}
 use Rattle.giop_decode.specs.Reading.{read, parts_from, cut_off, enclosed, rest_of}
-use Rattle.giop_decode.specs.Steps.{inner_path, Quiet, Now, leaf_step, part_at, seg_of, step}
+use Rattle.giop_decode.specs.ReadingSteps.{inner_path, IsEmptyResult, IsOctetResult, leaf_step, part_at, segment_of, step}
 use Rattle.giop_decode.specs.Fits.{FitsIn, IsEncapsulation}
-use Rattle.giop_decode.specs.Heard.{in_string}
+use Rattle.giop_decode.specs.Noted.{ends_in_string}
 use Rattle.giop_decode.proofs.ReadingLaws.{cut_inside, front_inside, now_within, block_waits, width_pos, number_none, part_quiet, step_now}
 use Rattle.giop_message.proofs.StepLines.{NoEnds, Firm, leaf_says}
 
 -- ---- no octets begin no string
 
-mute_within : (place : Place) (r : Read) → in_string (within place r) ≡ in_string r
+mute_within : (place : OpenPart) (r : Read) → ends_in_string (within place r) ≡ ends_in_string r
 mute_within place (Done lines at rest) = refl
 mute_within place r = refl
 
-mute_followed : (n : ℕ) (r : Read) (next : ℕ → List ℕ → Read) → Quiet n r → in_string r ≡ false →
-    in_string (next n []) ≡ false → in_string (followed r next) ≡ false
+mute_followed : (n : ℕ) (r : Read) (next : ℕ → List ℕ → Read) → IsEmptyResult n r → ends_in_string r ≡ false →
+    ends_in_string (next n []) ≡ false → ends_in_string (followed r next) ≡ false
 mute_followed n (Done lines at rest) next quiet h k = rw (quiet.1, quiet.2) (front_inside lines (next n []) ∙ k)
 mute_followed n r next quiet h k = h
 
-mute_parts : (n : ℕ) (part : ℕ → ℕ → List ℕ → Read) → ((i : ℕ) → Quiet n (part i n [])) →
-    ((i : ℕ) → in_string (part i n []) ≡ false) → (more i : ℕ) →
-    in_string (parts_from part more i n []) ≡ false
+mute_parts : (n : ℕ) (part : ℕ → ℕ → List ℕ → Read) → ((i : ℕ) → IsEmptyResult n (part i n [])) →
+    ((i : ℕ) → ends_in_string (part i n []) ≡ false) → (more i : ℕ) →
+    ends_in_string (parts_from part more i n []) ≡ false
 mute_parts n part quiet h zero i = refl
 mute_parts n part quiet h (suc more) i = mute_followed n (part i n []) (parts_from part more (suc i)) (quiet i) (h i) (mute_parts n part quiet h more (suc i))
 
-pub read_mute : (coding : Coding) (path : List Seg) (T : Ty) (n : ℕ) →
-    in_string (read coding path T n []) ≡ false
+pub read_mute : (coding : Coding) (path : List PathSegment) (T : Ty) (n : ℕ) →
+    ends_in_string (read coding path T n []) ≡ false
 read_mute coding path (Single scalar) n = rw (number_none coding.origin (width scalar) n (width_pos scalar)) refl
 read_mute coding path (Struct count names parts) n =
     mute_parts n (part_at coding path (Struct count names parts) count) (part_quiet coding path (Struct count names parts) count n)
@@ -43,15 +43,15 @@ read_mute coding path (Array count T) n =
 read_mute coding path (Union choice scalar select names cases) n = rw (number_none coding.origin (width scalar) n (width_pos scalar)) refl
 read_mute coding path _ n = rw (number_none coding.origin 4 n (lit< tt)) refl
 
-part_mute : (coding : Coding) (path : List Seg) (T : Ty) (count n i : ℕ) →
-    in_string (part_at coding path T count i n []) ≡ false
+part_mute : (coding : Coding) (path : List PathSegment) (T : Ty) (count n i : ℕ) →
+    ends_in_string (part_at coding path T count i n []) ≡ false
 part_mute coding path T count n i =
     mute_within (Part T i count) (read coding (inner_path path T i) (part_of T i) n []) ∙ read_mute coding (inner_path path T i) (part_of T i) n
 
 -- ---- no line ends a string, or none has begun
 
 abbrev pub Closed : Read → Type 0
-Closed r = NoEnds r ⊎ (in_string r ≡ false)
+Closed r = NoEnds r ⊎ (ends_in_string r ≡ false)
 
 closed_firm : (r : Read) → Firm r → Closed r
 closed_firm r (inl h) = inl h
@@ -59,42 +59,42 @@ closed_firm r (inr h) = inr h.0
 
 -- ---- what stands around it
 
-closed_within : (place : Place) (r : Read) → Closed r → Closed (within place r)
+closed_within : (place : OpenPart) (r : Read) → Closed r → Closed (within place r)
 closed_within place (Done lines at rest) h = h
 closed_within place r h = h
 
-closed_followed : (n : ℕ) (r : Read) (next : ℕ → List ℕ → Read) → Now n r →
-    in_string (next n []) ≡ false → Closed r → Closed (followed r next)
+closed_followed : (n : ℕ) (r : Read) (next : ℕ → List ℕ → Read) → IsOctetResult n r →
+    ends_in_string (next n []) ≡ false → Closed r → Closed (followed r next)
 closed_followed n (Done lines at rest) next now mute h = rw (now.1, now.2) (inr (front_inside lines (next n []) ∙ mute))
 closed_followed n r next now mute h = h
 
 -- an encapsulation of its type
-abbrev pub Holds : Place → Type 0
+abbrev pub Holds : OpenPart → Type 0
 Holds (Inside T inner end) = IsEncapsulation T
 Holds place = Unit {0}
 
-abbrev pub AllHold : List Place → Type 0
+abbrev pub AllHold : List OpenPart → Type 0
 AllHold outer = Each Holds outer
 
-pub fits_hold : (outer : List Place) (T : Ty) (leaf : Leaf) → FitsIn T outer leaf → AllHold outer
+pub fits_hold : (outer : List OpenPart) (T : Ty) (leaf : Leaf) → FitsIn T outer leaf → AllHold outer
 fits_hold [] T leaf fits = tt
 fits_hold (Part U i count ∷ outer) T leaf fits = (tt, fits_hold outer (part_of T i) leaf fits.1)
 fits_hold (Member U i ∷ outer) T leaf fits = (tt, fits_hold outer (part_of T i) leaf fits.1)
 fits_hold (Inside U inner end ∷ outer) T leaf fits = (subst IsEncapsulation (sym fits.0.same) fits.0.kind, fits_hold outer (part_of T 0) leaf fits.1)
 
 -- what is left of it is no string
-rest_mute : (path : List Seg) (T : Ty) (k n : ℕ) → IsEncapsulation T →
-    in_string (rest_of path T k n []) ≡ false
+rest_mute : (path : List PathSegment) (T : Ty) (k n : ℕ) → IsEncapsulation T →
+    ends_in_string (rest_of path T k n []) ≡ false
 rest_mute path (Encapsulation T) zero n is = refl
 rest_mute path (Encapsulation T) (suc k) n is = go (full_pieces (suc k))
   where
-    go : (full : ℕ) → in_string (content (Encapsulation T) path (suc k) full 0 n []) ≡ false
+    go : (full : ℕ) → ends_in_string (content (Encapsulation T) path (suc k) full 0 n []) ≡ false
     go zero = rw (block_waits (suc k - 0 + tail (Encapsulation T)) n [] (omega arith)) refl
     go (suc full) = rw (block_waits 32 n [] (lit< tt)) refl
 rest_mute path T k n is = absurd is
 
-closed_enclosed : (n : ℕ) (path : List Seg) (T : Ty) (inner : Coding) (end : ℕ) (r : Read) →
-    IsEncapsulation T → Now n r → Closed r → Closed (enclosed path T inner end r [])
+closed_enclosed : (n : ℕ) (path : List PathSegment) (T : Ty) (inner : Coding) (end : ℕ) (r : Read) →
+    IsEncapsulation T → IsOctetResult n r → Closed r → Closed (enclosed path T inner end r [])
 closed_enclosed n path T inner end (Done lines at rest) is now h =
     rw (now.1, now.2) (inr (front_inside lines (rest_of path T (end - n) n []) ∙ rest_mute path T (end - n) n is))
 closed_enclosed n path T inner end (Short lines at outer leaf) is now h = go (ltb at end) h
@@ -109,7 +109,7 @@ closed_enclosed n path T inner end (Short lines at outer leaf) is now h = go (lt
 closed_enclosed n path T inner end (Fault lines at why S) is now h = h
 
 -- Where a line ends a string no other has begun.
-pub step_closed : (coding : Coding) (path : List Seg) (outer : List Place) (leaf : Leaf)
+pub step_closed : (coding : Coding) (path : List PathSegment) (outer : List OpenPart) (leaf : Leaf)
     (at b : ℕ) → AllHold outer → Closed (step coding path outer leaf at b)
 step_closed coding path [] leaf at b hold = closed_firm (leaf_step coding path leaf at b) (leaf_says coding path leaf at b).firm
 step_closed coding path (Inside T inner end ∷ outer) leaf at b hold =
@@ -117,11 +117,11 @@ step_closed coding path (Inside T inner end ∷ outer) leaf at b hold =
     closed_enclosed (at + 1) path T inner end r hold.0 (step_now inner (path ++ Held ∷ []) outer leaf at b)
     (step_closed inner (path ++ Held ∷ []) outer leaf at b hold.1)
 step_closed coding path (Part T i count ∷ outer) leaf at b hold =
-    let inner = step coding (path ++ seg_of T i ∷ []) outer leaf at b in
+    let inner = step coding (path ++ segment_of T i ∷ []) outer leaf at b in
     closed_followed (at + 1) (within (Part T i count) inner) (parts_from (part_at coding path T count) (count - suc i) (suc i))
-    (now_within (at + 1) (Part T i count) inner (step_now coding (path ++ seg_of T i ∷ []) outer leaf at b))
+    (now_within (at + 1) (Part T i count) inner (step_now coding (path ++ segment_of T i ∷ []) outer leaf at b))
     (mute_parts (at + 1) (part_at coding path T count) (part_quiet coding path T count (at + 1)) (part_mute coding path T count (at + 1)) (count - suc i)
     (suc i))
-    (closed_within (Part T i count) inner (step_closed coding (path ++ seg_of T i ∷ []) outer leaf at b hold.1))
+    (closed_within (Part T i count) inner (step_closed coding (path ++ segment_of T i ∷ []) outer leaf at b hold.1))
 step_closed coding path (Member T i ∷ outer) leaf at b hold =
-    closed_within (Member T i) (step coding (path ++ seg_of T i ∷ []) outer leaf at b) (step_closed coding (path ++ seg_of T i ∷ []) outer leaf at b hold.1)
+    closed_within (Member T i) (step coding (path ++ segment_of T i ∷ []) outer leaf at b) (step_closed coding (path ++ segment_of T i ∷ []) outer leaf at b hold.1)

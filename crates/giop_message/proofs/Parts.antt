@@ -3,24 +3,24 @@ use Rattle.std.proofs.Common.{◌≡◌, ℕ, ◌+◌, Bool, List, [], ◌∷◌
 use Rattle.std.proofs.Math.Seq.{drop-append_seam}
 use Rattle.giop_print.specs.declared.path.Root.{Root}
 use Rattle.giop_decode.specs.declared.progress.Progress.TheVariants as progress
-use Rattle.giop_decode.specs.Spine
-use Rattle.giop_decode.specs.Spine.{Coding, plain, Line, Place, Leaf, Read, Done, Short, Fault, lines_of}
+use Rattle.giop_decode.specs.ReadResult
+use Rattle.giop_decode.specs.ReadResult.{Coding, plain, Line, OpenPart, Leaf, Read, Done, Short, Fault, lines_of}
 use Rattle.giop_decode.specs.Reading.{read}
-use Rattle.giop_decode.specs.Steps as decoder
-use Rattle.giop_decode.specs.Steps.{Now}
-use Rattle.giop_decode.specs.Heard.{Heard, nothing, heard, is_header_root, names_operation}
+use Rattle.giop_decode.specs.ReadingSteps as decoder
+use Rattle.giop_decode.specs.ReadingSteps.{IsOctetResult}
+use Rattle.giop_decode.specs.Noted.{Noted, nothing_noted, noted, is_header_root, names_operation}
 use Rattle.giop_decode.specs.Runs.{Answers}
-use Rattle.giop_decode.specs.Holding as decoders
+use Rattle.giop_decode.specs.DecoderState as decoders
 use Rattle.giop_decode.specs.Spelling.{lines_text}
 use Rattle.giop_decode.proofs.ReadingLaws.{read_goes, length_one_more, step_now, lines_front}
 use Rattle.giop_sig.specs.Types.{Ty}
 use Rattle.giop_message.specs.declared.part.Section.{Section}
 use Rattle.giop_message.specs.Headers.{order}
 use Rattle.giop_message.specs.Signatures.{Signatures}
-use Rattle.giop_message.specs.Messages.{Told, tells, Message, with_front, passes, message, told_of, root_of, may_call, after, through}
-use Rattle.giop_message.specs.Steps.{advance}
-use Rattle.giop_message.specs.Holding.{told_text, due, due_text, IsFirst}
-use Rattle.giop_message.specs.Moves.{fault_text}
+use Rattle.giop_message.specs.Messages.{LineAt, section_lines, Message, with_front, section_then, message, message_lines, root_of, may_call, after, section_and_rest}
+use Rattle.giop_message.specs.StageSteps.{advance}
+use Rattle.giop_message.specs.MessageState.{message_lines_text, due, due_text, IsFirst}
+use Rattle.giop_message.specs.MessageSteps.{fault_text}
 use Rattle.giop_message.proofs.Going.{front_twice, front_advance, passes_front, through_goes, after_goes, message_goes}
 use Rattle.giop_message.proofs.Causal.{after_silent}
 use Rattle.giop_message.proofs.LastParts.{CallsNone, step_none}
@@ -34,7 +34,7 @@ pub record Begun : Type 0 where
   pub header : List ℕ
   pub section : Section
   pub T : Ty
-  pub before : List Told
+  pub before : List LineAt
   pub front : List ℕ
 
 module _ (w : Begun) where
@@ -50,11 +50,11 @@ module _ (w : Begun) where
 
   -- whether an octet behind some ends an operation
   abbrev pub is_named : List ℕ → ℕ → Bool
-  is_named octets b = names_operation (is_header_root (root_of section)) (decoders.due (order header) T start octets b)
+  is_named octets b = names_operation (is_header_root (root_of section)) (decoders.added_lines (order header) T start octets b)
 
   -- what a message comes to, by that
   abbrev pub comes : Read → Message
-  comes r = with_front before (through S header section nothing r)
+  comes r = with_front before (section_and_rest S header section nothing_noted r)
 
   -- Where a message stands in it behind its first octets, and it goes on: what their reading has begun and not ended.
   pub record Inside (s octets : List ℕ) : Type 0 where
@@ -62,7 +62,7 @@ module _ (w : Begun) where
     pub is : message S header s ≡ comes (reading octets)
     pub first : IsFirst header section T before
     pub lines : List Line
-    pub outer : List Place
+    pub outer : List OpenPart
     pub leaf : Leaf
     pub was_short : reading octets ≡ Short lines (start + length octets) outer leaf
 
@@ -73,33 +73,33 @@ abbrev pub ReadsAll : Read → Type 0
 ReadsAll (Done lines at rest) = rest ≡ []
 ReadsAll r = Unit {0}
 
-pub now_all : (n : ℕ) (st : Read) → Now n st → ReadsAll st
+pub now_all : (n : ℕ) (st : Read) → IsOctetResult n st → ReadsAll st
 now_all n (Done lines at rest) now = now.2
 now_all n r now = tt
 
 -- what is told of a section, of which nothing follows without an octet
-pub passed_tells : (S : Signatures) (header : List ℕ) (section : Section) (h : Heard) (r : Read) →
-    ReadsAll r → told_of (through S header section h r)
-    ≡ tells (root_of section) (may_call header section) h (lines_of r) ++ wrongs r
-unfolding passes told_of
+pub passed_tells : (S : Signatures) (header : List ℕ) (section : Section) (h : Noted) (r : Read) →
+    ReadsAll r → message_lines (section_and_rest S header section h r)
+    ≡ section_lines (root_of section) (may_call header section) h (lines_of r) ++ wrongs r
+unfolding section_then message_lines
 passed_tells S header section h (Done lines at rest) all =
     let R = root_of section in
-    let told = tells R (may_call header section) h lines in
-    let next = after S header section (heard (is_header_root R) h lines) in
+    let emitted = section_lines R (may_call header section) h lines in
+    let next = after S header section (noted (is_header_root R) h lines) in
     rw (all)
-    (told_front told (next at []) ∙ ap (λ ts. told ++ ts) (told_silent at (next at []) (after_silent S header section (heard (is_header_root R) h lines) at)))
-passed_tells S header section h (Short lines at outer leaf) all = sym (append-nil (tells (root_of section) (may_call header section) h lines))
+    (told_front emitted (next at []) ∙ ap (λ ts. emitted ++ ts) (told_silent at (next at []) (after_silent S header section (noted (is_header_root R) h lines) at)))
+passed_tells S header section h (Short lines at outer leaf) all = sym (append-nil (section_lines (root_of section) (may_call header section) h lines))
 passed_tells S header section h (Fault lines at why T) all = refl
 
-short_told : (S : Signatures) (header : List ℕ) (section : Section) (before : List Told)
-    (lines : List Line) (at : ℕ) (outer : List Place) (leaf : Leaf) →
-    told_of (with_front before (through S header section nothing (Short lines at outer leaf)))
-    ≡ before ++ tells (root_of section) (may_call header section) nothing lines
-unfolding passes with_front told_of
+short_told : (S : Signatures) (header : List ℕ) (section : Section) (before : List LineAt)
+    (lines : List Line) (at : ℕ) (outer : List OpenPart) (leaf : Leaf) →
+    message_lines (with_front before (section_and_rest S header section nothing_noted (Short lines at outer leaf)))
+    ≡ before ++ section_lines (root_of section) (may_call header section) nothing_noted lines
+unfolding section_then with_front message_lines
 short_told S header section before lines at outer leaf = refl
 
 fault_front : (number place : ℕ) (front : List Line) (r : Read) →
-    fault_text number place (Spine.with_front front r) ≡ fault_text number place r
+    fault_text number place (ReadResult.with_front front r) ≡ fault_text number place r
 fault_front number place front (Done lines at rest) = refl
 fault_front number place front r = refl
 
@@ -108,15 +108,15 @@ abbrev pub EndsAt : ℕ → Read → Type 0
 EndsAt n (Done lines at rest) = at ≡ n
 EndsAt n r = Unit {0}
 
-offset_is : (n : ℕ) (r st : Read) (lines : List Line) → r ≡ Spine.with_front lines st → Now n st →
+offset_is : (n : ℕ) (r st : Read) (lines : List Line) → r ≡ ReadResult.with_front lines st → IsOctetResult n st →
     EndsAt n r
 offset_is n r (Done ls at rest) lines e now = subst (EndsAt n) (sym e) now.1
 offset_is n r q lines e now = subst (EndsAt n) (sym e) tt
 
 -- what a reading that goes on has begun and not ended, at this offset
 short_by : (n end : ℕ) (named : Bool) (r st : Read) (lines : List Line) →
-    r ≡ Spine.with_front lines st → Now n st → decoders.IsAnswer end named progress.More r →
-    (ls : List Line) × (outer : List Place) × (leaf : Leaf) × (r ≡ Short ls n outer leaf)
+    r ≡ ReadResult.with_front lines st → IsOctetResult n st → decoders.IsAnswer end named progress.More r →
+    (ls : List Line) × (outer : List OpenPart) × (leaf : Leaf) × (r ≡ Short ls n outer leaf)
 short_by n end named r (Short ls at outer leaf) lines e now answer =
     (lines ++ ls, outer, leaf, e ∙ ap (λ k. Short (lines ++ ls) k outer leaf) now.1)
 short_by n end named r _ lines e now answer = absurd (subst (decoders.IsAnswer end named progress.More) e answer)
@@ -129,9 +129,9 @@ pub goes_one : (w : Begun) (s octets : List ℕ) →
 goes_one w s octets is b =
     let r = reading w octets in
     message_goes S header s b ∙ (ap (λ m. advance S header m b) is
-    ∙ (sym (front_advance S header w.before (through S header section nothing r) b)
-    ∙ ap (with_front w.before) (sym (through_goes S header section (after_goes S header section) nothing r b)
-    ∙ ap (through S header section nothing) (sym (read_goes (plain (order header)) [] w.T (start w) octets b)))))
+    ∙ (sym (front_advance S header w.before (section_and_rest S header section nothing_noted r) b)
+    ∙ ap (with_front w.before) (sym (through_goes S header section (after_goes S header section) nothing_noted r b)
+    ∙ ap (section_and_rest S header section nothing_noted) (sym (read_goes (plain (order header)) [] w.T (start w) octets b)))))
   where
     open w use {S, header, section}
 
@@ -157,32 +157,32 @@ module _ (w : Begun) (s octets : List ℕ) (i : Inside w s octets) (b : ℕ) whe
   abbrev pub Added : Read
   Added = decoder.step coding [] i.outer i.leaf Here b
 
-  abbrev pub heard_before : Heard
-  heard_before = heard (is_header_root R) nothing i.lines
+  abbrev pub heard_before : Noted
+  heard_before = noted (is_header_root R) nothing_noted i.lines
 
-  pub next_is : Next ≡ Spine.with_front i.lines Added
+  pub next_is : Next ≡ ReadResult.with_front i.lines Added
   next_is = read_goes coding [] T (start w) octets b ∙ ap (λ r. decoder.advance coding [] r b) i.was_short
 
-  pub added_now : Now (Here + 1) Added
+  pub added_now : IsOctetResult (Here + 1) Added
   added_now = step_now coding [] i.outer i.leaf Here b
 
   pub added_none : CallsNone Is Added
   added_none = step_none Is coding [] i.outer i.leaf Here b
 
-  pub lines_due : decoders.due (order header) T (start w) octets b ≡ lines_of Added
+  pub lines_due : decoders.added_lines (order header) T (start w) octets b ≡ lines_of Added
   lines_due = rw (i.was_short, next_is, lines_front i.lines Added) (drop-append_seam i.lines (lines_of Added))
 
   pub goes_more : message S header (s ++ b ∷ []) ≡ comes w Next
   goes_more = goes_one w s octets i.is b
 
-  due_here : due S header s (b ∷ []) ≡ tells R Is heard_before (lines_of Added) ++ wrongs Added
+  due_here : due S header s (b ∷ []) ≡ section_lines R Is heard_before (lines_of Added) ++ wrongs Added
   due_here =
-      let told = tells R Is nothing i.lines in
-      let more = through S header section heard_before Added in
-      due_is S header s (b ∷ []) (before ++ told) (comes w (Short i.lines Here i.outer i.leaf)) more
+      let emitted = section_lines R Is nothing_noted i.lines in
+      let more = section_and_rest S header section heard_before Added in
+      due_is S header s (b ∷ []) (before ++ emitted) (comes w (Short i.lines Here i.outer i.leaf)) more
       (i.is ∙ ap (comes w) i.was_short)
       (goes_more ∙ (ap (comes w) next_is
-      ∙ (ap (with_front before) (passes_front section Is (after S header section) nothing i.lines Added) ∙ front_twice before told more)))
+      ∙ (ap (with_front before) (passes_front section Is (after S header section) nothing_noted i.lines Added) ∙ front_twice before emitted more)))
       (short_told S header section before i.lines Here i.outer i.leaf)
       ∙ passed_tells S header section heard_before Added (now_all (Here + 1) Added added_now)
 
@@ -191,13 +191,13 @@ module _ (w : Begun) (s octets : List ℕ) (i : Inside w s octets) (b : ℕ) whe
 
   -- the text of the octet: its line or its fault, and its call
   pub text_here : (place : ℕ) → due_text S number place header s (b ∷ []) ≡
-      (lines_text number R (decoders.due (order header) T (start w) octets b)
+      (lines_text number R (decoders.added_lines (order header) T (start w) octets b)
       ++ fault_text number (place + 1) Next)
-      ++ told_text number place (12 + length s) (first_call R Is heard_before (lines_of Added))
+      ++ message_lines_text number place (12 + length s) (first_call R Is heard_before (lines_of Added))
   unfolding due_text
   text_here place =
-      let now = subst (λ n. Now (n + 1) Added) here_is added_now in
-      ap (told_text number place (12 + length s)) due_here
+      let now = subst (λ n. IsOctetResult (n + 1) Added) here_is added_now in
+      ap (message_lines_text number place (12 + length s)) due_here
       ∙ (step_text number place (12 + length s) R Is heard_before Added now added_none
       ∙ rw (lines_due, next_is, fault_front number (place + 1) i.lines Added) refl)
 

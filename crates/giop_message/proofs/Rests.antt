@@ -10,13 +10,13 @@ use Rattle.giop_decode.proofs.ReadingLaws.{length_one_more}
 use Rattle.giop_message.specs.declared.message.Message.{Message as Struct_of}
 use Rattle.giop_message.specs.declared.part.Part.TheVariants as parts
 use Rattle.giop_message.specs.declared.part.Rest.{Rest}
-use Rattle.giop_message.specs.declared.wanted.Wanted.{Wanted}
-use Rattle.giop_message.specs.Signatures.{Signatures, Listed, said_by}
-use Rattle.giop_message.specs.Messages.{Left, Told, tell, BodyType, Stage, In_padding, In_rest, Message, Comes, with_front, body, message, told_of, stage_of}
-use Rattle.giop_message.specs.Steps.{rest_step, message_step, advance, goes_on}
-use Rattle.giop_message.specs.MessageReading.{saying_of, text_of, id_in, first_id, id_said}
-use Rattle.giop_message.specs.Holding.{speech_line, told_text, due, due_text, body_type, Stands, in_header, Follows}
-use Rattle.giop_message.specs.Moves.{Arrives}
+use Rattle.giop_message.specs.declared.body_type.BodyTypeId.{BodyTypeId}
+use Rattle.giop_message.specs.Signatures.{Signatures, RequestTable, signatures_of}
+use Rattle.giop_message.specs.Messages.{RestLine, LineAt, line_at, BodyType, Stage, In_padding, In_rest, Message, ReadTo, with_front, body, message, message_lines, stage_of}
+use Rattle.giop_message.specs.StageSteps.{rest_step, message_step, advance, goes_on}
+use Rattle.giop_message.specs.ReaderOfTable.{line_class_of, text_of, id_in, first_id, first_request_id}
+use Rattle.giop_message.specs.MessageState.{message_line_text, message_lines_text, due, due_text, body_type, Stands, in_header, Follows}
+use Rattle.giop_message.specs.MessageSteps.{Arrives}
 use Rattle.giop_message.proofs.Going.{message_goes, message_resumes, rest_step_full, rest_step_more}
 use Rattle.giop_message.proofs.Causal.{body_silent}
 use Rattle.giop_message.proofs.Octets.{due_is, told_silent}
@@ -24,23 +24,23 @@ use Rattle.giop_message.proofs.Spelling.{rest_said}
 use Rattle.giop_message.proofs.Followings.{Moved, is_at, id_kept, follows_on}
 
 -- from where a message comes to
-pub comes_more : (S : Signatures) (header s : List ℕ) (b : ℕ) (told : List Told) (at : ℕ)
-    (stage : Stage) → message S header s ≡ Comes told at stage →
-    message S header (s ++ b ∷ []) ≡ with_front told (message_step S header at stage b)
+pub comes_more : (S : Signatures) (header s : List ℕ) (b : ℕ) (emitted : List LineAt) (at : ℕ)
+    (stage : Stage) → message S header s ≡ ReadTo emitted at stage →
+    message S header (s ++ b ∷ []) ≡ with_front emitted (message_step S header at stage b)
 unfolding advance
-comes_more S header s b told at stage e = message_goes S header s b ∙ ap (λ m. advance S header m b) e
+comes_more S header s b emitted at stage e = message_goes S header s b ∙ ap (λ m. advance S header m b) e
 
-pub comes_due : (S : Signatures) (header s : List ℕ) (b : ℕ) (told : List Told) (at : ℕ)
-    (stage : Stage) (m : Message) → message S header s ≡ Comes told at stage →
-    message_step S header at stage b ≡ m → due S header s (b ∷ []) ≡ told_of m
-unfolding told_of
-comes_due S header s b told at stage m e f =
-    due_is S header s (b ∷ []) told (Comes told at stage) m e (comes_more S header s b told at stage e ∙ ap (with_front told) f) refl
+pub comes_due : (S : Signatures) (header s : List ℕ) (b : ℕ) (emitted : List LineAt) (at : ℕ)
+    (stage : Stage) (m : Message) → message S header s ≡ ReadTo emitted at stage →
+    message_step S header at stage b ≡ m → due S header s (b ∷ []) ≡ message_lines m
+unfolding message_lines
+comes_due S header s b emitted at stage m e f =
+    due_is S header s (b ∷ []) emitted (ReadTo emitted at stage) m e (comes_more S header s b emitted at stage e ∙ ap (with_front emitted) f) refl
 
-comes_next : (before told : List Told) (n m : ℕ) (stage : Stage) → n ≡ m →
-    with_front before (Comes told n stage) ≡ Comes (before ++ told) m stage
+comes_next : (before emitted : List LineAt) (n m : ℕ) (stage : Stage) → n ≡ m →
+    with_front before (ReadTo emitted n stage) ≡ ReadTo (before ++ emitted) m stage
 unfolding with_front
-comes_next before told n m stage e = rw e refl
+comes_next before emitted n m stage e = rw e refl
 
 next_at : (s : List ℕ) (b : ℕ) → (12 + length s) + 1 ≡ 12 + length (s ++ b ∷ [])
 next_at s b = omega (arith, length_one_more s b)
@@ -48,7 +48,7 @@ next_at s b = omega (arith, length_one_more s b)
 -- ---- in the padding
 
 padding_on : (S : Signatures) (header : List ℕ) (at b : ℕ) (t : BodyType) → 1 < padding at 8 →
-    message_step S header at (In_padding t) b ≡ Comes [] (at + 1) (In_padding t)
+    message_step S header at (In_padding t) b ≡ ReadTo [] (at + 1) (In_padding t)
 unfolding message_step
 padding_on S header at b t h = rw (lt-ltb 1 (padding at 8) h) refl
 
@@ -57,23 +57,23 @@ padding_last : (S : Signatures) (header : List ℕ) (at b : ℕ) (t : BodyType) 
 unfolding message_step
 padding_last S header at b t h = rw (le-ltb 1 (padding at 8) h) refl
 
-none_said : (told : List Told) → told ≡ [] → id_said told ≡ None
-unfolding id_said
-none_said told e = rw e refl
+none_said : (emitted : List LineAt) → emitted ≡ [] → first_request_id emitted ≡ None
+unfolding first_request_id
+none_said emitted e = rw e refl
 
 pub no_text : (S : Signatures) (number place : ℕ) (header s more : List ℕ) →
     due S header s more ≡ [] → due_text S number place header s more ≡ []
-unfolding due_text told_text
+unfolding due_text message_lines_text
 no_text S number place header s more e = rw e refl
 
-module _ {C : Table} {listed : Listed} {number : ℕ} {header : List ℕ} {m : Struct_of} {s : List ℕ}
-    {wanted : Wanted}
-    (f : Follows C listed number header m s) (is : m.part ≡ parts.Padding wanted) (b : ℕ) where
+module _ {C : Table} {request_table : RequestTable} {number : ℕ} {header : List ℕ} {m : Struct_of} {s : List ℕ}
+    {body_type_id : BodyTypeId}
+    (f : Follows C request_table number header m s) (is : m.part ≡ parts.Padding body_type_id) (b : ℕ) where
   abbrev S : Signatures
-  S = said_by C listed
+  S = signatures_of C request_table
 
   abbrev T : BodyType
-  T = body_type C wanted
+  T = body_type C body_type_id
 
   abbrev Here : ℕ
   Here = 12 + length s
@@ -81,11 +81,11 @@ module _ {C : Table} {listed : Listed} {number : ℕ} {header : List ℕ} {m : S
   abbrev further : List ℕ
   further = s ++ b ∷ []
 
-  padded : (told : List Told) × (message S header s ≡ Comes told Here (In_padding T))
-  padded = subst (Stands C listed number header s) is f.stands
+  padded : (emitted : List LineAt) × (message S header s ≡ ReadTo emitted Here (In_padding T))
+  padded = subst (Stands C request_table number header s) is f.stands
 
   one_due : (x : Message) → message_step S header Here (In_padding T) b ≡ x →
-      due S header s (b ∷ []) ≡ told_of x
+      due S header s (b ∷ []) ≡ message_lines x
   one_due x e = comes_due S header s b padded.0 Here (In_padding T) x padded.1 e
 
   one_comes : (x : Message) → message_step S header Here (In_padding T) b ≡ x →
@@ -93,29 +93,29 @@ module _ {C : Table} {listed : Listed} {number : ℕ} {header : List ℕ} {m : S
   one_comes x e = comes_more S header s b padded.0 Here (In_padding T) padded.1 ∙ ap (with_front padded.0) e
 
   pub padding_told : (1 < padding Here 8) → due S header s (b ∷ []) ≡ []
-  unfolding told_of
-  padding_told h = one_due (Comes [] (Here + 1) (In_padding T)) (padding_on S header Here b T h)
+  unfolding message_lines
+  padding_told h = one_due (ReadTo [] (Here + 1) (In_padding T)) (padding_on S header Here b T h)
 
   pub last_told : padding Here 8 ≤ 1 → due S header s (b ∷ []) ≡ []
   last_told h =
       one_due (body S header T (Here + 1) []) (padding_last S header Here b T h)
       ∙ told_silent (Here + 1) (body S header T (Here + 1) []) (body_silent S header T (Here + 1))
 
-  same_id : due S header s (b ∷ []) ≡ [] → m.id ≡ id_said (told_of (message S header further))
+  same_id : due S header s (b ∷ []) ≡ [] → m.id ≡ first_request_id (message_lines (message S header further))
   same_id none = id_kept f (b ∷ []) (none_said _ none) (rw is refl)
 
   pub padding_follows : (1 < padding Here 8) → {n : Struct_of} → Moved m n 1 → n.id ≡ m.id →
-      n.part ≡ m.part → Follows C listed number header n further
+      n.part ≡ m.part → Follows C request_table number header n further
   padding_follows h move id part =
-      let comes = one_comes (Comes [] (Here + 1) (In_padding T)) (padding_on S header Here b T h) in
+      let comes = one_comes (ReadTo [] (Here + 1) (In_padding T)) (padding_on S header Here b T h) in
       let at = comes_next padded.0 [] (Here + 1) (12 + length further) (In_padding T) (next_at s b) in
       follows_on f (b ∷ []) move (id ∙ rw (part, is) (same_id (padding_told h)))
-      (subst (Stands C listed number header further) (sym (part ∙ is)) (padded.0 ++ [], comes ∙ at))
+      (subst (Stands C request_table number header further) (sym (part ∙ is)) (padded.0 ++ [], comes ∙ at))
 
   pub last_follows : padding Here 8 ≤ 1 → {k n : Struct_of} → Moved m k 1 →
-      Arrives C listed number header k n further (body S header T (12 + length further) []) →
+      Arrives C request_table number header k n further (body S header T (12 + length further) []) →
       Moved m n 1 → n.id ≡ m.id → in_header n.part ≡ false →
-      Follows C listed number header n further
+      Follows C request_table number header n further
   last_follows h move_k arrives move_n id past =
       let comes = one_comes (body S header T (Here + 1) []) (padding_last S header Here b T h) in
       follows_on f (b ∷ []) move_n (id ∙ rw past (same_id (last_told h)))
@@ -125,38 +125,38 @@ module _ {C : Table} {listed : Listed} {number : ℕ} {header : List ℕ} {m : S
 
 -- what a step in the rest comes to, and that it says no id
 pub record Rested (m : Message) (at : ℕ) : Type 0 where
-  pub comes : m ≡ Comes (told_of m) at (stage_of m)
-  pub no_id : id_said (told_of m) ≡ None
+  pub comes : m ≡ ReadTo (message_lines m) at (stage_of m)
+  pub no_id : first_request_id (message_lines m) ≡ None
 
 rested : (offset : ℕ) (held : List ℕ) (at : ℕ) → Rested (rest_step offset held at) at
-unfolding rest_step told_of stage_of id_said id_in first_id tell
+unfolding rest_step message_lines stage_of first_request_id id_in first_id line_at
 rested offset held at = go (length held == 32)
   where
     go : (full : Bool) →
-        Rested (if full then Comes (tell at (Left offset held) ∷ []) at (In_rest (offset + 32) [])
-        else Comes [] at (In_rest offset held)) at
+        Rested (if full then ReadTo (line_at at (RestLine offset held) ∷ []) at (In_rest (offset + 32) [])
+        else ReadTo [] at (In_rest offset held)) at
     go true = record { comes = refl; no_id = refl }
     go false = record { comes = refl; no_id = refl }
 
 -- octets of one part are one step
-part_goes : (S : Signatures) (header : List ℕ) (told : List Told) (at offset : ℕ) (held : List ℕ)
+part_goes : (S : Signatures) (header : List ℕ) (emitted : List LineAt) (at offset : ℕ) (held : List ℕ)
     (b : ℕ) (bs : List ℕ) → length held + length (b ∷ bs) ≤ 32 →
-    goes_on S header (Comes told at (In_rest offset held)) (b ∷ bs)
-    ≡ with_front told (rest_step offset (held ++ b ∷ bs) (at + length (b ∷ bs)))
+    goes_on S header (ReadTo emitted at (In_rest offset held)) (b ∷ bs)
+    ≡ with_front emitted (rest_step offset (held ++ b ∷ bs) (at + length (b ∷ bs)))
 unfolding advance message_step
-part_goes S header told at offset held b [] h = refl
-part_goes S header told at offset held b (b' ∷ bs) h =
+part_goes S header emitted at offset held b [] h = refl
+part_goes S header emitted at offset held b (b' ∷ bs) h =
     let few : length (held ++ b ∷ []) < 32 = omega (arith, length_one_more held b, h) in
     let n : (at + 1) + length (b' ∷ bs) ≡ at + length (b ∷ b' ∷ bs) = omega arith in
-    ap (λ m. goes_on S header (with_front told m) (b' ∷ bs)) (rest_step_more offset (held ++ b ∷ []) (at + 1) few)
-    ∙ (ap (λ m. goes_on S header m (b' ∷ bs)) (comes_next told [] (at + 1) (at + 1) (In_rest offset (held ++ b ∷ [])) refl
-    ∙ ap (λ ts. Comes ts (at + 1) (In_rest offset (held ++ b ∷ []))) (append-nil told))
-    ∙ (part_goes S header told (at + 1) offset (held ++ b ∷ []) b' bs (omega (arith, length_one_more held b, h))
+    ap (λ m. goes_on S header (with_front emitted m) (b' ∷ bs)) (rest_step_more offset (held ++ b ∷ []) (at + 1) few)
+    ∙ (ap (λ m. goes_on S header m (b' ∷ bs)) (comes_next emitted [] (at + 1) (at + 1) (In_rest offset (held ++ b ∷ [])) refl
+    ∙ ap (λ ts. ReadTo ts (at + 1) (In_rest offset (held ++ b ∷ []))) (append-nil emitted))
+    ∙ (part_goes S header emitted (at + 1) offset (held ++ b ∷ []) b' bs (omega (arith, length_one_more held b, h))
     ∙ rw (n, append_assoc held (b ∷ []) (b' ∷ bs)) refl))
 
-module _ {C : Table} {listed : Listed} {number : ℕ} {header : List ℕ} {m : Struct_of} {s : List ℕ}
+module _ {C : Table} {request_table : RequestTable} {number : ℕ} {header : List ℕ} {m : Struct_of} {s : List ℕ}
     {r : Rest}
-    {room n : ℕ} (f : Follows C listed number header m s) (is : m.part ≡ parts.Rest r)
+    {room n : ℕ} (f : Follows C request_table number header m s) (is : m.part ≡ parts.Rest r)
     (octets : List ℕ)
     (some : 0 < length octets) (left : room ≡ 32 - length r.held.items)
     (taken : n ≡ min room (length octets)) where
@@ -172,52 +172,52 @@ module _ {C : Table} {listed : Listed} {number : ℕ} {header : List ℕ} {m : S
   abbrev Step : Message
   Step = rest_step r.offset (r.held.items ++ xs) (At + length xs)
 
-  abbrev Stood : List Told → Message
-  Stood told = Comes told At (In_rest r.offset r.held.items)
+  abbrev Stood : List LineAt → Message
+  Stood emitted = ReadTo emitted At (In_rest r.offset r.held.items)
 
-  stood : (told : List Told) × (message (said_by C listed) header s ≡ Stood told)
-  stood = subst (Stands C listed number header s) is f.stands
+  stood : (emitted : List LineAt) × (message (signatures_of C request_table) header s ≡ Stood emitted)
+  stood = subst (Stands C request_table number header s) is f.stands
 
-  rest_comes : message (said_by C listed) header (s ++ xs) ≡ with_front stood.0 Step
+  rest_comes : message (signatures_of C request_table) header (s ++ xs) ≡ with_front stood.0 Step
   rest_comes =
-      message_resumes (said_by C listed) header s xs ∙ (ap (λ m. goes_on (said_by C listed) header m xs) stood.1
+      message_resumes (signatures_of C request_table) header s xs ∙ (ap (λ m. goes_on (signatures_of C request_table) header m xs) stood.1
       ∙ go xs (omega (arith, size, taken, left, r.room, some)) (omega (arith, size, taken, left, r.room)))
     where
       go : (xs : List ℕ) → 0 < length xs → length r.held.items + length xs ≤ 32 →
-          goes_on (said_by C listed) header (Stood stood.0) xs
+          goes_on (signatures_of C request_table) header (Stood stood.0) xs
           ≡ with_front stood.0 (rest_step r.offset (r.held.items ++ xs) (At + length xs))
       go [] some room = absurd (omega arith)
-      go (b ∷ bs) some room = part_goes (said_by C listed) header stood.0 At r.offset r.held.items b bs room
+      go (b ∷ bs) some room = part_goes (signatures_of C request_table) header stood.0 At r.offset r.held.items b bs room
 
-  rest_due : due (said_by C listed) header s xs ≡ told_of Step
-  unfolding told_of
-  rest_due = due_is (said_by C listed) header s xs stood.0 (Stood stood.0) Step stood.1 rest_comes refl
+  rest_due : due (signatures_of C request_table) header s xs ≡ message_lines Step
+  unfolding message_lines
+  rest_due = due_is (signatures_of C request_table) header s xs stood.0 (Stood stood.0) Step stood.1 rest_comes refl
 
-  pub rest_text : (place : ℕ) → due_text (said_by C listed) number place header s xs
-      ≡ told_text m.number place At (told_of Step)
+  pub rest_text : (place : ℕ) → due_text (signatures_of C request_table) number place header s xs
+      ≡ message_lines_text m.number place At (message_lines Step)
   unfolding due_text
-  rest_text place = ap (told_text number place At) rest_due ∙ ap (λ n. told_text n place At (told_of Step)) (sym f.same_number)
+  rest_text place = ap (message_lines_text number place At) rest_due ∙ ap (λ n. message_lines_text n place At (message_lines Step)) (sym f.same_number)
 
   pub rest_follows : {m' : Struct_of} {r' : Rest} → Moved m m' n → m'.id ≡ m.id →
       m'.part ≡ parts.Rest r' →
-      stage_of Step ≡ In_rest r'.offset r'.held.items → Follows C listed number header m' (s ++ xs)
+      stage_of Step ≡ In_rest r'.offset r'.held.items → Follows C request_table number header m' (s ++ xs)
   rest_follows {r' = r'} move id part stage =
       let step = rested r.offset (r.held.items ++ xs) (At + length xs) in
       let e : At + length xs ≡ 12 + length (s ++ xs) = omega (arith, length-append s xs) in
-      let next = comes_next stood.0 (told_of Step) (At + length xs) (12 + length (s ++ xs)) (In_rest r'.offset r'.held.items) e in
-      let comes = ap (with_front stood.0) (step.comes ∙ ap (Comes (told_of Step) (At + length xs)) stage) in
-      follows_on f xs (rw size move) (id ∙ rw part (id_kept f xs (ap id_said rest_due ∙ step.no_id) (rw is refl)))
-      (subst (Stands C listed number header (s ++ xs)) (sym part) (stood.0 ++ told_of Step, rest_comes ∙ (comes ∙ next)))
+      let next = comes_next stood.0 (message_lines Step) (At + length xs) (12 + length (s ++ xs)) (In_rest r'.offset r'.held.items) e in
+      let comes = ap (with_front stood.0) (step.comes ∙ ap (ReadTo (message_lines Step) (At + length xs)) stage) in
+      follows_on f xs (rw size move) (id ∙ rw part (id_kept f xs (ap first_request_id rest_due ∙ step.no_id) (rw is refl)))
+      (subst (Stands C request_table number header (s ++ xs)) (sym part) (stood.0 ++ message_lines Step, rest_comes ∙ (comes ∙ next)))
 
 -- the text of a step in the rest
 pub few_told : (number place offset at : ℕ) (from : ℕ) (held : List ℕ) → length held < 32 →
-    told_text number place offset (told_of (rest_step from held at)) ≡ []
-unfolding told_text told_of
+    message_lines_text number place offset (message_lines (rest_step from held at)) ≡ []
+unfolding message_lines_text message_lines
 few_told number place offset at from held h = rw (rest_step_more from held at h) refl
 
 pub full_told : (number place offset at : ℕ) (from : ℕ) (held : List ℕ) → length held ≡ 32 →
-    told_text number place offset (told_of (rest_step from held at)) ≡ rest_line number from held
-unfolding told_text told_of speech_line saying_of text_of tell
+    message_lines_text number place offset (message_lines (rest_step from held at)) ≡ rest_line number from held
+unfolding message_lines_text message_lines message_line_text line_class_of text_of line_at
 full_told number place offset at from held h = rw (rest_step_full from held at h) (append-nil _ ∙ rest_said number from held)
 
 pub few_stage : (at from : ℕ) (held : List ℕ) → length held < 32 →

@@ -6,19 +6,19 @@ use Rattle.giop_cdr.specs.Alignment.{padding}
 use Rattle.giop_cdr.specs.Numbers.{num, twos_complement}
 use Rattle.giop_print.specs.Text.{hex, hex_number, escaped}
 use Rattle.giop_sig.specs.Types.{places_of, Enum, Ty, Single, Struct, Union, Sequence, Array, Encapsulation, part_of, name_in}
-use Rattle.giop_sig.specs.Headers.{header_type}
-use Rattle.giop_decode.specs.Heard.{is_text}
+use Rattle.giop_sig.specs.HeaderTypes.{header_type}
+use Rattle.giop_decode.specs.Noted.{is_text}
 use Rattle.giop_sig.specs.Table.{Table, Operation, Exception, members, op_id}
 use Rattle.giop_sig.specs.Trees.{trees_after, type_in}
 use Rattle.giop_sig.specs.Builtin.{builtin_types, member}
 use Rattle.giop_decode.specs.Pieces.{block, number}
 use Rattle.giop_decode.specs.Spelling.{path_text}
 use Rattle.giop_message.specs.Headers.{minor, kind, order}
-use Rattle.giop_message.specs.Reading.{Saying, Value, Call, Rest, Fault, End, Remark, Reading}
+use Rattle.giop_message.specs.MessageReader.{LineClass, Value, Call, Rest, Fault, End, TimedLine, MessageReader}
 use Rattle.giop_message.specs.Text.{value_said, call_text, rest_text}
-use Rattle.giop_message.specs.Signatures.{Listed, said_by}
-use Rattle.giop_message.specs.Messages.{tell, is_shown, call_of, calls, tells, with_front, passes, rest_in, rest, typed, option_typed, members_of, after_exception, body, type_if, request_body, result_body, reply_body, is_request, body_of, has_body, padded, after_header, of_header, message, may_lack, close, told_of, stage_of}
-use Rattle.giop_message.specs.MessageReading.{saying_of, text_of, reading_by, message_reading}
+use Rattle.giop_message.specs.Signatures.{RequestTable, signatures_of}
+use Rattle.giop_message.specs.Messages.{line_at, is_shown, call_of, calls, section_lines, with_front, section_then, rest_in, rest, typed, option_typed, members_of, after_exception, body, type_if, request_body, result_body, reply_body, is_request, body_of, has_body, padded, after_header, of_header, message, body_may_be_missing, close, message_lines, stage_of}
+use Rattle.giop_message.specs.ReaderOfTable.{line_class_of, text_of, reader_by, message_reader}
 
 -- an operation by its structs, counted from the first type behind the built-in ones
 called : List ℕ → ℕ → ℕ → Operation
@@ -55,19 +55,19 @@ table = record {
 }
 
 -- 1 ask, 1 ask, 2 nop, 2 ask
-listed : Listed
-listed = (1, Some (op_id 0)) ∷ (2, None) ∷ []
+request_table : RequestTable
+request_table = (1, Some (op_id 0)) ∷ (2, None) ∷ []
 
-r : Reading
-unfolding table listed
-r = message_reading table listed
+r : MessageReader
+unfolding table request_table
+r = message_reader table request_table
 
-says : ℕ → List ℕ → Remark
-says at text = record { at = at; saying = Value; text = text }
+says : ℕ → List ℕ → TimedLine
+says at text = record { at = at; line_class = Value; text = text }
 
 -- names what the rows compute with
 rows : ℕ
-unfolding digits num twos_complement padding block number path_text hex hex_number escaped type_in trees_after builtin_types minor kind order value_said call_text rest_text said_by tell is_shown call_of calls tells with_front passes rest_in rest typed option_typed members_of after_exception body type_if request_body result_body reply_body is_request body_of has_body padded after_header of_header message may_lack close told_of stage_of saying_of text_of reading_by called late table listed r says
+unfolding digits num twos_complement padding block number path_text hex hex_number escaped type_in trees_after builtin_types minor kind order value_said call_text rest_text signatures_of line_at is_shown call_of calls section_lines with_front section_then rest_in rest typed option_typed members_of after_exception body type_if request_body result_body reply_body is_request body_of has_body padded after_header of_header message body_may_be_missing close message_lines stage_of line_class_of text_of reader_by called late table request_table r says
 rows = 0
 
 -- minor version and type
@@ -79,7 +79,7 @@ h : List ℕ → List ℕ
 h operation = (0 ∷ 0 ∷ 0 ∷ 1 ∷ 3 ∷ 0 ∷ 0 ∷ 0 ∷ 0 ∷ 0 ∷ 0 ∷ 0 ∷ 0 ∷ 0 ∷ 0 ∷ 1 ∷ 65 ∷ 0 ∷ 0 ∷ 0 ∷ 0 ∷ 0 ∷ 0 ∷ 4 ∷ []) ++ (operation ++ (0 ∷ 0 ∷ 0 ∷ 0 ∷ 0 ∷ []))
 
 -- and its ten lines
-t : List ℕ → List ℕ → List Remark
+t : List ℕ → List ℕ → List TimedLine
 unfolding says
 t said called =
     says 4 (codes "header.request_id ulong 1")
@@ -90,29 +90,29 @@ t said called =
     ∷ says 10 (codes "header.target.switch short 0")
     ∷ says 17 (codes "header.target.object_key octets @0 41")
     ∷ says 28 said
-    ∷ record { at = 28; saying = Call; text = called }
+    ∷ record { at = 28; line_class = Call; text = called }
     ∷ says 32 (codes "header.service_contexts count 0") ∷ []
 
-t_nop : List Remark
+t_nop : List TimedLine
 unfolding t
 t_nop = t (codes "header.operation string @0 \"nop\"") (codes "call 1 nop")
 
-t_say : List Remark
+t_say : List TimedLine
 unfolding t
 t_say = t (codes "header.operation string @0 \"say\"") (codes "call 1 say")
 
-t_raw : List Remark
+t_raw : List TimedLine
 unfolding t
 t_raw = t (codes "header.operation string @0 \"raw\"") (codes "call 1 raw")
 
-ended : List (Saying × List ℕ)
+ended : List (LineClass × List ℕ)
 ended = (End, codes "end") ∷ []
 
-short : List (Saying × List ℕ)
+short : List (LineClass × List ℕ)
 short = (Fault, codes "short") ∷ []
 
 -- what the octets of a message say, and what its close adds
-abbrev Row : List ℕ → List ℕ → List Remark → List (Saying × List ℕ) → Type 0
+abbrev Row : List ℕ → List ℕ → List TimedLine → List (LineClass × List ℕ) → Type 0
 Row header s reads closes = (r.reads header s ≡ reads) × (r.closes header s ≡ closes)
 
 -- A Request without parameters: its message ends at the header's end, within the padding, and at its end; then a rest of two
@@ -146,14 +146,14 @@ cut_string = (refl, refl)
 
 -- a string's wrong end, behind which nothing is read
 wrong_end : Row (head 2 0) (h (codes "say") ++ 0 ∷ 0 ∷ 0 ∷ 0 ∷ 0 ∷ 0 ∷ 0 ∷ 2 ∷ 97 ∷ 98 ∷ 9 ∷ 9 ∷ [])
-    (t_say ++ record { at = 42; saying = Fault; text = codes "string-end" } ∷ []) ended
+    (t_say ++ record { at = 42; line_class = Fault; text = codes "string-end" } ∷ []) ended
 unfolding rows head h t_nop t_say t_raw ended short
 wrong_end = (refl, refl)
 
 -- a rest of 32 octets behind an empty octet sequence
 rest_of_32 : Row (head 2 0) (h (codes "raw") ++ 0 ∷ 0 ∷ 0 ∷ 0 ∷ 0 ∷ 0 ∷ 0 ∷ 0 ∷ replicate 32 17)
     (t_raw ++ says 40 (codes "body.o octets @0") ∷ record
-    { at = 72; saying = Rest; text = codes "rest @0 1111111111111111111111111111111111111111111111111111111111111111" } ∷ []) ended
+    { at = 72; line_class = Rest; text = codes "rest @0 1111111111111111111111111111111111111111111111111111111111111111" } ∷ []) ended
 unfolding rows head h t_nop t_say t_raw ended short
 rest_of_32 = (refl, refl)
 
@@ -165,7 +165,7 @@ body_of_1_0 : Row (head 0 0)
     ∷ says 9 (codes "header.response_expected boolean true")
     ∷ says 18 (codes "header.object_key octets @0 6b31")
     ∷ says 28 (codes "header.operation string @0 \"set\"")
-    ∷ record { at = 28; saying = Call; text = codes "call 7 set" }
+    ∷ record { at = 28; line_class = Call; text = codes "call 7 set" }
     ∷ says 32 (codes "header.requesting_principal octets @0")
     ∷ says 36 (codes "body.v long -5") ∷ []) ended
 unfolding rows head h t_nop t_say t_raw ended short
@@ -180,7 +180,7 @@ body_of_1_2 : Row (71 ∷ 73 ∷ 79 ∷ 80 ∷ 1 ∷ 2 ∷ 1 ∷ 0 ∷ 44 ∷ 0 
     ∷ says 8 (codes "header.reserved[2] octet 0") ∷ says 10 (codes "header.target.switch short 0")
     ∷ says 17 (codes "header.target.object_key octets @0 41")
     ∷ says 28 (codes "header.operation string @0 \"put\"")
-    ∷ record { at = 28; saying = Call; text = codes "call 1 put" }
+    ∷ record { at = 28; line_class = Call; text = codes "call 1 put" }
     ∷ says 32 (codes "header.service_contexts count 0")
     ∷ says 44 (codes "body.d double 3ff8000000000000") ∷ []) ended
 unfolding rows head h t_nop t_say t_raw ended short
@@ -249,7 +249,7 @@ addressing = (refl, refl)
 -- a status without a name
 no_status : Row (head 0 1) (0 ∷ 0 ∷ 0 ∷ 0 ∷ 0 ∷ 0 ∷ 0 ∷ 1 ∷ 0 ∷ 0 ∷ 0 ∷ 4 ∷ [])
     (says 4 (codes "header.service_contexts count 0") ∷ says 8 (codes "header.request_id ulong 1")
-    ∷ record { at = 12; saying = Fault; text = codes "enum" } ∷ []) ended
+    ∷ record { at = 12; line_class = Fault; text = codes "enum" } ∷ []) ended
 unfolding rows head h t_nop t_say t_raw ended short
 no_status = (refl, refl)
 
@@ -264,7 +264,7 @@ located = (refl, refl)
 
 not_located : Row (head 2 3) (0 ∷ 0 ∷ 0 ∷ 1 ∷ 0 ∷ 3 ∷ [])
     (says 4 (codes "header.request_id ulong 1")
-    ∷ record { at = 6; saying = Fault; text = codes "disposition" } ∷ []) ended
+    ∷ record { at = 6; line_class = Fault; text = codes "disposition" } ∷ []) ended
 unfolding rows head h t_nop t_say t_raw ended short
 not_located = (refl, refl)
 

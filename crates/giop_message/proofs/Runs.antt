@@ -13,21 +13,21 @@ use Rattle.giop_decode.specs.declared.decoder.Decoder.{Decoder}
 use Rattle.giop_decode.specs.declared.progress.Kind.{Kind}
 use Rattle.giop_decode.specs.declared.progress.Progress.{Progress}
 use Rattle.giop_decode.specs.declared.progress.Progress.TheVariants as progress
-use Rattle.giop_decode.specs.Spine.{Read, Done, Short, Fault}
-use Rattle.giop_decode.specs.Heard.{nothing, heard_of, is_header_root}
-use Rattle.giop_decode.specs.Holding as decoders
-use Rattle.giop_decode.specs.Runs.{dues, Answers, AreAnswered, BreaksOff}
+use Rattle.giop_decode.specs.ReadResult.{Read, Done, Short, Fault}
+use Rattle.giop_decode.specs.Noted.{nothing_noted, noted_of, is_header_root}
+use Rattle.giop_decode.specs.DecoderState as decoders
+use Rattle.giop_decode.specs.Runs.{added_lines_of_run, Answers, AreAnswered, BreaksOff}
 use Rattle.giop_decode.specs.Spelling.{lines_text}
 use Rattle.giop_decode.proofs.ReadingLaws as readings
 use Rattle.giop_message.specs.declared.part.Section.{Section}
 use Rattle.giop_message.specs.declared.part.Section.TheVariants as sections
 use Rattle.giop_message.specs.Headers.{order}
 use Rattle.giop_message.specs.Signatures.{Signatures}
-use Rattle.giop_message.specs.Messages.{Told, tells, with_front, passes, message, told_of, stage_of, root_of, may_call, after, through}
-use Rattle.giop_message.specs.MessageReading.{id_said, is_over}
+use Rattle.giop_message.specs.Messages.{LineAt, section_lines, with_front, section_then, message, message_lines, stage_of, root_of, may_call, after, section_and_rest}
+use Rattle.giop_message.specs.ReaderOfTable.{first_request_id, is_over}
 use Rattle.giop_message.specs.Text.{fault_word}
-use Rattle.giop_message.specs.Holding.{due_text, Decodes, is_header, FaultedAt}
-use Rattle.giop_message.specs.Moves.{request_call}
+use Rattle.giop_message.specs.MessageState.{due_text, Decodes, is_header, FaultedAt}
+use Rattle.giop_message.specs.MessageSteps.{request_call}
 use Rattle.giop_message.proofs.Going.{front_twice}
 use Rattle.giop_message.proofs.Dues as whole
 use Rattle.giop_message.proofs.Octets.{told_front, stage_front}
@@ -83,7 +83,7 @@ module _ (w : Begun) where
 
   -- the lines of octets behind some, and that the last of them comes to this
   abbrev pub LinesOf : List ℕ → List ℕ → List ℕ
-  LinesOf octets xs = lines_text number R (dues O T (start w) octets xs)
+  LinesOf octets xs = lines_text number R (added_lines_of_run O T (start w) octets xs)
 
   abbrev pub Last : List ℕ → List ℕ → Progress → Type 0
   Last octets xs p = LastOne O T (start w) R octets xs p
@@ -119,11 +119,11 @@ module _ (w : Begun) where
 
 told_before : (w : Begun) (s : List ℕ) (r : Read) → is_header w.section ≡ false →
     message w.S w.header s ≡ comes w r → ReadsAll r →
-    id_said (told_of (message w.S w.header s)) ≡ id_said w.before
+    first_request_id (message_lines (message w.S w.header s)) ≡ first_request_id w.before
 told_before w s r other is all =
-    let more = through S header section nothing r in
-    ap (λ m. id_said (told_of m)) is ∙ (ap id_said (told_front before more) ∙ (id_both before (told_of more)
-    ∙ rw (passed_tells S header section nothing r all, section_no_id section other (may_call header section) nothing r) (first_none (id_said before))))
+    let more = section_and_rest S header section nothing_noted r in
+    ap (λ m. first_request_id (message_lines m)) is ∙ (ap first_request_id (told_front before more) ∙ (id_both before (message_lines more)
+    ∙ rw (passed_tells S header section nothing_noted r all, section_no_id section other (may_call header section) nothing_noted r) (first_none (first_request_id before))))
   where
     open w use {S, header, section, before}
 
@@ -138,27 +138,27 @@ answer_all end named p r answer = tt
 -- ---- where it ends
 
 done_by : (S : Signatures) (header : List ℕ) (section : Section) (end : ℕ) (named : Bool) (n : ℕ)
-    (r : Read) → decoders.IsAnswer end named progress.Done r → EndsAt n r → (more : List Told)
-    × (through S header section nothing r
-    ≡ with_front more (after S header section (heard_of (is_header_root (root_of section)) r) n []))
-unfolding passes
-done_by S header section end named n (Done lines at rest) answer e = (tells (root_of section) (may_call header section) nothing lines, rw (answer, e) refl)
+    (r : Read) → decoders.IsAnswer end named progress.Done r → EndsAt n r → (more : List LineAt)
+    × (section_and_rest S header section nothing_noted r
+    ≡ with_front more (after S header section (noted_of (is_header_root (root_of section)) r) n []))
+unfolding section_then
+done_by S header section end named n (Done lines at rest) answer e = (section_lines (root_of section) (may_call header section) nothing_noted lines, rw (answer, e) refl)
 done_by S header section end named n r answer e = absurd answer
 
 fault_by : (S : Signatures) (header : List ℕ) (section : Section) (end : ℕ) (named : Bool)
     (kind : Kind) (r : Read) → decoders.IsAnswer end named (progress.Fault kind) r →
-    is_over (stage_of (through S header section nothing r)) ≡ true
-unfolding passes stage_of is_over
+    is_over (stage_of (section_and_rest S header section nothing_noted r)) ≡ true
+unfolding section_then stage_of is_over
 fault_by S header section end named kind (Fault lines at why U) answer = refl
 fault_by S header section end named kind _ answer = absurd answer
 
 inside_goes : (w : Begun) (s octets : List ℕ) → Inside w s octets →
     is_over (stage_of (message w.S w.header s)) ≡ false
-unfolding passes stage_of is_over
+unfolding section_then stage_of is_over
 inside_goes w s octets i =
     ap (λ m. is_over (stage_of m)) i.is
-    ∙ (ap is_over (stage_front w.before (through w.S w.header w.section nothing (reading w octets)))
-    ∙ ap (λ r. is_over (stage_of (through w.S w.header w.section nothing r))) i.was_short)
+    ∙ (ap is_over (stage_front w.before (section_and_rest w.S w.header w.section nothing_noted (reading w octets)))
+    ∙ ap (λ r. is_over (stage_of (section_and_rest w.S w.header w.section nothing_noted r))) i.was_short)
 
 -- the octets before the last of those taken
 pub but_last : (octets front : List ℕ) (b n : ℕ) → n ≤ length octets →
@@ -183,7 +183,7 @@ module _ (w : Begun) (s octets : List ℕ) (i : Inside w s octets) where
 
   -- the lines of an octet behind some of them
   abbrev DueAt : List ℕ → ℕ → List ℕ
-  DueAt fr b = lines_text number (R w) (decoders.due (O w) T (start w) (octets ++ fr) b)
+  DueAt fr b = lines_text number (R w) (decoders.added_lines (O w) T (start w) (octets ++ fr) b)
 
   last_octets : (xs fr : List ℕ) (b : ℕ) → xs ≡ fr ++ b ∷ [] →
       (octets ++ fr) ++ b ∷ [] ≡ octets ++ xs
@@ -226,11 +226,11 @@ module _ (w : Begun) (s octets : List ℕ) (i : Inside w s octets) where
 
   pub run_named : (xs : List ℕ) (place : ℕ) → Last w octets xs progress.Named →
       due_text S number place header s xs
-      ≡ Lines xs ++ request_call number header (heard_of true (With xs))
+      ≡ Lines xs ++ request_call number header (noted_of true (With xs))
   run_named xs place l =
       ends_in xs l.front l.octet place _ l.all l.before
       (named_text w (s ++ l.front) (octets ++ l.front) (at_last l.front l.before) l.octet l.answer (place + length l.front)
-      ∙ ap (λ z. DueAt l.front l.octet ++ request_call number header (heard_of true (reading w z))) (last_octets xs l.front l.octet l.all))
+      ∙ ap (λ z. DueAt l.front l.octet ++ request_call number header (noted_of true (reading w z))) (last_octets xs l.front l.octet l.all))
 
   -- it breaks a rule
   pub run_wrong : (xs : List ℕ) (place end : ℕ) (why : Kind) → end ≡ place + length xs →
@@ -284,15 +284,15 @@ module _ (w : Begun) (s octets : List ℕ) (i : Inside w s octets) where
 
   -- outside of the header they say no request id
   pub same_id : (xs : List ℕ) (p : Progress) → Last w octets xs p → is_header section ≡ false →
-      id_said (told_of (message S header (s ++ xs))) ≡ id_said (told_of (message S header s))
+      first_request_id (message_lines (message S header (s ++ xs))) ≡ first_request_id (message_lines (message S header s))
   same_id xs p l other =
       let a = last_answer xs p l in
       told_before w (s ++ xs) (With xs) other (behind xs) (answer_all a.0 a.1 p (With xs) a.2)
       ∙ sym (told_before w s (reading w octets) other i.is (rw i.was_short tt))
 
   pub done_comes : (xs : List ℕ) → Last w octets xs progress.Done →
-      (more : List Told) × (message S header (s ++ xs) ≡ with_front more
-      (after S header section (heard_of (is_header_root (R w)) (With xs))
+      (more : List LineAt) × (message S header (s ++ xs) ≡ with_front more
+      (after S header section (noted_of (is_header_root (R w)) (With xs))
       (12 + length (s ++ xs)) []))
   done_comes xs l =
       let a = last_answer xs progress.Done l in
@@ -311,7 +311,7 @@ module _ (w : Begun) (s octets : List ℕ) (i : Inside w s octets) where
         some = omega (arith, ap length l.all, length-append l.front (l.octet ∷ []), length-take-le n ys within);
         within = within;
         here = ap (λ m. is_over (stage_of m)) (behind xs)
-            ∙ (ap is_over (stage_front before (through S header section nothing (With xs)))
+            ∙ (ap is_over (stage_front before (section_and_rest S header section nothing_noted (With xs)))
             ∙ fault_by S header section a.0 a.1 why (With xs) a.2);
         not_before = rw (but_last ys l.front l.octet n within l.all)
             (inside_goes w (s ++ l.front) (octets ++ l.front) (at_last l.front l.before));

@@ -16,20 +16,20 @@ use Rattle.giop_decode.specs.declared.decoder.Decoder.{Decoder}
 use Rattle.giop_decode.specs.declared.progress.Kind.{Kind}
 use Rattle.giop_decode.specs.declared.progress.Progress.{Progress}
 use Rattle.giop_decode.specs.declared.progress.Progress.TheVariants as progress
-use Rattle.giop_decode.specs.Spine.{Read}
-use Rattle.giop_decode.specs.Heard.{heard_of, is_header_root}
-use Rattle.giop_decode.specs.Holding as decoders
+use Rattle.giop_decode.specs.ReadResult.{Read}
+use Rattle.giop_decode.specs.Noted.{noted_of, is_header_root}
+use Rattle.giop_decode.specs.DecoderState as decoders
 use Rattle.giop_decode.specs.Runs.{TakesRun, BreaksOff}
 use Rattle.giop_message.specs.declared.message.Message.{Message as Struct_of}
 use Rattle.giop_message.specs.declared.part.Section.{Section}
 use Rattle.giop_message.specs.declared.part.Part.TheVariants as parts
 use Rattle.giop_message.specs.Headers.{order}
-use Rattle.giop_message.specs.Signatures.{Signatures, Listed, said_by}
-use Rattle.giop_message.specs.Messages.{message, told_of, root_of, after}
-use Rattle.giop_message.specs.MessageReading.{id_said}
+use Rattle.giop_message.specs.Signatures.{Signatures, RequestTable, signatures_of}
+use Rattle.giop_message.specs.Messages.{message, message_lines, root_of, after}
+use Rattle.giop_message.specs.ReaderOfTable.{first_request_id}
 use Rattle.giop_message.specs.Text.{fault_word}
-use Rattle.giop_message.specs.Holding.{due_text, Decodes, Stands, FitsPart, Fits, is_header, in_header, Follows, FaultedAt}
-use Rattle.giop_message.specs.Moves.{request_call, Arrives, WritesRun}
+use Rattle.giop_message.specs.MessageState.{due_text, Decodes, Stands, FitsPart, Fits, is_header, in_header, Follows, FaultedAt}
+use Rattle.giop_message.specs.MessageSteps.{request_call, Arrives, WritesRun}
 use Rattle.giop_message.proofs.Dues.{text_both}
 use Rattle.giop_message.proofs.Parts.{Begun, start, reading, Inside}
 use Rattle.giop_message.proofs.Followings.{header_only, id_heard, Moved, is_at, follows_on}
@@ -64,33 +64,33 @@ first_alone (x ∷ xs) some = refl
 -- It stands in this section, which its decoder reads.
 pub record Standing : Type 0 where
   pub C : Table
-  pub listed : Listed
+  pub request_table : RequestTable
   pub number : ℕ
   pub header : List ℕ
   pub m : Struct_of
   pub s : List ℕ
-  pub follows : Follows C listed number header m s
+  pub follows : Follows C request_table number header m s
   pub section : Section
   pub d : Decoder
   pub is : m.part ≡ parts.Typed section d
   pub fits : decoders.Fits C d
 
-abbrev pub standing : {C : Table} {listed : Listed} {number : ℕ} {header : List ℕ} {m : Struct_of}
+abbrev pub standing : {C : Table} {request_table : RequestTable} {number : ℕ} {header : List ℕ} {m : Struct_of}
     {s : List ℕ} {section : Section}
-    {d : Decoder} → Follows C listed number header m s → m.part ≡ parts.Typed section d → Fits C m →
+    {d : Decoder} → Follows C request_table number header m s → m.part ≡ parts.Typed section d → Fits C m →
     Standing
 standing {C} {m = m} f is fits =
     let e = subst (FitsPart C m.at) is fits in
-    record { C = C; listed = _; number = _; header = _; m = m; s = _; follows = f; section = _; d = _; is = is; fits = e }
+    record { C = C; request_table = _; number = _; header = _; m = m; s = _; follows = f; section = _; d = _; is = is; fits = e }
 
 module _ (t : Standing) where
-  open t use {C, listed, number, header, m, s, follows, section, d, is}
+  open t use {C, request_table, number, header, m, s, follows, section, d, is}
 
   abbrev S : Signatures
-  S = said_by C listed
+  S = signatures_of C request_table
 
   abbrev opened : Decodes C S number header s section d
-  opened = subst (Stands C listed number header s) is follows.stands
+  opened = subst (Stands C request_table number header s) is follows.stands
 
   abbrev octets_of : List ℕ
   octets_of = opened.octets
@@ -101,7 +101,7 @@ module _ (t : Standing) where
 
   inside : Inside begun s octets_of
   inside =
-      let goes_on = ap (λ leaf. decoders.standing_in C d leaf opened.reads.lines (start begun + length octets_of)) t.fits.goes_on in
+      let goes_on = ap (λ leaf. decoders.read_by_leaf C d leaf opened.reads.lines (start begun + length octets_of)) t.fits.goes_on in
       record {
         since = opened.since;
         is = opened.is;
@@ -123,22 +123,22 @@ module _ (t : Standing) where
 
   kept_id : (xs : List ℕ) (p : Progress) → LastOf xs p → (inside : Bool) →
       is_header section ≡ inside →
-      m.id ≡ cond inside None (id_said (told_of (message S header (s ++ xs))))
+      m.id ≡ cond inside None (first_request_id (message_lines (message S header (s ++ xs))))
   kept_id xs p l true e = follows.id ∙ rw (is, e) refl
   kept_id xs p l false e = follows.id ∙ rw (is, e) (sym (same_id begun s octets_of inside xs p l e))
 
   -- it goes on
   section_on : (xs : List ℕ) (p : Progress) → LastOf xs p → (n : Struct_of) (d' : Decoder) →
       Moved m n (length xs) → n.id ≡ m.id → n.part ≡ parts.Typed section d' → ReadsWith d' xs →
-      Follows C listed number header n (s ++ xs)
+      Follows C request_table number header n (s ++ xs)
   section_on xs p l n d' move id part reads =
       follows_on follows xs move (id ∙ rw part (kept_id xs p l (is_header section) refl))
-      (subst (Stands C listed number header (s ++ xs)) (sym part) (decodes begun s octets_of inside C xs d' reads))
+      (subst (Stands C request_table number header (s ++ xs)) (sym part) (decodes begun s octets_of inside C xs d' reads))
 
   ended_id : (xs : List ℕ) → LastOf xs progress.Done → (d' : Decoder) → ReadsWith d' xs →
       (id : Option ℕ) (inside : Bool) →
-      is_header section ≡ inside → id ≡ cond inside (heard_of true (ReadWith xs)).request_id m.id →
-      id ≡ id_said (told_of (message S header (s ++ xs)))
+      is_header section ≡ inside → id ≡ cond inside (noted_of true (ReadWith xs)).request_id m.id →
+      id ≡ first_request_id (message_lines (message S header (s ++ xs)))
   ended_id xs l d' reads id false e id_is = id_is ∙ kept_id xs progress.Done l false e
   ended_id xs l d' reads id true e id_is =
       id_is ∙ id_heard (decodes begun s octets_of inside C xs d' reads) (header_only section e)
@@ -176,11 +176,11 @@ module _ (t : Standing) where
 abbrev Text : Standing → List ℕ → ℕ → ℕ → List ℕ
 Text t octets n place = due_text (S t) t.number place t.header t.s (take n octets)
 
-abbrev Said : Standing → List ℕ → ℕ → List ℕ
-Said t octets n = LinesOf (begun t) (octets_of t) (take n octets)
+abbrev ValueLine : Standing → List ℕ → ℕ → List ℕ
+ValueLine t octets n = LinesOf (begun t) (octets_of t) (take n octets)
 
 module _ {t : Standing} {octets : List ℕ} {n : ℕ} {d' : Decoder} where
-  open t use {C, listed, number, header, m, s, follows, section}
+  open t use {C, request_table, number, header, m, s, follows, section}
 
   last : (p : Progress) → Took t octets n d' p → LastOf t (take n octets) p
   last p k =
@@ -194,29 +194,29 @@ module _ {t : Standing} {octets : List ℕ} {n : ℕ} {d' : Decoder} where
   -- ---- their text
 
   pub text_more : Took t octets n d' progress.More → (place : ℕ) →
-      Text t octets n place ≡ Said t octets n
+      Text t octets n place ≡ ValueLine t octets n
   text_more k place = run_more (begun t) s (octets_of t) (inside t) (take n octets) place k.takes.answers
 
   pub text_done : Took t octets n d' progress.Done → (place : ℕ) →
-      Text t octets n place ≡ Said t octets n
+      Text t octets n place ≡ ValueLine t octets n
   text_done k place = run_done (begun t) s (octets_of t) (inside t) (take n octets) place (last progress.Done k)
 
   pub text_named : Took t octets n d' progress.Named → (place : ℕ) →
-      Text t octets n place ≡ Said t octets n
-      ++ request_call m.number m.header (heard_of true (ReadWith t (take n octets)))
+      Text t octets n place ≡ ValueLine t octets n
+      ++ request_call m.number m.header (noted_of true (ReadWith t (take n octets)))
   text_named k place =
-      let heard = heard_of true (ReadWith t (take n octets)) in
+      let heard = noted_of true (ReadWith t (take n octets)) in
       run_named (begun t) s (octets_of t) (inside t) (take n octets) place (last progress.Named k)
-      ∙ (ap (λ x. Said t octets n ++ request_call x header heard) (sym follows.same_number)
-      ∙ ap (λ x. Said t octets n ++ request_call m.number x heard) (sym follows.same_header))
+      ∙ (ap (λ x. ValueLine t octets n ++ request_call x header heard) (sym follows.same_number)
+      ∙ ap (λ x. ValueLine t octets n ++ request_call m.number x heard) (sym follows.same_header))
 
   pub text_wrong : (why : Kind) → Took t octets n d' (progress.Fault why) → (place : ℕ) →
-      Text t octets n place ≡ Said t octets n ++ fault_line m.number (fault_word why) (place + n)
+      Text t octets n place ≡ ValueLine t octets n ++ fault_line m.number (fault_word why) (place + n)
   text_wrong why k place =
       let xs = take n octets in
       let end : place + n ≡ place + length xs = omega (arith, length-take-le n octets k.within) in
       run_wrong (begun t) s (octets_of t) (inside t) xs place (place + n) why end (last (progress.Fault why) k)
-      ∙ ap (λ x. Said t octets n ++ fault_line x (fault_word why) (place + n)) (sym follows.same_number)
+      ∙ ap (λ x. ValueLine t octets n ++ fault_line x (fault_word why) (place + n)) (sym follows.same_number)
 
   -- a put failed behind those lines
   pub failed_behind : {p : Progress} {E : Type 0} (r : Result (ℕ × Bool) E) (place : ℕ)
@@ -231,27 +231,27 @@ module _ {t : Standing} {octets : List ℕ} {n : ℕ} {d' : Decoder} where
 
   -- where it ends an operation it is a header's
   pub minds_header : Took t octets n d' progress.Named →
-      decoders.Minds roots.Header d' (ReadWith t (take n octets))
+      decoders.KeepsNoted roots.Header d' (ReadWith t (take n octets))
   minds_header k =
       let in_it = run_named_in (begun t) s (octets_of t) (inside t) (take n octets) (last progress.Named k) in
-      subst (λ x. decoders.Minds (root_of x) d' (ReadWith t (take n octets))) in_it k.takes.minds
+      subst (λ x. decoders.KeepsNoted (root_of x) d' (ReadWith t (take n octets))) in_it k.takes.keeps_noted
 
   pub went_on : {p : Progress} → Took t octets n d' p → (decoders.IsFault p → ⊥) →
       (m' : Struct_of) → Moved m m' n → m'.id ≡ m.id →
-      m'.part ≡ parts.Typed section d' → Follows C listed number header m' (s ++ (take n octets))
+      m'.part ≡ parts.Typed section d' → Follows C request_table number header m' (s ++ (take n octets))
   went_on {p} k going m' move id part = section_on t (take n octets) p (last p k) m' d' (moved p k m' move) id part (k.takes.reads going)
 
   pub went_done : Took t octets n d' progress.Done → (m1 m2 : Struct_of) → Moved m m1 n →
-      m1.id ≡ m.id → Arrives C listed number header m1 m2 (s ++ (take n octets))
+      m1.id ≡ m.id → Arrives C request_table number header m1 m2 (s ++ (take n octets))
       (after (S t) header section
-      (heard_of (is_header_root (root_of section)) (ReadWith t (take n octets)))
+      (noted_of (is_header_root (root_of section)) (ReadWith t (take n octets)))
       (12 + length (s ++ (take n octets))) []) → Moved m m2 n → m2.id ≡ cond (is_header section)
-      (heard_of true (ReadWith t (take n octets))).request_id m1.id →
-      in_header m2.part ≡ false → Follows C listed number header m2 (s ++ (take n octets))
+      (noted_of true (ReadWith t (take n octets))).request_id m1.id →
+      in_header m2.part ≡ false → Follows C request_table number header m2 (s ++ (take n octets))
   went_done k m1 m2 move_1 id_1 arrives move_2 id_2 past =
       let l = last progress.Done k in
       let g = done_comes (begun t) s (octets_of t) (inside t) (take n octets) l in
-      let id_m = ap (cond (is_header section) (heard_of true (ReadWith t (take n octets))).request_id) id_1 in
+      let id_m = ap (cond (is_header section) (noted_of true (ReadWith t (take n octets))).request_id) id_1 in
       let id = ended_id t (take n octets) l d' (k.takes.reads (λ fault. fault)) m2.id (is_header section) refl (id_2 ∙ id_m) in
       let at = is_at follows (take n octets) (moved progress.Done k m1 move_1) in
       follows_on follows (take n octets) (moved progress.Done k m2 move_2) (rw past id) (arrives at g.0 g.1)

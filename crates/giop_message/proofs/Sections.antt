@@ -6,34 +6,34 @@ use Rattle.std.proofs.lemmas.Bool.{false≢true, eqb-true}
 use Rattle.giop_print.specs.Lines.{call_line, fault_line}
 use Rattle.giop_print.specs.declared.path.Root.{Root}
 use Rattle.giop_print.specs.declared.path.Root.TheVariants as roots
-use Rattle.giop_sig.specs.Headers.{header_type}
+use Rattle.giop_sig.specs.HeaderTypes.{header_type}
 use Rattle.giop_decode.specs.declared.progress.Kind.{Kind}
 use Rattle.giop_decode.specs.declared.progress.Progress.{Progress}
 use Rattle.giop_decode.specs.declared.progress.Progress.TheVariants as progress
-use Rattle.giop_decode.specs.Spine
-use Rattle.giop_decode.specs.Spine.{plain, Line, Read, Done, Short, Fault, lines_of}
+use Rattle.giop_decode.specs.ReadResult
+use Rattle.giop_decode.specs.ReadResult.{plain, Line, Read, Done, Short, Fault, lines_of}
 use Rattle.giop_decode.specs.Fits.{FitsIn, Sound}
-use Rattle.giop_decode.specs.Steps.{OneAt}
-use Rattle.giop_decode.specs.Heard.{Heard, nothing, hear, heard, heard_of, hushed, in_string, ends_text, is_member, is_header_root, ends_operation, names_operation}
-use Rattle.giop_decode.specs.Holding as decoders
+use Rattle.giop_decode.specs.ReadingSteps.{OneAt}
+use Rattle.giop_decode.specs.Noted.{Noted, nothing_noted, note, noted, noted_of, without_name_if, ends_in_string, ends_text, is_member, is_header_root, ends_operation, names_operation}
+use Rattle.giop_decode.specs.DecoderState as decoders
 use Rattle.giop_decode.specs.Runs.{Answers}
 use Rattle.giop_decode.specs.Spelling.{lines_text}
-use Rattle.giop_decode.proofs.ReadingLaws.{front_inside, lines_front, heard-append, read_keeps}
+use Rattle.giop_decode.proofs.ReadingLaws.{front_inside, lines_front, noted-append, read_keeps}
 use Rattle.giop_message.specs.declared.part.Section.{Section}
 use Rattle.giop_message.specs.declared.part.Section.TheVariants as sections
 use Rattle.giop_message.specs.Headers.{minor, kind, order}
-use Rattle.giop_message.specs.Messages.{Called, tell, is_shown, call_of, calls, is_request, root_of, may_call}
-use Rattle.giop_message.specs.MessageReading.{saying_of, text_of}
+use Rattle.giop_message.specs.Messages.{CallLine, line_at, is_shown, call_of, calls, is_request, root_of, may_call}
+use Rattle.giop_message.specs.ReaderOfTable.{line_class_of, text_of}
 use Rattle.giop_message.specs.Text.{fault_word}
-use Rattle.giop_message.specs.Holding.{speech_line, told_text, due_text, IsFirst}
-use Rattle.giop_message.specs.Moves.{fault_text, called_text, request_call}
+use Rattle.giop_message.specs.MessageState.{message_line_text, message_lines_text, due_text, IsFirst}
+use Rattle.giop_message.specs.MessageSteps.{fault_text, called_text, request_call}
 use Rattle.giop_message.proofs.Spelling.{call_said}
 use Rattle.giop_message.proofs.LastParts.{CallsNone, request_ends, header_fit, EndsOtherwise, done_test, last_no_call}
 use Rattle.giop_message.proofs.Operations.{AllHold, fits_hold, step_closed}
 use Rattle.giop_message.proofs.Octets.{first_call, no_first}
 use Rattle.giop_message.proofs.StepLines.{NoEnds, one_of}
 use Rattle.giop_message.proofs.Parts.{Begun, start, is_named, Inside, Next, Added, heard_before, next_is, added_none, added_now, lines_due, text_here}
-use Rattle.giop_decode.specs.Holding.{IsAnswer, IsFault}
+use Rattle.giop_decode.specs.DecoderState.{IsAnswer, IsFault}
 
 pub fault_is : (number place end : ℕ) (named : Bool) (kind : Kind) (r : Read) →
     IsAnswer end named (progress.Fault kind) r →
@@ -68,29 +68,29 @@ unnamed is (l ∷ ls) e =
     (and_false is (is_member (codes "operation") l.path && ends_text l.value) b.0, unnamed is ls b.1)
 
 one_call : (number place offset at id : ℕ) (name : List ℕ) →
-    speech_line number (place + (at - offset)) (Called id name) ≡ call_line number id name
-unfolding speech_line saying_of text_of
+    message_line_text number (place + (at - offset)) (CallLine id name) ≡ call_line number id name
+unfolding message_line_text line_class_of text_of
 one_call number place offset at id name = call_said number id name
 
 call_shown : (number place offset at id : ℕ) (name : List ℕ) (test : Bool) →
-    told_text number place offset (if test then tell at (Called id name) ∷ [] else [])
+    message_lines_text number place offset (if test then line_at at (CallLine id name) ∷ [] else [])
     ≡ (if test then call_line number id name else [])
-unfolding told_text tell
+unfolding message_lines_text line_at
 call_shown number place offset at id name true = append-nil _ ∙ one_call number place offset at id name
 call_shown number place offset at id name false = refl
 
 called_is : (number place offset at : ℕ) (id : Option ℕ) (name : Option (List ℕ)) →
-    told_text number place offset (call_of at id name) ≡ called_text number id name
-unfolding told_text call_of called_text
+    message_lines_text number place offset (call_of at id name) ≡ called_text number id name
+unfolding message_lines_text call_of called_text
 called_is number place offset at None name = refl
 called_is number place offset at (Some id) None = refl
 called_is number place offset at (Some id) (Some name) = call_shown number place offset at id name (is_shown name)
 
 -- the call of the line that ends an operation
-call_by : (is : Bool) (number place offset : ℕ) (l : Line) (h : Heard) →
-    ends_operation true l ≡ true → told_text number place offset (calls is l h)
+call_by : (is : Bool) (number place offset : ℕ) (l : Line) (h : Noted) →
+    ends_operation true l ≡ true → message_lines_text number place offset (calls is l h)
     ≡ (if is then called_text number h.request_id h.name else [])
-unfolding calls told_text
+unfolding calls message_lines_text
 call_by true number place offset l h e = rw e (called_is number place offset l.at h.request_id h.name)
 call_by false number place offset l h e = refl
 
@@ -110,15 +110,15 @@ and_last true b e = e
 and_last false b e = absurd (false≢true e)
 
 -- where a line ends an operation, what is heard is what it leaves
-muted : (lines : List Line) (st : Read) (l : Line) → NoEnds st ⊎ (in_string st ≡ false) →
+muted : (lines : List Line) (st : Read) (l : Line) → NoEnds st ⊎ (ends_in_string st ≡ false) →
     lines_of st ≡ l ∷ [] → ends_operation true l ≡ true →
-    heard_of true (Spine.with_front lines st) ≡ hear true (heard true nothing lines) l
+    noted_of true (ReadResult.with_front lines st) ≡ note true (noted true nothing_noted lines) l
 muted lines st l closed e ends =
-    let mute : in_string (Spine.with_front lines st) ≡ false = front_inside lines st ∙ go closed in
-    ap (λ quiet. hushed quiet (heard true nothing (lines_of (Spine.with_front lines st)))) mute
-    ∙ (ap (heard true nothing) (lines_front lines st ∙ ap (λ ls. lines ++ ls) e) ∙ heard-append true nothing lines (l ∷ []))
+    let mute : ends_in_string (ReadResult.with_front lines st) ≡ false = front_inside lines st ∙ go closed in
+    ap (λ quiet. without_name_if quiet (noted true nothing_noted (lines_of (ReadResult.with_front lines st)))) mute
+    ∙ (ap (noted true nothing_noted) (lines_front lines st ∙ ap (λ ls. lines ++ ls) e) ∙ noted-append true nothing_noted lines (l ∷ []))
   where
-    go : NoEnds st ⊎ (in_string st ≡ false) → in_string st ≡ false
+    go : NoEnds st ⊎ (ends_in_string st ≡ false) → ends_in_string st ≡ false
     go (inr f) = f
     go (inl none) =
         absurd (false≢true (sym (subst (λ ls. Each (λ l. ends_text l.value ≡ false) ls) e none).0
@@ -150,27 +150,27 @@ named_header section lines e = absurd (false≢true (sym (none_named lines) ∙ 
 
 -- the call of a step's line
 call_here : (number place offset : ℕ) (header : List ℕ) (section : Section) (before : List Line)
-    (st : Read) (n : ℕ) → OneAt n (lines_of st) → NoEnds st ⊎ (in_string st ≡ false) →
+    (st : Read) (n : ℕ) → OneAt n (lines_of st) → NoEnds st ⊎ (ends_in_string st ≡ false) →
     names_operation (is_header_root (root_of section)) (lines_of st) ≡ true →
-    told_text number place offset (first_call (root_of section) (may_call header section)
-    (heard (is_header_root (root_of section)) nothing before) (lines_of st))
-    ≡ request_call number header (heard_of true (Spine.with_front before st))
+    message_lines_text number place offset (first_call (root_of section) (may_call header section)
+    (noted (is_header_root (root_of section)) nothing_noted before) (lines_of st))
+    ≡ request_call number header (noted_of true (ReadResult.with_front before st))
 unfolding request_call
 call_here number place offset header sections.Header before st n one closed named =
     let x = named_line n (lines_of st) one named in
-    let now = hear true (heard true nothing before) x.0 in
-    ap (λ ls. told_text number place offset (first_call roots.Header (is_request header) (heard true nothing before) ls)) x.1
+    let now = note true (noted true nothing_noted before) x.0 in
+    ap (λ ls. message_lines_text number place offset (first_call roots.Header (is_request header) (noted true nothing_noted before) ls)) x.1
     ∙ (call_by (is_request header) number place offset x.0 now x.2
     ∙ ap (λ h. if is_request header then called_text number h.request_id h.name else []) (sym (muted before st x.0 closed x.1 x.2)))
 call_here number place offset header section before st n one closed named = absurd (false≢true (sym (none_named (lines_of st)) ∙ named))
 
 done_is : (end : ℕ) (named : Bool) (st : Read) (lines : List Line) →
-    decoders.IsAnswer end named progress.Done (Spine.with_front lines st) → done_test st ≡ true
+    decoders.IsAnswer end named progress.Done (ReadResult.with_front lines st) → done_test st ≡ true
 done_is end named (Done ls at rest) lines answer = refl
 done_is end named r lines answer = absurd answer
 
 none_faulted : (is : Bool) (end : ℕ) (named : Bool) (kind : Kind) (st : Read) (lines : List Line) →
-    decoders.IsAnswer end named (progress.Fault kind) (Spine.with_front lines st) →
+    decoders.IsAnswer end named (progress.Fault kind) (ReadResult.with_front lines st) →
     CallsNone is st → Each (λ l. ends_operation is l ≡ false) (lines_of st)
 none_faulted is end named kind (Fault ls at why U) lines answer none = none
 none_faulted is end named kind r lines answer none = absurd answer
@@ -213,14 +213,14 @@ module _ (w : Begun) (s octets : List ℕ) (i : Inside w s octets) (b : ℕ) whe
 
   -- its lines, its fault, its call, and its whole text
   abbrev Lines : List ℕ
-  Lines = lines_text number R (decoders.due (order header) T (start w) octets b)
+  Lines = lines_text number R (decoders.added_lines (order header) T (start w) octets b)
 
   abbrev Wrongs : ℕ → List ℕ
   Wrongs place = fault_text number (place + 1) Behind
 
   abbrev Call : ℕ → List ℕ
   Call place =
-      told_text number place (12 + length s) (first_call R (may_call header section) (heard_before w s octets i b) (lines_of St))
+      message_lines_text number place (12 + length s) (first_call R (may_call header section) (heard_before w s octets i b) (lines_of St))
 
   abbrev Due : ℕ → List ℕ
   Due place = due_text S number place header s (b ∷ [])
@@ -263,9 +263,9 @@ module _ (w : Begun) (s octets : List ℕ) (i : Inside w s octets) (b : ℕ) whe
       text_here w s octets i b place ∙ (append_assoc Lines (Wrongs place) (Call place) ∙ rw (is_fault, is_call) refl)
 
   uncalled : (place : ℕ) → Silences → Call place ≡ []
-  unfolding told_text
+  unfolding message_lines_text
   uncalled place each =
-      ap (told_text number place (12 + length s)) (no_first R (may_call header section) (heard_before w s octets i b) (lines_of St) each)
+      ap (message_lines_text number place (12 + length s)) (no_first R (may_call header section) (heard_before w s octets i b) (lines_of St) each)
 
   -- any octet
   pub any_text : (place : ℕ) → Due place ≡ Lines ++ (Wrongs place ++ Call place)
@@ -300,11 +300,11 @@ module _ (w : Begun) (s octets : List ℕ) (i : Inside w s octets) (b : ℕ) whe
   named_in answer = named_header section _ (named_is End Names Behind answer)
 
   pub named_text : Is progress.Named → (place : ℕ) →
-      Due place ≡ Lines ++ request_call number header (heard_of true Behind)
+      Due place ≡ Lines ++ request_call number header (noted_of true Behind)
   named_text answer place =
       let now = added_now w s octets i b in
       let named = subst (λ ls. names_operation (is_header_root R) ls ≡ true) (lines_due w s octets i b) (named_is End Names Behind answer) in
       let closed = step_closed (plain (order header)) [] i.outer i.leaf _ b (holds_by w s octets i (named_in answer)) in
       joined_text place [] _ (no_fault number (place + 1) End Names progress.Named Behind answer (λ fault. fault))
       (call_here number place (12 + length s) header section i.lines St _ (one_of _ St now) closed named
-      ∙ ap (λ r. request_call number header (heard_of true r)) (sym (next_is w s octets i b)))
+      ∙ ap (λ r. request_call number header (noted_of true r)) (sym (next_is w s octets i b)))

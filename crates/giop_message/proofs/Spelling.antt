@@ -4,11 +4,11 @@ use Rattle.std.specs.Prelude.{codes, decimal}
 use Rattle.giop_print.specs.Text.{joined, hex}
 use Rattle.giop_print.specs.Lines.{call_line, rest_line, end_line}
 use Rattle.giop_print.specs.declared.path.Root.{Root}
-use Rattle.giop_decode.specs.Spine.{Seg, Value, line}
+use Rattle.giop_decode.specs.ReadResult.{PathSegment, Value, line}
 use Rattle.giop_decode.specs.Spelling.{path_text, value_words, line_text}
 use Rattle.giop_message.specs.Text.{value_said, call_text, rest_text, said_line}
-use Rattle.giop_message.specs.Messages.{Said}
-use Rattle.giop_message.specs.MessageReading.{text_of}
+use Rattle.giop_message.specs.Messages.{ValueLine}
+use Rattle.giop_message.specs.ReaderOfTable.{text_of}
 
 -- pieces inside pieces
 joined_both : (xs ys : List (List ℕ)) → joined (xs ++ ys) ≡ joined xs ++ joined ys
@@ -21,8 +21,8 @@ said_joined : (number : ℕ) (xs : List (List ℕ)) → said_line number (joined
 unfolding said_line
 said_joined number xs = ap (λ z. codes "m" ++ (decimal number ++ (codes " " ++ z))) (sym (joined_both xs (codes "\n" ∷ [])))
 
-pub said_is_line : (number at : ℕ) (root : Root) (path : List Seg) (v : Value) →
-    said_line number (text_of (Said root path v)) ≡ line_text number root (line at path v)
+pub said_is_line : (number at : ℕ) (root : Root) (path : List PathSegment) (v : Value) →
+    said_line number (text_of (ValueLine root path v)) ≡ line_text number root (line at path v)
 unfolding text_of value_said
 said_is_line number at root path v = said_joined number (path_text root path ∷ value_words v)
 

@@ -6,15 +6,15 @@ use Rattle.giop_cdr.specs.Alignment.{padding}
 use Rattle.giop_cdr.specs.declared.order.Order.{Order}
 use Rattle.giop_sig.specs.Types.{Ty, Single, Text, Octets, Struct, Union, Sequence, Array, Encapsulation}
 use Rattle.giop_sig.specs.Fits.{IsFit, IsEmptyStruct}
-use Rattle.giop_decode.specs.Spine.{plain}
+use Rattle.giop_decode.specs.ReadResult.{plain}
 use Rattle.giop_decode.specs.Reading.{read}
-use Rattle.giop_decode.specs.Heard.{Heard, nothing}
+use Rattle.giop_decode.specs.Noted.{Noted, nothing_noted}
 use Rattle.giop_message.specs.declared.part.Section.{Section}
 use Rattle.giop_message.specs.declared.part.Section.TheVariants as sections
 use Rattle.giop_message.specs.Headers.{minor, kind, order}
 use Rattle.giop_message.specs.Signatures.{Signatures}
-use Rattle.giop_message.specs.Messages.{Told, tells, Stage, Comes, In_rest, In_padding, with_front, passes, rest, rest_in, typed, body, body_of, has_body, padded, option_typed, members_of, type_if, after_exception, BodyType, Untyped, Typed, may_lack, is_request, request_body, reply_body, after_header, of_header, told_of, message, after, through}
-use Rattle.giop_message.specs.Moves.{is_unaligned, is_padded, wanted_after}
+use Rattle.giop_message.specs.Messages.{LineAt, section_lines, Stage, ReadTo, In_rest, In_padding, with_front, section_then, rest, rest_in, typed, body, body_of, has_body, padded, option_typed, members_of, type_if, after_exception, BodyType, Untyped, Typed, body_may_be_missing, is_request, request_body, reply_body, after_header, of_header, message_lines, message, after, section_and_rest}
+use Rattle.giop_message.specs.MessageSteps.{is_unaligned, is_padded, body_type_after}
 use Rattle.giop_message.proofs.Going.{front_none}
 use Rattle.giop_message.proofs.Causal.{message_silent}
 use Rattle.giop_message.proofs.Octets.{told_silent}
@@ -26,47 +26,47 @@ fit_some (Struct zero names parts) fit empty = absurd (omega (arith, fit.0))
 fit_some T fit empty = absurd empty
 
 -- before its first octet a message has no line
-pub none_told : (S : Signatures) (header : List ℕ) → told_of (message S header []) ≡ []
+pub none_told : (S : Signatures) (header : List ℕ) → message_lines (message S header []) ≡ []
 none_told S header = told_silent 12 (message S header []) (message_silent S header)
 
 -- and without a header type it stands in the rest
 pub none_rests : (S : Signatures) (header : List ℕ) → S.header (minor header) (kind header) ≡ None →
-    message S header [] ≡ Comes [] 12 (In_rest 0 [])
+    message S header [] ≡ ReadTo [] 12 (In_rest 0 [])
 unfolding message of_header rest rest_in
 none_rests S header e = rw e refl
 
 -- or in the header
 pub header_first : (S : Signatures) (header : List ℕ) (T : Ty) →
     S.header (minor header) (kind header) ≡ Some T → message S header [] ≡ with_front []
-    (through S header sections.Header nothing (read (plain (order header)) [] T 12 []))
+    (section_and_rest S header sections.Header nothing_noted (read (plain (order header)) [] T 12 []))
 unfolding message of_header
 header_first S header T e = rw (e, front_none) refl
 
 -- ---- behind a part that has ended, with no octet
 
-pub rest_is : (n : ℕ) → rest n [] ≡ Comes [] n (In_rest 0 [])
+pub rest_is : (n : ℕ) → rest n [] ≡ ReadTo [] n (In_rest 0 [])
 unfolding rest rest_in
 rest_is n = rw add-zero refl
 
-front_comes : (before : List Told) (n : ℕ) (stage : Stage) →
-    with_front before (Comes [] n stage) ≡ Comes before n stage
+front_comes : (before : List LineAt) (n : ℕ) (stage : Stage) →
+    with_front before (ReadTo [] n stage) ≡ ReadTo before n stage
 unfolding with_front
 front_comes before n stage = rw (append-nil before) refl
 
-pub front_rests : (before : List Told) (n : ℕ) →
-    with_front before (rest n []) ≡ Comes before n (In_rest 0 [])
+pub front_rests : (before : List LineAt) (n : ℕ) →
+    with_front before (rest n []) ≡ ReadTo before n (In_rest 0 [])
 front_rests before n = ap (with_front before) (rest_is n) ∙ front_comes before n (In_rest 0 [])
 
-pub front_pads : (before : List Told) (n : ℕ) (b : BodyType) →
-    with_front before (Comes [] n (In_padding b)) ≡ Comes before n (In_padding b)
+pub front_pads : (before : List LineAt) (n : ℕ) (b : BodyType) →
+    with_front before (ReadTo [] n (In_padding b)) ≡ ReadTo before n (In_padding b)
 front_pads before n b = front_comes before n (In_padding b)
 
 -- a section that ends with no octet behind it: in front of what follows there is padding, or there is none
-by_tests : (S : Signatures) (header : List ℕ) (h : Heard) (n : ℕ) (has two some : Bool) →
+by_tests : (S : Signatures) (header : List ℕ) (h : Noted) (n : ℕ) (has two some : Bool) →
     nat_lt 0 (padding n 8) ≡ some → (if has then
     (if two then padded S header (body_of S header h) n []
     else body S header (body_of S header h) n []) else rest n [])
-    ≡ (if has && (two && some) then Comes [] n
+    ≡ (if has && (two && some) then ReadTo [] n
     (In_padding (if has then body_of S header h else Untyped))
     else body S header (if has then body_of S header h else Untyped) n [])
 unfolding padded body
@@ -83,35 +83,35 @@ unfolding option_typed body type_if
 option_body S header None n = refl
 option_body S header (Some T) n = refl
 
-follows_by : (S : Signatures) (header : List ℕ) (section : Section) (h : Heard) (n : ℕ) →
+follows_by : (S : Signatures) (header : List ℕ) (section : Section) (h : Noted) (n : ℕ) →
     after S header section h n []
-    ≡ (if is_padded header section n then Comes [] n (In_padding (wanted_after S header section h))
-    else body S header (wanted_after S header section h) n [])
+    ≡ (if is_padded header section n then ReadTo [] n (In_padding (body_type_after S header section h))
+    else body S header (body_type_after S header section h) n [])
 unfolding after_header after_exception body is_unaligned
 follows_by S header sections.Header h n = by_tests S header h n (has_body header) (minor header == 2) (nat_lt 0 (padding n 8)) refl
 follows_by S header sections.Exception h n = option_body S header (members_of S h.name) n
 follows_by S header sections.Body h n = refl
 
-pub left_padded : (S : Signatures) (header : List ℕ) (section : Section) (h : Heard) (n : ℕ) →
+pub left_padded : (S : Signatures) (header : List ℕ) (section : Section) (h : Noted) (n : ℕ) →
     is_padded header section n ≡ true →
-    after S header section h n [] ≡ Comes [] n (In_padding (wanted_after S header section h))
+    after S header section h n [] ≡ ReadTo [] n (In_padding (body_type_after S header section h))
 left_padded S header section h n e = follows_by S header section h n ∙ rw e refl
 
-pub left_bare : (S : Signatures) (header : List ℕ) (section : Section) (h : Heard) (n : ℕ) →
+pub left_bare : (S : Signatures) (header : List ℕ) (section : Section) (h : Noted) (n : ℕ) →
     is_padded header section n ≡ false →
-    after S header section h n [] ≡ body S header (wanted_after S header section h) n []
+    after S header section h n [] ≡ body S header (body_type_after S header section h) n []
 left_bare S header section h n e = follows_by S header section h n ∙ rw e refl
 
 -- the empty struct is done at once
-pub empty_rests : (o : Order) (T : Ty) (n : ℕ) → may_lack (Typed T) ≡ true →
+pub empty_rests : (o : Order) (T : Ty) (n : ℕ) → body_may_be_missing (Typed T) ≡ true →
     typed o T n [] ≡ rest n []
-unfolding typed passes tells may_lack
+unfolding typed section_then section_lines body_may_be_missing
 empty_rests o (Struct zero names parts) n empty = front_none (rest n [])
 empty_rests o T n empty = absurd (false≢true empty)
 
 -- and no other type is
-pub some_not_empty : (T : Ty) → may_lack (Typed T) ≡ false → IsEmptyStruct T → ⊥
-unfolding may_lack
+pub some_not_empty : (T : Ty) → body_may_be_missing (Typed T) ≡ false → IsEmptyStruct T → ⊥
+unfolding body_may_be_missing
 some_not_empty (Struct zero names parts) e empty = false≢true (sym e)
 some_not_empty T e empty = empty
 
@@ -131,16 +131,16 @@ pub has_none : (header : List ℕ) → (kind header ≡ 0 → ⊥) → (kind hea
 unfolding has_body
 has_none header f g = rw (ne_eqb (kind header) 0 f, ne_eqb (kind header) 1 g) refl
 
-pub request_wants : (S : Signatures) (header : List ℕ) (h : Heard) → kind header ≡ 0 →
-    wanted_after S header sections.Header h ≡ request_body S h.name
+pub request_wants : (S : Signatures) (header : List ℕ) (h : Noted) → kind header ≡ 0 →
+    body_type_after S header sections.Header h ≡ request_body S h.name
 unfolding has_body body_of is_request
 request_wants S header h e = rw e refl
 
-pub reply_wants : (S : Signatures) (header : List ℕ) (h : Heard) → kind header ≡ 1 →
-    wanted_after S header sections.Header h ≡ reply_body S h.request_id h.status
+pub reply_wants : (S : Signatures) (header : List ℕ) (h : Noted) → kind header ≡ 1 →
+    body_type_after S header sections.Header h ≡ reply_body S h.request_id h.status
 unfolding has_body body_of is_request
 reply_wants S header h e = rw e refl
 
-pub others_want : (S : Signatures) (header : List ℕ) (h : Heard) → (kind header ≡ 0 → ⊥) →
-    (kind header ≡ 1 → ⊥) → wanted_after S header sections.Header h ≡ Untyped
+pub others_want : (S : Signatures) (header : List ℕ) (h : Noted) → (kind header ≡ 0 → ⊥) →
+    (kind header ≡ 1 → ⊥) → body_type_after S header sections.Header h ≡ Untyped
 others_want S header h f g = rw (has_none header f g) refl

@@ -7,19 +7,19 @@ use Rattle.giop_cdr.specs.Numbers.{num}
 use Rattle.giop_sig.specs.Types.{tag_of, Encapsulation, Ty, Single, Text, Octets, Struct, Union, Sequence, Array}
 use Rattle.giop_decode.specs.declared.progress.Kind.{Kind}
 use Rattle.giop_decode.specs.declared.progress.Kind.TheVariants as kinds
-use Rattle.giop_decode.specs.Spine
-use Rattle.giop_decode.specs.Spine.{Coding, Seg, Switch, Held, Line, Count, Size, Ordered, Piece, line, Place, Part, Member, Inside, Leaf, Head, Opening, Content, Read, Done, Short, Fault, lines_of, with_front, followed, within}
-use Rattle.giop_decode.specs.Pieces.{Grab, Waiting, Got, block, unless, over, content, full_piece, full_pieces, last_piece, tail, ends}
-use Rattle.giop_decode.specs.Reading.{headed, wrong, refused, parts_from, cut_off, enclosed, opening, order_of, ordered, rest_of}
-use Rattle.giop_decode.specs.Steps.{coding_in, held, Faulted, OneAt, Quiet, Now, after, block_step, head_width, leaf_step, number_step, part_at, path_in, seg_of, step}
-use Rattle.giop_decode.specs.Heard.{ends_text, in_string}
+use Rattle.giop_decode.specs.ReadResult
+use Rattle.giop_decode.specs.ReadResult.{Coding, PathSegment, Switch, Held, Line, Count, Size, Ordered, Piece, line, OpenPart, Part, Member, Inside, Leaf, LeadingNumber, Opening, Content, Read, Done, Short, Fault, lines_of, with_front, followed, within}
+use Rattle.giop_decode.specs.Pieces.{Block, Partial, Complete, block, unless, over, content, full_piece, full_pieces, last_piece, tail, ends}
+use Rattle.giop_decode.specs.Reading.{after_leading_number, wrong, refused, parts_from, cut_off, enclosed, opening, order_of, ordered, rest_of}
+use Rattle.giop_decode.specs.ReadingSteps.{coding_in, held, Faulted, OneAt, IsEmptyResult, IsOctetResult, after, block_step, leading_width, leaf_step, number_step, part_at, path_in, segment_of, step}
+use Rattle.giop_decode.specs.Noted.{ends_text, ends_in_string}
 use Rattle.giop_decode.proofs.ReadingLaws.{now_within, rest_quiet, parts_quiet, step_now, lines_front}
 
 -- a line of the part with this path
-pub record IsOf (path : List Seg) (l : Line) : Type 0 where
+pub record IsOf (path : List PathSegment) (l : Line) : Type 0 where
   pub stands : (l.path ≡ path) ⊎ ((tag : Option (List ℕ)) × (l.path ≡ path ++ Switch tag ∷ []))
 
-abbrev pub AreOf : List Seg → Read → Type 0
+abbrev pub AreOf : List PathSegment → Read → Type 0
 AreOf path r = Each (IsOf path) (lines_of r)
 
 -- no line ends a string
@@ -33,20 +33,20 @@ is_faulted r = false
 
 -- no line ends a string, or none has begun and there is no fault
 abbrev pub Firm : Read → Type 0
-Firm r = NoEnds r ⊎ ((in_string r ≡ false) × (is_faulted r ≡ false))
+Firm r = NoEnds r ⊎ ((ends_in_string r ≡ false) × (is_faulted r ≡ false))
 
 -- what is said with a fault is one line at most
 pub one_faulted : (n : ℕ) (why : Kind) (lines : List Line) → Faulted n why lines → OneAt n lines
 one_faulted n kinds.EncapShort lines h = h
 one_faulted n why lines h = rw h tt
 
-pub one_of : (n : ℕ) (st : Read) → Now n st → OneAt n (lines_of st)
+pub one_of : (n : ℕ) (st : Read) → IsOctetResult n st → OneAt n (lines_of st)
 one_of n (Fault lines at why T) now = one_faulted n why lines now.0
 one_of n _ now = now.0
 
 -- ---- the innermost part
 
-pub record Says (path : List Seg) (r : Read) : Type 0 where
+pub record Says (path : List PathSegment) (r : Read) : Type 0 where
   pub are : AreOf path r
   pub firm : Firm r
 
@@ -54,18 +54,18 @@ more_no_end : (T : Ty) (offset : ℕ) (xs : List ℕ) → ends_text (Piece T off
 more_no_end (Text bound) offset xs = refl
 more_no_end T offset xs = refl
 
-at_path : (path : List Seg) (at : ℕ) (v : Spine.Value) → IsOf path (line at path v)
+at_path : (path : List PathSegment) (at : ℕ) (v : ReadResult.Value) → IsOf path (line at path v)
 at_path path at v = record { stands = inl refl }
 
 -- Of a reading at one octet, which has one line at most.
-module _ (n : ℕ) (path : List Seg) where
+module _ (n : ℕ) (path : List PathSegment) where
   abbrev OneSays : Read → Type 0
   OneSays r = OneAt n (lines_of r) → Says path r
 
   bare : (r : Read) → lines_of r ≡ [] → OneSays r
   bare r e one = record { are = rw e tt; firm = inl (rw e tt) }
 
-  done_says : (v : Spine.Value) (at : ℕ) (rest : List ℕ) →
+  done_says : (v : ReadResult.Value) (at : ℕ) (rest : List ℕ) →
       OneSays (Done (line at path v ∷ []) at rest)
   done_says v at rest one = record { are = (at_path path at v, tt); firm = inr (refl, refl) }
 
@@ -85,16 +85,16 @@ module _ (n : ℕ) (path : List Seg) where
   unless_says T None at r h = h
   unless_says T (Some kind) at r h = bare (Fault [] at kind T) refl
 
-  last_says : (T : Ty) (total offset : ℕ) (g : Grab) → OneSays (last_piece T path total offset g)
-  last_says T total offset (Waiting piece at) = bare _ refl
-  last_says T total offset (Got xs at rest) =
+  last_says : (T : Ty) (total offset : ℕ) (g : Block) → OneSays (last_piece T path total offset g)
+  last_says T total offset (Partial piece at) = bare _ refl
+  last_says T total offset (Complete xs at rest) =
       let v = Piece T offset (take (total - offset) xs) false in
       unless_says T (ends T (total - offset) xs) at (Done (line at path v ∷ []) at rest) (done_says v at rest)
 
-  full_says : (T : Ty) (total offset : ℕ) (next : ℕ → List ℕ → Read) (g : Grab) →
+  full_says : (T : Ty) (total offset : ℕ) (next : ℕ → List ℕ → Read) (g : Block) →
       OneSays (full_piece T path total offset next g)
-  full_says T total offset next (Waiting piece at) = bare _ refl
-  full_says T total offset next (Got xs at rest) =
+  full_says T total offset next (Partial piece at) = bare _ refl
+  full_says T total offset next (Complete xs at rest) =
       front_says (line at path (Piece T offset xs true)) (next at rest) (at_path path at _) (more_no_end T offset xs)
 
   content_says : (T : Ty) (total full offset at : ℕ) (s : List ℕ) →
@@ -106,7 +106,7 @@ module _ (n : ℕ) (path : List Seg) where
   after_says : (coding : Coding) (T : Ty) (k at : ℕ) (s : List ℕ) →
       OneSays (after coding path T k at s)
   after_says coding (Single scalar) k at s =
-      unless_says (Single scalar) (wrong scalar k) at (Done (line at path (Spine.Number scalar k) ∷ []) at s) (done_says _ at s)
+      unless_says (Single scalar) (wrong scalar k) at (Done (line at path (ReadResult.Number scalar k) ∷ []) at s) (done_says _ at s)
   after_says coding (Text bound) zero at s = done_says (Piece (Text bound) 0 [] false) at s
   after_says coding (Text bound) (suc k) at s =
       unless_says (Text bound) (over bound k) at _ (content_says (Text bound) k (full_pieces k) 0 at s)
@@ -119,27 +119,27 @@ module _ (n : ℕ) (path : List Seg) where
   after_says coding (Union choice scalar select names cases) k at s =
       let T = Union choice scalar select names cases in
       let tag = tag_of choice names in
-      let says = front_says (line at (path ++ Switch tag ∷ []) (Spine.Number scalar k)) _ (record { stands = inr (tag, refl) }) refl in
+      let says = front_says (line at (path ++ Switch tag ∷ []) (ReadResult.Number scalar k)) _ (record { stands = inr (tag, refl) }) refl in
       unless_says T (wrong scalar k) at _ (unless_says T (refused (select k)) at _ says)
   after_says coding (Encapsulation T) k at s = front_says (line at path (Size k)) _ (at_path path at (Size k)) refl
 
-  headed_says : (coding : Coding) (T : Ty) (g : Grab) →
-      OneSays (headed T (λ xs at rest. after coding path T (num coding.order xs) at rest) g)
-  headed_says coding T (Waiting carry at) = bare _ refl
-  headed_says coding T (Got xs at rest) = after_says coding T (num coding.order xs) at rest
+  headed_says : (coding : Coding) (T : Ty) (g : Block) →
+      OneSays (after_leading_number T (λ xs at rest. after coding path T (num coding.order xs) at rest) g)
+  headed_says coding T (Partial carry at) = bare _ refl
+  headed_says coding T (Complete xs at rest) = after_says coding T (num coding.order xs) at rest
 
   -- the octet with a byte order
-  opening_says : (T : Ty) (origin k : ℕ) (g : Grab) →
+  opening_says : (T : Ty) (origin k : ℕ) (g : Block) →
       OneSays (opening path T (held path T) origin k g)
-  opening_says T origin k (Waiting none at) = bare _ refl
-  opening_says T origin k (Got xs at rest) = go (order_of (get_or xs 0 0))
+  opening_says T origin k (Partial none at) = bare _ refl
+  opening_says T origin k (Complete xs at rest) = go (order_of (get_or xs 0 0))
     where
       go : (order : Option Order) → OneSays (ordered path T (held path T) origin k order at rest)
       go None = bare _ refl
       go (Some order) = front_says (line at path (Ordered order)) _ (at_path path at (Ordered order)) refl
 
   leaf_one : (coding : Coding) (leaf : Leaf) (at b : ℕ) → OneSays (leaf_step coding path leaf at b)
-  leaf_one coding (Head T carry) at b = headed_says coding T (number_step coding.origin (head_width T) at carry b)
+  leaf_one coding (LeadingNumber T carry) at b = headed_says coding T (number_step coding.origin (leading_width T) at carry b)
   leaf_one coding (Opening T k) at b = opening_says T at k (block_step 1 at [] b)
   leaf_one coding (Content T total offset piece) at b = go (ltb 32 (total - offset))
     where
@@ -152,33 +152,33 @@ module _ (n : ℕ) (path : List Seg) where
       go true = full_says T total offset next (block_step 32 at piece b)
       go false = last_says T total offset (block_step (total - offset + tail T) at piece b)
 
-pub leaf_says : (coding : Coding) (path : List Seg) (leaf : Leaf) (at b : ℕ) →
+pub leaf_says : (coding : Coding) (path : List PathSegment) (leaf : Leaf) (at b : ℕ) →
     Says path (leaf_step coding path leaf at b)
 leaf_says coding path leaf at b =
     leaf_one (at + 1) path coding leaf at b (one_of (at + 1) (leaf_step coding path leaf at b) (step_now coding path [] leaf at b))
 
 -- ---- what stands around it says nothing
 
-quiet_bare : (n : ℕ) (r : Read) → Quiet n r → lines_of r ≡ []
+quiet_bare : (n : ℕ) (r : Read) → IsEmptyResult n r → lines_of r ≡ []
 quiet_bare n (Fault lines at why S) k = absurd k
 quiet_bare n _ k = k.0
 
 -- lines, and then a reading that has none
-lines_alone : (n : ℕ) (lines : List Line) (r : Read) → Quiet n r →
+lines_alone : (n : ℕ) (lines : List Line) (r : Read) → IsEmptyResult n r →
     lines_of (with_front lines r) ≡ lines
 lines_alone n lines r k = lines_front lines r ∙ (ap (λ ls. lines ++ ls) (quiet_bare n r k) ∙ append-nil lines)
 
-lines_followed : (n : ℕ) (r : Read) (next : ℕ → List ℕ → Read) → Now n r → Quiet n (next n []) →
+lines_followed : (n : ℕ) (r : Read) (next : ℕ → List ℕ → Read) → IsOctetResult n r → IsEmptyResult n (next n []) →
     lines_of (followed r next) ≡ lines_of r
 lines_followed n (Done lines at rest) next h k = rw (h.1, h.2) (lines_alone n lines (next n []) k)
 lines_followed n r next h k = refl
 
-lines_within : (place : Place) (r : Read) → lines_of (within place r) ≡ lines_of r
+lines_within : (place : OpenPart) (r : Read) → lines_of (within place r) ≡ lines_of r
 lines_within place (Done lines at rest) = refl
 lines_within place r = refl
 
-lines_enclosed : (n : ℕ) (path : List Seg) (T : Ty) (inner : Coding) (end : ℕ) (r : Read) →
-    Now n r → lines_of (enclosed path T inner end r []) ≡ lines_of r
+lines_enclosed : (n : ℕ) (path : List PathSegment) (T : Ty) (inner : Coding) (end : ℕ) (r : Read) →
+    IsOctetResult n r → lines_of (enclosed path T inner end r []) ≡ lines_of r
 lines_enclosed n path T inner end (Done lines at rest) h =
     rw (h.1, h.2) (lines_alone n lines (rest_of path T (end - n) n []) (rest_quiet n path T (end - n)))
 lines_enclosed n path T inner end (Short lines at outer leaf) h = go (ltb at end)
@@ -189,25 +189,25 @@ lines_enclosed n path T inner end (Short lines at outer leaf) h = go (ltb at end
     go false = refl
 lines_enclosed n path T inner end (Fault lines at why S) h = refl
 
-lines_step : (coding : Coding) (path : List Seg) (outer : List Place) (leaf : Leaf) (at b : ℕ) →
+lines_step : (coding : Coding) (path : List PathSegment) (outer : List OpenPart) (leaf : Leaf) (at b : ℕ) →
     lines_of (step coding path outer leaf at b)
     ≡ lines_of (leaf_step (coding_in coding outer) (path_in path outer) leaf at b)
 lines_step coding path [] leaf at b = refl
 lines_step coding path (Part T i count ∷ outer) leaf at b =
-    let inner = step coding (path ++ seg_of T i ∷ []) outer leaf at b in
+    let inner = step coding (path ++ segment_of T i ∷ []) outer leaf at b in
     lines_followed (at + 1) (within (Part T i count) inner) (parts_from (part_at coding path T count) (count - suc i) (suc i))
-    (now_within (at + 1) (Part T i count) inner (step_now coding (path ++ seg_of T i ∷ []) outer leaf at b))
+    (now_within (at + 1) (Part T i count) inner (step_now coding (path ++ segment_of T i ∷ []) outer leaf at b))
     (parts_quiet coding path T count (at + 1) (count - suc i) (suc i))
-    ∙ (lines_within (Part T i count) inner ∙ lines_step coding (path ++ seg_of T i ∷ []) outer leaf at b)
+    ∙ (lines_within (Part T i count) inner ∙ lines_step coding (path ++ segment_of T i ∷ []) outer leaf at b)
 lines_step coding path (Member T i ∷ outer) leaf at b =
-    lines_within (Member T i) (step coding (path ++ seg_of T i ∷ []) outer leaf at b) ∙ lines_step coding (path ++ seg_of T i ∷ []) outer leaf at b
+    lines_within (Member T i) (step coding (path ++ segment_of T i ∷ []) outer leaf at b) ∙ lines_step coding (path ++ segment_of T i ∷ []) outer leaf at b
 lines_step coding path (Inside T inner end ∷ outer) leaf at b =
     let r = step inner (path ++ Held ∷ []) outer leaf at b in
     lines_enclosed (at + 1) path T inner end r (step_now inner (path ++ Held ∷ []) outer leaf at b)
     ∙ lines_step inner (path ++ Held ∷ []) outer leaf at b
 
 -- The lines of a step are of its innermost part.
-pub step_of : (coding : Coding) (path : List Seg) (outer : List Place) (leaf : Leaf) (at b : ℕ) →
+pub step_of : (coding : Coding) (path : List PathSegment) (outer : List OpenPart) (leaf : Leaf) (at b : ℕ) →
     AreOf (path_in path outer) (step coding path outer leaf at b)
 step_of coding path outer leaf at b =
     subst (λ ls. Each (IsOf (path_in path outer)) ls) (sym (lines_step coding path outer leaf at b))

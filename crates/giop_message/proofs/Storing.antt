@@ -9,10 +9,10 @@ use Rattle.giop_message.specs.declared.message.Message.{Message}
 use Rattle.giop_message.specs.declared.part.Part.{Part}
 use Rattle.giop_message.specs.declared.part.Part.TheVariants as parts
 use Rattle.giop_message.specs.declared.part.Rest.{Rest}
-use Rattle.giop_message.specs.declared.wanted.Wanted.{Wanted}
-use Rattle.giop_message.specs.declared.wanted.Wanted.TheVariants as wanteds
-use Rattle.giop_message.specs.Signatures.{Listed}
-use Rattle.giop_message.specs.Holding.{FitsPart, Fits, in_header, Stands}
+use Rattle.giop_message.specs.declared.body_type.BodyTypeId.{BodyTypeId}
+use Rattle.giop_message.specs.declared.body_type.BodyTypeId.TheVariants as body_type_ids
+use Rattle.giop_message.specs.Signatures.{RequestTable}
+use Rattle.giop_message.specs.MessageState.{FitsPart, Fits, in_header, Stands}
 use Rattle.giop_message.specs.Stored.{part_octet, kept_id, own_octets, padding_octets, rest_octets, IsOwnOf, IsPaddingOf, IsRestOf, PartStored, Stored, IsSameRest, GoesOn}
 
 pub not_both : {b : Bool} → b ≡ false → IsTrue b → ⊥
@@ -25,38 +25,38 @@ there P None is not = is
 
 -- ---- padding
 
-abbrev wanted_octet : Wanted → ℕ
-wanted_octet wanteds.Nothing = 0
-wanted_octet (wanteds.Type of) = 1
-wanted_octet wanteds.Exception = 2
+abbrev wanted_octet : BodyTypeId → ℕ
+wanted_octet body_type_ids.Nothing = 0
+wanted_octet (body_type_ids.Type of) = 1
+wanted_octet body_type_ids.Exception = 2
 
-said : (wanted : Wanted) (octets : List ℕ) → IsPaddingOf octets wanted
-    → get_or octets 0 0 ≡ wanted_octet wanted
+said : (body_type_id : BodyTypeId) (octets : List ℕ) → IsPaddingOf octets body_type_id
+    → get_or octets 0 0 ≡ wanted_octet body_type_id
 unfolding padding_octets
-said wanteds.Nothing octets e = ap (λ (xs : List ℕ). get_or xs 0 0) e.is
+said body_type_ids.Nothing octets e = ap (λ (xs : List ℕ). get_or xs 0 0) e.is
 said _ octets e = ap (λ (xs : List ℕ). get_or xs 0 0) e.is
 
-pub nothing_again : (wanted : Wanted) (octets : List ℕ) → IsPaddingOf octets wanted
-    → get_or octets 0 0 ≡ 0 → wanteds.Nothing ≡ wanted
-nothing_again wanteds.Nothing octets e first = refl
-nothing_again (wanteds.Type of) octets e first = absurd (omega (arith, said (wanteds.Type of) octets e))
-nothing_again wanteds.Exception octets e first = absurd (omega (arith, said wanteds.Exception octets e))
+pub nothing_again : (body_type_id : BodyTypeId) (octets : List ℕ) → IsPaddingOf octets body_type_id
+    → get_or octets 0 0 ≡ 0 → body_type_ids.Nothing ≡ body_type_id
+nothing_again body_type_ids.Nothing octets e first = refl
+nothing_again (body_type_ids.Type of) octets e first = absurd (omega (arith, said (body_type_ids.Type of) octets e))
+nothing_again body_type_ids.Exception octets e first = absurd (omega (arith, said body_type_ids.Exception octets e))
 
-pub type_again : (wanted : Wanted) (octets : List ℕ) (n : ℕ) → IsPaddingOf octets wanted
+pub type_again : (body_type_id : BodyTypeId) (octets : List ℕ) (n : ℕ) → IsPaddingOf octets body_type_id
     → get_or octets 0 0 ≡ 1
     → ((m : ℕ) (rest : List ℕ) → m < 2 ^ 32 → drop 1 octets ≡ four m ++ rest → n ≡ m)
-    → wanteds.Type (record { 0 = n }) ≡ wanted
+    → body_type_ids.Type (record { 0 = n }) ≡ body_type_id
 unfolding padding_octets
-type_again wanteds.Nothing octets n e first number = absurd (omega (arith, said wanteds.Nothing octets e))
-type_again (wanteds.Type of) octets n e first number =
+type_again body_type_ids.Nothing octets n e first number = absurd (omega (arith, said body_type_ids.Nothing octets e))
+type_again (body_type_ids.Type of) octets n e first number =
     rw (number of.0 (replicate 203 0) e.range (ap (drop 1) e.is)) refl
-type_again wanteds.Exception octets n e first number = absurd (omega (arith, said wanteds.Exception octets e))
+type_again body_type_ids.Exception octets n e first number = absurd (omega (arith, said body_type_ids.Exception octets e))
 
-pub exception_again : (wanted : Wanted) (octets : List ℕ) → IsPaddingOf octets wanted
-    → get_or octets 0 0 ≢ 0 → get_or octets 0 0 ≢ 1 → wanteds.Exception ≡ wanted
-exception_again wanteds.Nothing octets e other another = absurd (other (said wanteds.Nothing octets e))
-exception_again (wanteds.Type of) octets e other another = absurd (another (said (wanteds.Type of) octets e))
-exception_again wanteds.Exception octets e other another = refl
+pub exception_again : (body_type_id : BodyTypeId) (octets : List ℕ) → IsPaddingOf octets body_type_id
+    → get_or octets 0 0 ≢ 0 → get_or octets 0 0 ≢ 1 → body_type_ids.Exception ≡ body_type_id
+exception_again body_type_ids.Nothing octets e other another = absurd (other (said body_type_ids.Nothing octets e))
+exception_again (body_type_ids.Type of) octets e other another = absurd (another (said (body_type_ids.Type of) octets e))
+exception_again body_type_ids.Exception octets e other another = refl
 
 -- ---- a rest
 
@@ -147,7 +147,7 @@ goes_on C m fixed frames octets at octet r fits stored at_read octet_read octets
 
 pub same_place : (C : Table) (p q : Part) → GoesOn C p q → in_header q ≡ in_header p
 same_place C (parts.Typed section d) (parts.Typed other e) on = rw on.0 refl
-same_place C (parts.Padding wanted) (parts.Padding other) on = refl
+same_place C (parts.Padding body_type_id) (parts.Padding other) on = refl
 same_place C (parts.Rest r) (parts.Rest other) on = refl
 same_place C p q on = absurd on
 
@@ -168,9 +168,9 @@ id_on C p q id given said on is was =
     ∙ cond_again (in_header p) None said
     ∙ sym (ap (λ (b : Bool). cond b None said) (same_place C p q on))
 
-pub stands_on : (C : Table) (listed : Listed) (number : ℕ) (header s : List ℕ) (p q : Part)
-    → GoesOn C p q → Stands C listed number header s p → Stands C listed number header s q
-stands_on C listed number header s (parts.Typed section d) (parts.Typed other e) on is =
+pub stands_on : (C : Table) (request_table : RequestTable) (number : ℕ) (header s : List ℕ) (p q : Part)
+    → GoesOn C p q → Stands C request_table number header s p → Stands C request_table number header s q
+stands_on C request_table number header s (parts.Typed section d) (parts.Typed other e) on is =
     rw on.0 record {
       T = is.T;
       before = is.before;
@@ -181,6 +181,6 @@ stands_on C listed number header s (parts.Typed section d) (parts.Typed other e)
       first = is.first;
       reads = on.1.reads _ _ _ _ _ _ is.reads;
     }
-stands_on C listed number header s (parts.Padding wanted) (parts.Padding other) on is = rw on is
-stands_on C listed number header s (parts.Rest r) (parts.Rest other) on is = rw (on.offset, on.held) is
-stands_on C listed number header s p q on is = absurd on
+stands_on C request_table number header s (parts.Padding body_type_id) (parts.Padding other) on is = rw on is
+stands_on C request_table number header s (parts.Rest r) (parts.Rest other) on is = rw (on.offset, on.held) is
+stands_on C request_table number header s p q on is = absurd on

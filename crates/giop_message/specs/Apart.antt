@@ -1,15 +1,15 @@
 -- That no octet of a message has two lines of one kind (meaning).
 use Rattle.std.specs.Prelude.{◌≢◌, ℕ, List, [], ◌∷◌, ◌++◌, map}
 use Rattle.std.specs.List.{AllByRecursion as Each}
-use Rattle.giop_message.specs.Reading.{Saying, Reading, due}
+use Rattle.giop_message.specs.MessageReader.{LineClass, MessageReader, due}
 
 -- each is of another kind than those behind it
-abbrev pub AreApart : List Saying → Type 0
+abbrev pub AreApart : List LineClass → Type 0
 AreApart [] = Unit {0}
 AreApart (s ∷ ss) = Each (λ t. s ≢ t) ss × AreApart ss
 
 -- No octet has two lines of one kind, with those of a close at it.
-pub record IsApart (R : Reading) : Type 0 where
+pub record IsApart (R : MessageReader) : Type 0 where
   pub apart : (header xs : List ℕ) (x : ℕ) →
-      AreApart (map (λ r. r.saying) (due R header xs x)
+      AreApart (map (λ r. r.line_class) (due R header xs x)
       ++ map (λ l. l.0) (R.closes header (xs ++ x ∷ [])))

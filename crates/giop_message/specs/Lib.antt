@@ -1,11 +1,11 @@
 pub mod Headers
-pub mod Reading
+pub mod MessageReader
 pub mod Apart
 pub mod Text
 pub mod Signatures
 pub mod Messages
-pub mod Steps
-pub mod MessageReading
-pub mod Holding
-pub mod Moves
+pub mod StageSteps
+pub mod ReaderOfTable
+pub mod MessageState
+pub mod MessageSteps
 pub mod Stored

@@ -8,9 +8,9 @@ use Rattle.giop_print.specs.declared.path.Root.{Root}
 use Rattle.giop_print.specs.declared.path.Root.TheVariants as roots
 use Rattle.giop_sig.specs.Types.{Ty, Struct}
 use Rattle.giop_decode.specs.declared.progress.Kind.{Kind}
-use Rattle.giop_decode.specs.Spine.{plain, Seg, Value, Line, Place, Leaf, Read, Done, Short, Fault}
+use Rattle.giop_decode.specs.ReadResult.{plain, PathSegment, Value, Line, OpenPart, Leaf, Read, Done, Short, Fault}
 use Rattle.giop_decode.specs.Reading.{read}
-use Rattle.giop_decode.specs.Heard.{Heard, nothing, hear, heard, ends_operation, is_header_root}
+use Rattle.giop_decode.specs.Noted.{Noted, nothing_noted, note, noted, ends_operation, is_header_root}
 use Rattle.giop_message.specs.declared.part.Section.{Section}
 use Rattle.giop_message.specs.declared.part.Section.TheVariants as sections
 use Rattle.giop_message.specs.Headers.{minor, kind, order}
@@ -18,26 +18,26 @@ use Rattle.giop_message.specs.Signatures.{Signatures}
 
 -- ---- what is said
 
-pub data Speech : Type 0 where
+pub data MessageLine : Type 0 where
   -- a value below a root
-  Said : Root → List Seg → Value → Speech
+  ValueLine : Root → List PathSegment → Value → MessageLine
   -- a Request's id and operation
-  Called : ℕ → List ℕ → Speech
+  CallLine : ℕ → List ℕ → MessageLine
   -- octets of the rest, and where they stand there
-  Left : ℕ → List ℕ → Speech
+  RestLine : ℕ → List ℕ → MessageLine
   -- a value's fault
-  Wrong : Kind → Speech
+  FaultLine : Kind → MessageLine
   -- at the close: the header or the typed body is incomplete, or the message ends
-  Incomplete : Speech
-  Ends : Speech
+  ShortLine : MessageLine
+  EndLine : MessageLine
 
 -- what is said, and the offset just past the octet that completes it
-pub record Told : Type 0 where
+pub record LineAt : Type 0 where
   pub at : ℕ
-  pub speech : Speech
+  pub message_line : MessageLine
 
-unfoldable pub tell : ℕ → Speech → Told
-tell at speech = record { at = at; speech = speech }
+unfoldable pub line_at : ℕ → MessageLine → LineAt
+line_at at message_line = record { at = at; message_line = message_line }
 
 -- a printed octet of ASCII, and no space
 abbrev pub is_graphic : ℕ → Bool
@@ -47,20 +47,20 @@ is_graphic octet = nat_le 33 octet && nat_le octet 126
 unfoldable pub is_shown : List ℕ → Bool
 is_shown name = nat_lt 0 (length name) && list_all is_graphic name
 
-unfoldable pub call_of : ℕ → Option ℕ → Option (List ℕ) → List Told
-call_of at (Some id) (Some name) = if is_shown name then tell at (Called id name) ∷ [] else []
+unfoldable pub call_of : ℕ → Option ℕ → Option (List ℕ) → List LineAt
+call_of at (Some id) (Some name) = if is_shown name then line_at at (CallLine id name) ∷ [] else []
 call_of at id name = []
 
 -- The call line stands behind the line that ends the operation of a Request.
-unfoldable pub calls : Bool → Line → Heard → List Told
+unfoldable pub calls : Bool → Line → Noted → List LineAt
 calls is_request l h = if ends_operation is_request l then call_of l.at h.request_id h.name else []
 
 -- The lines of a reading below a root, of a Request's header or not, with what was heard before them.
-unfoldable pub tells : Root → Bool → Heard → List Line → List Told
-tells root is_request h [] = []
-tells root is_request h (l ∷ ls) =
-    let now = hear (is_header_root root) h l in
-    (tell l.at (Said root l.path l.value) ∷ calls is_request l now) ++ tells root is_request now ls
+unfoldable pub section_lines : Root → Bool → Noted → List Line → List LineAt
+section_lines root is_request h [] = []
+section_lines root is_request h (l ∷ ls) =
+    let now = note (is_header_root root) h l in
+    (line_at l.at (ValueLine root l.path l.value) ∷ calls is_request l now) ++ section_lines root is_request now ls
 
 -- ---- where a message stands
 
@@ -68,7 +68,7 @@ tells root is_request h (l ∷ ls) =
 pub data BodyType : Type 0 where
   Untyped : BodyType
   Typed : Ty → BodyType
-  Raised : BodyType
+  UserException : BodyType
 
 -- the root of a section's lines
 abbrev pub root_of : Section → Root
@@ -78,7 +78,7 @@ root_of sections.Body = roots.Body
 
 pub data Stage : Type 0 where
   -- in a part that is read as a value: what is heard of it, and what is begun and not ended
-  In_typed : Section → Heard → List Place → Leaf → Stage
+  In_typed : Section → Noted → List OpenPart → Leaf → Stage
   In_padding : BodyType → Stage
   -- in the rest: where its last part begins, and the octets of that
   In_rest : ℕ → List ℕ → Stage
@@ -87,29 +87,29 @@ pub data Stage : Type 0 where
 
 -- What a message comes to: its lines, the offset at its end, and where it stands there.
 pub data Message : Type 0 where
-  Comes : List Told → ℕ → Stage → Message
+  ReadTo : List LineAt → ℕ → Stage → Message
 
-unfoldable pub with_front : List Told → Message → Message
-with_front front (Comes told at stage) = Comes (front ++ told) at stage
+unfoldable pub with_front : List LineAt → Message → Message
+with_front front (ReadTo emitted at stage) = ReadTo (front ++ emitted) at stage
 
 -- A section, of a Request's header or not, and what follows it by what is heard of it. A fault takes the place of the
 -- value's line, and ends the message.
-unfoldable pub passes : Section → Bool → (Heard → ℕ → List ℕ → Message) → Heard → Read → Message
-passes section is_request next h (Done lines at s) =
+unfoldable pub section_then : Section → Bool → (Noted → ℕ → List ℕ → Message) → Noted → Read → Message
+section_then section is_request next h (Done lines at s) =
     let root = root_of section in
-    with_front (tells root is_request h lines) (next (heard (is_header_root root) h lines) at s)
-passes section is_request next h (Short lines at outer leaf) =
+    with_front (section_lines root is_request h lines) (next (noted (is_header_root root) h lines) at s)
+section_then section is_request next h (Short lines at outer leaf) =
     let root = root_of section in
-    Comes (tells root is_request h lines) at (In_typed section (heard (is_header_root root) h lines) outer leaf)
-passes section is_request next h (Fault lines at why T) =
-    Comes (tells (root_of section) is_request h lines ++ tell at (Wrong why) ∷ []) at Over
+    ReadTo (section_lines root is_request h lines) at (In_typed section (noted (is_header_root root) h lines) outer leaf)
+section_then section is_request next h (Fault lines at why T) =
+    ReadTo (section_lines (root_of section) is_request h lines ++ line_at at (FaultLine why) ∷ []) at Over
 
 -- ---- the rest
 
 -- in parts of 32 octets, of which so many are full
 unfoldable pub rest_in : ℕ → ℕ → ℕ → List ℕ → Message
-rest_in zero offset at s = Comes [] (at + length s) (In_rest offset s)
-rest_in (suc full) offset at s = with_front (tell (at + 32) (Left offset (take 32 s)) ∷ []) (rest_in full (offset + 32) (at + 32) (drop 32 s))
+rest_in zero offset at s = ReadTo [] (at + length s) (In_rest offset s)
+rest_in (suc full) offset at s = with_front (line_at (at + 32) (RestLine offset (take 32 s)) ∷ []) (rest_in full (offset + 32) (at + 32) (drop 32 s))
 
 unfoldable pub rest : ℕ → List ℕ → Message
 rest at s = rest_in (length s / 32) 0 at s
@@ -117,7 +117,7 @@ rest at s = rest_in (length s / 32) 0 at s
 -- ---- bodies
 
 unfoldable pub typed : Order → Ty → ℕ → List ℕ → Message
-typed o T at s = passes sections.Body false (λ h. rest) nothing (read (plain o) [] T at s)
+typed o T at s = section_then sections.Body false (λ h. rest) nothing_noted (read (plain o) [] T at s)
 
 unfoldable pub option_typed : Order → Option Ty → ℕ → List ℕ → Message
 option_typed o None at s = rest at s
@@ -128,14 +128,14 @@ members_of S None = None
 members_of S (Some repository) = S.members repository
 
 -- the members of the exception whose repository id came
-unfoldable pub after_exception : Signatures → List ℕ → Heard → ℕ → List ℕ → Message
+unfoldable pub after_exception : Signatures → List ℕ → Noted → ℕ → List ℕ → Message
 after_exception S header h = option_typed (order header) (members_of S h.name)
 
 unfoldable pub body : Signatures → List ℕ → BodyType → ℕ → List ℕ → Message
 body S header Untyped at s = rest at s
 body S header (Typed T) at s = typed (order header) T at s
-body S header Raised at s =
-    passes sections.Exception false (after_exception S header) nothing (read (plain (order header)) [] S.exception_id at s)
+body S header UserException at s =
+    section_then sections.Exception false (after_exception S header) nothing_noted (read (plain (order header)) [] S.exception_id at s)
 
 unfoldable pub type_if : Option Ty → BodyType
 type_if None = Untyped
@@ -156,7 +156,7 @@ unfoldable pub reply_body : Signatures → Option ℕ → Option ℕ → BodyTyp
 reply_body S id None = Untyped
 reply_body S id (Some status) =
     if status == 0 then result_body S id
-    else (if status == 1 then Raised
+    else (if status == 1 then UserException
     else (if status == 2 then Typed S.system_exception
     else (if (status == 3) || (status == 4) then Typed S.forward
     else (if status == 5 then Typed S.addressing
@@ -166,7 +166,7 @@ unfoldable pub is_request : List ℕ → Bool
 is_request header = kind header == 0
 
 -- by what is heard of the header
-unfoldable pub body_of : Signatures → List ℕ → Heard → BodyType
+unfoldable pub body_of : Signatures → List ℕ → Noted → BodyType
 body_of S header h = if is_request header then request_body S h.name else reply_body S h.request_id h.status
 
 -- a Request or a Reply
@@ -178,10 +178,10 @@ has_body header = (kind header == 0) || (kind header == 1)
 -- In 1.2 a body begins at the next multiple of 8.
 unfoldable pub padded : Signatures → List ℕ → BodyType → ℕ → List ℕ → Message
 padded S header b at s =
-    if nat_lt (length s) (padding at 8) then Comes [] (at + length s) (In_padding b)
+    if nat_lt (length s) (padding at 8) then ReadTo [] (at + length s) (In_padding b)
     else body S header b (at + padding at 8) (drop (padding at 8) s)
 
-unfoldable pub after_header : Signatures → List ℕ → Heard → ℕ → List ℕ → Message
+unfoldable pub after_header : Signatures → List ℕ → Noted → ℕ → List ℕ → Message
 after_header S header h at s =
     if has_body header then (if minor header == 2 then padded S header (body_of S header h) at s else body S header (body_of S header h) at s)
     else rest at s
@@ -189,7 +189,7 @@ after_header S header h at s =
 unfoldable pub of_header : Signatures → List ℕ → Option Ty → ℕ → List ℕ → Message
 of_header S header None at s = rest at s
 of_header S header (Some T) at s =
-    passes sections.Header (is_request header) (after_header S header) nothing (read (plain (order header)) [] T at s)
+    section_then sections.Header (is_request header) (after_header S header) nothing_noted (read (plain (order header)) [] T at s)
 
 -- of this header of 12 octets and these octets after it
 unfoldable pub message : Signatures → List ℕ → List ℕ → Message
@@ -202,32 +202,32 @@ may_call header sections.Exception = false
 may_call header sections.Body = false
 
 -- what follows a section, by what is heard of it
-abbrev pub after : Signatures → List ℕ → Section → Heard → ℕ → List ℕ → Message
+abbrev pub after : Signatures → List ℕ → Section → Noted → ℕ → List ℕ → Message
 after S header sections.Header = after_header S header
 after S header sections.Exception = after_exception S header
 after S header sections.Body = λ h. rest
 
 -- a section that goes on from what was heard of it
-abbrev pub through : Signatures → List ℕ → Section → Heard → Read → Message
-through S header section = passes section (may_call header section) (after S header section)
+abbrev pub section_and_rest : Signatures → List ℕ → Section → Noted → Read → Message
+section_and_rest S header section = section_then section (may_call header section) (after S header section)
 
 -- ---- its close
 
 -- a body that needs no octets, so that a message may end in the padding in front of it
-unfoldable pub may_lack : BodyType → Bool
-may_lack Untyped = true
-may_lack (Typed (Struct zero names parts)) = true
-may_lack b = false
+unfoldable pub body_may_be_missing : BodyType → Bool
+body_may_be_missing Untyped = true
+body_may_be_missing (Typed (Struct zero names parts)) = true
+body_may_be_missing b = false
 
-unfoldable pub close : Stage → List Speech
-close (In_typed section h outer leaf) = Incomplete ∷ []
-close (In_padding b) = if may_lack b then Ends ∷ [] else Incomplete ∷ []
-close (In_rest offset []) = Ends ∷ []
-close (In_rest offset (x ∷ held)) = Left offset (x ∷ held) ∷ Ends ∷ []
-close Over = Ends ∷ []
+unfoldable pub close : Stage → List MessageLine
+close (In_typed section h outer leaf) = ShortLine ∷ []
+close (In_padding b) = if body_may_be_missing b then EndLine ∷ [] else ShortLine ∷ []
+close (In_rest offset []) = EndLine ∷ []
+close (In_rest offset (x ∷ held)) = RestLine offset (x ∷ held) ∷ EndLine ∷ []
+close Over = EndLine ∷ []
 
-unfoldable pub told_of : Message → List Told
-told_of (Comes told at stage) = told
+unfoldable pub message_lines : Message → List LineAt
+message_lines (ReadTo emitted at stage) = emitted
 
 unfoldable pub stage_of : Message → Stage
-stage_of (Comes told at stage) = stage
+stage_of (ReadTo emitted at stage) = stage

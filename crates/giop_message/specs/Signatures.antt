@@ -6,7 +6,7 @@ use Rattle.giop_sig.specs.declared.types.Fixed.TheVariants.{ExceptionId, SystemE
 use Rattle.giop_sig.specs.Types.{Ty}
 use Rattle.giop_sig.specs.Table.{Table, operation_in, operation_at, exception_in}
 use Rattle.giop_sig.specs.Trees.{tree}
-use Rattle.giop_sig.specs.Headers.{header_type, fixed_type}
+use Rattle.giop_sig.specs.HeaderTypes.{header_type, fixed_type}
 use Rattle.giop_sig.specs.RequestList.{kept_operation}
 
 pub record Signatures : Type 0 where
@@ -24,8 +24,8 @@ pub record Signatures : Type 0 where
   pub addressing : Ty
 
 -- what is kept of a request list: the ids, each once, with their operations
-abbrev pub Listed : Type 0
-Listed = List (ℕ × Option OpId)
+abbrev pub RequestTable : Type 0
+RequestTable = List (ℕ × Option OpId)
 
 abbrev pub request_type : Table → OpId → Ty
 request_type C o = tree C (operation_at C o.0).request
@@ -33,11 +33,11 @@ request_type C o = tree C (operation_at C o.0).request
 abbrev pub reply_type : Table → OpId → Ty
 reply_type C o = tree C (operation_at C o.0).reply
 
-unfoldable pub said_by : Table → Listed → Signatures
-said_by C listed = record {
+unfoldable pub signatures_of : Table → RequestTable → Signatures
+signatures_of C request_table = record {
   header = header_type;
   request = λ name. option_map (request_type C) (operation_in C name);
-  reply = λ id. option_map (reply_type C) (kept_operation listed id);
+  reply = λ id. option_map (reply_type C) (kept_operation request_table id);
   members = λ repository. option_map (λ t. tree C t.0) (exception_in C repository);
   exception_id = fixed_type ExceptionId;
   system_exception = fixed_type SystemException;

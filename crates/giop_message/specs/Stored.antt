@@ -27,7 +27,7 @@ use Rattle.giop_print.specs.declared.path.Root.{Root}
 use Rattle.giop_sig.specs.Types.{Ty}
 use Rattle.giop_sig.specs.Table.{Table}
 use Rattle.giop_decode.specs.declared.decoder.Decoder.{Decoder}
-use Rattle.giop_decode.specs.Holding as decoder
+use Rattle.giop_decode.specs.DecoderState as decoder
 use Rattle.giop_decode.specs.Stored as decoders
 use Rattle.giop_message.specs.declared.message.Message.{Message}
 use Rattle.giop_message.specs.declared.part.Part.{Part}
@@ -35,9 +35,9 @@ use Rattle.giop_message.specs.declared.part.Part.TheVariants as parts
 use Rattle.giop_message.specs.declared.part.Rest.{Rest}
 use Rattle.giop_message.specs.declared.part.Section.{Section}
 use Rattle.giop_message.specs.declared.part.Section.TheVariants as sections
-use Rattle.giop_message.specs.declared.wanted.Wanted.{Wanted}
-use Rattle.giop_message.specs.declared.wanted.Wanted.TheVariants as wanteds
-use Rattle.giop_message.specs.Holding.{in_header}
+use Rattle.giop_message.specs.declared.body_type.BodyTypeId.{BodyTypeId}
+use Rattle.giop_message.specs.declared.body_type.BodyTypeId.TheVariants as body_type_ids
+use Rattle.giop_message.specs.MessageState.{in_header}
 
 -- ---- the octets
 
@@ -50,7 +50,7 @@ section_octet sections.Body = 2
 -- the octet that says the part
 abbrev pub part_octet : Part → ℕ
 part_octet (parts.Typed section d) = section_octet section
-part_octet (parts.Padding wanted) = 3
+part_octet (parts.Padding body_type_id) = 3
 part_octet (parts.Rest r) = 4
 
 -- The request id has a place of its own once the header has ended: until then it stands in the decoder.
@@ -62,14 +62,14 @@ unfoldable pub own_octets : Message → List ℕ
 own_octets m = part_octet m.part ∷ eight m.at ++ optional (kept_id m.part m.id) ++ replicate 2 0
 
 -- what type a body has, and its number
-abbrev pub wanted_octets : Wanted → List ℕ
-wanted_octets wanteds.Nothing = 0 ∷ four 0
-wanted_octets (wanteds.Type of) = 1 ∷ four of.0
-wanted_octets wanteds.Exception = 2 ∷ four 0
+abbrev pub body_type_octets : BodyTypeId → List ℕ
+body_type_octets body_type_ids.Nothing = 0 ∷ four 0
+body_type_octets (body_type_ids.Type of) = 1 ∷ four of.0
+body_type_octets body_type_ids.Exception = 2 ∷ four 0
 
 -- the 208 octets of the padding in front of such a body
-unfoldable pub padding_octets : Wanted → List ℕ
-padding_octets wanted = wanted_octets wanted ++ replicate 203 0
+unfoldable pub padding_octets : BodyTypeId → List ℕ
+padding_octets body_type_id = body_type_octets body_type_id ++ replicate 203 0
 
 -- the 208 octets of a rest: the offset of its last part, and the octets of that
 unfoldable pub rest_octets : Rest → List ℕ
@@ -78,15 +78,15 @@ rest_octets r = eight r.offset ++ held 32 r.held.items ++ replicate 167 0
 -- ---- a message in them
 
 -- what the fields can hold
-abbrev pub WantedHasRange : Wanted → Type 0
-WantedHasRange wanteds.Nothing = Unit {0}
-WantedHasRange (wanteds.Type of) = of.0 < 2 ^ 32
-WantedHasRange wanteds.Exception = Unit {0}
+abbrev pub BodyTypeIdHasRange : BodyTypeId → Type 0
+BodyTypeIdHasRange body_type_ids.Nothing = Unit {0}
+BodyTypeIdHasRange (body_type_ids.Type of) = of.0 < 2 ^ 32
+BodyTypeIdHasRange body_type_ids.Exception = Unit {0}
 
 -- these 208 octets are those of the padding in front of such a body
-pub record IsPaddingOf (octets : List ℕ) (wanted : Wanted) : Type 0 where
-  pub is : octets ≡ padding_octets wanted
-  pub range : WantedHasRange wanted
+pub record IsPaddingOf (octets : List ℕ) (body_type_id : BodyTypeId) : Type 0 where
+  pub is : octets ≡ padding_octets body_type_id
+  pub range : BodyTypeIdHasRange body_type_id
 
 -- these 208 octets are those of a rest
 pub record IsRestOf (octets : List ℕ) (r : Rest) : Type 0 where
@@ -102,7 +102,7 @@ pub record IsOwnOf (octets : List ℕ) (m : Message) : Type 0 where
 -- A part stands in these 208 octets and these frames. Only a decoder has frames.
 abbrev pub PartStored : Part → List ℕ → List ℕ → Type 0
 PartStored (parts.Typed section d) octets frames = decoders.Stored d octets frames
-PartStored (parts.Padding wanted) octets frames = IsPaddingOf octets wanted × (frames ≡ [])
+PartStored (parts.Padding body_type_id) octets frames = IsPaddingOf octets body_type_id × (frames ≡ [])
 PartStored (parts.Rest r) octets frames = IsRestOf octets r × (frames ≡ [])
 
 -- These 224 octets and these frames are what is stored of the message.
@@ -124,6 +124,6 @@ pub record ReadsOn (C : Table) (d e : Decoder) : Type 0 where
 -- The other part goes on where this one stands.
 abbrev pub GoesOn : Table → Part → Part → Type 0
 GoesOn C (parts.Typed section d) (parts.Typed other e) = (other ≡ section) × ReadsOn C d e
-GoesOn C (parts.Padding wanted) (parts.Padding other) = other ≡ wanted
+GoesOn C (parts.Padding body_type_id) (parts.Padding other) = other ≡ body_type_id
 GoesOn C (parts.Rest r) (parts.Rest other) = IsSameRest other r
 GoesOn C part other = ⊥

@@ -2,11 +2,11 @@
 use Rattle.std.specs.Prelude.{ℕ, List, [], ◌∷◌, codes, decimal, flat_map}
 use Rattle.giop_print.specs.Text.{joined, hex}
 use Rattle.giop_print.specs.Lines.{fault_line}
-use Rattle.giop_decode.specs.Spine as spine
+use Rattle.giop_decode.specs.ReadResult as spine
 use Rattle.giop_decode.specs.Spelling.{value_words}
 use Rattle.giop_decode.specs.declared.progress.Kind.{Kind}
 use Rattle.giop_decode.specs.declared.progress.Kind.TheVariants as kinds
-use Rattle.giop_message.specs.Reading.{Saying, Value, Call, Rest, Fault, End, Remark}
+use Rattle.giop_message.specs.MessageReader.{LineClass, Value, Call, Rest, Fault, End, TimedLine}
 
 -- ---- what is said
 
@@ -37,13 +37,13 @@ unfoldable pub said_line : ℕ → List ℕ → List ℕ
 said_line number text = joined (codes "m" ∷ decimal number ∷ codes " " ∷ text ∷ codes "\n" ∷ [])
 
 -- at a place of the stream, which a fault's line names
-abbrev pub saying_line : ℕ → ℕ → Saying → List ℕ → List ℕ
-saying_line place number Value text = said_line number text
-saying_line place number Call text = said_line number text
-saying_line place number Rest text = said_line number text
-saying_line place number Fault text = fault_line number text place
-saying_line place number End text = said_line number text
+abbrev pub line_class_text : ℕ → ℕ → LineClass → List ℕ → List ℕ
+line_class_text place number Value text = said_line number text
+line_class_text place number Call text = said_line number text
+line_class_text place number Rest text = said_line number text
+line_class_text place number Fault text = fault_line number text place
+line_class_text place number End text = said_line number text
 
 -- what is said at one place
-unfoldable pub said_text : ℕ → ℕ → List Remark → List ℕ
-said_text place number remarks = flat_map (λ r. saying_line place number r.saying r.text) remarks
+unfoldable pub said_text : ℕ → ℕ → List TimedLine → List ℕ
+said_text place number timed_lines = flat_map (λ r. line_class_text place number r.line_class r.text) timed_lines

@@ -3,24 +3,24 @@
 ghost use Rattle.std.specs.Prelude.{◌≡◌, ℕ, ◌+◌, ◌<◌, List, [], length, true, false, cond};
 ghost use Rattle.giop_sig.specs.Trees.{tree};
 ghost use Rattle.giop_sig.specs.Fits.{IsEmptyStruct};
-ghost use Rattle.giop_decode.specs.Spine.{Read as Reading};
-ghost use Rattle.giop_decode.specs.Heard.{heard_of, is_header_root};
-ghost use Rattle.giop_decode.specs.Holding.{Minds};
+ghost use Rattle.giop_decode.specs.ReadResult.{Read as MessageReader};
+ghost use Rattle.giop_decode.specs.Noted.{noted_of, is_header_root};
+ghost use Rattle.giop_decode.specs.DecoderState.{KeepsNoted};
 ghost use Rattle.giop_message.specs.Messages.{root_of};
-ghost use Rattle.giop_message.specs.Holding.{is_header};
+ghost use Rattle.giop_message.specs.MessageState.{is_header};
 
+use crate::body_type::{BodyTypeId, body_type_after, is_empty};
 use crate::header::{kind_of, minor_of, order_of};
 use crate::message::Message;
 use crate::part::{Part, Rest, Section};
-use crate::wanted::{Wanted, is_empty, wanted_after};
 use giop_cdr::pad;
 use giop_decode::Decoder;
 use giop_sig::{Catalogue, Fixed, Requests, TypeId};
 
 /// The request id behind what has come of a section: a header's own, or the one from before.
 pub(crate) fn id_behind(section: Section, decoder: &Decoder, before: Option<u32>) -> Option<u32>
-    ensures { (r : Reading) → Minds (root_of section) decoder.now r →
-        result ≡ cond (is_header section) (heard_of true r).request_id before }
+    ensures { (r : MessageReader) → KeepsNoted (root_of section) decoder.now r →
+        result ≡ cond (is_header section) (noted_of true r).request_id before }
 {
     match section {
         Section::Header => decoder.request_id(),
@@ -32,11 +32,11 @@ pub(crate) fn id_behind(section: Section, decoder: &Decoder, before: Option<u32>
 impl Message {
     ghost use Rattle.giop_sig.specs.Table.{Table};
     ghost use Rattle.giop_message.specs.declared.part.Section.{Section as Within};
-    ghost use Rattle.giop_message.specs.Signatures.{Listed, said_by};
+    ghost use Rattle.giop_message.specs.Signatures.{RequestTable, signatures_of};
     ghost use Rattle.giop_message.specs.Headers.{order};
     ghost use Rattle.giop_message.specs.Messages.{body, rest, typed, after};
-    ghost use Rattle.giop_message.specs.Holding.{AreOf, IsKnown, Fits, in_header, body_type};
-    ghost use Rattle.giop_message.specs.Moves.{is_padded, is_unaligned, Arrives, Enters, IsTyped, Ended};
+    ghost use Rattle.giop_message.specs.MessageState.{AreOf, IsKnown, Fits, in_header, body_type};
+    ghost use Rattle.giop_message.specs.MessageSteps.{is_padded, is_unaligned, Arrives, Enters, IsTyped, Ended};
 
     /// Begins the rest.
     fn begin_rest(&mut self)
@@ -46,8 +46,8 @@ impl Message {
         ensures at { self.new.at ≡ self.old.at }
         ensures past { in_header self.new.part ≡ false }
         ensures fits { (C : Table) → Fits C self.new }
-        ensures arrives { (C : Table) (listed : Listed) (number : ℕ) (header s : List ℕ) →
-            Arrives C listed number header self.old self.new s (rest (12 + length s) []) }
+        ensures arrives { (C : Table) (request_table : RequestTable) (number : ℕ) (header s : List ℕ) →
+            Arrives C request_table number header self.old self.new s (rest (12 + length s) []) }
     {
         self.part = Part::Rest(Rest::new());
     }
@@ -62,8 +62,8 @@ impl Message {
         ensures at { self.new.at ≡ self.old.at }
         ensures within { in_header self.new.part ≡ is_header section }
         ensures fits { Fits catalogue.now self.new }
-        ensures enters { (listed : Listed) (number : ℕ) (header s : List ℕ) →
-            Enters catalogue.now listed number header self.old self.new s section
+        ensures enters { (request_table : RequestTable) (number : ℕ) (header s : List ℕ) →
+            Enters catalogue.now request_table number header self.old self.new s section
             (tree catalogue.now of.0) }
     {
         let order = order_of(&self.header);
@@ -81,8 +81,8 @@ impl Message {
         ensures at { self.new.at ≡ self.old.at }
         ensures past { in_header self.new.part ≡ false }
         ensures fits { Fits catalogue.now self.new }
-        ensures arrives { (listed : Listed) (number : ℕ) (header s : List ℕ) →
-            Arrives catalogue.now listed number header self.old self.new s (typed (order header)
+        ensures arrives { (request_table : RequestTable) (number : ℕ) (header s : List ℕ) →
+            Arrives catalogue.now request_table number header self.old self.new s (typed (order header)
             (tree catalogue.now of.0) (12 + length s) []) }
     {
         if is_empty(catalogue, of) {
@@ -93,23 +93,23 @@ impl Message {
     }
 
     /// Begins a body.
-    pub(crate) fn begin_body(&mut self, catalogue: &Catalogue, wanted: Wanted)
-        requires { IsKnown catalogue.now wanted }
+    pub(crate) fn begin_body(&mut self, catalogue: &Catalogue, body_type_id: BodyTypeId)
+        requires { IsKnown catalogue.now body_type_id }
         ensures number { self.new.number ≡ self.old.number }
         ensures header { self.new.header ≡ self.old.header }
         ensures id { self.new.id ≡ self.old.id }
         ensures at { self.new.at ≡ self.old.at }
         ensures past { in_header self.new.part ≡ false }
         ensures fits { Fits catalogue.now self.new }
-        ensures arrives { (listed : Listed) (number : ℕ) (header s : List ℕ) →
-            Arrives catalogue.now listed number header self.old self.new s (body
-            (said_by catalogue.now listed) header (body_type catalogue.now wanted)
+        ensures arrives { (request_table : RequestTable) (number : ℕ) (header s : List ℕ) →
+            Arrives catalogue.now request_table number header self.old self.new s (body
+            (signatures_of catalogue.now request_table) header (body_type catalogue.now body_type_id)
             (12 + length s) []) }
     {
-        match wanted {
-            Wanted::Nothing => self.begin_rest(),
-            Wanted::Type(of) => self.begin_typed(catalogue, of),
-            Wanted::Exception => {
+        match body_type_id {
+            BodyTypeId::Nothing => self.begin_rest(),
+            BodyTypeId::Type(of) => self.begin_typed(catalogue, of),
+            BodyTypeId::Exception => {
                 let of = catalogue.fixed(Fixed::ExceptionId);
                 self.begin(catalogue, Section::Exception, of);
             }
@@ -126,24 +126,24 @@ impl Message {
         ensures at { self.new.at ≡ self.old.at }
         ensures past { in_header self.new.part ≡ false }
         ensures fits { Fits catalogue.now self.new }
-        ensures id { (section : Within) (r : Reading) → Ended self.old.part section r →
-            self.new.id ≡ cond (is_header section) (heard_of true r).request_id self.old.id }
-        ensures arrives { (number : ℕ) (header s : List ℕ) (section : Within) (r : Reading) →
+        ensures id { (section : Within) (r : MessageReader) → Ended self.old.part section r →
+            self.new.id ≡ cond (is_header section) (noted_of true r).request_id self.old.id }
+        ensures arrives { (number : ℕ) (header s : List ℕ) (section : Within) (r : MessageReader) →
             Ended self.old.part section r →
             Arrives catalogue.now requests.now number header self.old self.new s (after
-            (said_by catalogue.now requests.now) header section
-            (heard_of (is_header_root (root_of section)) r) (12 + length s) []) }
+            (signatures_of catalogue.now requests.now) header section
+            (noted_of (is_header_root (root_of section)) r) (12 + length s) []) }
     {
         let Part::Typed(section, decoder) = &self.part else {
             unreachable!();
         };
         let section = *section;
-        let wanted = wanted_after(catalogue, requests, &self.header, section, decoder);
+        let body_type_id = body_type_after(catalogue, requests, &self.header, section, decoder);
         self.id = id_behind(section, decoder, self.id);
         if self.is_padded(section) {
-            self.part = Part::Padding(wanted);
+            self.part = Part::Padding(body_type_id);
         } else {
-            self.begin_body(catalogue, wanted);
+            self.begin_body(catalogue, body_type_id);
         }
     }
 
@@ -159,7 +159,7 @@ impl Message {
     }
 
     /// Whether a body that would begin here needs padding in front of it.
-    #[tactic(auto, unfolding(crate::specs::Moves::is_unaligned))]
+    #[tactic(auto, unfolding(crate::specs::MessageSteps::is_unaligned))]
     fn is_unaligned(&self) -> bool
         ensures { result ≡ is_unaligned self.now.header self.now.at }
     {

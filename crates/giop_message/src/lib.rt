@@ -2,18 +2,18 @@
 #![tactic(auto)]
 
 mod begin;
+mod body_type;
 mod header;
 mod laws;
 mod message;
 mod part;
+mod reader_laws;
 mod restored;
-mod sayings;
 mod stored;
 mod taking;
-mod wanted;
 mod word;
 
 pub use header::{kind_of, minor_of, order_of};
 pub use laws::{apart_laws, message_laws};
 pub use message::Message;
-pub use sayings::saying_laws;
+pub use reader_laws::message_reader_laws;

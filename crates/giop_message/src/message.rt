@@ -4,9 +4,9 @@ ghost use Rattle.std.specs.Prelude.{◌≡◌, ℕ, ◌+◌, ◌^◌, ◌<◌, �
 ghost use Rattle.giop_print.specs.Output.{Writes};
 
 use crate::begin::id_behind;
+use crate::body_type::body_may_be_missing;
 use crate::header::{kind_of, minor_of};
 use crate::part::{Part, Rest, Section};
-use crate::wanted::may_lack;
 use giop_print::{Out, OutFault, end_line, fault_line};
 use giop_sig::{Catalogue, Requests};
 
@@ -24,16 +24,16 @@ pub struct Message {
 }
 
 impl Message {
-    ghost use Rattle.giop_message.specs.Signatures.{Listed, said_by};
+    ghost use Rattle.giop_message.specs.Signatures.{RequestTable, signatures_of};
     ghost use Rattle.giop_sig.specs.Table.{Table};
-    ghost use Rattle.giop_message.specs.Messages.{message, told_of, stage_of, close};
-    ghost use Rattle.giop_message.specs.Moves.{last_rest_text};
-    ghost use Rattle.giop_message.specs.MessageReading.{id_said};
-    ghost use Rattle.giop_message.specs.Holding.{AreOf, Fits, Follows, due_text, TookAll, reach, closing_text, is_short};
+    ghost use Rattle.giop_message.specs.Messages.{message, message_lines, stage_of, close};
+    ghost use Rattle.giop_message.specs.MessageSteps.{last_rest_text};
+    ghost use Rattle.giop_message.specs.ReaderOfTable.{first_request_id};
+    ghost use Rattle.giop_message.specs.MessageState.{AreOf, Fits, Follows, due_text, TookAll, reach, closing_text, is_short};
 
     /// A message of this number whose header has come.
     pub fn start(catalogue: &Catalogue, number: u64, header: [u8; 12]) -> Message
-        ensures follows { (listed : Listed) → Follows catalogue.now listed number header result [] }
+        ensures follows { (request_table : RequestTable) → Follows catalogue.now request_table number header result [] }
         ensures fits { Fits catalogue.now result }
         ensures reach { reach result ≡ 12 }
     {
@@ -68,7 +68,7 @@ impl Message {
         ensures writes { (number : ℕ) (header s : List ℕ) →
             Follows catalogue.now requests.now number header self.old s →
             Writes result (O.log out.old) (O.log out.new) (due_text
-            (said_by catalogue.now requests.now) number place header s octets.now) }
+            (signatures_of catalogue.now requests.now) number place header s octets.now) }
         ensures took { IfOk result (λ found. (number : ℕ) (header s : List ℕ) →
             Follows catalogue.now requests.now number header self.old s →
             TookAll catalogue.now requests.now number header self.new s octets.now found) }
@@ -105,13 +105,13 @@ impl Message {
         out: &mut O,
     ) -> Result<bool, OutFault>
         requires fits { Fits catalogue.now self }
-        ensures writes { (listed : Listed) (number : ℕ) (header s : List ℕ) →
-            Follows catalogue.now listed number header self s →
+        ensures writes { (request_table : RequestTable) (number : ℕ) (header s : List ℕ) →
+            Follows catalogue.now request_table number header self s →
             Writes result (O.log out.old) (O.log out.new) (closing_text number place (close
-            (stage_of (message (said_by catalogue.now listed) header s)))) }
-        ensures short { IfOk result (λ short. (listed : Listed) (number : ℕ) (header s : List ℕ) →
-            Follows catalogue.now listed number header self s →
-            short ≡ is_short (close (stage_of (message (said_by catalogue.now listed) header s)))) }
+            (stage_of (message (signatures_of catalogue.now request_table) header s)))) }
+        ensures short { IfOk result (λ short. (request_table : RequestTable) (number : ℕ) (header s : List ℕ) →
+            Follows catalogue.now request_table number header self s →
+            short ≡ is_short (close (stage_of (message (signatures_of catalogue.now request_table) header s)))) }
     {
         if self.is_short(catalogue) {
             fault_line(out, self.number, "short", place)?;
@@ -125,13 +125,13 @@ impl Message {
     /// Whether it would close inside its header, a repository id or its body, or without a body that it needs.
     fn is_short(&self, catalogue: &Catalogue) -> bool
         requires { Fits catalogue.now self.now }
-        ensures { (listed : Listed) (number : ℕ) (header s : List ℕ) →
-            Follows catalogue.now listed number header self.now s →
-            result ≡ is_short (close (stage_of (message (said_by catalogue.now listed) header s))) }
+        ensures { (request_table : RequestTable) (number : ℕ) (header s : List ℕ) →
+            Follows catalogue.now request_table number header self.now s →
+            result ≡ is_short (close (stage_of (message (signatures_of catalogue.now request_table) header s))) }
     {
         match &self.part {
             Part::Typed(_, _) => true,
-            Part::Padding(wanted) => !may_lack(catalogue, *wanted),
+            Part::Padding(body_type_id) => !body_may_be_missing(catalogue, *body_type_id),
             Part::Rest(_) => false,
         }
     }
@@ -164,9 +164,9 @@ impl Message {
 
     /// The request id of its header, once that has come.
     pub fn request_id(&self) -> Option<u32>
-        ensures { (C : Table) (listed : Listed) (number : ℕ) (header s : List ℕ) →
-            Follows C listed number header self.now s
-            → result ≡ id_said (told_of (message (said_by C listed) header s)) }
+        ensures { (C : Table) (request_table : RequestTable) (number : ℕ) (header s : List ℕ) →
+            Follows C request_table number header self.now s
+            → result ≡ first_request_id (message_lines (message (signatures_of C request_table) header s)) }
     {
         match &self.part {
             Part::Typed(section, decoder) => id_behind(*section, decoder, self.id),

@@ -4,7 +4,7 @@ ghost use Rattle.std.specs.Prelude.{◌≡◌, ℕ, ◌+◌, ◌-◌, ◌^◌, �
 ghost use Rattle.arrayvec.specs.ArrayVec.{array_vec_len};
 ghost use Rattle.giop_print.specs.Output.{Writes};
 
-use crate::wanted::Wanted;
+use crate::body_type::BodyTypeId;
 use arrayvec::ArrayVec;
 use giop_decode::Decoder;
 use giop_print::{Out, OutFault, Root, rest_line, split_rest_line};
@@ -39,7 +39,7 @@ pub enum Part {
     /// A value that has begun and not ended.
     Typed(Section, Decoder),
     /// The padding in front of a body of this type.
-    Padding(Wanted),
+    Padding(BodyTypeId),
     Rest(Rest),
 }
 
@@ -54,10 +54,10 @@ pub struct Rest {
 }
 
 impl Rest {
-    ghost use Rattle.giop_message.specs.Messages.{In_rest, told_of, stage_of};
-    ghost use Rattle.giop_message.specs.Steps.{rest_step};
-    ghost use Rattle.giop_message.specs.Holding.{told_text};
-    ghost use Rattle.giop_message.specs.Moves.{held_text};
+    ghost use Rattle.giop_message.specs.Messages.{In_rest, message_lines, stage_of};
+    ghost use Rattle.giop_message.specs.StageSteps.{rest_step};
+    ghost use Rattle.giop_message.specs.MessageState.{message_lines_text};
+    ghost use Rattle.giop_message.specs.MessageSteps.{held_text};
 
     /// Of no octets.
     pub(crate) fn new() -> Rest
@@ -88,8 +88,8 @@ impl Rest {
         requires limit { self.old.offset ≤ 2 ^ 48 }
         requires room { length self.old.held.items + length octets.now ≤ 32 }
         ensures writes { (place offset at : ℕ) →
-            Writes result (O.log out.old) (O.log out.new) (told_text number place offset
-            (told_of (rest_step self.old.offset (self.old.held.items ++ octets.now) at))) }
+            Writes result (O.log out.old) (O.log out.new) (message_lines_text number place offset
+            (message_lines (rest_step self.old.offset (self.old.held.items ++ octets.now) at))) }
         ensures holds { OnOk result ((at : ℕ) →
             stage_of (rest_step self.old.offset (self.old.held.items ++ octets.now) at)
             ≡ In_rest self.new.offset self.new.held.items) }

@@ -5,9 +5,9 @@ ghost use Rattle.std.specs.Prelude.{◌≡◌, ℕ, ◌+◌, ◌<◌, ◌≤◌,
 ghost use Rattle.std.specs.Option.{IsSomeAnd};
 ghost use Rattle.giop_sig.specs.Table.{Table};
 
+use crate::body_type::BodyTypeId;
 use crate::message::Message;
 use crate::part::{Part, Rest, Section};
-use crate::wanted::Wanted;
 use arrayvec::ArrayVec;
 use giop_decode::Decoder;
 use giop_octets::{eight_at, four_at, held_at, octet_at, octets_at, optional_at};
@@ -21,7 +21,7 @@ fn same(octets: &[u8], others: &[u8]) -> bool
 }
 
 /// Whether an octet behind a message's header has this offset.
-fn is_behind_header(at: u64) -> bool
+fn is_after_header(at: u64) -> bool
     ensures { IsTrue result ↔ (12 ≤ at) }
 {
     at >= 12
@@ -34,37 +34,37 @@ fn is_rest(offset: u64, held: usize, at: u64) -> bool
     held < 32 && offset <= at && held as u64 <= at - offset
 }
 
-impl Wanted {
-    ghost use Rattle.giop_message.specs.declared.wanted.Wanted.{Wanted as BodyType};
-    ghost use Rattle.giop_message.specs.Holding.{IsKnown};
+impl BodyTypeId {
+    ghost use Rattle.giop_message.specs.declared.body_type.BodyTypeId.{BodyTypeId as BodyType};
+    ghost use Rattle.giop_message.specs.MessageState.{IsKnown};
     ghost use Rattle.giop_message.specs.Stored.{IsPaddingOf};
 
     /// The body behind the padding that was stored in these octets: None where no padding of a body of the catalogue is
     /// stored so.
-    fn restore(catalogue: &Catalogue, octets: &[u8; 208]) -> Option<Wanted>
+    fn restore(catalogue: &Catalogue, octets: &[u8; 208]) -> Option<BodyTypeId>
         ensures known { IfSome result (λ w. IsKnown catalogue.now w) }
         ensures stored { IfSome result (λ w. IsPaddingOf octets.now w) }
         ensures again { (w : BodyType) → IsKnown catalogue.now w → IsPaddingOf octets.now w →
             result ≡ Some w }
     {
-        let wanted = Wanted::parsed(octets);
-        if !wanted.is_known(catalogue) {
+        let body_type_id = BodyTypeId::parsed(octets);
+        if !body_type_id.is_known(catalogue) {
             return None;
         }
-        if !same(&wanted.octets(), octets) {
+        if !same(&body_type_id.octets(), octets) {
             return None;
         }
-        Some(wanted)
+        Some(body_type_id)
     }
 
     /// What octets say of a body.
-    fn parsed(octets: &[u8; 208]) -> Wanted
+    fn parsed(octets: &[u8; 208]) -> BodyTypeId
         ensures { (w : BodyType) → IsPaddingOf octets.now w → result ≡ w }
     {
         match octets[0] {
-            0 => Wanted::Nothing,
-            1 => Wanted::Type(TypeId(four_at(octets, 1))),
-            _ => Wanted::Exception,
+            0 => BodyTypeId::Nothing,
+            1 => BodyTypeId::Type(TypeId(four_at(octets, 1))),
+            _ => BodyTypeId::Exception,
         }
     }
 
@@ -73,9 +73,9 @@ impl Wanted {
         ensures { IsTrue result ↔ IsKnown catalogue.now self }
     {
         match self {
-            Wanted::Nothing => true,
-            Wanted::Type(of) => catalogue.has(of),
-            Wanted::Exception => true,
+            BodyTypeId::Nothing => true,
+            BodyTypeId::Type(of) => catalogue.has(of),
+            BodyTypeId::Exception => true,
         }
     }
 }
@@ -107,7 +107,7 @@ impl Rest {
 
 impl Part {
     ghost use Rattle.giop_message.specs.declared.part.Part.{Part as StoredPart};
-    ghost use Rattle.giop_message.specs.Holding.{FitsPart};
+    ghost use Rattle.giop_message.specs.MessageState.{FitsPart};
     ghost use Rattle.giop_message.specs.Stored.{section_octet, part_octet, PartStored, GoesOn};
 
     /// The part that was stored in these octets and frames, of a message that has taken so many octets and has this octet
@@ -165,13 +165,13 @@ impl Part {
             part_octet p ≡ 3 → PartStored p octets.now frames.now →
             IsSomeAnd result (λ other. GoesOn catalogue.now p other) }
     {
-        let Some(wanted) = Wanted::restore(catalogue, octets) else {
+        let Some(body_type_id) = BodyTypeId::restore(catalogue, octets) else {
             return None;
         };
         if !frames.is_empty() {
             return None;
         }
-        Some(Part::Padding(wanted))
+        Some(Part::Padding(body_type_id))
     }
 
     /// The rest that was stored in these octets. It has no frames.
@@ -195,8 +195,8 @@ impl Part {
 
 impl Message {
     ghost use Rattle.giop_message.specs.declared.message.Message.{Message as StoredMessage};
-    ghost use Rattle.giop_message.specs.Signatures.{Listed};
-    ghost use Rattle.giop_message.specs.Holding.{Fits, Follows};
+    ghost use Rattle.giop_message.specs.Signatures.{RequestTable};
+    ghost use Rattle.giop_message.specs.MessageState.{Fits, Follows};
     ghost use Rattle.giop_message.specs.Stored.{Stored};
 
     /// The message of this number and header that was stored in these octets and frames: None where no message that fits
@@ -217,11 +217,11 @@ impl Message {
         // It follows whatever list the stored one follows.
         ensures follows { IfSome result (λ e. (m : StoredMessage) → Fits catalogue.now m →
             m.number ≡ number → m.header ≡ header → Stored m fixed.now frames.now →
-            (listed : Listed) (n : ℕ) (h s : List ℕ) → Follows catalogue.now listed n h m s →
-            Follows catalogue.now listed n h e s) }
+            (request_table : RequestTable) (n : ℕ) (h s : List ℕ) → Follows catalogue.now request_table n h m s →
+            Follows catalogue.now request_table n h e s) }
     {
         let at = eight_at(fixed, 1);
-        if !is_behind_header(at) {
+        if !is_after_header(at) {
             return None;
         }
         let octets: [u8; 208] = octets_at(fixed, 16);

@@ -5,9 +5,9 @@ ghost use Rattle.giop_sig.specs.Table.{Table};
 ghost use Rattle.giop_sig.specs.Trees.{depth_of};
 ghost use Rattle.giop_decode.specs.Stored.{frame_size};
 
+use crate::body_type::BodyTypeId;
 use crate::message::Message;
 use crate::part::{Part, Rest, Section};
-use crate::wanted::Wanted;
 use arrayvec::ArrayVec;
 use giop_octets::{put_eight, put_four, put_held, put_octets, put_optional, put_zeros};
 
@@ -26,7 +26,7 @@ impl Section {
     }
 }
 
-impl Wanted {
+impl BodyTypeId {
     ghost use Rattle.giop_message.specs.Stored.{IsPaddingOf};
 
     /// The octets of the padding in front of such a body.
@@ -35,9 +35,9 @@ impl Wanted {
         ensures { IsPaddingOf result self }
     {
         let (what, of) = match self {
-            Wanted::Nothing => (0, 0),
-            Wanted::Type(of) => (1, of.0),
-            Wanted::Exception => (2, 0),
+            BodyTypeId::Nothing => (0, 0),
+            BodyTypeId::Type(of) => (1, of.0),
+            BodyTypeId::Exception => (2, 0),
         };
         let mut out: ArrayVec<u8, 208> = ArrayVec::new();
         out.push(what);
@@ -68,7 +68,7 @@ impl Rest {
 }
 
 impl Part {
-    ghost use Rattle.giop_message.specs.Holding.{FitsPart};
+    ghost use Rattle.giop_message.specs.MessageState.{FitsPart};
     ghost use Rattle.giop_message.specs.Stored.{part_octet, PartStored};
 
     /// The octet that says it.
@@ -91,8 +91,8 @@ impl Part {
     {
         match self {
             Part::Typed(_, decoder) => decoder.store(octets, frames),
-            Part::Padding(wanted) => {
-                *octets = wanted.octets();
+            Part::Padding(body_type_id) => {
+                *octets = body_type_id.octets();
                 0
             }
             Part::Rest(rest) => {
@@ -104,7 +104,7 @@ impl Part {
 }
 
 impl Message {
-    ghost use Rattle.giop_message.specs.Holding.{Fits, reach};
+    ghost use Rattle.giop_message.specs.MessageState.{Fits, reach};
     ghost use Rattle.giop_message.specs.Stored.{kept_id, IsOwnOf, Stored};
 
     /// How many of its octets it has taken, its header's 12 included.

@@ -2,15 +2,15 @@
 
 ghost use Rattle.std.specs.Prelude.{◌≡◌, ℕ, ◌+◌, ◌^◌, ◌<◌, ◌≤◌, true, false, List, [], ◌∷◌, ◌++◌, length, IfOk};
 ghost use Rattle.giop_print.specs.Output.{Writes};
-ghost use Rattle.giop_decode.specs.Spine.{Read as Reading};
-ghost use Rattle.giop_decode.specs.Heard.{heard_of};
-ghost use Rattle.giop_decode.specs.Holding.{Minds};
-ghost use Rattle.giop_message.specs.Moves.{request_call};
+ghost use Rattle.giop_decode.specs.ReadResult.{Read as MessageReader};
+ghost use Rattle.giop_decode.specs.Noted.{noted_of};
+ghost use Rattle.giop_decode.specs.DecoderState.{KeepsNoted};
+ghost use Rattle.giop_message.specs.MessageSteps.{request_call};
 
+use crate::body_type::BodyTypeId;
 use crate::header::kind_of;
 use crate::message::Message;
 use crate::part::Part;
-use crate::wanted::Wanted;
 use crate::word::{fault_word, is_shown};
 use giop_cdr::pad;
 use giop_decode::{Decoder, Progress};
@@ -18,12 +18,12 @@ use giop_print::{Out, OutFault, Root, call_line, fault_line};
 use giop_sig::{Catalogue, Requests};
 
 /// Writes the call line of a Request, whose operation has just ended in its header.
-#[tactic(auto, unfolding(crate::specs::Moves::request_call, crate::specs::Moves::called_text))]
+#[tactic(auto, unfolding(crate::specs::MessageSteps::request_call, crate::specs::MessageSteps::called_text))]
 fn call<O: Out>(decoder: &Decoder, number: u64, header: &[u8], out: &mut O) -> Result<(), OutFault>
     requires { length header.now ≡ 12 }
-    ensures { (r : Reading) → Minds Root.Header decoder.now r →
+    ensures { (r : MessageReader) → KeepsNoted Root.Header decoder.now r →
         Writes result (O.log out.old) (O.log out.new)
-        (request_call number header.now (heard_of true r)) }
+        (request_call number header.now (noted_of true r)) }
 {
     if kind_of(header) != 0 {
         return Ok(());
@@ -42,28 +42,28 @@ fn call<O: Out>(decoder: &Decoder, number: u64, header: &[u8], out: &mut O) -> R
 }
 
 impl Message {
-    ghost use Rattle.giop_message.specs.Signatures.{Listed, said_by};
-    ghost use Rattle.giop_message.specs.Holding.{AreOf, IsKnown, Fits, Follows, due};
-    ghost use Rattle.giop_message.specs.Moves.{Went, WritesRun};
+    ghost use Rattle.giop_message.specs.Signatures.{RequestTable, signatures_of};
+    ghost use Rattle.giop_message.specs.MessageState.{AreOf, IsKnown, Fits, Follows, due};
+    ghost use Rattle.giop_message.specs.MessageSteps.{TookSome, WritesRun};
 
     /// Takes an octet of the padding in front of a body of this type.
-    fn take_padding(&mut self, catalogue: &Catalogue, wanted: Wanted)
-        requires part { self.old.part ≡ Part.Padding wanted }
-        requires known { IsKnown catalogue.now wanted }
+    fn take_padding(&mut self, catalogue: &Catalogue, body_type_id: BodyTypeId)
+        requires part { self.old.part ≡ Part.Padding body_type_id }
+        requires known { IsKnown catalogue.now body_type_id }
         requires limit { self.old.at ≤ 2 ^ 48 }
-        ensures told { (listed : Listed) (number : ℕ) (header s : List ℕ) (octet : ℕ) →
-            Follows catalogue.now listed number header self.old s →
-            due (said_by catalogue.now listed) header s (octet ∷ []) ≡ [] }
-        ensures follows { (listed : Listed) (number : ℕ) (header s : List ℕ) (octet : ℕ) →
-            Follows catalogue.now listed number header self.old s →
-            Follows catalogue.now listed number header self.new (s ++ octet ∷ []) }
+        ensures emitted { (request_table : RequestTable) (number : ℕ) (header s : List ℕ) (octet : ℕ) →
+            Follows catalogue.now request_table number header self.old s →
+            due (signatures_of catalogue.now request_table) header s (octet ∷ []) ≡ [] }
+        ensures follows { (request_table : RequestTable) (number : ℕ) (header s : List ℕ) (octet : ℕ) →
+            Follows catalogue.now request_table number header self.old s →
+            Follows catalogue.now request_table number header self.new (s ++ octet ∷ []) }
         ensures fits { Fits catalogue.now self.new }
         ensures at { self.new.at ≡ self.old.at + 1 }
     {
         let is_last = pad(self.at, 8) <= 1;
         self.at += 1;
         if is_last {
-            self.begin_body(catalogue, wanted);
+            self.begin_body(catalogue, body_type_id);
         }
     }
 
@@ -86,11 +86,11 @@ impl Message {
         requires limit { place + length octets.now ≤ 2 ^ 48 }
         ensures writes { (number : ℕ) (header s : List ℕ) →
             Follows catalogue.now requests.now number header self.old s →
-            WritesRun result (said_by catalogue.now requests.now) number place header s octets.now
+            WritesRun result (signatures_of catalogue.now requests.now) number place header s octets.now
             (O.log out.old) (O.log out.new) }
         ensures went { IfOk result (λ went. (number : ℕ) (header s : List ℕ) →
             Follows catalogue.now requests.now number header self.old s →
-            Went catalogue.now requests.now number header self.new s octets.now went.0 went.1) }
+            TookSome catalogue.now requests.now number header self.new s octets.now went.0 went.1) }
         ensures some { IfOk result (λ went. 0 < went.0) }
         ensures within { IfOk result (λ went. went.0 ≤ length octets.now) }
         ensures fits { IfOk result (λ went. went.1 ≡ false → Fits catalogue.now self.new) }
@@ -116,9 +116,9 @@ impl Message {
                     }
                 }
             }
-            Part::Padding(wanted) => {
-                let wanted = *wanted;
-                self.take_padding(catalogue, wanted);
+            Part::Padding(body_type_id) => {
+                let body_type_id = *body_type_id;
+                self.take_padding(catalogue, body_type_id);
                 Ok((1, false))
             }
             Part::Rest(rest) => {

@@ -1,6 +1,6 @@
 //! What a test makes: the built-in types with the requests of an empty list, and the octets of a row.
 ghost use Rattle.std.specs.Prelude.{IfOk};
-ghost use Rattle.giop_message.specs.Holding.{AreOf};
+ghost use Rattle.giop_message.specs.MessageState.{AreOf};
 
 use giop_sig::{Catalogue, Requests};
 use std::alloc::Global;

@@ -1,6 +1,6 @@
 //! A message whose octets come in two pieces.
 ghost use Rattle.std.specs.Prelude.{◌≤◌, length};
-ghost use Rattle.giop_message.specs.Holding.{AreOf};
+ghost use Rattle.giop_message.specs.MessageState.{AreOf};
 
 use crate::rows::Closing;
 use giop_message::Message;

@@ -1,6 +1,6 @@
 //! Messages that are stored and restored on their way, and the octets that are stored of them.
 ghost use Rattle.std.specs.Prelude.{◌≡◌, ◌≤◌, length, IfSome};
-ghost use Rattle.giop_message.specs.Holding.{AreOf, Fits};
+ghost use Rattle.giop_message.specs.MessageState.{AreOf, Fits};
 
 use crate::known::{built_in, octets_of};
 use crate::rows::{Closing, Row, row_of, rows};

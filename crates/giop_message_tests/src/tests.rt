@@ -1,11 +1,11 @@
 //! Messages and their lines, taken whole and in two pieces, and outs that fail. The messages are of the built-in types.
-ghost use Rattle.giop_message.specs.Holding.{AreOf};
+ghost use Rattle.giop_message.specs.MessageState.{AreOf};
 
 use crate::known::{built_in, octets_of};
 use crate::pieces::takes;
 use crate::rows::{Row, row_of, rows};
 use giop_cdr::Order;
-use giop_message::{Message, kind_of, message_laws, minor_of, order_of, saying_laws};
+use giop_message::{Message, kind_of, message_laws, message_reader_laws, minor_of, order_of};
 use giop_print::Sheet;
 use giop_sig::{Catalogue, Requests};
 use std::process::Abort;
@@ -232,5 +232,5 @@ fn a_header_has_its_fields(rt: HostRuntime) {
 #[test]
 fn laws_can_be_called(_rt: HostRuntime) {
     message_laws();
-    saying_laws();
+    message_reader_laws();
 }

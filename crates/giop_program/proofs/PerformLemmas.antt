@@ -1,12 +1,12 @@
 -- What the steps up to the run and the save behind it say of the program.
 use Rattle.std.proofs.Common.{◌≡◌, ℕ, List, refl, Option, Some, None, Result, Ok, Err, IfSome, IfErr, OnOk, ◌⊎◌, inl, inr}
 use Rattle.giop_sig.specs.Table.{Table}
-use Rattle.giop_message.specs.Signatures.{Listed}
+use Rattle.giop_message.specs.Signatures.{RequestTable}
 use Rattle.giop_stream.specs.Checkpoint.{counts_of}
-use Rattle.giop_stream.specs.Holding.{AreOf}
+use Rattle.giop_stream.specs.EngineHolds.{AreOf}
 use Rattle.giop_stream.specs.declared.status.Totals.{Totals}
 use Rattle.giop_run.specs.Console.{Dumped, run_of}
-use Rattle.giop_run.specs.Files.{Folder, Asked, GoesOn, ReadsBy, Refused, NoCheckpoint, NoStream, stream_of, way_by}
+use Rattle.giop_run.specs.Files.{Folder, Asked, GoesOn, ReadsBy, Refused, NoCheckpoint, NoStream, stream_of, setup_by}
 use Rattle.giop_run.specs.Saving.{Saved}
 use Rattle.giop_run.specs.Performing.{Task, Performed, FailedBy, Did, Kept}
 use Rattle.giop_run.specs.declared.running.Report.{Report}
@@ -46,31 +46,31 @@ failed_by t (faults.Checkpoint name why) x y d r u s = record { refused = r refl
 failed_by t (faults.Unreadable name) x y d r u s = record { refused = r refl; unwritten = u refl }
 failed_by t faults.OutOfMemory x y d r u s = record { refused = r refl; unwritten = u refl }
 
-performed : (t : Task) (C : Table) (l : Listed) (r : Result Report RunFault) (x y : _) → AreOf C l → ReadsBy t.held t.asked C l
-    → GoesOn t.held t.asked.resume t.asked.most C l (λ n p. Dumped (way_by C l n t.asked) r p (stream_of t.held t.given t.asked.stream) x y)
+perform_run : (t : Task) (C : Table) (l : RequestTable) (r : Result Report RunFault) (x y : _) → AreOf C l → ReadsBy t.held t.asked C l
+    → GoesOn t.held t.asked.resume t.asked.most C l (λ n p. Dumped (setup_by C l n t.asked) r p (stream_of t.held t.given t.asked.stream) x y)
     → Performed t r x y
-performed t C l r x y of by d = record { table = C; listed = l; of = of; reads = by; dumped = d }
+perform_run t C l r x y of by d = record { table = C; request_table = l; of = of; reads = by; dumped = d }
 
 -- by what the run did with a catalogue and a list, and the save behind it
-pub did_by : (t : Task) (C : Table) (l : Listed) (ran : Result Report ProgramFault) (result : Result Totals ProgramFault)
+pub did_by : (t : Task) (C : Table) (l : RequestTable) (ran : Result Report ProgramFault) (result : Result Totals ProgramFault)
     (x y : _) (a b : Option (List Saved)) → AreOf C l → ReadsBy t.held t.asked C l
     → IfSome (run_of ran) (λ r. GoesOn t.held t.asked.resume t.asked.most C l
-    (λ n p. Dumped (way_by C l n t.asked) r p (stream_of t.held t.given t.asked.stream) x y))
+    (λ n p. Dumped (setup_by C l n t.asked) r p (stream_of t.held t.given t.asked.stream) x y))
     → (run_of ran ≡ None → IfErr ran (λ why. NoCheckpoint t.held t.asked.resume (counts_of C l) why ⊎ NoStream t.asked.stream why))
     → (run_of ran ≡ None → y ≡ x)
     → (run_of ran ≡ Some (Err fault.Failed) → ⊥)
     → Kept t.asked.save ran result a b → Did t result x y a b
 did_by t C l (Ok report) (Ok totals) x y a b of by d r u s k =
-    record { report = report; run = performed t C l (Ok report) x y of by d; totals_are = k.0; saved = k.1 }
+    record { report = report; run = perform_run t C l (Ok report) x y of by d; totals_are = k.0; saved = k.1 }
 did_by t C l (Ok report) (Err why) x y a b of by d r u s k =
-    rw k.1.1 (record { named = k.1.2; report = report; run = performed t C l (Ok report) x y of by d }, k.0)
+    rw k.1.1 (record { named = k.1.2; report = report; run = perform_run t C l (Ok report) x y of by d }, k.0)
 did_by t C l (Err why) result x y a b of by d r u s k =
     rw k.0 (failed_by t why x y (performed_by (run_of (Err why)) d) (λ e. inr (inr (C, l, by, r e))) u s, k.1)
   where
     performed_by : (ran : Option (Result Report RunFault)) → IfSome ran (λ r. GoesOn t.held t.asked.resume t.asked.most C l
-        (λ n p. Dumped (way_by C l n t.asked) r p (stream_of t.held t.given t.asked.stream) x y)) → IfSome ran (λ r. Performed t r x y)
+        (λ n p. Dumped (setup_by C l n t.asked) r p (stream_of t.held t.given t.asked.stream) x y)) → IfSome ran (λ r. Performed t r x y)
     performed_by None d = tt
-    performed_by (Some r) d = performed t C l r x y of by d
+    performed_by (Some r) d = perform_run t C l r x y of by d
 
 -- the last step comes to its end only where the run did
 pub kept_ok : (asked : Option (List ℕ)) (ran : Result Report ProgramFault) (result : Result Totals ProgramFault)

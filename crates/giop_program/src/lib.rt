@@ -5,4 +5,4 @@ mod arguments;
 mod steps;
 
 pub use arguments::Arguments;
-pub use steps::{performed, program};
+pub use steps::{perform_run, program};

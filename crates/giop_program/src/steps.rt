@@ -4,10 +4,10 @@
 ghost use Rattle.std.specs.Prelude.{◌≡◌, ◌≢◌, ◌≤◌, ◌⊎◌, ℕ, List, [], false, None, Some, IfSome, IfOk, IfErr, OnOk, option_map};
 ghost use Rattle.clap.specs.Values.{kind_of};
 ghost use Rattle.giop_stream.specs.Checkpoint.{counts_of};
-ghost use Rattle.giop_stream.specs.Holding.{AreOf, Holds};
-ghost use Rattle.giop_run.specs.Running.{HasKept, way_of};
+ghost use Rattle.giop_stream.specs.EngineHolds.{AreOf, Holds};
+ghost use Rattle.giop_run.specs.Running.{HasKept, setup_of};
 ghost use Rattle.giop_run.specs.Console.{Dumped, exit_status, run_of};
-ghost use Rattle.giop_run.specs.Files.{GoesOn, NoCheckpoint, NoStream, ending_of, stream_of, way_by};
+ghost use Rattle.giop_run.specs.Files.{GoesOn, NoCheckpoint, NoStream, ending_of, stream_of, setup_by};
 ghost use Rattle.giop_run.specs.Performing.{Did, Kept, task_of};
 ghost use Rattle.giop_program.specs.Words.{asked_of};
 
@@ -15,7 +15,7 @@ use super::arguments::Arguments;
 use clap::Error;
 use clap::error::ErrorKind;
 use giop_run::{
-    Disk, Ending, Flush, Inputs, Lines, Patient, ProgramFault, Report, RunFault, Saves, catalogue,
+    Disk, Ending, Flush, Inputs, Lines, ProgramFault, Report, Retrying, RunFault, Saves, catalogue,
     dump, requests, resumed, status, unreadable,
 };
 use giop_sig::{Catalogue, Requests};
@@ -36,29 +36,29 @@ pub fn program(rt: &HostRuntime) -> u8
     let alloc = rt.alloc();
     let words = match env::args(rt) {
         Ok(words) => words,
-        Err(error) => return told(rt, &Err(ProgramFault::of_words(&error))),
+        Err(error) => return report_outcome(rt, &Err(ProgramFault::of_words(&error))),
     };
     let Ok(words) = words.collect::<Vec<String>>(alloc) else {
-        return told(rt, &Err(ProgramFault::OutOfMemory));
+        return report_outcome(rt, &Err(ProgramFault::OutOfMemory));
     };
     match Arguments::read(alloc, words.as_slice()) {
         Err(error) => refused(rt, &error),
-        Ok(asked) => printed(rt, asked),
+        Ok(asked) => print_run(rt, asked),
     }
 }
 
 /// The steps behind the words, with the lines on standard output: the program's status.
-fn printed(rt: &HostRuntime, asked: Arguments) -> u8
+fn print_run(rt: &HostRuntime, asked: Arguments) -> u8
     ensures { result ≤ 5 }
 {
-    let Ok(mut lines) = Lines::new(rt.alloc(), Patient::new(rt.stdout())) else {
-        return told(rt, &Err(ProgramFault::OutOfMemory));
+    let Ok(mut lines) = Lines::new(rt.alloc(), Retrying::new(rt.stdout())) else {
+        return report_outcome(rt, &Err(ProgramFault::OutOfMemory));
     };
-    told(rt, &performed(rt, asked, &mut lines, &mut Disk::new(rt)))
+    report_outcome(rt, &perform_run(rt, asked, &mut lines, &mut Disk::new(rt)))
 }
 
 /// The steps behind the words.
-pub fn performed<'a, R: Inputs + AllocGlobal, O: Flush, F: Saves>(
+pub fn perform_run<'a, R: Inputs + AllocGlobal, O: Flush, F: Saves>(
     rt: &R,
     asked: Arguments<'a>,
     out: &mut O,
@@ -71,12 +71,12 @@ pub fn performed<'a, R: Inputs + AllocGlobal, O: Flush, F: Saves>(
     let save = asked.save;
     let catalogue = catalogue(rt, asked.signatures)?;
     let requests = requests(rt, asked.requests, &catalogue)?;
-    let ran = begun(rt, asked, out, &catalogue, &requests);
+    let ran = begin_run(rt, asked, out, &catalogue, &requests);
     kept(files, save, ran)
 }
 
 /// The steps behind the request list.
-fn begun<'a, 'c, R: Inputs + AllocGlobal, O: Flush>(
+fn begin_run<'a, 'c, R: Inputs + AllocGlobal, O: Flush>(
     rt: &R,
     asked: Arguments<'a>,
     out: &mut O,
@@ -87,7 +87,7 @@ fn begun<'a, 'c, R: Inputs + AllocGlobal, O: Flush>(
     ensures dumped { let asked = asked_of asked.entry in let held = R.held rt.now in
         IfSome (run_of result) (λ ran.
         GoesOn held asked.resume asked.most catalogue.now requests.now (λ n p. Dumped
-        (way_by catalogue.now requests.now n asked) ran p
+        (setup_by catalogue.now requests.now n asked) ran p
         (stream_of held (R.given rt.now) asked.stream) (O.log out.old) (O.log out.new))) }
     ensures refused { let held = R.held rt.now in let asked = asked_of asked.entry in
         run_of result ≡ None → IfErr result (λ fault.
@@ -103,7 +103,7 @@ fn begun<'a, 'c, R: Inputs + AllocGlobal, O: Flush>(
     let ending = ending_for(asked.save);
     match asked.stream {
         None => dumped(rt.standard_input(), out, engine, ending),
-        Some(name) => opened(rt, name, out, engine, ending),
+        Some(name) => open_stream(rt, name, out, engine, ending),
     }
 }
 
@@ -118,7 +118,7 @@ fn ending_for(save: Option<&str>) -> Ending
 }
 
 /// Dumps a file.
-fn opened<'a, 'c, R: Inputs, O: Flush>(
+fn open_stream<'a, 'c, R: Inputs, O: Flush>(
     rt: &R,
     name: &'a str,
     out: &mut O,
@@ -127,7 +127,7 @@ fn opened<'a, 'c, R: Inputs, O: Flush>(
 ) -> Result<Report<'c>, ProgramFault<'a>>
     requires sound { engine.failed ≡ false }
     ensures dumped { IfSome (run_of result) (λ ran. (p : List ℕ) → Holds engine.entry p
-        → Dumped (way_of engine.entry ending) ran p
+        → Dumped (setup_of engine.entry ending) ran p
         (R.held rt.now name.entry.now) (O.log out.old) (O.log out.new)) }
     ensures refused { run_of result ≡ None → IfErr result (NoStream (Some name.entry.now)) }
     ensures unwritten { run_of result ≡ None → O.log out.new ≡ O.log out.old }
@@ -150,7 +150,7 @@ fn dumped<'a, 'c, R: Read + Drop, O: Flush>(
 ) -> Result<Report<'c>, ProgramFault<'a>>
     requires sound { engine.failed ≡ false }
     ensures dumped { IfSome (run_of result) (λ ran. (p : List ℕ) → Holds engine.entry p
-        → Dumped (way_of engine.entry ending) ran p
+        → Dumped (setup_of engine.entry ending) ran p
         (R.remaining reader) (O.log out.old) (O.log out.new)) }
     ensures reached { run_of result ≢ None }
     ensures sound { run_of result ≢ Some (Err RunFault.Failed) }
@@ -185,7 +185,7 @@ fn kept<'a, F: Saves>(
 }
 
 /// Prints why the program came to no end, and answers its status.
-fn told(rt: &HostRuntime, ended: &Result<Totals, ProgramFault>) -> u8
+fn report_outcome(rt: &HostRuntime, ended: &Result<Totals, ProgramFault>) -> u8
     ensures { result ≡ exit_status ended.now }
 {
     if let Err(fault) = ended {
@@ -204,7 +204,7 @@ fn refused(rt: &HostRuntime, error: &Error) -> u8
         → (result ≡ 2) ⊎ (result ≡ 4) }
 {
     if error.kind() == ErrorKind::OutOfMemory {
-        return told(rt, &Err(ProgramFault::OutOfMemory));
+        return report_outcome(rt, &Err(ProgramFault::OutOfMemory));
     }
     match error.print(rt) {
         Err(_) => FAILED,

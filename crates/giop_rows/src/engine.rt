@@ -1,7 +1,7 @@
 //! The engine of a row.
 
 ghost use Rattle.std.specs.Prelude.{IfOk, ◌≡◌, false};
-ghost use Rattle.giop_stream.specs.Holding.{AreOf};
+ghost use Rattle.giop_stream.specs.EngineHolds.{AreOf};
 
 use super::row::Row;
 use giop_sig::{Catalogue, Requests};

@@ -1,6 +1,6 @@
 //! A row, cut in two at each of its octets, and saved and loaded there.
 
-ghost use Rattle.giop_stream.specs.Holding.{AreOf};
+ghost use Rattle.giop_stream.specs.EngineHolds.{AreOf};
 
 use super::engine::engine_for;
 use super::row::Row;

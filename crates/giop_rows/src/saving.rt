@@ -1,6 +1,6 @@
 //! A row, saved and loaded behind each of its octets.
 
-ghost use Rattle.giop_stream.specs.Holding.{AreOf};
+ghost use Rattle.giop_stream.specs.EngineHolds.{AreOf};
 
 use super::checkpoints::{Checkpoints, NO_OCTETS, hashed};
 use super::difference::Difference;

@@ -1,6 +1,6 @@
 //! Each row, dumped in every way.
 
-ghost use Rattle.giop_stream.specs.Holding.{AreOf};
+ghost use Rattle.giop_stream.specs.EngineHolds.{AreOf};
 
 use super::row::{Row, list, octets};
 use super::tally::Tally;

@@ -1,6 +1,6 @@
 //! A row, dumped in every way.
 
-ghost use Rattle.giop_stream.specs.Holding.{AreOf};
+ghost use Rattle.giop_stream.specs.EngineHolds.{AreOf};
 
 use super::difference::{Difference, compare, compare_front};
 use super::early::Early;

@@ -7,7 +7,7 @@ use Rattle.giop_print.specs.Output.{counted}
 use Rattle.giop_cdr.specs.Numbers.{AreOctets}
 use Rattle.giop_run.specs.SourceLog.{SourceLog, Gave, ReadFailed}
 use Rattle.giop_run.specs.Running.{IsEnded}
-use Rattle.giop_run.specs.Turns.{OneRead}
+use Rattle.giop_run.specs.RunSteps.{OneRead}
 
 pub consumes-same : (x : Option (List ℕ)) → Consumes x x []
 consumes-same None = tt

@@ -5,9 +5,9 @@ use Rattle.giop_checkpoint.specs.declared.fault.LoadFault.{LoadFault}
 use Rattle.giop_checkpoint.specs.declared.fault.LoadFault.TheVariants as refusals
 use Rattle.giop_checkpoint.specs.Refusals.{IsOurs}
 use Rattle.giop_sig.specs.Table.{Table}
-use Rattle.giop_message.specs.Signatures.{Listed}
-use Rattle.giop_stream.specs.Remembering.{EngineMemory}
-use Rattle.giop_stream.specs.Holding.{Holds}
+use Rattle.giop_message.specs.Signatures.{RequestTable}
+use Rattle.giop_stream.specs.EngineView.{EngineView}
+use Rattle.giop_stream.specs.EngineHolds.{Holds}
 use Rattle.giop_stream.specs.Checkpoint.{counts_of, IsRefused, Spells}
 use Rattle.giop_run.specs.Files.{Folder, GoesOn, IsFront, NoCheckpoint, checkpoint_most}
 use Rattle.giop_run.specs.declared.fault.ProgramFault.{ProgramFault}
@@ -33,7 +33,7 @@ not_resumed (Err why) held name counts octets front (refusals.State, memory, is,
     rw (is (λ e. cc)) (refl, (octets, front, refused))
 
 -- and those of a file that aren't: the engine holds what they are a checkpoint of
-pub is_resumed : {E : Type 0} (r : Result EngineMemory E) (held : Folder) (name : Bor (List ℕ)) (most : ℕ) (C : Table) (l : Listed)
+pub is_resumed : {E : Type 0} (r : Result EngineView E) (held : Folder) (name : Bor (List ℕ)) (most : ℕ) (C : Table) (l : RequestTable)
     (octets : List ℕ) → IsFront checkpoint_most (held name.now) octets
     → IfOk r (λ e. (n : ℕ) (p : List ℕ) → Spells octets C l n p → (e.most ≡ n) × Holds e p)
     → IfOk r (λ e. IsOurs (counts_of C l) octets)

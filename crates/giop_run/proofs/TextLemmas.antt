@@ -5,14 +5,14 @@ use Rattle.giop_print.specs.Output.{OutLog, Wrote}
 use Rattle.giop_stream.specs.Rules.{Rules}
 use Rattle.giop_stream.specs.Framing.{cut, fault_of}
 use Rattle.giop_stream.specs.Stream.{text}
-use Rattle.giop_stream.specs.Holding.{added, status_of, rules_of}
+use Rattle.giop_stream.specs.EngineHolds.{added, status_of, rules_of}
 use Rattle.giop_checkpoint.specs.declared.fault.StreamFault.{StreamFault}
 use Rattle.giop_stream.specs.declared.status.Status.TheVariants.{Running, Stopped}
-use Rattle.giop_stream.specs.Remembering.{EngineMemory}
+use Rattle.giop_stream.specs.EngineView.{EngineView}
 use Rattle.giop_stream.proofs.StreamLaws.{added_both}
 use Rattle.giop_print.proofs.Writing.{wrote-nil}
 use Rattle.giop_run.specs.Running.{IsStopped}
-use Rattle.giop_run.specs.Turns.{IsRunning}
+use Rattle.giop_run.specs.RunSteps.{IsRunning}
 
 pub added-nil : (R : Rules) (p : List ℕ) → added R p [] ≡ []
 unfolding added
@@ -22,8 +22,8 @@ added-nil R p = rw append-nil (drop-length (text R p))
 abbrev pub AddsUp : Rules → Type 0
 AddsUp R = (p s t : List ℕ) → added R p (s ++ t) ≡ added R p s ++ added R (p ++ s) t
 
-pub adds_up : (e : EngineMemory) → AddsUp (rules_of e)
-adds_up e p s t = added_both e.table e.listed e.most p s t
+pub adds_up : (e : EngineView) → AddsUp (rules_of e)
+adds_up e p s t = added_both e.table e.request_table e.most p s t
 
 -- nothing is due where nothing was read
 pub wrote-none : (R : Rules) (a : OutLog) (p : List ℕ) → Wrote a a (added R p [])

@@ -4,15 +4,15 @@ use Rattle.std.proofs.lemmas.List.Elements.{All-nil, All-append}
 use Rattle.giop_print.specs.Output.{OutLog, counted}
 use Rattle.giop_stream.specs.Rules.{Rules}
 use Rattle.giop_stream.specs.Stream.{closing}
-use Rattle.giop_stream.specs.Engine.{state_of}
-use Rattle.giop_stream.specs.Holding.{added, Holds, rules_of}
-use Rattle.giop_stream.specs.Remembering.{EngineMemory}
+use Rattle.giop_stream.specs.EngineState.{state_of}
+use Rattle.giop_stream.specs.EngineHolds.{added, Holds, rules_of}
+use Rattle.giop_stream.specs.EngineView.{EngineView}
 use Rattle.giop_print.proofs.Writing.{wrote-append, wrote-front, front-append, wrote-nil}
 use Rattle.giop_run.specs.SourceLog.{SourceLog}
-use Rattle.giop_run.specs.Running.{Given, IsOver, ReadsSpent, Ran, Way, way_of, reads_by, end_text}
+use Rattle.giop_run.specs.Running.{Given, IsOver, ReadsSpent, Ran, RunSetup, setup_of, reads_by, end_text}
 use Rattle.giop_run.specs.Console.{Dumped}
 use Rattle.giop_run.specs.Flushing.{Flushed, FlushFailed}
-use Rattle.giop_run.specs.Turns.{Took, Fed, OneRead, Turned, Completed, Closed, Going}
+use Rattle.giop_run.specs.RunSteps.{HasFed, Fed, OneRead, HasReadAndFed, Completed, Closed, Going}
 use Rattle.giop_stream.specs.declared.status.Totals.{Totals}
 use Rattle.giop_run.specs.declared.running.Ending.TheVariants as endings
 use Rattle.giop_run.specs.declared.running.Report.{Report}
@@ -25,7 +25,7 @@ use Rattle.giop_run.proofs.ReadLemmas.{consumes-same, consumes-append}
 -- one turn
 
 -- a read of some octets, and their feed
-pub turned_on : (R : Rules) (r : Result Bool RunFault) (p s : List ℕ) (e : EngineMemory) (a b : SourceLog) (x y : OutLog) → OneRead s a b → b.failures ≡ a.failures → b.ends ≡ a.ends → Fed R r p s e x y → Turned R r p s e a b x y
+pub turned_on : (R : Rules) (r : Result Bool RunFault) (p s : List ℕ) (e : EngineView) (a b : SourceLog) (x y : OutLog) → OneRead s a b → b.failures ≡ a.failures → b.ends ≡ a.ends → Fed R r p s e x y → HasReadAndFed R r p s e a b x y
 turned_on R (Ok true) p s e a b x y n k l f = (n, k, l, f.0, f.1)
 turned_on R (Ok false) p s e a b x y n k l f = (n, k, inr f.1, f.0)
 turned_on R (Err fault.Out) p s e a b x y n k l f = (n, k, f)
@@ -34,21 +34,21 @@ turned_on R (Err fault.Turns) p s e a b x y n k l f = absurd f
 turned_on R (Err fault.Failed) p s e a b x y n k l f = absurd f
 
 -- an engine that reads messages by R did this by R
-turned_by : (Q R : Rules) (r : Result Bool RunFault) (p s : List ℕ) (e : EngineMemory) (a b : SourceLog) (x y : OutLog) → Q ≡ R → Turned Q r p s e a b x y → Turned R r p s e a b x y
-turned_by Q R r p s e a b x y q t = subst (λ z. Turned z r p s e a b x y) q t
+turned_by : (Q R : Rules) (r : Result Bool RunFault) (p s : List ℕ) (e : EngineView) (a b : SourceLog) (x y : OutLog) → Q ≡ R → HasReadAndFed Q r p s e a b x y → HasReadAndFed R r p s e a b x y
+turned_by Q R r p s e a b x y q t = subst (λ z. HasReadAndFed z r p s e a b x y) q t
 
 -- an engine that reads by what a run reads by closed it
-closed_by : (w : Way) (d : EngineMemory) (r : Result Report RunFault) (p : List ℕ) (x y : OutLog) → (d.table ≡ w.table) × (d.listed ≡ w.listed) × (d.most ≡ w.most) → Closed (way_of d w.ending) r p x y → Closed w r p x y
+closed_by : (w : RunSetup) (d : EngineView) (r : Result Report RunFault) (p : List ℕ) (x y : OutLog) → (d.table ≡ w.table) × (d.request_table ≡ w.request_table) × (d.most ≡ w.most) → Closed (setup_of d w.ending) r p x y → Closed w r p x y
 closed_by w d r p x y (t, l, n) q = rw (t, l, n) at q
 
 -- nothing was read
-pub took-none : (R : Rules) (p : List ℕ) (e : EngineMemory) (x : OutLog) → rules_of e ≡ R → Holds e p → Took R p [] e x x
+pub took-none : (R : Rules) (p : List ℕ) (e : EngineView) (x : OutLog) → rules_of e ≡ R → Holds e p → HasFed R p [] e x x
 took-none R p e x r h = record { reads = r; holds = rw append-nil h; written = wrote-none R x p }
 
 -- a flush
 
 -- what was written stays written
-pub going_flushed : (R : Rules) (p s : List ℕ) (e : EngineMemory) (k : ℕ) (a b : SourceLog) (x y z : OutLog) (kept : List ℕ) → Going R p s e k a b x y → Flushed y z kept → Going R p s e k a b x z
+pub going_flushed : (R : Rules) (p s : List ℕ) (e : EngineView) (k : ℕ) (a b : SourceLog) (x y z : OutLog) (kept : List ℕ) → Going R p s e k a b x y → Flushed y z kept → Going R p s e k a b x z
 going_flushed R p s e k a b x y z kept g f =
     record {
       began = g.began;
@@ -63,29 +63,29 @@ going_flushed R p s e k a b x y z kept g f =
     }
 
 -- the finish of a stream, where it or the flush may fail
-pub closed_flushed : (e : EngineMemory) (t : Totals) (p : List ℕ) (x y z : OutLog) (kept : List ℕ)
-    → Completed (rules_of e) (Ok t) p x y → Flushed y z kept → Closed (way_of e endings.Finish) (Ok (record { totals = t; kept = None })) p x z
+pub closed_flushed : (e : EngineView) (t : Totals) (p : List ℕ) (x y z : OutLog) (kept : List ℕ)
+    → Completed (rules_of e) (Ok t) p x y → Flushed y z kept → Closed (setup_of e endings.Finish) (Ok (record { totals = t; kept = None })) p x z
 closed_flushed e t p x y z kept (w, f) q =
     record {
       written = wrote_flushed x y z (closing (rules_of e) p) kept w q;
       ended = record { totals = f; kept = refl };
     }
 
-pub closed_cut : (e : EngineMemory) (t : Totals) (p : List ℕ) (x y z : OutLog)
-    → Completed (rules_of e) (Ok t) p x y → FlushFailed y z → Closed (way_of e endings.Finish) (Err fault.Out) p x z
+pub closed_cut : (e : EngineView) (t : Totals) (p : List ℕ) (x y z : OutLog)
+    → Completed (rules_of e) (Ok t) p x y → FlushFailed y z → Closed (setup_of e endings.Finish) (Err fault.Out) p x z
 closed_cut e t p x y z (w, f) q =
     rw append-nil at (wrote-front x y z (closing (rules_of e) p) [] w (flush_front y z [] q))
 
-pub closed_unfinished : (e : EngineMemory) (r : RunFault) (p : List ℕ) (x y : OutLog)
-    → Completed (rules_of e) (Err r) p x y → Closed (way_of e endings.Finish) (Err r) p x y
+pub closed_unfinished : (e : EngineView) (r : RunFault) (p : List ℕ) (x y : OutLog)
+    → Completed (rules_of e) (Err r) p x y → Closed (setup_of e endings.Finish) (Err r) p x y
 closed_unfinished e fault.Out p x y f = f
 closed_unfinished e fault.Read p x y f = absurd f
 closed_unfinished e fault.Turns p x y f = absurd f
 closed_unfinished e fault.Failed p x y f = absurd f
 
 -- an engine that is kept, where its flush may fail
-pub closed_kept : (e : EngineMemory) (p : List ℕ) (x y : OutLog) (kept : List ℕ) → Holds e p → Flushed x y kept
-    → Closed (way_of e endings.Keep) (Ok (record { totals = e.stream.totals; kept = Some e })) p x y
+pub closed_kept : (e : EngineView) (p : List ℕ) (x y : OutLog) (kept : List ℕ) → Holds e p → Flushed x y kept
+    → Closed (setup_of e endings.Keep) (Ok (record { totals = e.stream.totals; kept = Some e })) p x y
 unfolding state_of
 closed_kept e p x y kept h f =
     record {
@@ -93,7 +93,7 @@ closed_kept e p x y kept h f =
       ended = record { totals = h.shows.totals; engine = e; kept = refl; holds = h; same = refl };
     }
 
-pub closed_unkept : (e : EngineMemory) (p : List ℕ) (x y : OutLog) → FlushFailed x y → Closed (way_of e endings.Keep) (Err fault.Out) p x y
+pub closed_unkept : (e : EngineView) (p : List ℕ) (x y : OutLog) → FlushFailed x y → Closed (setup_of e endings.Keep) (Err fault.Out) p x y
 closed_unkept e p x y f = flush_front x y [] f
 
 -- all turns
@@ -114,7 +114,7 @@ given_none p a =
       };
     }
 
-given_more : (R : Rules) (p s t : List ℕ) (e : EngineMemory) (k : ℕ) (a b c : SourceLog) (x y : OutLog) → Going R p s e k a b x y → OneRead t b c → k < 2 ^ 40 → Given p (s ++ t) a c
+given_more : (R : Rules) (p s t : List ℕ) (e : EngineView) (k : ℕ) (a b c : SourceLog) (x y : OutLog) → Going R p s e k a b x y → OneRead t b c → k < 2 ^ 40 → Given p (s ++ t) a c
 unfolding counted
 given_more R p s t e k a b c x y g u h =
     record {
@@ -131,7 +131,7 @@ given_more R p s t e k a b c x y g u h =
       };
     }
 
-pub going_start : (R : Rules) (p : List ℕ) (e : EngineMemory) (a : SourceLog) (x y : OutLog) → Fed R (Ok true) p [] e x y → Going R p [] e 0 a a x y
+pub going_start : (R : Rules) (p : List ℕ) (e : EngineView) (a : SourceLog) (x y : OutLog) → Fed R (Ok true) p [] e x y → Going R p [] e 0 a a x y
 going_start R p e a x y f =
     record {
       began = rw append-nil at f.1;
@@ -145,7 +145,7 @@ going_start R p e a x y f =
       ends = refl;
     }
 
-going_on : (R : Rules) → AddsUp R → (p s t : List ℕ) (e d : EngineMemory) (k : ℕ) (a b c : SourceLog) (x y z : OutLog) → Going R p s e k a b x y → Turned R (Ok true) (p ++ s) t d b c y z → Going R p (s ++ t) d (k + 1) a c x z
+going_on : (R : Rules) → AddsUp R → (p s t : List ℕ) (e d : EngineView) (k : ℕ) (a b c : SourceLog) (x y z : OutLog) → Going R p s e k a b x y → HasReadAndFed R (Ok true) (p ++ s) t d b c y z → Going R p (s ++ t) d (k + 1) a c x z
 unfolding counted
 going_on R adds p s t e d k a b c x y z g (u, failures, ends, took, running) =
     record {
@@ -164,14 +164,14 @@ going_on R adds p s t e d k a b c x y z g (u, failures, ends, took, running) =
       ends = ends ∙ g.ends;
     }
 
-pub going_more : (R : Rules) → AddsUp R → (p s t : List ℕ) (e d : EngineMemory) (k : ℕ) (a b c : SourceLog) (x y z : OutLog) → Going R p s e k a b x y → Turned (rules_of e) (Ok true) (p ++ s) t d b c y z → Going R p (s ++ t) d (k + 1) a c x z
+pub going_more : (R : Rules) → AddsUp R → (p s t : List ℕ) (e d : EngineView) (k : ℕ) (a b c : SourceLog) (x y z : OutLog) → Going R p s e k a b x y → HasReadAndFed (rules_of e) (Ok true) (p ++ s) t d b c y z → Going R p (s ++ t) d (k + 1) a c x z
 going_more R adds p s t e d k a b c x y z g u =
     going_on R adds p s t e d k a b c x y z g (turned_by (rules_of e) R (Ok true) (p ++ s) t d b c y z g.took.reads u)
 
 -- the last turn
 
 -- a turn failed
-failed_on : (w : Way) → AddsUp (reads_by w) → (r : RunFault) (p s t : List ℕ) (e d : EngineMemory) (k : ℕ) (a b c : SourceLog) (x y z : OutLog) → Going (reads_by w) p s e k a b x y → Turned (reads_by w) (Err r) (p ++ s) t d b c y z → k < 2 ^ 40 → Ran w (Err r) p (s ++ t) a c x z
+failed_on : (w : RunSetup) → AddsUp (reads_by w) → (r : RunFault) (p s t : List ℕ) (e d : EngineView) (k : ℕ) (a b c : SourceLog) (x y z : OutLog) → Going (reads_by w) p s e k a b x y → HasReadAndFed (reads_by w) (Err r) (p ++ s) t d b c y z → k < 2 ^ 40 → Ran w (Err r) p (s ++ t) a c x z
 failed_on w adds fault.Read p s t e d k a b c x y z g (u, failures, written) h =
     record {
       given = given_more (reads_by w) p s t e k a b c x y g u h;
@@ -187,12 +187,12 @@ failed_on w adds fault.Out p s t e d k a b c x y z g (u, failures, front) h =
 failed_on w adds fault.Turns p s t e d k a b c x y z g u h = absurd u
 failed_on w adds fault.Failed p s t e d k a b c x y z g u h = absurd u
 
-pub ran_err : (w : Way) → AddsUp (reads_by w) → (r : RunFault) (p s t : List ℕ) (e d : EngineMemory) (k : ℕ) (a b c : SourceLog) (x y z : OutLog) → Going (reads_by w) p s e k a b x y → Turned (rules_of e) (Err r) (p ++ s) t d b c y z → k < 2 ^ 40 → Ran w (Err r) p (s ++ t) a c x z
+pub ran_err : (w : RunSetup) → AddsUp (reads_by w) → (r : RunFault) (p s t : List ℕ) (e d : EngineView) (k : ℕ) (a b c : SourceLog) (x y z : OutLog) → Going (reads_by w) p s e k a b x y → HasReadAndFed (rules_of e) (Err r) (p ++ s) t d b c y z → k < 2 ^ 40 → Ran w (Err r) p (s ++ t) a c x z
 ran_err w adds r p s t e d k a b c x y z g u h =
     failed_on w adds r p s t e d k a b c x y z g (turned_by (rules_of e) (reads_by w) (Err r) (p ++ s) t d b c y z g.took.reads u) h
 
 -- the source gave what went in
-given_all : (R : Rules) (p s : List ℕ) (e : EngineMemory) (k : ℕ) (a b : SourceLog) (x y : OutLog) → Going R p s e k a b x y → k ≤ 2 ^ 40 → Given p s a b
+given_all : (R : Rules) (p s : List ℕ) (e : EngineView) (k : ℕ) (a b : SourceLog) (x y : OutLog) → Going R p s e k a b x y → k ≤ 2 ^ 40 → Given p s a b
 given_all R p s e k a b x y g h =
     record {
       left = g.left;
@@ -209,7 +209,7 @@ given_all R p s e k a b x y g h =
     }
 
 -- no turn is left
-pub ran_turns : (R : Rules) (p s : List ℕ) (e : EngineMemory) (k : ℕ) (a b : SourceLog) (x y : OutLog) → Going R p s e k a b x y → k ≡ 2 ^ 40 → ReadsSpent R p s a b x y
+pub ran_turns : (R : Rules) (p s : List ℕ) (e : EngineView) (k : ℕ) (a b : SourceLog) (x y : OutLog) → Going R p s e k a b x y → k ≡ 2 ^ 40 → ReadsSpent R p s a b x y
 ran_turns R p s e k a b x y g h =
     record {
       given = given_all R p s e k a b x y g (omega arith);
@@ -221,7 +221,7 @@ ran_turns R p s e k a b x y g h =
     }
 
 -- the flush before a turn failed
-pub ran_flush : (w : Way) (p s : List ℕ) (e : EngineMemory) (k : ℕ) (a b : SourceLog) (x y z : OutLog) → Going (reads_by w) p s e k a b x y → FlushFailed y z → k ≤ 2 ^ 40 → Ran w (Err fault.Out) p s a b x z
+pub ran_flush : (w : RunSetup) (p s : List ℕ) (e : EngineView) (k : ℕ) (a b : SourceLog) (x y z : OutLog) → Going (reads_by w) p s e k a b x y → FlushFailed y z → k ≤ 2 ^ 40 → Ran w (Err fault.Out) p s a b x z
 ran_flush w p s e k a b x y z g f h =
     record {
       given = given_all (reads_by w) p s e k a b x y g h;
@@ -234,7 +234,7 @@ over_more p s t a b c e (inl q) = inl (record { answered = q.answered ∙ ap cou
 over_more p s t a b c e (inr q) = inr (rw append_assoc at q)
 
 -- the stream is over after a turn
-over_on : (w : Way) → AddsUp (reads_by w) → (r : Result Report RunFault) (p s t : List ℕ) (e d : EngineMemory) (k : ℕ) (a b c : SourceLog) (x y z o : OutLog) → Going (reads_by w) p s e k a b x y → Turned (reads_by w) (Ok false) (p ++ s) t d b c y z → k < 2 ^ 40
+over_on : (w : RunSetup) → AddsUp (reads_by w) → (r : Result Report RunFault) (p s t : List ℕ) (e d : EngineView) (k : ℕ) (a b c : SourceLog) (x y z o : OutLog) → Going (reads_by w) p s e k a b x y → HasReadAndFed (reads_by w) (Ok false) (p ++ s) t d b c y z → k < 2 ^ 40
     → Closed w r ((p ++ s) ++ t) z o → Ran w r p (s ++ t) a c x o
 over_on w adds (Ok v) p s t e d k a b c x y z o g (u, failures, over, took) h q =
     let all = wrote-append x y z (added (reads_by w) p s) (added (reads_by w) (p ++ s) t) g.took.written took.written in
@@ -258,14 +258,14 @@ over_on w adds (Err fault.Read) p s t e d k a b c x y z o g u h q = absurd q
 over_on w adds (Err fault.Turns) p s t e d k a b c x y z o g u h q = absurd q
 over_on w adds (Err fault.Failed) p s t e d k a b c x y z o g u h q = absurd q
 
-pub ran_over : (w : Way) → AddsUp (reads_by w) → (r : Result Report RunFault) (p s t : List ℕ) (e d : EngineMemory) (k : ℕ) (a b c : SourceLog) (x y z o : OutLog) → Going (reads_by w) p s e k a b x y → Turned (rules_of e) (Ok false) (p ++ s) t d b c y z → k < 2 ^ 40
-    → (d.table ≡ w.table) × (d.listed ≡ w.listed) × (d.most ≡ w.most) → Closed (way_of d w.ending) r ((p ++ s) ++ t) z o → Ran w r p (s ++ t) a c x o
+pub ran_over : (w : RunSetup) → AddsUp (reads_by w) → (r : Result Report RunFault) (p s t : List ℕ) (e d : EngineView) (k : ℕ) (a b c : SourceLog) (x y z o : OutLog) → Going (reads_by w) p s e k a b x y → HasReadAndFed (rules_of e) (Ok false) (p ++ s) t d b c y z → k < 2 ^ 40
+    → (d.table ≡ w.table) × (d.request_table ≡ w.request_table) × (d.most ≡ w.most) → Closed (setup_of d w.ending) r ((p ++ s) ++ t) z o → Ran w r p (s ++ t) a c x o
 ran_over w adds r p s t e d k a b c x y z o g u h same q =
     let v = turned_by (rules_of e) (reads_by w) (Ok false) (p ++ s) t d b c y z g.took.reads u in
     over_on w adds r p s t e d k a b c x y z o g v h (closed_by w d r ((p ++ s) ++ t) z o same q)
 
 -- the stream was over before the first read
-stopped_on : (w : Way) (r : Result Report RunFault) (p : List ℕ) (e : EngineMemory) (a : SourceLog) (x y z : OutLog) → Fed (reads_by w) (Ok false) p [] e x y → Closed w r (p ++ []) y z → Ran w r p [] a a x z
+stopped_on : (w : RunSetup) (r : Result Report RunFault) (p : List ℕ) (e : EngineView) (a : SourceLog) (x y z : OutLog) → Fed (reads_by w) (Ok false) p [] e x y → Closed w r (p ++ []) y z → Ran w r p [] a a x z
 stopped_on w (Ok v) p e a x y z f q =
     record {
       given = given_none p a;
@@ -280,11 +280,11 @@ stopped_on w (Err fault.Read) p e a x y z f q = absurd q
 stopped_on w (Err fault.Turns) p e a x y z f q = absurd q
 stopped_on w (Err fault.Failed) p e a x y z f q = absurd q
 
-pub ran_stopped : (w : Way) (r : Result Report RunFault) (p : List ℕ) (e : EngineMemory) (a : SourceLog) (x y z : OutLog) → Fed (reads_by w) (Ok false) p [] e x y → (e.table ≡ w.table) × (e.listed ≡ w.listed) × (e.most ≡ w.most) → Closed (way_of e w.ending) r (p ++ []) y z → Ran w r p [] a a x z
+pub ran_stopped : (w : RunSetup) (r : Result Report RunFault) (p : List ℕ) (e : EngineView) (a : SourceLog) (x y z : OutLog) → Fed (reads_by w) (Ok false) p [] e x y → (e.table ≡ w.table) × (e.request_table ≡ w.request_table) × (e.most ≡ w.most) → Closed (setup_of e w.ending) r (p ++ []) y z → Ran w r p [] a a x z
 ran_stopped w r p e a x y z f same q = stopped_on w r p e a x y z f (closed_by w e r (p ++ []) y z same q)
 
 -- the empty piece failed
-pub ran_first : (w : Way) (r : RunFault) (p : List ℕ) (e : EngineMemory) (a : SourceLog) (x y : OutLog) → Fed (reads_by w) (Err r) p [] e x y → Ran w (Err r) p [] a a x y
+pub ran_first : (w : RunSetup) (r : RunFault) (p : List ℕ) (e : EngineView) (a : SourceLog) (x y : OutLog) → Fed (reads_by w) (Err r) p [] e x y → Ran w (Err r) p [] a a x y
 ran_first w fault.Out p e a x y f =
     record { given = given_none p a; failures = refl; written = front-append x y (added (reads_by w) p []) (end_text w.ending (reads_by w) (p ++ [])) f }
 ran_first w fault.Read p e a x y f = absurd f
@@ -292,5 +292,5 @@ ran_first w fault.Turns p e a x y f = absurd f
 ran_first w fault.Failed p e a x y f = absurd f
 
 -- a run, by what the source tells that it has left
-pub dumped_by : (w : Way) (r : Result Report RunFault) (p s : List ℕ) (a b : SourceLog) (x y : OutLog) (told : Option (List ℕ)) → a.left ≡ told → Ran w r p s a b x y → Dumped w r p told x y
+pub dumped_by : (w : RunSetup) (r : Result Report RunFault) (p s : List ℕ) (a b : SourceLog) (x y : OutLog) (told : Option (List ℕ)) → a.left ≡ told → Ran w r p s a b x y → Dumped w r p told x y
 dumped_by w r p s a b x y told l ran = record { octets = s; before = a; after = b; reader = l; did = ran }

@@ -3,14 +3,14 @@ use Rattle.std.specs.Prelude.{◌≡◌, ℕ, ◌==◌, List, Option, Some, None
 use Rattle.giop_print.specs.Output.{OutLog}
 use Rattle.giop_stream.specs.declared.status.Totals.{Totals}
 use Rattle.giop_run.specs.SourceLog.{SourceLog}
-use Rattle.giop_run.specs.Running.{Way, Ran}
+use Rattle.giop_run.specs.Running.{RunSetup, Ran}
 use Rattle.giop_run.specs.declared.running.Report.{Report}
 use Rattle.giop_run.specs.declared.fault.RunFault.{RunFault}
 use Rattle.giop_run.specs.declared.fault.ProgramFault.{ProgramFault}
 use Rattle.giop_run.specs.declared.fault.ProgramFault.TheVariants as faults
 
 -- a run of an engine that held p did this with a reader, where that tells its octets, and an out
-pub record Dumped (w : Way) (ran : Result Report RunFault) (p : List ℕ) (told : Option (List ℕ)) (x y : OutLog) : Type 0 where
+pub record Dumped (w : RunSetup) (ran : Result Report RunFault) (p : List ℕ) (told : Option (List ℕ)) (x y : OutLog) : Type 0 where
   pub octets : List ℕ
   pub before : SourceLog
   pub after : SourceLog

@@ -9,11 +9,11 @@ use Rattle.giop_sig.specs.Table.{Table, operation_number}
 use Rattle.giop_sig.specs.FileReading.{text_too_long, IsFirstRefusal}
 use Rattle.giop_sig.specs.Validity.{IsValid, Spells as Declared}
 use Rattle.giop_sig.specs.RequestList.{Entry, Lists, IsOf, IsRefusedAs}
-use Rattle.giop_message.specs.Signatures.{Listed}
+use Rattle.giop_message.specs.Signatures.{RequestTable}
 use Rattle.giop_checkpoint.specs.declared.fixed.Counts.{Counts}
 use Rattle.giop_checkpoint.specs.Refusals.{IsOurs}
 use Rattle.giop_stream.specs.Checkpoint.{counts_of, IsRefused, Spells}
-use Rattle.giop_run.specs.Running.{Way}
+use Rattle.giop_run.specs.Running.{RunSetup}
 use Rattle.giop_run.specs.declared.running.Ending.{Ending}
 use Rattle.giop_run.specs.declared.running.Ending.TheVariants as endings
 use Rattle.giop_run.specs.declared.fault.ProgramFault.{ProgramFault}
@@ -45,7 +45,7 @@ pub record Declares (text : List ℕ) (C : Table) : Type 0 where
   pub is : C ≡ table file
 
 -- a text is a list of requests, of which this is kept by the operations of a catalogue
-pub record Requests (text : List ℕ) (C : Table) (kept : Listed) : Type 0 where
+pub record Requests (text : List ℕ) (C : Table) (kept : RequestTable) : Type 0 where
   pub entries : List Entry
   pub lists : Lists text entries
   pub is : IsOf (operation_number C) entries kept
@@ -57,14 +57,14 @@ CatalogueOf held (Some name) C =
     (text : List ℕ) × IsFront signatures_most (held name) text × Declares text C
 
 -- the list of the request file, or without one no request
-abbrev pub RequestsOf : Folder → Option (List ℕ) → Table → Listed → Type 0
+abbrev pub RequestsOf : Folder → Option (List ℕ) → Table → RequestTable → Type 0
 RequestsOf held None C kept = kept ≡ []
 RequestsOf held (Some name) C kept =
     (text : List ℕ) × IsFront requests_most (held name) text × Requests text C kept
 
 -- Of each stream that the octets of the checkpoint's file are a checkpoint of, and of how many messages may be open in it,
 -- this is so; without a file of no octets, and of as many as are asked for.
-abbrev pub GoesOn : Folder → Option (List ℕ) → ℕ → Table → Listed → (ℕ → List ℕ → Type 0) → Type 0
+abbrev pub GoesOn : Folder → Option (List ℕ) → ℕ → Table → RequestTable → (ℕ → List ℕ → Type 0) → Type 0
 GoesOn held None most C kept Is = Is most []
 GoesOn held (Some name) most C kept Is =
     (octets : List ℕ) × IsFront checkpoint_most (held name) octets
@@ -145,12 +145,12 @@ ending_of None = endings.Finish
 ending_of (Some name) = endings.Keep
 
 -- what it reads by, where so many messages may be open, and how it ends
-abbrev pub way_by : Table → Listed → ℕ → Asked → Way
-way_by C kept n asked =
-    record { table = C; listed = kept; most = n; ending = ending_of asked.save }
+abbrev pub setup_by : Table → RequestTable → ℕ → Asked → RunSetup
+setup_by C kept n asked =
+    record { table = C; request_table = kept; most = n; ending = ending_of asked.save }
 
 -- what a run reads by: the catalogue and the list of the files
-pub record ReadsBy (held : Folder) (asked : Asked) (C : Table) (kept : Listed) : Type 0 where
+pub record ReadsBy (held : Folder) (asked : Asked) (C : Table) (kept : RequestTable) : Type 0 where
   pub catalogue : CatalogueOf held asked.signatures C
   pub requests : RequestsOf held asked.requests C kept
 
@@ -159,5 +159,5 @@ abbrev pub Refused : Folder → Asked → ProgramFault → Type 0
 Refused held asked fault =
     NoCatalogue held asked.signatures fault
     ⊎ ((C : Table) × CatalogueOf held asked.signatures C × NoRequests held asked.requests fault)
-    ⊎ ((C : Table) × (kept : Listed) × ReadsBy held asked C kept
+    ⊎ ((C : Table) × (kept : RequestTable) × ReadsBy held asked C kept
     × (NoCheckpoint held asked.resume (counts_of C kept) fault ⊎ NoStream asked.stream fault))

@@ -1,11 +1,11 @@
 pub mod SourceLog
 pub mod Flushing
 pub mod Piecewise
-pub mod Reading
-pub mod Patience
+pub mod ReaderLog
+pub mod Retrying
 pub mod Buffered
 pub mod Running
-pub mod Turns
+pub mod RunSteps
 pub mod Console
 pub mod Files
 pub mod Saving

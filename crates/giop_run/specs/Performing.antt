@@ -2,12 +2,12 @@
 use Rattle.std.specs.Prelude.{◌≡◌, ℕ, List, Option, None, Some, Result, Ok, Err}
 use Rattle.giop_print.specs.Output.{OutLog}
 use Rattle.giop_sig.specs.Table.{Table}
-use Rattle.giop_message.specs.Signatures.{Listed}
-use Rattle.giop_stream.specs.Holding.{AreOf}
-use Rattle.giop_stream.specs.Remembering.{EngineMemory}
+use Rattle.giop_message.specs.Signatures.{RequestTable}
+use Rattle.giop_stream.specs.EngineHolds.{AreOf}
+use Rattle.giop_stream.specs.EngineView.{EngineView}
 use Rattle.giop_stream.specs.declared.status.Totals.{Totals}
 use Rattle.giop_run.specs.Console.{Dumped}
-use Rattle.giop_run.specs.Files.{Folder, Asked, GoesOn, ReadsBy, Refused, stream_of, way_by}
+use Rattle.giop_run.specs.Files.{Folder, Asked, GoesOn, ReadsBy, Refused, stream_of, setup_by}
 use Rattle.giop_run.specs.Saving.{Saved, SavedMore}
 use Rattle.giop_run.specs.declared.running.Report.{Report}
 use Rattle.giop_run.specs.declared.fault.RunFault.{RunFault}
@@ -27,15 +27,15 @@ task_of held given asked = record { held = held; given = given; asked = asked }
 -- A run read what the words name: the stream, by the catalogue and the list of the files, from the checkpoint on.
 pub record Performed (t : Task) (ran : Result Report RunFault) (x y : OutLog) : Type 0 where
   pub table : Table
-  pub listed : Listed
-  pub of : AreOf table listed
-  pub reads : ReadsBy t.held t.asked table listed
-  pub dumped : GoesOn t.held t.asked.resume t.asked.most table listed (λ n p. Dumped
-      (way_by table listed n t.asked) ran p
+  pub request_table : RequestTable
+  pub of : AreOf table request_table
+  pub reads : ReadsBy t.held t.asked table request_table
+  pub dumped : GoesOn t.held t.asked.resume t.asked.most table request_table (λ n p. Dumped
+      (setup_by table request_table n t.asked) ran p
       (stream_of t.held t.given t.asked.stream) x y)
 
 -- the checkpoint of the engine that was kept is saved in the file that was asked for, or nothing is
-abbrev pub SavedIn : Option (List ℕ) → Option EngineMemory → Option (List Saved)
+abbrev pub SavedIn : Option (List ℕ) → Option EngineView → Option (List Saved)
     → Option (List Saved) → Type 0
 SavedIn None kept a b = b ≡ a
 SavedIn (Some name) None a b = ⊥

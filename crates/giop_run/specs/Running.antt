@@ -4,12 +4,12 @@ use Rattle.std.specs.Io.KnownBytes.{Consumes, IsAtEnd}
 use Rattle.giop_cdr.specs.Numbers.{AreOctets}
 use Rattle.giop_print.specs.Output.{OutLog, counted, Wrote, WroteFront}
 use Rattle.giop_sig.specs.Table.{Table}
-use Rattle.giop_message.specs.Signatures.{Listed}
+use Rattle.giop_message.specs.Signatures.{RequestTable}
 use Rattle.giop_stream.specs.Rules.{Rules, rules}
 use Rattle.giop_stream.specs.Framing.{cut}
 use Rattle.giop_stream.specs.Stream.{closing, final, tally}
-use Rattle.giop_stream.specs.Holding.{added, Holds}
-use Rattle.giop_stream.specs.Remembering.{EngineMemory}
+use Rattle.giop_stream.specs.EngineHolds.{added, Holds}
+use Rattle.giop_stream.specs.EngineView.{EngineView}
 use Rattle.giop_run.specs.SourceLog.{SourceLog}
 use Rattle.giop_run.specs.declared.running.Ending.{Ending}
 use Rattle.giop_run.specs.declared.running.Ending.TheVariants as endings
@@ -18,19 +18,19 @@ use Rattle.giop_run.specs.declared.fault.RunFault.{RunFault}
 use Rattle.giop_run.specs.declared.fault.RunFault.TheVariants as fault
 
 -- what a run reads by and how it ends
-pub record Way : Type 0 where
+pub record RunSetup : Type 0 where
   pub table : Table
-  pub listed : Listed
+  pub request_table : RequestTable
   pub most : ℕ  -- so many messages may be open at once
   pub ending : Ending
 
 -- the way of a run of this engine
-abbrev pub way_of : EngineMemory → Ending → Way
-way_of e ending = record { table = e.table; listed = e.listed; most = e.most; ending = ending }
+abbrev pub setup_of : EngineView → Ending → RunSetup
+setup_of e ending = record { table = e.table; request_table = e.request_table; most = e.most; ending = ending }
 
 -- how it reads a message
-abbrev pub reads_by : Way → Rules
-reads_by w = rules w.table w.listed w.most
+abbrev pub reads_by : RunSetup → Rules
+reads_by w = rules w.table w.request_table w.most
 
 -- what an ending writes behind the lines of the stream p: its closing, or nothing where the stream goes on later
 abbrev pub end_text : Ending → Rules → List ℕ → List ℕ
@@ -38,25 +38,25 @@ end_text endings.Finish R p = closing R p
 end_text endings.Keep R p = []
 
 -- an engine is kept where the ending says so
-abbrev pub HasKept : Ending → Option EngineMemory → Type 0
+abbrev pub HasKept : Ending → Option EngineView → Type 0
 HasKept endings.Finish kept = kept ≡ None
 HasKept endings.Keep kept = IsSome kept
 
 -- the finish of the stream p: a truncated end is counted, and no engine is kept
-pub record IsFinish (w : Way) (report : Report) (p : List ℕ) : Type 0 where
+pub record IsFinish (w : RunSetup) (report : Report) (p : List ℕ) : Type 0 where
   pub totals : report.totals ≡ final (reads_by w) p
   pub kept : report.kept ≡ None
 
 -- the stream p goes on later: an engine is kept that holds it, and reads as the run did
-pub record IsKept (w : Way) (report : Report) (p : List ℕ) : Type 0 where
+pub record IsKept (w : RunSetup) (report : Report) (p : List ℕ) : Type 0 where
   pub totals : report.totals ≡ tally (reads_by w) p
-  pub engine : EngineMemory
+  pub engine : EngineView
   pub kept : report.kept ≡ Some engine
   pub holds : Holds engine p
-  pub same : way_of engine w.ending ≡ w
+  pub same : setup_of engine w.ending ≡ w
 
 -- what an ending says of the stream p, and keeps of it
-abbrev pub EndsAs : Ending → Way → Report → List ℕ → Type 0
+abbrev pub EndsAs : Ending → RunSetup → Report → List ℕ → Type 0
 EndsAs endings.Finish w report p = IsFinish w report p
 EndsAs endings.Keep w report p = IsKept w report p
 
@@ -90,7 +90,7 @@ abbrev pub IsOver : List ℕ → SourceLog → SourceLog → Type 0
 IsOver p before after = IsEnded before after ⊎ IsStopped p
 
 -- the source came to its end: the lines are written, and what the ending does is done
-pub record Finished (w : Way) (report : Report) (p s : List ℕ) (before after : SourceLog) (x y : OutLog) : Type 0 where
+pub record Finished (w : RunSetup) (report : Report) (p s : List ℕ) (before after : SourceLog) (x y : OutLog) : Type 0 where
   pub given : Given p s before after
   pub over : IsOver (p ++ s) before after
   pub failures : after.failures ≡ before.failures
@@ -113,13 +113,13 @@ pub record ReadsSpent (R : Rules) (p s : List ℕ) (before after : SourceLog) (x
   pub written : Wrote x y (added R p s)
 
 -- a put failed: a front of what was due is written
-pub record WriteStopped (w : Way) (p s : List ℕ) (before after : SourceLog) (x y : OutLog) : Type 0 where
+pub record WriteStopped (w : RunSetup) (p s : List ℕ) (before after : SourceLog) (x y : OutLog) : Type 0 where
   pub given : Given p s before after
   pub failures : after.failures ≡ before.failures
   pub written : WroteFront x y (added (reads_by w) p s ++ end_text w.ending (reads_by w) (p ++ s))
 
 -- what a run did, by its answer; on an engine that holds a stream it is never Failed
-abbrev pub Ran : Way → Result Report RunFault → List ℕ → List ℕ → SourceLog → SourceLog → OutLog → OutLog → Type 0
+abbrev pub Ran : RunSetup → Result Report RunFault → List ℕ → List ℕ → SourceLog → SourceLog → OutLog → OutLog → Type 0
 Ran w (Ok report) p s before after x y = Finished w report p s before after x y
 Ran w (Err fault.Read) p s before after x y = ReadStopped (reads_by w) p s before after x y
 Ran w (Err fault.Turns) p s before after x y = ReadsSpent (reads_by w) p s before after x y

@@ -1,8 +1,8 @@
 -- What is saved in files (meaning).
 use Rattle.std.specs.Prelude.{◌≡◌, ℕ, List, [], ◌∷◌, ◌++◌, Option, None, Some, Result, MatchResult}
 use Rattle.giop_stream.specs.Checkpoint.{Spells}
-use Rattle.giop_stream.specs.Holding.{Holds}
-use Rattle.giop_stream.specs.Remembering.{EngineMemory}
+use Rattle.giop_stream.specs.EngineHolds.{Holds}
+use Rattle.giop_stream.specs.EngineView.{EngineView}
 
 -- a file that was written whole: its name and its octets
 pub record Saved : Type 0 where
@@ -10,11 +10,11 @@ pub record Saved : Type 0 where
   pub octets : List ℕ
 
 -- These octets are the checkpoint of each stream that the engine holds.
-abbrev pub SpellsAll : EngineMemory → List ℕ → Type 0
-SpellsAll e octets = (p : List ℕ) → Holds e p → Spells octets e.table e.listed e.most p
+abbrev pub SpellsAll : EngineView → List ℕ → Type 0
+SpellsAll e octets = (p : List ℕ) → Holds e p → Spells octets e.table e.request_table e.most p
 
 -- a checkpoint of the engine was saved in the file of this name, where it is told what is saved
-abbrev pub SavedMore : Option (List Saved) → Option (List Saved) → List ℕ → EngineMemory → Type 0
+abbrev pub SavedMore : Option (List Saved) → Option (List Saved) → List ℕ → EngineView → Type 0
 SavedMore None after name e = Unit {0}
 SavedMore (Some before) after name e =
     (octets : List ℕ) × SpellsAll e octets
@@ -22,6 +22,6 @@ SavedMore (Some before) after name e =
 
 -- what a save did: the engine's checkpoint is in the file of the name, or nothing is saved
 abbrev pub SavesOne : {A E : Type 0} → Result A E → Option (List Saved) → Option (List Saved) → List ℕ
-    → EngineMemory → Type 0
+    → EngineView → Type 0
 SavesOne result before after name e =
     MatchResult result (λ _. SavedMore before after name e) (λ _. after ≡ before)

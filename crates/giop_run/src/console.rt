@@ -1,8 +1,8 @@
 //! What the program does with a reader and an out, and its status.
 
 ghost use Rattle.std.specs.Prelude.{◌≡◌, List, ℕ, [], true, Err, OnOk, IfOk};
-ghost use Rattle.giop_stream.specs.Holding.{Holds};
-ghost use Rattle.giop_run.specs.Running.{HasKept, way_of};
+ghost use Rattle.giop_stream.specs.EngineHolds.{Holds};
+ghost use Rattle.giop_run.specs.Running.{HasKept, setup_of};
 ghost use Rattle.giop_run.specs.Console.{Dumped, exit_status};
 
 use super::fault::{ProgramFault, RunFault};
@@ -20,7 +20,7 @@ pub fn dump<'a, R: Read + Drop, O: Flush>(
     ending: Ending,
 ) -> Result<Report<'a>, RunFault>
     ensures dumped { (p : List ℕ) → Holds engine.entry p
-        → Dumped (way_of engine.entry ending) result p
+        → Dumped (setup_of engine.entry ending) result p
         (R.remaining reader) (O.log out.old) (O.log out.new) }
     ensures kept { IfOk result (λ report. HasKept ending report.kept) }
     ensures sound { result ≡ Err RunFault.Failed → engine.entry.failed ≡ true }

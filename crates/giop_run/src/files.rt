@@ -4,13 +4,13 @@ ghost use Rattle.std.specs.Prelude.{◌≡◌, ◌≢◌, ◌<◌, ◌≤◌, �
 ghost use Rattle.std.specs.IoError.{error_kind};
 ghost use Rattle.giop_sig.specs.FileReading.{text_too_long, IsFirstRefusal};
 ghost use Rattle.giop_sig.specs.RequestList.{IsRefusedAs};
-ghost use Rattle.giop_stream.specs.Holding.{AreOf};
+ghost use Rattle.giop_stream.specs.EngineHolds.{AreOf};
 ghost use Rattle.giop_run.specs.Console.{run_fault};
 ghost use Rattle.giop_run.specs.Files.{signatures_most, IsFront, Declares, Requests as Requested, CatalogueOf, RequestsOf, NoCatalogue, NoRequests};
 
 use super::fault::ProgramFault;
 use super::inputs::Inputs;
-use super::patient::Patient;
+use super::retrying::Retrying;
 use super::source::one_more;
 use giop_sig::{Catalogue, ListFault, Requests, SigFault};
 use std::alloc::Global;
@@ -28,7 +28,7 @@ pub fn front<R: Read + Drop>(alloc: Global, reader: R, most: u64) -> io::Result<
     ensures { IfOk result (λ octets. IsFront most (R.remaining reader) octets.items) }
 {
     let mut octets = Vec::new(alloc);
-    let mut limited = Patient::new(reader).take(one_more(most));
+    let mut limited = Retrying::new(reader).take(one_more(most));
     limited.read_to_end(&mut octets)?;
     Ok(octets)
 }

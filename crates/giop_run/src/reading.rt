@@ -23,7 +23,7 @@ pub struct Reading<R: Read> {
 }
 
 impl<R: Read> Reading<R> {
-    ghost use Rattle.giop_run.specs.Reading.{reading_log};
+    ghost use Rattle.giop_run.specs.ReaderLog.{reading_log};
 
     /// A source of what the reader gives, of which nothing was read.
     pub fn new(reader: R) -> Reading<R>
@@ -40,7 +40,7 @@ impl<R: Read> Reading<R> {
 }
 
 impl<R: Read> Source for Reading<R> {
-    ghost use Rattle.giop_run.specs.Reading.{reading_log};
+    ghost use Rattle.giop_run.specs.ReaderLog.{reading_log};
 
     ghost log = { reading_log R.remaining };
 

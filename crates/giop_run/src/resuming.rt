@@ -4,7 +4,7 @@ ghost use Rattle.std.specs.Prelude.{◌≡◌, ◌≢◌, ◌≤◌, List, ℕ, 
 ghost use Rattle.giop_checkpoint.specs.Refusals.{IsOurs};
 ghost use Rattle.giop_stream.specs.Rules.{most_open};
 ghost use Rattle.giop_stream.specs.Checkpoint.{counts_of, IsRefused, Spells};
-ghost use Rattle.giop_stream.specs.Holding.{AreOf, Holds};
+ghost use Rattle.giop_stream.specs.EngineHolds.{AreOf, Holds};
 ghost use Rattle.giop_run.specs.Console.{run_fault};
 ghost use Rattle.giop_run.specs.Files.{NoCheckpoint, GoesOn, checkpoint_most, IsFront};
 
@@ -37,7 +37,7 @@ fn loaded<'a, 'c>(
         × IsRefused (counts_of catalogue.now requests.now) octets.now why) }
     ensures sound { IfOk result (λ e. e.failed ≡ false) }
     ensures table { IfOk result (λ e. e.table ≡ catalogue.now) }
-    ensures listed { IfOk result (λ e. e.listed ≡ requests.now) }
+    ensures request_table { IfOk result (λ e. e.request_table ≡ requests.now) }
 {
     match Engine::load(alloc, catalogue, requests, octets) {
         Ok(engine) => Ok(engine),
@@ -64,7 +64,7 @@ pub fn resumed<'a, 'c, R: Inputs + AllocGlobal>(
     ensures file { IfErr result (λ fault. run_fault fault ≡ None) }
     ensures sound { IfOk result (λ e. e.failed ≡ false) }
     ensures table { IfOk result (λ e. e.table ≡ catalogue.now) }
-    ensures listed { IfOk result (λ e. e.listed ≡ requests.now) }
+    ensures request_table { IfOk result (λ e. e.request_table ≡ requests.now) }
 {
     let Some(name) = name else {
         return match Engine::new(rt.alloc(), catalogue, requests, most) {

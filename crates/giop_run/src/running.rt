@@ -3,11 +3,11 @@
 ghost use Rattle.std.specs.Prelude.{◌≡◌, ◌+◌, ◌^◌, ◌≤◌, Err, true, false, List, [], ℕ, MatchResult, IfOk, OnOk, IfErr};
 ghost use Rattle.giop_print.specs.Output.{counted};
 ghost use Rattle.giop_cdr.specs.Numbers.{AreOctets};
-ghost use Rattle.giop_stream.specs.Holding.{Holds, rules_of};
+ghost use Rattle.giop_stream.specs.EngineHolds.{Holds, rules_of};
 ghost use Rattle.giop_run.specs.SourceLog.{Gave, ReadFailed};
 ghost use Rattle.giop_run.specs.Flushing.{Flushes};
-ghost use Rattle.giop_run.specs.Running.{HasKept, Ran, Refused, way_of};
-ghost use Rattle.giop_run.specs.Turns.{Fed, Turned, Completed, Closed};
+ghost use Rattle.giop_run.specs.Running.{HasKept, Ran, Refused, setup_of};
+ghost use Rattle.giop_run.specs.RunSteps.{Fed, HasReadAndFed, Completed, Closed};
 
 use super::fault::{RunFault, SourceFault};
 use super::flush::{Between, Nothing};
@@ -51,7 +51,7 @@ pub fn run<'a, S: Source, O: Out>(
     ending: Ending,
 ) -> Result<Report<'a>, RunFault>
     ensures ran { (p : List ℕ) → Holds engine.entry p → (s : List ℕ)
-        × Ran (way_of engine.entry ending) result p s
+        × Ran (setup_of engine.entry ending) result p s
         (S.log source.old) (S.log source.new) (O.log out.old) (O.log out.new) }
     ensures failed { engine.entry.failed ≡ true
         → Refused result (S.log source.old) (S.log source.new) (O.log out.old) (O.log out.new) }
@@ -72,7 +72,7 @@ pub(crate) fn run_by<'a, S: Source, O: Out, F: Between<O>>(
     ending: Ending,
 ) -> Result<Report<'a>, RunFault>
     ensures ran { (p : List ℕ) → Holds engine.entry p → (s : List ℕ)
-        × Ran (way_of engine.entry ending) result p s
+        × Ran (setup_of engine.entry ending) result p s
         (S.log source.old) (S.log source.new) (O.log out.old) (O.log out.new) }
     ensures failed { engine.entry.failed ≡ true
         → Refused result (S.log source.old) (S.log source.new) (O.log out.old) (O.log out.new) }
@@ -89,7 +89,7 @@ pub(crate) fn run_by<'a, S: Source, O: Out, F: Between<O>>(
     let mut buffer = [0; ROOM];
     for _turn in 0..TURNS {
         flush::<O, F>(out)?;
-        if !turn(source, out, &mut engine, &mut buffer)? {
+        if !read_and_feed(source, out, &mut engine, &mut buffer)? {
             return close::<O, F>(engine, out, ending);
         }
     }
@@ -109,17 +109,17 @@ fn flush<O: Out, F: Between<O>>(out: &mut O) -> Result<(), RunFault>
 }
 
 /// One read, and the feed of what it gave: whether the stream goes on.
-fn turn<S: Source, O: Out>(
+fn read_and_feed<S: Source, O: Out>(
     source: &mut S,
     out: &mut O,
     engine: &mut Engine,
     buffer: &mut [u8; ROOM],
 ) -> Result<bool, RunFault>
     ensures turned { (p : List ℕ) → Holds engine.old p → (s : List ℕ)
-        × Turned (rules_of engine.old) result p s engine.new (S.log source.old) (S.log source.new) (O.log out.old) (O.log out.new) }
+        × HasReadAndFed (rules_of engine.old) result p s engine.new (S.log source.old) (S.log source.new) (O.log out.old) (O.log out.new) }
     ensures leaves { engine.old.failed ≡ false → OnOk result (engine.new.failed ≡ false) }
     ensures same { (engine.new.table ≡ engine.old.table)
-        × (engine.new.listed ≡ engine.old.listed) × (engine.new.most ≡ engine.old.most) }
+        × (engine.new.request_table ≡ engine.old.request_table) × (engine.new.most ≡ engine.old.most) }
     ensures sound { result ≡ Err RunFault.Failed → engine.old.failed ≡ true }
     ensures reads { (S.log source.new).reads ≡ counted (S.log source.old).reads }
 {
@@ -151,7 +151,7 @@ fn feed<O: Out>(engine: &mut Engine, piece: &[u8], out: &mut O) -> Result<bool, 
         → (result ≡ Err RunFault.Failed) × (O.log out.new ≡ O.log out.old) }
     ensures leaves { OnOk result (engine.new.failed ≡ false) }
     ensures same { (engine.new.table ≡ engine.old.table)
-        × (engine.new.listed ≡ engine.old.listed) × (engine.new.most ≡ engine.old.most) }
+        × (engine.new.request_table ≡ engine.old.request_table) × (engine.new.most ≡ engine.old.most) }
     ensures sound { result ≡ Err RunFault.Failed → engine.old.failed ≡ true }
 {
     match engine.feed(piece, out) {
@@ -169,7 +169,7 @@ fn close<'a, O: Out, F: Between<O>>(
     ending: Ending,
 ) -> Result<Report<'a>, RunFault>
     ensures closed { (p : List ℕ) → Holds engine.entry p
-        → Closed (way_of engine.entry ending) result p (O.log out.old) (O.log out.new) }
+        → Closed (setup_of engine.entry ending) result p (O.log out.old) (O.log out.new) }
     ensures sound { result ≡ Err RunFault.Failed → engine.entry.failed ≡ true }
     ensures kept { IfOk result (λ report. HasKept ending report.kept) }
     ensures flushed { OnOk result (F.left out.new ≡ []) }
@@ -186,7 +186,7 @@ fn finished<'a, O: Out, F: Between<O>>(
     out: &mut O,
 ) -> Result<Report<'a>, RunFault>
     ensures closed { (p : List ℕ) → Holds engine.entry p
-        → Closed (way_of engine.entry Ending.Finish) result p (O.log out.old) (O.log out.new) }
+        → Closed (setup_of engine.entry Ending.Finish) result p (O.log out.old) (O.log out.new) }
     ensures sound { result ≡ Err RunFault.Failed → engine.entry.failed ≡ true }
     ensures kept { IfOk result (λ report. HasKept Ending.Finish report.kept) }
     ensures flushed { OnOk result (F.left out.new ≡ []) }
@@ -199,7 +199,7 @@ fn finished<'a, O: Out, F: Between<O>>(
 /// Flushes the out, and keeps the engine.
 fn kept<'a, O: Out, F: Between<O>>(engine: Engine<'a>, out: &mut O) -> Result<Report<'a>, RunFault>
     ensures closed { (p : List ℕ) → Holds engine.entry p
-        → Closed (way_of engine.entry Ending.Keep) result p (O.log out.old) (O.log out.new) }
+        → Closed (setup_of engine.entry Ending.Keep) result p (O.log out.old) (O.log out.new) }
     ensures sound { result ≡ Err RunFault.Failed → engine.entry.failed ≡ true }
     ensures kept { IfOk result (λ report. HasKept Ending.Keep report.kept) }
     ensures flushed { OnOk result (F.left out.new ≡ []) }

@@ -3,7 +3,7 @@
 ghost use Rattle.std.specs.Prelude.{List, Option, None};
 ghost use Rattle.giop_run.specs.Saving.{Saved, SavesOne};
 
-use super::patient::Patient;
+use super::retrying::Retrying;
 use giop_print::Written;
 use giop_stream::Engine;
 use std::fs::{File, Permissions};
@@ -97,7 +97,7 @@ fn written(
 
 /// Writes the checkpoint into a file.
 fn put_into(file: &File, engine: &Engine) -> io::Result<()> {
-    let mut out = Written::new(Patient::new(file));
+    let mut out = Written::new(Retrying::new(file));
     match engine.save(&mut out) {
         Ok(_) => Ok(()),
         Err(_) => Err(io::Error::from(ErrorKind::WriteZero)),

@@ -2,7 +2,7 @@
 //! CloseConnection.
 
 ghost use Rattle.std.specs.Prelude.{◌≡◌, false, IfOk};
-ghost use Rattle.giop_stream.specs.Holding.{AreOf};
+ghost use Rattle.giop_stream.specs.EngineHolds.{AreOf};
 
 use giop_sig::{Catalogue, Requests};
 use giop_stream::Engine;

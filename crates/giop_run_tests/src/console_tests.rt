@@ -1,6 +1,6 @@
 //! Lines that are buffered: when they are flushed, and what a flush or a read that fails leaves.
 
-ghost use Rattle.giop_stream.specs.Holding.{AreOf};
+ghost use Rattle.giop_stream.specs.EngineHolds.{AreOf};
 
 use super::close::{CLOSE, CLOSED, COMPLETED, NOTHING, REFUSED, WRONG, built_in, engine};
 use super::fakes::{FailingReader, FailingWriter};

@@ -5,7 +5,7 @@ ghost use Rattle.std.specs.Prelude.{None};
 use super::close::octets;
 use super::words_tests::number_of;
 use giop_print::Sheet;
-use giop_program::{Arguments, performed};
+use giop_program::{Arguments, perform_run};
 use giop_run::{Disk, Lines, ProgramFault, Saves, status};
 use giop_stream::{Engine, Totals};
 use std::alloc::{AllocError, Global};
@@ -276,7 +276,7 @@ fn is_performed(rt: &HostRuntime, case: &str) -> Result<bool, Fail> {
     let told = parts.next().unwrap_or("");
     let want = parts.next().unwrap_or("");
     let mut lines = Lines::new(rt.alloc(), Vec::new(rt.alloc()))?;
-    let ended = performed(rt, asked, &mut lines, &mut Disk::new(rt));
+    let ended = perform_run(rt, asked, &mut lines, &mut Disk::new(rt));
     let is_written = lines.writer().as_slice() == want.as_bytes();
     Ok(is_told(rt.alloc(), &ended, told)? && is_written)
 }
@@ -365,7 +365,7 @@ fn tries_to_save(rt: &HostRuntime, save: Option<&str>) -> Result<(bool, usize), 
     };
     let mut files = Unwritable { tries: 0 };
     let mut lines = Lines::new(rt.alloc(), Vec::new(rt.alloc()))?;
-    let ended = performed(rt, asked, &mut lines, &mut files);
+    let ended = perform_run(rt, asked, &mut lines, &mut files);
     fs::remove_file(rt, "nothing.giop")?;
     Ok((ended.is_ok(), files.tries))
 }

@@ -1,6 +1,6 @@
 //! Runs over sources and outs that fail at each call in turn.
 
-ghost use Rattle.giop_stream.specs.Holding.{AreOf};
+ghost use Rattle.giop_stream.specs.EngineHolds.{AreOf};
 
 use super::close::{CLOSE, CLOSED, COMPLETED, NOTHING, REFUSED, WRONG, built_in, engine};
 use super::fakes::{FailingReader, FailingWriter, InterruptedReader};

@@ -1,6 +1,6 @@
 //! Runs that keep their engine in place of ending their stream, and what it saves.
 
-ghost use Rattle.giop_stream.specs.Holding.{AreOf};
+ghost use Rattle.giop_stream.specs.EngineHolds.{AreOf};
 
 use super::close::{CLOSE, CLOSED, COMPLETED, built_in, engine, octets};
 use super::fakes::FailingReader;

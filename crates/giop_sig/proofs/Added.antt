@@ -16,20 +16,20 @@ use Rattle.giop_sig.specs.declared.catalogue.Signature.{Signature}
 use Rattle.giop_sig.specs.Table.{Node, Operation, Exception, Table, op_id, operation_in, exception_in, members_at, no_operation, no_exception, with_type, with_operation, with_exception}
 use Rattle.giop_sig.specs.Trees.{AreTypes}
 use Rattle.giop_sig.specs.Builtin.{builtin_types}
-use Rattle.giop_sig.specs.Headers.{IsCall, IsRaised, AreDistinct, IsTable}
+use Rattle.giop_sig.specs.HeaderTypes.{IsOperation, IsException, AreDistinct, IsTable}
 use Rattle.giop_sig.specs.Entries.{operation_view, exception_view, table_view}
 
 -- ---- a type
 
-call_stays : (types : List Node) (n : Node) (o : Operation) → IsCall types o
-    → IsCall (types ++ n ∷ []) o
+call_stays : (types : List Node) (n : Node) (o : Operation) → IsOperation types o
+    → IsOperation (types ++ n ∷ []) o
 call_stays types n o is =
     let r = is.request in
     let p = is.reply in
     record { short = is.short; request = omega (arith, length-append types (n ∷ [])); reply = omega (arith, length-append types (n ∷ [])) }
 
-raised_stays : (types : List Node) (n : Node) (e : Exception) → IsRaised types e
-    → IsRaised (types ++ n ∷ []) e
+raised_stays : (types : List Node) (n : Node) (e : Exception) → IsException types e
+    → IsException (types ++ n ∷ []) e
 raised_stays types n e is = let m = is.members in record { short = is.short; members = omega (arith, length-append types (n ∷ [])) }
 
 pub type_added : (t : Table) (n : Node) → IsTable t → AreTypes (t.types ++ n ∷ [])
@@ -154,12 +154,12 @@ distinct_push name_in d xs x before none i j li lj e =
 
 -- ---- an operation
 
-pub operation_added : (t : Table) (o : Operation) → IsTable t → IsCall t.types o
+pub operation_added : (t : Table) (o : Operation) → IsTable t → IsOperation t.types o
     → operation_in t o.name ≡ None → length t.operations < 4096 → IsTable (with_operation t o)
 operation_added t o laws call new few = record {
   types = laws.types;
   begins = laws.begins;
-  operations = All-push (IsCall t.types) t.operations o laws.operations call;
+  operations = All-push (IsOperation t.types) t.operations o laws.operations call;
   exceptions = laws.exceptions;
   operations_distinct = distinct_push (λ (x : Operation). x.name) no_operation t.operations o laws.operations_distinct
       (none_before op_id (position (λ (x : Operation). bytes_eq o.name x.name) t.operations) new);
@@ -187,13 +187,13 @@ operation_put types os new es declared t key s name view same none is =
 
 -- ---- an exception
 
-pub exception_added : (t : Table) (e : Exception) → IsTable t → IsRaised t.types e
+pub exception_added : (t : Table) (e : Exception) → IsTable t → IsException t.types e
     → exception_in t e.repository ≡ None → length t.exceptions < 4096 → IsTable (with_exception t e)
 exception_added t e laws raised new few = record {
   types = laws.types;
   begins = laws.begins;
   operations = laws.operations;
-  exceptions = All-push (IsRaised t.types) t.exceptions e laws.exceptions raised;
+  exceptions = All-push (IsException t.types) t.exceptions e laws.exceptions raised;
   operations_distinct = laws.operations_distinct;
   exceptions_distinct = distinct_push (λ (x : Exception). x.repository) no_exception t.exceptions e laws.exceptions_distinct
       (none_before (members_at t) (position (λ (x : Exception). bytes_eq e.repository x.repository) t.exceptions) new);

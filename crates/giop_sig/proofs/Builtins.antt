@@ -17,7 +17,7 @@ use Rattle.giop_sig.specs.Table.{Node, Part, Case, Table, node_in, IsFormed, IsI
 use Rattle.giop_sig.specs.Table as nodes
 use Rattle.giop_sig.specs.Trees.{grow, trees_after, type_in, tree, depth_of, AreTypes}
 use Rattle.giop_sig.specs.Builtin.{builtin_types}
-use Rattle.giop_sig.specs.Headers.{fixed_number, header_rows, header_number, cell_of, cell_in, IsTable}
+use Rattle.giop_sig.specs.HeaderTypes.{fixed_number, header_rows, header_number, cell_of, cell_in, IsTable}
 use Rattle.giop_sig.proofs.TreeLaws.{tree_stays, tree_added}
 use Rattle.giop_sig.proofs.Formed.{SameNodes, formed_moved}
 use Rattle.giop_sig.proofs.Depths.{depth_within}

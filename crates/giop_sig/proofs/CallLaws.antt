@@ -18,12 +18,12 @@ use Rattle.giop_sig.specs.declared.read_calls.Direction.TheVariants as direction
 use Rattle.giop_sig.specs.Table.{Node, Part, operation_in}
 use Rattle.giop_sig.specs.Table as nodes
 use Rattle.giop_sig.specs.Grammar.{TypeExpr, Base, Text, Reference, Named, SequenceOf, EncapsulationOf, Param, base_word, direction_word, spell_bound, spell_most, spell_type, spell_item, spell_param, spell_more_params, spell_params, spell_return, Call}
-use Rattle.giop_sig.specs.Scopes.{Names, Scope, part, item_part, with_node, with_call, place_item, place_params, place_return, onto_request, onto_reply, declare}
+use Rattle.giop_sig.specs.Scopes.{Names, Scope, part, item_part, with_node, with_call, add_item, add_params, add_return, onto_request, onto_reply, declare}
 use Rattle.giop_sig.specs.Validity.{Kind, OfItem, OfItems, OfType, OfReturn, OfOperation, OfDeclaration, items_of}
 use Rattle.giop_sig.specs.Outcomes.{refused}
 use Rattle.giop_sig.specs.TypeReading.{added, type_at}
 use Rattle.giop_sig.specs.ItemReading.{item_at, Declared}
-use Rattle.giop_sig.specs.CallReading.{ReturnRead, return_at, new_operation_at, direction_of, direction_at, in_request, in_reply, Params, Way, params_of, behind_param, param_step, ParamsRead, way_of, params_run, no_way, params_at, operation_at}
+use Rattle.giop_sig.specs.CallReading.{ReturnRead, return_at, new_operation_at, direction_of, direction_at, in_request, in_reply, Params, ParameterLists, params_of, param_end, param_step, ParamsRead, parameter_lists_of, params_run, no_parameters, params_at, operation_at}
 use Rattle.giop_sig.proofs.PlaceLaws.{size, within_same, within_on, node_more, item_more, item_names, params_more, return_more, return_names, return_operations, structs_more}
 use Rattle.giop_sig.proofs.ReadingLaws.{Out, good, broken, out_bind, out_more, Apart, if_apart}
 use Rattle.giop_sig.proofs.TypeLaws.{added_bind, is_not, type_reads}
@@ -77,12 +77,12 @@ type_no_void (EncapsulationOf e) names text more free h =
     (no_void (EncapsulationOf e) names more free) h
 
 abbrev made_return : Scope → Option TypeExpr → List ℕ → ReturnRead
-made_return s o rest = ((place_return s o).0, (place_return s o).1, rest)
+made_return s o rest = ((add_return s o).0, (add_return s o).1, rest)
 
 return_reads : (at : ℕ) (s : Scope) (o : Option TypeExpr) (text : List ℕ) (more : List Token)
     → 0 < size s → OfReturn kinds.Syntax s.names o → Apart marks.OpenAngle more
     → AreTokens text (spell_return o more)
-    → Out (made_return s o) (λ k. OfReturn k s.names o) (place_return s o).0.table.types
+    → Out (made_return s o) (λ k. OfReturn k s.names o) (add_return s o).0.table.types
     more (return_at at s text)
 unfolding return_at
 return_reads at s None text more some free apart h = rw (keyword_if_again (codes "void") text more h) (good h.0 h.2 (λ k. tt))
@@ -151,37 +151,37 @@ more_apart : (ps : List Param) (more : List Token)
 more_apart [] more = refl
 more_apart (p ∷ ps) more = refl
 
-abbrev made_param : Way → Scope → Param → List Param → List ℕ → Params
+abbrev made_param : ParameterLists → Scope → Param → List Param → List ℕ → Params
 made_param w s p ps rest = params_of w p.direction (made_item s p.item []) rest (is_last ps)
 
-behind_reads : (w : Way) (s : Scope) (p : Param) (ps : List Param) (rule : Kind → Type 0)
+behind_reads : (w : ParameterLists) (s : Scope) (p : Param) (ps : List Param) (rule : Kind → Type 0)
     (types : List Node) (rest : List ℕ) (more : List Token)
     → AreTokens rest (spell_more_params ps more) → ((k : Kind) → rule k)
     → Out (made_param w s p ps) rule types (after_param ps more)
-    (mark_if marks.Comma rest >>= λ c. behind_param w p.direction (made_item s p.item rest) c)
+    (mark_if marks.Comma rest >>= λ c. param_end w p.direction (made_item s p.item rest) c)
 behind_reads w s p [] rule types rest more h keeps =
     rw (if_apart marks.Comma rest (mark marks.CloseParenthesis ∷ more) refl h, mark_again marks.CloseParenthesis rest more h) (good h.0 h.2 keeps)
 behind_reads w s p (q ∷ qs) rule types rest more h keeps =
     rw (mark_if_again marks.Comma rest (spell_param q (spell_more_params qs more)) h) (good h.0 h.2 keeps)
 
-param_reads : (at : ℕ) (w : Way) (s : Scope) (p : Param) (ps : List Param) (text : List ℕ)
+param_reads : (at : ℕ) (w : ParameterLists) (s : Scope) (p : Param) (ps : List Param) (text : List ℕ)
     (more : List Token) → 0 < size s → OfItem kinds.Syntax s.names 255 w.seen p.item
     → AreTokens text (spell_param p (spell_more_params ps more))
     → Out (made_param w s p ps) (λ k. OfItem k s.names 255 w.seen p.item)
-    (place_item s p.item).0.table.types (after_param ps more) (param_step at w s text)
+    (add_item s p.item).0.table.types (after_param ps more) (param_step at w s text)
 unfolding param_step
 param_reads at w s p ps text more some free h =
     rw (direction_again p.direction text (spell_item p.item (spell_more_params ps more)) h)
-    (out_bind (item_at at 255 w.seen s h.0) (λ i. mark_if marks.Comma i.2 >>= λ c. behind_param w p.direction i c)
+    (out_bind (item_at at 255 w.seen s h.0) (λ i. mark_if marks.Comma i.2 >>= λ c. param_end w p.direction i c)
     (item_reads at 255 w.seen s p.item h.0 (spell_more_params ps more) some free (more_apart ps more) h.2)
-    (λ rest m keeps. behind_reads w s p ps (λ k. OfItem k s.names 255 w.seen p.item) (place_item s p.item).0.table.types rest more m
+    (λ rest m keeps. behind_reads w s p ps (λ k. OfItem k s.names 255 w.seen p.item) (add_item s p.item).0.table.types rest more m
     keeps) (λ k w. w) within_same)
 
-abbrev made_params : Way → Scope → List Param → List ℕ → ParamsRead
+abbrev made_params : ParameterLists → Scope → List Param → List ℕ → ParamsRead
 made_params w s ps rest = (
-  (place_params s ps).0,
-  w.request ++ (place_params s ps).1,
-  w.reply ++ (place_params s ps).2,
+  (add_params s ps).0,
+  w.request ++ (add_params s ps).1,
+  w.reply ++ (add_params s ps).2,
   rest,
 )
 
@@ -195,17 +195,17 @@ reply_on : (d : Direction) (p : Part) (q r : List Part)
 reply_on directions.In p q r = refl
 reply_on _ p q r = append_assoc q (p ∷ []) r
 
-abbrev way_on : Way → Scope → Param → Way
-way_on w s p = way_of (params_of w p.direction (made_item s p.item []) [] false)
+abbrev way_on : ParameterLists → Scope → Param → ParameterLists
+way_on w s p = parameter_lists_of (params_of w p.direction (made_item s p.item []) [] false)
 
-made_on : (w : Way) (s : Scope) (p : Param) (ps : List Param) (rule : Kind → Type 0)
+made_on : (w : ParameterLists) (s : Scope) (p : Param) (ps : List Param) (rule : Kind → Type 0)
     (types : List Node) (more : List Token) (r : Result ParamsRead Refusal)
-    → Out (made_params (way_on w s p) (place_item s p.item).0 ps) rule types more r
+    → Out (made_params (way_on w s p) (add_item s p.item).0 ps) rule types more r
     → Out (made_params w s (p ∷ ps)) rule types more r
-unfolding place_params
+unfolding add_params
 made_on w s p ps rule types more r o =
-    let t = place_params (place_item s p.item).0 ps in
-    let one = item_part p.item (place_item s p.item) in
+    let t = add_params (add_item s p.item).0 ps in
+    let one = item_part p.item (add_item s p.item) in
     subst (λ qs. Out {X = ParamsRead} (λ rest. (t.0, qs, w.reply ++ onto_reply p.direction one t.2, rest)) rule types more r)
     (request_on p.direction one w.request t.1)
     (subst (λ rs. Out {X = ParamsRead} (λ rest. (t.0, in_request p.direction one w.request ++ t.1, rs, rest)) rule types more r)
@@ -214,47 +214,47 @@ made_on w s p ps rule types more r o =
 abbrev then_run : ℕ → ℕ → Params → Result ParamsRead Refusal
 then_run at n m =
     cond m.closed (Ok (m.scope, m.request, m.reply, m.rest))
-    (params_run at n (way_of m) m.scope m.rest)
+    (params_run at n (parameter_lists_of m) m.scope m.rest)
 
 -- the last parameter ends the reading
-last_reads : (at n : ℕ) (w : Way) (s : Scope) (p : Param) (rule : Kind → Type 0) (rest : List ℕ)
+last_reads : (at n : ℕ) (w : ParameterLists) (s : Scope) (p : Param) (rule : Kind → Type 0) (rest : List ℕ)
     (more : List Token) → AreTokens rest more → ((k : Kind) → rule k)
-    → Out (made_params (way_on w s p) (place_item s p.item).0 []) rule
-    (place_params (place_item s p.item).0 []).0.table.types more
+    → Out (made_params (way_on w s p) (add_item s p.item).0 []) rule
+    (add_params (add_item s p.item).0 []).0.table.types more
     (then_run at n (made_param w s p [] rest))
-unfolding place_params
+unfolding add_params
 last_reads at n w s p rule rest more m keeps =
-    let one = item_part p.item (place_item s p.item) in
-    let t = (place_item s p.item).0 in
+    let one = item_part p.item (add_item s p.item) in
+    let t = (add_item s p.item).0 in
     subst (λ qs. Out {X = ParamsRead} (λ rest. (t, qs, in_reply p.direction one w.reply ++ [], rest)) rule t.table.types more
     (Ok (t, in_request p.direction one w.request, in_reply p.direction one w.reply, rest))) (sym (append-nil (in_request p.direction one w.request)))
     (subst (λ rs. Out {X = ParamsRead} (λ rest. (t, in_request p.direction one w.request, rs, rest)) rule t.table.types more
     (Ok (t, in_request p.direction one w.request, in_reply p.direction one w.reply, rest))) (sym (append-nil (in_reply p.direction one w.reply)))
     (good rest m keeps))
 
-param_named : (at : ℕ) (w : Way) (s : Scope) (names : Names) (p : Param) (ps : List Param)
+param_named : (at : ℕ) (w : ParameterLists) (s : Scope) (names : Names) (p : Param) (ps : List Param)
     (text : List ℕ) (more : List Token) → s.names ≡ names → 0 < size s
     → OfItem kinds.Syntax names 255 w.seen p.item
     → AreTokens text (spell_param p (spell_more_params ps more))
     → Out (made_param w s p ps) (λ k. OfItem k names 255 w.seen p.item)
-    (place_item s p.item).0.table.types (after_param ps more) (param_step at w s text)
+    (add_item s p.item).0.table.types (after_param ps more) (param_step at w s text)
 param_named at w s names p ps text more same some free h =
-    subst (λ ns. Out (made_param w s p ps) (λ k. OfItem k ns 255 w.seen p.item) (place_item s p.item).0.table.types (after_param ps more)
+    subst (λ ns. Out (made_param w s p ps) (λ k. OfItem k ns 255 w.seen p.item) (add_item s p.item).0.table.types (after_param ps more)
     (param_step at w s text)) same
     (param_reads at w s p ps text more some (subst (λ ns. OfItem kinds.Syntax ns 255 w.seen p.item) (sym same) free) h)
 
-pub params_reads : (ps : List Param) (p : Param) (at n : ℕ) (w : Way) (s : Scope) (names : Names)
+pub params_reads : (ps : List Param) (p : Param) (at n : ℕ) (w : ParameterLists) (s : Scope) (names : Names)
     (text : List ℕ) (more : List Token) → s.names ≡ names → 0 < size s
     → n + length w.seen ≡ 256 → length w.seen ≤ 255
     → OfItems kinds.Syntax names 255 w.seen (items_of (p ∷ ps))
     → AreTokens text (spell_param p (spell_more_params ps more))
     → Out (made_params w s (p ∷ ps)) (λ k. OfItems k names 255 w.seen (items_of (p ∷ ps)))
-    (place_params s (p ∷ ps)).0.table.types more (params_run at n w s text)
-unfolding OfItems params_run place_params
+    (add_params s (p ∷ ps)).0.table.types more (params_run at n w s text)
+unfolding OfItems params_run add_params
 params_reads ps p at zero w s names text more same some fuel few free h = absurd (omega arith)
 params_reads [] p at (suc n) w s names text more same some fuel few free h =
     out_bind (param_step at w s text) (then_run at n) (param_named at w s names p [] text more same some free.0 h)
-    (λ rest m keeps. made_on w s p [] (λ k. OfItems k names 255 w.seen (items_of (p ∷ []))) (place_params s (p ∷ [])).0.table.types more
+    (λ rest m keeps. made_on w s p [] (λ k. OfItems k names 255 w.seen (items_of (p ∷ []))) (add_params s (p ∷ [])).0.table.types more
     (then_run at n (made_param w s p [] rest)) (last_reads at n w s p (λ k. OfItems k names 255 w.seen (items_of (p ∷ []))) rest more m (λ k. (keeps k, tt))))
     (λ k h. h.0) within_same
 params_reads (q ∷ qs) p at (suc n) w s names text more same some fuel few free h =
@@ -262,18 +262,18 @@ params_reads (q ∷ qs) p at (suc n) w s names text more same some fuel few free
     (λ rest m keeps.
     let lt = (keeps kinds.Limit).1.1 in
     let v = way_on w s p in
-    made_on w s p (q ∷ qs) (λ k. OfItems k names 255 w.seen (items_of (p ∷ q ∷ qs))) (place_params s (p ∷ q ∷ qs)).0.table.types more
-    (params_run at n v (place_item s p.item).0 rest)
-    (out_more (params_reads qs q at n v (place_item s p.item).0 names rest more (item_names s p.item ∙ same) (omega (arith, (item_more s p.item).longer))
+    made_on w s p (q ∷ qs) (λ k. OfItems k names 255 w.seen (items_of (p ∷ q ∷ qs))) (add_params s (p ∷ q ∷ qs)).0.table.types more
+    (params_run at n v (add_item s p.item).0 rest)
+    (out_more (params_reads qs q at n v (add_item s p.item).0 names rest more (item_names s p.item ∙ same) (omega (arith, (item_more s p.item).longer))
     (omega (arith, length-append w.seen (p.item.name ∷ []))) (omega (arith, length-append w.seen (p.item.name ∷ []))) free.1 m)
     (λ k h. (keeps k, h)) (λ k h. h.1)))
-    (λ k h. h.0) (params_more (place_item s p.item).0 (q ∷ qs))
+    (λ k h. h.0) (params_more (add_item s p.item).0 (q ∷ qs))
 
 none_reads : (returned : List Part) (s : Scope) (names : Names) (rest : List ℕ)
     (more : List Token) → AreTokens rest more
-    → Out (made_params (no_way returned) s []) (λ k. OfItems k names 255 [] (items_of []))
-    (place_params s []).0.table.types more (Ok (s, [], returned, rest))
-unfolding OfItems place_params
+    → Out (made_params (no_parameters returned) s []) (λ k. OfItems k names 255 [] (items_of []))
+    (add_params s []).0.table.types more (Ok (s, [], returned, rest))
+unfolding OfItems add_params
 none_reads returned s names rest more m =
     subst (λ rs. Out {X = ParamsRead} (λ rest. (s, [], rs, rest)) (λ k. Unit {0}) s.table.types more (Ok (s, [], returned, rest)))
     (sym (append-nil returned)) (good rest m (λ k. tt))
@@ -281,13 +281,13 @@ none_reads returned s names rest more m =
 pub list_reads : (ps : List Param) (at : ℕ) (returned : List Part) (s : Scope) (names : Names)
     (text : List ℕ) (more : List Token) → s.names ≡ names → 0 < size s
     → OfItems kinds.Syntax names 255 [] (items_of ps) → AreTokens text (spell_params ps more)
-    → Out (made_params (no_way returned) s ps) (λ k. OfItems k names 255 [] (items_of ps))
-    (place_params s ps).0.table.types more (params_at at returned s text)
+    → Out (made_params (no_parameters returned) s ps) (λ k. OfItems k names 255 [] (items_of ps))
+    (add_params s ps).0.table.types more (params_at at returned s text)
 unfolding params_at
 list_reads [] at returned s names text more same some free h = rw (mark_if_again marks.CloseParenthesis text more h) (none_reads returned s names h.0 more h.2)
 list_reads (p ∷ ps) at returned s names text more same some free h =
     rw (if_apart marks.CloseParenthesis text (spell_param p (spell_more_params ps more)) refl h)
-    (params_reads ps p at 256 (no_way returned) s names text more same some (omega arith) (omega arith) free h)
+    (params_reads ps p at 256 (no_parameters returned) s names text more same some (omega arith) (omega arith) free h)
 
 -- ---- operations
 
@@ -300,8 +300,8 @@ pub operation_reads : (s : Scope) (o : Option TypeExpr) (w : List ℕ) (ps : Lis
     more (operation_at s text)
 unfolding operation_at declare OfDeclaration
 operation_reads s o w ps text more some free h =
-    let t = place_return s o in
-    let x = place_params t.0 ps in
+    let t = add_return s o in
+    let x = add_params t.0 ps in
     let request = nodes.members x.1 in
     let reply = nodes.members (t.1 ++ x.2) in
     let struct = (with_node x.0 request).0 in

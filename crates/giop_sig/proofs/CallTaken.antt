@@ -20,13 +20,13 @@ use Rattle.giop_sig.specs.declared.read_calls.Direction.TheVariants as direction
 use Rattle.giop_sig.specs.Table.{Node, Part, IsPart, operation_in}
 use Rattle.giop_sig.specs.Table as nodes
 use Rattle.giop_sig.specs.Grammar.{TypeExpr, Param, direction_word, spell_item, spell_param, spell_params, spell_more_params, spell_return}
-use Rattle.giop_sig.specs.Scopes.{Scope, Placed, part}
+use Rattle.giop_sig.specs.Scopes.{Scope, AddedType, part}
 use Rattle.giop_sig.specs.Validity.{OfItems, OfReturn, items_of}
 use Rattle.giop_sig.specs.ScopeViews.{IsScope}
 use Rattle.giop_sig.specs.Outcomes.{refused}
 use Rattle.giop_sig.specs.TypeReading.{added, type_at}
 use Rattle.giop_sig.specs.ItemReading.{ItemRead, item_at}
-use Rattle.giop_sig.specs.CallReading.{ReturnRead, return_after, return_at, new_operation_at, direction_of, as_direction, direction_at, in_request, in_reply, Params, Way, params_of, behind_param, param_step, ParamsRead, way_of, params_run, no_way, params_after, params_at}
+use Rattle.giop_sig.specs.CallReading.{ReturnRead, return_after, return_at, new_operation_at, direction_of, as_direction, direction_at, in_request, in_reply, Params, ParameterLists, params_of, param_end, param_step, ParamsRead, parameter_lists_of, params_run, no_parameters, params_after, params_at}
 use Rattle.giop_sig.proofs.ReadingLaws.{Took}
 use Rattle.giop_sig.proofs.TypeTaken.{Grows, grows_none, grows_on, type_takes, added_grows}
 use Rattle.giop_sig.proofs.ItemTaken.{none_of, unused_is, AreParts, parts_stay, TakenItem, item_takes}
@@ -146,7 +146,7 @@ pub record SoundWays (x : ParamsRead) : Type 0 where
   pub reply : AreParts x.0 x.2
 
 -- what was taken behind parameters of a way; the first has no comma before it
-pub record TakenParams (w : Way) (s : Scope) (text : List ℕ) (x : ParamsRead) : Type 0 where
+pub record TakenParams (w : ParameterLists) (s : Scope) (text : List ℕ) (x : ParamsRead) : Type 0 where
   pub first : Param
   pub others : List Param
   pub free : OfItems kinds.Syntax s.names 255 w.seen (items_of (first ∷ others))
@@ -157,10 +157,10 @@ pub record TakenParams (w : Way) (s : Scope) (text : List ℕ) (x : ParamsRead) 
   pub grows : Grows s x.0
   pub sound : IsScope s → AreParts s w.request → AreParts s w.reply → SoundWays x
 
-abbrev way_on : Way → Direction → ItemRead → Way
-way_on w d i = way_of (params_of w d i [] false)
+abbrev way_on : ParameterLists → Direction → ItemRead → ParameterLists
+way_on w d i = parameter_lists_of (params_of w d i [] false)
 
-last_param : (w : Way) (s : Scope) (text r : List ℕ) (d : Direction × List ℕ) (i : ItemRead)
+last_param : (w : ParameterLists) (s : Scope) (text r : List ℕ) (d : Direction × List ℕ) (i : ItemRead)
     → Takes text (word (direction_word d.0)) d.1 → TakenItem s 255 w.seen d.1 i
     → mark_at marks.CloseParenthesis i.2 ≡ Ok r
     → TakenParams w s text (i.0, in_request d.0 i.1 w.request, in_reply d.0 i.1 w.reply, r)
@@ -184,7 +184,7 @@ last_param w s text r d i t a e = record {
       };
 }
 
-param_on : (w : Way) (s : Scope) (text r : List ℕ) (d : Direction × List ℕ) (i : ItemRead)
+param_on : (w : ParameterLists) (s : Scope) (text r : List ℕ) (d : Direction × List ℕ) (i : ItemRead)
     (x : ParamsRead) → Takes text (word (direction_word d.0)) d.1 → TakenItem s 255 w.seen d.1 i
     → mark_if marks.Comma i.2 ≡ Ok (Some r)
     → TakenParams (way_on w d.0 i) i.0 r x → TakenParams w s text x
@@ -213,13 +213,13 @@ param_on w s text r d i x t a e k = record {
 abbrev then_run : ℕ → ℕ → Params → Result ParamsRead Refusal
 then_run at n m =
     cond m.closed (Ok (m.scope, m.request, m.reply, m.rest))
-    (params_run at n (way_of m) m.scope m.rest)
+    (params_run at n (parameter_lists_of m) m.scope m.rest)
 
-behind_by : (at n : ℕ) (w : Way) (s : Scope) (text : List ℕ) (d : Direction × List ℕ) (i : ItemRead)
+behind_by : (at n : ℕ) (w : ParameterLists) (s : Scope) (text : List ℕ) (d : Direction × List ℕ) (i : ItemRead)
     (m : Params) (x : ParamsRead) (c : Option (List ℕ)) → Takes text (word (direction_word d.0)) d.1
     → TakenItem s 255 w.seen d.1 i → mark_if marks.Comma i.2 ≡ Ok c
-    → behind_param w d.0 i c ≡ Ok m → then_run at n m ≡ Ok x
-    → ((w : Way) (s : Scope) (text : List ℕ) → params_run at n w s text ≡ Ok x
+    → param_end w d.0 i c ≡ Ok m → then_run at n m ≡ Ok x
+    → ((w : ParameterLists) (s : Scope) (text : List ℕ) → params_run at n w s text ≡ Ok x
     → TakenParams w s text x) → TakenParams w s text x
 behind_by at n w s text d i m x (Some r) t a h e run on =
     let last : params_run at n (way_on w d.0 i) i.0 r ≡ Ok x = ap (then_run at n) (ok_is (params_of w d.0 i r false) m e) ∙ run in
@@ -230,15 +230,15 @@ behind_by at n w s text d i m x None t a h e run on =
     ap (then_run at n) (ok_is (params_of w d.0 i r.0 true) m r.2) ∙ run in
     subst (TakenParams w s text) (ok_is (i.0, in_request d.0 i.1 w.request, in_reply d.0 i.1 w.reply, r.0) x last) (last_param w s text r.0 d i t a r.1)
 
-pub params_takes : (at n : ℕ) (w : Way) (s : Scope) (text : List ℕ) (x : ParamsRead)
+pub params_takes : (at n : ℕ) (w : ParameterLists) (s : Scope) (text : List ℕ) (x : ParamsRead)
     → params_run at n w s text ≡ Ok x → TakenParams w s text x
 unfolding params_run param_step
 params_takes at zero w s text x e = absurd cc
 params_takes at (suc n) w s text x e =
     let m = bind_ok (param_step at w s text) (then_run at n) x e in
-    let d = bind_ok (direction_at text) (λ d. item_at at 255 w.seen s d.1 >>= λ i. mark_if marks.Comma i.2 >>= λ c. behind_param w d.0 i c) m.0 m.1 in
-    let i = bind_ok (item_at at 255 w.seen s (d.0).1) (λ i. mark_if marks.Comma i.2 >>= λ c. behind_param w (d.0).0 i c) m.0 d.2 in
-    let c = bind_ok (mark_if marks.Comma (i.0).2) (λ c. behind_param w (d.0).0 i.0 c) m.0 i.2 in
+    let d = bind_ok (direction_at text) (λ d. item_at at 255 w.seen s d.1 >>= λ i. mark_if marks.Comma i.2 >>= λ c. param_end w d.0 i c) m.0 m.1 in
+    let i = bind_ok (item_at at 255 w.seen s (d.0).1) (λ i. mark_if marks.Comma i.2 >>= λ c. param_end w (d.0).0 i c) m.0 d.2 in
+    let c = bind_ok (mark_if marks.Comma (i.0).2) (λ c. param_end w (d.0).0 i.0 c) m.0 i.2 in
     behind_by at n w s text d.0 i.0 m.0 x c.0 (direction_takes text d.0 d.1) (item_takes at 255 w.seen s (d.0).1 i.0 i.1) c.1 c.2 m.2
     (λ w s text run. params_takes at n w s text x run)
 
@@ -267,7 +267,7 @@ list_by at returned s text x (Some r) h e = subst (TakenList returned s text) (o
   sound = λ is all. record { scope = is; request = no_parts s; reply = all };
 })
 list_by at returned s text x None h e =
-    let k = params_takes at 256 (no_way returned) s text x e in
+    let k = params_takes at 256 (no_parameters returned) s text x e in
     record {
       params = k.first ∷ k.others;
       took = record { free = k.free; front = k.front };
@@ -306,15 +306,15 @@ call_ready a b s text o t m e f is =
     record { request = (l.few_requests, h.request); reply = (l.few_replies k.few, h.reply); grows = l.grows }
 
 -- what could be added can be added behind another struct
-pub parts_on : (at : ℕ) (s : Scope) (n : Node) (p : Placed) (ps : List Part) → added at s n ≡ Ok p
+pub parts_on : (at : ℕ) (s : Scope) (n : Node) (p : AddedType) (ps : List Part) → added at s n ≡ Ok p
     → (length ps ≤ 256) × AreParts s ps → (length ps ≤ 256) × AreParts p.0 ps
 parts_on at s n p ps e both = (both.0, parts_stay s p.0 ps (added_grows at s n p e) both.1)
 
-pub calls_grow : (at : ℕ) (s : Scope) (m : ParamsRead) (q p : Placed) (n : Node) → CallReady s m
+pub calls_grow : (at : ℕ) (s : Scope) (m : ParamsRead) (q p : AddedType) (n : Node) → CallReady s m
     → added at m.0 (nodes.members m.1) ≡ Ok q → added at q.0 n ≡ Ok p → Grows s p.0
 calls_grow at s m q p n ready e f = grows_on s q.0 p.0 (grows_on s m.0 q.0 ready.grows (added_grows at m.0 (nodes.members m.1) q e)) (added_grows at q.0 n p f)
 
 -- a type that was there is there behind another
-pub below_on : (at : ℕ) (s : Scope) (n : Node) (p : Placed) (i : ℕ) → added at s n ≡ Ok p
+pub below_on : (at : ℕ) (s : Scope) (n : Node) (p : AddedType) (i : ℕ) → added at s n ≡ Ok p
     → i < length s.table.types → i < length (p.0).table.types
 below_on at s n p i e lt = let g = (added_grows at s n p e).types in omega (arith, ap length g.1, length-append s.table.types g.0)

@@ -11,12 +11,12 @@ use Rattle.giop_tokens.specs.Readers.{mark_at}
 use Rattle.giop_tokens.proofs.ReaderLaws.{bind_ok, ok_is, Takes, mark_again, mark_if_again, mark_takes, repository_again}
 use Rattle.giop_sig.specs.Table.{Node, exception_in}
 use Rattle.giop_sig.specs.Table as nodes
-use Rattle.giop_sig.specs.Grammar.{Item, spell_length, spell_items, Declaration, Structure, Raise, spell}
-use Rattle.giop_sig.specs.Scopes.{Scope, Placed, with_named, with_raised, place_items, place_struct, declare}
+use Rattle.giop_sig.specs.Grammar.{Item, spell_length, spell_items, Declaration, Structure, DeclaredException, spell}
+use Rattle.giop_sig.specs.Scopes.{Scope, AddedType, with_named, with_raised, add_items, add_struct_type, declare}
 use Rattle.giop_sig.specs.Validity.{Kind, OfSome, OfItems, OfRepository, OfDeclaration}
 use Rattle.giop_sig.specs.Outcomes.{refused}
 use Rattle.giop_sig.specs.TypeReading.{added}
-use Rattle.giop_sig.specs.ItemReading.{declared_at, members_at, filled_at, Declared, structure_at, new_repository_at, raise_at, MembersRead}
+use Rattle.giop_sig.specs.ItemReading.{declared_at, members_at, filled_at, Declared, structure_at, new_repository_at, exception_at, MembersRead}
 use Rattle.giop_sig.proofs.PlaceLaws.{size, within_same, within_on, Grown, node_more, struct_more}
 use Rattle.giop_sig.proofs.ReadingLaws.{Out, good, broken, out_bind, if_apart, Took}
 use Rattle.giop_sig.proofs.TypeLaws.{added_bind}
@@ -37,18 +37,18 @@ filled_reads types (i ∷ is) text more h =
 -- ---- structs
 
 -- the members of a struct, and the struct
-closed_reads : (at : ℕ) (s : Scope) (is : List Item) (h : Placed → Scope) (rule : Kind → Type 0)
+closed_reads : (at : ℕ) (s : Scope) (is : List Item) (h : AddedType → Scope) (rule : Kind → Type 0)
     (text : List ℕ) (more : List Token) → 0 < size s → OfItems kinds.Syntax s.names 256 [] is
     → AreTokens text (spell_items is (mark marks.Semicolon ∷ more))
     → (((k : Kind) → OfItems k s.names 256 [] is) → (k : Kind) → rule k)
     → ((k : Kind) → rule k → OfItems k s.names 256 [] is)
-    → Grown (place_struct (place_items s is)).0 (h (place_struct (place_items s is)))
-    → Out {X = Declared} (λ rest. (h (place_struct (place_items s is)), rest)) rule
-    (h (place_struct (place_items s is))).table.types more
+    → Grown (add_struct_type (add_items s is)).0 (h (add_struct_type (add_items s is)))
+    → Out {X = Declared} (λ rest. (h (add_struct_type (add_items s is)), rest)) rule
+    (h (add_struct_type (add_items s is))).table.types more
     (members_at at s text >>= λ m. mark_at marks.Semicolon m.2
     >>= λ r. added at m.0 (nodes.members m.1) >>= λ p. Ok (h p, r))
 closed_reads at s is h rule text more some free t on up le =
-    let made = place_items s is in
+    let made = add_items s is in
     out_bind (members_at at s text) (λ m. mark_at marks.Semicolon m.2 >>= λ r. added at m.0 (nodes.members m.1) >>= λ p. Ok (h p, r))
     (members_reads is at 257 [] [] s s.names text (mark marks.Semicolon ∷ more) refl some (omega arith) (omega arith) free t)
     (λ rest m keeps. rw (mark_again marks.Semicolon rest more m)
@@ -145,13 +145,13 @@ repository_reads types s text r more h =
     rw (repository_again text r more h) (repository_by types s text r h.0 more (ltb 128 (length r)) (is_some (exception_in s.table r)) refl refl h.2)
 
 pub raise_reads : (s : Scope) (w i : List ℕ) (is : List Item) (text : List ℕ) (more : List Token)
-    → 0 < size s → OfDeclaration kinds.Syntax s (Raise w i is)
+    → 0 < size s → OfDeclaration kinds.Syntax s (DeclaredException w i is)
     → AreTokens text (word w ∷ repository i ∷ mark marks.OpenBrace
     ∷ spell_items is (mark marks.Semicolon ∷ more))
-    → Out {X = Declared} (λ rest. (declare s (Raise w i is), rest))
-    (λ k. OfDeclaration k s (Raise w i is))
-    (declare s (Raise w i is)).table.types more (raise_at s text)
-unfolding raise_at declare OfDeclaration
+    → Out {X = Declared} (λ rest. (declare s (DeclaredException w i is), rest))
+    (λ k. OfDeclaration k s (DeclaredException w i is))
+    (declare s (DeclaredException w i is)).table.types more (exception_at s text)
+unfolding exception_at declare OfDeclaration
 raise_reads s w i is text more some free t =
     let at = left_of text in
     out_bind (declared_at s (length s.table.exceptions) text)
@@ -164,7 +164,7 @@ raise_reads s w i is text more some free t =
     >>= λ r. added at m.0 (nodes.members m.1) >>= λ p. Ok (with_raised w i.0 p, r))
     (repository_reads s.table.types s a i (mark marks.OpenBrace ∷ spell_items is (mark marks.Semicolon ∷ more)) ta)
     (λ b tb kb. rw (mark_again marks.OpenBrace b (spell_items is (mark marks.Semicolon ∷ more)) tb)
-    (closed_reads at s is (with_raised w i) (λ k. OfDeclaration k s (Raise w i is)) tb.0 more some free.2 tb.2 (λ keeps k. (ka k, kb k, keeps k))
+    (closed_reads at s is (with_raised w i) (λ k. OfDeclaration k s (DeclaredException w i is)) tb.0 more some free.2 tb.2 (λ keeps k. (ka k, kb k, keeps k))
     (λ k h. h.2) within_same))
     (λ k h. h.1) (struct_more s is))
     (λ k h. h.0) (struct_more s is)
@@ -177,7 +177,7 @@ raise_made : (s : Scope) (whole text o : List ℕ) (n i : List ℕ × List ℕ) 
     → TakenDeclaration s whole (t, r)
 unfolding OfDeclaration
 raise_made s whole text o n i m r t before a d b k e = record {
-  declaration = Raise n.0 i.0 k.items;
+  declaration = DeclaredException n.0 i.0 k.items;
   took = record {
     free = (a.free, tt, k.took.free);
     front = λ more h.
@@ -190,9 +190,9 @@ raise_made s whole text o n i m r t before a d b k e = record {
 }
 
 pub raise_takes : (s : Scope) (whole text : List ℕ) (x : Declared)
-    → Takes whole (word (codes "exception")) text → raise_at s text ≡ Ok x
+    → Takes whole (word (codes "exception")) text → exception_at s text ≡ Ok x
     → TakenDeclaration s whole x
-unfolding raise_at
+unfolding exception_at
 raise_takes s whole text x before e =
     let at = left_of text in
     let n = bind_ok _ _ x e in

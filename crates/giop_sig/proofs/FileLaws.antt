@@ -10,10 +10,10 @@ use Rattle.giop_tokens.specs.Tokens.{Token, word, number, repository, mark, next
 use Rattle.giop_tokens.specs.Reading.{◌>>=◌}
 use Rattle.giop_tokens.specs.Readers.{misplaced, word_at, number_at, mark_at, keyword_at, is_end, end_at}
 use Rattle.giop_tokens.proofs.ReaderLaws.{bind_ok, ok_is, Takes, word_again, number_again, mark_again, keyword_again, end_again, end_other, word_takes, number_takes, mark_takes, keyword_takes}
-use Rattle.giop_sig.specs.Grammar.{TypeExpr, Item, UnionCase, spell_type, spell_names, spell_items, spell_cases, spell_params, spell_return, Declaration, Enumeration, Structure, Choice, Raise, Call, spell, spell_all, SignatureFile, is_version, spell_file}
+use Rattle.giop_sig.specs.Grammar.{TypeExpr, Item, UnionCase, spell_type, spell_names, spell_items, spell_cases, spell_params, spell_return, Declaration, Enumeration, Structure, DeclaredUnion, DeclaredException, Call, spell, spell_all, SignatureFile, is_version, spell_file}
 use Rattle.giop_sig.specs.Scopes.{Scope, first_scope, declare, scope_after}
 use Rattle.giop_sig.specs.Validity.{Kind, OfDeclaration, HasItsWords, Each, Spells}
-use Rattle.giop_sig.specs.ItemReading.{Declared, structure_at, raise_at}
+use Rattle.giop_sig.specs.ItemReading.{Declared, structure_at, exception_at}
 use Rattle.giop_sig.specs.CallReading.{operation_at}
 use Rattle.giop_sig.specs.EnumReading.{enumeration_at}
 use Rattle.giop_sig.specs.UnionReading.{union_at}
@@ -42,11 +42,11 @@ DeclarationOut s d more r =
 abbrev pub UnionReads : Type 0
 UnionReads =
     (s : Scope) (n : List ℕ) (e : TypeExpr) (cs : List UnionCase) (text : List ℕ)
-    (more : List Token) → 0 < size s → OfDeclaration kinds.Syntax s (Choice n e cs)
+    (more : List Token) → 0 < size s → OfDeclaration kinds.Syntax s (DeclaredUnion n e cs)
     → AreTokens text (word n ∷ word (codes "switch") ∷ mark marks.OpenParenthesis
     ∷ spell_type e (mark marks.CloseParenthesis ∷ mark marks.OpenBrace
     ∷ spell_cases cs (mark marks.Semicolon ∷ more)))
-    → DeclarationOut s (Choice n e cs) more (union_at s text)
+    → DeclarationOut s (DeclaredUnion n e cs) more (union_at s text)
 
 abbrev pub UnionTakes : Type 0
 UnionTakes =
@@ -63,11 +63,11 @@ declaration_reads union (Enumeration n names) s text more some free h =
 declaration_reads union (Structure n is) s text more some free h =
     rw (word_again text (codes "struct") (word n ∷ mark marks.OpenBrace ∷ spell_items is (mark marks.Semicolon ∷ more)) h)
     (structure_reads s n is h.0 more some free h.2)
-declaration_reads union (Choice n e cs) s text more some free h =
+declaration_reads union (DeclaredUnion n e cs) s text more some free h =
     rw (word_again text (codes "union") (word n ∷ word (codes "switch") ∷ mark marks.OpenParenthesis
     ∷ spell_type e (mark marks.CloseParenthesis ∷ mark marks.OpenBrace ∷ spell_cases cs (mark marks.Semicolon ∷ more))) h)
     (union s n e cs h.0 more some free h.2)
-declaration_reads union (Raise n r is) s text more some free h =
+declaration_reads union (DeclaredException n r is) s text more some free h =
     rw (word_again text (codes "exception") (spell_raise n r is more) h) (raise_reads s n r is h.0 more some free h.2)
 declaration_reads union (Call o n ps) s text more some free h =
     rw (word_again text (codes "operation") (spell_return o (word n ∷ mark marks.OpenParenthesis ∷ spell_params ps (mark marks.Semicolon ∷ more))) h)
@@ -91,7 +91,7 @@ after_by : UnionTakes → (s : Scope) (text w rest : List ℕ) (x : Declared) (a
     → bytes_eq w (codes "operation") ≡ e
     → Takes text (word w) rest → cond a (enumeration_at s rest)
     (cond b (structure_at s rest)
-    (cond c (union_at s rest) (cond d (raise_at s rest)
+    (cond c (union_at s rest) (cond d (exception_at s rest)
     (cond e (operation_at s rest) (Err (misplaced text)))))) ≡ Ok x → TakenDeclaration s text x
 after_by union s text w rest x true b c d e p q r u v t h =
     enumeration_taken s text rest x (subst (λ v. Takes text (word v) rest) ((bytes_eq-Decides w (codes "enum")).0 p) t) (enumeration_takes s rest x h)
@@ -157,10 +157,10 @@ not_over : (d : Declaration) (text : List ℕ) (more : List Token)
 not_over (Enumeration n names) text more h =
     end_other text (word (codes "enum")) (word n ∷ mark marks.OpenBrace ∷ spell_names names (mark marks.Semicolon ∷ more)) h
 not_over (Structure n is) text more h = end_other text (word (codes "struct")) (word n ∷ mark marks.OpenBrace ∷ spell_items is (mark marks.Semicolon ∷ more)) h
-not_over (Choice n e cs) text more h =
+not_over (DeclaredUnion n e cs) text more h =
     end_other text (word (codes "union")) (word n ∷ word (codes "switch") ∷ mark marks.OpenParenthesis
     ∷ spell_type e (mark marks.CloseParenthesis ∷ mark marks.OpenBrace ∷ spell_cases cs (mark marks.Semicolon ∷ more))) h
-not_over (Raise n r is) text more h = end_other text (word (codes "exception")) (spell_raise n r is more) h
+not_over (DeclaredException n r is) text more h = end_other text (word (codes "exception")) (spell_raise n r is more) h
 not_over (Call o n ps) text more h =
     end_other text (word (codes "operation")) (spell_return o (word n ∷ mark marks.OpenParenthesis ∷ spell_params ps (mark marks.Semicolon ∷ more))) h
 

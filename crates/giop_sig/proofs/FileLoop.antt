@@ -2,8 +2,8 @@
 use Rattle.std.proofs.Common.{◌≡◌, ℕ, suc, ◌+◌, ◌-◌, ◌<◌, ◌≤◌, true, false, List, Result, Ok, Err, refl, sym, ◌∙◌, arith}
 use Rattle.giop_tokens.specs.declared.fault.Refusal.{Refusal}
 use Rattle.giop_tokens.specs.Readers.{misplaced, end_at}
-use Rattle.giop_sig.specs.declared.stop.Stop.{Stop}
-use Rattle.giop_sig.specs.declared.stop.Stop.TheVariants as stops
+use Rattle.giop_sig.specs.declared.parse_stop.ParseStop.{ParseStop}
+use Rattle.giop_sig.specs.declared.parse_stop.ParseStop.TheVariants as stops
 use Rattle.giop_sig.specs.Scopes.{Scope}
 use Rattle.giop_sig.specs.Outcomes.{Stops}
 use Rattle.giop_sig.specs.ItemReading.{Declared}
@@ -31,7 +31,7 @@ module _ (n i : ℕ) (s : Scope) (text : List ℕ) (total : Result Scope Refusal
       let one : declarations_run (n - i) s text ≡ Err e = rw (k, h) refl in
       sym so_far ∙ one
 
-  pub fails : i < n → end_at text ≡ Ok false → (e : Stop) → Stops e (declaration_at s text) → Stops e total
+  pub fails : i < n → end_at text ≡ Ok false → (e : ParseStop) → Stops e (declaration_at s text) → Stops e total
   unfolding declarations_run
   fails lt more stops.Memory h = tt
   fails lt more (stops.Refused r) h =

@@ -12,7 +12,7 @@ use Rattle.arrayvec.specs.ArrayVec.{ArrayVec}
 use Rattle.giop_sig.specs.declared.types.TypeId.{TypeId}
 use Rattle.giop_sig.specs.declared.catalogue.Signature.{Signature}
 use Rattle.giop_sig.specs.Table.{Operation, Exception, Table, op_id, type_id, no_operation, no_exception, operation_in, exception_in, members_at}
-use Rattle.giop_sig.specs.Headers.{IsCall, IsRaised, IsTable}
+use Rattle.giop_sig.specs.HeaderTypes.{IsOperation, IsException, IsTable}
 use Rattle.giop_sig.specs.Entries.{operation_view, exception_view}
 
 position_or_len-map : {X Y : Type 0} (p : Y → Bool) (f : X → Y) (xs : List X)
@@ -86,7 +86,7 @@ signature_known es view t i e laws same kept at =
     let call = laws.operations i no_operation lt in
     let is : get_or view.operations i no_operation ≡ operation_view e =
     ap (λ (os : List Operation). get_or os i no_operation) kept ∙ read_map operation_view es i e no_operation at in
-    let known = subst (IsCall view.types) is call in
+    let known = subst (IsOperation view.types) is call in
     subst (λ (u : Table). (e.1.request.0 < length u.types) × (e.1.reply.0 < length u.types)) same (known.request, known.reply)
 
 -- ---- exceptions
@@ -128,4 +128,4 @@ exception_known es t i e laws view at =
     let lt : i < length t.exceptions = omega (arith, ap length view, length-map es exception_view, inside_by es i e at) in
     let is : get_or t.exceptions i no_exception ≡ exception_view e =
     ap (λ (xs : List Exception). get_or xs i no_exception) (sym view) ∙ read_map exception_view es i e no_exception at in
-    (subst (IsRaised t.types) is (laws.exceptions i no_exception lt)).members
+    (subst (IsException t.types) is (laws.exceptions i no_exception lt)).members

@@ -6,7 +6,7 @@ use Rattle.giop_sig.specs.Types.{Ty}
 use Rattle.giop_sig.specs.Table.{Table}
 use Rattle.giop_sig.specs.Trees.{trees_after, type_in, tree}
 use Rattle.giop_sig.specs.Builtin.{builtin_types}
-use Rattle.giop_sig.specs.Headers.{header_number, header_type, IdStandsFirst, BeginsWithId, IsTable}
+use Rattle.giop_sig.specs.HeaderTypes.{header_number, header_type, IdStandsFirst, BeginsWithId, IsTable}
 use Rattle.giop_sig.proofs.Builtins.{header_found}
 
 in_last : (kind : ℕ) → IfSome (header_type 2 kind) BeginsWithId

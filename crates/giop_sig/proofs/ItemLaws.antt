@@ -16,7 +16,7 @@ use Rattle.giop_tokens.proofs.ReaderLaws.{mark_again, mark_if_again, identifier_
 use Rattle.giop_sig.specs.Table.{Node, Part}
 use Rattle.giop_sig.specs.Table as nodes
 use Rattle.giop_sig.specs.Grammar.{TypeExpr, Base, Text, Reference, Named, SequenceOf, EncapsulationOf, Item, spell_length, spell_type, spell_item, spell_items}
-use Rattle.giop_sig.specs.Scopes.{Names, Scope, part, item_part, place, place_length, place_item, place_items}
+use Rattle.giop_sig.specs.Scopes.{Names, Scope, part, item_part, place, add_array, add_item, add_items}
 use Rattle.giop_sig.specs.Validity.{Kind, IsFree, is_among, OfNewName, OfSome, OfItem, OfItems, OfDeclared}
 use Rattle.giop_sig.specs.Outcomes.{refused}
 use Rattle.giop_sig.specs.TypeReading.{enclosed_at, type_at}
@@ -104,19 +104,19 @@ declared_reads types s count text w more free h =
 array_reads : (at : ℕ) (s : Scope) (e : ℕ) (o : Option ℕ) (rule : Kind → Type 0) (w rest : List ℕ)
     (more : List Token) → AreTokens rest more → ((k : Kind) → rule k)
     → Out {X = ItemRead} (λ rest.
-    ((place_length o (s, e)).0, part w (place_length o (s, e)).1, rest)) rule
-    (place_length o (s, e)).0.table.types more
+    ((add_array o (s, e)).0, part w (add_array o (s, e)).1, rest)) rule
+    (add_array o (s, e)).0.table.types more
     (array_type at s e o >>= λ p. Ok (p.0, part w p.1, rest))
 array_reads at s e None rule w rest more m keeps = good rest m keeps
 array_reads at s e (Some n) rule w rest more m keeps = added_bind at s (nodes.array n e) (λ p. Ok (p.0, part w p.1, rest)) within_same (good rest m keeps)
 
 abbrev pub made_item : Scope → Item → List ℕ → ItemRead
-made_item s i rest = ((place_item s i).0, item_part i (place_item s i), rest)
+made_item s i rest = ((add_item s i).0, item_part i (add_item s i), rest)
 
 pub item_reads : (at most : ℕ) (seen : List (List ℕ)) (s : Scope) (i : Item) (text : List ℕ)
     (more : List Token) → 0 < size s → OfItem kinds.Syntax s.names most seen i
     → Apart marks.OpenBracket more → AreTokens text (spell_item i more)
-    → Out (made_item s i) (λ k. OfItem k s.names most seen i) (place_item s i).0.table.types more
+    → Out (made_item s i) (λ k. OfItem k s.names most seen i) (add_item s i).0.table.types more
     (item_at at most seen s text)
 unfolding item_at
 item_reads at most seen s i text more some free apart h =
@@ -146,9 +146,9 @@ type_apart _ more = refl
 abbrev made_member : List (List ℕ) → List Part → Scope → Item → List ℕ → Members
 made_member seen parts s i rest =
     record {
-      scope = (place_item s i).0;
+      scope = (add_item s i).0;
       seen = seen ++ i.name ∷ [];
-      parts = parts ++ item_part i (place_item s i) ∷ [];
+      parts = parts ++ item_part i (add_item s i) ∷ [];
       rest = rest;
       closed = false;
     }
@@ -157,7 +157,7 @@ member_reads : (at : ℕ) (seen : List (List ℕ)) (parts : List Part) (s : Scop
     (text : List ℕ) (more : List Token) → 0 < size s → OfItem kinds.Syntax s.names 256 seen i
     → AreTokens text (spell_item i (mark marks.Semicolon ∷ more))
     → Out (made_member seen parts s i) (λ k. OfItem k s.names 256 seen i)
-    (place_item s i).0.table.types more (member_at at seen parts s text)
+    (add_item s i).0.table.types more (member_at at seen parts s text)
 unfolding member_at
 member_reads at seen parts s i text more some free h =
     out_bind (item_at at 256 seen s text) (λ i. mark_at marks.Semicolon i.2
@@ -166,7 +166,7 @@ member_reads at seen parts s i text more some free h =
     (λ rest m keeps. rw (mark_again marks.Semicolon rest more m) (good m.0 m.2 keeps)) (λ k w. w) within_same
 
 abbrev pub made_members : List Part → Scope → List Item → List ℕ → MembersRead
-made_members parts s is rest = ((place_items s is).0, parts ++ (place_items s is).1, rest)
+made_members parts s is rest = ((add_items s is).0, parts ++ (add_items s is).1, rest)
 
 run_on : (at n : ℕ) (seen : List (List ℕ)) (parts : List Part) (s : Scope) (text : List ℕ)
     → mark_if marks.CloseBrace text ≡ Ok None
@@ -186,8 +186,8 @@ run_end at n seen parts s text rest h = rw h refl
 closes : (seen : List (List ℕ)) (parts : List Part) (s : Scope) (names : Names) (rest : List ℕ)
     (more : List Token) → AreTokens rest more
     → Out (made_members parts s []) (λ k. OfItems k names 256 seen [])
-    (place_items s []).0.table.types more (Ok (s, parts, rest))
-unfolding OfItems place_items
+    (add_items s []).0.table.types more (Ok (s, parts, rest))
+unfolding OfItems add_items
 closes seen parts s names rest more m =
     subst (λ ps. Out {X = MembersRead} (λ rest. (s, ps, rest)) (λ k. Unit {0}) s.table.types more (Ok (s, parts, rest)))
     (sym (append-nil parts)) (good rest m (λ k. tt))
@@ -195,47 +195,47 @@ closes seen parts s names rest more m =
 made_on : (parts : List Part) (s : Scope) (i : Item) (is : List Item) (names : Names)
     (seen : List (List ℕ)) (more : List Token) (r : Result MembersRead Refusal)
     → ((k : Kind) → OfItem k names 256 seen i)
-    → Out (made_members (parts ++ item_part i (place_item s i) ∷ []) (place_item s i).0 is)
+    → Out (made_members (parts ++ item_part i (add_item s i) ∷ []) (add_item s i).0 is)
     (λ k. OfItems k names 256 (seen ++ i.name ∷ []) is)
-    (place_items (place_item s i).0 is).0.table.types more r
+    (add_items (add_item s i).0 is).0.table.types more r
     → Out (made_members parts s (i ∷ is)) (λ k. OfItems k names 256 seen (i ∷ is))
-    (place_items s (i ∷ is)).0.table.types more r
-unfolding OfItems place_items
+    (add_items s (i ∷ is)).0.table.types more r
+unfolding OfItems add_items
 made_on parts s i is names seen more r first o =
-    let same = append_assoc parts (item_part i (place_item s i) ∷ []) (place_items (place_item s i).0 is).1 in
-    out_more (subst (λ ps. Out {X = MembersRead} (λ rest. ((place_items (place_item s i).0 is).0, ps, rest)) (λ k. OfItems k names 256 (seen ++ i.name ∷ []) is)
-    (place_items (place_item s i).0 is).0.table.types more r) same o)
+    let same = append_assoc parts (item_part i (add_item s i) ∷ []) (add_items (add_item s i).0 is).1 in
+    out_more (subst (λ ps. Out {X = MembersRead} (λ rest. ((add_items (add_item s i).0 is).0, ps, rest)) (λ k. OfItems k names 256 (seen ++ i.name ∷ []) is)
+    (add_items (add_item s i).0 is).0.table.types more r) same o)
     (λ k w. (first k, w)) (λ k w. w.1)
 
 -- a member, and then the others
 member_on : (at n : ℕ) (seen : List (List ℕ)) (parts : List Part) (s : Scope) (names : Names)
     (i : Item) (is : List Item) (more : List Token) → s.names ≡ names → (r : Result Members Refusal)
     → Out (made_member seen parts s i) (λ k. OfItem k names 256 seen i)
-    (place_item s i).0.table.types (spell_items is more) r
+    (add_item s i).0.table.types (spell_items is more) r
     → ((rest : List ℕ) → AreTokens rest (spell_items is more)
     → ((k : Kind) → OfItem k names 256 seen i)
-    → Out (made_members (parts ++ item_part i (place_item s i) ∷ []) (place_item s i).0 is)
+    → Out (made_members (parts ++ item_part i (add_item s i) ∷ []) (add_item s i).0 is)
     (λ k. OfItems k names 256 (seen ++ i.name ∷ []) is)
-    (place_items (place_item s i).0 is).0.table.types more
-    (members_run at n (seen ++ i.name ∷ []) (parts ++ item_part i (place_item s i) ∷ [])
-    (place_item s i).0 rest))
+    (add_items (add_item s i).0 is).0.table.types more
+    (members_run at n (seen ++ i.name ∷ []) (parts ++ item_part i (add_item s i) ∷ [])
+    (add_item s i).0 rest))
     → Out (made_members parts s (i ∷ is)) (λ k. OfItems k names 256 seen (i ∷ is))
-    (place_items s (i ∷ is)).0.table.types more
+    (add_items s (i ∷ is)).0.table.types more
     (r >>= λ m. cond m.closed (Ok (m.scope, m.parts, m.rest))
     (members_run at n m.seen m.parts m.scope m.rest))
-unfolding OfItems place_items
+unfolding OfItems add_items
 member_on at n seen parts s names i is more same r o on =
     out_bind r (λ m. cond m.closed (Ok (m.scope, m.parts, m.rest)) (members_run at n m.seen m.parts m.scope m.rest)) o
     (λ rest m keeps. made_on parts s i is names seen more
-    (members_run at n (seen ++ i.name ∷ []) (parts ++ item_part i (place_item s i) ∷ []) (place_item s i).0 rest) keeps (on rest m keeps))
-    (λ k w. w.0) (items_more (place_item s i).0 is)
+    (members_run at n (seen ++ i.name ∷ []) (parts ++ item_part i (add_item s i) ∷ []) (add_item s i).0 rest) keeps (on rest m keeps))
+    (λ k w. w.0) (items_more (add_item s i).0 is)
 
 pub members_reads : (is : List Item) (at n : ℕ) (seen : List (List ℕ)) (parts : List Part)
     (s : Scope) (names : Names) (text : List ℕ) (more : List Token) → s.names ≡ names → 0 < size s
     → n + length seen ≡ 257 → length seen ≤ 256
     → OfItems kinds.Syntax names 256 seen is → AreTokens text (spell_items is more)
     → Out (made_members parts s is) (λ k. OfItems k names 256 seen is)
-    (place_items s is).0.table.types more (members_run at n seen parts s text)
+    (add_items s is).0.table.types more (members_run at n seen parts s text)
 unfolding OfItems
 members_reads [] at zero seen parts s names text more same some n few free h = absurd (omega arith)
 members_reads (i ∷ is) at zero seen parts s names text more same some n few free h = absurd (omega arith)
@@ -246,10 +246,10 @@ members_reads (i ∷ is) at (suc n) seen parts s names text more same some fuel 
     (type_apart i.type (word i.name ∷ spell_length i.length (mark marks.Semicolon ∷ spell_items is more))) h in
     rw (run_on at n seen parts s text apart)
     (member_on at n seen parts s names i is more same (member_at at seen parts s text)
-    (subst (λ ns. Out (made_member seen parts s i) (λ k. OfItem k ns 256 seen i) (place_item s i).0.table.types (spell_items is more)
+    (subst (λ ns. Out (made_member seen parts s i) (λ k. OfItem k ns 256 seen i) (add_item s i).0.table.types (spell_items is more)
     (member_at at seen parts s text)) same
     (member_reads at seen parts s i text (spell_items is more) some (subst (λ ns. OfItem kinds.Syntax ns 256 seen i) (sym same) free.0) h))
     (λ rest m keeps.
     let lt = (keeps kinds.Limit).1.1 in
-    members_reads is at n (seen ++ i.name ∷ []) (parts ++ item_part i (place_item s i) ∷ []) (place_item s i).0 names rest more (item_names s i ∙ same)
+    members_reads is at n (seen ++ i.name ∷ []) (parts ++ item_part i (add_item s i) ∷ []) (add_item s i).0 names rest more (item_names s i ∙ same)
     (omega (arith, (item_more s i).longer)) (omega (arith, length-append seen (i.name ∷ []))) (omega (arith, length-append seen (i.name ∷ []))) free.1 m))

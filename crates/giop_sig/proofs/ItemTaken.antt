@@ -18,7 +18,7 @@ use Rattle.giop_tokens.proofs.ReaderLaws.{bind_ok, ok_is, Takes, word_takes, mar
 use Rattle.giop_sig.specs.Table.{Node, Part, IsPart, TakesOctet, exception_in}
 use Rattle.giop_sig.specs.Table as nodes
 use Rattle.giop_sig.specs.Grammar.{Item, spell_length, spell_item, spell_items}
-use Rattle.giop_sig.specs.Scopes.{Scope, Placed, part}
+use Rattle.giop_sig.specs.Scopes.{Scope, AddedType, part}
 use Rattle.giop_sig.specs.Validity.{IsFree, is_among, OfItem, OfItems}
 use Rattle.giop_sig.specs.ScopeViews.{IsKnown, IsScope}
 use Rattle.giop_sig.specs.Outcomes.{refused}
@@ -83,12 +83,12 @@ declared_takes s count text x e =
 
 -- ---- items
 
-array_grows : (at : ℕ) (s : Scope) (element : ℕ) (o : Option ℕ) (p : Placed)
+array_grows : (at : ℕ) (s : Scope) (element : ℕ) (o : Option ℕ) (p : AddedType)
     → array_type at s element o ≡ Ok p → Grows s p.0
-array_grows at s element None p e = subst (λ (q : Placed). Grows s q.0) (ok_is (s, element) p e) (grows_none s)
+array_grows at s element None p e = subst (λ (q : AddedType). Grows s q.0) (ok_is (s, element) p e) (grows_none s)
 array_grows at s element (Some n) p e = added_grows at s (nodes.array n element) p e
 
-array_sound : (at : ℕ) (s : Scope) (element : ℕ) (o : Option ℕ) (p : Placed)
+array_sound : (at : ℕ) (s : Scope) (element : ℕ) (o : Option ℕ) (p : AddedType)
     → array_type at s element o ≡ Ok p → Sound (s, element) → Sound p
 array_sound at s element None p e is = subst Sound (ok_is (s, element) p e) is
 array_sound at s element (Some n) p e is = sound_added at s (nodes.array n element) p e is.scope tt
@@ -104,7 +104,7 @@ pub record TakenItem (s : Scope) (most : ℕ) (seen : List (List ℕ)) (text : L
   pub few : length seen < most
 
 item_made : (at most : ℕ) (seen : List (List ℕ)) (s : Scope) (text : List ℕ) (t : TypeRead)
-    (n : List ℕ × List ℕ) (l : Option ℕ × List ℕ) (p : Placed) → TakenType s text t
+    (n : List ℕ × List ℕ) (l : Option ℕ × List ℕ) (p : AddedType) → TakenType s text t
     → NameTaken most seen t.2 n
     → Took (spell_length l.0) (Unit {0}) n.1 l.1 → array_type at t.0 t.1 l.0 ≡ Ok p
     → TakenItem s most seen text (p.0, part n.0 p.1, l.1)
@@ -263,7 +263,7 @@ struct_formed at s text m e is =
     let t = members_takes at 257 [] [] s text m e in
     (let f = t.few in omega arith, (t.sound is (no_parts s)).parts)
 
-pub members_grow : (at : ℕ) (s : Scope) (text : List ℕ) (m : MembersRead) (p : Placed)
+pub members_grow : (at : ℕ) (s : Scope) (text : List ℕ) (m : MembersRead) (p : AddedType)
     → members_at at s text ≡ Ok m → added at m.0 (nodes.members m.1) ≡ Ok p → Grows s p.0
 members_grow at s text m p e put = grows_on s m.0 p.0 (members_takes at 257 [] [] s text m e).grows (added_grows at m.0 (nodes.members m.1) p put)
 
@@ -272,13 +272,13 @@ some_octet [] lt = absurd (omega arith)
 some_octet (p ∷ ps) lt = tt
 
 -- a struct of some members can be a part
-pub struct_known : (at : ℕ) (s : Scope) (o f : List ℕ) (m : MembersRead) (p : Placed)
+pub struct_known : (at : ℕ) (s : Scope) (o f : List ℕ) (m : MembersRead) (p : AddedType)
     → filled_at o ≡ Ok f → members_at at s f ≡ Ok m → added at m.0 (nodes.members m.1) ≡ Ok p
     → IsKnown (p.0).table.types p.1
 struct_known at s o f m p fill e put =
     let k = filled_takes o f fill in
     let some : mark_if marks.CloseBrace f ≡ Ok None = subst (λ t. mark_if marks.CloseBrace t ≡ Ok None) k.0 k.1 in
-    subst (λ (q : Placed). IsKnown (q.0).table.types q.1) (sym (added_is at m.0 (nodes.members m.1) p put))
+    subst (λ (q : AddedType). IsKnown (q.0).table.types q.1) (sym (added_is at m.0 (nodes.members m.1) p put))
     (node_known m.0 (nodes.members m.1) (some_octet m.1 ((members_takes at 257 [] [] s f m e).some some)))
 
 -- a name that was new is new still
@@ -313,7 +313,7 @@ pub still_different : (s t : Scope) (r : List ℕ) → Grows s t → exception_i
     → exception_in t.table r ≡ None
 still_different s t r g e = ap (λ es. exception_in (record s.table { exceptions = es }) r) g.exceptions ∙ e
 
-pub added_below : (at : ℕ) (s : Scope) (n : Node) (p : Placed) → added at s n ≡ Ok p
+pub added_below : (at : ℕ) (s : Scope) (n : Node) (p : AddedType) → added at s n ≡ Ok p
     → p.1 < length (p.0).table.types
 added_below at s n p e =
-    subst (λ (q : Placed). q.1 < length (q.0).table.types) (sym (added_is at s n p e)) (omega (arith, length-append s.table.types (n ∷ [])))
+    subst (λ (q : AddedType). q.1 < length (q.0).table.types) (sym (added_is at s n p e)) (omega (arith, length-append s.table.types (n ∷ [])))

@@ -4,7 +4,7 @@ use Rattle.std.proofs.lemmas.List.{length-append, get_or_append_left, length-map
 use Rattle.std.proofs.Math.Seq.{get_or-append_seam}
 use Rattle.std.proofs.lemmas.Bool.{cases_lt}
 use Rattle.giop_cdr.specs.declared.prim.Primitive.TheVariants.{Octet}
-use Rattle.giop_sig.specs.declared.entries.Placed.{Placed}
+use Rattle.giop_sig.specs.declared.entries.EntryWithDepth.{EntryWithDepth}
 use Rattle.giop_sig.specs.Types.{depth}
 use Rattle.giop_sig.specs.Table.{Node, node_in, IsFormed}
 use Rattle.giop_sig.specs.Table as nodes
@@ -14,24 +14,24 @@ use Rattle.giop_sig.proofs.TreeLaws.{length_after}
 use Rattle.giop_sig.proofs.Depths.{depths_read, depth_within, depths_added, deepest_added}
 use Rattle.giop_sig.proofs.Formed.{formed_stays, sized}
 
-pub node_read : (ps : List Placed) (i : ℕ) (p : Placed) → i < length ps → p ≡ get_or ps i p
+pub node_read : (ps : List EntryWithDepth) (i : ℕ) (p : EntryWithDepth) → i < length ps → p ≡ get_or ps i p
     → node_in (nodes_view ps) i ≡ node_view p.entry
 node_read [] i p lt h = absurd (omega arith)
-node_read (x ∷ ps) zero p lt h = ap (λ (q : Placed). node_view q.entry) (sym h)
+node_read (x ∷ ps) zero p lt h = ap (λ (q : EntryWithDepth). node_view q.entry) (sym h)
 node_read (x ∷ ps) (suc i) p lt h = node_read ps i p (omega arith) h
 
-depth_kept : (ps : List Placed) (i : ℕ) (p : Placed) → i < length ps → p ≡ get_or ps i p
+depth_kept : (ps : List EntryWithDepth) (i : ℕ) (p : EntryWithDepth) → i < length ps → p ≡ get_or ps i p
     → get_or (map (λ q. q.depth) ps) i 0 ≡ p.depth
 depth_kept [] i p lt h = absurd (omega arith)
-depth_kept (x ∷ ps) zero p lt h = ap (λ (q : Placed). q.depth) (sym h)
+depth_kept (x ∷ ps) zero p lt h = ap (λ (q : EntryWithDepth). q.depth) (sym h)
 depth_kept (x ∷ ps) (suc i) p lt h = depth_kept ps i p (omega arith) h
 
-inside : (ps : List Placed) (types : List Node) (i : ℕ) → nodes_view ps ≡ types
+inside : (ps : List EntryWithDepth) (types : List Node) (i : ℕ) → nodes_view ps ≡ types
     → i < length types → i < length ps
 inside ps types i view lt = omega (arith, ap length view, length-map ps (λ p. node_view p.entry))
 
 -- the entry that was read is formed
-pub formed_read : (ps : List Placed) (deepest : ℕ) (types : List Node) (i : ℕ) (p : Placed)
+pub formed_read : (ps : List EntryWithDepth) (deepest : ℕ) (types : List Node) (i : ℕ) (p : EntryWithDepth)
     → IsKept ps deepest → nodes_view ps ≡ types → i < length types → p ≡ get_or ps i p
     → IsFormed types i (node_view p.entry)
 formed_read ps deepest types i p is view lt h =
@@ -39,13 +39,13 @@ formed_read ps deepest types i p is view lt h =
     let formed = subst (IsFormed (nodes_view ps) i) (node_read ps i p at h) (is.types.formed i (omega (arith, length-map ps (λ p. node_view p.entry)))) in
     subst (λ ts. IsFormed ts i (node_view p.entry)) view formed
 
-pub sized_read : (ps : List Placed) (deepest : ℕ) (types : List Node) (i : ℕ) (p : Placed)
+pub sized_read : (ps : List EntryWithDepth) (deepest : ℕ) (types : List Node) (i : ℕ) (p : EntryWithDepth)
     → IsKept ps deepest → nodes_view ps ≡ types → i < length types
     → p ≡ get_or ps i p → IsSized p.entry
 sized_read ps deepest types i p is view lt h = sized types i p.entry (formed_read ps deepest types i p is view lt h)
 
 -- the depth that was read is the type's
-pub depth_read : (ps : List Placed) (deepest : ℕ) (types : List Node) (i : ℕ) (p : Placed)
+pub depth_read : (ps : List EntryWithDepth) (deepest : ℕ) (types : List Node) (i : ℕ) (p : EntryWithDepth)
     → IsKept ps deepest → nodes_view ps ≡ types → i < length types → p ≡ get_or ps i p
     → p.depth ≡ depth (type_in types i)
 unfolding type_in
@@ -55,7 +55,7 @@ depth_read ps deepest types i p is view lt h =
     ∙ depths_read (trees_of (nodes_view ps)) i (omega (arith, length_after [] (nodes_view ps), length-map ps (λ p. node_view p.entry)))
     ∙ ap (λ ts. depth (type_in ts i)) view
 
-pub shallow_read : (ps : List Placed) (deepest : ℕ) (types : List Node) (i : ℕ) (p : Placed)
+pub shallow_read : (ps : List EntryWithDepth) (deepest : ℕ) (types : List Node) (i : ℕ) (p : EntryWithDepth)
     → IsKept ps deepest → nodes_view ps ≡ types → i < length types
     → p ≡ get_or ps i p → p.depth ≤ 24
 shallow_read ps deepest types i p is view lt h =
@@ -89,16 +89,16 @@ types_added types node are few last shallow = record {
   shallow = let before = are.shallow in omega (arith, deepest_added types node);
 }
 
-pub kept_more : (ps : List Placed) (deepest : ℕ) (p : Placed) → IsKept ps deepest
+pub kept_more : (ps : List EntryWithDepth) (deepest : ℕ) (p : EntryWithDepth) → IsKept ps deepest
     → length (nodes_view ps) + 1 < 2 ^ 32
     → IsFormed (nodes_view ps) (length (nodes_view ps)) (node_view p.entry)
     → p.depth ≡ depth (grow (type_in (nodes_view ps)) (node_view p.entry)) → p.depth ≤ 24
     → IsKept (ps ++ p ∷ []) (max deepest p.depth)
 kept_more ps deepest p is few formed deep shallow =
-    let view = map-append (λ (q : Placed). node_view q.entry) ps (p ∷ []) in
+    let view = map-append (λ (q : EntryWithDepth). node_view q.entry) ps (p ∷ []) in
     record {
       types = subst AreTypes (sym view) (types_added (nodes_view ps) (node_view p.entry) is.types few formed (omega arith));
-      each = map-append (λ (q : Placed). q.depth) ps (p ∷ []) ∙ ap (λ ns. ns ++ p.depth ∷ []) is.each
+      each = map-append (λ (q : EntryWithDepth). q.depth) ps (p ∷ []) ∙ ap (λ ns. ns ++ p.depth ∷ []) is.each
           ∙ ap (λ d. depths (trees_of (nodes_view ps)) ++ d ∷ []) deep
           ∙ sym (depths_added (nodes_view ps) (node_view p.entry)) ∙ ap (λ ts. depths (trees_of ts)) (sym view);
       greatest = ap (λ n. max n p.depth) is.greatest ∙ ap (max (depth_of (nodes_view ps))) deep ∙ sym (deepest_added (nodes_view ps) (node_view p.entry))
@@ -111,7 +111,7 @@ record CanStand (types : List Node) (node : Node) (d : ℕ) : Type 0 where
   deep : d ≡ depth (grow (type_in types) node)
 
 -- the entries after a push
-pub kept_pushed : (ps new : List Placed) (deepest d : ℕ) (p : Placed) (types : List Node)
+pub kept_pushed : (ps new : List EntryWithDepth) (deepest d : ℕ) (p : EntryWithDepth) (types : List Node)
     → IsKept ps deepest → nodes_view ps ≡ types
     → length types + 1 < 2 ^ 32 → IsFormed types (length types) (node_view p.entry)
     → p.depth ≡ depth (grow (type_in types) (node_view p.entry)) → p.depth ≤ 24

@@ -22,7 +22,7 @@ use Rattle.giop_sig.specs.Scopes.{Names, label_number, label_numbers, has_defaul
 use Rattle.giop_sig.specs.Validity.{Kind, IsFree, OfType, OfEnumerator, OfFit, OfValueName, OfLabelValue, same_label, OfNewLabel, OfLabel, OfLabels}
 use Rattle.giop_sig.specs.Outcomes.{refused}
 use Rattle.giop_sig.specs.Repeats.{in_steps}
-use Rattle.giop_sig.specs.UnionReading.{value_at, Mark, LabelRead, fitting, number_of_value, fresh, label_at, LabelsRead, with_label, begins_label, labels_step, too_many_labels, labels_at}
+use Rattle.giop_sig.specs.UnionReading.{value_at, Mark, LabelRead, fitting, number_of_value, unseen_label, label_at, LabelsRead, with_label, begins_label, labels_step, too_many_labels, labels_at}
 use Rattle.giop_sig.proofs.PlaceLaws.{within_same}
 use Rattle.giop_sig.proofs.ReadingLaws.{Out, good, broken, out_bind, out_more}
 use Rattle.giop_sig.proofs.TypeLaws.{is_not}
@@ -117,9 +117,9 @@ fresh_reads : (node : Node) (seen : List Label) (l : Label) (text rest : List �
     (more : List Token) → IsKept node l → AllByRecursion (IsKept node) seen
     → AreTokens rest (mark marks.Colon ∷ more)
     → Out {X = LabelRead} (λ rest. (mark_of node l, rest)) (λ k. OfNewLabel k seen l) types more
-    (fresh (marks_of node seen) (mark_of node l) text
+    (unseen_label (marks_of node seen) (mark_of node l) text
     >>= λ m. mark_at marks.Colon rest >>= λ r. Ok (m, r))
-unfolding fresh
+unfolding unseen_label
 fresh_reads node seen l text rest types more kept all m =
     rw (any_marks node l seen kept all, length-map seen (mark_of node))
     (fresh_by node seen l text rest types more (list_any (same_label l) seen) (leb 1024 (length seen)) refl refl m)
@@ -165,7 +165,7 @@ label_reads node seen Default text types more all free h =
 label_reads node seen (Of v) text types more all free h =
     let tail = mark marks.Colon ∷ more in
     rw (keyword_if_again (codes "case") text (spell_value v tail) h)
-    (out_bind (number_of_value node h.0) (λ x. fresh (marks_of node seen) x.0 h.0 >>= λ m. mark_at marks.Colon x.1 >>= λ r. Ok (m, r))
+    (out_bind (number_of_value node h.0) (λ x. unseen_label (marks_of node seen) x.0 h.0 >>= λ m. mark_at marks.Colon x.1 >>= λ r. Ok (m, r))
     (number_reads node v h.0 types tail free.0.0 h.2)
     (λ rest m keeps.
     let fit = (keeps kinds.Label).1 in

@@ -2,8 +2,8 @@
 use Rattle.std.proofs.Common.{◌≡◌, ℕ, suc, ◌+◌, ◌-◌, ◌<◌, ◌≤◌, true, false, List, Result, Ok, Err, refl, sym, ◌∙◌, arith}
 use Rattle.giop_tokens.specs.declared.fault.Refusal.{Refusal}
 use Rattle.giop_tokens.specs.declared.fault.SigFaultKind.TheVariants as kinds
-use Rattle.giop_sig.specs.declared.stop.Stop.{Stop}
-use Rattle.giop_sig.specs.declared.stop.Stop.TheVariants as stops
+use Rattle.giop_sig.specs.declared.parse_stop.ParseStop.{ParseStop}
+use Rattle.giop_sig.specs.declared.parse_stop.ParseStop.TheVariants as stops
 use Rattle.giop_sig.specs.Table.{Part}
 use Rattle.giop_sig.specs.Scopes.{Scope}
 use Rattle.giop_sig.specs.Outcomes.{Stops, refused}
@@ -26,7 +26,7 @@ module _ (at i : ℕ) (seen : List (List ℕ)) (parts : List Part) (s : Scope) (
       let one : members_run at (257 - i) seen parts s text ≡ Ok (m.scope, m.parts, m.rest) = rw (k, h, c) refl in
       sym so_far ∙ one
 
-  pub fails : i < 257 → (e : Stop) → Stops e (member_step at seen parts s text) → Stops e total
+  pub fails : i < 257 → (e : ParseStop) → Stops e (member_step at seen parts s text) → Stops e total
   unfolding members_run
   fails lt stops.Memory h = tt
   fails lt (stops.Refused r) h =

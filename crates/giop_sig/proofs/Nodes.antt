@@ -3,7 +3,7 @@ use Rattle.std.proofs.Common.{◌≡◌, ℕ, zero, suc, ◌<◌, Bool, true, fa
 use Rattle.std.proofs.lemmas.Bool.{ltb-true, ltb-false}
 use Rattle.std.specs.Prelude.{slice_get}
 use Rattle.giop_cdr.specs.declared.number.Number.{Number}
-use Rattle.giop_sig.specs.Types.{Cases, Plain, Enum, Ty, Single, Text, Octets, Struct, Union, Sequence, Array, shape_in, HasShape, HasMember, HasPlace, part_of, name_in, enum_name_in, switch_of, select_in, taken_in, Tag, Encapsulation}
+use Rattle.giop_sig.specs.Types.{Cases, Plain, Enum, Ty, Single, Text, Octets, Struct, Union, Sequence, Array, shape_in, HasShape, HasMember, HasPlace, part_of, name_in, enum_name_in, switch_of, select_in, interpreted_in, Tag, Encapsulation}
 use Rattle.giop_sig.specs.Table.{Node, Part, Case, shape_of, part_at, type_of, name_of, name_at, switch_at, selected, case_part}
 use Rattle.giop_sig.specs.Table as nodes
 use Rattle.giop_sig.specs.Trees.{grow, selected_by, name_or}
@@ -80,7 +80,7 @@ enum_name_grown tree _ n = refl
 
 -- a value that the octets spell selects as their whole number does
 pub select_grown : (tree : ℕ → Ty) (node : Node) (number : Number) (n : ℕ)
-    → taken_in (switch_of (grow tree node)) n ≡ Some number
+    → interpreted_in (switch_of (grow tree node)) n ≡ Some number
     → selected node number ≡ select_in (grow tree node) n
 select_grown tree (nodes.union switch cases otherwise) number n e = ap (selected_by (selected (nodes.union switch cases otherwise))) (sym e)
 select_grown tree (nodes.tagged special tag inner other) number n e =

@@ -1,7 +1,7 @@
 -- What a reader of a table may cite of a type's parts, of its depth, and of where it can stand.
 use Rattle.std.proofs.Common.{◌≡◌, ℕ, ◌<◌, ◌≤◌, length, refl}
 use Rattle.giop_sig.specs.Fits.{IsRoot}
-use Rattle.giop_sig.specs.Headers.{IsTable}
+use Rattle.giop_sig.specs.HeaderTypes.{IsTable}
 use Rattle.giop_sig.specs.Table.{Table, node_at, part_number}
 use Rattle.giop_sig.specs.Trees.{tree, depth_of}
 use Rattle.giop_sig.specs.Types.{HasPlace, depth, part_of, shape_in}

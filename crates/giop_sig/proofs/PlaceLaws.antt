@@ -6,8 +6,8 @@ use Rattle.giop_sig.specs.Types.{Ty, depth}
 use Rattle.giop_sig.specs.Table.{Node, node_at}
 use Rattle.giop_sig.specs.Table as nodes
 use Rattle.giop_sig.specs.Trees.{grow, type_in, depth_of}
-use Rattle.giop_sig.specs.Grammar.{TypeExpr, Base, Text, Reference, Named, SequenceOf, EncapsulationOf, Item, UnionCase, Param, Declaration, Enumeration, Structure, Choice, Raise, Call}
-use Rattle.giop_sig.specs.Scopes.{Scope, Placed, with_node, sequence_node, place, place_length, place_item, place_items, place_cases, default_from, place_params, place_return, place_struct, declare, scope_after}
+use Rattle.giop_sig.specs.Grammar.{TypeExpr, Base, Text, Reference, Named, SequenceOf, EncapsulationOf, Item, UnionCase, Param, Declaration, Enumeration, Structure, DeclaredUnion, DeclaredException, Call}
+use Rattle.giop_sig.specs.Scopes.{Scope, AddedType, with_node, sequence_node, place, add_array, add_item, add_items, add_cases, default_from, add_params, add_return, add_struct_type, declare, scope_after}
 use Rattle.giop_sig.proofs.TreeLaws.{tree_added}
 use Rattle.giop_sig.proofs.Depths.{deepest_added, depth_within}
 
@@ -63,31 +63,31 @@ place_names s (EncapsulationOf e) = place_names s e
 
 -- ---- items
 
-pub length_more : (o : Option ℕ) (p : Placed) → Grown p.0 (place_length o p).0
+pub length_more : (o : Option ℕ) (p : AddedType) → Grown p.0 (add_array o p).0
 length_more None p = within_same
 length_more (Some n) p = node_more p.0 (nodes.array n p.1)
 
-length_names : (o : Option ℕ) (p : Placed) → (place_length o p).0.names ≡ p.0.names
+length_names : (o : Option ℕ) (p : AddedType) → (add_array o p).0.names ≡ p.0.names
 length_names None p = refl
 length_names (Some n) p = refl
 
-pub item_more : (s : Scope) (i : Item) → Grown s (place_item s i).0
+pub item_more : (s : Scope) (i : Item) → Grown s (add_item s i).0
 item_more s i = within_on (place_more s i.type) (length_more i.length (place s i.type))
 
-pub item_names : (s : Scope) (i : Item) → (place_item s i).0.names ≡ s.names
+pub item_names : (s : Scope) (i : Item) → (add_item s i).0.names ≡ s.names
 item_names s i = length_names i.length (place s i.type) ∙ place_names s i.type
 
-pub items_more : (s : Scope) (is : List Item) → Grown s (place_items s is).0
-unfolding place_items
+pub items_more : (s : Scope) (is : List Item) → Grown s (add_items s is).0
+unfolding add_items
 items_more s [] = within_same
-items_more s (i ∷ is) = within_on (item_more s i) (items_more (place_item s i).0 is)
+items_more s (i ∷ is) = within_on (item_more s i) (items_more (add_item s i).0 is)
 
 -- ---- parameters
 
-pub params_more : (s : Scope) (ps : List Param) → Grown s (place_params s ps).0
-unfolding place_params
+pub params_more : (s : Scope) (ps : List Param) → Grown s (add_params s ps).0
+unfolding add_params
 params_more s [] = within_same
-params_more s (p ∷ ps) = within_on (item_more s p.item) (params_more (place_item s p.item).0 ps)
+params_more s (p ∷ ps) = within_on (item_more s p.item) (params_more (add_item s p.item).0 ps)
 
 pub place_operations : (s : Scope) (e : TypeExpr)
     → (place s e).0.table.operations ≡ s.table.operations
@@ -100,32 +100,32 @@ place_operations s (Named w) = refl
 place_operations s (SequenceOf e bound) = place_operations s e
 place_operations s (EncapsulationOf e) = place_operations s e
 
-pub return_more : (s : Scope) (o : Option TypeExpr) → Grown s (place_return s o).0
+pub return_more : (s : Scope) (o : Option TypeExpr) → Grown s (add_return s o).0
 return_more s None = within_same
 return_more s (Some e) = place_more s e
 
-pub return_names : (s : Scope) (o : Option TypeExpr) → (place_return s o).0.names ≡ s.names
+pub return_names : (s : Scope) (o : Option TypeExpr) → (add_return s o).0.names ≡ s.names
 return_names s None = refl
 return_names s (Some e) = place_names s e
 
 pub return_operations : (s : Scope) (o : Option TypeExpr)
-    → (place_return s o).0.table.operations ≡ s.table.operations
+    → (add_return s o).0.table.operations ≡ s.table.operations
 return_operations s None = refl
 return_operations s (Some e) = place_operations s e
 
 -- ---- cases
 
-pub cases_more : (s : Scope) (node : Node) (cs : List UnionCase) → Grown s (place_cases s node cs).0
-unfolding place_cases
+pub cases_more : (s : Scope) (node : Node) (cs : List UnionCase) → Grown s (add_cases s node cs).0
+unfolding add_cases
 cases_more s node [] = within_same
 cases_more s node (c ∷ cs) =
-    within_on (item_more s c.item) (cases_more (place_item s c.item).0 node cs)
+    within_on (item_more s c.item) (cases_more (add_item s c.item).0 node cs)
 
 -- ---- declarations
 
-pub struct_more : (s : Scope) (is : List Item) → Grown s (place_struct (place_items s is)).0
+pub struct_more : (s : Scope) (is : List Item) → Grown s (add_struct_type (add_items s is)).0
 struct_more s is =
-    let x = place_items s is in within_on (items_more s is) (node_more x.0 (nodes.members x.1))
+    let x = add_items s is in within_on (items_more s is) (node_more x.0 (nodes.members x.1))
 
 -- the two structs of an operation
 pub structs_more : (s : Scope) (a b : Node) → Grown s (with_node (with_node s a).0 b).0
@@ -135,16 +135,16 @@ pub declare_more : (s : Scope) (d : Declaration) → Grown s (declare s d)
 unfolding declare
 declare_more s (Enumeration n names) = node_more s (nodes.enumeration names)
 declare_more s (Structure n is) = struct_more s is
-declare_more s (Choice n e cs) =
+declare_more s (DeclaredUnion n e cs) =
     let p = place s e in
     let node = node_at (p.0).table p.1 in
-    let x = place_cases p.0 node cs in
+    let x = add_cases p.0 node cs in
     let union = node_more x.0 (nodes.union p.1 x.1 (default_from 0 cs)) in
     within_on (place_more s e) (within_on (cases_more p.0 node cs) union)
-declare_more s (Raise n r is) = struct_more s is
+declare_more s (DeclaredException n r is) = struct_more s is
 declare_more s (Call o n ps) =
-    let t = place_return s o in
-    let x = place_params t.0 ps in
+    let t = add_return s o in
+    let x = add_params t.0 ps in
     let structs = structs_more x.0 (nodes.members x.1) (nodes.members (t.1 ++ x.2)) in
     within_on (return_more s o) (within_on (params_more t.0 ps) structs)
 

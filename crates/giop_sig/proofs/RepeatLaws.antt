@@ -1,8 +1,8 @@
 -- A loop of the reader, against reading in steps.
 use Rattle.std.proofs.Common.{◌≡◌, ℕ, suc, ◌+◌, ◌-◌, ◌<◌, ◌≤◌, Bool, true, false, Result, Ok, Err, refl, sym, ◌∙◌, arith}
 use Rattle.giop_tokens.specs.declared.fault.Refusal.{Refusal}
-use Rattle.giop_sig.specs.declared.stop.Stop.{Stop}
-use Rattle.giop_sig.specs.declared.stop.Stop.TheVariants as stops
+use Rattle.giop_sig.specs.declared.parse_stop.ParseStop.{ParseStop}
+use Rattle.giop_sig.specs.declared.parse_stop.ParseStop.TheVariants as stops
 use Rattle.giop_sig.specs.Outcomes.{Stops}
 use Rattle.giop_sig.specs.Repeats.{in_steps}
 
@@ -22,7 +22,7 @@ module _ {S : Type 0} (step : S → Result (Bool × S) Refusal) (limit : S → R
       let one : in_steps step limit (most - i) s ≡ Ok x.1 = rw (k, h, c) refl in
       sym so_far ∙ one
 
-  pub fails : i < most → (e : Stop) → Stops e (step s) → Stops e total
+  pub fails : i < most → (e : ParseStop) → Stops e (step s) → Stops e total
   unfolding in_steps
   fails lt stops.Memory h = tt
   fails lt (stops.Refused r) h =

@@ -130,8 +130,8 @@ pub put_name : (s : Scope) (version : ℕ) (t : Table) (es new : List (ArrayVec 
     → scope_view version t es ≡ s → key.items ≡ w → lookup (bytes_eq w) s.names.known ≡ None
     → new ≡ insert_entry key_is es key v → scope_view version t new ≡ with_name s w (number_of_id v)
 put_name s version t es new key v w view same none is =
-    let fresh : lookup (key_is key) es ≡ None = none_before number_of_id (lookup (key_is key) es) (sym (name_found s version t es key w view same) ∙ none) in
-    let last : new ≡ es ++ (key, v) ∷ [] = is ∙ entry_last key_is es key v (none_found key es fresh) in
+    let unseen_label : lookup (key_is key) es ≡ None = none_before number_of_id (lookup (key_is key) es) (sym (name_found s version t es key w view same) ∙ none) in
+    let last : new ≡ es ++ (key, v) ∷ [] = is ∙ entry_last key_is es key v (none_found key es unseen_label) in
     ap (scope_view version t) last ∙ ap (λ ns. record { table = t; names = record { version = version; known = ns } }) (map-append name_view es ((key, v) ∷ []))
     ∙ ap (λ (x : Scope). with_name x key.items (number_of_id v)) view ∙ ap (λ n. with_name s n (number_of_id v)) same
 

@@ -5,8 +5,8 @@ use Rattle.giop_tokens.specs.declared.marks.Mark.TheVariants as marks
 use Rattle.giop_tokens.specs.Tokens.{Token, word, mark}
 use Rattle.giop_sig.specs.Table.{Node, node_at}
 use Rattle.giop_sig.specs.Table as nodes
-use Rattle.giop_sig.specs.Grammar.{TypeExpr, Base, Text, Reference, Named, SequenceOf, EncapsulationOf, spell_most, spell_type, Item, spell_length, spell_item, spell_items, spell_labels, UnionCase, spell_cases, Param, spell_more_params, spell_params, spell_return, Declaration, Enumeration, Structure, Choice, Raise, Call, spell, spell_all}
-use Rattle.giop_sig.specs.Scopes.{Scope, Placed, with_node, sequence_node, place, place_length, place_item, place_items, place_cases, default_from, place_params, place_return, declare, scope_after}
+use Rattle.giop_sig.specs.Grammar.{TypeExpr, Base, Text, Reference, Named, SequenceOf, EncapsulationOf, spell_most, spell_type, Item, spell_length, spell_item, spell_items, spell_labels, UnionCase, spell_cases, Param, spell_more_params, spell_params, spell_return, Declaration, Enumeration, Structure, DeclaredUnion, DeclaredException, Call, spell, spell_all}
+use Rattle.giop_sig.specs.Scopes.{Scope, AddedType, with_node, sequence_node, place, add_array, add_item, add_items, add_cases, default_from, add_params, add_return, declare, scope_after}
 use Rattle.giop_sig.proofs.PlaceLaws.{size}
 use Rattle.giop_sig.proofs.SpellLaws.{most, names, label, labels}
 
@@ -24,24 +24,24 @@ typed s (SequenceOf e o) more =
 typed s (EncapsulationOf e) more = let p = place s e in omega (arith, typed s e (mark marks.CloseAngle ∷ more), one_more p.0 (nodes.encapsulation p.1))
 typed s _ more = omega arith
 
-lengthened : (p : Placed) (o : Option ℕ) (more : List Token)
-    → size (place_length o p).0 + length more ≤ size p.0 + length (spell_length o more)
+lengthened : (p : AddedType) (o : Option ℕ) (more : List Token)
+    → size (add_array o p).0 + length more ≤ size p.0 + length (spell_length o more)
 lengthened p None more = omega arith
 lengthened p (Some n) more = omega (arith, one_more p.0 (nodes.array n p.1))
 
 item : (s : Scope) (i : Item) (more : List Token)
-    → size (place_item s i).0 + length more ≤ size s + length (spell_item i more)
+    → size (add_item s i).0 + length more ≤ size s + length (spell_item i more)
 item s i more = omega (arith, typed s i.type (word i.name ∷ spell_length i.length more), lengthened (place s i.type) i.length more)
 
 items : (s : Scope) (is : List Item) (more : List Token)
-    → size (place_items s is).0 + length more ≤ size s + length (spell_items is more)
-unfolding place_items
+    → size (add_items s is).0 + length more ≤ size s + length (spell_items is more)
+unfolding add_items
 items s [] more = omega arith
-items s (i ∷ is) more = omega (arith, item s i (mark marks.Semicolon ∷ spell_items is more), items (place_item s i).0 is more)
+items s (i ∷ is) more = omega (arith, item s i (mark marks.Semicolon ∷ spell_items is more), items (add_item s i).0 is more)
 
 cases : (s : Scope) (node : Node) (cs : List UnionCase) (more : List Token)
-    → size (place_cases s node cs).0 + length more ≤ size s + length (spell_cases cs more)
-unfolding place_cases
+    → size (add_cases s node cs).0 + length more ≤ size s + length (spell_cases cs more)
+unfolding add_cases
 cases s node [] more = omega arith
 cases s node (c ∷ cs) more =
     let tail = mark marks.Semicolon ∷ spell_cases cs more in
@@ -50,23 +50,23 @@ cases s node (c ∷ cs) more =
       label c.label (spell_labels c.others (spell_item c.item tail)),
       labels c.others (spell_item c.item tail),
       item s c.item tail,
-      cases (place_item s c.item).0 node cs more,
+      cases (add_item s c.item).0 node cs more,
     )
 
 more_params : (s : Scope) (ps : List Param) (more : List Token)
-    → size (place_params s ps).0 + length more ≤ size s + length (spell_more_params ps more)
-unfolding place_params
+    → size (add_params s ps).0 + length more ≤ size s + length (spell_more_params ps more)
+unfolding add_params
 more_params s [] more = omega arith
-more_params s (p ∷ ps) more = omega (arith, item s p.item (spell_more_params ps more), more_params (place_item s p.item).0 ps more)
+more_params s (p ∷ ps) more = omega (arith, item s p.item (spell_more_params ps more), more_params (add_item s p.item).0 ps more)
 
 params : (s : Scope) (ps : List Param) (more : List Token)
-    → size (place_params s ps).0 + length more ≤ size s + length (spell_params ps more)
-unfolding place_params
+    → size (add_params s ps).0 + length more ≤ size s + length (spell_params ps more)
+unfolding add_params
 params s [] more = omega arith
-params s (p ∷ ps) more = omega (arith, item s p.item (spell_more_params ps more), more_params (place_item s p.item).0 ps more)
+params s (p ∷ ps) more = omega (arith, item s p.item (spell_more_params ps more), more_params (add_item s p.item).0 ps more)
 
 returned : (s : Scope) (o : Option TypeExpr) (more : List Token)
-    → size (place_return s o).0 + length more ≤ size s + length (spell_return o more)
+    → size (add_return s o).0 + length more ≤ size s + length (spell_return o more)
 returned s None more = omega arith
 returned s (Some e) more = omega (arith, typed s e more)
 
@@ -74,10 +74,10 @@ declared : (s : Scope) (d : Declaration) (more : List Token)
     → size (declare s d) + length more ≤ size s + length (spell d more)
 unfolding declare
 declared s (Enumeration n ns) more = omega (arith, one_more s (nodes.enumeration ns), names ns (mark marks.Semicolon ∷ more))
-declared s (Structure n is) more = omega (arith, items s is (mark marks.Semicolon ∷ more), one_more (place_items s is).0 (nodes.members (place_items s is).1))
-declared s (Choice n e cs) more =
+declared s (Structure n is) more = omega (arith, items s is (mark marks.Semicolon ∷ more), one_more (add_items s is).0 (nodes.members (add_items s is).1))
+declared s (DeclaredUnion n e cs) more =
     let p = place s e in
-    let x = place_cases p.0 (node_at (p.0).table p.1) cs in
+    let x = add_cases p.0 (node_at (p.0).table p.1) cs in
     let tail = mark marks.Semicolon ∷ more in
     omega (
       arith,
@@ -85,10 +85,10 @@ declared s (Choice n e cs) more =
       cases p.0 (node_at (p.0).table p.1) cs tail,
       one_more x.0 (nodes.union p.1 x.1 (default_from 0 cs)),
     )
-declared s (Raise n r is) more = omega (arith, items s is (mark marks.Semicolon ∷ more), one_more (place_items s is).0 (nodes.members (place_items s is).1))
+declared s (DeclaredException n r is) more = omega (arith, items s is (mark marks.Semicolon ∷ more), one_more (add_items s is).0 (nodes.members (add_items s is).1))
 declared s (Call o n ps) more =
-    let t = place_return s o in
-    let x = place_params t.0 ps in
+    let t = add_return s o in
+    let x = add_params t.0 ps in
     let q = with_node x.0 (nodes.members x.1) in
     let tail = mark marks.Semicolon ∷ more in
     omega (

@@ -10,7 +10,7 @@ use Rattle.giop_tokens.proofs.ReaderLaws.{bind_ok, ok_is, Takes, number_takes, m
 use Rattle.giop_sig.specs.Grammar.{spell_between, spell_most}
 use Rattle.giop_sig.specs.Validity.{OfBound}
 use Rattle.giop_sig.specs.Outcomes.{refused}
-use Rattle.giop_sig.specs.TypeReading.{size_at, size_within, enclosed_at, size_behind, most_at}
+use Rattle.giop_sig.specs.TypeReading.{size_at, size_within, enclosed_at, size_after, most_at}
 use Rattle.giop_sig.proofs.ReadingLaws.{Took}
 
 size_by : (text : List ℕ) (n x : ℕ × List ℕ) (a b : Bool)
@@ -52,7 +52,7 @@ enclosed_takes before close text x e =
     within_by before close text a.0 x a.1 a.2
 
 behind_by : (text : List ℕ) (o : Option (List ℕ)) (x : Option ℕ × List ℕ)
-    → mark_if marks.Comma text ≡ Ok o → size_behind text o ≡ Ok x
+    → mark_if marks.Comma text ≡ Ok o → size_after text o ≡ Ok x
     → Took (spell_most x.0) (Unit {0}) text x.1
 behind_by text None x h e =
     subst (λ (y : Option ℕ × List ℕ). Took (spell_most y.0) (Unit {0}) text y.1) (ok_is (None, text) x e) (record { free = tt; front = λ more m. m })
@@ -64,7 +64,7 @@ behind_by text (Some inner) x h e =
 pub most_takes : (text : List ℕ) (x : Option ℕ × List ℕ) → most_at text ≡ Ok x
     → Took (spell_most x.0) (Unit {0}) text x.1
 unfolding most_at
-most_takes text x e = let a = bind_ok (mark_if marks.Comma text) (λ inner. size_behind text inner) x e in behind_by text a.0 x a.1 a.2
+most_takes text x e = let a = bind_ok (mark_if marks.Comma text) (λ inner. size_after text inner) x e in behind_by text a.0 x a.1 a.2
 
 -- of the rule that names are free, sizes ask nothing
 pub bound_free : (o : Option ℕ) → OfBound kinds.Syntax o

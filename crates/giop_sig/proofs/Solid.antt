@@ -7,7 +7,7 @@ use Rattle.giop_cdr.specs.declared.number.Number.{Number}
 use Rattle.giop_cdr.specs.declared.number.Number.TheVariants as numbers
 use Rattle.giop_sig.specs.declared.types.Selected.{Selected}
 use Rattle.giop_sig.specs.declared.types.Selected.TheVariants as selecteds
-use Rattle.giop_sig.specs.Types.{places_of, taken_by, Ty, Single, Text, Octets, Struct, Union, Sequence, Array, depth, most, HasMember, HasPlace, part_of, Encapsulation}
+use Rattle.giop_sig.specs.Types.{places_of, interpreted_by, Ty, Single, Text, Octets, Struct, Union, Sequence, Array, depth, most, HasMember, HasPlace, part_of, Encapsulation}
 use Rattle.giop_sig.specs.Fits.{IsSolid, IsFit, IsEmptyStruct, IsRoot}
 use Rattle.giop_sig.specs.Table.{Node, Part, Case, node_in, shape_of, part_at, type_of, selected, case_with, case_or, same_number, no_case, IsFormed, IsInner, IsCaseBelow, TakesOctet}
 use Rattle.giop_sig.specs.Table as nodes
@@ -67,14 +67,14 @@ grown_solid types n (nodes.members []) formed takes inner = absurd takes
 grown_solid types n (nodes.members (p ∷ ps)) formed takes inner =
     (some_part p ps, λ i lt. part_solid types n (nodes.members (p ∷ ps)) i formed inner lt)
 grown_solid types n (nodes.union switch cases otherwise) formed takes inner = (
-  λ k i e. taken_below types n (nodes.union switch cases otherwise) (taken_by (scalar_of (type_in types switch)) k) i formed e,
+  λ k i e. taken_below types n (nodes.union switch cases otherwise) (interpreted_by (scalar_of (type_in types switch)) k) i formed e,
   λ i lt. part_solid types n (nodes.union switch cases otherwise) i formed inner lt,
 )
 grown_solid types n (nodes.sequence bound element) formed takes inner = inner element formed
 grown_solid types n (nodes.array count element) formed takes inner = (formed.0, inner element formed.1)
 grown_solid types n (nodes.encapsulation held) formed takes inner = inner held formed
 grown_solid types n (nodes.tagged special tag one other) formed takes inner = (
-  λ k i e. taken_below types n (nodes.tagged special tag one other) (taken_by (scalar_of (type_in types tag.type)) k) i formed e,
+  λ k i e. taken_below types n (nodes.tagged special tag one other) (interpreted_by (scalar_of (type_in types tag.type)) k) i formed e,
   λ i lt. part_solid types n (nodes.tagged special tag one other) i formed inner lt,
 )
 grown_solid types n _ formed takes inner = tt

@@ -3,7 +3,7 @@ use Rattle.std.proofs.Common.{ℕ, ◌<◌, ◌≤◌, List, [], ◌∷◌, leng
 use Rattle.giop_tokens.specs.declared.marks.Mark.{Mark}
 use Rattle.giop_tokens.specs.declared.marks.Mark.TheVariants as marks
 use Rattle.giop_tokens.specs.Tokens.{Token, word, mark}
-use Rattle.giop_sig.specs.Grammar.{TypeExpr, Base, Text, Reference, Named, SequenceOf, EncapsulationOf, spell_between, spell_most, spell_type, Item, spell_length, spell_item, spell_items, spell_more_names, spell_names, Value, Plain, Below, Truth, Enumerator, spell_value, Label, Default, Of, spell_label, spell_labels, UnionCase, spell_cases, Param, spell_more_params, spell_params, spell_return, Declaration, Enumeration, Structure, Choice, Raise, Call, spell, spell_all}
+use Rattle.giop_sig.specs.Grammar.{TypeExpr, Base, Text, Reference, Named, SequenceOf, EncapsulationOf, spell_between, spell_most, spell_type, Item, spell_length, spell_item, spell_items, spell_more_names, spell_names, Value, Plain, Below, Truth, Enumerator, spell_value, Label, Default, Of, spell_label, spell_labels, UnionCase, spell_cases, Param, spell_more_params, spell_params, spell_return, Declaration, Enumeration, Structure, DeclaredUnion, DeclaredException, Call, spell, spell_all}
 
 between : (a b : Mark) (o : Option ℕ) (more : List Token)
     → length more ≤ length (spell_between a b o more)
@@ -71,10 +71,10 @@ returned (Some e) more = typed e more
 pub spelled_more : (d : Declaration) (more : List Token) → length more < length (spell d more)
 spelled_more (Enumeration n ns) more = omega (arith, names ns (mark marks.Semicolon ∷ more))
 spelled_more (Structure n is) more = omega (arith, items is (mark marks.Semicolon ∷ more))
-spelled_more (Choice n e cs) more =
+spelled_more (DeclaredUnion n e cs) more =
     let tail = spell_cases cs (mark marks.Semicolon ∷ more) in
     omega (arith, typed e (mark marks.CloseParenthesis ∷ mark marks.OpenBrace ∷ tail), cases cs (mark marks.Semicolon ∷ more))
-spelled_more (Raise n r is) more = omega (arith, items is (mark marks.Semicolon ∷ more))
+spelled_more (DeclaredException n r is) more = omega (arith, items is (mark marks.Semicolon ∷ more))
 spelled_more (Call o n ps) more =
     let tail = spell_params ps (mark marks.Semicolon ∷ more) in
     omega (arith, returned o (word n ∷ mark marks.OpenParenthesis ∷ tail), params ps (mark marks.Semicolon ∷ more))

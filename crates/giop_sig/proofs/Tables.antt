@@ -5,11 +5,11 @@ use Rattle.giop_cdr.specs.declared.number.Number.{Number}
 use Rattle.giop_sig.specs.declared.types.Shape.{Shape}
 use Rattle.giop_sig.specs.declared.types.Selected.{Selected}
 use Rattle.giop_sig.specs.declared.types.Selected.TheVariants as selecteds
-use Rattle.giop_sig.specs.Types.{part_of, name_in, enum_name_in, switch_of, select_in, taken_in, shape_in, HasShape, HasMember, HasPlace, IsUnion}
+use Rattle.giop_sig.specs.Types.{part_of, name_in, enum_name_in, switch_of, select_in, interpreted_in, shape_in, HasShape, HasMember, HasPlace, IsUnion}
 use Rattle.giop_sig.specs.Fits.{IsRoot}
 use Rattle.giop_sig.specs.Table.{Node, Table, node_at, shape_of, part_at, type_of, name_of, name_at, switch_at, selected, IsFormed}
 use Rattle.giop_sig.specs.Trees.{grow, type_in, tree, AreTypes}
-use Rattle.giop_sig.specs.Headers.{IsTable}
+use Rattle.giop_sig.specs.HeaderTypes.{IsTable}
 use Rattle.giop_sig.proofs.TreeLaws.{tree_of_parts, switch_grown}
 use Rattle.giop_sig.proofs.Nodes.{shape_grown, has_shape, part_grown, name_grown, enum_name_grown, select_grown}
 use Rattle.giop_sig.proofs.Formed.{part_formed, name_short, switch_formed, enum_name_short}
@@ -99,9 +99,9 @@ switch_tree t i s node e is at =
 
 pub select_tree : (t : Table) (i : ℕ) (node : Node) (number : Number) (s : Selected)
     → Entered t i node → s ≡ selected node number
-    → (n : ℕ) → taken_in (switch_of (tree t i)) n ≡ Some number → s ≡ select_in (tree t i) n
+    → (n : ℕ) → interpreted_in (switch_of (tree t i)) n ≡ Some number → s ≡ select_in (tree t i) n
 select_tree t i node number s e is n taken =
-    is ∙ select_grown (type_in t.types) node number n (ap (λ T. taken_in (switch_of T) n) (sym e.tree) ∙ taken) ∙ ap (λ T. select_in T n) (sym e.tree)
+    is ∙ select_grown (type_in t.types) node number n (ap (λ T. interpreted_in (switch_of T) n) (sym e.tree) ∙ taken) ∙ ap (λ T. select_in T n) (sym e.tree)
 
 pub select_place : (t : Table) (i : ℕ) (node : Node) (number : Number) (s : Selected)
     → Entered t i node → s ≡ selected node number

@@ -21,10 +21,10 @@ use Rattle.giop_sig.specs.Table.{Node}
 use Rattle.giop_sig.specs.Table as nodes
 use Rattle.giop_sig.specs.Trees.{grow, tree}
 use Rattle.giop_sig.specs.Grammar.{TypeExpr, Base, Text, Reference, Named, SequenceOf, EncapsulationOf, base_word, spell_bound, spell_most, spell_type}
-use Rattle.giop_sig.specs.Scopes.{Names, has_encapsulations, Scope, Placed, named, base_number, number_or, with_node, sequence_node, place_text, place}
+use Rattle.giop_sig.specs.Scopes.{Names, has_encapsulations, Scope, AddedType, named, base_number, number_or, with_node, sequence_node, add_text_type, place}
 use Rattle.giop_sig.specs.Validity.{Kind, IsFree, OfTypeName, OfBound, OfVersion, OfType}
 use Rattle.giop_sig.specs.Outcomes.{refused}
-use Rattle.giop_sig.specs.TypeReading.{too_deep, too_many, added, enclosed_at, most_at, TypeRead, base_of, text_type, text_at, behind_element, behind_held, found_type, named_type, leaf_at, type_after, type_at}
+use Rattle.giop_sig.specs.TypeReading.{too_deep, too_many_types, added, enclosed_at, most_at, TypeRead, base_of, text_type, text_at, after_element, after_encapsulated, found_type, named_type, leaf_at, type_after, type_at}
 use Rattle.giop_sig.proofs.Depths.{deepest_added}
 use Rattle.giop_sig.proofs.PlaceLaws.{size, Within, within_same, Grown, node_more, nest, nest_deepest}
 use Rattle.giop_sig.proofs.SizeReads.{enclosed_reads, most_reads}
@@ -34,8 +34,8 @@ use Rattle.giop_sig.proofs.ReadingLaws.{Breaks, lift, Good, Out, good, broken, o
 
 added_case : (rule : Kind → Type 0) (at : ℕ) (s : Scope) (n : Node) (a b : Bool)
     → leb (depth (grow (tree s.table) n)) 24 ≡ a → leb 4294967295 (size s) ≡ b
-    → MatchResult (cond a (cond b (Err (too_many at)) (Ok (with_node s n))) (Err (too_deep at)))
-    (λ (p : Placed). p ≡ with_node s n)
+    → MatchResult (cond a (cond b (Err (too_many_types at)) (Ok (with_node s n))) (Err (too_deep at)))
+    (λ (p : AddedType). p ≡ with_node s n)
     (λ (e : Refusal). Breaks e.kind rule (with_node s n).0.table.types)
 added_case rule at s n true true p q =
     let many = leb-true 4294967295 (size s) q in
@@ -47,7 +47,7 @@ added_case rule at s n false b p q =
 
 -- a node is added, unless the types become too deep or too many
 added_out : (rule : Kind → Type 0) (at : ℕ) (s : Scope) (n : Node)
-    → MatchResult (added at s n) (λ (p : Placed). p ≡ with_node s n)
+    → MatchResult (added at s n) (λ (p : AddedType). p ≡ with_node s n)
     (λ (e : Refusal). Breaks e.kind rule (with_node s n).0.table.types)
 unfolding added
 added_out rule at s n =
@@ -55,8 +55,8 @@ added_out rule at s n =
 
 added_by : {Y : Type 0} {made : List ℕ → Y} {rule : Kind → Type 0}
     {types : List Node} {more : List Token}
-    (s : Scope) (n : Node) (r : Result Placed Refusal) (h : Placed → Result Y Refusal)
-    → MatchResult r (λ (p : Placed). p ≡ with_node s n)
+    (s : Scope) (n : Node) (r : Result AddedType Refusal) (h : AddedType → Result Y Refusal)
+    → MatchResult r (λ (p : AddedType). p ≡ with_node s n)
     (λ (e : Refusal). Breaks e.kind rule (with_node s n).0.table.types)
     → Within (with_node s n).0.table.types types → Out made rule types more (h (with_node s n))
     → Out made rule types more (r >>= h)
@@ -68,7 +68,7 @@ added_by {rule = rule} {types = types} s n (Err e) h o le on =
 -- what goes on with a node more
 pub added_bind : {Y : Type 0} {made : List ℕ → Y} {rule : Kind → Type 0}
     {types : List Node} {more : List Token}
-    (at : ℕ) (s : Scope) (n : Node) (h : Placed → Result Y Refusal)
+    (at : ℕ) (s : Scope) (n : Node) (h : AddedType → Result Y Refusal)
     → Within (with_node s n).0.table.types types → Out made rule types more (h (with_node s n))
     → Out made rule types more (added at s n >>= h)
 added_bind {rule = rule} at s n h le on = added_by s n (added at s n) h (added_out rule at s n) le on
@@ -144,12 +144,12 @@ base_reads at inner s p text rest more m =
 
 text_type_reads : (at : ℕ) (s : Scope) (o : Option ℕ) (rest : List ℕ) (more : List Token)
     → AreTokens rest more → ((k : Kind) → OfBound k o)
-    → Out {X = TypeRead} (λ rest. ((place_text s o).0, (place_text s o).1, rest)) (λ k. OfBound k o)
-    (place_text s o).0.table.types more (text_type at s o >>= λ t. Ok (t.0, t.1, rest))
+    → Out {X = TypeRead} (λ rest. ((add_text_type s o).0, (add_text_type s o).1, rest)) (λ k. OfBound k o)
+    (add_text_type s o).0.table.types more (text_type at s o >>= λ t. Ok (t.0, t.1, rest))
 text_type_reads at s None rest more m keeps = good rest m keeps
 text_type_reads at s (Some n) rest more m keeps = added_bind at s (nodes.text (Some n)) (λ t. Ok (t.0, t.1, rest)) within_same (good rest m keeps)
 
-text_more : (s : Scope) (o : Option ℕ) → Grown s (place_text s o).0
+text_more : (s : Scope) (o : Option ℕ) → Grown s (add_text_type s o).0
 text_more s None = within_same
 text_more s (Some n) = node_more s (nodes.text (Some n))
 
@@ -237,7 +237,7 @@ held_reads : (at : ℕ) (s : Scope) (e : TypeExpr) (rest : List ℕ) (more : Lis
     → has_encapsulations s.names ≡ true → AreTokens rest (mark marks.CloseAngle ∷ more)
     → ((k : Kind) → OfType k s.names e)
     → Out (placed s (EncapsulationOf e)) (λ k. OfType k s.names (EncapsulationOf e))
-    (place s (EncapsulationOf e)).0.table.types more (behind_held at (placed s e rest))
+    (place s (EncapsulationOf e)).0.table.types more (after_encapsulated at (placed s e rest))
 unfolding OfType place
 held_reads at s e rest more has m keeps =
     rw (mark_again marks.CloseAngle rest more m)
@@ -313,7 +313,7 @@ type_out at (suc left) s (SequenceOf e o) text more free apart h =
       word_again text (codes "sequence") (mark marks.OpenAngle ∷ spell_type e tail) h,
       mark_again marks.OpenAngle h.0 (spell_type e tail) h.2,
     )
-    (nested_by left s e (SequenceOf e o) tail more (type_at at left s (h.2).0) (behind_element at) nests
+    (nested_by left s e (SequenceOf e o) tail more (type_at at left s (h.2).0) (after_element at) nests
     (type_out at left s e (h.2).0 tail free.0 (most_apart o more) (h.2).2)
     (λ rest m keeps. closed_reads at s e o rest more m keeps refl))
 type_out at (suc left) s (EncapsulationOf e) text more free apart h =
@@ -325,7 +325,7 @@ type_out at (suc left) s (EncapsulationOf e) text more free apart h =
       free.0,
       mark_again marks.OpenAngle h.0 (spell_type e tail) h.2,
     )
-    (nested_by left s e (EncapsulationOf e) tail more (type_at at left s (h.2).0) (behind_held at) nests
+    (nested_by left s e (EncapsulationOf e) tail more (type_at at left s (h.2).0) (after_encapsulated at) nests
     (type_out at left s e (h.2).0 tail free.1 refl (h.2).2)
     (λ rest m keeps. held_reads at s e rest more free.0 m keeps))
 

@@ -25,11 +25,11 @@ use Rattle.giop_sig.specs.Trees.{grow, tree}
 use Rattle.giop_sig.specs.Builtin.{builtin_types}
 use Rattle.giop_sig.specs.RequestList.{flat}
 use Rattle.giop_sig.specs.Grammar.{TypeExpr, Base, Text, Reference, Named, SequenceOf, EncapsulationOf, base_word, spell_most, spell_type}
-use Rattle.giop_sig.specs.Scopes.{has_encapsulations, Scope, Placed, named, base_number, with_node, sequence_node}
+use Rattle.giop_sig.specs.Scopes.{has_encapsulations, Scope, AddedType, named, base_number, with_node, sequence_node}
 use Rattle.giop_sig.specs.Validity.{OfType}
 use Rattle.giop_sig.specs.ScopeViews.{IsKnown, IsKnownType, IsDeclaredName, IsScope}
 use Rattle.giop_sig.specs.Outcomes.{refused}
-use Rattle.giop_sig.specs.TypeReading.{too_deep, too_many, added, enclosed_at, most_at, TypeRead, base_of, text_type, text_at, behind_element, sequence_at, behind_held, held_at, encapsulation_at, found_type, named_type, leaf_after, leaf_at, type_after, type_at}
+use Rattle.giop_sig.specs.TypeReading.{too_deep, too_many_types, added, enclosed_at, most_at, TypeRead, base_of, text_type, text_at, after_element, sequence_at, after_encapsulated, held_at, encapsulation_at, found_type, named_type, leaf_after, leaf_at, type_after, type_at}
 use Rattle.giop_sig.proofs.SizeTaken.{enclosed_takes, most_takes, bound_free}
 use Rattle.giop_sig.proofs.ScopeLaws.{known_stays, scope_grows}
 use Rattle.giop_sig.proofs.ReadingLaws.{Took}
@@ -71,21 +71,21 @@ node_known s n takes = record {
   takes = subst TakesOctet (sym (get_or-append_seam s.table.types n [] (nodes.prim prims.Octet))) takes;
 }
 
-added_by : (at : ℕ) (s : Scope) (n : Node) (x : Placed) (a b : Bool)
-    → cond a (cond b (Err (too_many at)) (Ok (with_node s n))) (Err (too_deep at)) ≡ Ok x
+added_by : (at : ℕ) (s : Scope) (n : Node) (x : AddedType) (a b : Bool)
+    → cond a (cond b (Err (too_many_types at)) (Ok (with_node s n))) (Err (too_deep at)) ≡ Ok x
     → x ≡ with_node s n
 added_by at s n x true true e = absurd cc
 added_by at s n x true false e = sym (ok_is (with_node s n) x e)
 added_by at s n x false b e = absurd cc
 
-pub added_is : (at : ℕ) (s : Scope) (n : Node) (x : Placed)
+pub added_is : (at : ℕ) (s : Scope) (n : Node) (x : AddedType)
     → added at s n ≡ Ok x → x ≡ with_node s n
 unfolding added
 added_is at s n x e =
     added_by at s n x (leb (depth (grow (tree s.table) n)) 24) (leb 4294967295 (length s.table.types)) e
 
 -- a scope after a type, whose number can be a part's
-pub record Sound (p : Placed) : Type 0 where
+pub record Sound (p : AddedType) : Type 0 where
   pub scope : IsScope p.0
   pub known : IsKnown (p.0).table.types p.1
 
@@ -93,12 +93,12 @@ pub record Sound (p : Placed) : Type 0 where
 pub sound_node : (s : Scope) (n : Node) → IsScope s → TakesOctet n → Sound (with_node s n)
 sound_node s n is takes = record { scope = scope_grows s n is; known = node_known s n takes }
 
-pub sound_added : (at : ℕ) (s : Scope) (n : Node) (x : Placed) → added at s n ≡ Ok x
+pub sound_added : (at : ℕ) (s : Scope) (n : Node) (x : AddedType) → added at s n ≡ Ok x
     → IsScope s → TakesOctet n → Sound x
 sound_added at s n x e is takes = subst Sound (sym (added_is at s n x e)) (sound_node s n is takes)
 
-pub added_grows : (at : ℕ) (s : Scope) (n : Node) (x : Placed) → added at s n ≡ Ok x → Grows s x.0
-added_grows at s n x e = subst (λ (p : Placed). Grows s p.0) (sym (added_is at s n x e)) (node_grows s n)
+pub added_grows : (at : ℕ) (s : Scope) (n : Node) (x : AddedType) → added at s n ≡ Ok x → Grows s x.0
+added_grows at s n x e = subst (λ (p : AddedType). Grows s p.0) (sym (added_is at s n x e)) (node_grows s n)
 
 -- ---- types
 
@@ -163,15 +163,15 @@ base_took s text w rest k t b = record {
   sound = λ is. subst (λ n. Sound (s, n)) b.2 (base_sound s b.0 is);
 }
 
-text_type_sound : (at : ℕ) (s : Scope) (b : Option ℕ) (p : Placed)
+text_type_sound : (at : ℕ) (s : Scope) (b : Option ℕ) (p : AddedType)
     → text_type at s b ≡ Ok p → IsScope s → Sound p
 unfolding builtin_types
 text_type_sound at s None p e is = subst Sound (ok_is (s, STRING) p e) (same_known s STRING is (lit< tt) tt)
 text_type_sound at s (Some n) p e is = sound_added at s (nodes.text (Some n)) p e is tt
 
-text_type_grows : (at : ℕ) (s : Scope) (b : Option ℕ) (p : Placed)
+text_type_grows : (at : ℕ) (s : Scope) (b : Option ℕ) (p : AddedType)
     → text_type at s b ≡ Ok p → Grows s p.0
-text_type_grows at s None p e = subst (λ (q : Placed). Grows s q.0) (ok_is (s, STRING) p e) (grows_none s)
+text_type_grows at s None p e = subst (λ (q : AddedType). Grows s q.0) (ok_is (s, STRING) p e) (grows_none s)
 text_type_grows at s (Some n) p e = added_grows at s (nodes.text (Some n)) p e
 
 text_took : (at : ℕ) (s : Scope) (text w rest : List ℕ) (x : TypeRead) → Takes text (word w) rest
@@ -194,7 +194,7 @@ sequence_takes_octet bound n true = tt
 sequence_takes_octet bound n false = tt
 
 sequence_made : (at : ℕ) (s : Scope) (text w rest inner r : List ℕ) (y : TypeRead)
-    (b : Option ℕ × List ℕ) (p : Placed) → Takes text (word w) rest → w ≡ codes "sequence"
+    (b : Option ℕ × List ℕ) (p : AddedType) → Takes text (word w) rest → w ≡ codes "sequence"
     → mark_at marks.OpenAngle rest ≡ Ok inner → TakenType s inner y
     → Took (spell_most b.0) (Unit {0}) y.2 b.1 → mark_at marks.CloseAngle b.1 ≡ Ok r
     → added at y.0 (sequence_node b.0 y.1) ≡ Ok p → TakenType s text (p.0, p.1, r)
@@ -220,15 +220,15 @@ sequence_took : (at : ℕ) (element : List ℕ → Result TypeRead Refusal) (s :
     → Takes text (word w) rest → w ≡ codes "sequence"
     → sequence_at at element rest ≡ Ok x → TakenType s text x
 sequence_took at element s text w rest x takes t same e =
-    let i = bind_ok (mark_at marks.OpenAngle rest) (λ inner. element inner >>= behind_element at) x e in
-    let y = bind_ok (element i.0) (behind_element at) x i.2 in
+    let i = bind_ok (mark_at marks.OpenAngle rest) (λ inner. element inner >>= after_element at) x e in
+    let y = bind_ok (element i.0) (after_element at) x i.2 in
     let b = bind_ok _ _ x y.2 in
     let r = bind_ok (mark_at marks.CloseAngle (b.0).1) (λ r. added at (y.0).0 (sequence_node (b.0).0 (y.0).1) >>= λ t. Ok (t.0, t.1, r)) x b.2 in
     let p = bind_ok (added at (y.0).0 (sequence_node (b.0).0 (y.0).1)) (λ t. Ok (t.0, t.1, r.0)) x r.2 in
     subst (TakenType s text) (ok_is ((p.0).0, (p.0).1, r.0) x p.2)
     (sequence_made at s text w rest i.0 r.0 y.0 b.0 p.0 t same i.1 (takes i.0 y.0 y.1) (most_takes (y.0).2 b.0 b.1) r.1 p.1)
 
-held_made : (at : ℕ) (s : Scope) (text w rest inner r : List ℕ) (y : TypeRead) (p : Placed)
+held_made : (at : ℕ) (s : Scope) (text w rest inner r : List ℕ) (y : TypeRead) (p : AddedType)
     → has_encapsulations s.names ≡ true → Takes text (word w) rest → w ≡ codes "encapsulation"
     → mark_at marks.OpenAngle rest ≡ Ok inner
     → TakenType s inner y → mark_at marks.CloseAngle y.2 ≡ Ok r
@@ -255,8 +255,8 @@ encapsulation_took : (at : ℕ) (held : List ℕ → Result TypeRead Refusal) (s
     → cond v (held_at at held rest) (Err (misplaced text)) ≡ Ok x → TakenType s text x
 encapsulation_took at held s text w rest x false takes t same has e = absurd cc
 encapsulation_took at held s text w rest x true takes t same has e =
-    let i = bind_ok (mark_at marks.OpenAngle rest) (λ inner. held inner >>= behind_held at) x e in
-    let y = bind_ok (held i.0) (behind_held at) x i.2 in
+    let i = bind_ok (mark_at marks.OpenAngle rest) (λ inner. held inner >>= after_encapsulated at) x e in
+    let y = bind_ok (held i.0) (after_encapsulated at) x i.2 in
     let r = bind_ok _ _ x y.2 in
     let p = bind_ok (added at (y.0).0 (nodes.encapsulation (y.0).1)) (λ t. Ok (t.0, t.1, r.0)) x r.2 in
     subst (TakenType s text) (ok_is ((p.0).0, (p.0).1, r.0) x p.2)

@@ -10,8 +10,8 @@ use Rattle.giop_tokens.specs.Readers.{mark_at, keyword_at}
 use Rattle.giop_tokens.proofs.ReaderLaws.{bind_ok, ok_is, Takes, mark_takes, keyword_takes}
 use Rattle.giop_sig.specs.Table.{Node, node_at, IsScalarNode, IsFormed}
 use Rattle.giop_sig.specs.Table as nodes
-use Rattle.giop_sig.specs.Grammar.{TypeExpr, Choice, spell_type, spell_cases}
-use Rattle.giop_sig.specs.Scopes.{Scope, Placed, place, with_named}
+use Rattle.giop_sig.specs.Grammar.{TypeExpr, DeclaredUnion, spell_type, spell_cases}
+use Rattle.giop_sig.specs.Scopes.{Scope, AddedType, place, with_named}
 use Rattle.giop_sig.specs.Validity.{OfType, IsDiscriminator, OfCases, OfDeclaration, placed_node}
 use Rattle.giop_sig.specs.ScopeViews.{IsKnown, IsScope}
 use Rattle.giop_sig.specs.Outcomes.{refused}
@@ -76,17 +76,17 @@ union_formed at s a b t x e f is =
     let scalar = subst IsScalarNode (sym (node_stays t.0 x.0 t.1 c.grows below)) (discriminator_scalar (node_at (t.0).table t.1) k.is) in
     (record { below = omega arith; scalar = scalar }, c.few scope, c.parts scope, c.below scope)
 
-pub union_grows : (at : ℕ) (s : Scope) (a b : List ℕ) (t : TypeRead) (x : CasesRead) (p : Placed)
+pub union_grows : (at : ℕ) (s : Scope) (a b : List ℕ) (t : TypeRead) (x : CasesRead) (p : AddedType)
     → switch_at at s a ≡ Ok t → cases_at at t.1 t.0 b ≡ Ok x
     → added at x.0 (union_node t.1 x) ≡ Ok p → Grows s p.0
 union_grows at s a b t x p e f put =
     grows_on s t.0 p.0 (switch_taken at s a t e).grows (grows_on t.0 x.0 p.0 (cases_taken at t.1 t.0 b x f).grows (added_grows at x.0 (union_node t.1 x) p put))
 
 -- a union can be a part
-pub union_known : (at switch : ℕ) (x : CasesRead) (p : Placed)
+pub union_known : (at switch : ℕ) (x : CasesRead) (p : AddedType)
     → added at x.0 (union_node switch x) ≡ Ok p → IsKnown (p.0).table.types p.1
 union_known at switch x p put =
-    subst (λ (q : Placed). IsKnown (q.0).table.types q.1) (sym (added_is at x.0 (union_node switch x) p put)) (node_known x.0 (union_node switch x) tt)
+    subst (λ (q : AddedType). IsKnown (q.0).table.types q.1) (sym (added_is at x.0 (union_node switch x) p put)) (node_known x.0 (union_node switch x) tt)
 
 -- ---- the declaration
 
@@ -126,7 +126,7 @@ union_takes s whole text x before e =
     let c = cases_taken at (t.0).1 (t.0).0 o.0 cs.0 cs.1 in
     let node = placed_node (place s k.expr) in
     subst (TakenDeclaration s whole) (ok_is (with_named n u.0, r.0) x u.2) (record {
-      declaration = Choice n k.expr c.cases;
+      declaration = DeclaredUnion n k.expr c.cases;
       took = record {
         free = (a.free, k.took.free, tt, tt, subst (λ ns. OfCases kinds.Syntax ns node [] [] c.cases) (k.grows).names (c.free node));
         front = λ more m.

@@ -14,7 +14,7 @@ use Rattle.giop_sig.specs.declared.types.Selected.{Selected}
 use Rattle.giop_sig.specs.Table.{Case, Node, node_at, node_in}
 use Rattle.giop_sig.specs.Table as nodes
 use Rattle.giop_sig.specs.Grammar.{TypeExpr, Base, Text, Reference, Named, SequenceOf, EncapsulationOf, Item, Label, Default, Of, UnionCase, spell_length, spell_item, spell_labels, spell_cases}
-use Rattle.giop_sig.specs.Scopes.{Names, Scope, Placed, has_default, labels_of, union_case, place, place_length, place_item}
+use Rattle.giop_sig.specs.Scopes.{Names, Scope, AddedType, has_default, labels_of, union_case, place, add_array, add_item}
 use Rattle.giop_sig.specs.Validity.{OfItem, OfLabels, OfCases}
 use Rattle.giop_sig.specs.ItemReading.{item_at}
 use Rattle.giop_sig.specs.Repeats.{in_steps}
@@ -39,7 +39,7 @@ abbrev pub more_cases : Node → Scope → List Label → List (List ℕ) → Li
     → Selected → UnionCase → Cases
 more_cases node s labels names cases otherwise c =
     kept_cases node (labels ++ labels_of c) (names ++ c.item.name ∷ [])
-    (cases ++ union_case node c (place_item s c.item) ∷ [])
+    (cases ++ union_case node c (add_item s c.item) ∷ [])
     (chosen otherwise (has_default (labels_of c)) (length names))
 
 case_reads : (at switch : ℕ) (node : Node) (s : Scope) (labels : List Label) (names : List (List ℕ))
@@ -49,9 +49,9 @@ case_reads : (at switch : ℕ) (node : Node) (s : Scope) (labels : List Label) (
     → OfItem kinds.Syntax s.names 256 names c.item
     → AreTokens text (spell_labels (labels_of c) (spell_item c.item (mark marks.Semicolon ∷ more)))
     → Out {X = CasesRead} (λ rest.
-    ((place_item s c.item).0, more_cases node s labels names cases otherwise c, rest))
+    ((add_item s c.item).0, more_cases node s labels names cases otherwise c, rest))
     (λ k. OfLabels k node labels (labels_of c) × OfItem k s.names 256 names c.item)
-    (place_item s c.item).0.table.types more
+    (add_item s c.item).0.table.types more
     (case_at at switch (s, kept_cases node labels names cases otherwise, text))
 unfolding case_at
 case_reads at switch node s labels names cases otherwise c text more same some all few free item h =
@@ -79,11 +79,11 @@ place_grows s (SequenceOf e bound) = grows_on s (place s e).0 (place s (Sequence
 place_grows s (EncapsulationOf e) = grows_on s (place s e).0 (place s (EncapsulationOf e)).0 (place_grows s e) (node_grows (place s e).0 _)
 place_grows s _ = grows_none s
 
-length_grows : (s : Scope) (o : Option ℕ) (p : Placed) → Grows s p.0 → Grows s (place_length o p).0
+length_grows : (s : Scope) (o : Option ℕ) (p : AddedType) → Grows s p.0 → Grows s (add_array o p).0
 length_grows s None p g = g
-length_grows s (Some n) p g = grows_on s p.0 (place_length (Some n) p).0 g (node_grows p.0 (nodes.array n p.1))
+length_grows s (Some n) p g = grows_on s p.0 (add_array (Some n) p).0 g (node_grows p.0 (nodes.array n p.1))
 
-pub item_grows : (s : Scope) (i : Item) → Grows s (place_item s i).0
+pub item_grows : (s : Scope) (i : Item) → Grows s (add_item s i).0
 item_grows s i = length_grows s i.length (place s i.type) (place_grows s i.type)
 
 pub node_stays : (s t : Scope) (i : ℕ) → Grows s t → i < size s
@@ -98,8 +98,8 @@ unfoldable pub made_cases : Node → Scope → List Label → List (List ℕ) �
 made_cases node s labels names cases otherwise [] =
     (s, kept_cases node labels names cases otherwise)
 made_cases node s labels names cases otherwise (c ∷ cs) =
-    made_cases node (place_item s c.item).0 (labels ++ labels_of c) (names ++ c.item.name ∷ [])
-    (cases ++ union_case node c (place_item s c.item) ∷ [])
+    made_cases node (add_item s c.item).0 (labels ++ labels_of c) (names ++ c.item.name ∷ [])
+    (cases ++ union_case node c (add_item s c.item) ∷ [])
     (chosen otherwise (has_default (labels_of c)) (length names)) cs
 
 pub made_more : (node : Node) (s : Scope) (labels : List Label)
@@ -110,8 +110,8 @@ unfolding made_cases
 made_more node s labels names cases otherwise [] = within_same
 made_more node s labels names cases otherwise (c ∷ cs) =
     within_on (item_more s c.item)
-    (made_more node (place_item s c.item).0 (labels ++ labels_of c) (names ++ c.item.name ∷ [])
-    (cases ++ union_case node c (place_item s c.item) ∷ [])
+    (made_more node (add_item s c.item).0 (labels ++ labels_of c) (names ++ c.item.name ∷ [])
+    (cases ++ union_case node c (add_item s c.item) ∷ [])
     (chosen otherwise (has_default (labels_of c)) (length names)) cs)
 
 step_end : (at switch : ℕ) (x : CasesRead) (rest : List ℕ)
@@ -142,9 +142,9 @@ case_step_reads : (at switch : ℕ) (node : Node) (s : Scope) (labels : List Lab
     → OfItem kinds.Syntax s.names 256 names c.item
     → AreTokens text (spell_labels (labels_of c) (spell_item c.item (mark marks.Semicolon ∷ more)))
     → Out {X = Bool × CasesRead} (λ rest.
-    (false, ((place_item s c.item).0, more_cases node s labels names cases otherwise c, rest)))
+    (false, ((add_item s c.item).0, more_cases node s labels names cases otherwise c, rest)))
     (λ k. OfLabels k node labels (labels_of c) × OfItem k s.names 256 names c.item)
-    (place_item s c.item).0.table.types more
+    (add_item s c.item).0.table.types more
     (cases_step at switch (s, kept_cases node labels names cases otherwise, text))
 case_step_reads at switch node s labels names cases otherwise c text more same some all few free item h =
     let x : CasesRead = (s, kept_cases node labels names cases otherwise, text) in
@@ -174,9 +174,9 @@ cases_run (c ∷ cs) zero at switch node known s labels names cases otherwise te
 cases_run [] (suc left) at switch node known s labels names cases otherwise text more at-names some below same all few room short free h =
     rw (step_end at switch (s, kept_cases node labels names cases otherwise, text) h.0 (mark_if_again marks.CloseBrace text more h)) (good h.0 h.2 (λ k. tt))
 cases_run (c ∷ cs) (suc left) at switch node known s labels names cases otherwise text more at-names some below same all few room short free h =
-    let t = (place_item s c.item).0 in
+    let t = (add_item s c.item).0 in
     let tail = spell_cases cs more in
-    let behind = made_cases node t (labels ++ labels_of c) (names ++ c.item.name ∷ []) (cases ++ union_case node c (place_item s c.item) ∷ [])
+    let behind = made_cases node t (labels ++ labels_of c) (names ++ c.item.name ∷ []) (cases ++ union_case node c (add_item s c.item) ∷ [])
     (chosen otherwise (has_default (labels_of c)) (length names)) cs in
     out_bind (cases_step at switch (s, kept_cases node labels names cases otherwise, text)) (then_cases at switch left)
     (case_step_reads at switch node s labels names cases otherwise c text tail same some all few free.0
@@ -185,7 +185,7 @@ cases_run (c ∷ cs) (suc left) at switch node known s labels names cases otherw
     let limit = keeps kinds.Limit in
     let fewer = ((limit.1).1).1 in
     out_more
-    (cases_run cs left at switch node known t (labels ++ labels_of c) (names ++ c.item.name ∷ []) (cases ++ union_case node c (place_item s c.item) ∷ [])
+    (cases_run cs left at switch node known t (labels ++ labels_of c) (names ++ c.item.name ∷ []) (cases ++ union_case node c (add_item s c.item) ∷ [])
     (chosen otherwise (has_default (labels_of c)) (length names)) rest more
     (item_names s c.item ∙ at-names) (omega (arith, (item_more s c.item).longer)) (omega (arith, (item_more s c.item).longer))
     (node_stays s t switch (item_grows s c.item) below ∙ same)
@@ -194,5 +194,5 @@ cases_run (c ∷ cs) (suc left) at switch node known s labels names cases otherw
     (omega (arith, length-append names (c.item.name ∷ []))) (omega (arith, length-append names (c.item.name ∷ []))) free.2 m)
     (λ k w. ((keeps k).0, subst (λ ns. OfItem k ns 256 names c.item) at-names (keeps k).1, w)) (λ k w. w.2))
     (λ k w. (w.0, subst (λ ns. OfItem k ns 256 names c.item) (sym at-names) w.1))
-    (made_more node t (labels ++ labels_of c) (names ++ c.item.name ∷ []) (cases ++ union_case node c (place_item s c.item) ∷ [])
+    (made_more node t (labels ++ labels_of c) (names ++ c.item.name ∷ []) (cases ++ union_case node c (add_item s c.item) ∷ [])
     (chosen otherwise (has_default (labels_of c)) (length names)) cs)

@@ -13,8 +13,8 @@ use Rattle.giop_sig.specs.declared.types.Selected.{Selected}
 use Rattle.giop_sig.specs.declared.types.Selected.TheVariants as selecteds
 use Rattle.giop_sig.specs.Table.{Case, Node, node_at}
 use Rattle.giop_sig.specs.Table as nodes
-use Rattle.giop_sig.specs.Grammar.{TypeExpr, Label, UnionCase, Choice, spell_item, spell_type, spell_cases}
-use Rattle.giop_sig.specs.Scopes.{Names, Scope, Placed, with_node, has_default, labels_of, union_case, place, place_item, place_cases, place_choice, default_from, with_named, declare}
+use Rattle.giop_sig.specs.Grammar.{TypeExpr, Label, UnionCase, DeclaredUnion, spell_item, spell_type, spell_cases}
+use Rattle.giop_sig.specs.Scopes.{Names, Scope, AddedType, with_node, has_default, labels_of, union_case, place, add_item, add_cases, add_choice_type, default_from, with_named, declare}
 use Rattle.giop_sig.specs.Validity.{Kind, IsDiscriminator, OfType, OfSwitch, OfSome, OfCases, OfDeclaration, placed_node}
 use Rattle.giop_sig.specs.Outcomes.{refused}
 use Rattle.giop_sig.specs.TypeReading.{added, type_at}
@@ -54,25 +54,25 @@ default_end _ i = refl
 -- what was kept of the cases is what they make
 record MakesCases (node : Node) (s : Scope) (cases : List Case) (otherwise : Selected) (place : ℕ)
     (cs : List UnionCase) (x : Scope × Cases) : Type 0 where
-  scope : x.0 ≡ (place_cases s node cs).0
-  cases-are : (x.1).cases ≡ cases ++ (place_cases s node cs).1
+  scope : x.0 ≡ (add_cases s node cs).0
+  cases-are : (x.1).cases ≡ cases ++ (add_cases s node cs).1
   otherwise-is : (x.1).otherwise ≡ default_or otherwise place cs
 
 made_is : (cs : List UnionCase) (node : Node) (s : Scope) (labels : List Label)
     (names : List (List ℕ)) (cases : List Case) (otherwise : Selected)
     → MakesCases node s cases otherwise (length names) cs
     (made_cases node s labels names cases otherwise cs)
-unfolding made_cases place_cases
+unfolding made_cases add_cases
 made_is [] node s labels names cases otherwise =
     record { scope = refl; cases-are = sym (append-nil cases); otherwise-is = default_end otherwise (length names) }
 made_is (c ∷ cs) node s labels names cases otherwise =
-    let t = (place_item s c.item).0 in
-    let one = union_case node c (place_item s c.item) in
+    let t = (add_item s c.item).0 in
+    let one = union_case node c (add_item s c.item) in
     let next = chosen otherwise (has_default (labels_of c)) (length names) in
     let k = made_is cs node t (labels ++ labels_of c) (names ++ c.item.name ∷ []) (cases ++ one ∷ []) next in
     record {
       scope = k.scope;
-      cases-are = k.cases-are ∙ append_assoc cases (one ∷ []) (place_cases t node cs).1;
+      cases-are = k.cases-are ∙ append_assoc cases (one ∷ []) (add_cases t node cs).1;
       otherwise-is = k.otherwise-is ∙ ap (λ i. default_or next i cs) (length-append names (c.item.name ∷ [])) ∙ default_on otherwise (length names) c cs;
     }
 
@@ -169,20 +169,20 @@ switch_reads at s e text more some free apart h =
 -- ---- a union
 
 -- the union of cases that were kept
-abbrev kept_union : ℕ → Scope × Cases → Placed
+abbrev kept_union : ℕ → Scope × Cases → AddedType
 kept_union switch x = with_node x.0 (nodes.union switch (x.1).cases (x.1).otherwise)
 
-kept_is : (cs : List UnionCase) (p : Placed) (node : Node) → node_at (p.0).table p.1 ≡ node
-    → kept_union p.1 (made_cases node p.0 [] [] [] selecteds.Nothing cs) ≡ place_choice cs p
+kept_is : (cs : List UnionCase) (p : AddedType) (node : Node) → node_at (p.0).table p.1 ≡ node
+    → kept_union p.1 (made_cases node p.0 [] [] [] selecteds.Nothing cs) ≡ add_choice_type cs p
 kept_is cs p node same =
     let k = made_is cs node p.0 [] [] [] selecteds.Nothing in
-    let x = place_cases p.0 node cs in
+    let x = add_cases p.0 node cs in
     let one : kept_union p.1 (made_cases node p.0 [] [] [] selecteds.Nothing cs) ≡ with_node x.0 (nodes.union p.1 x.1 (default_from 0 cs)) =
     rw (k.scope, k.cases-are, k.otherwise-is) refl in
-    one ∙ ap (λ n. with_node (place_cases p.0 n cs).0 (nodes.union p.1 (place_cases p.0 n cs).1 (default_from 0 cs))) (sym same)
+    one ∙ ap (λ n. with_node (add_cases p.0 n cs).0 (nodes.union p.1 (add_cases p.0 n cs).1 (default_from 0 cs))) (sym same)
 
 choice_reads : (n : List ℕ) (switch : TypeExpr) (cases : List UnionCase) (s : Scope) (text : List ℕ)
-    (more : List Token) → 0 < size s → OfDeclaration kinds.Syntax s (Choice n switch cases)
+    (more : List Token) → 0 < size s → OfDeclaration kinds.Syntax s (DeclaredUnion n switch cases)
     → AreTokens text (word n ∷ word (codes "switch") ∷ mark marks.OpenParenthesis
     ∷ spell_type switch (mark marks.CloseParenthesis ∷ mark marks.OpenBrace
     ∷ spell_cases cases (mark marks.Semicolon ∷ more)))
@@ -191,7 +191,7 @@ choice_reads : (n : List ℕ) (switch : TypeExpr) (cases : List UnionCase) (s : 
           (made_cases (placed_node (place s switch)) (place s switch).0 [] [] [] selecteds.Nothing
           cases)),
       rest,
-    )) (λ k. OfDeclaration k s (Choice n switch cases))
+    )) (λ k. OfDeclaration k s (DeclaredUnion n switch cases))
     (kept_union (place s switch).1
     (made_cases (placed_node (place s switch)) (place s switch).0 [] [] [] selecteds.Nothing
     cases)).0.table.types more (union_at s text)
@@ -235,17 +235,17 @@ choice_reads n switch cases s text more some free h =
 -- what reading gives of a text that begins with a union, behind its word
 pub union_reads : (s : Scope) (n : List ℕ) (switch : TypeExpr) (cases : List UnionCase)
     (text : List ℕ) (more : List Token) → 0 < size s
-    → OfDeclaration kinds.Syntax s (Choice n switch cases)
+    → OfDeclaration kinds.Syntax s (DeclaredUnion n switch cases)
     → AreTokens text (word n ∷ word (codes "switch") ∷ mark marks.OpenParenthesis
     ∷ spell_type switch (mark marks.CloseParenthesis ∷ mark marks.OpenBrace
     ∷ spell_cases cases (mark marks.Semicolon ∷ more)))
-    → Out (λ rest. (declare s (Choice n switch cases), rest))
-    (λ k. OfDeclaration k s (Choice n switch cases))
-    (declare s (Choice n switch cases)).table.types more (union_at s text)
+    → Out (λ rest. (declare s (DeclaredUnion n switch cases), rest))
+    (λ k. OfDeclaration k s (DeclaredUnion n switch cases))
+    (declare s (DeclaredUnion n switch cases)).table.types more (union_at s text)
 unfolding declare
 union_reads s n switch cases text more some free h =
     let p = place s switch in
     let same = kept_is cases p (placed_node p) refl in
     out_as (union_at s text) (choice_reads n switch cases s text more some free h)
-    (λ rest. ap (λ (q : Placed). (with_named n q, rest)) same) (λ k w. w) (λ k w. w)
-    (subst (λ (q : Placed). Grown (kept_union p.1 (made_cases (placed_node p) p.0 [] [] [] selecteds.Nothing cases)).0 q.0) same within_same)
+    (λ rest. ap (λ (q : AddedType). (with_named n q, rest)) same) (λ k w. w) (λ k w. w)
+    (subst (λ (q : AddedType). Grown (kept_union p.1 (made_cases (placed_node p) p.0 [] [] [] selecteds.Nothing cases)).0 q.0) same within_same)

@@ -24,7 +24,7 @@ use Rattle.giop_sig.specs.ScopeViews.{IsScope}
 use Rattle.giop_sig.specs.Outcomes.{refused}
 use Rattle.giop_sig.specs.ItemReading.{ItemRead, item_at, unless_closed, filled_at}
 use Rattle.giop_sig.specs.Repeats.{in_steps}
-use Rattle.giop_sig.specs.UnionReading.{token_value, value_at, Mark, LabelRead, fitting, number_of_value, fresh, label_by, label_at, LabelsRead, with_label, begins_label, label_or_end, labels_step, too_many_labels, labels_by, labels_at, Cases, no_cases, chosen, with_case, CasesRead, case_at, case_or_end, cases_step, too_many_cases, cases_at}
+use Rattle.giop_sig.specs.UnionReading.{token_value, value_at, Mark, LabelRead, fitting, number_of_value, unseen_label, label_by, label_at, LabelsRead, with_label, begins_label, label_or_end, labels_step, too_many_labels, labels_by, labels_at, Cases, no_cases, chosen, with_case, CasesRead, case_at, case_or_end, cases_step, too_many_cases, cases_at}
 use Rattle.giop_sig.proofs.TypeTaken.{Grows, grows_none, grows_on, grows_known}
 use Rattle.giop_sig.proofs.ItemTaken.{TakenItem, item_takes}
 use Rattle.giop_sig.proofs.LabelReads.{then_labels}
@@ -96,8 +96,8 @@ label_taken_by : (node : Node) (seen : List Mark) (text : List ℕ) (o : Option 
     (x : LabelRead) → keyword_if (codes "case") text ≡ Ok o
     → label_by node seen text o ≡ Ok x → TakenLabel text x.1
 label_taken_by node seen text (Some inner) x h e =
-    let v = bind_ok (number_of_value node inner) (λ v. fresh seen v.0 inner >>= λ m. mark_at marks.Colon v.1 >>= λ rest. Ok (m, rest)) x e in
-    let m = bind_ok (fresh seen (v.0).0 inner) (λ m. mark_at marks.Colon (v.0).1 >>= λ rest. Ok (m, rest)) x v.2 in
+    let v = bind_ok (number_of_value node inner) (λ v. unseen_label seen v.0 inner >>= λ m. mark_at marks.Colon v.1 >>= λ rest. Ok (m, rest)) x e in
+    let m = bind_ok (unseen_label seen (v.0).0 inner) (λ m. mark_at marks.Colon (v.0).1 >>= λ rest. Ok (m, rest)) x v.2 in
     let r = bind_ok (mark_at marks.Colon (v.0).1) (λ rest. Ok (m.0, rest)) x m.2 in
     let t = number_taken node inner v.0 v.1 in
     label_rest_is text m.0 r.0 x (ok_is (m.0, r.0) x r.2) (record {
@@ -107,8 +107,8 @@ label_taken_by node seen text (Some inner) x h e =
           (t.taken.front (mark marks.Colon ∷ more) (mark_takes marks.Colon (v.0).1 r.0 r.1 more k));
     })
 label_taken_by node seen text None x h e =
-    let w = bind_ok (keyword_at (codes "default") text) (λ inner. fresh seen None text >>= λ m. mark_at marks.Colon inner >>= λ rest. Ok (m, rest)) x e in
-    let m = bind_ok (fresh seen None text) (λ m. mark_at marks.Colon w.0 >>= λ rest. Ok (m, rest)) x w.2 in
+    let w = bind_ok (keyword_at (codes "default") text) (λ inner. unseen_label seen None text >>= λ m. mark_at marks.Colon inner >>= λ rest. Ok (m, rest)) x e in
+    let m = bind_ok (unseen_label seen None text) (λ m. mark_at marks.Colon w.0 >>= λ rest. Ok (m, rest)) x w.2 in
     let r = bind_ok (mark_at marks.Colon w.0) (λ rest. Ok (m.0, rest)) x m.2 in
     label_rest_is text m.0 r.0 x (ok_is (m.0, r.0) x r.2) (record {
       label = Default;

@@ -79,13 +79,13 @@ pub record Params : Type 0 where
   pub closed : Bool
 
 -- where parameters stand
-pub record Way : Type 0 where
+pub record ParameterLists : Type 0 where
   pub seen : List (List ℕ)
   pub request : List Part
   pub reply : List Part
 
 -- with a parameter more
-abbrev pub with_param : Way → Direction → Part → Way
+abbrev pub with_param : ParameterLists → Direction → Part → ParameterLists
 with_param w d p =
     record {
       seen = w.seen ++ p.name ∷ [];
@@ -93,7 +93,7 @@ with_param w d p =
       reply = in_reply d p w.reply;
     }
 
-abbrev pub params_of : Way → Direction → ItemRead → List ℕ → Bool → Params
+abbrev pub params_of : ParameterLists → Direction → ItemRead → List ℕ → Bool → Params
 params_of w d i rest closed =
     record {
       scope = i.0;
@@ -104,40 +104,40 @@ params_of w d i rest closed =
       closed = closed;
     }
 
-abbrev pub behind_param : Way → Direction → ItemRead → Option (List ℕ) → Result Params Refusal
-behind_param w d i (Some r) = Ok (params_of w d i r false)
-behind_param w d i None = do
+abbrev pub param_end : ParameterLists → Direction → ItemRead → Option (List ℕ) → Result Params Refusal
+param_end w d i (Some r) = Ok (params_of w d i r false)
+param_end w d i None = do
   r ← mark_at marks.CloseParenthesis i.2
   Ok (params_of w d i r true)
 
 -- a parameter, and the comma or the closing mark behind it
-unfoldable pub param_step : ℕ → Way → Scope → List ℕ → Result Params Refusal
+unfoldable pub param_step : ℕ → ParameterLists → Scope → List ℕ → Result Params Refusal
 param_step at w s text = do
   d ← direction_at text
   i ← item_at at 255 w.seen s d.1
   c ← mark_if marks.Comma i.2
-  behind_param w d.0 i c
+  param_end w d.0 i c
 
 abbrev pub ParamsRead : Type 0
 ParamsRead = Scope × List Part × List Part × List ℕ
 
-abbrev pub way_of : Params → Way
-way_of m = record { seen = m.seen; request = m.request; reply = m.reply }
+abbrev pub parameter_lists_of : Params → ParameterLists
+parameter_lists_of m = record { seen = m.seen; request = m.request; reply = m.reply }
 
-unfoldable pub params_run : ℕ → ℕ → Way → Scope → List ℕ → Result ParamsRead Refusal
+unfoldable pub params_run : ℕ → ℕ → ParameterLists → Scope → List ℕ → Result ParamsRead Refusal
 params_run at zero w s text = Err (refused kinds.Limit text)
 params_run at (suc n) w s text = do
   m ← param_step at w s text
   if m.closed then Ok (m.scope, m.request, m.reply, m.rest)
-      else params_run at n (way_of m) m.scope m.rest
+      else params_run at n (parameter_lists_of m) m.scope m.rest
 
-abbrev pub no_way : List Part → Way
-no_way returned = record { seen = []; request = []; reply = returned }
+abbrev pub no_parameters : List Part → ParameterLists
+no_parameters returned = record { seen = []; request = []; reply = returned }
 
 abbrev pub params_after : ℕ → List Part → Scope → List ℕ → Option (List ℕ)
     → Result ParamsRead Refusal
 params_after at returned s text (Some r) = Ok (s, [], returned, r)
-params_after at returned s text None = params_run at 256 (no_way returned) s text
+params_after at returned s text None = params_run at 256 (no_parameters returned) s text
 
 -- parameters up to the closing mark
 unfoldable pub params_at : ℕ → List Part → Scope → List ℕ → Result ParamsRead Refusal

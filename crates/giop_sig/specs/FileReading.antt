@@ -11,7 +11,7 @@ use Rattle.giop_tokens.specs.Lines.{fault_of}
 use Rattle.giop_tokens.specs.Readers.{misplaced, word_at, number_at, mark_at, keyword_at, end_at}
 use Rattle.giop_sig.specs.Grammar.{is_version}
 use Rattle.giop_sig.specs.Scopes.{Scope, first_scope}
-use Rattle.giop_sig.specs.ItemReading.{Declared, structure_at, raise_at}
+use Rattle.giop_sig.specs.ItemReading.{Declared, structure_at, exception_at}
 use Rattle.giop_sig.specs.CallReading.{operation_at}
 use Rattle.giop_sig.specs.EnumReading.{enumeration_at}
 use Rattle.giop_sig.specs.UnionReading.{union_at}
@@ -21,7 +21,7 @@ declaration_after s text w rest =
     if bytes_eq w (codes "enum") then enumeration_at s rest else
     (if bytes_eq w (codes "struct") then structure_at s rest else
     (if bytes_eq w (codes "union") then union_at s rest else
-    (if bytes_eq w (codes "exception") then raise_at s rest else
+    (if bytes_eq w (codes "exception") then exception_at s rest else
     (if bytes_eq w (codes "operation") then operation_at s rest else Err (misplaced text)))))
 
 unfoldable pub declaration_at : Scope → List ℕ → Result Declared Refusal

@@ -170,9 +170,9 @@ pub data Declaration : Type 0 where
   Enumeration : List ℕ → List (List ℕ) → Declaration
   Structure : List ℕ → List Item → Declaration
   -- its discriminator, its cases
-  Choice : List ℕ → TypeExpr → List UnionCase → Declaration
+  DeclaredUnion : List ℕ → TypeExpr → List UnionCase → Declaration
   -- an exception: its name, its repository id, its members
-  Raise : List ℕ → List ℕ → List Item → Declaration
+  DeclaredException : List ℕ → List ℕ → List Item → Declaration
   -- an operation: what it returns, its name, its parameters
   Call : Option TypeExpr → List ℕ → List Param → Declaration
 
@@ -183,11 +183,11 @@ spell (Enumeration n names) more =
 spell (Structure n items) more =
     word (codes "struct") ∷ word n ∷ mark marks.OpenBrace
     ∷ spell_items items (mark marks.Semicolon ∷ more)
-spell (Choice n switch cases) more =
+spell (DeclaredUnion n switch cases) more =
     word (codes "union") ∷ word n ∷ word (codes "switch") ∷ mark marks.OpenParenthesis
     ∷ spell_type switch (mark marks.CloseParenthesis ∷ mark marks.OpenBrace
     ∷ spell_cases cases (mark marks.Semicolon ∷ more))
-spell (Raise n r items) more =
+spell (DeclaredException n r items) more =
     word (codes "exception") ∷ word n ∷ repository r ∷ mark marks.OpenBrace
     ∷ spell_items items (mark marks.Semicolon ∷ more)
 spell (Call returned n params) more =

@@ -12,7 +12,7 @@ use Rattle.giop_tokens.specs.Readers.{mark_at, mark_if, repository_at}
 use Rattle.giop_tokens.specs.Names.{identifier_at}
 use Rattle.giop_sig.specs.Table.{Part, exception_in}
 use Rattle.giop_sig.specs.Table as nodes
-use Rattle.giop_sig.specs.Scopes.{Scope, Placed, part, with_named, with_raised}
+use Rattle.giop_sig.specs.Scopes.{Scope, AddedType, part, with_named, with_raised}
 use Rattle.giop_sig.specs.Validity.{is_among}
 use Rattle.giop_sig.specs.Outcomes.{refused}
 use Rattle.giop_sig.specs.TypeReading.{added, enclosed_at, type_at}
@@ -35,7 +35,7 @@ declared_at s count text = do
 
 -- ---- items
 
-abbrev pub array_type : ℕ → Scope → ℕ → Option ℕ → Result Placed Refusal
+abbrev pub array_type : ℕ → Scope → ℕ → Option ℕ → Result AddedType Refusal
 array_type at s element None = Ok (s, element)
 array_type at s element (Some n) = added at s (nodes.array n element)
 
@@ -131,8 +131,8 @@ new_repository_at s text = do
       else (if is_some (exception_in s.table i.0)
       then Err (refused kinds.Duplicate text) else Ok (i.0, i.1))
 
-unfoldable pub raise_at : Scope → List ℕ → Result Declared Refusal
-raise_at s text = do
+unfoldable pub exception_at : Scope → List ℕ → Result Declared Refusal
+exception_at s text = do
   n ← declared_at s (length s.table.exceptions) text
   i ← new_repository_at s n.1
   o ← mark_at marks.OpenBrace i.1

@@ -4,7 +4,7 @@ pub mod Trees
 pub mod Fits
 pub mod Builtin
 pub mod Views
-pub mod Headers
+pub mod HeaderTypes
 pub mod Entries
 pub mod Literals
 pub mod RequestList
@@ -15,7 +15,7 @@ pub mod Outcomes
 pub mod TypeReading
 pub mod ItemReading
 pub mod CallReading
-pub mod WayViews
+pub mod ParameterViews
 pub mod Repeats
 pub mod EnumReading
 pub mod UnionReading

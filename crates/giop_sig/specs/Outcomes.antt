@@ -3,16 +3,16 @@ use Rattle.std.specs.Prelude.{◌≡◌, ℕ, List, Result, Ok, Err}
 use Rattle.giop_tokens.specs.declared.fault.Refusal.{Refusal}
 use Rattle.giop_tokens.specs.declared.fault.SigFaultKind.{SigFaultKind}
 use Rattle.giop_tokens.specs.Tokens.{left_of}
-use Rattle.giop_sig.specs.declared.stop.Stop.{Stop}
-use Rattle.giop_sig.specs.declared.stop.Stop.TheVariants as stops
+use Rattle.giop_sig.specs.declared.parse_stop.ParseStop.{ParseStop}
+use Rattle.giop_sig.specs.declared.parse_stop.ParseStop.TheVariants as stops
 
 -- the refusal is that of reading; want of memory says nothing of it
-abbrev pub Stops : {Y : Type 0} → Stop → Result Y Refusal → Type 0
+abbrev pub Stops : {Y : Type 0} → ParseStop → Result Y Refusal → Type 0
 Stops stops.Memory read = Unit {0}
 Stops (stops.Refused r) read = read ≡ Err r
 
 -- what a function returned, seen by a view, is what reading gives, unless memory was refused
-abbrev pub Gives : {X Y : Type 0} → (X → Y) → Result X Stop → Result Y Refusal → Type 0
+abbrev pub Gives : {X Y : Type 0} → (X → Y) → Result X ParseStop → Result Y Refusal → Type 0
 Gives view (Ok x) read = read ≡ Ok (view x)
 Gives view (Err e) read = Stops e read
 

@@ -16,7 +16,7 @@ use Rattle.giop_sig.specs.Table.{Part, Case, Node, Table, node_at, with_type, wi
 use Rattle.giop_sig.specs.Table as nodes
 use Rattle.giop_sig.specs.Builtin.{builtin_table}
 use Rattle.giop_sig.specs.RequestList.{flat}
-use Rattle.giop_sig.specs.Grammar.{TypeExpr, Base, Text, Reference, Named, SequenceOf, EncapsulationOf, Item, Value, Plain, Below, Truth, Enumerator, Label, Default, Of, UnionCase, Param, Declaration, Enumeration, Structure, Choice, Raise, Call, SignatureFile}
+use Rattle.giop_sig.specs.Grammar.{TypeExpr, Base, Text, Reference, Named, SequenceOf, EncapsulationOf, Item, Value, Plain, Below, Truth, Enumerator, Label, Default, Of, UnionCase, Param, Declaration, Enumeration, Structure, DeclaredUnion, DeclaredException, Call, SignatureFile}
 
 -- What the words of a file mean as types: the file's version, and the names of enums, structs and
 -- unions, each with its type's number, and of exceptions, with none.
@@ -49,11 +49,11 @@ number_or (Some n) = n
 -- ---- types
 
 -- a scope, and the number of a type in it
-abbrev pub Placed : Type 0
-Placed = Scope × ℕ
+abbrev pub AddedType : Type 0
+AddedType = Scope × ℕ
 
 -- one node more, and its number
-abbrev pub with_node : Scope → Node → Placed
+abbrev pub with_node : Scope → Node → AddedType
 with_node s node = (record s { table = with_type s.table node }, length s.table.types)
 
 -- the primitives are the first of the built-in types
@@ -75,48 +75,48 @@ abbrev pub sequence_node : Option ℕ → ℕ → Node
 sequence_node bound element =
     if element == 0 then nodes.octets bound else nodes.sequence bound element
 
-abbrev pub place_text : Scope → Option ℕ → Placed
-place_text s None = (s, STRING)
-place_text s (Some n) = with_node s (nodes.text (Some n))
+abbrev pub add_text_type : Scope → Option ℕ → AddedType
+add_text_type s None = (s, STRING)
+add_text_type s (Some n) = with_node s (nodes.text (Some n))
 
-abbrev pub place_sequence : Option ℕ → Placed → Placed
-place_sequence bound p = with_node p.0 (sequence_node bound p.1)
+abbrev pub add_sequence_type : Option ℕ → AddedType → AddedType
+add_sequence_type bound p = with_node p.0 (sequence_node bound p.1)
 
-abbrev pub place_encapsulation : Placed → Placed
-place_encapsulation p = with_node p.0 (nodes.encapsulation p.1)
+abbrev pub add_encapsulation_type : AddedType → AddedType
+add_encapsulation_type p = with_node p.0 (nodes.encapsulation p.1)
 
 -- the types that an expression adds, and its own number
-unfoldable pub place : Scope → TypeExpr → Placed
+unfoldable pub place : Scope → TypeExpr → AddedType
 place s (Base p) = (s, base_number p)
-place s (Text bound) = place_text s bound
+place s (Text bound) = add_text_type s bound
 place s Reference = (s, IOR)
 place s (Named w) = (s, number_or (named s.names w))
-place s (SequenceOf e bound) = place_sequence bound (place s e)
-place s (EncapsulationOf e) = place_encapsulation (place s e)
+place s (SequenceOf e bound) = add_sequence_type bound (place s e)
+place s (EncapsulationOf e) = add_encapsulation_type (place s e)
 
 -- ---- items
 
-abbrev pub place_length : Option ℕ → Placed → Placed
-place_length None p = p
-place_length (Some n) p = with_node p.0 (nodes.array n p.1)
+abbrev pub add_array : Option ℕ → AddedType → AddedType
+add_array None p = p
+add_array (Some n) p = with_node p.0 (nodes.array n p.1)
 
-abbrev pub place_item : Scope → Item → Placed
-place_item s i = place_length i.length (place s i.type)
+abbrev pub add_item : Scope → Item → AddedType
+add_item s i = add_array i.length (place s i.type)
 
 abbrev pub part : List ℕ → ℕ → Part
 part w number = record { name = w; type = number }
 
-abbrev pub item_part : Item → Placed → Part
+abbrev pub item_part : Item → AddedType → Part
 item_part i p = part i.name p.1
 
 abbrev pub with_part : Part → Scope × List Part → Scope × List Part
 with_part p x = (x.0, p ∷ x.1)
 
 -- the members of a struct, with the numbers of their types
-unfoldable pub place_items : Scope → List Item → Scope × List Part
-place_items s [] = (s, [])
-place_items s (i ∷ is) =
-    with_part (item_part i (place_item s i)) (place_items (place_item s i).0 is)
+unfoldable pub add_items : Scope → List Item → Scope × List Part
+add_items s [] = (s, [])
+add_items s (i ∷ is) =
+    with_part (item_part i (add_item s i)) (add_items (add_item s i).0 is)
 
 -- ---- the cases of a union
 
@@ -169,7 +169,7 @@ has_default (Of v ∷ ls) = has_default ls
 abbrev pub labels_of : UnionCase → List Label
 labels_of c = c.label ∷ c.others
 
-abbrev pub union_case : Node → UnionCase → Placed → Case
+abbrev pub union_case : Node → UnionCase → AddedType → Case
 union_case node c p =
     record { labels = label_numbers node (labels_of c); part = item_part c.item p }
 
@@ -177,11 +177,11 @@ abbrev pub with_case : Case → Scope × List Case → Scope × List Case
 with_case c x = (x.0, c ∷ x.1)
 
 -- the cases of a union whose discriminator has a type of this node
-unfoldable pub place_cases : Scope → Node → List UnionCase → Scope × List Case
-place_cases s node [] = (s, [])
-place_cases s node (c ∷ cs) =
-    with_case (union_case node c (place_item s c.item))
-    (place_cases (place_item s c.item).0 node cs)
+unfoldable pub add_cases : Scope → Node → List UnionCase → Scope × List Case
+add_cases s node [] = (s, [])
+add_cases s node (c ∷ cs) =
+    with_case (union_case node c (add_item s c.item))
+    (add_cases (add_item s c.item).0 node cs)
 
 -- what is selected where no label is the number: the case with the default, counted from the first
 abbrev pub default_from : ℕ → List UnionCase → Selected
@@ -192,8 +192,8 @@ default_from i (c ∷ cs) =
 -- ---- the parameters of an operation
 
 -- a scope, and the members of an operation's requests and of its replies
-abbrev pub Ways : Type 0
-Ways = Scope × List Part × List Part
+abbrev pub AddedParameters : Type 0
+AddedParameters = Scope × List Part × List Part
 
 abbrev pub onto_request : Direction → Part → List Part → List Part
 onto_request directions.In p ps = p ∷ ps
@@ -205,19 +205,19 @@ onto_reply directions.In p ps = ps
 onto_reply directions.Out p ps = p ∷ ps
 onto_reply directions.Inout p ps = p ∷ ps
 
-abbrev pub with_param : Direction → Part → Ways → Ways
+abbrev pub with_param : Direction → Part → AddedParameters → AddedParameters
 with_param d p x = (x.0, onto_request d p x.1, onto_reply d p x.2)
 
-unfoldable pub place_params : Scope → List Param → Ways
-place_params s [] = (s, [], [])
-place_params s (p ∷ ps) =
-    with_param p.direction (item_part p.item (place_item s p.item))
-    (place_params (place_item s p.item).0 ps)
+unfoldable pub add_params : Scope → List Param → AddedParameters
+add_params s [] = (s, [], [])
+add_params s (p ∷ ps) =
+    with_param p.direction (item_part p.item (add_item s p.item))
+    (add_params (add_item s p.item).0 ps)
 
 -- what an operation returns is a member of its replies
-abbrev pub place_return : Scope → Option TypeExpr → Scope × List Part
-place_return s None = (s, [])
-place_return s (Some e) = ((place s e).0, part (codes "return") (place s e).1 ∷ [])
+abbrev pub add_return : Scope → Option TypeExpr → Scope × List Part
+add_return s None = (s, [])
+add_return s (Some e) = ((place s e).0, part (codes "return") (place s e).1 ∷ [])
 
 -- ---- declarations
 
@@ -226,17 +226,17 @@ with_name s w number =
     record s { names = record (s.names) { known = s.names.known ++ (w, number) ∷ [] } }
 
 -- an enum, struct or union of a new name
-abbrev pub with_named : List ℕ → Placed → Scope
+abbrev pub with_named : List ℕ → AddedType → Scope
 with_named w p = with_name (record (p.0) { table = with_declared (p.0).table }) w (Some p.1)
 
-abbrev pub with_raised : List ℕ → List ℕ → Placed → Scope
+abbrev pub with_raised : List ℕ → List ℕ → AddedType → Scope
 with_raised w repository p =
     with_name (record (p.0) {
       table = with_exception (p.0).table
           (record { repository = repository; members = p.1 });
     }) w None
 
-abbrev pub with_call : List ℕ → ℕ → Placed → Scope
+abbrev pub with_call : List ℕ → ℕ → AddedType → Scope
 with_call w request p =
     record (p.0) {
       table = with_operation (p.0).table
@@ -244,32 +244,32 @@ with_call w request p =
     }
 
 -- a struct of these members
-abbrev pub place_struct : Scope × List Part → Placed
-place_struct x = with_node x.0 (nodes.members x.1)
+abbrev pub add_struct_type : Scope × List Part → AddedType
+add_struct_type x = with_node x.0 (nodes.members x.1)
 
-abbrev pub place_union : ℕ → List UnionCase → Scope × List Case → Placed
-place_union switch cases x = with_node x.0 (nodes.union switch x.1 (default_from 0 cases))
+abbrev pub add_union_type : ℕ → List UnionCase → Scope × List Case → AddedType
+add_union_type switch cases x = with_node x.0 (nodes.union switch x.1 (default_from 0 cases))
 
 -- the cases of a union whose discriminator was placed
-abbrev pub place_choice : List UnionCase → Placed → Placed
-place_choice cases p = place_union p.1 cases (place_cases p.0 (node_at (p.0).table p.1) cases)
+abbrev pub add_choice_type : List UnionCase → AddedType → AddedType
+add_choice_type cases p = add_union_type p.1 cases (add_cases p.0 (node_at (p.0).table p.1) cases)
 
 -- the two structs of an operation, the request first
-abbrev pub place_call : List ℕ → List Part → Ways → Scope
-place_call w returned x =
+abbrev pub add_call : List ℕ → List Part → AddedParameters → Scope
+add_call w returned x =
     with_call w (length (x.0).table.types)
-    (place_struct ((place_struct (x.0, x.1)).0, returned ++ x.2))
+    (add_struct_type ((add_struct_type (x.0, x.1)).0, returned ++ x.2))
 
-abbrev pub place_operation : List ℕ → List Param → Scope × List Part → Scope
-place_operation w params x = place_call w x.1 (place_params x.0 params)
+abbrev pub add_call_parts : List ℕ → List Param → Scope × List Part → Scope
+add_call_parts w params x = add_call w x.1 (add_params x.0 params)
 
 -- the scope after a declaration
 unfoldable pub declare : Scope → Declaration → Scope
 declare s (Enumeration n names) = with_named n (with_node s (nodes.enumeration names))
-declare s (Structure n items) = with_named n (place_struct (place_items s items))
-declare s (Choice n switch cases) = with_named n (place_choice cases (place s switch))
-declare s (Raise n repository items) = with_raised n repository (place_struct (place_items s items))
-declare s (Call returned n params) = place_operation n params (place_return s returned)
+declare s (Structure n items) = with_named n (add_struct_type (add_items s items))
+declare s (DeclaredUnion n switch cases) = with_named n (add_choice_type cases (place s switch))
+declare s (DeclaredException n repository items) = with_raised n repository (add_struct_type (add_items s items))
+declare s (Call returned n params) = add_call_parts n params (add_return s returned)
 
 abbrev pub scope_after : Scope → List Declaration → Scope
 scope_after s [] = s

@@ -4,7 +4,7 @@ use Rattle.giop_cdr.specs.declared.prim.Primitive.TheVariants as prims
 use Rattle.giop_cdr.specs.declared.number.Number.{Number}
 use Rattle.giop_sig.specs.declared.types.Selected.{Selected}
 use Rattle.giop_sig.specs.declared.types.Selected.TheVariants.{Nothing}
-use Rattle.giop_sig.specs.Types.{Choice, Cases, Tag, Scalar, Plain, Enum, taken_by, Ty, Single, Text, Octets, Struct, Union, Sequence, Array, Encapsulation, depth}
+use Rattle.giop_sig.specs.Types.{Choice, Cases, Tag, Scalar, Plain, Enum, interpreted_by, Ty, Single, Text, Octets, Struct, Union, Sequence, Array, Encapsulation, depth}
 use Rattle.giop_sig.specs.Table.{Part, Node, Table, IsFormed, name_of, part_at, switch_at, type_of, selected}
 use Rattle.giop_sig.specs.Table as nodes
 
@@ -34,7 +34,7 @@ selected_by select (Some number) = select number
 abbrev pub union_of : Choice → Node → Ty → (ℕ → Ty) → Ty
 union_of choice node switch cases =
     Union choice (scalar_of switch)
-    (λ n. selected_by (selected node) (taken_by (scalar_of switch) n))
+    (λ n. selected_by (selected node) (interpreted_by (scalar_of switch) n))
     (λ i. name_of (part_at node i)) cases
 
 abbrev pub grown_union : (ℕ → Ty) → Choice → Node → Ty

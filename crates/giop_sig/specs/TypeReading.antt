@@ -13,7 +13,7 @@ use Rattle.giop_sig.specs.Types.{depth}
 use Rattle.giop_sig.specs.Table.{Node}
 use Rattle.giop_sig.specs.Table as nodes
 use Rattle.giop_sig.specs.Trees.{grow, tree}
-use Rattle.giop_sig.specs.Scopes.{has_encapsulations, Scope, Placed, named, with_node, sequence_node}
+use Rattle.giop_sig.specs.Scopes.{has_encapsulations, Scope, AddedType, named, with_node, sequence_node}
 use Rattle.giop_sig.specs.Outcomes.{refused}
 
 -- too many levels, in the declaration whose name is at this place
@@ -21,16 +21,16 @@ abbrev pub too_deep : ℕ → Refusal
 too_deep at = record { kind = kinds.Depth; left = at }
 
 -- too many types to be numbered, in the declaration whose name is at this place; no text that spells a file has so many
-abbrev pub too_many : ℕ → Refusal
-too_many at = record { kind = kinds.Limit; left = at }
+abbrev pub too_many_types : ℕ → Refusal
+too_many_types at = record { kind = kinds.Limit; left = at }
 
 -- one node more, where a number is left for it
-abbrev pub next_node : ℕ → Scope → Node → Result Placed Refusal
+abbrev pub next_node : ℕ → Scope → Node → Result AddedType Refusal
 next_node at s node =
-    if nat_le 4294967295 (length s.table.types) then Err (too_many at) else Ok (with_node s node)
+    if nat_le 4294967295 (length s.table.types) then Err (too_many_types at) else Ok (with_node s node)
 
 -- one node more, where it isn't too deep
-unfoldable pub added : ℕ → Scope → Node → Result Placed Refusal
+unfoldable pub added : ℕ → Scope → Node → Result AddedType Refusal
 added at s node =
     if nat_le (depth (grow (tree s.table) node)) 24 then next_node at s node else Err (too_deep at)
 
@@ -57,9 +57,9 @@ enclosed_at open_mark close text = do
   inner ← mark_if open_mark text
   size_within close text inner
 
-abbrev pub size_behind : List ℕ → Option (List ℕ) → Result (Option ℕ × List ℕ) Refusal
-size_behind text None = Ok (None, text)
-size_behind text (Some inner) = do
+abbrev pub size_after : List ℕ → Option (List ℕ) → Result (Option ℕ × List ℕ) Refusal
+size_after text None = Ok (None, text)
+size_after text (Some inner) = do
   n ← size_at inner
   Ok (Some n.0, n.1)
 
@@ -67,7 +67,7 @@ size_behind text (Some inner) = do
 unfoldable pub most_at : List ℕ → Result (Option ℕ × List ℕ) Refusal
 most_at text = do
   inner ← mark_if marks.Comma text
-  size_behind text inner
+  size_after text inner
 
 -- ---- types
 
@@ -89,7 +89,7 @@ base_of w =
     (if bytes_eq w (codes "float") then Some 9 else
     (if bytes_eq w (codes "double") then Some 10 else None))))))))))
 
-abbrev pub text_type : ℕ → Scope → Option ℕ → Result Placed Refusal
+abbrev pub text_type : ℕ → Scope → Option ℕ → Result AddedType Refusal
 text_type at s None = Ok (s, STRING)
 text_type at s (Some n) = added at s (nodes.text (Some n))
 
@@ -101,8 +101,8 @@ text_at at s rest = do
   Ok (t.0, t.1, b.1)
 
 -- a sequence, behind the type of its elements: perhaps a bound, and the closing mark
-abbrev pub behind_element : ℕ → TypeRead → Result TypeRead Refusal
-behind_element at e = do
+abbrev pub after_element : ℕ → TypeRead → Result TypeRead Refusal
+after_element at e = do
   b ← most_at e.2
   r ← mark_at marks.CloseAngle b.1
   t ← added at e.0 (sequence_node b.0 e.1)
@@ -113,11 +113,11 @@ abbrev pub sequence_at : ℕ → (List ℕ → Result TypeRead Refusal) → List
 sequence_at at element rest = do
   inner ← mark_at marks.OpenAngle rest
   e ← element inner
-  behind_element at e
+  after_element at e
 
 -- an encapsulation, behind the type of what it holds: the closing mark
-abbrev pub behind_held : ℕ → TypeRead → Result TypeRead Refusal
-behind_held at h = do
+abbrev pub after_encapsulated : ℕ → TypeRead → Result TypeRead Refusal
+after_encapsulated at h = do
   r ← mark_at marks.CloseAngle h.2
   t ← added at h.0 (nodes.encapsulation h.1)
   Ok (t.0, t.1, r)
@@ -127,7 +127,7 @@ abbrev pub held_at : ℕ → (List ℕ → Result TypeRead Refusal) → List ℕ
 held_at at held rest = do
   inner ← mark_at marks.OpenAngle rest
   h ← held inner
-  behind_held at h
+  after_encapsulated at h
 
 -- an encapsulation, where the file may have one; its word is the first of the text
 abbrev pub encapsulation_at : ℕ → (List ℕ → Result TypeRead Refusal) → Scope → List ℕ → List ℕ

@@ -6,7 +6,7 @@ use Rattle.giop_cdr.specs.declared.prim.Primitive.{Primitive}
 use Rattle.giop_cdr.specs.declared.number.Number.{Number}
 use Rattle.giop_cdr.specs.declared.number.Number.TheVariants as numbers
 use Rattle.giop_cdr.specs.Primitives.{size_of}
-use Rattle.giop_cdr.specs.Numbers.{taken_as}
+use Rattle.giop_cdr.specs.Numbers.{interpreted_as}
 use Rattle.giop_sig.specs.declared.types.Selected.{Selected}
 use Rattle.giop_sig.specs.declared.types.Selected.TheVariants.{Nothing}
 use Rattle.giop_sig.specs.declared.types.Shape.{Shape}
@@ -23,9 +23,9 @@ width (Plain p) = size_of p
 width (Enum count names) = 4
 
 -- what a whole number is as a value of such a type: none for a boolean above 1
-abbrev pub taken_by : Scalar → ℕ → Option Number
-taken_by (Plain p) n = taken_as p n
-taken_by (Enum count names) n = Some (numbers.Unsigned n)
+abbrev pub interpreted_by : Scalar → ℕ → Option Number
+interpreted_by (Plain p) n = interpreted_as p n
+interpreted_by (Enum count names) n = Some (numbers.Unsigned n)
 
 -- what a union's discriminator chooses among: so many cases; or it is a tag, a member itself, part 0 of three
 pub data Choice : Type 0 where
@@ -90,9 +90,9 @@ select_in (Union choice scalar select names cases) n = select n
 select_in T n = Nothing
 
 -- what a discriminator's number is as a value, for a type of one number
-abbrev pub taken_in : Ty → ℕ → Option Number
-taken_in (Single scalar) n = taken_by scalar n
-taken_in T n = None
+abbrev pub interpreted_in : Ty → ℕ → Option Number
+interpreted_in (Single scalar) n = interpreted_by scalar n
+interpreted_in T n = None
 
 -- ---- shapes and places
 

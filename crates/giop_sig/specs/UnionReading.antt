@@ -69,20 +69,20 @@ number_of_value node text = do
   fitting text v.1 (label_number node v.0)
 
 -- a label behind others of its union
-unfoldable pub fresh : List Mark → Mark → List ℕ → Result Mark Refusal
-fresh seen m text =
+unfoldable pub unseen_label : List Mark → Mark → List ℕ → Result Mark Refusal
+unseen_label seen m text =
     if list_any (λ s. same_mark s m) seen then Err (refused kinds.Duplicate text)
     else (if nat_le 1024 (length seen) then Err (refused kinds.Limit text) else Ok m)
 
 abbrev pub label_by : Node → List Mark → List ℕ → Option (List ℕ) → Result LabelRead Refusal
 label_by node seen text (Some inner) = do
   v ← number_of_value node inner
-  m ← fresh seen v.0 inner
+  m ← unseen_label seen v.0 inner
   rest ← mark_at marks.Colon v.1
   Ok (m, rest)
 label_by node seen text None = do
   inner ← keyword_at (codes "default") text
-  m ← fresh seen None text
+  m ← unseen_label seen None text
   rest ← mark_at marks.Colon inner
   Ok (m, rest)
 

@@ -14,8 +14,8 @@ use Rattle.giop_tokens.specs.Tokens.{AreTokens}
 use Rattle.giop_sig.specs.Table.{Node, node_at, operation_in, exception_in}
 use Rattle.giop_sig.specs.Table as nodes
 use Rattle.giop_sig.specs.Trees.{depth_of}
-use Rattle.giop_sig.specs.Grammar.{TypeExpr, Base, Text, Reference, Named, SequenceOf, EncapsulationOf, Item, Value, Plain, Below, Truth, Enumerator, Label, Default, Of, UnionCase, Param, Declaration, Enumeration, Structure, Choice, Raise, Call, SignatureFile, is_version, spell_file}
-use Rattle.giop_sig.specs.Scopes.{Names, has_encapsulations, Scope, Placed, first_scope, named, place, label_number, labels_of, declare, scope_after}
+use Rattle.giop_sig.specs.Grammar.{TypeExpr, Base, Text, Reference, Named, SequenceOf, EncapsulationOf, Item, Value, Plain, Below, Truth, Enumerator, Label, Default, Of, UnionCase, Param, Declaration, Enumeration, Structure, DeclaredUnion, DeclaredException, Call, SignatureFile, is_version, spell_file}
+use Rattle.giop_sig.specs.Scopes.{Names, has_encapsulations, Scope, AddedType, first_scope, named, place, label_number, labels_of, declare, scope_after}
 
 abbrev pub Kind : Type 0
 Kind = SigFaultKind
@@ -157,7 +157,7 @@ OfCases k names node labels seen (c ∷ cs) =
     × OfCases k names node (labels ++ labels_of c) (seen ++ c.item.name ∷ []) cs
 
 -- the node of a discriminator's type
-abbrev pub placed_node : Placed → Node
+abbrev pub placed_node : AddedType → Node
 placed_node p = node_at (p.0).table p.1
 
 -- ---- declarations
@@ -193,11 +193,11 @@ OfDeclaration k s (Enumeration n names) =
     OfDeclared k s s.table.declared n × OfSome k names × OfNames k [] names
 OfDeclaration k s (Structure n items) =
     OfDeclared k s s.table.declared n × OfSome k items × OfItems k s.names 256 [] items
-OfDeclaration k s (Choice n switch cases) =
+OfDeclaration k s (DeclaredUnion n switch cases) =
     OfDeclared k s s.table.declared n × OfType k s.names switch
     × OfSwitch k (placed_node (place s switch)) × OfSome k cases
     × OfCases k s.names (placed_node (place s switch)) [] [] cases
-OfDeclaration k s (Raise n r items) =
+OfDeclaration k s (DeclaredException n r items) =
     OfDeclared k s (length s.table.exceptions) n × OfRepository k s r
     × OfItems k s.names 256 [] items
 OfDeclaration k s (Call returned n params) =

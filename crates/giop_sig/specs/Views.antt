@@ -5,7 +5,7 @@ use Rattle.giop_sig.specs.declared.entries.CaseEntry.{CaseEntry}
 use Rattle.giop_sig.specs.declared.entries.TagEntry.{TagEntry}
 use Rattle.giop_sig.specs.declared.entries.Entry.{Entry}
 use Rattle.giop_sig.specs.declared.entries.Entry.TheVariants as entries
-use Rattle.giop_sig.specs.declared.entries.Placed.{Placed}
+use Rattle.giop_sig.specs.declared.entries.EntryWithDepth.{EntryWithDepth}
 use Rattle.giop_sig.specs.Table.{Node, Part, Case, prim, enumeration, text, octets, members, union, sequence, array, encapsulation, tagged}
 use Rattle.giop_sig.specs.Trees.{AreTypes, trees_of, depths, depth_of}
 
@@ -38,11 +38,11 @@ IsSized (entries.Members parts) = length parts.items ≤ 256
 IsSized (entries.Union switch cases otherwise) = length cases.items ≤ 256
 IsSized entry = Unit {0}
 
-abbrev pub nodes_view : List Placed → List Node
+abbrev pub nodes_view : List EntryWithDepth → List Node
 nodes_view ps = map (λ p. node_view p.entry) ps
 
 -- entries with the depths of their types, and the greatest of these
-pub record IsKept (ps : List Placed) (deepest : ℕ) : Type 0 where
+pub record IsKept (ps : List EntryWithDepth) (deepest : ℕ) : Type 0 where
   pub types : AreTypes (nodes_view ps)
   pub each : map (λ p. p.depth) ps ≡ depths (trees_of (nodes_view ps))
   pub greatest : deepest ≡ depth_of (nodes_view ps)

@@ -3,7 +3,7 @@ ghost use Rattle.std.specs.Prelude.{◌≡◌, ◌<◌, ◌≤◌, length, map, 
 ghost use Rattle.std.specs.Option.{option_map};
 ghost use Rattle.giop_sig.specs.Table.{node_in};
 ghost use Rattle.giop_sig.specs.Builtin.{builtin_types};
-ghost use Rattle.giop_sig.specs.Headers.{header_number, fixed_number};
+ghost use Rattle.giop_sig.specs.HeaderTypes.{header_number, fixed_number};
 ghost use Rattle.giop_sig.specs.Views.{node_view, part_view, case_view};
 ghost use Rattle.giop_sig.specs.Literals.{literal_node, literal_part, literal_case};
 

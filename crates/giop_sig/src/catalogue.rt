@@ -1,11 +1,11 @@
 //! The catalogue: the types of a signature file with the built-in ones, and its operations and exceptions by name.
 ghost use Rattle.std.specs.Prelude.{◌≡◌, ℕ, ◌+◌, ◌^◌, ◌<◌, ◌≤◌, ◌↔◌, nat_le, length, IsTrue, IfSome, IfOk, IfErr, OnOk, OnErr, None, MatchOption};
 ghost use Rattle.std.specs.Option.{option_map};
-ghost use Rattle.giop_sig.specs.Types.{depth, part_of, name_in, enum_name_in, switch_of, select_in, taken_in, shape_in, HasShape, HasMember, HasPlace, IsUnion};
+ghost use Rattle.giop_sig.specs.Types.{depth, part_of, name_in, enum_name_in, switch_of, select_in, interpreted_in, shape_in, HasShape, HasMember, HasPlace, IsUnion};
 ghost use Rattle.giop_sig.specs.Fits.{IsFit, IsRoot};
 ghost use Rattle.giop_sig.specs.Table.{node_at, shape_of, part_number, part_at, name_of, name_at, switch_at, selected, operation_in, operation_at, exception_in, IsFormed, with_type, with_declared, with_operation, with_exception};
 ghost use Rattle.giop_sig.specs.Trees.{tree, grow, depth_of};
-ghost use Rattle.giop_sig.specs.Headers.{header_number, header_type, fixed_number, fixed_type, IdStandsFirst, BeginsWithId, IsTable};
+ghost use Rattle.giop_sig.specs.HeaderTypes.{header_number, header_type, fixed_number, fixed_type, IdStandsFirst, BeginsWithId, IsTable};
 
 use crate::builtin::{builtin_list, fixed_id, header_id};
 use crate::entries::{Entry, Types};
@@ -39,7 +39,7 @@ pub struct Catalogue {
 
 impl Model for Catalogue {
     ghost use Rattle.giop_sig.specs.Table.{Table};
-    ghost use Rattle.giop_sig.specs.Headers.{IsTable};
+    ghost use Rattle.giop_sig.specs.HeaderTypes.{IsTable};
     ghost use Rattle.giop_sig.specs.Entries.{table_view};
 
     ghost Value = { Table };
@@ -168,7 +168,7 @@ impl Catalogue {
         requires { t.0 < length self.now.types }
         ensures is { result ≡ selected (node_at self.now t.0) number }
         // By the whole number that the discriminator's octets spell.
-        ensures tree { (n : ℕ) → taken_in (switch_of (tree self.now t.0)) n ≡ Some number
+        ensures tree { (n : ℕ) → interpreted_in (switch_of (tree self.now t.0)) n ≡ Some number
             → result ≡ select_in (tree self.now t.0) n }
         ensures place { (i : ℕ) → result ≡ Selected.Case i
             → HasMember (shape_in (tree self.now t.0)) i }

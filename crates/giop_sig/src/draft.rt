@@ -10,11 +10,11 @@ ghost use Rattle.giop_sig.specs.ScopeViews.{IsScope, IsKnown, IsKnownType};
 ghost use Rattle.giop_sig.specs.Outcomes.{Gives};
 ghost use Rattle.giop_sig.specs.TypeReading.{added};
 ghost use Rattle.giop_sig.specs.Views.{node_view, IsSized};
-ghost use Rattle.giop_sig.specs.Headers.{IsTable};
+ghost use Rattle.giop_sig.specs.HeaderTypes.{IsTable};
 
 use crate::catalogue::Catalogue;
 use crate::entries::Entry;
-use crate::stop::Stop;
+use crate::parse_stop::ParseStop;
 use crate::types::TypeId;
 use arrayvec::ArrayVec;
 use giop_tokens::{Refusal, SigFaultKind};
@@ -50,12 +50,12 @@ impl Model for Draft {
 
 impl Draft {
     /// The draft of no declarations, of a file of a version.
-    pub(crate) fn new(alloc: Global, version: u64) -> Result<Draft, Stop>
+    pub(crate) fn new(alloc: Global, version: u64) -> Result<Draft, ParseStop>
         ensures ok { IfOk result (λ draft. draft ≡ first_scope version) }
-        ensures err { IfErr result (λ stop. stop ≡ Stop.Memory) }
+        ensures err { IfErr result (λ stop. stop ≡ ParseStop.Memory) }
     {
         let Ok(catalogue) = Catalogue::builtin(alloc) else {
-            return Err(Stop::Memory);
+            return Err(ParseStop::Memory);
         };
         Ok(Draft {
             version,
@@ -103,25 +103,25 @@ impl Draft {
     /// Adds a type. One that is too deep, or for which no number is left, is refused in the declaration whose name is at
     /// this place.
     #[tactic(auto, unfolding(crate::specs::TypeReading::added))]
-    pub(crate) fn add(&mut self, at: usize, entry: Entry) -> Result<TypeId, Stop>
+    pub(crate) fn add(&mut self, at: usize, entry: Entry) -> Result<TypeId, ParseStop>
         requires { IsFormed self.old.table.types (length self.old.table.types) (node_view entry) }
         ensures { Gives (λ t. (self.new, t.0)) result (added at self.old (node_view entry)) }
     {
         let _names = &self.names;
         if self.catalogue.depth_above(&entry) > 24 {
-            return Err(Stop::Refused(Refusal {
+            return Err(ParseStop::Refused(Refusal {
                 kind: SigFaultKind::Depth,
                 left: at,
             }));
         }
         if self.catalogue.is_full() {
-            return Err(Stop::Refused(Refusal {
+            return Err(ParseStop::Refused(Refusal {
                 kind: SigFaultKind::Limit,
                 left: at,
             }));
         }
         let Ok(t) = self.catalogue.add_type(entry) else {
-            return Err(Stop::Memory);
+            return Err(ParseStop::Memory);
         };
         Ok(t)
     }
@@ -181,13 +181,13 @@ impl Draft {
     }
 
     /// Adds a name that is new, perhaps a type's.
-    fn add_name(&mut self, name: &[u8], t: Option<TypeId>) -> Result<(), Stop>
+    fn add_name(&mut self, name: &[u8], t: Option<TypeId>) -> Result<(), ParseStop>
         requires short { length name.now ≤ 64 }
         requires new { lookup (bytes_eq name.now) self.old.names.known ≡ None }
         requires known { IsKnownType self.old.table.types (option_map (λ t. t.0) t) }
         ensures added { OnOk result (self.new
             ≡ with_name self.old name.now (option_map (λ t. t.0) t)) }
-        ensures err { IfErr result (λ stop. stop ≡ Stop.Memory) }
+        ensures err { IfErr result (λ stop. stop ≡ ParseStop.Memory) }
     {
         let key: Key = ArrayVec::try_from(name).unwrap();
         self.names.insert(key, t)?;
@@ -195,13 +195,13 @@ impl Draft {
     }
 
     /// Declares an enum, struct or union by a new name.
-    pub(crate) fn name_type(&mut self, name: &[u8], t: TypeId) -> Result<(), Stop>
+    pub(crate) fn name_type(&mut self, name: &[u8], t: TypeId) -> Result<(), ParseStop>
         requires short { length name.now ≤ 64 }
         requires new { lookup (bytes_eq name.now) self.old.names.known ≡ None }
         requires few { self.old.table.declared < 4096 }
         requires known { IsKnown self.old.table.types t.0 }
         ensures added { OnOk result (self.new ≡ with_named name.now (self.old, t.0)) }
-        ensures err { IfErr result (λ stop. stop ≡ Stop.Memory) }
+        ensures err { IfErr result (λ stop. stop ≡ ParseStop.Memory) }
     {
         self.add_name(name, Some(t))?;
         self.catalogue.count_declared();
@@ -209,7 +209,12 @@ impl Draft {
     }
 
     /// Declares an exception by a new name and a new repository id.
-    pub(crate) fn raise(&mut self, name: &[u8], repository: &[u8], t: TypeId) -> Result<(), Stop>
+    pub(crate) fn raise(
+        &mut self,
+        name: &[u8],
+        repository: &[u8],
+        t: TypeId,
+    ) -> Result<(), ParseStop>
         requires short { length name.now ≤ 64 }
         requires new { lookup (bytes_eq name.now) self.old.names.known ≡ None }
         requires few { length self.old.table.exceptions < 4096 }
@@ -218,28 +223,33 @@ impl Draft {
         requires known { t.0 < length self.old.table.types }
         ensures added { OnOk result (self.new
             ≡ with_raised name.now repository.now (self.old, t.0)) }
-        ensures err { IfErr result (λ stop. stop ≡ Stop.Memory) }
+        ensures err { IfErr result (λ stop. stop ≡ ParseStop.Memory) }
     {
         self.add_name(name, None)?;
         let Ok(()) = self.catalogue.add_exception(repository, t) else {
-            return Err(Stop::Memory);
+            return Err(ParseStop::Memory);
         };
         Ok(())
     }
 
     /// Declares an operation by a new name.
-    pub(crate) fn call(&mut self, name: &[u8], request: TypeId, reply: TypeId) -> Result<(), Stop>
+    pub(crate) fn call(
+        &mut self,
+        name: &[u8],
+        request: TypeId,
+        reply: TypeId,
+    ) -> Result<(), ParseStop>
         requires short { length name.now ≤ 128 }
         requires new { operation_in self.old.table name.now ≡ None }
         requires few { length self.old.table.operations < 4096 }
         requires request { request.0 < length self.old.table.types }
         requires reply { reply.0 < length self.old.table.types }
         ensures added { OnOk result (self.new ≡ with_call name.now request.0 (self.old, reply.0)) }
-        ensures err { IfErr result (λ stop. stop ≡ Stop.Memory) }
+        ensures err { IfErr result (λ stop. stop ≡ ParseStop.Memory) }
     {
         let _names = &self.names;
         let Ok(()) = self.catalogue.add_operation(name, request, reply) else {
-            return Err(Stop::Memory);
+            return Err(ParseStop::Memory);
         };
         Ok(())
     }

@@ -209,7 +209,7 @@ fn case_of(cases: &[CaseEntry], number: Number) -> Option<u32>
 
 /// An entry with the depth of its type.
 #[derive(Drop)]
-pub(crate) struct Placed {
+pub(crate) struct EntryWithDepth {
     pub(crate) entry: Entry,
     pub(crate) depth: u8,
 }
@@ -217,7 +217,7 @@ pub(crate) struct Placed {
 /// Types, each numbered by its place, every part below its whole.
 #[derive(Drop)]
 pub(crate) struct Types {
-    placed: Vec<Placed>,
+    placed: Vec<EntryWithDepth>,
     deepest: u8,
 }
 
@@ -334,7 +334,7 @@ impl Types {
     {
         let number = self.len();
         let depth = self.depth_above(&entry);
-        self.placed.push(Placed { entry, depth })?;
+        self.placed.push(EntryWithDepth { entry, depth })?;
         self.deepest = self.deepest.max(depth);
         Ok(TypeId(number))
     }

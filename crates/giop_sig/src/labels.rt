@@ -10,8 +10,8 @@ ghost use Rattle.giop_sig.specs.Labels.{value_view};
 ghost use Rattle.giop_sig.specs.UnionReading.{word_value, value_at};
 
 use crate::entries::Entry;
+use crate::parse_stop::ParseStop;
 use crate::read_types::refused;
-use crate::stop::Stop;
 use giop_cdr::{Number, Prim};
 use giop_tokens::{SigFaultKind, Token, is_reserved, misplaced, next};
 
@@ -36,7 +36,7 @@ fn word_value<'a>(
     text: &[u8],
     name: &'a [u8],
     rest: &'a [u8],
-) -> Result<(LabelValue<'a>, &'a [u8]), Stop>
+) -> Result<(LabelValue<'a>, &'a [u8]), ParseStop>
     ensures { Gives (λ x. (value_view x.0, x.1.now)) result
         (word_value text.now name.now rest.now) }
 {
@@ -47,17 +47,17 @@ fn word_value<'a>(
         return Ok((LabelValue::Truth(false), rest));
     }
     if is_reserved(name) {
-        return Err(Stop::Refused(misplaced(text)));
+        return Err(ParseStop::Refused(misplaced(text)));
     }
     if name.len() > NAME_MAX {
-        return Err(Stop::Refused(refused(SigFaultKind::Limit, text)));
+        return Err(ParseStop::Refused(refused(SigFaultKind::Limit, text)));
     }
     Ok((LabelValue::Enumerator(name), rest))
 }
 
 /// The value of a label.
 #[tactic(auto, unfolding(crate::specs::UnionReading::value_at))]
-pub(crate) fn value_at(text: &[u8]) -> Result<(LabelValue<'_>, &[u8]), Stop>
+pub(crate) fn value_at(text: &[u8]) -> Result<(LabelValue<'_>, &[u8]), ParseStop>
     ensures { Gives (λ x. (value_view x.0, x.1.now)) result (value_at text.now) }
 {
     let (token, rest) = next(text)?;
@@ -65,7 +65,7 @@ pub(crate) fn value_at(text: &[u8]) -> Result<(LabelValue<'_>, &[u8]), Stop>
         Some(Token::Word(name)) => word_value(text, name, rest),
         Some(Token::Number(n)) => Ok((LabelValue::Plain(n), rest)),
         Some(Token::Negative(n)) => Ok((LabelValue::Below(n), rest)),
-        _ => Err(Stop::Refused(misplaced(text))),
+        _ => Err(ParseStop::Refused(misplaced(text))),
     }
 }
 

@@ -9,13 +9,13 @@ mod fault;
 mod labels;
 mod numbers;
 mod parse;
+mod parse_stop;
 mod read_calls;
 mod read_enums;
 mod read_items;
 mod read_types;
 mod read_unions;
 mod requests;
-mod stop;
 mod types;
 
 pub use catalogue::Catalogue;

@@ -9,11 +9,11 @@ ghost use Rattle.giop_sig.specs.FileReading.{declaration_at, declarations_run, v
 
 use crate::catalogue::Catalogue;
 use crate::draft::Draft;
+use crate::parse_stop::ParseStop;
 use crate::read_calls::operation_at;
 use crate::read_enums::enumeration;
-use crate::read_items::{raise_at, structure_at};
+use crate::read_items::{exception_at, structure_at};
 use crate::read_unions::union;
-use crate::stop::Stop;
 use giop_tokens::{
     Mark, SigFault, SigFaultKind, ends, fault_in, keyword, mark, misplaced, number, word,
 };
@@ -28,7 +28,11 @@ const SECOND_VERSION: u64 = 2;
 
 /// A declaration: its first word tells which.
 #[tactic(auto, unfolding(crate::specs::FileReading::declaration_at))]
-fn declaration_at<'a>(alloc: Global, draft: &mut Draft, text: &'a [u8]) -> Result<&'a [u8], Stop>
+fn declaration_at<'a>(
+    alloc: Global,
+    draft: &mut Draft,
+    text: &'a [u8],
+) -> Result<&'a [u8], ParseStop>
     ensures { Gives (λ x. (draft.new, x.now)) result (declaration_at draft.old text.now) }
 {
     let (name, rest) = word(text)?;
@@ -39,16 +43,21 @@ fn declaration_at<'a>(alloc: Global, draft: &mut Draft, text: &'a [u8]) -> Resul
     } else if name == b"union".as_slice() {
         union(alloc, draft, rest)
     } else if name == b"exception".as_slice() {
-        raise_at(alloc, draft, rest)
+        exception_at(alloc, draft, rest)
     } else if name == b"operation".as_slice() {
         operation_at(alloc, draft, rest)
     } else {
-        Err(Stop::Refused(misplaced(text)))
+        Err(ParseStop::Refused(misplaced(text)))
     }
 }
 
 /// Declarations up to the end of the text, in so many steps.
-fn declarations(alloc: Global, draft: &mut Draft, steps: usize, text: &[u8]) -> Result<(), Stop>
+fn declarations(
+    alloc: Global,
+    draft: &mut Draft,
+    steps: usize,
+    text: &[u8],
+) -> Result<(), ParseStop>
     ensures { Gives (λ x. draft.new) result (declarations_run steps draft.old text.now) }
 {
     let mut rest = text;
@@ -58,25 +67,25 @@ fn declarations(alloc: Global, draft: &mut Draft, steps: usize, text: &[u8]) -> 
         }
         rest = declaration_at(alloc, draft, rest)?;
     }
-    Err(Stop::Refused(misplaced(rest)))
+    Err(ParseStop::Refused(misplaced(rest)))
 }
 
 /// The version of the format.
 #[tactic(auto, unfolding(crate::specs::FileReading::version_at))]
-fn version_at(text: &[u8]) -> Result<(u64, &[u8]), Stop>
+fn version_at(text: &[u8]) -> Result<(u64, &[u8]), ParseStop>
     ensures { Gives (λ x. (x.0, x.1.now)) result (version_at text.now) }
 {
     let (n, rest) = number(text)?;
     if n == FIRST_VERSION || n == SECOND_VERSION {
         Ok((n, rest))
     } else {
-        Err(Stop::Refused(misplaced(text)))
+        Err(ParseStop::Refused(misplaced(text)))
     }
 }
 
 /// What stands before the declarations: it says the version.
 #[tactic(auto, unfolding(crate::specs::FileReading::head_at))]
-fn head_at(text: &[u8]) -> Result<(u64, &[u8]), Stop>
+fn head_at(text: &[u8]) -> Result<(u64, &[u8]), ParseStop>
     ensures { Gives (λ x. (x.0, x.1.now)) result (head_at text.now) }
 {
     let rest = keyword(text, b"signatures")?;
@@ -87,7 +96,7 @@ fn head_at(text: &[u8]) -> Result<(u64, &[u8]), Stop>
 
 /// The draft of a file.
 #[tactic(auto, unfolding(crate::specs::FileReading::file_at))]
-fn draft_of(alloc: Global, text: &[u8]) -> Result<Draft, Stop>
+fn draft_of(alloc: Global, text: &[u8]) -> Result<Draft, ParseStop>
     ensures { Gives (λ x. x) result (file_at text.now) }
 {
     let (version, rest) = head_at(text)?;
@@ -127,11 +136,11 @@ impl Catalogue {
                 catalogue.laws();
                 Ok(catalogue)
             }
-            Err(Stop::Memory) => Err(SigFault {
+            Err(ParseStop::Memory) => Err(SigFault {
                 line: 0,
                 kind: SigFaultKind::OutOfMemory,
             }),
-            Err(Stop::Refused(refusal)) => Err(fault_in(text, refusal)),
+            Err(ParseStop::Refused(refusal)) => Err(fault_in(text, refusal)),
         }
     }
 }

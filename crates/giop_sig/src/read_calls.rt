@@ -2,15 +2,15 @@
 ghost use Rattle.std.specs.Prelude.{◌≡◌, ◌<◌, length, map};
 ghost use Rattle.giop_sig.specs.Outcomes.{Gives};
 ghost use Rattle.giop_sig.specs.Views.{part_view};
-ghost use Rattle.giop_sig.specs.CallReading.{Way, return_at, new_operation_at, direction_of, direction_at, in_request, in_reply, with_param, param_step, params_run, params_at, operation_at, no_way};
+ghost use Rattle.giop_sig.specs.CallReading.{ParameterLists, return_at, new_operation_at, direction_of, direction_at, in_request, in_reply, with_param, param_step, params_run, params_at, operation_at, no_parameters};
 ghost use Rattle.giop_sig.specs.Scopes.{part};
-ghost use Rattle.giop_sig.specs.WayViews.{way_view};
+ghost use Rattle.giop_sig.specs.ParameterViews.{parameter_lists_view};
 
 use crate::draft::Draft;
 use crate::entries::{Entry, PartEntry};
+use crate::parse_stop::ParseStop;
 use crate::read_items::{DECLARED_MAX, WORDS_MAX, item_at, part_of};
 use crate::read_types::{refused, type_at};
-use crate::stop::Stop;
 use crate::types::TypeId;
 use giop_tokens::{
     Mark, SigFaultKind, left_of, mark, misplaced, operation_name, starts_with_keyword,
@@ -36,7 +36,7 @@ fn return_at<'a>(
     draft: &mut Draft,
     at: usize,
     text: &'a [u8],
-) -> Result<(Vec<PartEntry>, &'a [u8]), Stop>
+) -> Result<(Vec<PartEntry>, &'a [u8]), ParseStop>
     ensures { Gives (λ x. (draft.new, map part_view x.0.items, x.1.now)) result
         (return_at at draft.old text.now) }
 {
@@ -51,15 +51,15 @@ fn return_at<'a>(
 
 /// The name of an operation, which is new.
 #[tactic(auto, unfolding(crate::specs::CallReading::new_operation_at))]
-fn new_operation_at<'a>(draft: &Draft, text: &'a [u8]) -> Result<(&'a [u8], &'a [u8]), Stop>
+fn new_operation_at<'a>(draft: &Draft, text: &'a [u8]) -> Result<(&'a [u8], &'a [u8]), ParseStop>
     ensures { Gives (λ x. (x.0.now, x.1.now)) result (new_operation_at draft.now text.now) }
 {
     let (name, rest) = operation_name(text)?;
     if draft.has_operation(name) {
-        return Err(Stop::Refused(refused(SigFaultKind::Duplicate, text)));
+        return Err(ParseStop::Refused(refused(SigFaultKind::Duplicate, text)));
     }
     if draft.operations_declared() >= DECLARED_MAX {
-        return Err(Stop::Refused(refused(SigFaultKind::Limit, text)));
+        return Err(ParseStop::Refused(refused(SigFaultKind::Limit, text)));
     }
     Ok((name, rest))
 }
@@ -81,24 +81,24 @@ fn direction_of(name: &[u8]) -> Option<Direction>
 
 /// The direction of a parameter.
 #[tactic(auto, unfolding(crate::specs::CallReading::direction_at))]
-fn direction_at(text: &[u8]) -> Result<(Direction, &[u8]), Stop>
+fn direction_at(text: &[u8]) -> Result<(Direction, &[u8]), ParseStop>
     ensures { Gives (λ x. (x.0, x.1.now)) result (direction_at text.now) }
 {
     let (name, rest) = word(text)?;
     match direction_of(name) {
-        None => Err(Stop::Refused(misplaced(text))),
+        None => Err(ParseStop::Refused(misplaced(text))),
         Some(direction) => Ok((direction, rest)),
     }
 }
 
 /// Adds a parameter to the members of requests, where it is one.
-fn to_request(
+fn add_to_request(
     alloc: Global,
     parts: &mut Vec<PartEntry>,
     direction: Direction,
     name: &[u8],
     t: TypeId,
-) -> Result<(), Stop>
+) -> Result<(), ParseStop>
     ensures { Gives (λ x. map part_view parts.new.items) result
         (Ok (in_request direction (part name.now t.0) (map part_view parts.old.items))) }
 {
@@ -111,13 +111,13 @@ fn to_request(
 }
 
 /// Adds a parameter to the members of replies, where it is one.
-fn to_reply(
+fn add_to_reply(
     alloc: Global,
     parts: &mut Vec<PartEntry>,
     direction: Direction,
     name: &[u8],
     t: TypeId,
-) -> Result<(), Stop>
+) -> Result<(), ParseStop>
     ensures { Gives (λ x. map part_view parts.new.items) result
         (Ok (in_reply direction (part name.now t.0) (map part_view parts.old.items))) }
 {
@@ -131,7 +131,7 @@ fn to_reply(
 
 /// Parameters that were read: their names, and the members of requests and of replies.
 #[derive(Drop)]
-struct Ways<'a> {
+struct Parameters<'a> {
     seen: Vec<&'a [u8]>,
     request: Vec<PartEntry>,
     reply: Vec<PartEntry>,
@@ -140,17 +140,17 @@ struct Ways<'a> {
 /// Keeps a parameter.
 fn keep_param<'a>(
     alloc: Global,
-    ways: &mut Ways<'a>,
+    parameters: &mut Parameters<'a>,
     direction: Direction,
     name: &'a [u8],
     t: TypeId,
-) -> Result<(), Stop>
-    ensures { Gives (λ x. way_view ways.new) result
-        (Ok (with_param (way_view ways.old) direction (part name.now t.0))) }
+) -> Result<(), ParseStop>
+    ensures { Gives (λ x. parameter_lists_view parameters.new) result
+        (Ok (with_param (parameter_lists_view parameters.old) direction (part name.now t.0))) }
 {
-    ways.seen.push(name)?;
-    to_request(alloc, &mut ways.request, direction, name, t)?;
-    to_reply(alloc, &mut ways.reply, direction, name, t)
+    parameters.seen.push(name)?;
+    add_to_request(alloc, &mut parameters.request, direction, name, t)?;
+    add_to_reply(alloc, &mut parameters.reply, direction, name, t)
 }
 
 /// Reads a parameter and the mark behind it: whether it was the closing one, and what follows.
@@ -159,24 +159,24 @@ fn param_step<'a>(
     alloc: Global,
     draft: &mut Draft,
     at: usize,
-    ways: &mut Ways<'a>,
+    parameters: &mut Parameters<'a>,
     text: &'a [u8],
-) -> Result<(bool, &'a [u8]), Stop>
+) -> Result<(bool, &'a [u8]), ParseStop>
     ensures { Gives
         (λ x. record {
           scope = draft.new;
-          seen = map (λ n. n.now) ways.new.seen.items;
-          request = map part_view ways.new.request.items;
-          reply = map part_view ways.new.reply.items;
+          seen = map (λ n. n.now) parameters.new.seen.items;
+          request = map part_view parameters.new.request.items;
+          reply = map part_view parameters.new.reply.items;
           rest = x.1.now;
           closed = x.0;
         })
         result
-        (param_step at (way_view ways.old) draft.old text.now) }
+        (param_step at (parameter_lists_view parameters.old) draft.old text.now) }
 {
     let (direction, rest) = direction_at(text)?;
-    let (name, t, rest) = item_at(draft, at, PARAMS_MAX, ways.seen.as_slice(), rest)?;
-    keep_param(alloc, ways, direction, name, t)?;
+    let (name, t, rest) = item_at(draft, at, PARAMS_MAX, parameters.seen.as_slice(), rest)?;
+    keep_param(alloc, parameters, direction, name, t)?;
     if let Some(rest) = starts_with_mark(rest, Mark::Comma)? {
         return Ok((false, rest));
     }
@@ -192,7 +192,7 @@ fn params_at<'a>(
     at: usize,
     returned: Vec<PartEntry>,
     text: &'a [u8],
-) -> Result<(Vec<PartEntry>, Vec<PartEntry>, &'a [u8]), Stop>
+) -> Result<(Vec<PartEntry>, Vec<PartEntry>, &'a [u8]), ParseStop>
     ensures { Gives (λ x. (draft.new, map part_view x.0.items, map part_view x.1.items, x.2.now))
         result (params_at at (map part_view returned.items) draft.old text.now) }
 {
@@ -209,24 +209,24 @@ fn params_run<'a>(
     at: usize,
     returned: Vec<PartEntry>,
     text: &'a [u8],
-) -> Result<(Vec<PartEntry>, Vec<PartEntry>, &'a [u8]), Stop>
+) -> Result<(Vec<PartEntry>, Vec<PartEntry>, &'a [u8]), ParseStop>
     ensures { Gives (λ x. (draft.new, map part_view x.0.items, map part_view x.1.items, x.2.now))
-        result (params_run at 256 (no_way (map part_view returned.items)) draft.old text.now) }
+        result (params_run at 256 (no_parameters (map part_view returned.items)) draft.old text.now) }
 {
-    let mut ways = Ways {
+    let mut parameters = Parameters {
         seen: Vec::new(alloc),
         request: Vec::new(alloc),
         reply: returned,
     };
     let mut rest = text;
     for _ in 0..256u32 {
-        let (closed, after) = param_step(alloc, draft, at, &mut ways, rest)?;
+        let (closed, after) = param_step(alloc, draft, at, &mut parameters, rest)?;
         if closed {
-            return Ok((ways.request, ways.reply, after));
+            return Ok((parameters.request, parameters.reply, after));
         }
         rest = after;
     }
-    Err(Stop::Refused(refused(SigFaultKind::Limit, rest)))
+    Err(ParseStop::Refused(refused(SigFaultKind::Limit, rest)))
 }
 
 /// An operation, behind its first word.
@@ -235,7 +235,7 @@ pub(crate) fn operation_at<'a>(
     alloc: Global,
     draft: &mut Draft,
     text: &'a [u8],
-) -> Result<&'a [u8], Stop>
+) -> Result<&'a [u8], ParseStop>
     ensures { Gives (λ x. (draft.new, x.now)) result (operation_at draft.old text.now) }
 {
     draft.laws();

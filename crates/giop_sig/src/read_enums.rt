@@ -7,9 +7,9 @@ ghost use Rattle.giop_sig.specs.EnumReading.{enumerator_at, names_step, too_many
 
 use crate::draft::Draft;
 use crate::entries::Entry;
+use crate::parse_stop::ParseStop;
 use crate::read_items::declared_at;
 use crate::read_types::refused;
-use crate::stop::Stop;
 use giop_tokens::{Mark, SigFaultKind, identifier, left_of, mark, starts_with_mark};
 use std::alloc::Global;
 
@@ -24,7 +24,7 @@ fn is_among(names: &[Vec<u8>], name: &[u8]) -> bool
 }
 
 /// Adds a name.
-fn add_name(alloc: Global, names: &mut Vec<Vec<u8>>, name: &[u8]) -> Result<(), Stop>
+fn add_name(alloc: Global, names: &mut Vec<Vec<u8>>, name: &[u8]) -> Result<(), ParseStop>
     ensures { Gives (λ x. map (λ n. n.items) names.new.items) result
         (Ok (map (λ n. n.items) names.old.items ++ name.now ∷ [])) }
 {
@@ -34,16 +34,20 @@ fn add_name(alloc: Global, names: &mut Vec<Vec<u8>>, name: &[u8]) -> Result<(), 
 
 /// An enumerator behind others; what follows it.
 #[tactic(auto, unfolding(crate::specs::EnumReading::enumerator_at, crate::specs::ItemReading::new_name_at))]
-fn enumerator<'a>(alloc: Global, names: &mut Vec<Vec<u8>>, text: &'a [u8]) -> Result<&'a [u8], Stop>
+fn enumerator<'a>(
+    alloc: Global,
+    names: &mut Vec<Vec<u8>>,
+    text: &'a [u8],
+) -> Result<&'a [u8], ParseStop>
     ensures { Gives (λ x. (map (λ n. n.items) names.new.items, x.now)) result
         (enumerator_at (map (λ n. n.items) names.old.items) text.now) }
 {
     let (name, rest) = identifier(text)?;
     if is_among(names, name) {
-        return Err(Stop::Refused(refused(SigFaultKind::Duplicate, text)));
+        return Err(ParseStop::Refused(refused(SigFaultKind::Duplicate, text)));
     }
     if names.len() >= NAMES_MAX {
-        return Err(Stop::Refused(refused(SigFaultKind::Limit, text)));
+        return Err(ParseStop::Refused(refused(SigFaultKind::Limit, text)));
     }
     add_name(alloc, names, name)?;
     Ok(rest)
@@ -55,7 +59,7 @@ fn names_step<'a>(
     alloc: Global,
     names: &mut Vec<Vec<u8>>,
     text: &'a [u8],
-) -> Result<(&'a [u8], bool), Stop>
+) -> Result<(&'a [u8], bool), ParseStop>
     ensures { Gives (λ x. (x.1, (map (λ n. n.items) names.new.items, x.0.now))) result
         (names_step (map (λ n. n.items) names.old.items, text.now)) }
 {
@@ -67,7 +71,7 @@ fn names_step<'a>(
 }
 
 /// The enumerators of an enum that isn't empty.
-fn some_names(alloc: Global, text: &[u8]) -> Result<(Vec<Vec<u8>>, &[u8]), Stop>
+fn some_names(alloc: Global, text: &[u8]) -> Result<(Vec<Vec<u8>>, &[u8]), ParseStop>
     ensures { Gives (λ x. (map (λ n. n.items) x.0.items, x.1.now)) result
         (in_steps names_step too_many_names 1025 ([], text.now)) }
 {
@@ -80,16 +84,16 @@ fn some_names(alloc: Global, text: &[u8]) -> Result<(Vec<Vec<u8>>, &[u8]), Stop>
         }
         rest = after;
     }
-    Err(Stop::Refused(refused(SigFaultKind::Limit, rest)))
+    Err(ParseStop::Refused(refused(SigFaultKind::Limit, rest)))
 }
 
 /// The enumerators of an enum, behind its opening mark.
 #[tactic(auto, unfolding(crate::specs::EnumReading::names_at))]
-fn names_at(alloc: Global, text: &[u8]) -> Result<(Vec<Vec<u8>>, &[u8]), Stop>
+fn names_at(alloc: Global, text: &[u8]) -> Result<(Vec<Vec<u8>>, &[u8]), ParseStop>
     ensures { Gives (λ x. (map (λ n. n.items) x.0.items, x.1.now)) result (names_at text.now) }
 {
     match starts_with_mark(text, Mark::CloseBrace)? {
-        Some(_) => Err(Stop::Refused(refused(SigFaultKind::Empty, text))),
+        Some(_) => Err(ParseStop::Refused(refused(SigFaultKind::Empty, text))),
         None => some_names(alloc, text),
     }
 }
@@ -100,7 +104,7 @@ pub(crate) fn enumeration<'a>(
     alloc: Global,
     draft: &mut Draft,
     text: &'a [u8],
-) -> Result<&'a [u8], Stop>
+) -> Result<&'a [u8], ParseStop>
     ensures { Gives (λ x. (draft.new, x.now)) result (enumeration_at draft.old text.now) }
 {
     draft.laws();

@@ -7,12 +7,12 @@ ghost use Rattle.giop_sig.specs.TypeReading.{added};
 ghost use Rattle.giop_sig.specs.Validity.{is_among};
 ghost use Rattle.giop_sig.specs.Views.{part_view};
 ghost use Rattle.giop_sig.specs.Table.{array};
-ghost use Rattle.giop_sig.specs.ItemReading.{array_type, new_name_at, declared_at, item_at, member_step, members_at, filled_at, structure_at, new_repository_at, raise_at};
+ghost use Rattle.giop_sig.specs.ItemReading.{array_type, new_name_at, declared_at, item_at, member_step, members_at, filled_at, structure_at, new_repository_at, exception_at};
 
 use crate::draft::Draft;
 use crate::entries::{Entry, PartEntry};
+use crate::parse_stop::ParseStop;
 use crate::read_types::{enclosed_at, refused, type_at};
-use crate::stop::Stop;
 use crate::types::TypeId;
 use giop_tokens::{Mark, SigFaultKind, identifier, left_of, mark, repository_id, starts_with_mark};
 use std::alloc::Global;
@@ -39,16 +39,16 @@ pub(crate) fn new_name_at<'a>(
     most: usize,
     seen: &[&[u8]],
     text: &'a [u8],
-) -> Result<(&'a [u8], &'a [u8]), Stop>
+) -> Result<(&'a [u8], &'a [u8]), ParseStop>
     ensures { Gives (λ x. (x.0.now, x.1.now)) result
         (new_name_at most (map (λ n. n.now) seen.now) text.now) }
 {
     let (name, rest) = identifier(text)?;
     if is_among(seen, name) {
-        return Err(Stop::Refused(refused(SigFaultKind::Duplicate, text)));
+        return Err(ParseStop::Refused(refused(SigFaultKind::Duplicate, text)));
     }
     if seen.len() >= most {
-        return Err(Stop::Refused(refused(SigFaultKind::Limit, text)));
+        return Err(ParseStop::Refused(refused(SigFaultKind::Limit, text)));
     }
     Ok((name, rest))
 }
@@ -59,15 +59,15 @@ pub(crate) fn declared_at<'a>(
     draft: &Draft,
     count: u32,
     text: &'a [u8],
-) -> Result<(&'a [u8], &'a [u8]), Stop>
+) -> Result<(&'a [u8], &'a [u8]), ParseStop>
     ensures { Gives (λ x. (x.0.now, x.1.now)) result (declared_at draft.now count text.now) }
 {
     let (name, rest) = identifier(text)?;
     if draft.is_declared(name) {
-        return Err(Stop::Refused(refused(SigFaultKind::Duplicate, text)));
+        return Err(ParseStop::Refused(refused(SigFaultKind::Duplicate, text)));
     }
     if count >= DECLARED_MAX {
-        return Err(Stop::Refused(refused(SigFaultKind::Limit, text)));
+        return Err(ParseStop::Refused(refused(SigFaultKind::Limit, text)));
     }
     Ok((name, rest))
 }
@@ -78,7 +78,7 @@ fn array_of(
     at: usize,
     element: TypeId,
     count: Option<u32>,
-) -> Result<TypeId, Stop>
+) -> Result<TypeId, ParseStop>
     requires known { IsKnown draft.old.table.types element.0 }
     requires some { IfSome count (λ n. 0 < n) }
     ensures { Gives (λ t. (draft.new, t.0)) result (array_type at draft.old element.0 count) }
@@ -97,7 +97,7 @@ pub(crate) fn item_at<'a>(
     most: usize,
     seen: &[&[u8]],
     text: &'a [u8],
-) -> Result<(&'a [u8], TypeId, &'a [u8]), Stop>
+) -> Result<(&'a [u8], TypeId, &'a [u8]), ParseStop>
     ensures { Gives (λ x. (draft.new, part x.0.now x.1.0, x.2.now)) result
         (item_at at most (map (λ n. n.now) seen.now) draft.old text.now) }
 {
@@ -110,7 +110,7 @@ pub(crate) fn item_at<'a>(
 }
 
 /// A part of a name.
-pub(crate) fn part_of(alloc: Global, name: &[u8], type_id: TypeId) -> Result<PartEntry, Stop>
+pub(crate) fn part_of(alloc: Global, name: &[u8], type_id: TypeId) -> Result<PartEntry, ParseStop>
     ensures { Gives part_view result (Ok (part name.now type_id.0)) }
 {
     Ok(PartEntry {
@@ -128,7 +128,7 @@ fn member_step<'a>(
     seen: &mut Vec<&'a [u8]>,
     parts: &mut Vec<PartEntry>,
     text: &'a [u8],
-) -> Result<(bool, &'a [u8]), Stop>
+) -> Result<(bool, &'a [u8]), ParseStop>
     ensures { Gives
         (λ x. record {
           scope = draft.new;
@@ -157,7 +157,7 @@ fn members_at<'a>(
     draft: &mut Draft,
     at: usize,
     text: &'a [u8],
-) -> Result<(Vec<PartEntry>, &'a [u8]), Stop>
+) -> Result<(Vec<PartEntry>, &'a [u8]), ParseStop>
     ensures { Gives (λ x. (draft.new, map part_view x.0.items, x.1.now)) result
         (members_at at draft.old text.now) }
 {
@@ -171,17 +171,17 @@ fn members_at<'a>(
         }
         rest = after;
     }
-    Err(Stop::Refused(refused(SigFaultKind::Limit, rest)))
+    Err(ParseStop::Refused(refused(SigFaultKind::Limit, rest)))
 }
 
 /// A list that doesn't end at once.
 #[tactic(auto, unfolding(crate::specs::ItemReading::filled_at))]
-pub(crate) fn filled_at(text: &[u8]) -> Result<&[u8], Stop>
+pub(crate) fn filled_at(text: &[u8]) -> Result<&[u8], ParseStop>
     ensures { Gives (λ x. x.now) result (filled_at text.now) }
 {
     match starts_with_mark(text, Mark::CloseBrace)? {
         None => Ok(text),
-        Some(_) => Err(Stop::Refused(refused(SigFaultKind::Empty, text))),
+        Some(_) => Err(ParseStop::Refused(refused(SigFaultKind::Empty, text))),
     }
 }
 
@@ -191,7 +191,7 @@ pub(crate) fn structure_at<'a>(
     alloc: Global,
     draft: &mut Draft,
     text: &'a [u8],
-) -> Result<&'a [u8], Stop>
+) -> Result<&'a [u8], ParseStop>
     ensures { Gives (λ x. (draft.new, x.now)) result (structure_at draft.old text.now) }
 {
     let at = left_of(text);
@@ -209,27 +209,27 @@ pub(crate) fn structure_at<'a>(
 
 /// A repository id that is new, and not too long.
 #[tactic(auto, unfolding(crate::specs::ItemReading::new_repository_at))]
-fn new_repository_at<'a>(draft: &Draft, text: &'a [u8]) -> Result<(&'a [u8], &'a [u8]), Stop>
+fn new_repository_at<'a>(draft: &Draft, text: &'a [u8]) -> Result<(&'a [u8], &'a [u8]), ParseStop>
     ensures { Gives (λ x. (x.0.now, x.1.now)) result (new_repository_at draft.now text.now) }
 {
     let (repository, rest) = repository_id(text)?;
     if repository.len() > REPOSITORY_MAX {
-        return Err(Stop::Refused(refused(SigFaultKind::Limit, text)));
+        return Err(ParseStop::Refused(refused(SigFaultKind::Limit, text)));
     }
     if draft.has_repository(repository) {
-        return Err(Stop::Refused(refused(SigFaultKind::Duplicate, text)));
+        return Err(ParseStop::Refused(refused(SigFaultKind::Duplicate, text)));
     }
     Ok((repository, rest))
 }
 
 /// An exception, behind its first word.
-#[tactic(auto, unfolding(crate::specs::ItemReading::raise_at))]
-pub(crate) fn raise_at<'a>(
+#[tactic(auto, unfolding(crate::specs::ItemReading::exception_at))]
+pub(crate) fn exception_at<'a>(
     alloc: Global,
     draft: &mut Draft,
     text: &'a [u8],
-) -> Result<&'a [u8], Stop>
-    ensures { Gives (λ x. (draft.new, x.now)) result (raise_at draft.old text.now) }
+) -> Result<&'a [u8], ParseStop>
+    ensures { Gives (λ x. (draft.new, x.now)) result (exception_at draft.old text.now) }
 {
     let at = left_of(text);
     draft.laws();

@@ -5,12 +5,12 @@ ghost use Rattle.std.specs.Option.{option_map};
 ghost use Rattle.giop_sig.specs.Outcomes.{Gives, refused};
 ghost use Rattle.giop_sig.specs.Scopes.{sequence_node};
 ghost use Rattle.giop_sig.specs.ScopeViews.{IsKnown};
-ghost use Rattle.giop_sig.specs.TypeReading.{added, size_at, enclosed_at, most_at, base_of, text_at, behind_element, behind_held, named_type, leaf_at, type_at};
+ghost use Rattle.giop_sig.specs.TypeReading.{added, size_at, enclosed_at, most_at, base_of, text_at, after_element, after_encapsulated, named_type, leaf_at, type_at};
 
 use crate::draft::Draft;
 use crate::entries::Entry;
 use crate::numbers;
-use crate::stop::Stop;
+use crate::parse_stop::ParseStop;
 use crate::types::TypeId;
 use giop_tokens::{
     Mark, Refusal, SigFaultKind, is_reserved, left_of, mark, misplaced, number, starts_with_mark,
@@ -38,16 +38,16 @@ pub(crate) fn refused(kind: SigFaultKind, text: &[u8]) -> Refusal
 
 /// A length or bound: at least 1, and in 32 bits.
 #[tactic(auto, unfolding(crate::specs::TypeReading::size_at))]
-pub(crate) fn size_at(text: &[u8]) -> Result<(u32, &[u8]), Stop>
+pub(crate) fn size_at(text: &[u8]) -> Result<(u32, &[u8]), ParseStop>
     ensures gives { Gives (λ x. (x.0, x.1.now)) result (size_at text.now) }
     ensures some { IfOk result (λ x. 0 < x.0) }
 {
     let (n, rest) = number(text)?;
     if n == 0 {
-        return Err(Stop::Refused(refused(SigFaultKind::Empty, text)));
+        return Err(ParseStop::Refused(refused(SigFaultKind::Empty, text)));
     }
     if n > SIZE_MAX {
-        return Err(Stop::Refused(refused(SigFaultKind::Limit, text)));
+        return Err(ParseStop::Refused(refused(SigFaultKind::Limit, text)));
     }
     Ok((n as u32, rest))
 }
@@ -58,7 +58,7 @@ pub(crate) fn enclosed_at(
     before: Mark,
     close: Mark,
     text: &[u8],
-) -> Result<(Option<u32>, &[u8]), Stop>
+) -> Result<(Option<u32>, &[u8]), ParseStop>
     ensures gives { Gives (λ x. (x.0, x.1.now)) result (enclosed_at before close text.now) }
     ensures some { IfOk result (λ x. IfSome x.0 (λ n. 0 < n)) }
 {
@@ -74,7 +74,7 @@ pub(crate) fn enclosed_at(
 
 /// A size behind a comma, where one stands.
 #[tactic(auto, unfolding(crate::specs::TypeReading::most_at))]
-fn most_at(text: &[u8]) -> Result<(Option<u32>, &[u8]), Stop>
+fn most_at(text: &[u8]) -> Result<(Option<u32>, &[u8]), ParseStop>
     ensures { Gives (λ x. (x.0, x.1.now)) result (most_at text.now) }
 {
     match starts_with_mark(text, Mark::Comma)? {
@@ -119,7 +119,11 @@ fn base_of(word: &[u8]) -> Option<TypeId>
 
 /// A string, behind its word.
 #[tactic(auto, unfolding(crate::specs::TypeReading::text_at))]
-fn text_at<'a>(draft: &mut Draft, at: usize, text: &'a [u8]) -> Result<(TypeId, &'a [u8]), Stop>
+fn text_at<'a>(
+    draft: &mut Draft,
+    at: usize,
+    text: &'a [u8],
+) -> Result<(TypeId, &'a [u8]), ParseStop>
     ensures { Gives (λ x. (draft.new, x.0.0, x.1.now)) result (text_at at draft.old text.now) }
 {
     let (bound, rest) = enclosed_at(Mark::OpenAngle, Mark::CloseAngle, text)?;
@@ -136,18 +140,18 @@ fn named_type<'a>(
     text: &[u8],
     name: &[u8],
     rest: &'a [u8],
-) -> Result<(TypeId, &'a [u8]), Stop>
+) -> Result<(TypeId, &'a [u8]), ParseStop>
     ensures { Gives (λ x. (draft.now, x.0.0, x.1.now)) result
         (named_type draft.now text.now name.now rest.now) }
 {
     if is_reserved(name) {
-        return Err(Stop::Refused(misplaced(text)));
+        return Err(ParseStop::Refused(misplaced(text)));
     }
     if name.len() > NAME_MAX {
-        return Err(Stop::Refused(refused(SigFaultKind::Limit, text)));
+        return Err(ParseStop::Refused(refused(SigFaultKind::Limit, text)));
     }
     match draft.type_named(name) {
-        None => Err(Stop::Refused(refused(SigFaultKind::UnknownType, text))),
+        None => Err(ParseStop::Refused(refused(SigFaultKind::UnknownType, text))),
         Some(t) => Ok((t, rest)),
     }
 }
@@ -158,7 +162,7 @@ fn sequence_of(
     at: usize,
     bound: Option<u32>,
     element: TypeId,
-) -> Result<TypeId, Stop>
+) -> Result<TypeId, ParseStop>
     requires { IsKnown draft.old.table.types element.0 }
     ensures { Gives (λ t. (draft.new, t.0)) result
         (added at draft.old (sequence_node bound element.0)) }
@@ -171,15 +175,15 @@ fn sequence_of(
 }
 
 /// What stands behind the element of a sequence: perhaps a bound, and the closing mark.
-fn behind_element<'a>(
+fn after_element<'a>(
     draft: &mut Draft,
     at: usize,
     element: TypeId,
     text: &'a [u8],
-) -> Result<(TypeId, &'a [u8]), Stop>
+) -> Result<(TypeId, &'a [u8]), ParseStop>
     requires { IsKnown draft.old.table.types element.0 }
     ensures { Gives (λ x. (draft.new, x.0.0, x.1.now)) result
-        (behind_element at (draft.old, element.0, text.now)) }
+        (after_element at (draft.old, element.0, text.now)) }
 {
     let (bound, rest) = most_at(text)?;
     let rest = mark(rest, Mark::CloseAngle)?;
@@ -188,15 +192,15 @@ fn behind_element<'a>(
 }
 
 /// What stands behind the type that an encapsulation holds: the closing mark.
-fn behind_held<'a>(
+fn after_encapsulated<'a>(
     draft: &mut Draft,
     at: usize,
     held: TypeId,
     text: &'a [u8],
-) -> Result<(TypeId, &'a [u8]), Stop>
+) -> Result<(TypeId, &'a [u8]), ParseStop>
     requires { IsKnown draft.old.table.types held.0 }
     ensures { Gives (λ x. (draft.new, x.0.0, x.1.now)) result
-        (behind_held at (draft.old, held.0, text.now)) }
+        (after_encapsulated at (draft.old, held.0, text.now)) }
 {
     let rest = mark(text, Mark::CloseAngle)?;
     let t = draft.add(at, Entry::Encapsulation(held))?;
@@ -218,7 +222,7 @@ fn leaf_at<'a>(
     text: &[u8],
     name: &[u8],
     rest: &'a [u8],
-) -> Result<(TypeId, &'a [u8]), Stop>
+) -> Result<(TypeId, &'a [u8]), ParseStop>
     ensures { Gives (λ x. (draft.new, x.0.0, x.1.now)) result
         (leaf_at at draft.old text.now name.now rest.now) }
 {
@@ -242,11 +246,11 @@ pub(crate) fn type_at<'a>(
     at: usize,
     left: u8,
     text: &'a [u8],
-) -> Result<(TypeId, &'a [u8]), Stop>
+) -> Result<(TypeId, &'a [u8]), ParseStop>
     ensures { Gives (λ x. (draft.new, x.0.0, x.1.now)) result (type_at at left draft.old text.now) }
 {
     if left == 0 {
-        return Err(Stop::Refused(Refusal {
+        return Err(ParseStop::Refused(Refusal {
             kind: SigFaultKind::Depth,
             left: at,
         }));
@@ -256,15 +260,15 @@ pub(crate) fn type_at<'a>(
     if name == b"sequence".as_slice() {
         let rest = mark(rest, Mark::OpenAngle)?;
         let (element, rest) = type_at(draft, at, left - 1, rest)?;
-        return behind_element(draft, at, element, rest);
+        return after_element(draft, at, element, rest);
     }
     if is_encapsulation(name) {
         if !draft.has_encapsulations() {
-            return Err(Stop::Refused(misplaced(text)));
+            return Err(ParseStop::Refused(misplaced(text)));
         }
         let rest = mark(rest, Mark::OpenAngle)?;
         let (held, rest) = type_at(draft, at, left - 1, rest)?;
-        return behind_held(draft, at, held, rest);
+        return after_encapsulated(draft, at, held, rest);
     }
     leaf_at(draft, at, text, name, rest)
 }

@@ -7,14 +7,14 @@ ghost use Rattle.giop_sig.specs.Scopes.{label_number, part};
 ghost use Rattle.giop_sig.specs.Views.{node_view};
 ghost use Rattle.giop_sig.specs.Labels.{value_view, cases_view};
 ghost use Rattle.giop_sig.specs.Repeats.{in_steps};
-ghost use Rattle.giop_sig.specs.UnionReading.{same_mark, number_of_value, fresh, label_at, begins_label, labels_step, too_many_labels, labels_at, no_cases, chosen, with_case, case_at, cases_step, too_many_cases, cases_at, can_switch, switch_at, union_at};
+ghost use Rattle.giop_sig.specs.UnionReading.{same_mark, number_of_value, unseen_label, label_at, begins_label, labels_step, too_many_labels, labels_at, no_cases, chosen, with_case, case_at, cases_step, too_many_cases, cases_at, can_switch, switch_at, union_at};
 
 use crate::draft::Draft;
 use crate::entries::{CaseEntry, Entry};
 use crate::labels::{LabelValue, label_number, value_at};
+use crate::parse_stop::ParseStop;
 use crate::read_items::{WORDS_MAX, declared_at, item_at, part_of};
 use crate::read_types::{refused, type_at};
-use crate::stop::Stop;
 use crate::types::{Selected, TypeId};
 use giop_cdr::{Number, Prim};
 use giop_tokens::{
@@ -55,13 +55,13 @@ fn number_of_value<'a>(
     draft: &Draft,
     switch: TypeId,
     text: &'a [u8],
-) -> Result<(Option<Number>, &'a [u8]), Stop>
+) -> Result<(Option<Number>, &'a [u8]), ParseStop>
     ensures { Gives (λ x. (x.0, x.1.now)) result
         (number_of_value (node_at draft.now.table switch.0) text.now) }
 {
     let (value, rest) = value_at(text)?;
     match number_in(draft, switch, value) {
-        None => Err(Stop::Refused(refused(SigFaultKind::Label, text))),
+        None => Err(ParseStop::Refused(refused(SigFaultKind::Label, text))),
         Some(n) => Ok((Some(n), rest)),
     }
 }
@@ -74,19 +74,19 @@ fn is_seen(seen: &[Option<Number>], label: Option<Number>) -> bool
 }
 
 /// A label behind others of its union: its value or its word stands at the front of the text.
-#[tactic(auto, unfolding(crate::specs::UnionReading::fresh))]
-fn fresh(
+#[tactic(auto, unfolding(crate::specs::UnionReading::unseen_label))]
+fn unseen_label(
     seen: &[Option<Number>],
     label: Option<Number>,
     text: &[u8],
-) -> Result<Option<Number>, Stop>
-    ensures { Gives (λ x. x) result (fresh seen.now label text.now) }
+) -> Result<Option<Number>, ParseStop>
+    ensures { Gives (λ x. x) result (unseen_label seen.now label text.now) }
 {
     if is_seen(seen, label) {
-        return Err(Stop::Refused(refused(SigFaultKind::Duplicate, text)));
+        return Err(ParseStop::Refused(refused(SigFaultKind::Duplicate, text)));
     }
     if seen.len() >= LABELS_MAX {
-        return Err(Stop::Refused(refused(SigFaultKind::Limit, text)));
+        return Err(ParseStop::Refused(refused(SigFaultKind::Limit, text)));
     }
     Ok(label)
 }
@@ -98,19 +98,19 @@ fn label_at<'a>(
     switch: TypeId,
     seen: &[Option<Number>],
     text: &'a [u8],
-) -> Result<(Option<Number>, &'a [u8]), Stop>
+) -> Result<(Option<Number>, &'a [u8]), ParseStop>
     ensures { Gives (λ x. (x.0, x.1.now)) result
         (label_at (node_at draft.now.table switch.0) seen.now text.now) }
 {
     match starts_with_keyword(text, b"case")? {
         Some(inner) => {
             let (number, rest) = number_of_value(draft, switch, inner)?;
-            let label = fresh(seen, number, inner)?;
+            let label = unseen_label(seen, number, inner)?;
             Ok((label, mark(rest, Mark::Colon)?))
         }
         None => {
             let rest = keyword(text, b"default")?;
-            let label = fresh(seen, None, text)?;
+            let label = unseen_label(seen, None, text)?;
             Ok((label, mark(rest, Mark::Colon)?))
         }
     }
@@ -118,7 +118,7 @@ fn label_at<'a>(
 
 /// Whether a label comes.
 #[tactic(auto, unfolding(crate::specs::UnionReading::begins_label))]
-fn begins_label(text: &[u8]) -> Result<bool, Stop>
+fn begins_label(text: &[u8]) -> Result<bool, ParseStop>
     ensures { Gives (λ x. x) result (begins_label text.now) }
 {
     let value = starts_with_keyword(text, b"case")?;
@@ -135,7 +135,7 @@ fn labels_step<'a>(
     own: &mut Vec<Number>,
     default: bool,
     text: &'a [u8],
-) -> Result<(bool, bool, &'a [u8]), Stop>
+) -> Result<(bool, bool, &'a [u8]), ParseStop>
     ensures { Gives (λ x. (x.0, (seen.new.items, own.new.items, x.1, x.2.now))) result
         (labels_step (node_at draft.now.table switch.0)
         (seen.old.items, own.old.items, default, text.now)) }
@@ -161,7 +161,7 @@ fn some_labels<'a>(
     switch: TypeId,
     seen: &mut Vec<Option<Number>>,
     text: &'a [u8],
-) -> Result<(Vec<Number>, bool, &'a [u8]), Stop>
+) -> Result<(Vec<Number>, bool, &'a [u8]), ParseStop>
     ensures { Gives (λ x. (seen.new.items, x.0.items, x.1, x.2.now)) result
         (in_steps (labels_step (node_at draft.now.table switch.0)) too_many_labels 1025
         (seen.old.items, [], false, text.now)) }
@@ -177,7 +177,7 @@ fn some_labels<'a>(
         default = more;
         rest = after;
     }
-    Err(Stop::Refused(refused(SigFaultKind::Limit, rest)))
+    Err(ParseStop::Refused(refused(SigFaultKind::Limit, rest)))
 }
 
 /// The labels of a case, one at least.
@@ -188,12 +188,12 @@ fn labels_at<'a>(
     switch: TypeId,
     seen: &mut Vec<Option<Number>>,
     text: &'a [u8],
-) -> Result<(Vec<Number>, bool, &'a [u8]), Stop>
+) -> Result<(Vec<Number>, bool, &'a [u8]), ParseStop>
     ensures { Gives (λ x. (seen.new.items, x.0.items, x.1, x.2.now)) result
         (labels_at (node_at draft.now.table switch.0) seen.old.items text.now) }
 {
     if !begins_label(text)? {
-        return Err(Stop::Refused(misplaced(text)));
+        return Err(ParseStop::Refused(misplaced(text)));
     }
     some_labels(alloc, draft, switch, seen, text)
 }
@@ -225,14 +225,18 @@ fn can_switch(draft: &Draft, t: TypeId) -> bool
 
 /// The type of a discriminator.
 #[tactic(auto, unfolding(crate::specs::UnionReading::switch_at))]
-fn switch_at<'a>(draft: &mut Draft, at: usize, text: &'a [u8]) -> Result<(TypeId, &'a [u8]), Stop>
+fn switch_at<'a>(
+    draft: &mut Draft,
+    at: usize,
+    text: &'a [u8],
+) -> Result<(TypeId, &'a [u8]), ParseStop>
     ensures { Gives (λ x. (draft.new, x.0.0, x.1.now)) result (switch_at at draft.old text.now) }
 {
     let (t, rest) = type_at(draft, at, WORDS_MAX, text)?;
     if can_switch(draft, t) {
         Ok((t, rest))
     } else {
-        Err(Stop::Refused(refused(SigFaultKind::Label, text)))
+        Err(ParseStop::Refused(refused(SigFaultKind::Label, text)))
     }
 }
 
@@ -244,7 +248,7 @@ fn add_case<'a>(
     default: bool,
     name: &'a [u8],
     type_id: TypeId,
-) -> Result<(), Stop>
+) -> Result<(), ParseStop>
     requires { length cases.old.names.items ≤ 256 }
     ensures gives { Gives (λ x. cases_view cases.new) result (Ok (with_case (cases_view cases.old)
         (cases.old.labels.items, labels.items, default, []) (part name.now type_id.0))) }
@@ -266,7 +270,7 @@ fn case_at<'a>(
     switch: TypeId,
     cases: &mut Cases<'a>,
     text: &'a [u8],
-) -> Result<&'a [u8], Stop>
+) -> Result<&'a [u8], ParseStop>
     requires { length cases.old.names.items ≤ 256 }
     ensures gives { Gives (λ x. (draft.new, cases_view cases.new, x.now)) result
         (case_at at switch.0 (draft.old, cases_view cases.old, text.now)) }
@@ -288,7 +292,7 @@ fn cases_step<'a>(
     switch: TypeId,
     cases: &mut Cases<'a>,
     text: &'a [u8],
-) -> Result<(bool, &'a [u8]), Stop>
+) -> Result<(bool, &'a [u8]), ParseStop>
     requires { length cases.old.names.items ≤ 256 }
     ensures gives { Gives (λ x. (x.0, (draft.new, cases_view cases.new, x.1.now))) result
         (cases_step at switch.0 (draft.old, cases_view cases.old, text.now)) }
@@ -307,7 +311,7 @@ fn some_cases<'a>(
     at: usize,
     switch: TypeId,
     text: &'a [u8],
-) -> Result<(Cases<'a>, &'a [u8]), Stop>
+) -> Result<(Cases<'a>, &'a [u8]), ParseStop>
     ensures { Gives (λ x. (draft.new, cases_view x.0, x.1.now)) result
         (in_steps (cases_step at switch.0) too_many_cases 257 (draft.old, no_cases, text.now)) }
 {
@@ -325,7 +329,7 @@ fn some_cases<'a>(
         }
         rest = after;
     }
-    Err(Stop::Refused(refused(SigFaultKind::Limit, rest)))
+    Err(ParseStop::Refused(refused(SigFaultKind::Limit, rest)))
 }
 
 /// Cases up to the closing mark, one at least.
@@ -336,19 +340,23 @@ fn cases_at<'a>(
     at: usize,
     switch: TypeId,
     text: &'a [u8],
-) -> Result<(Cases<'a>, &'a [u8]), Stop>
+) -> Result<(Cases<'a>, &'a [u8]), ParseStop>
     ensures { Gives (λ x. (draft.new, cases_view x.0, x.1.now)) result
         (cases_at at switch.0 draft.old text.now) }
 {
     match starts_with_mark(text, Mark::CloseBrace)? {
-        Some(_) => Err(Stop::Refused(refused(SigFaultKind::Empty, text))),
+        Some(_) => Err(ParseStop::Refused(refused(SigFaultKind::Empty, text))),
         None => some_cases(alloc, draft, at, switch, text),
     }
 }
 
 /// A union, behind its word; what follows it.
 #[tactic(auto, unfolding(crate::specs::UnionReading::union_at))]
-pub(crate) fn union<'a>(alloc: Global, draft: &mut Draft, text: &'a [u8]) -> Result<&'a [u8], Stop>
+pub(crate) fn union<'a>(
+    alloc: Global,
+    draft: &mut Draft,
+    text: &'a [u8],
+) -> Result<&'a [u8], ParseStop>
     ensures { Gives (λ x. (draft.new, x.now)) result (union_at draft.old text.now) }
 {
     draft.laws();

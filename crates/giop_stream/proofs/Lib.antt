@@ -1,9 +1,9 @@
 mod Lists
 pub mod StreamLaws
 mod Cuts
-mod Happening
-mod Told
-mod Keep
-mod Moves
+mod Events
+mod StreamLines
+mod SlotSteps
+mod CodeSteps
 mod Restored
 mod Worked

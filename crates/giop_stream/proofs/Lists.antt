@@ -4,7 +4,7 @@ use Rattle.std.proofs.lemmas.List.{append-nil, map_push}
 use Rattle.std.specs.List.{filter, list_any, AllByRecursion as Each}
 use Rattle.std.specs.Prelude.{◌||◌}
 use Rattle.giop_checkpoint.specs.declared.fault.StreamFault.{StreamFault}
-use Rattle.giop_stream.specs.Headers.{fronts, wrong, wrong_or, first_wrong, offence}
+use Rattle.giop_stream.specs.HeaderOctets.{fronts, wrong, wrong_or, first_wrong, first_wrong_octet}
 
 -- Induction that adds at the end.
 grown : {A : Type 0} (P : List A → Type 0) → ((xs : List A) (x : A) → P xs → P (xs ++ x ∷ [])) → (done more : List A) → P done → P (done ++ more)
@@ -44,12 +44,12 @@ unfolding first_wrong wrong_last
 first_none [] f e = refl
 first_none (g ∷ fs) f e = none_goes (wrong g) (length g) (first_wrong fs) (first_wrong (fs ++ f ∷ [])) (wrong_last f) (first_none fs f) e
 
-pub offence_stays : (xs : List ℕ) (x : ℕ) (found : ℕ × StreamFault) → offence xs ≡ Some found → offence (xs ++ x ∷ []) ≡ Some found
-unfolding offence
+pub offence_stays : (xs : List ℕ) (x : ℕ) (found : ℕ × StreamFault) → first_wrong_octet xs ≡ Some found → first_wrong_octet (xs ++ x ∷ []) ≡ Some found
+unfolding first_wrong_octet
 offence_stays xs x found e = rw (fronts_push xs x) (first_some (fronts xs) (xs ++ x ∷ []) found e)
 
-pub offence_comes : (xs : List ℕ) (x : ℕ) → offence xs ≡ None → offence (xs ++ x ∷ []) ≡ wrong_last (xs ++ x ∷ [])
-unfolding offence
+pub offence_comes : (xs : List ℕ) (x : ℕ) → first_wrong_octet xs ≡ None → first_wrong_octet (xs ++ x ∷ []) ≡ wrong_last (xs ++ x ∷ [])
+unfolding first_wrong_octet
 offence_comes xs x e = rw (fronts_push xs x) (first_none (fronts xs) (xs ++ x ∷ []) e)
 
 -- A filter that keeps all, or nothing; two filters in either order.

@@ -1,14 +1,14 @@
 -- What the program may use of a stream, beside the contracts. No other file of this crate's proofs can be cited from outside.
 use Rattle.std.proofs.Common.{◌≡◌, ℕ, List, ◌++◌}
 use Rattle.giop_sig.specs.Table.{Table}
-use Rattle.giop_message.specs.Signatures.{Listed, said_by}
+use Rattle.giop_message.specs.Signatures.{RequestTable, signatures_of}
 use Rattle.giop_stream.specs.Rules.{rules}
 use Rattle.giop_message.proofs.MessageLaws.{is_causal}
-use Rattle.giop_stream.specs.Holding.{added}
-use Rattle.giop_stream.proofs.Keep.Parts.{in_turn}
-use Rattle.giop_stream.proofs.Told.Further as further
+use Rattle.giop_stream.specs.EngineHolds.{added}
+use Rattle.giop_stream.proofs.SlotSteps.Parts.{in_turn}
+use Rattle.giop_stream.proofs.StreamLines.MoreOctets as further
 
 -- what octets add to the text of a stream, and then others
-pub added_both : (C : Table) (kept : Listed) (most : ℕ) (p q r : List ℕ) →
+pub added_both : (C : Table) (kept : RequestTable) (most : ℕ) (p q r : List ℕ) →
     added (rules C kept most) p (q ++ r) ≡ added (rules C kept most) p q ++ added (rules C kept most) (p ++ q) r
-added_both C kept most p q r = further.added_both (rules C kept most) (is_causal (said_by C kept)) (in_turn C kept) p q r
+added_both C kept most p q r = further.added_both (rules C kept most) (is_causal (signatures_of C kept)) (in_turn C kept) p q r

@@ -6,10 +6,10 @@ use Rattle.giop_print.specs.Output.{OutLog, Writes}
 use Rattle.giop_sig.specs.Table.{Table}
 use Rattle.giop_sig.specs.Trees.{depth_of}
 use Rattle.giop_message.specs.declared.message.Message.{Message}
-use Rattle.giop_message.specs.Holding.{Fits}
+use Rattle.giop_message.specs.MessageState.{Fits}
 use Rattle.giop_message.specs.Headers.{size}
 use Rattle.giop_stream.specs.Rules.{rules}
-use Rattle.giop_message.specs.Signatures.{Listed}
+use Rattle.giop_message.specs.Signatures.{RequestTable}
 use Rattle.giop_checkpoint.specs.declared.sizes.TheConstants.{FIXED_SIZE, RECORD_SIZE, MESSAGE_SIZE, FRAME_SIZE}
 use Rattle.giop_checkpoint.specs.declared.layout.Layout.{Layout}
 use Rattle.giop_checkpoint.specs.declared.layout.Layout.TheVariants.{Third}
@@ -20,34 +20,34 @@ use Rattle.giop_checkpoint.specs.declared.fixed.Counts.{Counts}
 use Rattle.giop_checkpoint.specs.declared.fixed.Fixed.{Fixed}
 use Rattle.giop_checkpoint.specs.declared.fixed.Place.{Place}
 use Rattle.giop_checkpoint.specs.declared.fixed.Place.TheVariants.{Header, Payload, Stopped}
-use Rattle.giop_checkpoint.specs.declared.record.Standing.{Standing}
-use Rattle.giop_checkpoint.specs.declared.record.Standing.TheVariants as standings
+use Rattle.giop_checkpoint.specs.declared.record.RecordKind.{RecordKind}
+use Rattle.giop_checkpoint.specs.declared.record.RecordKind.TheVariants as standings
 use Rattle.giop_checkpoint.specs.Layouts.{OpenHasRange}
 use Rattle.giop_checkpoint.specs.Fixed.{fixed_octets}
 use Rattle.giop_checkpoint.specs.Records.{Entry, EntryHasRange, entry_octets}
 use Rattle.giop_checkpoint.specs.Refusals.{HasState, HasRecords, IsOurs, IsNotOurs, IsOutOfRange, Refused}
 use Rattle.giop_message.specs.Stored.{Stored}
-use Rattle.giop_stream.specs.Keeping.{Kept_slot}
-use Rattle.giop_stream.specs.declared.slots.Payload.{Payload as Whose}
+use Rattle.giop_stream.specs.SlotsRepresent.{OpenEntry}
+use Rattle.giop_stream.specs.declared.slots.Payload.{Payload as PayloadOwner}
 use Rattle.giop_stream.specs.declared.slots.Payload.TheVariants as payload
 use Rattle.giop_stream.specs.declared.fault.Stop.{Stop}
-use Rattle.giop_stream.specs.Holding.{StopWrites}
-use Rattle.giop_stream.specs.Keeping.{AreReady}
-use Rattle.giop_stream.specs.Remembering.{Memory}
-use Rattle.giop_stream.specs.Engine.{state_of}
-use Rattle.giop_stream.specs.Showing.{Shows}
+use Rattle.giop_stream.specs.EngineHolds.{StopWrites}
+use Rattle.giop_stream.specs.SlotsRepresent.{AreReady}
+use Rattle.giop_stream.specs.EngineView.{FramingView}
+use Rattle.giop_stream.specs.EngineState.{state_of}
+use Rattle.giop_stream.specs.ViewOfState.{Shows}
 
 -- ---- the fixed part
 
 -- what the table and the list have that an engine reads by
-unfoldable pub counts_of : Table → Listed → Counts
+unfoldable pub counts_of : Table → RequestTable → Counts
 counts_of C l = record { types = C.declared; operations = length C.operations; exceptions = length C.exceptions; ids = length l }
 
 -- Behind a stream fault nothing is held of a header; else fewer than 12 octets, or a payload comes.
 abbrev pub place_of : Option StreamFault → List ℕ → ℕ → Place
-place_of (Some fault) header come = Stopped fault
-place_of None header come =
-    if nat_lt (length header) 12 then Header (record { items = header }) else Payload header (size header - come)
+place_of (Some fault) header payload_count = Stopped fault
+place_of None header payload_count =
+    if nat_lt (length header) 12 then Header (record { items = header }) else Payload header (size header - payload_count)
 
 -- the record of the current message itself, behind those of the open ones
 abbrev pub own_record : ℕ → Option Message → Option ℕ
@@ -55,7 +55,7 @@ own_record many None = None
 own_record many (Some m) = Some many
 
 -- the record of the message that the payload belongs to
-abbrev pub owner_of : Whose → ℕ → Option Message → Option ℕ
+abbrev pub owner_of : PayloadOwner → ℕ → Option Message → Option ℕ
 owner_of payload.Own many own = own_record many own
 owner_of (payload.Open k) many own = if nat_lt k many then Some k else None
 owner_of payload.Nobody many own = None
@@ -64,7 +64,7 @@ abbrev pub count_own : Option Message → ℕ
 count_own None = 0
 count_own (Some m) = 1
 
-unfoldable pub fixed_of : Table → Listed → Memory → Fixed
+unfoldable pub fixed_of : Table → RequestTable → FramingView → Fixed
 fixed_of C l m = record {
   counts = counts_of C l;
   most_open = m.slots.slots.most;
@@ -72,13 +72,13 @@ fixed_of C l m = record {
   octets = m.totals.octets;
   messages = m.totals.messages;
   faults = m.totals.faults;
-  place = place_of m.stopped m.header m.come;
+  place = place_of m.stopped m.header m.payload_count;
   owner = owner_of m.slots.payload (length m.slots.slots.entries) m.slots.own;
 }
 
 -- ---- the records
 
-abbrev pub standing_of : Option Message → ℕ → Standing
+abbrev pub standing_of : Option Message → ℕ → RecordKind
 standing_of None id = standings.Over id
 standing_of (Some m) id = standings.Open id
 
@@ -93,24 +93,24 @@ IsStored None e = (e.message ≡ replicate MESSAGE_SIZE 0) × (e.frames ≡ [])
 IsStored (Some m) e = IsHeld m e
 
 -- the record of an open message
-pub record IsOpen (slot : Kept_slot) (e : Entry) : Type 0 where
+pub record IsOpen (slot : OpenEntry) (e : Entry) : Type 0 where
   pub range : EntryHasRange e
-  pub standing : e.record_is.standing ≡ standing_of slot.value.message slot.key
+  pub record_kind : e.record_is.record_kind ≡ standing_of slot.value.message slot.key
   pub number : e.record_is.number ≡ slot.value.number
   pub header : e.record_is.header ≡ slot.value.header
   pub message : IsStored slot.value.message e
 
 -- the record of a message that isn't over
-pub record IsKept (standing : Standing) (number : ℕ) (header : List ℕ) (m : Message) (e : Entry) : Type 0 where
+pub record IsMessageRecord (record_kind : RecordKind) (number : ℕ) (header : List ℕ) (m : Message) (e : Entry) : Type 0 where
   pub range : EntryHasRange e
-  pub standing_is : e.record_is.standing ≡ standing
+  pub standing_is : e.record_is.record_kind ≡ record_kind
   pub number_is : e.record_is.number ≡ number
   pub header_is : e.record_is.header ≡ header
   pub message : IsHeld m e
 
 -- that of the current one, where it isn't open
 abbrev pub IsCurrent : Message → Entry → Type 0
-IsCurrent m e = IsKept standings.Current m.number m.header m e
+IsCurrent m e = IsMessageRecord standings.Current m.number m.header m e
 
 abbrev pub IsLast : Option Message → List Entry → Type 0
 IsLast None [] = Unit {0}
@@ -119,7 +119,7 @@ IsLast (Some m) [] = ⊥
 IsLast (Some m) (e ∷ es) = IsCurrent m e × (es ≡ [])
 
 -- the open messages in their order, and then the current one
-abbrev pub AreEntries : List Kept_slot → Option Message → List Entry → Type 0
+abbrev pub AreEntries : List OpenEntry → Option Message → List Entry → Type 0
 AreEntries [] own es = IsLast own es
 AreEntries (slot ∷ slots) own [] = ⊥
 AreEntries (slot ∷ slots) own (e ∷ es) = IsOpen slot e × AreEntries slots own es
@@ -136,7 +136,7 @@ pub record IsPut (before after : List ℕ) (Are : List Entry → Type 0) : Type 
   pub are : Are entries
   pub put : after ≡ before ++ flat_map entry_octets entries
 
-abbrev pub AreOpen : List Kept_slot → List Entry → Type 0
+abbrev pub AreOpen : List OpenEntry → List Entry → Type 0
 AreOpen slots entries = AreEntries slots None entries
 
 -- ---- what a call puts: all of these octets, their number its answer, or a front of them before a put failed
@@ -155,12 +155,12 @@ pub record PutsSuch (result : Result ℕ OutFault) (before after : OutLog)
 
 -- ---- a checkpoint
 
-unfoldable pub checkpoint_octets : Layout → Table → Listed → Memory → List Entry → List ℕ
+unfoldable pub checkpoint_octets : Layout → Table → RequestTable → FramingView → List Entry → List ℕ
 checkpoint_octets layout C l m entries =
     fixed_octets layout (fixed_of C l m) ++ flat_map entry_octets entries
 
 -- the checkpoint of this memory, in this layout
-pub record IsPutWhole (layout : Layout) (C : Table) (l : Listed) (m : Memory) (octets : List ℕ)
+pub record IsPutWhole (layout : Layout) (C : Table) (l : RequestTable) (m : FramingView) (octets : List ℕ)
     : Type 0 where
   pub entries : List Entry
   pub are : AreEntries m.slots.slots.entries m.slots.own entries
@@ -168,9 +168,9 @@ pub record IsPutWhole (layout : Layout) (C : Table) (l : Listed) (m : Memory) (o
 
 -- These octets are the checkpoint of an engine that holds the stream p, by this table and list, where
 -- so many messages may be open. Layout 3 says how many; by layout 2 they are 16.
-pub record Spells (octets : List ℕ) (C : Table) (l : Listed) (most : ℕ) (p : List ℕ) : Type 0 where
+pub record Spells (octets : List ℕ) (C : Table) (l : RequestTable) (most : ℕ) (p : List ℕ) : Type 0 where
   pub layout : Layout
-  pub memory : Memory
+  pub memory : FramingView
   pub entries : List Entry
   pub octets_are : octets ≡ checkpoint_octets layout C l memory entries
   pub allows : OpenHasRange layout most
@@ -192,7 +192,7 @@ entries_size (e ∷ es) = (RECORD_SIZE + FRAME_SIZE * e.record_is.frames) + entr
 -- What a save did: a checkpoint of p was written in layout 3, the fixed part and each record with its
 -- frames, and its length is the answer; or a front of it before a put failed.
 pub record Saves (result : Result ℕ Stop) (before after : OutLog)
-    (C : Table) (l : Listed) (most : ℕ) (p : List ℕ) : Type 0 where
+    (C : Table) (l : RequestTable) (most : ℕ) (p : List ℕ) : Type 0 where
   pub octets : List ℕ
   pub spells : Spells octets C l most p
   pub third : spells.layout ≡ Third

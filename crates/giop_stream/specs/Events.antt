@@ -5,89 +5,89 @@ use Rattle.std.specs.List.{find, AllByRecursion as Each}
 use Rattle.giop_cdr.specs.declared.order.Order.{Order}
 use Rattle.giop_cdr.specs.declared.order.Order.TheVariants.{Big, Little}
 use Rattle.giop_cdr.specs.Numbers.{num}
-use Rattle.giop_stream.specs.declared.fault.ImposedFault.{ImposedFault}
-use Rattle.giop_stream.specs.declared.fault.ImposedFault.TheVariants.{Short, NoOpen, IdOpen, TooManyOpen, FragmentOrder}
-use Rattle.giop_stream.specs.Headers.{fronts}
+use Rattle.giop_stream.specs.declared.fault.FramingFault.{FramingFault}
+use Rattle.giop_stream.specs.declared.fault.FramingFault.TheVariants.{Short, NoOpen, IdOpen, TooManyOpen, FragmentOrder}
+use Rattle.giop_stream.specs.HeaderOctets.{fronts}
 use Rattle.giop_message.specs.Headers.{order, has_more, size, is_opener, is_fragment, is_cancel}
 use Rattle.giop_stream.specs.Framing.{Message, with_payload, cut, messages}
 use Rattle.giop_stream.specs.Kinds.{may_be_cancelled, refused}
 
 -- what may happen to a message
-pub data Happening : Type 0 where
-  Begins : Happening  -- its header is complete
-  Takes : ℕ → Happening  -- the joined message gets this octet
-  Opens : ℕ → Happening  -- it becomes open under this request id
-  Continues : ℕ → Happening  -- it is a Fragment, and continues the message of this number
-  Cancelled : ℕ → Happening  -- the message of this number cancels it
-  Imposed : ImposedFault → Happening  -- it is faulted for its header, its request id or its size
-  Closes : Happening  -- the joined message is complete
+pub data EventKind : Type 0 where
+  Begins : EventKind  -- its header is complete
+  Takes : ℕ → EventKind  -- the joined message gets this octet
+  Opens : ℕ → EventKind  -- it becomes open under this request id
+  Continues : ℕ → EventKind  -- it is a Fragment, and continues the message of this number
+  Cancelled : ℕ → EventKind  -- the message of this number cancels it
+  Faults : FramingFault → EventKind  -- it is faulted for its header, its request id or its size
+  Closes : EventKind  -- the joined message is complete
 
-pub record Title : Type 0 where
+pub record MessageKey : Type 0 where
   pub number : ℕ
   pub header : List ℕ
 
 pub record Event : Type 0 where
   pub place : ℕ  -- the stream octets up to and with the one that does it
-  pub whom : Title
-  pub what : Happening
+  pub subject : MessageKey
+  pub what : EventKind
 
 -- an open message and its request id
 pub record Open : Type 0 where
   pub id : ℕ
-  pub opener : Title
+  pub opener : MessageKey
 
-abbrev pub title : Message → Title
-title m = record { number = m.number; header = m.header }
+abbrev pub message_key : Message → MessageKey
+message_key m = record { number = m.number; header = m.header }
 
 unfoldable pub place : Message → ℕ
 place m = m.before + 12 + length m.payload
 
 -- an octet of a message: the last one of its header, or one of its payload
 pub record Now : Type 0 where
-  pub whom : Title
+  pub subject : MessageKey
   pub place : ℕ  -- the stream octets up to and with this one
-  pub come : ℕ  -- the payload octets up to and with this one
+  pub payload_count : ℕ  -- the payload octets up to and with this one
   pub octet : ℕ
 
 -- a message at its last octet that came
 abbrev pub now_of : Message → Now
-now_of m = record { whom = title m; place = place m; come = length m.payload; octet = get_or m.payload (length m.payload - 1) 0 }
+now_of m = record { subject = message_key m; place = place m; payload_count = length m.payload; octet = get_or m.payload (length m.payload - 1) 0 }
 
--- The functions from here to `acts` say what an octet of a message does, where the message has this request id and `other` is
+-- The functions from here to `events_with_id` say what an octet of a message does, where the message has this request id and `other` is
 -- the message that was open under that.
 
 -- to the message itself
-unfoldable pub own : Now → Happening → List Event
-own now what = record { place = now.place; whom = now.whom; what = what } ∷ []
+unfoldable pub own : Now → EventKind → List Event
+own now what = record { place = now.place; subject = now.subject; what = what } ∷ []
 
 -- to the open message that has its request id
-unfoldable pub about : Now → Option Open → Happening → List Event
-about now None what = []
-about now (Some o) what = record { place = now.place; whom = o.opener; what = what } ∷ []
+unfoldable pub event_of_open : Now → Option Open → EventKind → List Event
+event_of_open now None what = []
+event_of_open now (Some o) what = record { place = now.place; subject = o.opener; what = what } ∷ []
 
 -- ---- The header's last octet.
 
-abbrev pub imposed : Now → Option ImposedFault → List Event
-imposed now None = []
-imposed now (Some fault) = own now (Imposed fault)
+abbrev pub fault_events : Now → Option FramingFault → List Event
+fault_events now None = []
+fault_events now (Some fault) = own now (Faults fault)
 
-unfoldable pub header_acts : Now → List Event
-header_acts now = own now Begins ++ imposed now (refused now.whom.header)
+unfoldable pub header_events : Now → List Event
+header_events now = own now Begins ++ fault_events now (refused now.subject.header)
 
 -- ---- An octet of the payload. Those of a Fragment after its request id belong to the message that it continues.
 
-unfoldable pub octet_acts : Now → Option Open → List Event
-octet_acts now other =
-    if is_fragment now.whom.header && nat_lt 4 now.come then about now other (Takes now.octet) else own now (Takes now.octet)
+unfoldable pub payload_events : Now → Option Open → List Event
+payload_events now other =
+    if is_fragment now.subject.header && nat_lt 4 now.payload_count then event_of_open now other (Takes now.octet) else own now (Takes now.octet)
 
 -- ---- The fourth octet of the payload, which completes the request id: of an opener,
 
 -- where so many messages may be open at once,
 
 abbrev pub opens : ℕ → List Open → Now → ℕ → Option Open → List Event
-opens most live now id (Some other) = own now (Imposed IdOpen)
-opens most live now id None =
-    if nat_le most (length live) then own now (Imposed TooManyOpen) else own now (Opens id)
+opens most still_open now id (Some other) = own now (Faults IdOpen)
+opens most still_open now id None =
+    if nat_le most (length still_open) then own now (Faults TooManyOpen) else own now (Opens id)
 
 -- of a Fragment,
 
@@ -97,42 +97,42 @@ same_order Big Little = false
 same_order Little Big = false
 same_order Little Little = true
 
-abbrev pub disorder : Now → Open → List Event
-disorder now o = if same_order (order now.whom.header) (order o.opener.header) then [] else about now (Some o) (Imposed FragmentOrder)
+abbrev pub order_fault : Now → Open → List Event
+order_fault now o = if same_order (order now.subject.header) (order o.opener.header) then [] else event_of_open now (Some o) (Faults FragmentOrder)
 
 abbrev pub continues : Now → Option Open → List Event
-continues now None = own now (Imposed NoOpen)
-continues now (Some o) = own now (Continues o.opener.number) ++ disorder now o
+continues now None = own now (Faults NoOpen)
+continues now (Some o) = own now (Continues o.opener.number) ++ order_fault now o
 
 -- of a CancelRequest.
 
 abbrev pub cancels : Now → Option Open → List Event
 cancels now None = []
-cancels now (Some o) = if may_be_cancelled o.opener.header then about now (Some o) (Cancelled now.whom.number) else []
+cancels now (Some o) = if may_be_cancelled o.opener.header then event_of_open now (Some o) (Cancelled now.subject.number) else []
 
-unfoldable pub id_acts : ℕ → List Open → Now → ℕ → Option Open → List Event
-id_acts most live now id other =
-    if is_fragment now.whom.header then continues now other
-    else if is_opener now.whom.header then opens most live now id other
-    else if is_cancel now.whom.header then cancels now other
+unfoldable pub request_id_events : ℕ → List Open → Now → ℕ → Option Open → List Event
+request_id_events most still_open now id other =
+    if is_fragment now.subject.header then continues now other
+    else if is_opener now.subject.header then opens most still_open now id other
+    else if is_cancel now.subject.header then cancels now other
     else []
 
 -- ---- The message's last octet.
 
-unfoldable pub end_acts : Now → Option Open → List Event
-end_acts now other =
-    if nat_lt (size now.whom.header) 4 && (is_opener now.whom.header || is_fragment now.whom.header) then own now (Imposed Short)
-    else if is_opener now.whom.header then []
-    else if is_fragment now.whom.header then (if has_more now.whom.header then [] else about now other Closes)
+unfoldable pub message_end_events : Now → Option Open → List Event
+message_end_events now other =
+    if nat_lt (size now.subject.header) 4 && (is_opener now.subject.header || is_fragment now.subject.header) then own now (Faults Short)
+    else if is_opener now.subject.header then []
+    else if is_fragment now.subject.header then (if has_more now.subject.header then [] else event_of_open now other Closes)
     else own now Closes
 
 -- ---- All that one octet does.
 
-unfoldable pub acts : ℕ → List Open → Now → ℕ → Option Open → List Event
-acts most live now id other =
-    (if now.come == 0 then header_acts now else octet_acts now other)
-    ++ ((if now.come == 4 then id_acts most live now id other else [])
-    ++ (if now.come == size now.whom.header then end_acts now other else []))
+unfoldable pub events_with_id : ℕ → List Open → Now → ℕ → Option Open → List Event
+events_with_id most still_open now id other =
+    (if now.payload_count == 0 then header_events now else payload_events now other)
+    ++ ((if now.payload_count == 4 then request_id_events most still_open now id other else [])
+    ++ (if now.payload_count == size now.subject.header then message_end_events now other else []))
 
 -- ---- The same of a message whose last octet has just come, where these messages were open before it.
 
@@ -140,7 +140,7 @@ unfoldable pub id : Message → ℕ
 id m = num (order m.header) (take 4 m.payload)
 
 unfoldable pub opener_of : List Open → Message → Option Open
-opener_of live m = find (λ o. o.id == id m) live
+opener_of still_open m = find (λ o. o.id == id m) still_open
 
 -- a Fragment whose request id is complete
 unfoldable pub has_named : Message → Bool
@@ -150,48 +150,48 @@ has_named m = is_fragment m.header && nat_le 4 (length m.payload)
 unfoldable pub goes_past : Message → Bool
 goes_past m = is_fragment m.header && nat_lt 4 (length m.payload)
 
-abbrev pub at_header : Message → List Event
-at_header m = header_acts (now_of m)
+abbrev pub events_at_header : Message → List Event
+events_at_header m = header_events (now_of m)
 
-abbrev pub at_octet : List Open → Message → List Event
-at_octet live m = octet_acts (now_of m) (opener_of live m)
+abbrev pub events_at_octet : List Open → Message → List Event
+events_at_octet still_open m = payload_events (now_of m) (opener_of still_open m)
 
-abbrev pub at_id : ℕ → List Open → Message → List Event
-at_id most live m = id_acts most live (now_of m) (id m) (opener_of live m)
+abbrev pub events_at_request_id : ℕ → List Open → Message → List Event
+events_at_request_id most still_open m = request_id_events most still_open (now_of m) (id m) (opener_of still_open m)
 
-abbrev pub at_end : List Open → Message → List Event
-at_end live m = end_acts (now_of m) (opener_of live m)
+abbrev pub events_at_end : List Open → Message → List Event
+events_at_end still_open m = message_end_events (now_of m) (opener_of still_open m)
 
-unfoldable pub happens : ℕ → List Open → Message → List Event
-unfolding acts
-happens most live m = acts most live (now_of m) (id m) (opener_of live m)
+unfoldable pub events_of_octet : ℕ → List Open → Message → List Event
+unfolding events_with_id
+events_of_octet most still_open m = events_with_id most still_open (now_of m) (id m) (opener_of still_open m)
 
 -- All that the octets of m do, from its header's last one on
 unfoldable pub events_of : ℕ → List Open → Message → List Event
-events_of most live m =
-    flat_map (λ front. happens most live (with_payload m front)) (fronts m.payload)
+events_of most still_open m =
+    flat_map (λ front. events_of_octet most still_open (with_payload m front)) (fronts m.payload)
 
 -- ---- The open messages after an event, and after these events.
 
-unfoldable pub changed : List Open → Title → Happening → List Open
-changed live whom (Opens i) = live ++ record { id = i; opener = whom } ∷ []
-changed live whom Closes = filter (λ o. not (o.opener.number == whom.number)) live
-changed live whom (Cancelled j) = filter (λ o. not (o.opener.number == whom.number)) live
-changed live whom Begins = live
-changed live whom (Takes x) = live
-changed live whom (Continues i) = live
-changed live whom (Imposed fault) = live
+unfoldable pub changed : List Open → MessageKey → EventKind → List Open
+changed still_open subject (Opens i) = still_open ++ record { id = i; opener = subject } ∷ []
+changed still_open subject Closes = filter (λ o. not (o.opener.number == subject.number)) still_open
+changed still_open subject (Cancelled j) = filter (λ o. not (o.opener.number == subject.number)) still_open
+changed still_open subject Begins = still_open
+changed still_open subject (Takes x) = still_open
+changed still_open subject (Continues i) = still_open
+changed still_open subject (Faults fault) = still_open
 
 unfoldable pub opened : List Open → List Event → List Open
-opened live [] = live
-opened live (e ∷ es) = opened (changed live e.whom e.what) es
+opened still_open [] = still_open
+opened still_open (e ∷ es) = opened (changed still_open e.subject e.what) es
 
 -- the events of these messages, before the first of which these were open
 unfoldable pub events_from : ℕ → List Open → List Message → List Event
-events_from most live [] = []
-events_from most live (m ∷ ms) =
-    let es = events_of most live m in
-    es ++ events_from most (opened live es) ms
+events_from most still_open [] = []
+events_from most still_open (m ∷ ms) =
+    let es = events_of most still_open m in
+    es ++ events_from most (opened still_open es) ms
 
 -- the events of the stream
 unfoldable pub events : ℕ → List ℕ → List Event
@@ -202,19 +202,19 @@ unfoldable pub open_after : ℕ → List ℕ → List Open
 open_after most p = opened [] (events most p)
 
 -- the octets of the joined message of this number, after its header
-unfoldable pub octet : Happening → List ℕ
+unfoldable pub octet : EventKind → List ℕ
 octet (Takes x) = x ∷ []
 octet Begins = []
 octet (Opens id) = []
 octet (Continues i) = []
 octet (Cancelled j) = []
-octet (Imposed fault) = []
+octet (Faults fault) = []
 octet Closes = []
 
 unfoldable pub joined : ℕ → List Event → List ℕ
-joined i es = flat_map (λ e. if e.whom.number == i then octet e.what else []) es
+joined i es = flat_map (λ e. if e.subject.number == i then octet e.what else []) es
 
 -- the numbers of the open messages rise
 abbrev pub Rising : List Open → Type 0
 Rising [] = Unit {0}
-Rising (o ∷ live) = Each (λ a. o.opener.number < a.opener.number) live × Rising live
+Rising (o ∷ still_open) = Each (λ a. o.opener.number < a.opener.number) still_open × Rising still_open

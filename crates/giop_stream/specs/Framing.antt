@@ -2,7 +2,7 @@
 use Rattle.std.specs.Prelude.{ℕ, zero, suc, Bool, true, false, ◌+◌, ◌^◌, List, [], ◌∷◌, ◌++◌, length, take, drop, Option, Some, None, nat_lt, if◌then◌else◌, option_to_list}
 use Rattle.giop_checkpoint.specs.declared.fault.StreamFault.{StreamFault}
 use Rattle.giop_checkpoint.specs.declared.fault.StreamFault.TheVariants.{StreamLimit}
-use Rattle.giop_stream.specs.Headers.{offence}
+use Rattle.giop_stream.specs.HeaderOctets.{first_wrong_octet}
 use Rattle.giop_message.specs.Headers.{size}
 
 pub record Message : Type 0 where
@@ -31,7 +31,7 @@ cut_from (suc fuel) number before xs =
     let header = take 12 xs in
     let payload = drop 12 xs in
     let rest = cut_from fuel (suc number) (before + 12 + size header) (drop (size header) payload) in
-    elim (offence header) [
+    elim (first_wrong_octet header) [
       | Some found ↦ record { whole = []; current = None; held = []; stop = Some (before + found.0, found.1) }
       | None ↦
           if nat_lt (length xs) 12

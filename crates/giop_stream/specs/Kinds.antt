@@ -1,8 +1,8 @@
 -- What kind of message a header begins, and what a message is faulted for by its header, its request id or its size alone
 -- (GIOP Message Formats, Fragment Message; meaning).
 use Rattle.std.specs.Prelude.{ℕ, Bool, ◌&&◌, ◌||◌, List, Option, Some, None, nat_lt, ◌==◌, if◌then◌else◌}
-use Rattle.giop_stream.specs.declared.fault.ImposedFault.{ImposedFault}
-use Rattle.giop_stream.specs.declared.fault.ImposedFault.TheVariants.{MessageType, OldFragment}
+use Rattle.giop_stream.specs.declared.fault.FramingFault.{FramingFault}
+use Rattle.giop_stream.specs.declared.fault.FramingFault.TheVariants.{MessageType, OldFragment}
 use Rattle.giop_message.specs.Headers.{minor, kind, has_more, size, may_be_fragmented, is_opener, is_fragment}
 
 -- what a CancelRequest may close: a Request or a LocateRequest
@@ -10,7 +10,7 @@ unfoldable pub may_be_cancelled : List ℕ → Bool
 may_be_cancelled header = (kind header == 0) || (kind header == 3)
 
 -- Only 1.1 and 1.2 have Fragments, and those of 1.1 are not joined.
-unfoldable pub refused : List ℕ → Option ImposedFault
+unfoldable pub refused : List ℕ → Option FramingFault
 refused header =
     if nat_lt 7 (kind header) || ((kind header == 7) && (minor header == 0)) then Some MessageType
     else if (minor header == 1) && ((kind header == 7) || (has_more header && may_be_fragmented header)) then Some OldFragment

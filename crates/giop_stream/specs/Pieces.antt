@@ -2,7 +2,7 @@
 use Rattle.std.specs.Prelude.{ℕ, List, [], ◌∷◌, ◌++◌}
 use Rattle.giop_stream.specs.Rules.{Rules}
 use Rattle.giop_stream.specs.Stream.{text, closing}
-use Rattle.giop_stream.specs.Holding.{added}
+use Rattle.giop_stream.specs.EngineHolds.{added}
 
 -- of these pieces, behind the stream p: piece by piece what it adds to the text of those before it
 unfoldable pub fed : Rules → List ℕ → List (List ℕ) → List ℕ

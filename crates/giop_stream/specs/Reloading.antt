@@ -3,7 +3,7 @@ use Rattle.std.specs.Prelude.{◌≡◌, ◌⊎◌, ℕ, ◌-◌, Bool, false, n
 use Rattle.std.specs.List.{AllByRecursion as Each}
 use Rattle.giop_sig.specs.Table.{Table}
 use Rattle.giop_message.specs.Headers.{size, is_fragment}
-use Rattle.giop_message.specs.Signatures.{Listed}
+use Rattle.giop_message.specs.Signatures.{RequestTable}
 use Rattle.giop_message.specs.declared.message.Message.{Message}
 use Rattle.giop_checkpoint.specs.declared.fault.StreamFault.{StreamFault}
 use Rattle.giop_checkpoint.specs.declared.fixed.Place.{Place}
@@ -11,12 +11,12 @@ use Rattle.giop_checkpoint.specs.declared.fixed.Place.TheVariants.{Header, Paylo
 use Rattle.giop_checkpoint.specs.declared.record.FirstRecord.{FirstRecord}
 use Rattle.giop_checkpoint.specs.Records.{Entry, entry_octets}
 use Rattle.giop_stream.specs.declared.slots.Slots.{Slots}
-use Rattle.giop_stream.specs.declared.slots.Payload.{Payload as Whose}
+use Rattle.giop_stream.specs.declared.slots.Payload.{Payload as PayloadOwner}
 use Rattle.giop_stream.specs.declared.slots.Payload.TheVariants as payload
-use Rattle.giop_stream.specs.State.{Slot as Held}
-use Rattle.giop_stream.specs.Engine.{Own}
-use Rattle.giop_stream.specs.Keeping.{Kept_slot, kept_as, IsReady, IsSlot, AreSlots}
-use Rattle.giop_stream.specs.Showing.{IsOwn}
+use Rattle.giop_stream.specs.OpenSlots.{Slot as Held}
+use Rattle.giop_stream.specs.EngineState.{Own}
+use Rattle.giop_stream.specs.SlotsRepresent.{OpenEntry, open_entry, IsReady, IsSlot, AreSlots}
+use Rattle.giop_stream.specs.ViewOfState.{IsOwn}
 use Rattle.giop_stream.specs.Checkpoint.{IsOpen, IsCurrent, AreEntries}
 
 -- ---- the fixed part
@@ -44,11 +44,11 @@ comes_in (Header held) = false
 comes_in (Payload header left) = not (is_fragment header && nat_le 4 (size header - left))
 comes_in (Stopped fault) = false
 
-abbrev pub by_turn : Bool → Whose
+abbrev pub by_turn : Bool → PayloadOwner
 by_turn itself = if itself then payload.Own else payload.Nobody
 
 -- whose they are: behind the records of the open messages is the current one's
-abbrev pub payload_of : Option ℕ → Bool → ℕ → Whose
+abbrev pub payload_of : Option ℕ → Bool → ℕ → PayloadOwner
 payload_of None itself many = by_turn itself
 payload_of (Some k) itself many = if nat_lt k many then payload.Open k else payload.Own
 
@@ -61,13 +61,13 @@ pub record IsEntry (first : FirstRecord) (e : Entry) : Type 0 where
   pub frames : first.frames.now ≡ e.frames
 
 -- the open message of it
-abbrev pub pushed : FirstRecord → ℕ → Option Message → Kept_slot
+abbrev pub pushed : FirstRecord → ℕ → Option Message → OpenEntry
 pushed first id message =
-    kept_as id first.«record».number first.«record».header message
+    open_entry id first.«record».number first.«record».header message
 
 -- It is the entry of an open message, of which this is to know.
-pub record IsOpenEntry (C : Table) (l : Listed) (at : ℕ) (first : FirstRecord) (held : Held) : Type 0 where
-  pub kept : Kept_slot
+pub record IsOpenEntry (C : Table) (l : RequestTable) (at : ℕ) (first : FirstRecord) (held : Held) : Type 0 where
+  pub kept : OpenEntry
   pub entry : Entry
   pub entry_is : IsOpen kept entry
   pub read : IsEntry first entry
@@ -75,7 +75,7 @@ pub record IsOpenEntry (C : Table) (l : Listed) (at : ℕ) (first : FirstRecord)
   pub ready : IsReady C at kept.value.message
 
 -- It is the entry of the current message, of which this is to know.
-pub record IsCurrentEntry (C : Table) (l : Listed) (at : ℕ) (first : FirstRecord) (own : Own) : Type 0 where
+pub record IsCurrentEntry (C : Table) (l : RequestTable) (at : ℕ) (first : FirstRecord) (own : Own) : Type 0 where
   pub message : Message
   pub entry : Entry
   pub entry_is : IsCurrent message entry
@@ -86,9 +86,9 @@ pub record IsCurrentEntry (C : Table) (l : Listed) (at : ℕ) (first : FirstReco
 -- ---- the records that are left
 
 -- These octets are so many entries, of messages of which this is to know.
-pub record AreLeft (C : Table) (l : Listed) (at count : ℕ) (octets : List ℕ) (held : List Held) (own : Option Own)
+pub record AreLeft (C : Table) (l : RequestTable) (at count : ℕ) (octets : List ℕ) (held : List Held) (own : Option Own)
     : Type 0 where
-  pub kept : List Kept_slot
+  pub kept : List OpenEntry
   pub current : Option Message
   pub entries : List Entry
   pub entries_are : AreEntries kept current entries
@@ -100,13 +100,13 @@ pub record AreLeft (C : Table) (l : Listed) (at count : ℕ) (octets : List ℕ)
   pub own_ready : IsReady C at current
 
 -- Open messages of which this is to know were added.
-pub record HasAdded (C : Table) (l : Listed) (before after : Slots) (held : List Held) : Type 0 where
-  pub kept : List Kept_slot
+pub record HasAdded (C : Table) (l : RequestTable) (before after : Slots) (held : List Held) : Type 0 where
+  pub kept : List OpenEntry
   pub are : AreSlots C l kept held
   pub put : after.slots.entries ≡ before.slots.entries ++ kept
 
 -- The first of so many records was added, that of an open message; these octets are the others.
-pub record HasAddedOpen (C : Table) (l : Listed) (at count : ℕ) (before after : Slots)
+pub record HasAddedOpen (C : Table) (l : RequestTable) (at count : ℕ) (before after : Slots)
     (rest : List ℕ) (held : List Held) (own : Option Own) : Type 0 where
   pub here : Held
   pub others : List Held
@@ -116,7 +116,7 @@ pub record HasAddedOpen (C : Table) (l : Listed) (at count : ℕ) (before after 
   pub left : AreLeft C l at (count - 1) rest others own
 
 -- It was that of the current message, which is the last.
-pub record HasAddedOwn (C : Table) (l : Listed) (count : ℕ) (before after : Slots)
+pub record HasAddedOwn (C : Table) (l : RequestTable) (count : ℕ) (before after : Slots)
     (held : List Held) (own : Option Own) : Type 0 where
   pub here : Own
   pub no_held : held ≡ []
@@ -126,7 +126,7 @@ pub record HasAddedOwn (C : Table) (l : Listed) (count : ℕ) (before after : Sl
   pub last : count - 1 ≡ 0
 
 -- It was one or the other.
-abbrev pub HasAddedFirst : Table → Listed → ℕ → ℕ → Slots → Slots → List ℕ → List Held → Option Own
+abbrev pub HasAddedFirst : Table → RequestTable → ℕ → ℕ → Slots → Slots → List ℕ → List Held → Option Own
     → Type 0
 HasAddedFirst C l at count before after rest held own =
     HasAddedOpen C l at count before after rest held own

@@ -2,18 +2,18 @@
 -- once (meaning).
 use Rattle.std.specs.Prelude.{ℕ}
 use Rattle.giop_sig.specs.Table.{Table}
-use Rattle.giop_message.specs.Reading.{Reading}
-use Rattle.giop_message.specs.Signatures.{Listed}
-use Rattle.giop_message.specs.MessageReading.{message_reading}
+use Rattle.giop_message.specs.MessageReader.{MessageReader}
+use Rattle.giop_message.specs.Signatures.{RequestTable}
+use Rattle.giop_message.specs.ReaderOfTable.{message_reader}
 use Rattle.giop_stream.specs.declared.slots.TheConstants.{MOST_OPEN}
 
 pub record Rules : Type 0 where
-  pub reading : Reading
+  pub reading : MessageReader
   pub most : ℕ
 
 -- by a table, what is known of requests, and so many messages
-abbrev pub rules : Table → Listed → ℕ → Rules
-rules C l most = record { reading = message_reading C l; most = most }
+abbrev pub rules : Table → RequestTable → ℕ → Rules
+rules C l most = record { reading = message_reader C l; most = most }
 
 -- how many may be open where an engine is made
 abbrev pub most_open : ℕ

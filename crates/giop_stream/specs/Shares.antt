@@ -10,12 +10,12 @@ continued i (Some o) xs = if o.opener.number == i then xs else []
 
 -- what message m gives to message i, where these messages were open before m
 unfoldable pub share : ℕ → List Open → Message → List ℕ
-share i live m =
+share i still_open m =
     if is_fragment m.header
-    then (if m.number == i then take 4 m.payload else []) ++ continued i (opener_of live m) (drop 4 m.payload)
+    then (if m.number == i then take 4 m.payload else []) ++ continued i (opener_of still_open m) (drop 4 m.payload)
     else (if m.number == i then m.payload else [])
 
 unfoldable pub shares : ℕ → ℕ → List Open → List Message → List ℕ
-shares most i live [] = []
-shares most i live (m ∷ ms) =
-    share i live m ++ shares most i (opened live (events_of most live m)) ms
+shares most i still_open [] = []
+shares most i still_open (m ∷ ms) =
+    share i still_open m ++ shares most i (opened still_open (events_of most still_open m)) ms

@@ -4,11 +4,11 @@ use Rattle.std.specs.List.{list_any}
 use Rattle.giop_checkpoint.specs.declared.fault.StreamFault.{StreamFault}
 use Rattle.giop_stream.specs.declared.status.Totals.{Totals}
 use Rattle.giop_stream.specs.Framing.{Message, Cut, cut, messages, read_of}
-use Rattle.giop_message.specs.Reading.{Value, Call, Rest, Fault, End}
+use Rattle.giop_message.specs.MessageReader.{Value, Call, Rest, Fault, End}
 use Rattle.giop_stream.specs.Rules.{Rules}
 use Rattle.giop_print.specs.Lines.{unfinished_line, total_line}
 use Rattle.giop_message.specs.Headers.{is_fragment}
-use Rattle.giop_stream.specs.Lines.{Content, Started, Said, Goes_on, Ended_by, Faulted, Stopped, Line, is_last_of, said, lines}
+use Rattle.giop_stream.specs.Lines.{Content, Started, Said, ContinuesMessage, CancelledBy, Faulted, Stopped, Line, is_last_of, lines_of_messages, lines}
 use Rattle.giop_stream.specs.Text.{lines_text, truncated_line}
 
 -- what is written of the stream p
@@ -17,9 +17,9 @@ text R p = lines_text (lines R p)
 
 abbrev pub is_start : Content → Bool
 is_start (Started header) = true
-is_start (Said saying text) = false
-is_start (Goes_on i) = false
-is_start (Ended_by j) = false
+is_start (Said line_class text) = false
+is_start (ContinuesMessage i) = false
+is_start (CancelledBy j) = false
 is_start (Faulted fault) = false
 is_start (Stopped fault) = false
 
@@ -30,8 +30,8 @@ is_fault (Said Call text) = false
 is_fault (Said Rest text) = false
 is_fault (Said Fault text) = true
 is_fault (Said End text) = false
-is_fault (Goes_on i) = false
-is_fault (Ended_by j) = false
+is_fault (ContinuesMessage i) = false
+is_fault (CancelledBy j) = false
 is_fault (Faulted fault) = true
 is_fault (Stopped fault) = true
 
@@ -55,15 +55,15 @@ is_truncated c = is_inside c.current c.held c.stop
 
 -- a message that has a last line
 unfoldable pub is_over : Rules → List ℕ → ℕ → Bool
-is_over R p i = list_any (is_last_of i) (said R p)
+is_over R p i = list_any (is_last_of i) (lines_of_messages R p)
 
 -- the numbers of the messages that are no 1.2 Fragments
-unfoldable pub heads : List Message → List ℕ
-heads ms = map (λ m. m.number) (filter (λ m. not (is_fragment m.header)) ms)
+unfoldable pub first_messages : List Message → List ℕ
+first_messages ms = map (λ m. m.number) (filter (λ m. not (is_fragment m.header)) ms)
 
 -- those of them that have neither ended nor been faulted or cancelled
 unfoldable pub unfinished : Rules → List ℕ → List ℕ
-unfinished R p = filter (λ i. not (is_over R p i)) (heads (messages (cut p)))
+unfinished R p = filter (λ i. not (is_over R p i)) (first_messages (messages (cut p)))
 
 abbrev pub with_truncated : Bool → Totals → Totals
 with_truncated truncated t = record t { faults = t.faults + (if truncated then 1 else 0) }

@@ -4,11 +4,11 @@ use Rattle.giop_print.specs.Lines.{fault_line, stream_fault_line, continues_line
 use Rattle.giop_print.specs.Lines as print
 use Rattle.giop_checkpoint.specs.declared.fault.StreamFault.{StreamFault}
 use Rattle.giop_checkpoint.specs.declared.fault.StreamFault.TheVariants.{Magic, Version, ByteOrder, StreamLimit}
-use Rattle.giop_stream.specs.declared.fault.ImposedFault.{ImposedFault}
-use Rattle.giop_stream.specs.declared.fault.ImposedFault.TheVariants.{MessageType, OldFragment, Short, NoOpen, IdOpen, TooManyOpen, FragmentOrder}
+use Rattle.giop_stream.specs.declared.fault.FramingFault.{FramingFault}
+use Rattle.giop_stream.specs.declared.fault.FramingFault.TheVariants.{MessageType, OldFragment, Short, NoOpen, IdOpen, TooManyOpen, FragmentOrder}
 use Rattle.giop_message.specs.Headers.{minor, order, kind, size, has_more}
-use Rattle.giop_message.specs.Text.{saying_line}
-use Rattle.giop_stream.specs.Lines.{Content, Started, Said, Goes_on, Ended_by, Faulted, Stopped, Line}
+use Rattle.giop_message.specs.Text.{line_class_text}
+use Rattle.giop_stream.specs.Lines.{Content, Started, Said, ContinuesMessage, CancelledBy, Faulted, Stopped, Line}
 
 abbrev pub stream_word : StreamFault → List ℕ
 stream_word Magic = codes "magic"
@@ -27,21 +27,21 @@ stop_text fault place = stream_fault_line (stream_word fault) place
 abbrev pub truncated_line : ℕ → List ℕ
 truncated_line place = stream_fault_line (codes "truncated") place
 
-abbrev pub imposed_word : ImposedFault → List ℕ
-imposed_word MessageType = codes "message-type"
-imposed_word OldFragment = codes "fragment-1.1"
-imposed_word Short = codes "short"
-imposed_word NoOpen = codes "no-open"
-imposed_word IdOpen = codes "id-open"
-imposed_word TooManyOpen = codes "too-many-open"
-imposed_word FragmentOrder = codes "fragment-order"
+abbrev pub framing_fault_word : FramingFault → List ℕ
+framing_fault_word MessageType = codes "message-type"
+framing_fault_word OldFragment = codes "fragment-1.1"
+framing_fault_word Short = codes "short"
+framing_fault_word NoOpen = codes "no-open"
+framing_fault_word IdOpen = codes "id-open"
+framing_fault_word TooManyOpen = codes "too-many-open"
+framing_fault_word FragmentOrder = codes "fragment-order"
 
 abbrev pub content_line : ℕ → ℕ → Content → List ℕ
 content_line place number (Started header) = start_line number header
-content_line place number (Said saying text) = saying_line place number saying text
-content_line place number (Goes_on i) = continues_line number i
-content_line place number (Ended_by j) = cancelled_line number j
-content_line place number (Faulted fault) = fault_line number (imposed_word fault) place
+content_line place number (Said line_class text) = line_class_text place number line_class text
+content_line place number (ContinuesMessage i) = continues_line number i
+content_line place number (CancelledBy j) = cancelled_line number j
+content_line place number (Faulted fault) = fault_line number (framing_fault_word fault) place
 content_line place number (Stopped fault) = stop_text fault place
 
 abbrev pub line_text : Line → List ℕ

@@ -10,6 +10,6 @@ pub struct Current {
     /// The stream octets up to and with this one.
     pub place: u64,
     /// The octets of the payload up to and with this one.
-    pub come: u32,
+    pub payload_count: u32,
     ghost behind_header: { 12 ≤ place },
 }

@@ -2,20 +2,20 @@
 
 ghost use Rattle.std.specs.Prelude.{Option, ◌≡◌, ◌+◌, ◌<◌, ◌≤◌, ◌^◌, ℕ, length, true, false, Some, None, OnOk, IfOk, if◌then◌else◌, slice_get};
 ghost use Rattle.giop_sig.specs.Table.{Table};
-ghost use Rattle.giop_message.specs.Signatures.{Listed};
-ghost use Rattle.giop_message.specs.MessageReading.{message_reading};
-ghost use Rattle.giop_message.specs.Holding.{AreOf};
+ghost use Rattle.giop_message.specs.Signatures.{RequestTable};
+ghost use Rattle.giop_message.specs.ReaderOfTable.{message_reader};
+ghost use Rattle.giop_message.specs.MessageState.{AreOf};
 ghost use Rattle.giop_message.specs.Headers.{size, is_fragment, is_opener, is_cancel};
 ghost use Rattle.giop_stream.specs.Rules.{most_open};
 ghost use Rattle.giop_stream.specs.Framing.{Message};
-ghost use Rattle.giop_stream.specs.Events.{Title, Open, at_header, at_id, at_end, happens, title, opener_of};
+ghost use Rattle.giop_stream.specs.Events.{MessageKey, Open, events_at_header, events_at_request_id, events_at_end, events_of_octet, message_key, opener_of};
 ghost use Rattle.giop_stream.specs.Effects.{Tracked, effects, with_octet};
-ghost use Rattle.giop_stream.specs.Keeping.{AreReady};
-ghost use Rattle.giop_stream.specs.Performs.{TakesEffect, one_if, never, all};
-ghost use Rattle.giop_stream.specs.Whose.{IsNamed, IsFirst, IsNext, IsTaken, IsAt, opener_title, whose_named, whose, whose_after, id_events, end_events};
+ghost use Rattle.giop_stream.specs.SlotsRepresent.{AreReady};
+ghost use Rattle.giop_stream.specs.DoesEffect.{DoesEffect, one_if, never, all};
+ghost use Rattle.giop_stream.specs.PayloadOwner.{IsAtRequestId, IsBeforeMessage, IsBeforeOctet, IsAfterTake, IsAtOctet, opener_key, owner_after_id, owner_of_next, owner_after, id_events, end_events};
 
 use crate::current::Current;
-use crate::fault::ImposedFault;
+use crate::fault::FramingFault;
 use crate::header::size_of;
 use crate::kinds::{
     is_cancel, is_followed, is_fragment, is_opener, is_short, may_be_cancelled, refused, same_order,
@@ -28,19 +28,19 @@ use giop_sig::{Catalogue, Requests};
 
 /// At the request id of a message that opens.
 fn opens<O: Out>(slots: &mut Slots, now: Current, id: u32, out: &mut O) -> Result<bool, OutFault>
-    ensures does { (C : Table) (l : Listed) (c : Tracked) (m : Message) →
-        IsNamed C l slots.old c m now id →
+    ensures does { (C : Table) (l : RequestTable) (c : Tracked) (m : Message) →
+        IsAtRequestId C l slots.old c m now id →
         is_fragment m.header ≡ false → is_opener m.header ≡ true →
-        TakesEffect C l one_if result (O.log out.old) (O.log out.new) slots.new
-        (effects (message_reading C l) c (at_id slots.old.slots.most c.live m)) (Some (title m)) }
+        DoesEffect C l one_if result (O.log out.old) (O.log out.new) slots.new
+        (effects (message_reader C l) c (events_at_request_id slots.old.slots.most c.still_open m)) (Some (message_key m)) }
     ensures ready { (C : Table) (n : ℕ) → AreReady C n slots.old → AreReady C n slots.new }
     ensures most { slots.new.slots.most ≡ slots.old.slots.most }
 {
     if slots.find(id).is_some() {
-        return slots.impose(now.number, ImposedFault::IdOpen, now.place, out);
+        return slots.fault_message(now.number, FramingFault::IdOpen, now.place, out);
     }
     if slots.is_full() {
-        return slots.impose(now.number, ImposedFault::TooManyOpen, now.place, out);
+        return slots.fault_message(now.number, FramingFault::TooManyOpen, now.place, out);
     }
     slots.open(now.number, now.header, id);
     Ok(false)
@@ -48,11 +48,11 @@ fn opens<O: Out>(slots: &mut Slots, now: Current, id: u32, out: &mut O) -> Resul
 
 /// At a CancelRequest's request id.
 fn cancels<O: Out>(slots: &mut Slots, now: Current, id: u32, out: &mut O) -> Result<(), OutFault>
-    ensures does { (C : Table) (l : Listed) (c : Tracked) (m : Message) →
-        IsNamed C l slots.old c m now id →
+    ensures does { (C : Table) (l : RequestTable) (c : Tracked) (m : Message) →
+        IsAtRequestId C l slots.old c m now id →
         is_fragment m.header ≡ false → is_opener m.header ≡ false → is_cancel m.header ≡ true →
-        TakesEffect C l never result (O.log out.old) (O.log out.new) slots.new
-        (effects (message_reading C l) c (at_id slots.old.slots.most c.live m)) (Some (title m)) }
+        DoesEffect C l never result (O.log out.old) (O.log out.new) slots.new
+        (effects (message_reader C l) c (events_at_request_id slots.old.slots.most c.still_open m)) (Some (message_key m)) }
     ensures ready { (C : Table) (n : ℕ) → AreReady C n slots.old → AreReady C n slots.new }
     ensures most { slots.new.slots.most ≡ slots.old.slots.most }
 {
@@ -66,17 +66,17 @@ fn cancels<O: Out>(slots: &mut Slots, now: Current, id: u32, out: &mut O) -> Res
 }
 
 /// A Fragment of no open message is faulted, and nobody has what follows.
-fn fails<O: Out>(slots: &mut Slots, now: Current, out: &mut O) -> Result<bool, OutFault>
-    ensures does { (C : Table) (l : Listed) (c : Tracked) (m : Message) (id : ℕ) →
-        IsNamed C l slots.old c m now id →
-        is_fragment m.header ≡ true → opener_of c.live m ≡ None →
-        TakesEffect C l one_if result (O.log out.old) (O.log out.new) slots.new
-        (effects (message_reading C l) c (at_id slots.old.slots.most c.live m)) None }
+fn fault_unopened<O: Out>(slots: &mut Slots, now: Current, out: &mut O) -> Result<bool, OutFault>
+    ensures does { (C : Table) (l : RequestTable) (c : Tracked) (m : Message) (id : ℕ) →
+        IsAtRequestId C l slots.old c m now id →
+        is_fragment m.header ≡ true → opener_of c.still_open m ≡ None →
+        DoesEffect C l one_if result (O.log out.old) (O.log out.new) slots.new
+        (effects (message_reader C l) c (events_at_request_id slots.old.slots.most c.still_open m)) None }
     ensures ready { (C : Table) (n : ℕ) → AreReady C n slots.old → AreReady C n slots.new }
     ensures most { slots.new.slots.most ≡ slots.old.slots.most }
 {
-    let faulted = slots.impose(now.number, ImposedFault::NoOpen, now.place, out);
-    slots.lose();
+    let faulted = slots.fault_message(now.number, FramingFault::NoOpen, now.place, out);
+    slots.set_no_owner();
     faulted
 }
 
@@ -84,22 +84,22 @@ fn fails<O: Out>(slots: &mut Slots, now: Current, out: &mut O) -> Result<bool, O
 #[tactic(auto, using(giop_print::proofs::Writing::writes_then, giop_print::proofs::Writing::writes_err))]
 fn passes<O: Out>(slots: &mut Slots, k: usize, now: Current, out: &mut O) -> Result<bool, OutFault>
     requires { k < length slots.old.slots.entries }
-    ensures does { (C : Table) (l : Listed) (c : Tracked) (m : Message) (id : ℕ) (o : Open) →
-        IsNamed C l slots.old c m now id →
-        is_fragment m.header ≡ true → opener_of c.live m ≡ Some o → slice_get c.live k ≡ Some o →
-        TakesEffect C l one_if result (O.log out.old) (O.log out.new) slots.new
-        (effects (message_reading C l) c (at_id slots.old.slots.most c.live m)) (Some o.opener) }
+    ensures does { (C : Table) (l : RequestTable) (c : Tracked) (m : Message) (id : ℕ) (o : Open) →
+        IsAtRequestId C l slots.old c m now id →
+        is_fragment m.header ≡ true → opener_of c.still_open m ≡ Some o → slice_get c.still_open k ≡ Some o →
+        DoesEffect C l one_if result (O.log out.old) (O.log out.new) slots.new
+        (effects (message_reader C l) c (events_at_request_id slots.old.slots.most c.still_open m)) (Some o.opener) }
     ensures ready { (C : Table) (n : ℕ) → AreReady C n slots.old → AreReady C n slots.new }
     ensures most { slots.new.slots.most ≡ slots.old.slots.most }
 {
     let opener = slots.at(k);
     let (number, order) = (opener.number, order_of(&opener.header));
-    slots.pass_on(k);
+    slots.set_open_owner(k);
     continues_line(out, now.number, number)?;
     if same_order(order_of(&now.header), order) {
         return Ok(false);
     }
-    slots.impose(number, ImposedFault::FragmentOrder, now.place, out)
+    slots.fault_message(number, FramingFault::FragmentOrder, now.place, out)
 }
 
 /// At a Fragment's request id: what follows is of the open message with that id.
@@ -109,17 +109,17 @@ fn continues<O: Out>(
     id: u32,
     out: &mut O,
 ) -> Result<bool, OutFault>
-    ensures does { (C : Table) (l : Listed) (c : Tracked) (m : Message) →
-        IsNamed C l slots.old c m now id → is_fragment m.header ≡ true →
-        TakesEffect C l one_if result (O.log out.old) (O.log out.new) slots.new
-        (effects (message_reading C l) c (at_id slots.old.slots.most c.live m))
-        (opener_title (opener_of c.live m)) }
+    ensures does { (C : Table) (l : RequestTable) (c : Tracked) (m : Message) →
+        IsAtRequestId C l slots.old c m now id → is_fragment m.header ≡ true →
+        DoesEffect C l one_if result (O.log out.old) (O.log out.new) slots.new
+        (effects (message_reader C l) c (events_at_request_id slots.old.slots.most c.still_open m))
+        (opener_key (opener_of c.still_open m)) }
     ensures ready { (C : Table) (n : ℕ) → AreReady C n slots.old → AreReady C n slots.new }
     ensures most { slots.new.slots.most ≡ slots.old.slots.most }
 {
     match slots.find(id) {
         Some(k) => passes(slots, k, now, out),
-        None => fails(slots, now, out),
+        None => fault_unopened(slots, now, out),
     }
 }
 
@@ -130,11 +130,11 @@ pub fn named<O: Out>(
     id: u32,
     out: &mut O,
 ) -> Result<bool, OutFault>
-    ensures does { (C : Table) (l : Listed) (c : Tracked) (m : Message) →
-        IsNamed C l slots.old c m now id →
-        TakesEffect C l one_if result (O.log out.old) (O.log out.new) slots.new
-        (effects (message_reading C l) c (at_id slots.old.slots.most c.live m))
-        (whose_named c.live m) }
+    ensures does { (C : Table) (l : RequestTable) (c : Tracked) (m : Message) →
+        IsAtRequestId C l slots.old c m now id →
+        DoesEffect C l one_if result (O.log out.old) (O.log out.new) slots.new
+        (effects (message_reader C l) c (events_at_request_id slots.old.slots.most c.still_open m))
+        (owner_after_id c.still_open m) }
     ensures ready { (C : Table) (n : ℕ) → AreReady C n slots.old → AreReady C n slots.new }
     ensures most { slots.new.slots.most ≡ slots.old.slots.most }
 {
@@ -159,36 +159,36 @@ pub fn ends<O: Out>(
     out: &mut O,
 ) -> Result<bool, OutFault>
     requires ready { AreReady catalogue.now (now.place + 1) slots.old }
-    ensures does { (l : Listed) (c : Tracked) (m : Message) →
-        IsAt catalogue.now l slots.old c m now → length m.payload ≡ size m.header →
-        TakesEffect catalogue.now l one_if result (O.log out.old) (O.log out.new) slots.new
-        (effects (message_reading catalogue.now l) c (at_end c.live m)) None }
+    ensures does { (l : RequestTable) (c : Tracked) (m : Message) →
+        IsAtOctet catalogue.now l slots.old c m now → length m.payload ≡ size m.header →
+        DoesEffect catalogue.now l one_if result (O.log out.old) (O.log out.new) slots.new
+        (effects (message_reader catalogue.now l) c (events_at_end c.still_open m)) None }
     ensures ready { AreReady catalogue.now (now.place + 1) slots.new }
     ensures most { slots.new.slots.most ≡ slots.old.slots.most }
 {
     if is_short(&now.header) {
-        let faulted = slots.impose(now.number, ImposedFault::Short, now.place, out);
-        slots.lose();
+        let faulted = slots.fault_message(now.number, FramingFault::Short, now.place, out);
+        slots.set_no_owner();
         return faulted;
     }
     if is_followed(&now.header) {
-        slots.lose();
+        slots.set_no_owner();
         return Ok(false);
     }
     slots.close(catalogue, now.place, out)
 }
 
 /// What an octet does where it is the last of a request id.
-fn names<O: Out>(slots: &mut Slots, now: Current, out: &mut O) -> Result<bool, OutFault>
-    ensures does { (C : Table) (l : Listed) (c : Tracked) (m : Message) →
-        IsTaken C l slots.old c m now →
-        TakesEffect C l one_if result (O.log out.old) (O.log out.new) slots.new
-        (effects (message_reading C l) c (id_events slots.old.slots.most c.live m))
-        (whose c.live m) }
+fn at_fourth_octet<O: Out>(slots: &mut Slots, now: Current, out: &mut O) -> Result<bool, OutFault>
+    ensures does { (C : Table) (l : RequestTable) (c : Tracked) (m : Message) →
+        IsAfterTake C l slots.old c m now →
+        DoesEffect C l one_if result (O.log out.old) (O.log out.new) slots.new
+        (effects (message_reader C l) c (id_events slots.old.slots.most c.still_open m))
+        (owner_of_next c.still_open m) }
     ensures ready { (C : Table) (n : ℕ) → AreReady C n slots.old → AreReady C n slots.new }
     ensures most { slots.new.slots.most ≡ slots.old.slots.most }
 {
-    if now.come == 4 {
+    if now.payload_count == 4 {
         let id = slots.request_id();
         return named(slots, now, id, out);
     }
@@ -196,21 +196,21 @@ fn names<O: Out>(slots: &mut Slots, now: Current, out: &mut O) -> Result<bool, O
 }
 
 /// What an octet does where it is the message's last.
-fn finishes<O: Out>(
+fn at_last_octet<O: Out>(
     slots: &mut Slots,
     catalogue: &Catalogue,
     now: Current,
     out: &mut O,
 ) -> Result<bool, OutFault>
     requires ready { AreReady catalogue.now (now.place + 1) slots.old }
-    ensures does { (l : Listed) (c : Tracked) (m : Message) →
-        IsAt catalogue.now l slots.old c m now → length m.payload ≡ now.come →
-        TakesEffect catalogue.now l one_if result (O.log out.old) (O.log out.new) slots.new
-        (effects (message_reading catalogue.now l) c (end_events c.live m)) (whose_after c.live m) }
+    ensures does { (l : RequestTable) (c : Tracked) (m : Message) →
+        IsAtOctet catalogue.now l slots.old c m now → length m.payload ≡ now.payload_count →
+        DoesEffect catalogue.now l one_if result (O.log out.old) (O.log out.new) slots.new
+        (effects (message_reader catalogue.now l) c (end_events c.still_open m)) (owner_after c.still_open m) }
     ensures ready { AreReady catalogue.now (now.place + 1) slots.new }
     ensures most { slots.new.slots.most ≡ slots.old.slots.most }
 {
-    if now.come == size_of(&now.header) {
+    if now.payload_count == size_of(&now.header) {
         return ends(slots, catalogue, now, out);
     }
     Ok(false)
@@ -237,19 +237,19 @@ pub fn octet<O: Out>(
     requires of { AreOf catalogue.now requests.now }
     requires limit { now.place ≤ 2 ^ 48 }
     ensures does { (c : Tracked) (m : Message) →
-        IsNext catalogue.now requests.now slots.old c m now octet →
-        (let R = message_reading catalogue.now requests.now in
-        let effect = effects R c (happens slots.old.slots.most c.live (with_octet m octet)) in
-        TakesEffect catalogue.now requests.now all result (O.log out.old) (O.log out.new) slots.new
-        effect (whose_after effect.tracked.live (with_octet m octet))) }
+        IsBeforeOctet catalogue.now requests.now slots.old c m now octet →
+        (let R = message_reader catalogue.now requests.now in
+        let effect = effects R c (events_of_octet slots.old.slots.most c.still_open (with_octet m octet)) in
+        DoesEffect catalogue.now requests.now all result (O.log out.old) (O.log out.new) slots.new
+        effect (owner_after effect.tracked.still_open (with_octet m octet))) }
     ensures few { IfOk result (λ faults. faults ≤ 3) }
     ensures ready { OnOk result (AreReady catalogue.now (now.place + 1) slots.new) }
     ensures most { slots.new.slots.most ≡ slots.old.slots.most }
 {
     let before = now.place - 1;
     let taken = slots.take(catalogue, requests, &[octet], before, out)?;
-    let named = names(slots, now, out)?;
-    let ended = finishes(slots, catalogue, now, out)?;
+    let named = at_fourth_octet(slots, now, out)?;
+    let ended = at_last_octet(slots, catalogue, now, out)?;
     Ok(count(taken, named, ended))
 }
 
@@ -262,17 +262,17 @@ fn starts<O: Out>(
     out: &mut O,
 ) -> Result<bool, OutFault>
     requires ready { AreReady catalogue.now now.place slots.old }
-    ensures does { (l : Listed) (c : Tracked) (who : Option Title) (m : Message) →
-        IsFirst catalogue.now l slots.old c who m now →
-        TakesEffect catalogue.now l one_if result (O.log out.old) (O.log out.new) slots.new
-        (effects (message_reading catalogue.now l) c (at_header m)) (Some (title m)) }
+    ensures does { (l : RequestTable) (c : Tracked) (who : Option MessageKey) (m : Message) →
+        IsBeforeMessage catalogue.now l slots.old c who m now →
+        DoesEffect catalogue.now l one_if result (O.log out.old) (O.log out.new) slots.new
+        (effects (message_reader catalogue.now l) c (events_at_header m)) (Some (message_key m)) }
     ensures ready { OnOk result (AreReady catalogue.now (now.place + 1) slots.new) }
     ensures most { slots.new.slots.most ≡ slots.old.slots.most }
 {
     start_line(out, now.number, &now.header)?;
     slots.begin(catalogue, now.number, now.header);
     match refused(&now.header) {
-        Some(fault) => slots.impose(now.number, fault, now.place, out),
+        Some(fault) => slots.fault_message(now.number, fault, now.place, out),
         None => Ok(false),
     }
 }
@@ -285,17 +285,17 @@ pub fn header<O: Out>(
     out: &mut O,
 ) -> Result<u8, OutFault>
     requires ready { AreReady catalogue.now now.place slots.old }
-    ensures does { (l : Listed) (c : Tracked) (who : Option Title) (m : Message) →
-        IsFirst catalogue.now l slots.old c who m now →
-        (let R = message_reading catalogue.now l in
-        let effect = effects R c (happens slots.old.slots.most c.live m) in
-        TakesEffect catalogue.now l all result (O.log out.old) (O.log out.new) slots.new
-        effect (whose_after effect.tracked.live m)) }
+    ensures does { (l : RequestTable) (c : Tracked) (who : Option MessageKey) (m : Message) →
+        IsBeforeMessage catalogue.now l slots.old c who m now →
+        (let R = message_reader catalogue.now l in
+        let effect = effects R c (events_of_octet slots.old.slots.most c.still_open m) in
+        DoesEffect catalogue.now l all result (O.log out.old) (O.log out.new) slots.new
+        effect (owner_after effect.tracked.still_open m)) }
     ensures few { IfOk result (λ faults. faults ≤ 3) }
     ensures ready { OnOk result (AreReady catalogue.now (now.place + 1) slots.new) }
     ensures most { slots.new.slots.most ≡ slots.old.slots.most }
 {
     let refused = starts(slots, catalogue, now, out)?;
-    let ended = finishes(slots, catalogue, now, out)?;
+    let ended = at_last_octet(slots, catalogue, now, out)?;
     Ok(count(refused, ended, false))
 }

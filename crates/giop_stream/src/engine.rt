@@ -6,11 +6,11 @@ ghost use Rattle.giop_print.specs.Output.{counted};
 ghost use Rattle.giop_sig.specs.Table.{Table};
 ghost use Rattle.giop_sig.specs.Trees.{depth_of};
 ghost use Rattle.giop_checkpoint.specs.Refusals.{IsOurs};
-ghost use Rattle.giop_message.specs.Signatures.{Listed};
+ghost use Rattle.giop_message.specs.Signatures.{RequestTable};
 ghost use Rattle.giop_stream.specs.Rules.{rules, most_open};
 ghost use Rattle.giop_stream.specs.Framing.{cut, fault_of};
 ghost use Rattle.giop_stream.specs.Stream.{text, closing, final};
-ghost use Rattle.giop_stream.specs.Holding.{AreOf, Holds, StopWrites, Leaves, added, rules_of, status_of};
+ghost use Rattle.giop_stream.specs.EngineHolds.{AreOf, Holds, StopWrites, Leaves, added, rules_of, status_of};
 ghost use Rattle.giop_stream.specs.Pieces.{fed, remaining, whole_text};
 ghost use Rattle.giop_stream.specs.Checkpoint.{counts_of, checkpoint_limit, Allows, IsRefused, OrNoMemory, Saves, Spells};
 
@@ -35,23 +35,23 @@ pub struct Engine<'a> {
 }
 
 impl<'a> Model for Engine<'a> {
-    ghost use Rattle.giop_stream.specs.Remembering.{EngineMemory};
+    ghost use Rattle.giop_stream.specs.EngineView.{EngineView};
 
-    ghost Value = { EngineMemory };
+    ghost Value = { EngineView };
 
-    ghost use Rattle.giop_stream.specs.Shown.{shown};
+    ghost use Rattle.giop_stream.specs.FramingView.{framing_view};
 
     ghost view = { λ e. record {
       failed = e.failed;
       table = e.catalogue.now;
-      listed = e.requests.now;
+      request_table = e.requests.now;
       most = e.framing.slots.slots.most;
-      stream = shown e.framing;
+      stream = framing_view e.framing;
     } };
 
     ghost use Rattle.std.specs.Prelude.{◌+◌};
-    ghost use Rattle.giop_stream.specs.Keeping.{AreReady};
-    ghost use Rattle.giop_stream.specs.Holding.{AreOf};
+    ghost use Rattle.giop_stream.specs.SlotsRepresent.{AreReady};
+    ghost use Rattle.giop_stream.specs.EngineHolds.{AreOf};
 
     ghost invariant = { λ e. AreOf e.catalogue.now e.requests.now
         × AreReady e.catalogue.now (e.framing.totals.octets + 1) e.framing.slots };
@@ -70,7 +70,7 @@ impl<'a> Engine<'a> {
         requires range { (1 ≤ most) × (most ≤ most_open) }
         ensures holds { IfOk result (λ e. Holds e []) }
         ensures table { IfOk result (λ e. e.table ≡ catalogue.now) }
-        ensures listed { IfOk result (λ e. e.listed ≡ requests.now) }
+        ensures request_table { IfOk result (λ e. e.request_table ≡ requests.now) }
         ensures most { IfOk result (λ e. e.most ≡ most) }
     {
         let Ok(framing) = Framing::new(alloc, most as usize) else {
@@ -106,7 +106,7 @@ impl<'a> Engine<'a> {
         ensures ours { IfOk result (λ e. IsOurs (counts_of catalogue.now requests.now) octets.now) }
         ensures sound { IfOk result (λ e. e.failed ≡ false) }
         ensures table { IfOk result (λ e. e.table ≡ catalogue.now) }
-        ensures listed { IfOk result (λ e. e.listed ≡ requests.now) }
+        ensures request_table { IfOk result (λ e. e.request_table ≡ requests.now) }
     {
         match loading::read(alloc, catalogue, requests, octets) {
             Ok(framing) => Ok(Engine {
@@ -137,7 +137,7 @@ impl<'a> Engine<'a> {
         // A failed engine writes nothing.
         ensures failed { self.old.failed ≡ true → O.log out.new ≡ O.log out.old }
         // What it reads by stays.
-        ensures same { (self.new.table ≡ self.old.table) × (self.new.listed ≡ self.old.listed) }
+        ensures same { (self.new.table ≡ self.old.table) × (self.new.request_table ≡ self.old.request_table) }
         ensures most { self.new.most ≡ self.old.most }
     {
         if self.failed {
@@ -184,7 +184,7 @@ impl<'a> Engine<'a> {
         // It is the checkpoint of each stream that it holds; of that a front is written before a put fails.
         ensures saves { (p : List ℕ) → Holds self.now p →
             Saves result (O.log out.old) (O.log out.new)
-            self.now.table self.now.listed self.now.most p }
+            self.now.table self.now.request_table self.now.most p }
         // It is refused where the engine was failed, and nothing is written then,
         ensures failed { self.now.failed ≡ true →
             (result ≡ Err Stop.Failed) × (O.log out.new ≡ O.log out.old) }
@@ -220,17 +220,17 @@ impl<'a> Engine<'a> {
 /// The text of a stream is a front of the text of each longer one, so that the cutting of a stream into pieces makes
 /// no difference.
 pub fn text_begins()
-    ensures { (C : Table) (l : Listed) (n : ℕ) (p q : List ℕ) → (more : List ℕ)
+    ensures { (C : Table) (l : RequestTable) (n : ℕ) (p q : List ℕ) → (more : List ℕ)
         × (text (rules C l n) (p ++ q) ≡ text (rules C l n) p ++ more) }
 {}
 
 /// However a stream is cut into pieces, the same is written of it.
 pub fn any_pieces()
     // What is written of pieces, one behind the other, is what all their octets add,
-    ensures whole { (C : Table) (l : Listed) (n : ℕ) (p : List ℕ) (pieces : List (List ℕ)) →
+    ensures whole { (C : Table) (l : RequestTable) (n : ℕ) (p : List ℕ) (pieces : List (List ℕ)) →
         fed (rules C l n) p pieces ≡ added (rules C l n) p (concat pieces) }
     // so that any two ways to cut the same octets write the same.
-    ensures same { (C : Table) (l : Listed) (n : ℕ) (p : List ℕ) (pieces others : List (List ℕ)) →
+    ensures same { (C : Table) (l : RequestTable) (n : ℕ) (p : List ℕ) (pieces others : List (List ℕ)) →
         concat pieces ≡ concat others →
         fed (rules C l n) p pieces ≡ fed (rules C l n) p others }
 {}
@@ -238,10 +238,10 @@ pub fn any_pieces()
 /// A stream is read on from a checkpoint of its front as if the reading had never ended, and each checkpoint is small.
 pub fn remaining()
     // The text of the front, and what is written of the octets behind it and at their end, are all that is written of both.
-    ensures text { (C : Table) (l : Listed) (n : ℕ) (octets p q : List ℕ) → Spells octets C l n p →
+    ensures text { (C : Table) (l : RequestTable) (n : ℕ) (octets p q : List ℕ) → Spells octets C l n p →
         text (rules C l n) p ++ remaining (rules C l n) p q
         ≡ whole_text (rules C l n) (p ++ q) }
     // However long the front is, its checkpoint has at most so many octets.
-    ensures within { (C : Table) (l : Listed) (n : ℕ) (octets p : List ℕ) → Spells octets C l n p →
+    ensures within { (C : Table) (l : RequestTable) (n : ℕ) (octets p : List ℕ) → Spells octets C l n p →
         length octets ≤ checkpoint_limit n (depth_of C.types) }
 {}

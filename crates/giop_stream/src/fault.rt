@@ -7,7 +7,7 @@ use thiserror::Error;
 /// What the stream faults a message for, by its header, its request id or its size alone. `Display` is the word of its
 /// line.
 #[derive(Clone, Copy, Debug, PartialEq, Eq, Error)]
-pub enum ImposedFault {
+pub enum FramingFault {
     /// A message type above 7, or a Fragment of 1.0.
     #[error("message-type")]
     MessageType,

@@ -27,7 +27,7 @@ pub struct Framing {
     /// The header octets that have come, 12 within a payload.
     pub header: ArrayVec<u8, 12>,
     /// The payload octets that have come.
-    pub come: u32,
+    pub payload_count: u32,
     pub slots: Slots,
     ghost read: { totals.octets ≤ 2 ^ 48 + 1 },
     ghost running: { stopped ≡ None → totals.octets ≤ 2 ^ 48 },
@@ -41,27 +41,27 @@ pub struct Framing {
 impl Framing {
     ghost use Rattle.giop_print.specs.Output.{Writes};
     ghost use Rattle.giop_sig.specs.Table.{Table};
-    ghost use Rattle.giop_message.specs.Signatures.{Listed};
+    ghost use Rattle.giop_message.specs.Signatures.{RequestTable};
     ghost use Rattle.giop_stream.specs.Rules.{rules};
     ghost use Rattle.giop_message.specs.Headers.{size};
-    ghost use Rattle.giop_stream.specs.Headers.{wrong};
+    ghost use Rattle.giop_stream.specs.HeaderOctets.{wrong};
     ghost use Rattle.giop_stream.specs.Text.{stop_text};
-    ghost use Rattle.giop_stream.specs.Keeping.{AreReady, IsBare};
-    ghost use Rattle.giop_stream.specs.Remembering.{Memory};
-    ghost use Rattle.giop_stream.specs.Engine.{State};
-    ghost use Rattle.giop_stream.specs.Step as one;
-    ghost use Rattle.giop_stream.specs.Shown.{shown};
-    ghost use Rattle.giop_stream.specs.Showing.{Shows, IsReached, Does};
-    ghost use Rattle.giop_stream.specs.Holding.{AreOf};
-    ghost use Rattle.giop_stream.specs.Steps.{held_on, stop, settle};
+    ghost use Rattle.giop_stream.specs.SlotsRepresent.{AreReady, IsBare};
+    ghost use Rattle.giop_stream.specs.EngineView.{FramingView};
+    ghost use Rattle.giop_stream.specs.EngineState.{State};
+    ghost use Rattle.giop_stream.specs.EngineStep as one;
+    ghost use Rattle.giop_stream.specs.FramingView.{framing_view};
+    ghost use Rattle.giop_stream.specs.ViewOfState.{Shows, IsReached, Does};
+    ghost use Rattle.giop_stream.specs.EngineHolds.{AreOf};
+    ghost use Rattle.giop_stream.specs.FramingSteps.{held_on, stop, end_message};
 
     /// Nothing read, where so many messages may be open.
     pub fn new(alloc: Global, most: usize) -> Result<Framing, AllocError>
         requires room { most ≤ most_open }
         requires some { 1 ≤ most }
         ensures most { IfOk result (λ f. f.slots.slots.most ≡ most) }
-        ensures shows { IfOk result (λ f. (C : Table) (l : Listed) →
-            Shows C l (shown f) one.fresh) }
+        ensures shows { IfOk result (λ f. (C : Table) (l : RequestTable) →
+            Shows C l (framing_view f) one.fresh) }
         ensures ready { IfOk result (λ f. (C : Table) →
             AreReady C (f.totals.octets + 1) f.slots) }
     {
@@ -74,7 +74,7 @@ impl Framing {
             totals,
             stopped: None,
             header: ArrayVec::new(),
-            come: 0,
+            payload_count: 0,
             slots: Slots::new(alloc, most)?,
         })
     }
@@ -92,17 +92,17 @@ impl Framing {
         self.totals = totals;
         self.stopped = stopped;
         self.header.clear();
-        self.come = 0;
+        self.payload_count = 0;
         self.slots.clear();
     }
 
     /// The end of the reading, by the octet at this place: no header is held then, and no payload comes.
-    #[tactic(auto, unfolding(crate::specs::Steps::stop))]
+    #[tactic(auto, unfolding(crate::specs::FramingSteps::stop))]
     fn stop<O: Out>(&mut self, fault: StreamFault, place: u64, out: &mut O) -> Result<(), OutFault>
         requires place { self.old.totals.octets ≤ place }
         requires limit { place ≤ 2 ^ 48 + 1 }
         requires faults { self.old.totals.faults < 3 * place }
-        ensures state { OnOk result (shown self.new ≡ stop (shown self.old) fault place) }
+        ensures state { OnOk result (framing_view self.new ≡ stop (framing_view self.old) fault place) }
         ensures text { Writes result (O.log out.old) (O.log out.new) (stop_text fault place) }
         ensures most { self.new.slots.slots.most ≡ self.old.slots.slots.most }
     {
@@ -110,19 +110,19 @@ impl Framing {
         self.totals.faults += 1;
         self.stopped = Some(fault);
         self.header.clear();
-        self.come = 0;
+        self.payload_count = 0;
         stream_fault_line(out, fault, place)
     }
 
     /// Behind a message's last octet the next header comes.
-    #[tactic(auto, unfolding(crate::specs::Steps::settle))]
-    fn settle(&mut self, size: u32)
-        ensures state { shown self.new ≡ settle (shown self.old) size }
+    #[tactic(auto, unfolding(crate::specs::FramingSteps::end_message))]
+    fn end_message(&mut self, size: u32)
+        ensures state { framing_view self.new ≡ end_message (framing_view self.old) size }
         ensures most { self.new.slots.slots.most ≡ self.old.slots.slots.most }
     {
-        if self.come == size {
+        if self.payload_count == size {
             self.header.clear();
-            self.come = 0;
+            self.payload_count = 0;
         }
     }
 
@@ -132,7 +132,7 @@ impl Framing {
         ensures number { result.number ≡ self.now.totals.messages }
         ensures header { result.header ≡ self.now.header.items }
         ensures place { result.place ≡ self.now.totals.octets }
-        ensures come { result.come ≡ self.now.come }
+        ensures payload_count { result.payload_count ≡ self.now.payload_count }
     {
         let mut header = [0; 12];
         header.copy_from_slice(self.header.as_slice());
@@ -140,7 +140,7 @@ impl Framing {
             number: self.totals.messages,
             header,
             place: self.totals.octets,
-            come: self.come,
+            payload_count: self.payload_count,
         }
     }
 
@@ -153,10 +153,10 @@ impl Framing {
         requires faults { self.old.totals.faults + 3 ≤ 3 * self.old.totals.octets }
         requires ready { AreReady catalogue.now self.old.totals.octets self.old.slots }
         // It does the step of the octet that was held last.
-        ensures does { (l : Listed) (s : State) (m : Memory) (x : ℕ) →
+        ensures does { (l : RequestTable) (s : State) (m : FramingView) (x : ℕ) →
             IsReached catalogue.now l self.old.slots.slots.most s →
-            Shows catalogue.now l m s → shown self.old ≡ held_on m x →
-            Does catalogue.now l result (O.log out.old) (O.log out.new) (shown self.new)
+            Shows catalogue.now l m s → framing_view self.old ≡ held_on m x →
+            Does catalogue.now l result (O.log out.old) (O.log out.new) (framing_view self.new)
             (one.step (rules catalogue.now l self.old.slots.slots.most) s x) }
         ensures ready { OnOk result
             (AreReady catalogue.now (self.new.totals.octets + 1) self.new.slots) }
@@ -166,12 +166,12 @@ impl Framing {
         let now = self.current();
         let faults = dispatch::header(&mut self.slots, catalogue, now, out)?;
         self.totals.faults += u64::from(faults);
-        self.settle(size_of(&now.header));
+        self.end_message(size_of(&now.header));
         Ok(())
     }
 
     /// An octet of a header.
-    fn head<O: Out>(
+    fn header_octet<O: Out>(
         &mut self,
         catalogue: &Catalogue,
         octet: u8,
@@ -181,10 +181,10 @@ impl Framing {
         requires running { self.old.stopped ≡ None }
         requires limit { self.old.totals.octets < 2 ^ 48 }
         requires ready { AreReady catalogue.now (self.old.totals.octets + 1) self.old.slots }
-        ensures does { (l : Listed) (s : State) →
+        ensures does { (l : RequestTable) (s : State) →
             IsReached catalogue.now l self.old.slots.slots.most s →
-            Shows catalogue.now l (shown self.old) s →
-            Does catalogue.now l result (O.log out.old) (O.log out.new) (shown self.new)
+            Shows catalogue.now l (framing_view self.old) s →
+            Does catalogue.now l result (O.log out.old) (O.log out.new) (framing_view self.new)
             (one.step (rules catalogue.now l self.old.slots.slots.most) s octet) }
         ensures ready { OnOk result
             (AreReady catalogue.now (self.new.totals.octets + 1) self.new.slots) }
@@ -202,7 +202,7 @@ impl Framing {
     }
 
     /// An octet of a payload.
-    fn pay<O: Out>(
+    fn payload_octet<O: Out>(
         &mut self,
         catalogue: &Catalogue,
         requests: &Requests,
@@ -216,19 +216,19 @@ impl Framing {
         requires ready { AreReady catalogue.now (self.old.totals.octets + 1) self.old.slots }
         ensures does { (s : State) →
             IsReached catalogue.now requests.now self.old.slots.slots.most s →
-            Shows catalogue.now requests.now (shown self.old) s →
-            Does catalogue.now requests.now result (O.log out.old) (O.log out.new) (shown self.new)
+            Shows catalogue.now requests.now (framing_view self.old) s →
+            Does catalogue.now requests.now result (O.log out.old) (O.log out.new) (framing_view self.new)
             (one.step (rules catalogue.now requests.now self.old.slots.slots.most) s octet) }
         ensures ready { OnOk result
             (AreReady catalogue.now (self.new.totals.octets + 1) self.new.slots) }
         ensures most { self.new.slots.slots.most ≡ self.old.slots.slots.most }
     {
         self.totals.octets += 1;
-        self.come = self.come.saturating_add(1);
+        self.payload_count = self.payload_count.saturating_add(1);
         let now = self.current();
         let faults = dispatch::octet(&mut self.slots, catalogue, requests, octet, now, out)?;
         self.totals.faults += u64::from(faults);
-        self.settle(size_of(&now.header));
+        self.end_message(size_of(&now.header));
         Ok(())
     }
 
@@ -244,8 +244,8 @@ impl Framing {
         requires ready { AreReady catalogue.now (self.old.totals.octets + 1) self.old.slots }
         ensures does { (s : State) →
             IsReached catalogue.now requests.now self.old.slots.slots.most s →
-            Shows catalogue.now requests.now (shown self.old) s →
-            Does catalogue.now requests.now result (O.log out.old) (O.log out.new) (shown self.new)
+            Shows catalogue.now requests.now (framing_view self.old) s →
+            Does catalogue.now requests.now result (O.log out.old) (O.log out.new) (framing_view self.new)
             (one.step (rules catalogue.now requests.now self.old.slots.slots.most) s octet) }
         ensures ready { OnOk result
             (AreReady catalogue.now (self.new.totals.octets + 1) self.new.slots) }
@@ -258,9 +258,9 @@ impl Framing {
             return self.stop(StreamFault::StreamLimit, self.totals.octets + 1, out);
         }
         if self.header.len() < 12 {
-            self.head(catalogue, octet, out)
+            self.header_octet(catalogue, octet, out)
         } else {
-            self.pay(catalogue, requests, octet, out)
+            self.payload_octet(catalogue, requests, octet, out)
         }
     }
 }

@@ -3,7 +3,7 @@
 ghost use Rattle.std.specs.Prelude.{◌≡◌, ◌≤◌, ◌<◌, ◌+◌, ℕ, List, [], ◌∷◌, length, take, None, IsTrue};
 ghost use Rattle.giop_cdr.specs.Numbers.{little, num};
 ghost use Rattle.giop_message.specs.Headers.{has_more, size};
-ghost use Rattle.giop_stream.specs.Headers.{wrong};
+ghost use Rattle.giop_stream.specs.HeaderOctets.{wrong};
 
 use crate::fault::StreamFault;
 use giop_cdr::{Carry, Number, Order, Prim};
@@ -49,7 +49,7 @@ pub fn size_of(header: &[u8]) -> u32
 }
 
 /// What is wrong with the last octet of a header's front.
-#[tactic(auto, unfolding(crate::specs::Headers::wrong))]
+#[tactic(auto, unfolding(crate::specs::HeaderOctets::wrong))]
 pub fn wrong_in(front: &[u8]) -> Option<StreamFault>
     requires { length front.now ≤ 12 }
     ensures { result ≡ wrong front.now }
@@ -72,7 +72,7 @@ pub fn wrong_in(front: &[u8]) -> Option<StreamFault>
 }
 
 /// Whether no octet of a header's front is wrong; behind its first seven any may come.
-#[tactic(auto, unfolding(crate::specs::Headers::wrong))]
+#[tactic(auto, unfolding(crate::specs::HeaderOctets::wrong))]
 pub fn begins_right(front: &[u8]) -> bool
     requires { 7 ≤ length front.now }
     ensures { IsTrue result → (k : ℕ) → k < length front.now →

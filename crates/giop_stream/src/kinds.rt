@@ -5,7 +5,7 @@ ghost use Rattle.giop_message.specs.Headers.{may_be_fragmented, is_opener, is_fr
 ghost use Rattle.giop_stream.specs.Kinds.{may_be_cancelled, refused, is_short, is_followed};
 ghost use Rattle.giop_stream.specs.Events.{same_order};
 
-use crate::fault::ImposedFault;
+use crate::fault::FramingFault;
 use crate::header::{more_of, size_of};
 use giop_cdr::Order;
 use giop_message::{kind_of, minor_of};
@@ -76,16 +76,16 @@ pub fn may_be_cancelled(header: &[u8]) -> bool
 
 /// What a message is faulted for by its header alone.
 #[tactic(auto, unfolding(crate::specs::Kinds::refused))]
-pub fn refused(header: &[u8]) -> Option<ImposedFault>
+pub fn refused(header: &[u8]) -> Option<FramingFault>
     requires { length header.now ≡ 12 }
     ensures { result ≡ refused header.now }
 {
     let minor = minor_of(header);
     let kind = kind_of(header);
     if 7 < kind || (kind == 7 && minor == 0) {
-        Some(ImposedFault::MessageType)
+        Some(FramingFault::MessageType)
     } else if minor == 1 && (kind == 7 || (more_of(header) && may_be_fragmented(header))) {
-        Some(ImposedFault::OldFragment)
+        Some(FramingFault::OldFragment)
     } else {
         None
     }

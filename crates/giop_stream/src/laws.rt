@@ -3,7 +3,7 @@
 ghost use Rattle.std.specs.Prelude.{◌≡◌, ◌≤◌, ◌<◌, ◌==◌, ◌&&◌, ℕ, suc, List, [], ◌∷◌, ◌++◌, ◌*◌, length, filter, true, Some, None, slice_get, slice_set};
 ghost use Rattle.std.specs.List.{remove};
 ghost use Rattle.giop_checkpoint.specs.declared.fault.StreamFault.{StreamFault};
-ghost use Rattle.giop_message.specs.Reading.{Reading, IsCausal, IsEnding, IsInTurn};
+ghost use Rattle.giop_message.specs.MessageReader.{MessageReader, IsCausal, IsEnding, IsStreamable};
 ghost use Rattle.giop_stream.specs.Rules.{Rules};
 ghost use Rattle.giop_stream.specs.Framing.{cut, limit, messages};
 ghost use Rattle.giop_stream.specs.Events.{Event, Open, Opens, Continues, events, open_after, joined, Rising};
@@ -12,44 +12,44 @@ ghost use Rattle.giop_stream.specs.Lines.{Class, has_class, lines};
 ghost use Rattle.giop_stream.specs.Text.{lines_text};
 ghost use Rattle.giop_stream.specs.Stream.{text, tally, final, closing};
 ghost use Rattle.giop_stream.specs.Effects.{Tracked, tracked_at, octets_then, stays, goes, IsNotOpen, slots_at};
-ghost use Rattle.giop_stream.specs.Engine.{state_of};
-ghost use Rattle.giop_stream.specs.Step.{fresh, step, run, run_state, finish, final_totals};
+ghost use Rattle.giop_stream.specs.EngineState.{state_of};
+ghost use Rattle.giop_stream.specs.EngineStep.{fresh, step, run, run_state, finish, final_totals};
 
 // The functions here have no body, and are called for their contracts.
 
 /// What an event does to the slots of the open messages, in their places.
 pub fn each_slot()
     // An octet or a fault changes the slot of its message,
-    ensures stays { (R : Reading) (c : Tracked) (e : Event) (k : ℕ) (o : Open) →
-        stays e.what ≡ true → Rising c.live → slice_get c.live k ≡ Some o → e.whom ≡ o.opener →
+    ensures stays { (R : MessageReader) (c : Tracked) (e : Event) (k : ℕ) (o : Open) →
+        stays e.what ≡ true → Rising c.still_open → slice_get c.still_open k ≡ Some o → e.subject ≡ o.opener →
         slots_at (tracked_at R c e)
         ≡ slice_set (slots_at c) k
         (record { open_as = o; octets = octets_then R e (c.known o.opener.number) }) }
     // and none where that isn't open.
-    ensures own { (R : Reading) (c : Tracked) (e : Event) →
-        stays e.what ≡ true → IsNotOpen e.whom.number c.live →
+    ensures own { (R : MessageReader) (c : Tracked) (e : Event) →
+        stays e.what ≡ true → IsNotOpen e.subject.number c.still_open →
         slots_at (tracked_at R c e) ≡ slots_at c }
     // A close or a cancel takes the slot away,
-    ensures goes { (R : Reading) (c : Tracked) (e : Event) (k : ℕ) (o : Open) →
-        goes e.what ≡ true → Rising c.live → slice_get c.live k ≡ Some o → e.whom ≡ o.opener →
+    ensures goes { (R : MessageReader) (c : Tracked) (e : Event) (k : ℕ) (o : Open) →
+        goes e.what ≡ true → Rising c.still_open → slice_get c.still_open k ≡ Some o → e.subject ≡ o.opener →
         slots_at (tracked_at R c e) ≡ remove (slots_at c) k }
     // and none where the message isn't open.
-    ensures closes { (R : Reading) (c : Tracked) (e : Event) →
-        goes e.what ≡ true → IsNotOpen e.whom.number c.live →
+    ensures closes { (R : MessageReader) (c : Tracked) (e : Event) →
+        goes e.what ≡ true → IsNotOpen e.subject.number c.still_open →
         slots_at (tracked_at R c e) ≡ slots_at c }
     // A message that becomes open gets the last slot.
-    ensures opens { (R : Reading) (c : Tracked) (e : Event) (i : ℕ) →
-        e.what ≡ Opens i → IsNotOpen e.whom.number c.live →
-        (let o : Open = record { id = i; opener = e.whom } in
+    ensures opens { (R : MessageReader) (c : Tracked) (e : Event) (i : ℕ) →
+        e.what ≡ Opens i → IsNotOpen e.subject.number c.still_open →
+        (let o : Open = record { id = i; opener = e.subject } in
         slots_at (tracked_at R c e)
-        ≡ slots_at c ++ record { open_as = o; octets = c.known e.whom.number } ∷ []) }
+        ≡ slots_at c ++ record { open_as = o; octets = c.known e.subject.number } ∷ []) }
     // A Fragment that continues a message changes nothing.
-    ensures continues { (R : Reading) (c : Tracked) (e : Event) (n : ℕ) →
+    ensures continues { (R : MessageReader) (c : Tracked) (e : Event) (n : ℕ) →
         e.what ≡ Continues n → tracked_at R c e ≡ c }
     // What is kept of the event's message is that of its octets then; nothing else changes.
-    ensures kept { (R : Reading) (c : Tracked) (e : Event) →
-        (tracked_at R c e).known e.whom.number ≡ octets_then R e (c.known e.whom.number) }
-    ensures others { (R : Reading) (c : Tracked) (e : Event) (i : ℕ) → (i ≡ e.whom.number → ⊥) →
+    ensures kept { (R : MessageReader) (c : Tracked) (e : Event) →
+        (tracked_at R c e).known e.subject.number ≡ octets_then R e (c.known e.subject.number) }
+    ensures others { (R : MessageReader) (c : Tracked) (e : Event) (i : ℕ) → (i ≡ e.subject.number → ⊥) →
         (tracked_at R c e).known i ≡ c.known i }
     // The numbers of a stream's open messages rise.
     ensures rising { (most : ℕ) (p : List ℕ) → Rising (open_after most p) }
@@ -67,7 +67,7 @@ pub fn open_messages()
 {}
 
 /// Behind a stream fault no octet adds a line, and none is counted.
-pub fn behind_a_stop()
+pub fn after_a_stop()
     ensures text { (R : Rules) → IsCausal R.reading → (p q : List ℕ) (found : ℕ × StreamFault) →
         (cut p).stop ≡ Some found →
         text R (p ++ q) ≡ text R p }
@@ -78,7 +78,7 @@ pub fn behind_a_stop()
 
 /// No octet has two lines of one class.
 pub fn one_of_each()
-    ensures { (R : Rules) → IsCausal R.reading → IsInTurn R.reading →
+    ensures { (R : Rules) → IsCausal R.reading → IsStreamable R.reading →
         (p : List ℕ) (k : ℕ) (c : Class) →
         length (filter (λ l. (l.place == k) && has_class c l) (lines R p)) ≤ 1 }
 {}
@@ -86,18 +86,18 @@ pub fn one_of_each()
 /// What an engine holds of a stream goes by one step for each octet.
 pub fn each_step()
     ensures start { (R : Rules) → state_of R [] ≡ fresh }
-    ensures state { (R : Rules) → IsCausal R.reading → IsInTurn R.reading → (p : List ℕ) (x : ℕ) →
+    ensures state { (R : Rules) → IsCausal R.reading → IsStreamable R.reading → (p : List ℕ) (x : ℕ) →
         state_of R (p ++ x ∷ []) ≡ (step R (state_of R p) x).state }
-    ensures lines { (R : Rules) → IsCausal R.reading → IsInTurn R.reading → (p : List ℕ) (x : ℕ) →
+    ensures lines { (R : Rules) → IsCausal R.reading → IsStreamable R.reading → (p : List ℕ) (x : ℕ) →
         lines R (p ++ x ∷ []) ≡ lines R p ++ (step R (state_of R p) x).lines }
-    ensures text { (R : Rules) → IsCausal R.reading → IsInTurn R.reading → (p q : List ℕ) →
+    ensures text { (R : Rules) → IsCausal R.reading → IsStreamable R.reading → (p q : List ℕ) →
         text R (p ++ q) ≡ text R p ++ lines_text (run R (state_of R p) q) }
-    ensures rest { (R : Rules) → IsCausal R.reading → IsInTurn R.reading → (p q : List ℕ) →
+    ensures rest { (R : Rules) → IsCausal R.reading → IsStreamable R.reading → (p q : List ℕ) →
         state_of R (p ++ q) ≡ run_state R (state_of R p) q }
-    ensures closing { (R : Rules) → IsCausal R.reading → IsInTurn R.reading → IsEnding R.reading →
+    ensures closing { (R : Rules) → IsCausal R.reading → IsStreamable R.reading → IsEnding R.reading →
         (p : List ℕ) →
         closing R p ≡ finish (state_of R p) }
-    ensures totals { (R : Rules) → IsCausal R.reading → IsInTurn R.reading → (p : List ℕ) →
+    ensures totals { (R : Rules) → IsCausal R.reading → IsStreamable R.reading → (p : List ℕ) →
         final R p ≡ final_totals (state_of R p) }
 {}
 
@@ -108,13 +108,13 @@ pub fn counts_are_bounded()
     // and none where the stream has no fault.
     ensures free { (R : Rules) (p : List ℕ) → (cut p).stop ≡ None → (tally R p).octets ≤ limit }
     // Each message has a header of 12 octets.
-    ensures messages { (R : Rules) → IsCausal R.reading → IsInTurn R.reading → (p : List ℕ) →
+    ensures messages { (R : Rules) → IsCausal R.reading → IsStreamable R.reading → (p : List ℕ) →
         12 * (tally R p).messages ≤ (tally R p).octets }
     // Each message has one fault at most,
-    ensures faults { (R : Rules) → IsCausal R.reading → IsInTurn R.reading →
+    ensures faults { (R : Rules) → IsCausal R.reading → IsStreamable R.reading →
         (p : List ℕ) → (cut p).stop ≡ None →
         (tally R p).faults ≤ (tally R p).messages }
     // and the stream one, its stream fault or the truncated end.
-    ensures all_faults { (R : Rules) → IsCausal R.reading → IsInTurn R.reading → (p : List ℕ) →
+    ensures all_faults { (R : Rules) → IsCausal R.reading → IsStreamable R.reading → (p : List ℕ) →
         (final R p).faults ≤ suc (final R p).messages }
 {}

@@ -3,9 +3,9 @@
 ghost use Rattle.std.specs.Prelude.{◌≡◌, length};
 ghost use Rattle.giop_print.specs.Output.{Writes};
 ghost use Rattle.giop_print.specs.Lines.{fault_line};
-ghost use Rattle.giop_stream.specs.Text.{stream_word, start_line, stop_text, truncated_line, imposed_word};
+ghost use Rattle.giop_stream.specs.Text.{stream_word, start_line, stop_text, truncated_line, framing_fault_word};
 
-use crate::fault::{ImposedFault, StreamFault};
+use crate::fault::{FramingFault, StreamFault};
 use crate::header::{more_of, size_of};
 use giop_message::{kind_of, minor_of, order_of};
 use giop_print::{Out, OutFault};
@@ -40,31 +40,31 @@ pub fn start_line<O: Out>(out: &mut O, number: u64, header: &[u8]) -> Result<(),
 }
 
 /// The word of a fault that the stream imposes.
-fn imposed_word(fault: ImposedFault) -> &'static str
-    ensures { result.now ≡ imposed_word fault }
+fn framing_fault_word(fault: FramingFault) -> &'static str
+    ensures { result.now ≡ framing_fault_word fault }
 {
     match fault {
-        ImposedFault::MessageType => "message-type",
-        ImposedFault::OldFragment => "fragment-1.1",
-        ImposedFault::Short => "short",
-        ImposedFault::NoOpen => "no-open",
-        ImposedFault::IdOpen => "id-open",
-        ImposedFault::TooManyOpen => "too-many-open",
-        ImposedFault::FragmentOrder => "fragment-order",
+        FramingFault::MessageType => "message-type",
+        FramingFault::OldFragment => "fragment-1.1",
+        FramingFault::Short => "short",
+        FramingFault::NoOpen => "no-open",
+        FramingFault::IdOpen => "id-open",
+        FramingFault::TooManyOpen => "too-many-open",
+        FramingFault::FragmentOrder => "fragment-order",
     }
 }
 
 /// A fault that the stream imposes on a message, at a place.
-pub fn imposed_line<O: Out>(
+pub fn framing_fault_line<O: Out>(
     out: &mut O,
     number: u64,
-    fault: ImposedFault,
+    fault: FramingFault,
     place: u64,
 ) -> Result<(), OutFault>
     ensures { Writes result (O.log out.old) (O.log out.new)
-        (fault_line number (imposed_word fault) place) }
+        (fault_line number (framing_fault_word fault) place) }
 {
-    giop_print::fault_line(out, number, imposed_word(fault), place)
+    giop_print::fault_line(out, number, framing_fault_word(fault), place)
 }
 
 /// What ends the stream, at a place.

@@ -2,19 +2,19 @@
 
 ghost use Rattle.std.specs.Prelude.{◌≡◌, ℕ, List, ◌+◌, ◌<◌, ◌≤◌, ◌^◌, ◌*◌, length, drop, true, Option, Some, None, IfOk, IfErr, IfSome, IsSomeAnd, [], ◌∷◌, ◌++◌, flat_map, replicate};
 ghost use Rattle.giop_sig.specs.Table.{Table};
-ghost use Rattle.giop_message.specs.Holding.{Follows};
-ghost use Rattle.giop_message.specs.Signatures.{Listed};
+ghost use Rattle.giop_message.specs.MessageState.{Follows};
+ghost use Rattle.giop_message.specs.Signatures.{RequestTable};
 ghost use Rattle.giop_message.specs.Stored.{Stored};
-ghost use Rattle.giop_message.specs.declared.message.Message.{Message as Kept_message};
+ghost use Rattle.giop_message.specs.declared.message.Message.{Message as CodeMessage};
 ghost use Rattle.giop_checkpoint.specs.Records.{AreRecords, entry_octets, used};
 ghost use Rattle.giop_checkpoint.specs.Refusals.{IsOurs};
-ghost use Rattle.giop_checkpoint.specs.declared.record.Standing.TheVariants as standings;
+ghost use Rattle.giop_checkpoint.specs.declared.record.RecordKind.TheVariants as standings;
 ghost use Rattle.giop_stream.specs.Rules.{rules, most_open};
-ghost use Rattle.giop_stream.specs.State.{Slot as Held};
-ghost use Rattle.giop_stream.specs.Keeping.{AreReady, IsBare, IsReady};
-ghost use Rattle.giop_stream.specs.Shown.{shown};
-ghost use Rattle.giop_stream.specs.Engine.{state_of, Own};
-ghost use Rattle.giop_stream.specs.Showing.{Shows, IsOwn};
+ghost use Rattle.giop_stream.specs.OpenSlots.{Slot as Held};
+ghost use Rattle.giop_stream.specs.SlotsRepresent.{AreReady, IsBare, IsReady};
+ghost use Rattle.giop_stream.specs.FramingView.{framing_view};
+ghost use Rattle.giop_stream.specs.EngineState.{state_of, Own};
+ghost use Rattle.giop_stream.specs.ViewOfState.{Shows, IsOwn};
 ghost use Rattle.giop_stream.specs.Checkpoint.{counts_of, fixed_of, Allows, IsRefused, OrNoMemory, Spells};
 ghost use Rattle.giop_stream.specs.Reloading.{stop_in, header_in, come_in, comes_in, payload_of, pushed, IsOpenEntry, IsCurrentEntry, HasAdded, HasAddedFirst, AreLeft};
 
@@ -26,7 +26,7 @@ use crate::slots::{Payload, Slot, Slots};
 use crate::status::Totals;
 use arrayvec::ArrayVec;
 use giop_checkpoint::{
-    FirstRecord, Fixed, LoadFault, Place, Standing, StreamFault, first_record, fixed_part,
+    FirstRecord, Fixed, LoadFault, Place, RecordKind, StreamFault, first_record, fixed_part,
 };
 use giop_message::Message;
 use giop_sig::{Catalogue, Requests};
@@ -48,7 +48,7 @@ pub fn read(
     ensures again { (n : ℕ) (p : List ℕ) →
         Spells octets.now catalogue.now requests.now n p →
         OrNoMemory result (λ f. (f.slots.slots.most ≡ n)
-        × Shows catalogue.now requests.now (shown f)
+        × Shows catalogue.now requests.now (framing_view f)
         (state_of (rules catalogue.now requests.now n) p)) }
 {
     let (fixed, records) = match fixed_part(octets, counts_of(catalogue, requests)) {
@@ -73,11 +73,11 @@ fn framing_of(catalogue: &Catalogue, fixed: Fixed, records: &[u8], slots: Slots)
     requires lengths { AreRecords fixed.records records.now }
     ensures ready { IfSome result (λ f. AreReady catalogue.now (f.totals.octets + 1) f.slots) }
     ensures most { IfSome result (λ f. f.slots.slots.most ≡ fixed.most_open) }
-    ensures again { (l : Listed) (n : ℕ) (octets p : List ℕ)
+    ensures again { (l : RequestTable) (n : ℕ) (octets p : List ℕ)
         (s : Spells octets catalogue.now l n p) →
         fixed ≡ fixed_of catalogue.now l s.memory →
         records.now ≡ flat_map entry_octets s.entries →
-        IsSomeAnd result (λ f. Shows catalogue.now l (shown f)
+        IsSomeAnd result (λ f. Shows catalogue.now l (framing_view f)
         (state_of (rules catalogue.now l n) p)) }
 {
     let mut slots = slots;
@@ -91,7 +91,7 @@ fn framing_of(catalogue: &Catalogue, fixed: Fixed, records: &[u8], slots: Slots)
         octets: fixed.octets,
     };
     let stopped = stop_of(&fixed.place);
-    let (header, come) = header_of(fixed.place);
+    let (header, payload_count) = header_of(fixed.place);
     if !may_be(totals, stopped, header.len()) {
         return None;
     }
@@ -99,7 +99,7 @@ fn framing_of(catalogue: &Catalogue, fixed: Fixed, records: &[u8], slots: Slots)
         totals,
         stopped,
         header,
-        come,
+        payload_count,
         slots,
     })
 }
@@ -133,13 +133,13 @@ fn stop_of(place: &Place) -> Option<StreamFault>
 /// The header octets that have come, and the payload octets.
 fn header_of(place: Place) -> (ArrayVec<u8, 12>, u32)
     ensures header { result.0.items ≡ header_in place }
-    ensures come { result.1 ≡ come_in place }
+    ensures payload_count { result.1 ≡ come_in place }
 {
     match place {
         Place::Header(held) => (held_of(held.as_slice()), 0),
         Place::Payload { header, left } => {
-            let come = size_of(&header).saturating_sub(left);
-            (held_of(&header), come)
+            let payload_count = size_of(&header).saturating_sub(left);
+            (held_of(&header), payload_count)
         }
         Place::Stopped(_) => (ArrayVec::new(), 0),
     }
@@ -195,7 +195,7 @@ fn add_all(
     requires ready { AreReady catalogue.now (octets + 1) slots.old }
     ensures ready { result ≡ true → AreReady catalogue.now (octets + 1) slots.new }
     ensures none { count ≡ 0 → (result ≡ true) × (slots.new ≡ slots.old) }
-    ensures again { (l : Listed) (held : List Held) (own : Option Own) →
+    ensures again { (l : RequestTable) (held : List Held) (own : Option Own) →
         AreLeft catalogue.now l (octets + 1) count records.now held own →
         length slots.old.slots.entries + length held ≤ slots.old.slots.most → slots.old.own ≡ None →
         (result ≡ true) × HasAdded catalogue.now l slots.old slots.new held
@@ -225,7 +225,7 @@ fn add_first<'a>(
     requires ready { AreReady catalogue.now (octets + 1) slots.old }
     ensures ready { IfSome result (λ rest. AreReady catalogue.now (octets + 1) slots.new) }
     ensures rest { IfSome result (λ rest. rest.now ≡ drop (used records.now) records.now) }
-    ensures again { (l : Listed) (count : ℕ) (held : List Held) (own : Option Own) →
+    ensures again { (l : RequestTable) (count : ℕ) (held : List Held) (own : Option Own) →
         (count ≡ 0 → ⊥) → AreLeft catalogue.now l (octets + 1) count records.now held own →
         length slots.old.slots.entries + length held ≤ slots.old.slots.most →
         IsSomeAnd result (λ rest. HasAddedFirst catalogue.now l (octets + 1) count
@@ -246,21 +246,21 @@ fn add(slots: &mut Slots, catalogue: &Catalogue, octets: u64, first: &FirstRecor
     requires range { octets ≤ 2 ^ 48 + 1 }
     requires ready { AreReady catalogue.now (octets + 1) slots.old }
     ensures ready { result ≡ true → AreReady catalogue.now (octets + 1) slots.new }
-    ensures one_open { (l : Listed) (held : Held) →
+    ensures one_open { (l : RequestTable) (held : Held) →
         IsOpenEntry catalogue.now l (octets + 1) first.now held →
         length slots.old.slots.entries < slots.old.slots.most →
         (result ≡ true) × HasAdded catalogue.now l slots.old slots.new (held ∷ [])
         × (slots.new.own ≡ slots.old.own) }
-    ensures one_current { (l : Listed) (own : Own) →
+    ensures one_current { (l : RequestTable) (own : Own) →
         IsCurrentEntry catalogue.now l (octets + 1) first.now own →
         (result ≡ true) × (slots.new.slots ≡ slots.old.slots)
         × IsOwn catalogue.now l slots.new.own (Some own) }
     ensures most { slots.new.slots.most ≡ slots.old.slots.most }
 {
-    match first.record.standing {
-        Standing::Current => add_current(slots, catalogue, octets, first),
-        Standing::Open(id) => add_open(slots, catalogue, octets, first, id),
-        Standing::Over(id) => add_over(slots, first, id),
+    match first.record.record_kind {
+        RecordKind::Current => add_current(slots, catalogue, octets, first),
+        RecordKind::Open(id) => add_open(slots, catalogue, octets, first, id),
+        RecordKind::Over(id) => add_over(slots, first, id),
     }
 }
 
@@ -275,7 +275,7 @@ fn add_current(
     requires ready { AreReady catalogue.now (octets + 1) slots.old }
     ensures ready { result ≡ true → AreReady catalogue.now (octets + 1) slots.new }
     ensures same { slots.new.slots ≡ slots.old.slots }
-    ensures again { (l : Listed) (own : Own) →
+    ensures again { (l : RequestTable) (own : Own) →
         IsCurrentEntry catalogue.now l (octets + 1) first.now own →
         (result ≡ true) × IsOwn catalogue.now l slots.new.own (Some own) }
     ensures most { slots.new.slots.most ≡ slots.old.slots.most }
@@ -296,9 +296,9 @@ fn add_open(
     requires ready { AreReady catalogue.now (octets + 1) slots.old }
     ensures ready { result ≡ true → AreReady catalogue.now (octets + 1) slots.new }
     ensures own { slots.new.own ≡ slots.old.own }
-    ensures again { (l : Listed) (held : Held) →
+    ensures again { (l : RequestTable) (held : Held) →
         IsOpenEntry catalogue.now l (octets + 1) first.now held →
-        first.now.record.standing ≡ standings.Open id →
+        first.now.record.record_kind ≡ standings.Open id →
         length slots.old.slots.entries < slots.old.slots.most →
         (result ≡ true) × HasAdded catalogue.now l slots.old slots.new (held ∷ []) }
     ensures most { slots.new.slots.most ≡ slots.old.slots.most }
@@ -311,9 +311,9 @@ fn add_open(
 fn add_over(slots: &mut Slots, first: &FirstRecord<'_>, id: u32) -> bool
     ensures ready { (C : Table) (n : ℕ) → AreReady C n slots.old → AreReady C n slots.new }
     ensures own { slots.new.own ≡ slots.old.own }
-    ensures again { (C : Table) (l : Listed) (n : ℕ) (held : Held) →
+    ensures again { (C : Table) (l : RequestTable) (n : ℕ) (held : Held) →
         IsOpenEntry C l n first.now held →
-        first.now.record.standing ≡ standings.Over id →
+        first.now.record.record_kind ≡ standings.Over id →
         length slots.old.slots.entries < slots.old.slots.most →
         (result ≡ true) × HasAdded C l slots.old slots.new (held ∷ []) }
     ensures most { slots.new.slots.most ≡ slots.old.slots.most }
@@ -345,7 +345,7 @@ fn push(slots: &mut Slots, first: &FirstRecord<'_>, id: u32, message: Option<Mes
 /// The message of a record, where that is one, of no more octets than the stream has.
 fn message_of(catalogue: &Catalogue, octets: u64, first: &FirstRecord<'_>) -> Option<Message>
     ensures ready { IsReady catalogue.now (octets + 1) result }
-    ensures again { (m : Kept_message) (l : Listed) (n : ℕ) (h xs : List ℕ) →
+    ensures again { (m : CodeMessage) (l : RequestTable) (n : ℕ) (h xs : List ℕ) →
         IsReady catalogue.now (octets + 1) (Some m) →
         m.number ≡ first.now.record.number → m.header ≡ first.now.record.header →
         Stored m first.now.message first.now.frames.now → Follows catalogue.now l n h m xs →

@@ -9,17 +9,17 @@ ghost use Rattle.giop_sig.specs.Table.{Table};
 ghost use Rattle.giop_checkpoint.specs.declared.layout.Layout.TheVariants.{Third};
 ghost use Rattle.giop_checkpoint.specs.Layouts.{OpenHasRange};
 ghost use Rattle.giop_checkpoint.specs.Fixed.{fixed_octets};
-ghost use Rattle.giop_message.specs.Holding.{Fits};
+ghost use Rattle.giop_message.specs.MessageState.{Fits};
 ghost use Rattle.giop_stream.specs.Rules.{most_open};
-ghost use Rattle.giop_stream.specs.Keeping.{AreReady, IsReady};
-ghost use Rattle.giop_stream.specs.Shown.{shown};
-ghost use Rattle.giop_stream.specs.Checkpoint.{counts_of, place_of, owner_of, count_own, fixed_of, IsOpen, IsKept, IsPutOne, AreOpen, IsPut, IsPutWhole, Puts, PutsSuch};
+ghost use Rattle.giop_stream.specs.SlotsRepresent.{AreReady, IsReady};
+ghost use Rattle.giop_stream.specs.FramingView.{framing_view};
+ghost use Rattle.giop_stream.specs.Checkpoint.{counts_of, place_of, owner_of, count_own, fixed_of, IsOpen, IsMessageRecord, IsPutOne, AreOpen, IsPut, IsPutWhole, Puts, PutsSuch};
 
 use crate::framing::Framing;
 use crate::header::size_of;
 use crate::slots::{Payload, Slot, Slots};
 use arrayvec::ArrayVec;
-use giop_checkpoint::{Counts, FRAME_SIZE, Fixed, MESSAGE_SIZE, Place, Record, Standing};
+use giop_checkpoint::{Counts, FRAME_SIZE, Fixed, MESSAGE_SIZE, Place, Record, RecordKind};
 use giop_message::Message;
 use giop_octets::{put_octets, put_zeros};
 use giop_print::{Out, OutFault, put_all};
@@ -34,8 +34,8 @@ pub fn write<O: Out>(
 ) -> Result<u64, OutFault>
     requires ready { AreReady catalogue.now (framing.now.totals.octets + 1) framing.now.slots }
     ensures whole { PutsSuch result (O.log out.old) (O.log out.new)
-        (IsPutWhole Third catalogue.now requests.now (shown framing.now)) }
-    ensures long { let f = fixed_of catalogue.now requests.now (shown framing.now) in
+        (IsPutWhole Third catalogue.now requests.now (framing_view framing.now)) }
+    ensures long { let f = fixed_of catalogue.now requests.now (framing_view framing.now) in
         length (fixed_octets Third f) ≡ 96 }
     ensures allows { OpenHasRange Third framing.now.slots.slots.most }
 {
@@ -48,7 +48,7 @@ pub fn write<O: Out>(
     };
     let (number, header) = (message.number(), message.header());
     let mut record: ArrayVec<u8, 832> = ArrayVec::new();
-    write_message(Standing::Current, number, header, message, &mut record);
+    write_message(RecordKind::Current, number, header, message, &mut record);
     put_next(written, record.as_slice(), out)
 }
 
@@ -73,7 +73,7 @@ fn put_next<O: Out>(
 /// The fixed part.
 #[tactic(auto, unfolding(crate::specs::Checkpoint::fixed_of))]
 fn fixed_part(framing: &Framing, catalogue: &Catalogue, requests: &Requests) -> Fixed
-    ensures { result ≡ fixed_of catalogue.now requests.now (shown framing.now) }
+    ensures { result ≡ fixed_of catalogue.now requests.now (framing_view framing.now) }
 {
     Fixed {
         counts: counts_of(catalogue, requests),
@@ -111,7 +111,7 @@ fn records_of(slots: &Slots) -> u32
 
 /// Where the next octet stands.
 fn place_of(framing: &Framing) -> Place
-    ensures { result ≡ place_of framing.now.stopped framing.now.header.items framing.now.come }
+    ensures { result ≡ place_of framing.now.stopped framing.now.header.items framing.now.payload_count }
 {
     if let Some(fault) = framing.stopped {
         return Place::Stopped(fault);
@@ -123,7 +123,7 @@ fn place_of(framing: &Framing) -> Place
     header.copy_from_slice(framing.header.as_slice());
     Place::Payload {
         header,
-        left: size_of(&header).saturating_sub(framing.come),
+        left: size_of(&header).saturating_sub(framing.payload_count),
     }
 }
 
@@ -185,13 +185,13 @@ fn write_slot(id: u32, slot: &Slot, out: &mut ArrayVec<u8, 832>)
 {
     match &slot.message {
         Some(message) => {
-            let open = Standing::Open(id);
+            let open = RecordKind::Open(id);
             write_message(open, slot.number, slot.header, message, out);
         }
         None => {
             let record = Record {
                 frames: 0,
-                standing: Standing::Over(id),
+                record_kind: RecordKind::Over(id),
                 number: slot.number,
                 header: slot.header,
             };
@@ -203,7 +203,7 @@ fn write_slot(id: u32, slot: &Slot, out: &mut ArrayVec<u8, 832>)
 
 /// Writes the record of a message that isn't over.
 fn write_message(
-    standing: Standing,
+    record_kind: RecordKind,
     number: u64,
     header: [u8; 12],
     message: &Message,
@@ -211,14 +211,14 @@ fn write_message(
 )
     requires room { array_vec_len out.old + 832 ≤ 832 }
     ensures put { (C : Table) → Fits C message.now →
-        IsPutOne out.old.items out.new.items (IsKept standing number header message.now) }
+        IsPutOne out.old.items out.new.items (IsMessageRecord record_kind number header message.now) }
     ensures len { array_vec_len out.new ≤ array_vec_len out.old + 832 }
 {
     let (mut fixed, mut frames) = ([0; 224], [0; 576]);
     let count = message.store(&mut fixed, &mut frames);
     let record = Record {
         frames: count,
-        standing,
+        record_kind,
         number,
         header,
     };

@@ -3,17 +3,17 @@
 ghost use Rattle.std.specs.Prelude.{◌≡◌, ◌+◌, ◌≤◌, ◌^◌, ℕ, [], length, Option, Some, None, OnOk, IfOk, if◌then◌else◌};
 ghost use Rattle.giop_print.specs.Output.{Writes};
 ghost use Rattle.giop_sig.specs.Table.{Table};
-ghost use Rattle.giop_message.specs.Signatures.{Listed};
-ghost use Rattle.giop_message.specs.Holding.{AreOf};
-ghost use Rattle.giop_stream.specs.Events.{Title, Imposed, Closes};
+ghost use Rattle.giop_message.specs.Signatures.{RequestTable};
+ghost use Rattle.giop_message.specs.MessageState.{AreOf};
+ghost use Rattle.giop_stream.specs.Events.{MessageKey, Faults, Closes};
 ghost use Rattle.giop_stream.specs.Rules.{most_open};
 ghost use Rattle.giop_stream.specs.Effects.{Tracked, IsNotOpen};
 
-use crate::fault::ImposedFault;
-use crate::kept::{give, impose, shut};
+use crate::fault::FramingFault;
+use crate::open_message::{close_message, fault_message, take_octets};
+use giop_entry_table::EntryTable;
 use giop_message::Message;
 use giop_print::{Out, OutFault, cancelled_line, unfinished_line};
-use giop_roster::Roster;
 use giop_sig::{Catalogue, Requests};
 use std::alloc::{AllocError, Global};
 
@@ -43,7 +43,7 @@ pub enum Payload {
 /// The open messages, and the message whose payload comes where it isn't one of them.
 #[derive(Drop)]
 pub struct Slots {
-    pub slots: Roster<Slot>,
+    pub slots: EntryTable<Slot>,
     pub own: Option<Message>,
     pub payload: Payload,
 }
@@ -54,13 +54,13 @@ impl Slots {
     ghost use Rattle.giop_print.specs.Lines.{unfinished_line};
     ghost use Rattle.giop_stream.specs.declared.slots.Payload.TheVariants as Payload;
     ghost use Rattle.giop_stream.specs.Events.{Open, Opens, Cancelled, Rising};
-    ghost use Rattle.giop_message.specs.Signatures.{said_by};
-    ghost use Rattle.giop_message.specs.Messages.{message, told_of};
-    ghost use Rattle.giop_message.specs.MessageReading.{id_said};
-    ghost use Rattle.giop_stream.specs.Keeping.{AreSlots, IsKept, Keeps, AreReady, IsBare, effect_to};
-    ghost use Rattle.giop_stream.specs.Performs.{TakesEffect, one_if, never};
-    ghost use Rattle.giop_stream.specs.State.{Slot as Held, left_open};
-    ghost use Rattle.giop_stream.specs.Runs.{run_effect};
+    ghost use Rattle.giop_message.specs.Signatures.{signatures_of};
+    ghost use Rattle.giop_message.specs.Messages.{message, message_lines};
+    ghost use Rattle.giop_message.specs.ReaderOfTable.{first_request_id};
+    ghost use Rattle.giop_stream.specs.SlotsRepresent.{AreSlots, RepresentsMessage, SlotsRepresent, AreReady, IsBare, effect_to};
+    ghost use Rattle.giop_stream.specs.DoesEffect.{DoesEffect, one_if, never};
+    ghost use Rattle.giop_stream.specs.OpenSlots.{Slot as Held, left_open};
+    ghost use Rattle.giop_stream.specs.PayloadRuns.{run_effect};
 
     /// No message, where so many may be open.
     pub fn new(alloc: Global, most: usize) -> Result<Slots, AllocError>
@@ -70,7 +70,7 @@ impl Slots {
         ensures ready { IfOk result (λ slots. (C : Table) (n : ℕ) → AreReady C n slots) }
     {
         Ok(Slots {
-            slots: Roster::new(alloc, most)?,
+            slots: EntryTable::new(alloc, most)?,
             own: None,
             payload: Payload::Nobody,
         })
@@ -112,7 +112,7 @@ impl Slots {
 
     /// The open messages that have neither ended nor been faulted, by number.
     pub fn unfinished<O: Out>(&self, out: &mut O) -> Result<(), OutFault>
-        ensures { (C : Table) (l : Listed) (slots : List Held) →
+        ensures { (C : Table) (l : RequestTable) (slots : List Held) →
             AreSlots C l self.now.slots.entries slots →
             Writes result (O.log out.old) (O.log out.new)
             (flat_map unfinished_line (flat_map left_open slots)) }
@@ -139,18 +139,20 @@ impl Slots {
         requires ready { AreReady catalogue.now (before + 1) self.old }
         requires of { AreOf catalogue.now requests.now }
         requires limit { before + length octets.now ≤ 2 ^ 48 }
-        ensures does { (c : Tracked) (whose : Option Title) →
-            Keeps catalogue.now requests.now self.old c whose → Rising c.live →
-            TakesEffect catalogue.now requests.now one_if result (O.log out.old) (O.log out.new)
-            self.new (run_effect catalogue.now requests.now before c whose octets.now) whose }
+        ensures does { (c : Tracked) (owner_of_next : Option MessageKey) →
+            SlotsRepresent catalogue.now requests.now self.old c owner_of_next → Rising c.still_open →
+            DoesEffect catalogue.now requests.now one_if result (O.log out.old) (O.log out.new)
+            self.new (run_effect catalogue.now requests.now before c owner_of_next octets.now) owner_of_next }
         ensures ready { OnOk result
             (AreReady catalogue.now (before + length octets.now + 1) self.new) }
         ensures most { self.new.slots.most ≡ self.old.slots.most }
     {
         match self.payload {
-            Payload::Own => give(&mut self.own, catalogue, requests, octets, before, out),
+            Payload::Own => take_octets(&mut self.own, catalogue, requests, octets, before, out),
             Payload::Open(k) => match self.slots.get_mut(k) {
-                Some(slot) => { give(&mut slot.message, catalogue, requests, octets, before, out) }
+                Some(slot) => {
+                    take_octets(&mut slot.message, catalogue, requests, octets, before, out)
+                }
                 None => Ok(false),
             },
             Payload::Nobody => Ok(false),
@@ -158,24 +160,24 @@ impl Slots {
     }
 
     /// Faults the message whose the payload is, unless it is over; says whether it does.
-    pub fn impose<O: Out>(
+    pub fn fault_message<O: Out>(
         &mut self,
         number: u64,
-        fault: ImposedFault,
+        fault: FramingFault,
         place: u64,
         out: &mut O,
     ) -> Result<bool, OutFault>
-        ensures does { (C : Table) (l : Listed) (c : Tracked) (w : Title) →
-            Keeps C l self.old c (Some w) → w.number ≡ number → Rising c.live →
-            TakesEffect C l one_if result (O.log out.old) (O.log out.new) self.new
-            (effect_to C l place c (Some w) (Imposed fault)) (Some w) }
+        ensures does { (C : Table) (l : RequestTable) (c : Tracked) (w : MessageKey) →
+            SlotsRepresent C l self.old c (Some w) → w.number ≡ number → Rising c.still_open →
+            DoesEffect C l one_if result (O.log out.old) (O.log out.new) self.new
+            (effect_to C l place c (Some w) (Faults fault)) (Some w) }
         ensures ready { (C : Table) (n : ℕ) → AreReady C n self.old → AreReady C n self.new }
         ensures most { self.new.slots.most ≡ self.old.slots.most }
     {
         match self.payload {
-            Payload::Own => impose(&mut self.own, number, fault, place, out),
+            Payload::Own => fault_message(&mut self.own, number, fault, place, out),
             Payload::Open(k) => match self.slots.get_mut(k) {
-                Some(slot) => impose(&mut slot.message, slot.number, fault, place, out),
+                Some(slot) => fault_message(&mut slot.message, slot.number, fault, place, out),
                 None => Ok(false),
             },
             Payload::Nobody => Ok(false),
@@ -190,19 +192,19 @@ impl Slots {
         out: &mut O,
     ) -> Result<bool, OutFault>
         requires ready { AreReady catalogue.now (place + 1) self.old }
-        ensures does { (l : Listed) (c : Tracked) (whose : Option Title) →
-            Keeps catalogue.now l self.old c whose → Rising c.live →
-            TakesEffect catalogue.now l one_if result (O.log out.old) (O.log out.new) self.new
-            (effect_to catalogue.now l place c whose Closes) None }
+        ensures does { (l : RequestTable) (c : Tracked) (owner_of_next : Option MessageKey) →
+            SlotsRepresent catalogue.now l self.old c owner_of_next → Rising c.still_open →
+            DoesEffect catalogue.now l one_if result (O.log out.old) (O.log out.new) self.new
+            (effect_to catalogue.now l place c owner_of_next Closes) None }
         ensures ready { AreReady catalogue.now (place + 1) self.new }
         ensures most { self.new.slots.most ≡ self.old.slots.most }
     {
         let payload = self.payload;
         self.payload = Payload::Nobody;
         match payload {
-            Payload::Own => shut(self.own.take(), catalogue, place, out),
+            Payload::Own => close_message(self.own.take(), catalogue, place, out),
             Payload::Open(k) => match self.slots.take(k) {
-                Some(entry) => shut(entry.value.message, catalogue, place, out),
+                Some(entry) => close_message(entry.value.message, catalogue, place, out),
                 None => Ok(false),
             },
             Payload::Nobody => Ok(false),
@@ -219,10 +221,10 @@ impl Slots {
     /// Makes the message whose payload comes an open one.
     pub fn open(&mut self, number: u64, header: [u8; 12], id: u32)
         requires { length self.old.slots.entries < self.old.slots.most }
-        ensures kept { (C : Table) (l : Listed) (c : Tracked) (w : Title) (place : ℕ) →
-            Keeps C l self.old c (Some w) → self.old.payload ≡ Payload.Own →
+        ensures kept { (C : Table) (l : RequestTable) (c : Tracked) (w : MessageKey) (place : ℕ) →
+            SlotsRepresent C l self.old c (Some w) → self.old.payload ≡ Payload.Own →
             w.number ≡ number → w.header ≡ header →
-            Keeps C l self.new (effect_to C l place c (Some w) (Opens id)).tracked (Some w) }
+            SlotsRepresent C l self.new (effect_to C l place c (Some w) (Opens id)).tracked (Some w) }
         ensures ready { (C : Table) (n : ℕ) → AreReady C n self.old → AreReady C n self.new }
         ensures most { self.new.slots.most ≡ self.old.slots.most }
     {
@@ -237,10 +239,10 @@ impl Slots {
     }
 
     /// The payload is of the open message at this place, from now on.
-    pub fn pass_on(&mut self, k: usize)
-        ensures kept { (C : Table) (l : Listed) (c : Tracked) (whose : Option Title) (o : Open) →
-            Keeps C l self.old c whose → slice_get c.live k ≡ Some o →
-            Keeps C l self.new c (Some o.opener) }
+    pub fn set_open_owner(&mut self, k: usize)
+        ensures kept { (C : Table) (l : RequestTable) (c : Tracked) (owner_of_next : Option MessageKey) (o : Open) →
+            SlotsRepresent C l self.old c owner_of_next → slice_get c.still_open k ≡ Some o →
+            SlotsRepresent C l self.new c (Some o.opener) }
         ensures ready { (C : Table) (n : ℕ) → AreReady C n self.old → AreReady C n self.new }
         ensures most { self.new.slots.most ≡ self.old.slots.most }
     {
@@ -249,9 +251,9 @@ impl Slots {
     }
 
     /// The payload is no message's, from now on.
-    pub fn lose(&mut self)
-        ensures kept { (C : Table) (l : Listed) (c : Tracked) (whose : Option Title) →
-            Keeps C l self.old c whose → Keeps C l self.new c None }
+    pub fn set_no_owner(&mut self)
+        ensures kept { (C : Table) (l : RequestTable) (c : Tracked) (owner_of_next : Option MessageKey) →
+            SlotsRepresent C l self.old c owner_of_next → SlotsRepresent C l self.new c None }
         ensures ready { (C : Table) (n : ℕ) → AreReady C n self.old → AreReady C n self.new }
         ensures most { self.new.slots.most ≡ self.old.slots.most }
     {
@@ -263,10 +265,10 @@ impl Slots {
 
     /// A message begins.
     pub fn begin(&mut self, catalogue: &Catalogue, number: u64, header: [u8; 12])
-        ensures kept { (l : Listed) (c : Tracked) (whose : Option Title) (w : Title) →
-            Keeps catalogue.now l self.old c whose → w.number ≡ number → w.header ≡ header →
-            c.known w.number ≡ Some [] → IsNotOpen w.number c.live →
-            Keeps catalogue.now l self.new c (Some w) }
+        ensures kept { (l : RequestTable) (c : Tracked) (owner_of_next : Option MessageKey) (w : MessageKey) →
+            SlotsRepresent catalogue.now l self.old c owner_of_next → w.number ≡ number → w.header ≡ header →
+            c.known w.number ≡ Some [] → IsNotOpen w.number c.still_open →
+            SlotsRepresent catalogue.now l self.new c (Some w) }
         ensures ready { (n : ℕ) → AreReady catalogue.now n self.old → 12 < n →
             AreReady catalogue.now n self.new }
         ensures most { self.new.slots.most ≡ self.old.slots.most }
@@ -277,9 +279,9 @@ impl Slots {
 
     /// The request id of the message whose payload comes, once its own octets have brought it.
     pub fn request_id(&self) -> u32
-        ensures { (C : Table) (l : Listed) (w : Title) (xs : List ℕ) (i : ℕ) →
-            IsKept C l self.now.own w (Some xs) →
-            id_said (told_of (message (said_by C l) w.header xs)) ≡ Some i → result ≡ i }
+        ensures { (C : Table) (l : RequestTable) (w : MessageKey) (xs : List ℕ) (i : ℕ) →
+            RepresentsMessage C l self.now.own w (Some xs) →
+            first_request_id (message_lines (message (signatures_of C l) w.header xs)) ≡ Some i → result ≡ i }
     {
         match &self.own {
             Some(message) => message.request_id().unwrap_or(0),
@@ -303,10 +305,10 @@ impl Slots {
         place: u64,
         out: &mut O,
     ) -> Result<(), OutFault>
-        ensures does { (C : Table) (l : Listed) (c : Tracked) (w : Title) (o : Open) →
-            Keeps C l self.old c (Some w) → self.old.payload ≡ Payload.Own →
-            slice_get c.live k ≡ Some o → Rising c.live →
-            TakesEffect C l never result (O.log out.old) (O.log out.new) self.new
+        ensures does { (C : Table) (l : RequestTable) (c : Tracked) (w : MessageKey) (o : Open) →
+            SlotsRepresent C l self.old c (Some w) → self.old.payload ≡ Payload.Own →
+            slice_get c.still_open k ≡ Some o → Rising c.still_open →
+            DoesEffect C l never result (O.log out.old) (O.log out.new) self.new
             (effect_to C l place c (Some o.opener) (Cancelled by)) (Some w) }
         ensures ready { (C : Table) (n : ℕ) → AreReady C n self.old → AreReady C n self.new }
         ensures most { self.new.slots.most ≡ self.old.slots.most }

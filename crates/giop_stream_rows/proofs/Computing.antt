@@ -16,26 +16,26 @@ use Rattle.giop_decode.specs.Pieces.{block, number}
 use Rattle.giop_decode.specs.Spelling.{path_text}
 use Rattle.giop_message.specs.Headers.{minor, kind, order, has_more, size, may_be_fragmented, is_opener, is_fragment, is_cancel}
 use Rattle.giop_message.specs.Text.{said_line, value_said, call_text, rest_text}
-use Rattle.giop_message.specs.Signatures.{said_by}
+use Rattle.giop_message.specs.Signatures.{signatures_of}
 use Rattle.giop_message.specs.Messages as one
-use Rattle.giop_message.specs.Messages.{tell, is_shown, call_of, calls, with_front, passes, rest_in, rest, typed, option_typed, members_of, after_exception, body, type_if, request_body, result_body, reply_body, is_request, body_of, has_body, padded, after_header, of_header, message, may_lack, close, told_of, stage_of}
-use Rattle.giop_message.specs.MessageReading.{saying_of, text_of, reading_by}
-use Rattle.giop_stream.specs.Headers.{fronts, wrong, first_wrong, offence}
+use Rattle.giop_message.specs.Messages.{line_at, is_shown, call_of, calls, with_front, section_then, rest_in, rest, typed, option_typed, members_of, after_exception, body, type_if, request_body, result_body, reply_body, is_request, body_of, has_body, padded, after_header, of_header, message, body_may_be_missing, close, message_lines, stage_of}
+use Rattle.giop_message.specs.ReaderOfTable.{line_class_of, text_of, reader_by}
+use Rattle.giop_stream.specs.HeaderOctets.{fronts, wrong, first_wrong, first_wrong_octet}
 use Rattle.giop_stream.specs.Framing.{with_first, cut_from, limit, limited, cut, messages, read_of}
 use Rattle.giop_stream.specs.Kinds.{may_be_cancelled, refused}
-use Rattle.giop_stream.specs.Events.{place, own, about, id, opener_of, has_named, goes_past, happens, events_of, changed, opened, events_from, events, open_after, octet, joined, header_acts, octet_acts, id_acts, end_acts}
-use Rattle.giop_stream.specs.Lines.{classes, line, tells, told, by_class, in_order, is_last_of, standing, said, stop_line, lines}
+use Rattle.giop_stream.specs.Events.{place, own, event_of_open, id, opener_of, has_named, goes_past, events_of_octet, events_of, changed, opened, events_from, events, open_after, octet, joined, header_events, payload_events, request_id_events, message_end_events}
+use Rattle.giop_stream.specs.Lines.{classes, line, lines_of_event, lines_of_events, by_class, in_order, is_last_of, up_to_last_line, lines_of_messages, stop_line, lines}
 use Rattle.giop_stream.specs.Text.{start_line, lines_text}
-use Rattle.giop_stream.specs.Stream.{text, start_count, fault_count, tally, is_inside, is_truncated, is_over, heads, unfinished, final, closing}
+use Rattle.giop_stream.specs.Stream.{text, start_count, fault_count, tally, is_inside, is_truncated, is_over, first_messages, unfinished, final, closing}
 use Rattle.giop_checkpoint.specs.declared.fault.StreamFault.TheVariants.{Magic}
 use Rattle.giop_checkpoint.specs.declared.layout.Layout.TheVariants.{Second, Third}
 use Rattle.giop_stream.specs.declared.slots.Slots.{Slots}
 use Rattle.giop_stream.specs.declared.slots.Payload.{Payload}
 use Rattle.giop_stream.specs.declared.slots.Payload.TheVariants as payload
-use Rattle.giop_stream.specs.State.{octets_of, slots_of, is_open}
-use Rattle.giop_stream.specs.Remembering.{Memory}
-use Rattle.giop_stream.specs.Engine.{state_of, own_for, owner_for}
-use Rattle.giop_stream.specs.Showing.{come_in, comes_itself}
+use Rattle.giop_stream.specs.OpenSlots.{octets_of, slots_of, is_open}
+use Rattle.giop_stream.specs.EngineView.{FramingView}
+use Rattle.giop_stream.specs.EngineState.{state_of, own_for, owner_for}
+use Rattle.giop_stream.specs.ViewOfState.{come_in, comes_itself}
 use Rattle.giop_stream.specs.Checkpoint.{counts_of, fixed_of, checkpoint_octets}
 use Rattle.giop_stream_rows.specs.Worked.{digit, octets, stream, written, read_by, called, table_of, builtin, puts, bigs, late, asks, kept}
 use Rattle.giop_stream_rows.specs.Streams.{CloseConnection, LittleRequest, Interleaved, OpenTwice, OneOpen, Cancelled, Replied, Raised}
@@ -43,12 +43,12 @@ use Rattle.giop_stream_rows.specs.Checkpoints.{five_octets, one_in_payload, bad_
 
 -- what one message is read with
 unfoldable pub one_message : ℕ
-unfolding digits num twos_complement padding block number path_text hex hex_number escaped type_in trees_after builtin_types minor kind order value_said call_text rest_text said_by tell is_shown call_of calls one.tells with_front passes rest_in rest typed option_typed members_of after_exception body type_if request_body result_body reply_body is_request body_of has_body padded after_header of_header message may_lack close told_of stage_of saying_of text_of reading_by
+unfolding digits num twos_complement padding block number path_text hex hex_number escaped type_in trees_after builtin_types minor kind order value_said call_text rest_text signatures_of line_at is_shown call_of calls one.section_lines with_front section_then rest_in rest typed option_typed members_of after_exception body type_if request_body result_body reply_body is_request body_of has_body padded after_header of_header message body_may_be_missing close message_lines stage_of line_class_of text_of reader_by
 one_message = 0
 
 -- what a stream is cut and written with
 unfoldable pub a_stream : ℕ
-unfolding type_word print.start_line continues_line cancelled_line fault_line stream_fault_line unfinished_line total_line fronts wrong first_wrong offence has_more size with_first cut_from limit limited cut messages read_of start_line said_line is_inside is_truncated may_be_fragmented is_opener is_fragment is_cancel may_be_cancelled refused place own about id opener_of has_named goes_past header_acts octet_acts id_acts end_acts happens events_of changed opened events_from events open_after octet joined classes line tells told by_class in_order is_last_of standing said stop_line lines lines_text text start_count fault_count tally is_over heads unfinished final closing
+unfolding type_word print.start_line continues_line cancelled_line fault_line stream_fault_line unfinished_line total_line fronts wrong first_wrong first_wrong_octet has_more size with_first cut_from limit limited cut messages read_of start_line said_line is_inside is_truncated may_be_fragmented is_opener is_fragment is_cancel may_be_cancelled refused place own event_of_open id opener_of has_named goes_past header_events payload_events request_id_events message_end_events events_of_octet events_of changed opened events_from events open_after octet joined classes line lines_of_event lines_of_events by_class in_order is_last_of up_to_last_line lines_of_messages stop_line lines lines_text text start_count fault_count tally is_over first_messages unfinished final closing
 a_stream = 0
 
 -- what the rows are told with
@@ -111,30 +111,30 @@ no_messages most payload = record {
 }
 
 -- what is held in each place
-in_header : Memory
+in_header : FramingView
 in_header = record {
   totals = record { messages = 0; faults = 0; octets = 5 };
   stopped = None;
   header = 71 ∷ 73 ∷ 79 ∷ 80 ∷ 1 ∷ [];
-  come = 0;
+  payload_count = 0;
   slots = no_messages 16 payload.Nobody;
 }
 
-in_payload : Memory
+in_payload : FramingView
 in_payload = record {
   totals = record { messages = 1; faults = 1; octets = 13 };
   stopped = None;
   header = 71 ∷ 73 ∷ 79 ∷ 80 ∷ 1 ∷ 0 ∷ 0 ∷ 7 ∷ 0 ∷ 0 ∷ 0 ∷ 4 ∷ [];
-  come = 1;
+  payload_count = 1;
   slots = no_messages 1 payload.Own;
 }
 
-behind_fault : Memory
+behind_fault : FramingView
 behind_fault = record {
   totals = record { messages = 1; faults = 1; octets = 15 };
   stopped = Some Magic;
   header = [];
-  come = 0;
+  payload_count = 0;
   slots = no_messages 4096 payload.Nobody;
 }
 
@@ -153,7 +153,7 @@ in_a_header = record {
     totals = refl;
     stopped = refl;
     header = refl;
-    come = refl;
+    payload_count = refl;
     slots = tt;
     own = tt;
     owner = refl;
@@ -177,7 +177,7 @@ in_an_old_header = record {
     totals = refl;
     stopped = refl;
     header = refl;
-    come = refl;
+    payload_count = refl;
     slots = tt;
     own = tt;
     owner = refl;
@@ -201,7 +201,7 @@ in_a_payload = record {
     totals = refl;
     stopped = refl;
     header = refl;
-    come = refl;
+    payload_count = refl;
     slots = tt;
     own = tt;
     owner = refl;
@@ -225,7 +225,7 @@ behind_a_fault = record {
     totals = refl;
     stopped = refl;
     header = refl;
-    come = refl;
+    payload_count = refl;
     slots = tt;
     own = tt;
     owner = refl;

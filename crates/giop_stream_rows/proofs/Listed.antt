@@ -13,6 +13,6 @@ answers id true c e f = let one = eqb-true id 1 e in rw one refl
 answers id false true e f = let two = eqb-true id 2 f in rw two refl
 answers id false false e f = rw (e, f) refl
 
-pub listed : AreOfTheirList
+pub request_table : AreOfTheirList
 unfolding entry entries kept
-listed = record { operation = λ id. answers id (id == 1) (id == 2) refl refl; count = refl }
+request_table = record { operation = λ id. answers id (id == 1) (id == 2) refl refl; count = refl }

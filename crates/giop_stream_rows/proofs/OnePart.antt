@@ -2,9 +2,9 @@
 use Rattle.std.proofs.Common.{ℕ, zero, suc, ◌<◌, [], ◌∷◌, None, arith, refl}
 use Rattle.giop_sig.specs.Fits.{IsFit}
 use Rattle.giop_sig.specs.Types.{Ty, Struct, Sequence, Array, part_of}
-use Rattle.giop_decode.specs.Spine.{Leaf}
+use Rattle.giop_decode.specs.ReadResult.{Leaf}
 use Rattle.giop_decode.specs.Fits.{FitsIn, HasParts}
-use Rattle.giop_decode.specs.Turns.{part_in, IsWithin}
+use Rattle.giop_decode.specs.Transitions.{part_in, IsWithin}
 
 -- In a type of one part that part has begun, which fits, and of which this is read.
 pub one_part : (d : ℕ) (T : Ty) (leaf : Leaf) → HasParts T 1 → IsFit d (part_of T 0) →

@@ -13,29 +13,29 @@ use Rattle.giop_decode.specs.declared.decoder.Decoder.{Decoder}
 use Rattle.giop_decode.specs.declared.frame.Frame.{Frame}
 use Rattle.giop_decode.specs.declared.leaf.Leaf.{Leaf as Innermost}
 use Rattle.giop_decode.specs.declared.leaf.Leaf.TheVariants as innermost
-use Rattle.giop_decode.specs.declared.memory.Buffer.TheVariants as buffers
-use Rattle.giop_decode.specs.Spine.{Leaf}
+use Rattle.giop_decode.specs.declared.notes.Buffer.TheVariants as buffers
+use Rattle.giop_decode.specs.ReadResult.{Leaf}
 use Rattle.giop_decode.specs.Fits.{FitsIn, HasParts}
-use Rattle.giop_decode.specs.Turns.{part_in, leaf_of, IsWithin}
-use Rattle.giop_decode.specs.Holding as decoder
+use Rattle.giop_decode.specs.Transitions.{part_in, leaf_of, IsWithin}
+use Rattle.giop_decode.specs.DecoderState as decoder
 use Rattle.giop_decode.proofs.ReadingLaws.{fits_depth}
 use Rattle.giop_decode.specs.Stored as decoders
 use Rattle.giop_message.specs.declared.message.Message.{Message}
 use Rattle.giop_message.specs.declared.part.Part.TheVariants as parts
 use Rattle.giop_message.specs.declared.part.Rest.{Rest}
 use Rattle.giop_message.specs.declared.part.Section.TheVariants as sections
-use Rattle.giop_message.specs.Messages.{message, told_of}
-use Rattle.giop_message.specs.MessageReading.{id_in, first_id, id_said}
-use Rattle.giop_message.specs.Signatures.{said_by}
-use Rattle.giop_message.specs.Holding.{Follows}
+use Rattle.giop_message.specs.Messages.{message, message_lines}
+use Rattle.giop_message.specs.ReaderOfTable.{id_in, first_id, first_request_id}
+use Rattle.giop_message.specs.Signatures.{signatures_of}
+use Rattle.giop_message.specs.MessageState.{Follows}
 use Rattle.giop_message.specs.Stored as messages
 use Rattle.giop_message.specs.Stored.{Stored}
 use Rattle.giop_checkpoint.specs.Records as records
 use Rattle.giop_checkpoint.specs.Records.{Entry, EntryHasRange}
-use Rattle.giop_checkpoint.specs.declared.record.Standing.TheVariants as standings
+use Rattle.giop_checkpoint.specs.declared.record.RecordKind.TheVariants as standings
 use Rattle.giop_checkpoint.specs.declared.layout.Layout.TheVariants.{Third}
 use Rattle.giop_stream.specs.declared.slots.Payload.TheVariants as payload
-use Rattle.giop_stream.specs.Remembering.{Memory}
+use Rattle.giop_stream.specs.EngineView.{FramingView}
 use Rattle.giop_stream.specs.Checkpoint.{IsHeld}
 use Rattle.giop_stream_rows.specs.Worked.{bigs}
 use Rattle.giop_stream_rows.specs.Checkpoints.{two_requests, between_messages, in_a_number, behind_a_body, BetweenMessages}
@@ -65,7 +65,7 @@ in_body = record {
   leaf = Some number;
   carry = 1 ∷ 2 ∷ 3 ∷ 4 ∷ [];
   piece = record { items = [] };
-  memory = record {
+  notes = record {
     request_id = None;
     status = None;
     name = record { items = [] };
@@ -89,7 +89,7 @@ first = record {
 
 first_entry : Entry
 first_entry = record {
-  record_is = record { frames = 2; standing = standings.Open 5; number = 1; header = header 40 };
+  record_is = record { frames = 2; record_kind = standings.Open 5; number = 1; header = header 40 };
   message = messages.own_octets first ++ decoders.fixed_octets in_body number;
   frames = decoders.frames_octets (parameters_frame ∷ decoders.own_frame number ∷ []);
 }
@@ -111,18 +111,18 @@ second = record {
 
 second_entry : Entry
 second_entry = record {
-  record_is = record { frames = 0; standing = standings.Open 6; number = 2; header = header 36 };
+  record_is = record { frames = 0; record_kind = standings.Open 6; number = 2; header = header 36 };
   message = messages.own_octets second ++ messages.rest_octets nothing;
   frames = [];
 }
 
 -- what is held of the stream
-between : Memory
+between : FramingView
 between = record {
   totals = record { messages = 2; faults = 0; octets = 100 };
   stopped = None;
   header = [];
-  come = 0;
+  payload_count = 0;
   slots = record {
     slots = record {
       most = 16;
@@ -140,7 +140,7 @@ unfolding parameters number parameters_frame in_body header nothing builtin_type
 the_decoder = 0
 
 the_messages : ℕ
-unfolding first second first_entry second_entry between id_in first_id id_said two_requests
+unfolding first second first_entry second_entry between id_in first_id first_request_id two_requests
 the_messages = 0
 
 -- and a checkpoint with these
@@ -171,7 +171,7 @@ first_stored = record {
       message = ltb-true 1 (2 ^ 64) refl;
       carry = omega arith;
       piece = omega arith;
-      memory = record { request_id = tt; status = tt; name = omega arith };
+      notes = record { request_id = tt; status = tt; name = omega arith };
     };
     leaf_range = ltb-true 8 (2 ^ 32) refl;
     outer_range = (
@@ -211,7 +211,7 @@ first_range = record {
   own = record {
     frames = omega arith;
     typed = record {
-      standing = ltb-true 5 (2 ^ 32) refl;
+      record_kind = ltb-true 5 (2 ^ 32) refl;
       number = ltb-true 1 (2 ^ 64) refl;
       header = refl;
     };
@@ -226,7 +226,7 @@ second_range = record {
   own = record {
     frames = omega arith;
     typed = record {
-      standing = ltb-true 6 (2 ^ 32) refl;
+      record_kind = ltb-true 6 (2 ^ 32) refl;
       number = ltb-true 2 (2 ^ 64) refl;
       header = refl;
     };
@@ -253,7 +253,7 @@ unfolding one_message told_with kept_messages some_octets
 first_reads = record {
   lines = [];
   is = refl;
-  minds = record { request_id = refl; status = refl; name = (refl, refl, omega arith) };
+  keeps_noted = record { request_id = refl; status = refl; name = (refl, refl, omega arith) };
   same_order = refl;
   same_message = refl;
   same_root = refl;
@@ -269,7 +269,7 @@ first_follows = record {
   at = refl;
   stands = record {
     T = tree bigs parameters;
-    before = told_of (message (said_by bigs []) (header 40) first_front);
+    before = message_lines (message (signatures_of bigs []) (header 40) first_front);
     front = first_front;
     octets = some_octets;
     since = refl;
@@ -286,7 +286,7 @@ second_follows = record {
   same_header = refl;
   id = refl;
   at = refl;
-  stands = (told_of (message (said_by bigs []) (header 36) second_octets), refl);
+  stands = (message_lines (message (signatures_of bigs []) (header 36) second_octets), refl);
 }
 
 -- ---- They fit their table.
@@ -367,7 +367,7 @@ two_open = record {
   entries_are = (
     record {
       range = first_range;
-      standing = refl;
+      record_kind = refl;
       number = refl;
       header = refl;
       message = first_held;
@@ -375,7 +375,7 @@ two_open = record {
     (
       record {
         range = second_range;
-        standing = refl;
+        record_kind = refl;
         number = refl;
         header = refl;
         message = second_held;
@@ -388,7 +388,7 @@ two_open = record {
     totals = refl;
     stopped = refl;
     header = refl;
-    come = refl;
+    payload_count = refl;
     slots = (
       record { number = refl; header = refl; id = refl; message = first_follows },
       (record { number = refl; header = refl; id = refl; message = second_follows }, tt),

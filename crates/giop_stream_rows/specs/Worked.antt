@@ -4,7 +4,7 @@ use Rattle.std.specs.Prelude.{◌≡◌, ℕ, ◌+◌, ◌-◌, ◌*◌, ◌==�
 use Rattle.giop_sig.specs.Table.{Node, members, Operation, Exception, Table, op_id, operation_number}
 use Rattle.giop_sig.specs.Builtin.{builtin_types, member}
 use Rattle.giop_sig.specs.RequestList.{Entry, IsOf}
-use Rattle.giop_message.specs.Signatures.{Listed}
+use Rattle.giop_message.specs.Signatures.{RequestTable}
 use Rattle.giop_stream.specs.Rules.{Rules, rules, most_open}
 use Rattle.giop_stream.specs.Stream.{text, closing}
 
@@ -35,7 +35,7 @@ pub record Row (R : Rules) (p : List ℕ) (lines end : List (List ℕ)) : Type 0
 
 -- ---- What the streams are read by.
 
-unfoldable pub read_by : Table → Listed → Rules
+unfoldable pub read_by : Table → RequestTable → Rules
 read_by table kept = rules table kept most_open
 
 -- an operation by the structs of its parameters and of its results, which stand one behind the other; the first is counted
@@ -89,7 +89,7 @@ unfoldable pub entries : List Entry
 entries = entry 1 (codes "ask") ∷ entry 1 (codes "ask") ∷ entry 2 (codes "nop") ∷ entry 2 (codes "ask") ∷ []
 
 -- what is kept of these: the one operation of the first id, and none of the second
-unfoldable pub kept : Listed
+unfoldable pub kept : RequestTable
 kept = (1, Some (op_id 0)) ∷ (2, None) ∷ []
 
 -- it answers as the list does, for these declarations

@@ -24,7 +24,7 @@ pub fn worked_streams()
     ensures replied { Replied }
     ensures raised { Raised }
     // What is kept of the request list of these two answers as the list does.
-    ensures listed { AreOfTheirList }
+    ensures request_table { AreOfTheirList }
 {}
 
 /// The checkpoints of worked streams, octet for octet. It has no body, and is called for its contract.

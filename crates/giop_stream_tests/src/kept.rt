@@ -1,7 +1,7 @@
 //! Checkpoints that are kept as octets: they are what is saved of a stream, and are loaded, by layout 2 too; one of layout 1
 //! is refused.
 
-ghost use Rattle.giop_stream.specs.Holding.{AreOf};
+ghost use Rattle.giop_stream.specs.EngineHolds.{AreOf};
 
 use super::known::declared;
 use giop_print::Sheet;

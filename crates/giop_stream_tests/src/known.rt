@@ -1,7 +1,7 @@
 //! What the tests read streams by.
 
 ghost use Rattle.std.specs.Prelude.{IfOk};
-ghost use Rattle.giop_stream.specs.Holding.{AreOf};
+ghost use Rattle.giop_stream.specs.EngineHolds.{AreOf};
 
 use giop_sig::{Catalogue, Requests};
 use std::alloc::Global;

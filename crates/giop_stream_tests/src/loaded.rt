@@ -1,6 +1,6 @@
 //! What an engine that was loaded writes of the octets behind, and which octets are no checkpoint.
 
-ghost use Rattle.giop_stream.specs.Holding.{AreOf};
+ghost use Rattle.giop_stream.specs.EngineHolds.{AreOf};
 
 use super::known::declared;
 use giop_print::Sheet;

@@ -1,7 +1,7 @@
 //! A program of one's own over the engine: an out that counts lines. docs/LIBRARY.md shows it.
 
 ghost use Rattle.std.specs.Prelude.{IfOk};
-ghost use Rattle.giop_stream.specs.Holding.{AreOf};
+ghost use Rattle.giop_stream.specs.EngineHolds.{AreOf};
 
 use giop_print::{Out, OutFault};
 use giop_sig::{Catalogue, Requests};

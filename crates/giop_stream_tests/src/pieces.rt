@@ -1,6 +1,6 @@
 //! A stream that comes in pieces, which end in a number, in a piece of a content, and at its ends.
 
-ghost use Rattle.giop_stream.specs.Holding.{AreOf};
+ghost use Rattle.giop_stream.specs.EngineHolds.{AreOf};
 
 use super::known::declared;
 use giop_print::Sheet;

@@ -1,6 +1,6 @@
 //! What an engine saves of a stream: how long it is, and its fixed part.
 
-ghost use Rattle.giop_stream.specs.Holding.{AreOf};
+ghost use Rattle.giop_stream.specs.EngineHolds.{AreOf};
 
 use super::known::declared;
 use giop_print::Sheet;

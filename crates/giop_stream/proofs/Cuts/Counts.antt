@@ -4,17 +4,17 @@ use Rattle.std.specs.Prelude.{◌*◌, ◌==◌, nat_lt, if◌then◌else◌}
 use Rattle.std.proofs.lemmas.Bool.{cases_lt, lt-ltb, le-ltb, eqb-true}
 use Rattle.std.proofs.lemmas.List.{length_push}
 use Rattle.giop_checkpoint.specs.declared.fault.StreamFault.{StreamFault}
-use Rattle.giop_message.specs.Reading.{IsCausal, IsInTurn}
+use Rattle.giop_message.specs.MessageReader.{IsCausal, IsStreamable}
 use Rattle.giop_message.specs.Headers.{size}
 use Rattle.giop_stream.specs.Rules.{Rules}
 use Rattle.giop_stream.specs.Framing.{Message, with_payload, Cut, cut, limit, messages, read_of}
-use Rattle.giop_stream.specs.Headers.{wrong}
+use Rattle.giop_stream.specs.HeaderOctets.{wrong}
 use Rattle.giop_stream.specs.Stream.{tally}
 use Rattle.giop_stream.proofs.Lists.{by_growth}
 use Rattle.giop_stream.proofs.Cuts.Start.{cut_nothing}
 use Rattle.giop_stream.proofs.Cuts.Cutting.{of_parts, next, cut_grows, next_limit, next_payload, next_front, next_stopped}
-use Rattle.giop_stream.proofs.Cuts.CutFrom.{settle, header_case}
-use Rattle.giop_stream.proofs.Moves.EngineAlive.{sound}
+use Rattle.giop_stream.proofs.Cuts.CutFrom.{end_message, header_case}
+use Rattle.giop_stream.proofs.CodeSteps.EngineAlive.{sound}
 
 -- of so many octets, so many messages and so many octets of the next header
 abbrev Within : ℕ → ℕ → ℕ → Option (ℕ × StreamFault) → Type 0
@@ -24,8 +24,8 @@ Within n count held None = (n ≤ limit) × (12 * count + held ≤ n)
 Counted : ℕ → Cut → Type 0
 Counted n c = Within n (length (messages c)) (length c.held) c.stop
 
-settled : (n : ℕ) (whole : List Message) (m : Message) → n ≤ limit → 12 * suc (length whole) ≤ n → Counted n (settle whole m)
-unfolding Counted settle messages
+settled : (n : ℕ) (whole : List Message) (m : Message) → n ≤ limit → 12 * suc (length whole) ≤ n → Counted n (end_message whole m)
+unfolding Counted end_message messages
 settled n whole m room h = go (nat_lt (length m.payload) (size m.header))
   where
     go : (b : Bool) → Counted n (if b then record { whole = whole; current = Some m; held = []; stop = None } else record { whole = whole ++ m ∷ []; current = None; held = []; stop = None })
@@ -99,6 +99,6 @@ pub octets_free : (R : Rules) (p : List ℕ) → (cut p).stop ≡ None → (tall
 unfolding tally Counted
 octets_free R p free = read_free p (cut p) (cut p).stop (counted p) free
 
-pub messages_few : (R : Rules) → IsCausal R.reading → IsInTurn R.reading → (p : List ℕ) → 12 * (tally R p).messages ≤ (tally R p).octets
+pub messages_few : (R : Rules) → IsCausal R.reading → IsStreamable R.reading → (p : List ℕ) → 12 * (tally R p).messages ≤ (tally R p).octets
 unfolding tally Counted
 messages_few R causal laws p = rw ((sound R causal laws p).starts) (read_many p (cut p) (cut p).stop (counted p))

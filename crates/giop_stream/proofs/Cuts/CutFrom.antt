@@ -4,14 +4,14 @@ use Rattle.std.specs.Prelude.{nat_lt, ◌==◌, if◌then◌else◌}
 use Rattle.std.proofs.lemmas.Bool.{lt-ltb, le-ltb, cases_lt, eq-eqb, ne_eqb}
 use Rattle.std.proofs.lemmas.List.{take-append-le, drop-append-le, take_all, drop_all, length_push}
 use Rattle.giop_checkpoint.specs.declared.fault.StreamFault.{StreamFault}
-use Rattle.giop_stream.specs.Headers.{wrong, first_wrong, fronts, offence}
+use Rattle.giop_stream.specs.HeaderOctets.{wrong, first_wrong, fronts, first_wrong_octet}
 use Rattle.giop_message.specs.Headers.{size}
 use Rattle.giop_stream.specs.Framing.{Message, with_payload, Cut, with_first, cut_from}
 use Rattle.giop_stream.proofs.Lists.{wrong_last, offence_stays, offence_comes}
 
 -- a message whose last octet has come joins the others
-unfoldable pub settle : List Message → Message → Cut
-settle whole m =
+unfoldable pub end_message : List Message → Message → Cut
+end_message whole m =
     if nat_lt (length m.payload) (size m.header)
     then record { whole = whole; current = Some m; held = []; stop = None }
     else record { whole = whole ++ m ∷ []; current = None; held = []; stop = None }
@@ -19,14 +19,14 @@ settle whole m =
 unfoldable pub header_case : ℕ → ℕ → List Message → List ℕ → Option StreamFault → Bool → Cut
 header_case first n whole front (Some word) twelve = record { whole = whole; current = None; held = []; stop = Some (n, word) }
 header_case first n whole front None false = record { whole = whole; current = None; held = front; stop = None }
-header_case first n whole front None true = settle whole (record { number = first + length whole; before = n - 12; header = front; payload = [] })
+header_case first n whole front None true = end_message whole (record { number = first + length whole; before = n - 12; header = front; payload = [] })
 
 unfoldable pub header_grows : ℕ → ℕ → List Message → List ℕ → Cut
 header_grows first n whole front = header_case first n whole front (wrong front) (length front == 12)
 
 abbrev pub grow_by : ℕ → ℕ → ℕ → Cut → Option (ℕ × StreamFault) → Option Message → Cut
 grow_by first n x c (Some found) current = c
-grow_by first n x c None (Some m) = settle c.whole (with_payload m (m.payload ++ x ∷ []))
+grow_by first n x c None (Some m) = end_message c.whole (with_payload m (m.payload ++ x ∷ []))
 grow_by first n x c None None = header_grows first n c.whole (c.held ++ x ∷ [])
 
 unfoldable pub grow : ℕ → ℕ → ℕ → Cut → Cut
@@ -36,7 +36,7 @@ nothing : Cut
 nothing = record { whole = []; current = None; held = []; stop = None }
 
 -- The cases of the definition.
-pub cut_wrong : (fuel number before : ℕ) (xs : List ℕ) (found : ℕ × StreamFault) → offence (take 12 xs) ≡ Some found
+pub cut_wrong : (fuel number before : ℕ) (xs : List ℕ) (found : ℕ × StreamFault) → first_wrong_octet (take 12 xs) ≡ Some found
     → cut_from (suc fuel) number before xs ≡ record {
       whole = [];
       current = None;
@@ -47,12 +47,12 @@ pub cut_wrong : (fuel number before : ℕ) (xs : List ℕ) (found : ℕ × Strea
 unfolding cut_from
 cut_wrong fuel number before xs found e = rw (cut_from, e) refl
 
-pub cut_short : (fuel number before : ℕ) (xs : List ℕ) → offence (take 12 xs) ≡ None → length xs < 12
+pub cut_short : (fuel number before : ℕ) (xs : List ℕ) → first_wrong_octet (take 12 xs) ≡ None → length xs < 12
     → cut_from (suc fuel) number before xs ≡ record { whole = []; current = None; held = xs; stop = None }
 unfolding cut_from
 cut_short fuel number before xs e h = rw (cut_from, e, lt-ltb (length xs) 12 h) refl
 
-pub cut_open : (fuel number before : ℕ) (xs : List ℕ) → offence (take 12 xs) ≡ None → 12 ≤ length xs
+pub cut_open : (fuel number before : ℕ) (xs : List ℕ) → first_wrong_octet (take 12 xs) ≡ None → 12 ≤ length xs
     → length (drop 12 xs) < size (take 12 xs) → cut_from (suc fuel) number before xs
     ≡ record {
       whole = [];
@@ -64,7 +64,7 @@ pub cut_open : (fuel number before : ℕ) (xs : List ℕ) → offence (take 12 x
 unfolding cut_from
 cut_open fuel number before xs e h k = rw (cut_from, e, le-ltb (length xs) 12 h, lt-ltb (length (drop 12 xs)) (size (take 12 xs)) k) refl
 
-pub cut_more : (fuel number before : ℕ) (xs : List ℕ) → offence (take 12 xs) ≡ None → 12 ≤ length xs → size (take 12 xs) ≤ length (drop 12 xs)
+pub cut_more : (fuel number before : ℕ) (xs : List ℕ) → first_wrong_octet (take 12 xs) ≡ None → 12 ≤ length xs → size (take 12 xs) ≤ length (drop 12 xs)
     → cut_from (suc fuel) number before xs ≡ with_first
     (record { number = number; before = before; header = take 12 xs; payload = take (size (take 12 xs)) (drop 12 xs) })
     (cut_from fuel (suc number) (before + 12 + size (take 12 xs)) (drop (size (take 12 xs)) (drop 12 xs)))
@@ -72,7 +72,7 @@ unfolding cut_from
 cut_more fuel number before xs e h k = rw (cut_from, e, le-ltb (length xs) 12 h, le-ltb (length (drop 12 xs)) (size (take 12 xs)) k) refl
 
 cut_none : (fuel number before : ℕ) → cut_from fuel number before [] ≡ nothing
-unfolding cut_from nothing offence fronts first_wrong wrong
+unfolding cut_from nothing first_wrong_octet fronts first_wrong wrong
 cut_none zero number before = refl
 cut_none (suc fuel) number before = refl
 
@@ -83,35 +83,35 @@ front_same xs x h = take-append-le 12 xs (x ∷ []) h
 front_whole : (xs : List ℕ) (x : ℕ) → length xs < 12 → take 12 (xs ++ x ∷ []) ≡ xs ++ x ∷ []
 front_whole xs x h = take_all 12 (xs ++ x ∷ []) (omega (arith, length_push xs x))
 
-wrong_kept : (xs : List ℕ) (x : ℕ) (found : ℕ × StreamFault) → offence (take 12 xs) ≡ Some found → offence (take 12 (xs ++ x ∷ [])) ≡ Some found
+wrong_kept : (xs : List ℕ) (x : ℕ) (found : ℕ × StreamFault) → first_wrong_octet (take 12 xs) ≡ Some found → first_wrong_octet (take 12 (xs ++ x ∷ [])) ≡ Some found
 wrong_kept xs x found e = elim (cases_lt (length xs) 12) [
   | inl h ↦ rw (front_whole xs x h) (offence_stays xs x found (rw (take_all 12 xs (omega arith)) at e))
   | inr h ↦ rw (front_same xs x h) e
 ]
 
-comes : (xs : List ℕ) (x : ℕ) → length xs < 12 → offence (take 12 xs) ≡ None → offence (take 12 (xs ++ x ∷ [])) ≡ wrong_last (xs ++ x ∷ [])
+comes : (xs : List ℕ) (x : ℕ) → length xs < 12 → first_wrong_octet (take 12 xs) ≡ None → first_wrong_octet (take 12 (xs ++ x ∷ [])) ≡ wrong_last (xs ++ x ∷ [])
 comes xs x h e = rw (front_whole xs x h) (offence_comes xs x (rw (take_all 12 xs (omega arith)) at e))
 
 settle_open : (whole : List Message) (m : Message) → length m.payload < size m.header
-    → settle whole m ≡ record { whole = whole; current = Some m; held = []; stop = None }
-unfolding settle
+    → end_message whole m ≡ record { whole = whole; current = Some m; held = []; stop = None }
+unfolding end_message
 settle_open whole m h = rw (lt-ltb (length m.payload) (size m.header) h) refl
 
 settle_done : (whole : List Message) (m : Message) → size m.header ≤ length m.payload
-    → settle whole m ≡ record { whole = whole ++ m ∷ []; current = None; held = []; stop = None }
-unfolding settle
+    → end_message whole m ≡ record { whole = whole ++ m ∷ []; current = None; held = []; stop = None }
+unfolding end_message
 settle_done whole m h = rw (le-ltb (length m.payload) (size m.header) h) refl
 
 -- a message that is complete, and nothing after it
-done_is : (fuel number before : ℕ) (m : Message) (c : Cut) → c ≡ settle [] m → size m.header ≤ length m.payload
+done_is : (fuel number before : ℕ) (m : Message) (c : Cut) → c ≡ end_message [] m → size m.header ≤ length m.payload
     → c ≡ with_first m (cut_from fuel number before [])
 unfolding with_first nothing
 done_is fuel number before m c e h = e ∙ (settle_done [] m h ∙ rw (cut_none fuel number before) refl)
 
 -- one message, and nothing after it
 cut_is : (fuel number before : ℕ) (ys header payload : List ℕ) → take 12 ys ≡ header → drop 12 ys ≡ payload
-    → offence header ≡ None → 12 ≤ length ys → length payload ≤ size header
-    → cut_from (suc fuel) number before ys ≡ settle [] (record { number = number; before = before; header = header; payload = payload })
+    → first_wrong_octet header ≡ None → 12 ≤ length ys → length payload ≤ size header
+    → cut_from (suc fuel) number before ys ≡ end_message [] (record { number = number; before = before; header = header; payload = payload })
 cut_is fuel number before ys header payload t d e h k = elim (cases_lt (length payload) (size header)) [
   | inl lacks ↦
       cut_open fuel number before ys (rw t e) h (rw (t, d) lacks)
@@ -131,22 +131,22 @@ cut_is fuel number before ys header payload t d e h k = elim (cases_lt (length p
 Grows : ℕ → ℕ → ℕ → List ℕ → ℕ → Type 0
 Grows fuel number before xs x = cut_from fuel number before (xs ++ x ∷ []) ≡ grow number (suc (before + length xs)) x (cut_from fuel number before xs)
 
-grows_wrong : (fuel number before : ℕ) (xs : List ℕ) (x : ℕ) (found : ℕ × StreamFault) → offence (take 12 xs) ≡ Some found → Grows (suc fuel) number before xs x
+grows_wrong : (fuel number before : ℕ) (xs : List ℕ) (x : ℕ) (found : ℕ × StreamFault) → first_wrong_octet (take 12 xs) ≡ Some found → Grows (suc fuel) number before xs x
 unfolding Grows grow
 grows_wrong fuel number before xs x found e =
     rw (cut_wrong fuel number before xs found e) (cut_wrong fuel number before (xs ++ x ∷ []) found (wrong_kept xs x found e))
 
 -- in a header
-header_is : (fuel number before : ℕ) (xs : List ℕ) (x : ℕ) → length xs < 12 → offence (take 12 xs) ≡ None
+header_is : (fuel number before : ℕ) (xs : List ℕ) (x : ℕ) → length xs < 12 → first_wrong_octet (take 12 xs) ≡ None
     → (w : Option StreamFault) → wrong (xs ++ x ∷ []) ≡ w
     → cut_from (suc fuel) number before (xs ++ x ∷ []) ≡ header_grows number (suc (before + length xs)) [] (xs ++ x ∷ [])
 unfolding header_grows header_case wrong_last
 header_is fuel number before xs x h e (Some word) k =
-    let found : offence (take 12 (xs ++ x ∷ [])) ≡ Some (length (xs ++ x ∷ []), word) = comes xs x h e ∙ rw (wrong_last, k) refl in
+    let found : first_wrong_octet (take 12 (xs ++ x ∷ [])) ≡ Some (length (xs ++ x ∷ []), word) = comes xs x h e ∙ rw (wrong_last, k) refl in
     let n : before + length (xs ++ x ∷ []) ≡ suc (before + length xs) = omega (arith, length_push xs x) in
     cut_wrong fuel number before (xs ++ x ∷ []) (length (xs ++ x ∷ []), word) found ∙ rw (header_grows, k, n) refl
 header_is fuel number before xs x h e None k =
-    let none : offence (take 12 (xs ++ x ∷ [])) ≡ None = comes xs x h e ∙ rw (wrong_last, k) refl in
+    let none : first_wrong_octet (take 12 (xs ++ x ∷ [])) ≡ None = comes xs x h e ∙ rw (wrong_last, k) refl in
     let len = length_push xs x in
     elim (cases_lt (length (xs ++ x ∷ [])) 12) [
       | inl short ↦
@@ -159,11 +159,11 @@ header_is fuel number before xs x h e None k =
           ∙ rw (header_grows, k, eq-eqb (length (xs ++ x ∷ [])) 12 (omega arith), ← b, z) refl
     ]
 
-grows_header : (fuel number before : ℕ) (xs : List ℕ) (x : ℕ) → length xs < 12 → offence (take 12 xs) ≡ None → Grows (suc fuel) number before xs x
+grows_header : (fuel number before : ℕ) (xs : List ℕ) (x : ℕ) → length xs < 12 → first_wrong_octet (take 12 xs) ≡ None → Grows (suc fuel) number before xs x
 unfolding Grows grow
 grows_header fuel number before xs x h e = rw (cut_short fuel number before xs e h) (header_is fuel number before xs x h e (wrong (xs ++ x ∷ [])) refl)
 
-grows_open : (fuel number before : ℕ) (xs : List ℕ) (x : ℕ) → offence (take 12 xs) ≡ None → 12 ≤ length xs
+grows_open : (fuel number before : ℕ) (xs : List ℕ) (x : ℕ) → first_wrong_octet (take 12 xs) ≡ None → 12 ≤ length xs
     → length (drop 12 xs) < size (take 12 xs) → Grows (suc fuel) number before xs x
 unfolding Grows grow
 grows_open fuel number before xs x e h k =
@@ -172,8 +172,8 @@ grows_open fuel number before xs x e h k =
     (drop-append-le 12 xs (x ∷ []) h) e (omega (arith, length_push xs x)) (omega (arith, length_push (drop 12 xs) x)))
 
 -- a message before all others
-first_settles : (m : Message) (whole : List Message) (last : Message) → with_first m (settle whole last) ≡ settle (m ∷ whole) last
-unfolding with_first settle
+first_settles : (m : Message) (whole : List Message) (last : Message) → with_first m (end_message whole last) ≡ end_message (m ∷ whole) last
+unfolding with_first end_message
 first_settles m whole last = go (nat_lt (length last.payload) (size last.header))
   where
     go : (b : Bool) → with_first m
@@ -212,7 +212,7 @@ first_grows_at number n x m whole held None None = first_case number n m whole (
 first_grows : (number n x : ℕ) (m : Message) (c : Cut) → with_first m (grow (suc number) n x c) ≡ grow number n x (with_first m c)
 first_grows number n x m c = first_grows_at number n x m c.whole c.held c.current c.stop
 
-grows_more : (fuel number before : ℕ) (xs : List ℕ) (x : ℕ) → offence (take 12 xs) ≡ None → 12 ≤ length xs → size (take 12 xs) ≤ length (drop 12 xs)
+grows_more : (fuel number before : ℕ) (xs : List ℕ) (x : ℕ) → first_wrong_octet (take 12 xs) ≡ None → 12 ≤ length xs → size (take 12 xs) ≤ length (drop 12 xs)
     → Grows fuel (suc number) (before + 12 + size (take 12 xs)) (drop (size (take 12 xs)) (drop 12 xs)) x
     → Grows (suc fuel) number before xs x
 unfolding Grows
@@ -234,7 +234,7 @@ grows_more fuel number before xs x e h k ih =
 
 grows_by : (fuel number before : ℕ) (xs : List ℕ) (x : ℕ) → length xs < suc fuel
     → ((number before : ℕ) (ys : List ℕ) → length ys < fuel → Grows fuel number before ys x) → (o : Option (ℕ × StreamFault))
-    → offence (take 12 xs) ≡ o → Grows (suc fuel) number before xs x
+    → first_wrong_octet (take 12 xs) ≡ o → Grows (suc fuel) number before xs x
 grows_by fuel number before xs x h ih (Some found) e = grows_wrong fuel number before xs x found e
 grows_by fuel number before xs x h ih None e = elim (cases_lt (length xs) 12) [
   | inl short ↦ grows_header fuel number before xs x short e
@@ -251,13 +251,13 @@ pub cut_from_grows : (fuel number before : ℕ) (xs : List ℕ) (x : ℕ) → le
     → cut_from fuel number before (xs ++ x ∷ []) ≡ grow number (suc (before + length xs)) x (cut_from fuel number before xs)
 unfolding Grows
 cut_from_grows zero number before xs x h = absurd (omega arith)
-cut_from_grows (suc fuel) number before xs x h = grows_by fuel number before xs x h (λ n b ys k. cut_from_grows fuel n b ys x k) (offence (take 12 xs)) refl
+cut_from_grows (suc fuel) number before xs x h = grows_by fuel number before xs x h (λ n b ys k. cut_from_grows fuel n b ys x k) (first_wrong_octet (take 12 xs)) refl
 
 -- More fuel than there are octets changes nothing.
 more_by : (fuel number before : ℕ) (xs : List ℕ) → length xs < suc fuel
     → ((number before : ℕ) (ys : List ℕ) → length ys < fuel
     → cut_from (suc fuel) number before ys ≡ cut_from fuel number before ys) → (o : Option (ℕ × StreamFault))
-    → offence (take 12 xs) ≡ o → cut_from (suc (suc fuel)) number before xs ≡ cut_from (suc fuel) number before xs
+    → first_wrong_octet (take 12 xs) ≡ o → cut_from (suc (suc fuel)) number before xs ≡ cut_from (suc fuel) number before xs
 more_by fuel number before xs h ih (Some found) e = cut_wrong (suc fuel) number before xs found e ∙ sym (cut_wrong fuel number before xs found e)
 more_by fuel number before xs h ih None e = elim (cases_lt (length xs) 12) [
   | inl short ↦ cut_short (suc fuel) number before xs e short ∙ sym (cut_short fuel number before xs e short)
@@ -279,4 +279,4 @@ more_by fuel number before xs h ih None e = elim (cases_lt (length xs) 12) [
 
 pub more_fuel : (fuel number before : ℕ) (xs : List ℕ) → length xs < fuel → cut_from (suc fuel) number before xs ≡ cut_from fuel number before xs
 more_fuel zero number before xs h = absurd (omega arith)
-more_fuel (suc fuel) number before xs h = more_by fuel number before xs h (λ n b ys k. more_fuel fuel n b ys k) (offence (take 12 xs)) refl
+more_fuel (suc fuel) number before xs h = more_by fuel number before xs h (λ n b ys k. more_fuel fuel n b ys k) (first_wrong_octet (take 12 xs)) refl

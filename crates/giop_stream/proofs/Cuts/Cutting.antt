@@ -5,10 +5,10 @@ use Rattle.std.proofs.lemmas.Bool.{lt-ltb, le-ltb, cases_lt}
 use Rattle.std.proofs.lemmas.List.{take-append-le, take_all, length_push, append-nil}
 use Rattle.giop_checkpoint.specs.declared.fault.StreamFault.{StreamFault}
 use Rattle.giop_checkpoint.specs.declared.fault.StreamFault.TheVariants.{StreamLimit}
-use Rattle.giop_stream.specs.Headers.{wrong}
+use Rattle.giop_stream.specs.HeaderOctets.{wrong}
 use Rattle.giop_message.specs.Headers.{size}
 use Rattle.giop_stream.specs.Framing.{Message, with_payload, Cut, cut_from, limit, limited, cut, messages}
-use Rattle.giop_stream.proofs.Cuts.CutFrom.{settle, header_case, header_grows, grow, cut_from_grows, more_fuel}
+use Rattle.giop_stream.proofs.Cuts.CutFrom.{end_message, header_case, header_grows, grow, cut_from_grows, more_fuel}
 
 -- The whole stream.
 unfoldable pub stopped_at : ℕ → StreamFault → Cut → Cut
@@ -113,8 +113,8 @@ cut_grows p x = elim (cases_lt (length p) limit) [
 
 -- ---- A message that an octet settles.
 
-pub settle_stop : (whole : List Message) (m : Message) → (settle whole m).stop ≡ None
-unfolding settle
+pub settle_stop : (whole : List Message) (m : Message) → (end_message whole m).stop ≡ None
+unfolding end_message
 settle_stop whole m = go (nat_lt (length m.payload) (size m.header))
   where
     go : (b : Bool)
@@ -127,8 +127,8 @@ settle_stop whole m = go (nat_lt (length m.payload) (size m.header))
     go true = refl
     go false = refl
 
-pub settled_messages : (whole : List Message) (m : Message) → messages (settle whole m) ≡ whole ++ m ∷ []
-unfolding settle messages
+pub settled_messages : (whole : List Message) (m : Message) → messages (end_message whole m) ≡ whole ++ m ∷ []
+unfolding end_message messages
 settled_messages whole m = go (nat_lt (length m.payload) (size m.header))
   where
     go : (b : Bool)
@@ -155,7 +155,7 @@ unfolding next of_parts stopped_at
 next_limit c current held n x k = rw k refl
 
 pub next_payload : (c : List Message) (m : Message) (held : List ℕ) (n x : ℕ) → nat_lt limit (suc n) ≡ false
-    → next n x (of_parts c (Some m) held None) ≡ settle c (with_payload m (m.payload ++ x ∷ []))
+    → next n x (of_parts c (Some m) held None) ≡ end_message c (with_payload m (m.payload ++ x ∷ []))
 unfolding next of_parts grow
 next_payload c m held n x k = rw k refl
 

@@ -7,17 +7,17 @@ use Rattle.giop_cdr.specs.Numbers.{AreOctets}
 use Rattle.giop_cdr.proofs.NumberLaws.{num_bound-4}
 use Rattle.giop_message.specs.Headers.{order, size}
 use Rattle.giop_checkpoint.specs.declared.fault.StreamFault.{StreamFault}
-use Rattle.giop_stream.specs.Headers.{offence}
+use Rattle.giop_stream.specs.HeaderOctets.{first_wrong_octet}
 use Rattle.giop_stream.specs.Framing.{Cut, with_first, cut_from, limit, stop_or_limit, limited, cut}
 use Rattle.giop_stream.proofs.Cuts.CutFrom.{cut_wrong, cut_short, cut_open, cut_more}
 
 -- the header of the current message is of octets, none of which is wrong
 abbrev pub HeaderOctets : Cut → Type 0
-HeaderOctets c = IfSome c.current (λ m. AreOctets m.header × (offence m.header ≡ None))
+HeaderOctets c = IfSome c.current (λ m. AreOctets m.header × (first_wrong_octet m.header ≡ None))
 
 from_by : (fuel number before : ℕ) (xs : List ℕ) → AreOctets xs
     → ((number before : ℕ) (ys : List ℕ) → AreOctets ys → HeaderOctets (cut_from fuel number before ys))
-    → (o : Option (ℕ × StreamFault)) → offence (take 12 xs) ≡ o → HeaderOctets (cut_from (suc fuel) number before xs)
+    → (o : Option (ℕ × StreamFault)) → first_wrong_octet (take 12 xs) ≡ o → HeaderOctets (cut_from (suc fuel) number before xs)
 unfolding with_first
 from_by fuel number before xs h ih (Some found) e = rw (cut_wrong fuel number before xs found e) tt
 from_by fuel number before xs h ih None e = elim (cases_lt (length xs) 12) [
@@ -35,7 +35,7 @@ from_by fuel number before xs h ih None e = elim (cases_lt (length xs) 12) [
 from_octets : (fuel number before : ℕ) (xs : List ℕ) → AreOctets xs → HeaderOctets (cut_from fuel number before xs)
 unfolding cut_from
 from_octets zero number before xs h = tt
-from_octets (suc fuel) number before xs h = from_by fuel number before xs h (λ n b ys k. from_octets fuel n b ys k) (offence (take 12 xs)) refl
+from_octets (suc fuel) number before xs h = from_by fuel number before xs h (λ n b ys k. from_octets fuel n b ys k) (first_wrong_octet (take 12 xs)) refl
 
 pub header_octets : (p : List ℕ) → AreOctets p → HeaderOctets (cut p)
 unfolding cut limited

@@ -1,27 +1,27 @@
 -- What there is to know of a stream before its first octet.
 use Rattle.std.proofs.Common.{◌≡◌, ℕ, [], refl, ◌∙◌, Some, None, arith}
-use Rattle.giop_stream.specs.Headers.{fronts, wrong, first_wrong, offence}
+use Rattle.giop_stream.specs.HeaderOctets.{fronts, wrong, first_wrong, first_wrong_octet}
 use Rattle.giop_stream.specs.Rules.{Rules}
 use Rattle.giop_stream.specs.Framing.{limit, limited, cut_from, cut, messages}
 use Rattle.giop_stream.specs.Events.{opened, events_from, events, open_after, joined}
-use Rattle.giop_stream.specs.Lines.{in_order, standing, said, stop_line, lines}
+use Rattle.giop_stream.specs.Lines.{in_order, up_to_last_line, lines_of_messages, stop_line, lines}
 use Rattle.giop_stream.specs.Stream.{start_count, is_over}
-use Rattle.giop_stream.specs.State.{octets_of}
+use Rattle.giop_stream.specs.OpenSlots.{octets_of}
 use Rattle.giop_stream.proofs.Cuts.Cutting.{of_parts}
-use Rattle.giop_stream.proofs.Happening.HappeningsKeep.{IsFew, AreOpeners}
-use Rattle.giop_stream.proofs.Happening.Grown.{lines_stopped}
-use Rattle.giop_stream.proofs.Happening.Soundness.{AreSound, IsSound}
+use Rattle.giop_stream.proofs.Events.EventsKeep.{IsFew, AreOpeners}
+use Rattle.giop_stream.proofs.Events.AfterMoreEvents.{lines_stopped}
+use Rattle.giop_stream.proofs.Events.Soundness.{AreSound, IsSound}
 
 pub cut_nothing : cut [] ≡ of_parts [] None [] None
-unfolding cut limited limit cut_from offence fronts first_wrong wrong of_parts
+unfolding cut limited limit cut_from first_wrong_octet fronts first_wrong wrong of_parts
 cut_nothing = refl
 
 pub events_nothing : (most : ℕ) → events most [] ≡ []
 unfolding events events_from messages of_parts
 events_nothing most = rw (events, cut_nothing) refl
 
-pub said_nothing : (R : Rules) → said R [] ≡ []
-unfolding said in_order standing
+pub said_nothing : (R : Rules) → lines_of_messages R [] ≡ []
+unfolding lines_of_messages in_order up_to_last_line
 said_nothing R = refl
 
 pub lines_nothing : (R : Rules) → lines R [] ≡ []
@@ -50,6 +50,6 @@ sound_start R = record {
   fits = λ st. rw cut_nothing (record { current = tt; held = omega arith; short = omega arith });
   rising = rw (open_nothing R.most) tt;
   early = λ st. rw cut_nothing tt;
-  live = rw (open_nothing R.most) (live_nothing R.most);
+  still_open = rw (open_nothing R.most) (live_nothing R.most);
   begun = λ st. rw cut_nothing tt;
 }

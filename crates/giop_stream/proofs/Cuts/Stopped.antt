@@ -2,7 +2,7 @@
 use Rattle.std.proofs.Common.{◌≡◌, ℕ, List, [], ◌∷◌, ◌++◌, length, refl, ◌∙◌, sym, ap, append_assoc, Some, arith}
 use Rattle.std.proofs.lemmas.List.{append-nil, length_push}
 use Rattle.giop_checkpoint.specs.declared.fault.StreamFault.{StreamFault}
-use Rattle.giop_message.specs.Reading.{IsCausal}
+use Rattle.giop_message.specs.MessageReader.{IsCausal}
 use Rattle.giop_stream.specs.Rules.{Rules}
 use Rattle.giop_stream.specs.Framing.{Cut, cut, messages, read_of}
 use Rattle.giop_stream.specs.Events.{events_from, events}
@@ -10,8 +10,8 @@ use Rattle.giop_stream.specs.Lines.{lines}
 use Rattle.giop_stream.specs.Text.{lines_text}
 use Rattle.giop_stream.specs.Stream.{start_count, fault_count, text, tally}
 use Rattle.giop_stream.proofs.Cuts.Cutting.{next, parts_by, cut_grows, next_stopped}
-use Rattle.giop_stream.proofs.Happening.Grown.{said_idle, lines_stopped}
-use Rattle.giop_stream.proofs.Moves.EngineAlive.{early_events}
+use Rattle.giop_stream.proofs.Events.AfterMoreEvents.{said_idle, lines_stopped}
+use Rattle.giop_stream.proofs.CodeSteps.EngineAlive.{early_events}
 
 cut_stays : (p : List ℕ) (x : ℕ) (found : ℕ × StreamFault) → (cut p).stop ≡ Some found → cut (p ++ x ∷ []) ≡ cut p
 cut_stays p x found h =

@@ -4,38 +4,38 @@ use Rattle.std.specs.Prelude.{nat_lt, if◌then◌else◌, IfSome}
 use Rattle.std.proofs.lemmas.Bool.{ltb-true, ltb-false}
 use Rattle.giop_cdr.specs.Numbers.{AreOctets}
 use Rattle.giop_sig.specs.Table.{Table}
-use Rattle.giop_message.specs.declared.message.Message.{Message as Kept_message}
+use Rattle.giop_message.specs.declared.message.Message.{Message as CodeMessage}
 use Rattle.giop_message.specs.Headers.{size}
-use Rattle.giop_message.specs.Reading.{IsCausal, IsInTurn}
-use Rattle.giop_message.specs.Signatures.{Listed, said_by}
+use Rattle.giop_message.specs.MessageReader.{IsCausal, IsStreamable}
+use Rattle.giop_message.specs.Signatures.{RequestTable, signatures_of}
 use Rattle.giop_message.proofs.MessageLaws.{is_causal}
 use Rattle.giop_checkpoint.specs.declared.fault.StreamFault.{StreamFault}
 use Rattle.giop_checkpoint.specs.declared.fixed.Place.TheVariants.{Header, Payload}
 use Rattle.giop_checkpoint.specs.Layouts.{IsAmong}
 use Rattle.giop_checkpoint.specs.Fixed.{PlaceHasRange, HasRange}
-use Rattle.giop_stream.specs.declared.slots.Payload.{Payload as Whose}
+use Rattle.giop_stream.specs.declared.slots.Payload.{Payload as PayloadOwner}
 use Rattle.giop_stream.specs.declared.slots.Payload.TheVariants as payload
-use Rattle.giop_stream.specs.Headers.{offence}
+use Rattle.giop_stream.specs.HeaderOctets.{first_wrong_octet}
 use Rattle.giop_stream.specs.Rules.{Rules, rules}
 use Rattle.giop_stream.specs.Framing.{Message, Cut, cut, limit, read_of, fault_of}
 use Rattle.giop_stream.specs.Events.{place, open_after}
-use Rattle.giop_stream.specs.State.{slots_of, octets_of}
+use Rattle.giop_stream.specs.OpenSlots.{slots_of, octets_of}
 use Rattle.giop_stream.specs.Stream.{tally}
-use Rattle.giop_stream.specs.Octet.{Octet, Behind, Ends, Held, Of, header_of, octet_of}
-use Rattle.giop_stream.specs.Engine.{unless, state_of}
-use Rattle.giop_stream.specs.Remembering.{Memory}
+use Rattle.giop_stream.specs.Octet.{Octet, AfterStop, Ends, Held, Of, header_of, octet_of}
+use Rattle.giop_stream.specs.EngineState.{unless, state_of}
+use Rattle.giop_stream.specs.EngineView.{FramingView}
 use Rattle.giop_stream.specs.Checkpoint.{place_of, owner_of, count_own, fixed_of, Spells}
 use Rattle.giop_stream.proofs.Lists.{by_growth}
 use Rattle.giop_stream.proofs.Cuts.Start.{cut_nothing}
 use Rattle.giop_stream.proofs.Cuts.Cutting.{stopped_at, of_parts, settle_stop}
-use Rattle.giop_stream.proofs.Happening.Soundness.{CurrentFits, Fits}
-use Rattle.giop_stream.proofs.Moves.OneOctet.{Then, then_is}
+use Rattle.giop_stream.proofs.Events.Soundness.{CurrentFits, Fits}
+use Rattle.giop_stream.proofs.CodeSteps.OneOctet.{Then, then_is}
 use Rattle.giop_stream.proofs.Cuts.OfOctets.{HeaderOctets, header_octets, size_fits}
-use Rattle.giop_stream.proofs.Moves.EngineAlive.{sound, few_open}
-use Rattle.giop_stream.proofs.Keep.Parts.{in_turn}
-use Rattle.giop_stream.proofs.Keep.SlotLists.{slots_many, are_as_many}
+use Rattle.giop_stream.proofs.CodeSteps.EngineAlive.{sound, few_open}
+use Rattle.giop_stream.proofs.SlotSteps.Parts.{in_turn}
+use Rattle.giop_stream.proofs.SlotSteps.SlotLists.{slots_many, are_as_many}
 use Rattle.giop_stream.proofs.Cuts.Counts.{octets_few, octets_free, messages_few}
-use Rattle.giop_stream.proofs.Happening.FaultsBound.{stop_count, one_stop, tally_faults}
+use Rattle.giop_stream.proofs.Events.FaultsBound.{stop_count, one_stop, tally_faults}
 
 -- ---- The place and the owner are in their ranges.
 
@@ -43,7 +43,7 @@ among : (b : Bool) (k many more : ℕ) → nat_lt k many ≡ b → IsAmong (many
 among true k many more e = omega (arith, ltb-true k many e)
 among false k many more e = tt
 
-owner_among : (w : Whose) (many : ℕ) (own : Option Kept_message) → IsAmong (many + count_own own) (owner_of w many own)
+owner_among : (w : PayloadOwner) (many : ℕ) (own : Option CodeMessage) → IsAmong (many + count_own own) (owner_of w many own)
 owner_among payload.Own many None = tt
 owner_among payload.Own many (Some m) = omega arith
 owner_among (payload.Open k) many own = among (nat_lt k many) k many (count_own own) refl
@@ -54,19 +54,19 @@ record IsHeader (header : List ℕ) : Type 0 where
   most : length header ≤ 12
   small : length header ≡ 12 → size header < 2 ^ 32
 
-place_by : (b : Bool) (header : List ℕ) (come : ℕ) → IsHeader header → nat_lt (length header) 12 ≡ b
-    → PlaceHasRange (if b then Header (record { items = header }) else Payload header (size header - come))
-place_by true header come h e = omega (arith, ltb-true (length header) 12 e)
-place_by false header come h e =
+place_by : (b : Bool) (header : List ℕ) (payload_count : ℕ) → IsHeader header → nat_lt (length header) 12 ≡ b
+    → PlaceHasRange (if b then Header (record { items = header }) else Payload header (size header - payload_count))
+place_by true header payload_count h e = omega (arith, ltb-true (length header) 12 e)
+place_by false header payload_count h e =
     let twelve : length header ≡ 12 = omega (arith, h.most, ltb-false (length header) 12 e) in
     (twelve, omega (arith, h.small twelve))
 
-place_range : (stopped : Option StreamFault) (header : List ℕ) (come : ℕ) → IsHeader header
-    → PlaceHasRange (place_of stopped header come)
-place_range (Some fault) header come h = tt
-place_range None header come h = place_by (nat_lt (length header) 12) header come h refl
+place_range : (stopped : Option StreamFault) (header : List ℕ) (payload_count : ℕ) → IsHeader header
+    → PlaceHasRange (place_of stopped header payload_count)
+place_range (Some fault) header payload_count h = tt
+place_range None header payload_count h = place_by (nat_lt (length header) 12) header payload_count h refl
 
-one_own : (own : Option Kept_message) → count_own own ≤ 1
+one_own : (own : Option CodeMessage) → count_own own ≤ 1
 one_own None = omega arith
 one_own (Some m) = omega arith
 
@@ -90,7 +90,7 @@ header_fits : (n : ℕ) (c : Cut) → Fits n c → HeaderOctets c → IsWithin n
 unfolding IsWithin place
 header_fits n c fits octets = go c.current fits.current octets
   where
-    go : (o : Option Message) → IfSome o (CurrentFits n c) → IfSome o (λ m. AreOctets m.header × (offence m.header ≡ None))
+    go : (o : Option Message) → IfSome o (CurrentFits n c) → IfSome o (λ m. AreOctets m.header × (first_wrong_octet m.header ≡ None))
         → IsWithin n (header_of o c.held)
     go None f h =
         (record { most = omega (arith, fits.short); small = λ no. absurd (omega (arith, fits.short, no)) }, fits.held)
@@ -98,10 +98,10 @@ header_fits n c fits octets = go c.current fits.current octets
         let within : length m.header ≤ n = omega (arith, f.twelve, f.place_is) in
         (record { most = omega (arith, f.twelve); small = λ twelve. size_fits m.header h.0 twelve }, within)
 
-module _ (R : Rules) (causal : IsCausal R.reading) (laws : IsInTurn R.reading) where
+module _ (R : Rules) (causal : IsCausal R.reading) (laws : IsStreamable R.reading) where
   late_by : (p : List ℕ) (x : ℕ) (o : Octet) → Then R p x o → Late (cut p).stop → Late (cut (p ++ x ∷ [])).stop
   unfolding stopped_at of_parts
-  late_by p x Behind h ih = rw h.2.cut_is ih
+  late_by p x AfterStop h ih = rw h.2.cut_is ih
   late_by p x (Ends fault) h ih = rw h.1.cut_is (omega arith)
   late_by p x (Held front) h ih = rw h.2.cut_is tt
   late_by p x (Of now) h ih = rw (h.1.adds.cut_is, settle_stop (cut p).whole h.1.m) tt
@@ -136,20 +136,20 @@ free_stop None e = refl
 free_stop (Some found) e = absurd cc
 
 -- what a stream's engine remembers, of any stream
-pub record AreTotals (m : Memory) : Type 0 where
+pub record AreTotals (m : FramingView) : Type 0 where
   pub running : m.stopped ≡ None → m.totals.octets ≤ 2 ^ 48
   pub messages : m.totals.messages ≤ m.totals.octets
   pub faults : m.totals.faults ≤ 3 * m.totals.octets
   pub held : length m.header ≤ m.totals.octets
 
-module _ (octets p : List ℕ) (C : Table) (l : Listed) (most : ℕ) (s : Spells octets C l most p) where
+module _ (octets p : List ℕ) (C : Table) (l : RequestTable) (most : ℕ) (s : Spells octets C l most p) where
   abbrev R : Rules
   R = rules C l most
 
   causal : IsCausal R.reading
-  causal = is_causal (said_by C l)
+  causal = is_causal (signatures_of C l)
 
-  laws : IsInTurn R.reading
+  laws : IsStreamable R.reading
   laws = in_turn C l
 
   totals_are : s.memory.totals ≡ tally R p
@@ -191,6 +191,6 @@ module _ (octets p : List ℕ) (C : Table) (l : Listed) (most : ℕ) (s : Spells
         octets = rw totals_are (omega (arith, few));
         messages = rw totals_are (omega (arith, few, twelfth));
         faults = rw totals_are (omega (arith, few, twelfth, tally_faults R causal laws p, one_stop (cut p).stop));
-        place = place_range m.stopped m.header m.come header_is.0;
+        place = place_range m.stopped m.header m.payload_count header_is.0;
         owner = owner_among m.slots.payload (length m.slots.slots.entries) m.slots.own;
       }

@@ -5,23 +5,23 @@ use Rattle.std.specs.List.{AllByRecursion as Each}
 use Rattle.std.proofs.lemmas.List.{length-append}
 use Rattle.giop_sig.specs.Table.{Table}
 use Rattle.giop_message.specs.declared.message.Message.{Message}
-use Rattle.giop_message.specs.Holding.{Follows}
-use Rattle.giop_message.specs.Signatures.{Listed}
+use Rattle.giop_message.specs.MessageState.{Follows}
+use Rattle.giop_message.specs.Signatures.{RequestTable}
 use Rattle.giop_message.specs.Stored.{Stored}
 use Rattle.giop_checkpoint.specs.declared.record.Record.{Record}
 use Rattle.giop_checkpoint.specs.declared.record.FirstRecord.{FirstRecord}
-use Rattle.giop_checkpoint.specs.declared.record.Standing.TheVariants as standings
+use Rattle.giop_checkpoint.specs.declared.record.RecordKind.TheVariants as standings
 use Rattle.giop_checkpoint.specs.Records.{Entry, EntryHasRange, entry_octets}
-use Rattle.giop_stream.specs.Keeping.{Kept_slot}
+use Rattle.giop_stream.specs.SlotsRepresent.{OpenEntry}
 use Rattle.giop_stream.specs.declared.slots.Slots.{Slots}
-use Rattle.giop_stream.specs.Events.{Title}
-use Rattle.giop_stream.specs.State.{Slot as Held}
-use Rattle.giop_stream.specs.Engine.{Own}
-use Rattle.giop_stream.specs.Keeping.{IsReady, IsKept, IsSlot, AreSlots}
-use Rattle.giop_stream.specs.Showing.{IsOwn}
+use Rattle.giop_stream.specs.Events.{MessageKey}
+use Rattle.giop_stream.specs.OpenSlots.{Slot as Held}
+use Rattle.giop_stream.specs.EngineState.{Own}
+use Rattle.giop_stream.specs.SlotsRepresent.{IsReady, RepresentsMessage, IsSlot, AreSlots}
+use Rattle.giop_stream.specs.ViewOfState.{IsOwn}
 use Rattle.giop_stream.specs.Checkpoint.{IsStored, IsHeld, AreEntries, standing_of}
 use Rattle.giop_stream.specs.Reloading.{IsEntry, pushed, IsOpenEntry, IsCurrentEntry, AreLeft, HasAdded, HasAddedFirst}
-use Rattle.giop_stream.proofs.Keep.SlotLists.{are_as_many}
+use Rattle.giop_stream.proofs.SlotSteps.SlotLists.{are_as_many}
 use Rattle.giop_stream.proofs.Restored.SavedSizes.{entries_range}
 
 -- ---- what a record says
@@ -33,8 +33,8 @@ header_in : (first : FirstRecord) (e : Entry) → IsEntry first e → first.«re
 header_in first e entry = ap (λ (r : Record). r.header) entry.own
 
 standing_in : (first : FirstRecord) (e : Entry) → IsEntry first e →
-    first.«record».standing ≡ e.record_is.standing
-standing_in first e entry = ap (λ (r : Record). r.standing) entry.own
+    first.«record».record_kind ≡ e.record_is.record_kind
+standing_in first e entry = ap (λ (r : Record). r.record_kind) entry.own
 
 stored_in : (m : Message) (e : Entry) (first : FirstRecord) → IsHeld m e → IsEntry first e →
     Stored m first.message first.frames.now
@@ -64,73 +64,73 @@ current_none (Some m) id e = cc
 -- a message of this record's octets is restored, and follows what the stored one follows
 abbrev pub Restores : Table → ℕ → FirstRecord → Option Message → Type 0
 Restores C octets first found =
-    (m : Message) (l : Listed) (n : ℕ) (h xs : List ℕ) → IsReady C (octets + 1) (Some m) →
+    (m : Message) (l : RequestTable) (n : ℕ) (h xs : List ℕ) → IsReady C (octets + 1) (Some m) →
     m.number ≡ first.«record».number → m.header ≡ first.«record».header →
     Stored m first.message first.frames.now → Follows C l n h m xs →
     IsSomeAnd found (λ e. Follows C l n h e xs)
 
-module _ (C : Table) (l : Listed) (first : FirstRecord) where
+module _ (C : Table) (l : RequestTable) (first : FirstRecord) where
   -- what is known of the entry of an open message, and of the octets that have come of that
-  record IsOf (e : Entry) (w : Title) (message : Option Message) (come : Option (List ℕ)) (id : ℕ) : Type 0 where
+  record IsOf (e : Entry) (w : MessageKey) (message : Option Message) (payload_count : Option (List ℕ)) (id : ℕ) : Type 0 where
     entry : IsEntry first e
-    standing : first.«record».standing ≡ standing_of message id
+    record_kind : first.«record».record_kind ≡ standing_of message id
     stored : IsStored message e
-    kept : IsKept C l message w come
+    kept : RepresentsMessage C l message w payload_count
     number : w.number ≡ first.«record».number
     header : w.header ≡ first.«record».header
 
   -- and of such a message, restored
-  abbrev IsAgain : Title → Option Message → Option (List ℕ) → Type 0
-  IsAgain w found come = (is_some found ≡ true) × IsKept C l found w come
+  abbrev IsAgain : MessageKey → Option Message → Option (List ℕ) → Type 0
+  IsAgain w found payload_count = (is_some found ≡ true) × RepresentsMessage C l found w payload_count
 
-  is_again : (w : Title) (xs : List ℕ) (found : Option Message) →
+  is_again : (w : MessageKey) (xs : List ℕ) (found : Option Message) →
       IsSomeAnd found (λ m. Follows C l w.number w.header m xs) → IsAgain w found (Some xs)
   is_again w xs None h = absurd h
   is_again w xs (Some m) h = (refl, h)
 
   -- nothing is stored of a message that is over
-  abbrev IsNothing : Title → Option (List ℕ) → Type 0
-  IsNothing w come = (first.frames.now ≡ []) × (first.message ≡ replicate 224 0) × IsKept C l None w come
+  abbrev IsNothing : MessageKey → Option (List ℕ) → Type 0
+  IsNothing w payload_count = (first.frames.now ≡ []) × (first.message ≡ replicate 224 0) × RepresentsMessage C l None w payload_count
 
-  over_by : (e : Entry) (w : Title) (message : Option Message) (come : Option (List ℕ)) (kid id : ℕ) →
-      IsOf e w message come kid → first.«record».standing ≡ standings.Over id → (kid ≡ id) × IsNothing w come
+  over_by : (e : Entry) (w : MessageKey) (message : Option Message) (payload_count : Option (List ℕ)) (kid id : ℕ) →
+      IsOf e w message payload_count kid → first.«record».record_kind ≡ standings.Over id → (kid ≡ id) × IsNothing w payload_count
   over_by e w None None kid id is over =
-      (over_id kid id (sym is.standing ∙ over), (is.entry.frames ∙ is.stored.1, is.entry.message ∙ is.stored.0, tt))
+      (over_id kid id (sym is.record_kind ∙ over), (is.entry.frames ∙ is.stored.1, is.entry.message ∙ is.stored.0, tt))
   over_by e w None (Some xs) kid id is over = absurd is.kept
-  over_by e w (Some m) come kid id is over = absurd (open_not_over kid id (sym is.standing ∙ over))
+  over_by e w (Some m) payload_count kid id is over = absurd (open_not_over kid id (sym is.record_kind ∙ over))
 
-module _ (C : Table) (l : Listed) (octets : ℕ) (first : FirstRecord) where
+module _ (C : Table) (l : RequestTable) (octets : ℕ) (first : FirstRecord) where
   pub current_again : (o : Own) (found : Option Message) → IsCurrentEntry C l (octets + 1) first o →
       Restores C octets first found → (is_some found ≡ true) × IsOwn C l found (Some o)
   current_again o found is again =
-      shown found (again is.message l o.title.number o.title.header o.octets is.ready
+      framing_view found (again is.message l o.message_key.number o.message_key.header o.octets is.ready
       (sym is.entry_is.number_is ∙ sym (number_in first is.entry is.read))
       (sym is.entry_is.header_is ∙ sym (header_in first is.entry is.read))
       (stored_in is.message is.entry first is.entry_is.message is.read) is.own_is)
     where
-      shown : (r : Option Message) → IsSomeAnd r (λ m. Follows C l o.title.number o.title.header m o.octets) →
+      framing_view : (r : Option Message) → IsSomeAnd r (λ m. Follows C l o.message_key.number o.message_key.header m o.octets) →
           (is_some r ≡ true) × IsOwn C l r (Some o)
-      shown None h = absurd h
-      shown (Some x) h = (refl, h)
+      framing_view None h = absurd h
+      framing_view (Some x) h = (refl, h)
 
-  open_by : (e : Entry) (w : Title) (found message : Option Message) (come : Option (List ℕ)) (kid id : ℕ) →
-      IsOf C l first e w message come kid → first.«record».standing ≡ standings.Open id →
-      IsReady C (octets + 1) message → Restores C octets first found → (kid ≡ id) × IsAgain C l first w found come
-  open_by e w found None come kid id is opened ready again =
-      absurd (over_not_open kid id (sym is.standing ∙ opened))
+  open_by : (e : Entry) (w : MessageKey) (found message : Option Message) (payload_count : Option (List ℕ)) (kid id : ℕ) →
+      IsOf C l first e w message payload_count kid → first.«record».record_kind ≡ standings.Open id →
+      IsReady C (octets + 1) message → Restores C octets first found → (kid ≡ id) × IsAgain C l first w found payload_count
+  open_by e w found None payload_count kid id is opened ready again =
+      absurd (over_not_open kid id (sym is.record_kind ∙ opened))
   open_by e w found (Some m) None kid id is opened ready again = absurd is.kept
   open_by e w found (Some m) (Some xs) kid id is opened ready again = (
-    open_id kid id (sym is.standing ∙ opened),
+    open_id kid id (sym is.record_kind ∙ opened),
     is_again C l first w xs found (again m l w.number w.header xs ready (is.kept.same_number ∙ is.number)
         (is.kept.same_header ∙ is.header) (stored_in m e first is.stored is.entry) is.kept),
   )
 
-module _ (C : Table) (l : Listed) (at : ℕ) (first : FirstRecord) (held : Held) where
+module _ (C : Table) (l : RequestTable) (at : ℕ) (first : FirstRecord) (held : Held) where
   of_slot : (is : IsOpenEntry C l at first held) →
       IsOf C l first is.entry held.open_as.opener is.kept.value.message held.octets is.kept.key
   of_slot is = record {
     entry = is.read;
-    standing = standing_in first is.entry is.read ∙ is.entry_is.standing;
+    record_kind = standing_in first is.entry is.read ∙ is.entry_is.record_kind;
     stored = is.entry_is.message;
     kept = is.slot_is.message;
     number = sym is.slot_is.number ∙ sym is.entry_is.number ∙ sym (number_in first is.entry is.read);
@@ -139,7 +139,7 @@ module _ (C : Table) (l : Listed) (at : ℕ) (first : FirstRecord) (held : Held)
 
   -- the slot of a record, where its message is right
   slot_again : (id : ℕ) (found : Option Message) (is : IsOpenEntry C l at first held) → is.kept.key ≡ id →
-      IsKept C l found held.open_as.opener held.octets → IsSlot C l (pushed first id found) held
+      RepresentsMessage C l found held.open_as.opener held.octets → IsSlot C l (pushed first id found) held
   slot_again id found is same kept = record {
     number = number_in first is.entry is.read ∙ is.entry_is.number ∙ is.slot_is.number;
     header = header_in first is.entry is.read ∙ is.entry_is.header ∙ is.slot_is.header;
@@ -147,7 +147,7 @@ module _ (C : Table) (l : Listed) (at : ℕ) (first : FirstRecord) (held : Held)
     message = kept;
   }
 
-  pub over_again : (id : ℕ) → IsOpenEntry C l at first held → first.«record».standing ≡ standings.Over id →
+  pub over_again : (id : ℕ) → IsOpenEntry C l at first held → first.«record».record_kind ≡ standings.Over id →
       (first.frames.now ≡ []) × (first.message ≡ replicate 224 0) × IsSlot C l (pushed first id None) held
   over_again id is over =
       let made = over_by C l first is.entry held.open_as.opener is.kept.value.message held.octets is.kept.key id (of_slot is) over in
@@ -155,32 +155,32 @@ module _ (C : Table) (l : Listed) (at : ℕ) (first : FirstRecord) (held : Held)
 
   -- ---- which of them a record is of
 
-  pub open_not_current : IsOpenEntry C l at first held → first.«record».standing ≡ standings.Current → ⊥
+  pub open_not_current : IsOpenEntry C l at first held → first.«record».record_kind ≡ standings.Current → ⊥
   open_not_current is e =
-      current_none is.kept.value.message is.kept.key (sym is.entry_is.standing ∙ sym (standing_in first is.entry is.read) ∙ e)
+      current_none is.kept.value.message is.kept.key (sym is.entry_is.record_kind ∙ sym (standing_in first is.entry is.read) ∙ e)
 
-pub open_again : (C : Table) (l : Listed) (octets : ℕ) (first : FirstRecord) (held : Held) (id : ℕ) (found : Option Message) →
-    IsOpenEntry C l (octets + 1) first held → first.«record».standing ≡ standings.Open id →
+pub open_again : (C : Table) (l : RequestTable) (octets : ℕ) (first : FirstRecord) (held : Held) (id : ℕ) (found : Option Message) →
+    IsOpenEntry C l (octets + 1) first held → first.«record».record_kind ≡ standings.Open id →
     Restores C octets first found → (is_some found ≡ true) × IsSlot C l (pushed first id found) held
 open_again C l octets first held id found is opened again =
     let made = open_by C l octets first is.entry held.open_as.opener found is.kept.value.message held.octets is.kept.key id
     (of_slot C l (octets + 1) first held is) opened is.ready again in
     (made.1.0, slot_again C l (octets + 1) first held id found is made.0 made.1.1)
 
-module _ (C : Table) (l : Listed) (at : ℕ) (first : FirstRecord) (o : Own) (id : ℕ) where
-  standing_now : IsCurrentEntry C l at first o → standings.Current ≡ first.«record».standing
+module _ (C : Table) (l : RequestTable) (at : ℕ) (first : FirstRecord) (o : Own) (id : ℕ) where
+  standing_now : IsCurrentEntry C l at first o → standings.Current ≡ first.«record».record_kind
   standing_now is = sym (standing_in first is.entry is.read ∙ is.entry_is.standing_is)
 
-  pub current_not_open : IsCurrentEntry C l at first o → first.«record».standing ≡ standings.Open id → ⊥
+  pub current_not_open : IsCurrentEntry C l at first o → first.«record».record_kind ≡ standings.Open id → ⊥
   current_not_open is e = let never : standings.Current ≡ standings.Open id = standing_now is ∙ e in cc
 
-  pub current_not_over : IsCurrentEntry C l at first o → first.«record».standing ≡ standings.Over id → ⊥
+  pub current_not_over : IsCurrentEntry C l at first o → first.«record».record_kind ≡ standings.Over id → ⊥
   current_not_over is e = let never : standings.Current ≡ standings.Over id = standing_now is ∙ e in cc
 
 -- ---- the open messages that were added
 
-module _ (C : Table) (l : Listed) where
-  pub added_one : (before after : Slots) (kept : Kept_slot) (held : Held) →
+module _ (C : Table) (l : RequestTable) where
+  pub added_one : (before after : Slots) (kept : OpenEntry) (held : Held) →
       after.slots.entries ≡ before.slots.entries ++ kept ∷ [] → IsSlot C l kept held →
       HasAdded C l before after (held ∷ [])
   added_one before after kept held put is = record { kept = kept ∷ []; are = (is, tt); put = put }
@@ -188,7 +188,7 @@ module _ (C : Table) (l : Listed) where
   added_none : (before after : Slots) → after.slots.entries ≡ before.slots.entries → HasAdded C l before after []
   added_none before after same = record { kept = []; are = tt; put = same ∙ sym (append-nil before.slots.entries) }
 
-  slots_join : (ks more : List Kept_slot) (hs others : List Held) → AreSlots C l ks hs → AreSlots C l more others →
+  slots_join : (ks more : List OpenEntry) (hs others : List Held) → AreSlots C l ks hs → AreSlots C l more others →
       AreSlots C l (ks ++ more) (hs ++ others)
   slots_join [] more [] others are also = also
   slots_join [] more (h ∷ hs) others are also = absurd are
@@ -201,7 +201,7 @@ module _ (C : Table) (l : Listed) where
     kept = one.kept ++ more.kept;
     are = slots_join one.kept more.kept (h ∷ []) hs one.are more.are;
     put = more.put
-        ∙ ap (λ (xs : List Kept_slot). xs ++ more.kept) one.put
+        ∙ ap (λ (xs : List OpenEntry). xs ++ more.kept) one.put
         ∙ append_assoc before.slots.entries one.kept more.kept;
   }
 
@@ -223,7 +223,7 @@ IsRead first e rest =
     (first.«record» ≡ e.record_is) × (first.message ≡ e.message) × (first.frames.now ≡ e.frames) × (first.rest.now ≡ rest)
 
 -- an open message's
-pub record FrontOpen (C : Table) (l : Listed) (at count : ℕ) (first : FirstRecord) (held : List Held) (own : Option Own)
+pub record FrontOpen (C : Table) (l : RequestTable) (at count : ℕ) (first : FirstRecord) (held : List Held) (own : Option Own)
     : Type 0 where
   pub here : Held
   pub others : List Held
@@ -232,7 +232,7 @@ pub record FrontOpen (C : Table) (l : Listed) (at count : ℕ) (first : FirstRec
   pub left : AreLeft C l at (count - 1) first.rest.now others own
 
 -- or the current one's
-pub record FrontOwn (C : Table) (l : Listed) (at count : ℕ) (first : FirstRecord) (held : List Held) (own : Option Own)
+pub record FrontOwn (C : Table) (l : RequestTable) (at count : ℕ) (first : FirstRecord) (held : List Held) (own : Option Own)
     : Type 0 where
   pub here : Own
   pub no_held : held ≡ []
@@ -241,7 +241,7 @@ pub record FrontOwn (C : Table) (l : Listed) (at count : ℕ) (first : FirstReco
   pub last : count - 1 ≡ 0
 
 -- what is left, by its parts
-record Parts (C : Table) (l : Listed) (at count : ℕ) (octets : List ℕ) (kept : List Kept_slot) (held : List Held)
+record Parts (C : Table) (l : RequestTable) (at count : ℕ) (octets : List ℕ) (kept : List OpenEntry) (held : List Held)
     (current : Option Message) (own : Option Own) (entries : List Entry) : Type 0 where
   entries_are : AreEntries kept current entries
   count_is : count ≡ length entries
@@ -251,7 +251,7 @@ record Parts (C : Table) (l : Listed) (at count : ℕ) (octets : List ℕ) (kept
   each_ready : Each (λ slot. IsReady C at slot.value.message) kept
   own_ready : IsReady C at current
 
-module _ (C : Table) (l : Listed) (at count : ℕ) (octets : List ℕ) where
+module _ (C : Table) (l : RequestTable) (at count : ℕ) (octets : List ℕ) where
   parts_of : (held : List Held) (own : Option Own) (left : AreLeft C l at count octets held own) →
       Parts C l at count octets left.kept held left.current own left.entries
   parts_of held own left = record {
@@ -273,7 +273,7 @@ module _ (C : Table) (l : Listed) (at count : ℕ) (octets : List ℕ) where
       go [] many spelled range = some many
       go (e ∷ es) many spelled range = read e (flat_map entry_octets es) range.0 spelled
 
-  none_by : (slots : Slots) → slots.own ≡ None → count ≡ 0 → (kept : List Kept_slot) (held : List Held)
+  none_by : (slots : Slots) → slots.own ≡ None → count ≡ 0 → (kept : List OpenEntry) (held : List Held)
       (current : Option Message) (own : Option Own) (entries : List Entry) →
       Parts C l at count octets kept held current own entries →
       HasAdded C l slots slots held × IsOwn C l slots.own own
@@ -318,7 +318,7 @@ module _ (C : Table) (l : Listed) (at count : ℕ) (octets : List ℕ) where
           last = omega (arith, is.count_is, none);
         }
 
-    front_open : (k : Kept_slot) (ks : List Kept_slot) (h : Held) (hs : List Held) (current : Option Message) (own : Option Own)
+    front_open : (k : OpenEntry) (ks : List OpenEntry) (h : Held) (hs : List Held) (current : Option Message) (own : Option Own)
         (e : Entry) (es : List Entry) → Parts C l at count octets (k ∷ ks) (h ∷ hs) current own (e ∷ es) →
         FrontOpen C l at count first (h ∷ hs) own
     front_open k ks h hs current own e es is = record {
@@ -347,7 +347,7 @@ module _ (C : Table) (l : Listed) (at count : ℕ) (octets : List ℕ) where
       };
     }
 
-    front_by : (kept : List Kept_slot) (held : List Held) (current : Option Message) (own : Option Own) (entries : List Entry) →
+    front_by : (kept : List OpenEntry) (held : List Held) (current : Option Message) (own : Option Own) (entries : List Entry) →
         Parts C l at count octets kept held current own entries →
         FrontOpen C l at count first held own ⊎ FrontOwn C l at count first held own
     front_by [] [] None own [] is = absurd (some is.count_is)
@@ -367,14 +367,14 @@ module _ (C : Table) (l : Listed) (at count : ℕ) (octets : List ℕ) where
 -- ---- all records
 
 -- all that was left was added
-abbrev pub IsAll : Table → Listed → Bool → Slots → Slots → List Held → Option Own → Type 0
+abbrev pub IsAll : Table → RequestTable → Bool → Slots → Slots → List Held → Option Own → Type 0
 IsAll C l result before after held own = (result ≡ true) × HasAdded C l before after held × IsOwn C l after.own own
 
 room_here : (n most : ℕ) (held : List Held) (h : Held) (hs : List Held) → n + length held ≤ most → held ≡ h ∷ hs →
     n + suc (length hs) ≤ most
 room_here n most held h hs room e = omega (arith, room, ap length e)
 
-module _ (C : Table) (l : Listed) (at count : ℕ) (first : FirstRecord) (before mid : Slots) (added : Bool)
+module _ (C : Table) (l : RequestTable) (at count : ℕ) (first : FirstRecord) (before mid : Slots) (added : Bool)
     (slot : (held : Held) → IsOpenEntry C l at first held → length before.slots.entries < before.slots.most →
     (added ≡ true) × HasAdded C l before mid (held ∷ []) × (mid.own ≡ before.own))
     (current : (own : Own) → IsCurrentEntry C l at first own →
@@ -409,7 +409,7 @@ module _ (C : Table) (l : Listed) (at count : ℕ) (first : FirstRecord) (before
         }),
       )
 
-module _ (C : Table) (l : Listed) (at count : ℕ) (before mid after : Slots) (rest : List ℕ) (result : Bool)
+module _ (C : Table) (l : RequestTable) (at count : ℕ) (before mid after : Slots) (rest : List ℕ) (result : Bool)
     (same_most : mid.slots.most ≡ before.slots.most)
     (none : count - 1 ≡ 0 → (result ≡ true) × (after ≡ mid))
     (again : (hs : List Held) (o : Option Own) → AreLeft C l at (count - 1) rest hs o →

@@ -6,35 +6,35 @@ use Rattle.std.proofs.lemmas.Option.{slice_get_within}
 use Rattle.giop_sig.specs.Table.{Table}
 use Rattle.giop_message.specs.declared.message.Message.{Message}
 use Rattle.giop_message.specs.Headers.{size, is_fragment}
-use Rattle.giop_message.specs.Signatures.{Listed}
+use Rattle.giop_message.specs.Signatures.{RequestTable}
 use Rattle.giop_checkpoint.specs.declared.fault.StreamFault.{StreamFault}
 use Rattle.giop_checkpoint.specs.declared.fixed.Fixed.{Fixed}
 use Rattle.giop_checkpoint.specs.declared.fixed.Place.{Place}
 use Rattle.giop_checkpoint.specs.declared.fixed.Place.TheVariants.{Header, Payload}
 use Rattle.giop_checkpoint.specs.Records.{entry_octets}
-use Rattle.giop_stream.specs.Keeping.{Kept_slot}
+use Rattle.giop_stream.specs.SlotsRepresent.{OpenEntry}
 use Rattle.giop_stream.specs.declared.slots.Slots.{Slots}
-use Rattle.giop_stream.specs.declared.slots.Payload.{Payload as Whose}
+use Rattle.giop_stream.specs.declared.slots.Payload.{Payload as PayloadOwner}
 use Rattle.giop_stream.specs.declared.slots.Payload.TheVariants as payload
 use Rattle.giop_stream.specs.Rules.{Rules, rules}
 use Rattle.giop_stream.specs.Framing.{cut, fault_of}
 use Rattle.giop_stream.specs.Events.{open_after}
-use Rattle.giop_stream.specs.State.{Slot as Held, octets_of}
-use Rattle.giop_stream.specs.Engine.{State, Own, unless, state_of}
-use Rattle.giop_stream.specs.Keeping.{AreSlots}
-use Rattle.giop_stream.specs.Showing.{IsOwn, IsOwner, IsTurn, Shows, come_in, comes_itself}
-use Rattle.giop_stream.specs.Remembering.{Memory}
+use Rattle.giop_stream.specs.OpenSlots.{Slot as Held, octets_of}
+use Rattle.giop_stream.specs.EngineState.{State, Own, unless, state_of}
+use Rattle.giop_stream.specs.SlotsRepresent.{AreSlots}
+use Rattle.giop_stream.specs.ViewOfState.{IsOwn, IsOwner, IsTurn, Shows, come_in, comes_itself}
+use Rattle.giop_stream.specs.EngineView.{FramingView}
 use Rattle.giop_stream.specs.Checkpoint.{place_of, owner_of, fixed_of, Spells}
 use Rattle.giop_stream.specs.Reloading as fields
 use Rattle.giop_stream.specs.Reloading.{AreLeft, HasAdded}
-use Rattle.giop_stream.proofs.Moves.EngineAlive.{few_open}
-use Rattle.giop_stream.proofs.Keep.SlotLists.{slots_many, are_as_many}
+use Rattle.giop_stream.proofs.CodeSteps.EngineAlive.{few_open}
+use Rattle.giop_stream.proofs.SlotSteps.SlotLists.{slots_many, are_as_many}
 use Rattle.giop_stream.proofs.Restored.LoadRanges.{AreTotals, may_be_again}
 use Rattle.giop_stream.proofs.Restored.SavedSizes.{entries_count}
 
 -- ---- the records of a checkpoint are left, and there is room for them
 
-pub spells_left : (octets p : List ℕ) (C : Table) (l : Listed) (most : ℕ) (s : Spells octets C l most p) (fixed : Fixed) (records : List ℕ) →
+pub spells_left : (octets p : List ℕ) (C : Table) (l : RequestTable) (most : ℕ) (s : Spells octets C l most p) (fixed : Fixed) (records : List ℕ) →
     fixed ≡ fixed_of C l s.memory → records ≡ flat_map entry_octets s.entries →
     AreLeft C l (fixed.octets + 1) fixed.records records (state_of (rules C l most) p).slots
     (state_of (rules C l most) p).own
@@ -64,7 +64,7 @@ unfolding state_of
 room_for R p bare none = omega (arith, ap length none, slots_many (octets_of R p) (open_after R.most p), few_open R.most p)
 
 -- it allows as many open messages as its stream is read with
-pub limit_is : (octets p : List ℕ) (C : Table) (l : Listed) (most : ℕ) (s : Spells octets C l most p) (fixed : Fixed) →
+pub limit_is : (octets p : List ℕ) (C : Table) (l : RequestTable) (most : ℕ) (s : Spells octets C l most p) (fixed : Fixed) →
     fixed ≡ fixed_of C l s.memory → fixed.most_open ≡ most
 unfolding fixed_of
 limit_is octets p C l most s fixed is = ap (λ (f : Fixed). f.most_open) is ∙ s.limit
@@ -82,29 +82,29 @@ held_behind R p fault e = behind_none (cut p).stop _ fault e
 
 -- the place of a header that isn't whole, or of a payload
 abbrev running_place : Bool → List ℕ → ℕ → Place
-running_place b header come = if b then Header (record { items = header }) else Payload header (size header - come)
+running_place b header payload_count = if b then Header (record { items = header }) else Payload header (size header - payload_count)
 
-stop_by : (b : Bool) (header : List ℕ) (come : ℕ) → fields.stop_in (running_place b header come) ≡ None
-stop_by true header come = refl
-stop_by false header come = refl
+stop_by : (b : Bool) (header : List ℕ) (payload_count : ℕ) → fields.stop_in (running_place b header payload_count) ≡ None
+stop_by true header payload_count = refl
+stop_by false header payload_count = refl
 
-stop_again : (stopped : Option StreamFault) (header : List ℕ) (come : ℕ) →
-    fields.stop_in (place_of stopped header come) ≡ stopped
-stop_again (Some fault) header come = refl
-stop_again None header come = stop_by (nat_lt (length header) 12) header come
+stop_again : (stopped : Option StreamFault) (header : List ℕ) (payload_count : ℕ) →
+    fields.stop_in (place_of stopped header payload_count) ≡ stopped
+stop_again (Some fault) header payload_count = refl
+stop_again None header payload_count = stop_by (nat_lt (length header) 12) header payload_count
 
-header_by : (b : Bool) (header : List ℕ) (come : ℕ) → fields.header_in (running_place b header come) ≡ header
-header_by true header come = refl
-header_by false header come = refl
+header_by : (b : Bool) (header : List ℕ) (payload_count : ℕ) → fields.header_in (running_place b header payload_count) ≡ header
+header_by true header payload_count = refl
+header_by false header payload_count = refl
 
 -- behind a stream fault no header is held
 abbrev IsBehind : Option StreamFault → List ℕ → Type 0
 IsBehind stopped header = (fault : StreamFault) → stopped ≡ Some fault → header ≡ []
 
-header_again : (stopped : Option StreamFault) (header : List ℕ) (come : ℕ) → IsBehind stopped header →
-    fields.header_in (place_of stopped header come) ≡ header
-header_again (Some fault) header come behind = sym (behind fault refl)
-header_again None header come behind = header_by (nat_lt (length header) 12) header come
+header_again : (stopped : Option StreamFault) (header : List ℕ) (payload_count : ℕ) → IsBehind stopped header →
+    fields.header_in (place_of stopped header payload_count) ≡ header
+header_again (Some fault) header payload_count behind = sym (behind fault refl)
+header_again None header payload_count behind = header_by (nat_lt (length header) 12) header payload_count
 
 -- how many payload octets have come, where so many are still to come
 abbrev come_of : Bool → List ℕ → ℕ → ℕ
@@ -113,30 +113,30 @@ come_of b header left = if b then 0 else size header - left
 twice : (n k : ℕ) → n - (n - (n - k)) ≡ n - k
 twice n k = omega arith
 
-come_by : (b : Bool) (header : List ℕ) (left come : ℕ) → come ≡ come_of b header left →
-    fields.come_in (running_place b header come) ≡ come
-come_by true header left come e = sym e
-come_by false header left come e = rw e (twice (size header) left)
+come_by : (b : Bool) (header : List ℕ) (left payload_count : ℕ) → payload_count ≡ come_of b header left →
+    fields.come_in (running_place b header payload_count) ≡ payload_count
+come_by true header left payload_count e = sym e
+come_by false header left payload_count e = rw e (twice (size header) left)
 
-come_again : (stopped : Option StreamFault) (header : List ℕ) (left come : ℕ) → IsBehind stopped header →
-    come ≡ come_of (nat_lt (length header) 12) header left → fields.come_in (place_of stopped header come) ≡ come
-come_again (Some fault) header left come behind e =
+come_again : (stopped : Option StreamFault) (header : List ℕ) (left payload_count : ℕ) → IsBehind stopped header →
+    payload_count ≡ come_of (nat_lt (length header) 12) header left → fields.come_in (place_of stopped header payload_count) ≡ payload_count
+come_again (Some fault) header left payload_count behind e =
     sym (e ∙ ap (λ (xs : List ℕ). come_of (nat_lt (length xs) 12) xs left) (behind fault refl))
-come_again None header left come behind e = come_by (nat_lt (length header) 12) header left come e
+come_again None header left payload_count behind e = come_by (nat_lt (length header) 12) header left payload_count e
 
 -- whether the next octets are the current message's own
 abbrev own_comes : List ℕ → ℕ → Bool
-own_comes header come = nat_le 12 (length header) && not (is_fragment header && nat_le 4 come)
+own_comes header payload_count = nat_le 12 (length header) && not (is_fragment header && nat_le 4 payload_count)
 
-itself_by : (b : Bool) (header : List ℕ) (left come : ℕ) → nat_lt (length header) 12 ≡ b → come ≡ come_of b header left →
-    fields.comes_in (running_place b header come) ≡ own_comes header come
-itself_by true header left come short e = rw (lt-leb 12 (length header) (omega (arith, ltb-true (length header) 12 short))) refl
-itself_by false header left come long e =
-    rw (le-leb 12 (length header) (omega (arith, ltb-false (length header) 12 long)), come_by false header left come e) refl
+itself_by : (b : Bool) (header : List ℕ) (left payload_count : ℕ) → nat_lt (length header) 12 ≡ b → payload_count ≡ come_of b header left →
+    fields.comes_in (running_place b header payload_count) ≡ own_comes header payload_count
+itself_by true header left payload_count short e = rw (lt-leb 12 (length header) (omega (arith, ltb-true (length header) 12 short))) refl
+itself_by false header left payload_count long e =
+    rw (le-leb 12 (length header) (omega (arith, ltb-false (length header) 12 long)), come_by false header left payload_count e) refl
 
-itself_again : (header : List ℕ) (left come : ℕ) → come ≡ come_of (nat_lt (length header) 12) header left →
-    fields.comes_in (place_of None header come) ≡ own_comes header come
-itself_again header left come e = itself_by (nat_lt (length header) 12) header left come refl e
+itself_again : (header : List ℕ) (left payload_count : ℕ) → payload_count ≡ come_of (nat_lt (length header) 12) header left →
+    fields.comes_in (place_of None header payload_count) ≡ own_comes header payload_count
+itself_again header left payload_count e = itself_by (nat_lt (length header) 12) header left payload_count refl e
 
 -- ---- whose the payload is
 
@@ -145,16 +145,16 @@ pub record IsItself (itself : Bool) (s : State) : Type 0 where
   pub running : s.stop ≡ None → itself ≡ comes_itself s
   pub behind : (fault : StreamFault) → s.stop ≡ Some fault → itself ≡ false
 
-abbrev IsPayload : Whose → State → Type 0
+abbrev IsPayload : PayloadOwner → State → Type 0
 IsPayload w s = IsOwner w s × (s.stop ≡ None → IsTurn w s)
 
-no_own : (C : Table) (l : Listed) (s : State) (own : Option Own) → s.own ≡ own → IsOwn C l None own →
-    s.owner ≡ option_map (λ o. o.title.number) s.own → s.owner ≡ None
-no_own C l s None none is owner = owner ∙ ap (λ (o : Option Own). option_map (λ o. o.title.number) o) none
+no_own : (C : Table) (l : RequestTable) (s : State) (own : Option Own) → s.own ≡ own → IsOwn C l None own →
+    s.owner ≡ option_map (λ o. o.message_key.number) s.own → s.owner ≡ None
+no_own C l s None none is owner = owner ∙ ap (λ (o : Option Own). option_map (λ o. o.message_key.number) o) none
 no_own C l s (Some o) none is owner = absurd is
 
 -- nobody's, or those of a current message that is over
-own_turn : (itself : Bool) (s : State) → IsItself itself s → s.owner ≡ option_map (λ o. o.title.number) s.own →
+own_turn : (itself : Bool) (s : State) → IsItself itself s → s.owner ≡ option_map (λ o. o.message_key.number) s.own →
     s.owner ≡ None → IsPayload (fields.by_turn itself) s
 own_turn true s is owner none = (owner, λ running. sym (is.running running))
 own_turn false s is owner none = (none, λ running. sym (is.running running))
@@ -164,26 +164,26 @@ not_itself : (itself : Bool) (s : State) (stop : Option StreamFault) → s.stop 
 not_itself itself s None e is turn = is.running e ∙ turn e
 not_itself itself s (Some fault) e is turn = is.behind fault e
 
-payload_again : (C : Table) (l : Listed) (w : Whose) (own : Option Message) (many : ℕ) (s : State) (itself : Bool) →
+payload_again : (C : Table) (l : RequestTable) (w : PayloadOwner) (own : Option Message) (many : ℕ) (s : State) (itself : Bool) →
     many ≡ length s.slots → IsOwn C l own s.own → IsPayload w s → IsItself itself s →
     IsPayload (fields.payload_of (owner_of w many own) itself many) s
-payload_again C l payload.Own None many s itself long whose of is =
-    own_turn itself s is of.0 (no_own C l s s.own refl whose of.0)
-payload_again C l payload.Own (Some m) many s itself long whose of is = rw (le-ltb many many (omega arith)) of
-payload_again C l (payload.Open k) own many s itself long whose of is =
+payload_again C l payload.Own None many s itself long owner_of_next of is =
+    own_turn itself s is of.0 (no_own C l s s.own refl owner_of_next of.0)
+payload_again C l payload.Own (Some m) many s itself long owner_of_next of is = rw (le-ltb many many (omega arith)) of
+payload_again C l (payload.Open k) own many s itself long owner_of_next of is =
     let low : k < many = omega (arith, long, slice_get_within s.slots k of.0.1.0 of.0.1.1) in
     rw (lt-ltb k many low, lt-ltb k many low) of
-payload_again C l payload.Nobody own many s itself long whose of is =
+payload_again C l payload.Nobody own many s itself long owner_of_next of is =
     subst (λ (b : Bool). IsPayload (fields.by_turn b) s) (sym (not_itself itself s s.stop refl is of.1)) of
 
 -- ---- the fields
 
 -- what the fields are read as
-pub record IsReadAs (m : Memory) (fixed : Fixed) (made : Slots) : Type 0 where
+pub record IsReadAs (m : FramingView) (fixed : Fixed) (made : Slots) : Type 0 where
   pub totals : m.totals ≡ record { messages = fixed.messages; faults = fixed.faults; octets = fixed.octets }
   pub stopped : m.stopped ≡ fields.stop_in fixed.place
   pub header : m.header ≡ fields.header_in fixed.place
-  pub come : m.come ≡ fields.come_in fixed.place
+  pub payload_count : m.payload_count ≡ fields.come_in fixed.place
   pub payload : m.slots.payload ≡ fields.payload_of fixed.owner (fields.comes_in fixed.place) (length made.slots.entries)
   pub slots : m.slots.slots ≡ made.slots
   pub own : m.slots.own ≡ made.own
@@ -195,13 +195,13 @@ pub record MayBe (fixed : Fixed) (stop : Option StreamFault) (long : ℕ) : Type
   pub faults : fixed.faults ≤ 3 * fixed.octets
   pub held : long ≤ fixed.octets
 
-added_all : (C : Table) (l : Listed) (bare slots : Slots) (held : List Held) → bare.slots.entries ≡ [] →
+added_all : (C : Table) (l : RequestTable) (bare slots : Slots) (held : List Held) → bare.slots.entries ≡ [] →
     HasAdded C l bare slots held → AreSlots C l slots.slots.entries held
 added_all C l bare slots held none added =
-    let kept : slots.slots.entries ≡ added.kept = added.put ∙ ap (λ (xs : List Kept_slot). xs ++ added.kept) none in
-    subst (λ (xs : List Kept_slot). AreSlots C l xs held) (sym kept) added.are
+    let kept : slots.slots.entries ≡ added.kept = added.put ∙ ap (λ (xs : List OpenEntry). xs ++ added.kept) none in
+    subst (λ (xs : List OpenEntry). AreSlots C l xs held) (sym kept) added.are
 
-module _ (octets p : List ℕ) (C : Table) (l : Listed) (most : ℕ) (s : Spells octets C l most p) where
+module _ (octets p : List ℕ) (C : Table) (l : RequestTable) (most : ℕ) (s : Spells octets C l most p) where
   state : State
   state = state_of (rules C l most) p
 
@@ -209,23 +209,23 @@ module _ (octets p : List ℕ) (C : Table) (l : Listed) (most : ℕ) (s : Spells
   unfolding state
   behind fault e = s.shows.header ∙ held_behind (rules C l most) p fault (sym s.shows.stopped ∙ e)
 
-  come_is : s.memory.come ≡ come_of (nat_lt (length s.memory.header) 12) s.memory.header state.left
+  come_is : s.memory.payload_count ≡ come_of (nat_lt (length s.memory.header) 12) s.memory.header state.left
   unfolding state come_in
   come_is =
-      s.shows.come
+      s.shows.payload_count
       ∙ ap (λ (xs : List ℕ). come_of (nat_lt (length xs) 12) xs (state_of (rules C l most) p).left) (sym s.shows.header)
 
   -- whether the next octets are the current message's own, by the place that was written
   itself_now : Option StreamFault → Bool
-  itself_now stopped = fields.comes_in (place_of stopped s.memory.header s.memory.come)
+  itself_now stopped = fields.comes_in (place_of stopped s.memory.header s.memory.payload_count)
 
   itself_is : IsItself (itself_now s.memory.stopped) state
   unfolding state comes_itself itself_now
   itself_is = record {
     running = λ e. ap itself_now (s.shows.stopped ∙ e)
-        ∙ itself_again s.memory.header state.left s.memory.come come_is
-        ∙ ap (λ (xs : List ℕ). own_comes xs s.memory.come) s.shows.header
-        ∙ ap (λ (n : ℕ). own_comes state.held n) s.shows.come;
+        ∙ itself_again s.memory.header state.left s.memory.payload_count come_is
+        ∙ ap (λ (xs : List ℕ). own_comes xs s.memory.payload_count) s.shows.header
+        ∙ ap (λ (n : ℕ). own_comes state.held n) s.shows.payload_count;
     behind = λ fault e. ap itself_now (s.shows.stopped ∙ e);
   }
 
@@ -239,25 +239,25 @@ module _ (octets p : List ℕ) (C : Table) (l : Listed) (most : ℕ) (s : Spells
       rw same (payload_again C l s.memory.slots.payload s.memory.slots.own (length s.memory.slots.slots.entries) state
       (itself_now s.memory.stopped) kept s.shows.own (s.shows.owner, s.shows.turn) itself_is)
 
-  module _ (m : Memory) (bare slots : Slots) (none : bare.slots.entries ≡ []) where
+  module _ (m : FramingView) (bare slots : Slots) (none : bare.slots.entries ≡ []) where
     shows_fixed : IsReadAs m (fixed_of C l s.memory) slots → HasAdded C l bare slots state.slots →
         IsOwn C l slots.own state.own → Shows C l m state
     unfolding state fixed_of itself_now
     shows_fixed is added own =
         let all = added_all C l bare slots state.slots none added in
-        let whose : IsPayload m.slots.payload state = subst (λ (w : Whose). IsPayload w state) (sym is.payload)
+        let owner_of_next : IsPayload m.slots.payload state = subst (λ (w : PayloadOwner). IsPayload w state) (sym is.payload)
         (payload_is (length slots.slots.entries) (are_as_many C l slots.slots.entries state.slots all)) in
         record {
           totals = is.totals ∙ s.shows.totals;
-          stopped = is.stopped ∙ stop_again s.memory.stopped s.memory.header s.memory.come ∙ s.shows.stopped;
-          header = is.header ∙ header_again s.memory.stopped s.memory.header s.memory.come behind ∙ s.shows.header;
-          come = is.come
-              ∙ come_again s.memory.stopped s.memory.header state.left s.memory.come behind come_is
-              ∙ s.shows.come;
-          slots = subst (λ (xs : List Kept_slot). AreSlots C l xs state.slots) (sym (ap (λ s. s.entries) is.slots)) all;
+          stopped = is.stopped ∙ stop_again s.memory.stopped s.memory.header s.memory.payload_count ∙ s.shows.stopped;
+          header = is.header ∙ header_again s.memory.stopped s.memory.header s.memory.payload_count behind ∙ s.shows.header;
+          payload_count = is.payload_count
+              ∙ come_again s.memory.stopped s.memory.header state.left s.memory.payload_count behind come_is
+              ∙ s.shows.payload_count;
+          slots = subst (λ (xs : List OpenEntry). AreSlots C l xs state.slots) (sym (ap (λ s. s.entries) is.slots)) all;
           own = subst (λ (o : Option Message). IsOwn C l o state.own) (sym is.own) own;
-          owner = whose.0;
-          turn = whose.1;
+          owner = owner_of_next.0;
+          turn = owner_of_next.1;
         }
 
     pub shows_again : (fixed : Fixed) → fixed ≡ fixed_of C l s.memory → IsReadAs m fixed slots →
@@ -272,9 +272,9 @@ module _ (octets p : List ℕ) (C : Table) (l : Listed) (most : ℕ) (s : Spells
     unfolding fixed_of
     totals_fixed stopped same =
         let may : AreTotals s.memory = may_be_again octets p C l most s in
-        let held = header_again s.memory.stopped s.memory.header s.memory.come behind in
+        let held = header_again s.memory.stopped s.memory.header s.memory.payload_count behind in
         record {
-          running = λ e. may.running (sym (stop_again s.memory.stopped s.memory.header s.memory.come) ∙ sym stopped ∙ e);
+          running = λ e. may.running (sym (stop_again s.memory.stopped s.memory.header s.memory.payload_count) ∙ sym stopped ∙ e);
           messages = may.messages;
           faults = may.faults;
           held = omega (arith, may.held, same, ap length held);

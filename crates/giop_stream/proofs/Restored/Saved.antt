@@ -8,24 +8,24 @@ use Rattle.giop_checkpoint.specs.declared.record.Record.{Record}
 use Rattle.giop_checkpoint.specs.Records.{Entry, RecordHasRange, own_octets, entry_octets}
 use Rattle.giop_checkpoint.proofs.Puts.{then}
 use Rattle.giop_sig.specs.Table.{Table}
-use Rattle.giop_message.specs.Holding.{Fits}
-use Rattle.giop_message.specs.Signatures.{Listed}
+use Rattle.giop_message.specs.MessageState.{Fits}
+use Rattle.giop_message.specs.Signatures.{RequestTable}
 use Rattle.giop_checkpoint.specs.declared.layout.Layout.TheVariants.{Third}
 use Rattle.giop_checkpoint.specs.Fixed.{fixed_octets}
-use Rattle.giop_stream.specs.Keeping.{Kept_slot}
-use Rattle.giop_stream.specs.Keeping.{IsReady}
+use Rattle.giop_stream.specs.SlotsRepresent.{OpenEntry}
+use Rattle.giop_stream.specs.SlotsRepresent.{IsReady}
 use Rattle.std.specs.Result.{IfOk}
 use Rattle.std.proofs.lemmas.Bool.{false≢true}
 use Rattle.giop_print.specs.declared.sink.OutFault.{OutFault}
 use Rattle.giop_print.specs.Output.{OutLog, WroteFront}
 use Rattle.giop_print.proofs.Writing.{wrote-nil, wrote-front, front-append}
 use Rattle.giop_stream.specs.declared.fault.Stop.{Stop}
-use Rattle.giop_stream.specs.Holding.{Holds, StopWrites}
-use Rattle.giop_stream.specs.Remembering.{Memory, EngineMemory}
-use Rattle.giop_checkpoint.specs.declared.record.Standing.TheVariants as standings
+use Rattle.giop_stream.specs.EngineHolds.{Holds, StopWrites}
+use Rattle.giop_stream.specs.EngineView.{FramingView, EngineView}
+use Rattle.giop_checkpoint.specs.declared.record.RecordKind.TheVariants as standings
 use Rattle.giop_stream.proofs.Restored.LoadRanges.{few_slots}
 use Rattle.giop_stream.proofs.Restored.SavedSizes.{HasRoom, whole_long, whole_within}
-use Rattle.giop_stream.specs.Checkpoint.{standing_of, IsHeld, IsStored, IsOpen, IsKept, IsCurrent, IsPutOne, IsPut, AreOpen, AreEntries, fixed_of, checkpoint_octets, IsPutWhole, Puts, PutsSuch, Spells, Saves}
+use Rattle.giop_stream.specs.Checkpoint.{standing_of, IsHeld, IsStored, IsOpen, IsMessageRecord, IsCurrent, IsPutOne, IsPut, AreOpen, AreEntries, fixed_of, checkpoint_octets, IsPutWhole, Puts, PutsSuch, Spells, Saves}
 
 pub flat_append : (xs ys : List Entry) → flat_map entry_octets (xs ++ ys) ≡ flat_map entry_octets xs ++ flat_map entry_octets ys
 flat_append [] ys = refl
@@ -36,7 +36,7 @@ pub flat_one : (e : Entry) → flat_map entry_octets (e ∷ []) ≡ entry_octets
 flat_one e = append-nil (entry_octets e)
 
 -- an open message more
-pub entries_push : (slots : List Kept_slot) (slot : Kept_slot) (es : List Entry) (e : Entry) → AreOpen slots es → IsOpen slot e
+pub entries_push : (slots : List OpenEntry) (slot : OpenEntry) (es : List Entry) (e : Entry) → AreOpen slots es → IsOpen slot e
     → AreOpen (slots ++ slot ∷ []) (es ++ e ∷ [])
 entries_push [] slot [] e are is = (is, tt)
 entries_push [] slot (f ∷ es) e are is = absurd are
@@ -44,7 +44,7 @@ entries_push (s ∷ slots) slot [] e are is = absurd are
 entries_push (s ∷ slots) slot (f ∷ es) e are is = (are.0, entries_push slots slot es e are.1 is)
 
 -- and then the current one
-pub entries_own : (slots : List Kept_slot) (m : Message) (es : List Entry) (e : Entry) → AreOpen slots es → IsCurrent m e → AreEntries slots (Some m) (es ++ e ∷ [])
+pub entries_own : (slots : List OpenEntry) (m : Message) (es : List Entry) (e : Entry) → AreOpen slots es → IsCurrent m e → AreEntries slots (Some m) (es ++ e ∷ [])
 entries_own [] m [] e are is = (is, refl)
 entries_own [] m (f ∷ es) e are is = absurd are
 entries_own (s ∷ slots) m [] e are is = absurd are
@@ -53,7 +53,7 @@ entries_own (s ∷ slots) m (f ∷ es) e are is = (are.0, entries_own slots m es
 pub put_none : (before : List ℕ) → IsPut before before (AreOpen [])
 put_none before = record { entries = []; are = tt; put = sym (append-nil before) }
 
-pub put_more : (slots : List Kept_slot) (slot : Kept_slot) (before between after : List ℕ) → IsPut before between (AreOpen slots) → IsPutOne between after (IsOpen slot)
+pub put_more : (slots : List OpenEntry) (slot : OpenEntry) (before between after : List ℕ) → IsPut before between (AreOpen slots) → IsPutOne between after (IsOpen slot)
     → IsPut before after (AreOpen (slots ++ slot ∷ []))
 put_more slots slot before between after some one = record {
   entries = some.entries ++ one.entry ∷ [];
@@ -65,14 +65,14 @@ put_more slots slot before between after some one = record {
 }
 
 -- over is written as zeros, behind its own octets
-pub over_is : (slot : Kept_slot) (r : Record) (before between after : List ℕ) → slot.value.message ≡ None → RecordHasRange r
-    → r.frames ≡ 0 → r.standing ≡ standings.Over slot.key → r.number ≡ slot.value.number → r.header ≡ slot.value.header
+pub over_is : (slot : OpenEntry) (r : Record) (before between after : List ℕ) → slot.value.message ≡ None → RecordHasRange r
+    → r.frames ≡ 0 → r.record_kind ≡ standings.Over slot.key → r.number ≡ slot.value.number → r.header ≡ slot.value.header
     → between ≡ before ++ own_octets r → after ≡ between ++ replicate 224 0 → IsPutOne before after (IsOpen slot)
-over_is slot r before between after none range few standing number header put zeros = record {
+over_is slot r before between after none range few record_kind number header put zeros = record {
   entry = record { record_is = r; message = replicate 224 0; frames = [] };
   is = record {
     range = record { own = range; message = refl; frames = omega (arith, few) };
-    standing = standing ∙ ap (λ (m : Option Message). standing_of m slot.key) (sym none);
+    record_kind = record_kind ∙ ap (λ (m : Option Message). standing_of m slot.key) (sym none);
     number = number;
     header = header;
     message = stored_over slot.value.message none;
@@ -86,14 +86,14 @@ over_is slot r before between after none range few standing number header put ze
     stored_over (Some m) e = absurd (let no : Some m ≡ None = e in cc)
 
 -- one that is kept
-pub open_is : (slot : Kept_slot) (m : Message) (before after : List ℕ) → slot.value.message ≡ Some m
-    → IsPutOne before after (IsKept (standings.Open slot.key) slot.value.number slot.value.header m)
+pub open_is : (slot : OpenEntry) (m : Message) (before after : List ℕ) → slot.value.message ≡ Some m
+    → IsPutOne before after (IsMessageRecord (standings.Open slot.key) slot.value.number slot.value.header m)
     → IsPutOne before after (IsOpen slot)
 open_is slot m before after some put = record {
   entry = put.entry;
   is = record {
     range = put.is.range;
-    standing = put.is.standing_is ∙ ap (λ (n : Option Message). standing_of n slot.key) (sym some);
+    record_kind = put.is.standing_is ∙ ap (λ (n : Option Message). standing_of n slot.key) (sym some);
     number = put.is.number_is;
     header = put.is.header_is;
     message = stored_kept slot.value.message some;
@@ -123,7 +123,7 @@ ready_fits C at (Some n) m e ready = let P : Message → Type 0 = λ x. Fits C x
 
 -- ---- the whole
 
-pub whole_is : (C : Table) (l : Listed) (m : Memory) (fixed after : List ℕ) → m.slots.own ≡ None → fixed ≡ fixed_octets Third (fixed_of C l m)
+pub whole_is : (C : Table) (l : RequestTable) (m : FramingView) (fixed after : List ℕ) → m.slots.own ≡ None → fixed ≡ fixed_octets Third (fixed_of C l m)
     → IsPut fixed after (AreOpen m.slots.slots.entries) → IsPutWhole Third C l m after
 unfolding checkpoint_octets
 whole_is C l m fixed after none e p = record {
@@ -136,7 +136,7 @@ whole_is C l m fixed after none e p = record {
     own_none None e = p.are
     own_none (Some x) e = absurd (let no : Some x ≡ None = e in cc)
 
-pub whole_own : (C : Table) (l : Listed) (m : Memory) (x : Message) (fixed between after : List ℕ) → m.slots.own ≡ Some x
+pub whole_own : (C : Table) (l : RequestTable) (m : FramingView) (x : Message) (fixed between after : List ℕ) → m.slots.own ≡ Some x
     → fixed ≡ fixed_octets Third (fixed_of C l m)
     → IsPut fixed between (AreOpen m.slots.slots.entries) → IsPutOne between after (IsCurrent x) → IsPutWhole Third C l m after
 unfolding checkpoint_octets
@@ -162,24 +162,24 @@ whole_own C l m x fixed between after some e p one = record {
 
 -- ---- the loop over the open messages
 
-pub put_read : (slots : List Kept_slot) (i : ℕ) (slot : Kept_slot) (before between after : List ℕ) → i < length slots
+pub put_read : (slots : List OpenEntry) (i : ℕ) (slot : OpenEntry) (before between after : List ℕ) → i < length slots
     → slot ≡ get_or slots i slot → IsPut before between (AreOpen (take i slots)) → IsPutOne between after (IsOpen slot)
     → IsPut before after (AreOpen (take (i + 1) slots))
 put_read slots i slot before between after low is some one =
-    let P : List Kept_slot → Type 0 = λ xs. IsPut before after (AreOpen xs) in
-    subst P (ap (λ (x : Kept_slot). take i slots ++ x ∷ []) is ∙ sym (take_at_read slots i slot low).1) (put_more (take i slots) slot before between after some one)
+    let P : List OpenEntry → Type 0 = λ xs. IsPut before after (AreOpen xs) in
+    subst P (ap (λ (x : OpenEntry). take i slots ++ x ∷ []) is ∙ sym (take_at_read slots i slot low).1) (put_more (take i slots) slot before between after some one)
 
-pub ready_at : (C : Table) (at : ℕ) (slots : List Kept_slot) (i : ℕ) (slot : Kept_slot) → i < length slots
+pub ready_at : (C : Table) (at : ℕ) (slots : List OpenEntry) (i : ℕ) (slot : OpenEntry) → i < length slots
     → slot ≡ get_or slots i slot → Each (λ s. IsReady C at s.value.message) slots → IsReady C at slot.value.message
-ready_at C at slots i slot low is ready = let P : Kept_slot → Type 0 = λ s. IsReady C at s.value.message in subst P (sym is) (read slots i low ready)
+ready_at C at slots i slot low is ready = let P : OpenEntry → Type 0 = λ s. IsReady C at s.value.message in subst P (sym is) (read slots i low ready)
   where
-    read : (xs : List Kept_slot) (j : ℕ) → j < length xs → Each (λ s. IsReady C at s.value.message) xs → IsReady C at (get_or xs j slot).value.message
+    read : (xs : List OpenEntry) (j : ℕ) → j < length xs → Each (λ s. IsReady C at s.value.message) xs → IsReady C at (get_or xs j slot).value.message
     read [] j low ready = absurd (omega (arith, low))
     read (x ∷ xs) zero low ready = ready.0
     read (x ∷ xs) (suc j) low ready = read xs j (omega (arith, low)) ready.1
 
 pub current_is : (m : Message) (number : ℕ) (header before after : List ℕ) → number ≡ m.number → header ≡ m.header
-    → IsPutOne before after (IsKept standings.Current number header m) → IsPutOne before after (IsCurrent m)
+    → IsPutOne before after (IsMessageRecord standings.Current number header m) → IsPutOne before after (IsCurrent m)
 current_is m number header before after n h put = record {
   entry = put.entry;
   is = record {
@@ -208,18 +208,18 @@ put_behind none front octets items Is e value one = record {
 }
 
 -- the records of all the open messages
-pub puts_all : (slots : List Kept_slot) (i : ℕ) (result : Result ℕ OutFault) (before after : OutLog) (front : List ℕ) → length slots ≤ i
+pub puts_all : (slots : List OpenEntry) (i : ℕ) (result : Result ℕ OutFault) (before after : OutLog) (front : List ℕ) → length slots ≤ i
     → PutsSuch result before after (λ octets. IsPut front octets (AreOpen (take i slots)))
     → PutsSuch result before after (λ octets. IsPut front octets (AreOpen slots))
 puts_all slots i result before after front high some =
-    let P : List Kept_slot → Type 0 = λ xs. PutsSuch result before after (λ octets. IsPut front octets (AreOpen xs)) in subst P (take_all i slots high) some
+    let P : List OpenEntry → Type 0 = λ xs. PutsSuch result before after (λ octets. IsPut front octets (AreOpen xs)) in subst P (take_all i slots high) some
 
-pub puts_same : (C : Table) (at : ℕ) (slots same : List Kept_slot) (result : Result ℕ OutFault) (before after : OutLog) (front : List ℕ) → slots ≡ same
+pub puts_same : (C : Table) (at : ℕ) (slots same : List OpenEntry) (result : Result ℕ OutFault) (before after : OutLog) (front : List ℕ) → slots ≡ same
     → (Each (λ s. IsReady C at s.value.message) slots → PutsSuch result before after (λ octets. IsPut front octets (AreOpen slots)))
     → Each (λ s. IsReady C at s.value.message) same → PutsSuch result before after (λ octets. IsPut front octets (AreOpen same))
 puts_same C at slots same result before after front e put ready =
-    let P : List Kept_slot → Type 0 = λ xs. Each (λ s. IsReady C at s.value.message) xs in
-    let Q : List Kept_slot → Type 0 = λ xs. PutsSuch result before after (λ octets. IsPut front octets (AreOpen xs)) in
+    let P : List OpenEntry → Type 0 = λ xs. Each (λ s. IsReady C at s.value.message) xs in
+    let Q : List OpenEntry → Type 0 = λ xs. PutsSuch result before after (λ octets. IsPut front octets (AreOpen xs)) in
     subst Q e (put (subst P (sym e) ready))
 
 pub ok_within : (r : Result ℕ OutFault) (a b : ℕ) → a ≤ b → IfOk r (λ n. n ≤ a) → IfOk r (λ n. n ≤ b)
@@ -243,16 +243,16 @@ puts_stopped (Ok m) (Err i) before between after front octets n e is puts front_
 
 -- ---- an engine's checkpoint
 
-pub saved_is : (e v : EngineMemory) (p octets : List ℕ) (result : Result ℕ Stop) (before after : OutLog) → e ≡ v
-    → v.stream.slots.slots.most ≡ v.most → Holds e p → IsPutWhole Third v.table v.listed v.stream octets
-    → HasRoom Third v.table v.listed v.stream → StopWrites result before after octets
-    → IfOk result (λ n. n ≡ length octets) → Saves result before after e.table e.listed e.most p
+pub saved_is : (e v : EngineView) (p octets : List ℕ) (result : Result ℕ Stop) (before after : OutLog) → e ≡ v
+    → v.stream.slots.slots.most ≡ v.most → Holds e p → IsPutWhole Third v.table v.request_table v.stream octets
+    → HasRoom Third v.table v.request_table v.stream → StopWrites result before after octets
+    → IfOk result (λ n. n ≡ length octets) → Saves result before after e.table e.request_table e.most p
 saved_is e v p octets result before after same limit holds put room written count =
-    let whole = subst (λ x. IsPutWhole Third x.table x.listed x.stream octets) (sym same) put in
-    let here = subst (λ x. HasRoom Third x.table x.listed x.stream) (sym same) room in
-    let limit_here = subst (λ (x : EngineMemory). x.stream.slots.slots.most ≡ x.most) (sym same) limit in
-    let size = whole_long Third e.table e.listed e.stream octets whole here in
-    let spells : Spells octets e.table e.listed e.most p = record {
+    let whole = subst (λ x. IsPutWhole Third x.table x.request_table x.stream octets) (sym same) put in
+    let here = subst (λ x. HasRoom Third x.table x.request_table x.stream) (sym same) room in
+    let limit_here = subst (λ (x : EngineView). x.stream.slots.slots.most ≡ x.most) (sym same) limit in
+    let size = whole_long Third e.table e.request_table e.stream octets whole here in
+    let spells : Spells octets e.table e.request_table e.most p = record {
       layout = Third;
       memory = e.stream;
       entries = whole.entries;
@@ -264,7 +264,7 @@ saved_is e v p octets result before after same limit holds put room written coun
       shows = holds.shows;
       ready = here.ready;
     } in
-    let few = few_slots octets p e.table e.listed e.most spells in
+    let few = few_slots octets p e.table e.request_table e.most spells in
     record {
       octets = octets;
       spells = spells;
@@ -272,5 +272,5 @@ saved_is e v p octets result before after same limit holds put room written coun
       written = written;
       count = count;
       size = size;
-      within = omega (arith, size, whole_within Third e.table e.listed e.stream e.most octets whole here few);
+      within = omega (arith, size, whole_within Third e.table e.request_table e.stream e.most octets whole here few);
     }

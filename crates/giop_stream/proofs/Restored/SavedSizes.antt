@@ -6,16 +6,16 @@ use Rattle.std.proofs.Math.Nat.{suc-mul, mul-le-mul_right}
 use Rattle.giop_sig.specs.Table.{Table}
 use Rattle.giop_sig.specs.Trees.{depth_of}
 use Rattle.giop_message.specs.declared.message.Message.{Message}
-use Rattle.giop_message.specs.Signatures.{Listed}
+use Rattle.giop_message.specs.Signatures.{RequestTable}
 use Rattle.giop_checkpoint.specs.declared.sizes.TheConstants.{FRAME_SIZE}
 use Rattle.giop_checkpoint.specs.declared.layout.Layout.{Layout}
 use Rattle.giop_checkpoint.specs.Layouts.{OpenHasRange}
 use Rattle.giop_checkpoint.specs.Fixed.{fixed_octets}
 use Rattle.giop_checkpoint.specs.Records.{Entry, EntryHasRange, own_octets, entry_octets}
 use Rattle.giop_checkpoint.proofs.RecordFields.{own_long}
-use Rattle.giop_stream.specs.Keeping.{Kept_slot}
-use Rattle.giop_stream.specs.Keeping.{IsReady, AreReady}
-use Rattle.giop_stream.specs.Remembering.{Memory}
+use Rattle.giop_stream.specs.SlotsRepresent.{OpenEntry}
+use Rattle.giop_stream.specs.SlotsRepresent.{IsReady, AreReady}
+use Rattle.giop_stream.specs.EngineView.{FramingView}
 use Rattle.giop_stream.specs.Checkpoint.{IsStored, AreEntries, fixed_of, count_own, entries_size, checkpoint_octets, IsPutWhole, checkpoint_limit}
 
 -- ---- records
@@ -48,7 +48,7 @@ entries_within d (e ∷ es) h =
 
 -- ---- those of the messages
 
-pub entries_count : (slots : List Kept_slot) (own : Option Message) (es : List Entry) → AreEntries slots own es → length es ≡ length slots + count_own own
+pub entries_count : (slots : List OpenEntry) (own : Option Message) (es : List Entry) → AreEntries slots own es → length es ≡ length slots + count_own own
 entries_count [] None [] are = refl
 entries_count [] None (e ∷ es) are = absurd are
 entries_count [] (Some m) [] are = absurd are
@@ -56,7 +56,7 @@ entries_count [] (Some m) (e ∷ es) are = ap (λ (xs : List Entry). suc (length
 entries_count (slot ∷ slots) own [] are = absurd are
 entries_count (slot ∷ slots) own (e ∷ es) are = omega (arith, entries_count slots own es are.1)
 
-pub entries_range : (slots : List Kept_slot) (own : Option Message) (es : List Entry) → AreEntries slots own es → Each EntryHasRange es
+pub entries_range : (slots : List OpenEntry) (own : Option Message) (es : List Entry) → AreEntries slots own es → Each EntryHasRange es
 entries_range [] None [] are = tt
 entries_range [] None (e ∷ es) are = absurd are
 entries_range [] (Some m) [] are = absurd are
@@ -70,7 +70,7 @@ stored_shallow : (C : Table) (at : ℕ) (m : Option Message) (e : Entry) → Ent
 stored_shallow C at None e range ready is = let none : length e.frames ≡ 0 = ap length is.1 in omega (arith, none, range.frames)
 stored_shallow C at (Some m) e range ready is = is.shallow C ready.0
 
-entries_shallow : (C : Table) (at : ℕ) (slots : List Kept_slot) (own : Option Message) (es : List Entry) → AreEntries slots own es →
+entries_shallow : (C : Table) (at : ℕ) (slots : List OpenEntry) (own : Option Message) (es : List Entry) → AreEntries slots own es →
     Each (λ s. IsReady C at s.value.message) slots → IsReady C at own → Each (λ e. e.record_is.frames ≤ depth_of C.types) es
 entries_shallow C at [] None [] are each ready = tt
 entries_shallow C at [] None (e ∷ es) are each ready = absurd are
@@ -89,12 +89,12 @@ one_own (Some m) = omega arith
 -- ---- a checkpoint
 
 -- what the code has of its fields: so long a fixed part, a limit that the layout can say, and messages that fit the table
-pub record HasRoom (layout : Layout) (C : Table) (l : Listed) (m : Memory) : Type 0 where
+pub record HasRoom (layout : Layout) (C : Table) (l : RequestTable) (m : FramingView) : Type 0 where
   pub fixed : length (fixed_octets layout (fixed_of C l m)) ≡ 96
   pub allows : OpenHasRange layout m.slots.slots.most
   pub ready : AreReady C (m.totals.octets + 1) m.slots
 
-pub whole_long : (layout : Layout) (C : Table) (l : Listed) (m : Memory) (written : List ℕ) (whole : IsPutWhole layout C l m written) →
+pub whole_long : (layout : Layout) (C : Table) (l : RequestTable) (m : FramingView) (written : List ℕ) (whole : IsPutWhole layout C l m written) →
     HasRoom layout C l m → length written ≡ 96 + entries_size whole.entries
 unfolding checkpoint_octets
 whole_long layout C l m written whole room =
@@ -109,7 +109,7 @@ whole_long layout C l m written whole room =
 many_within : (n most w sum : ℕ) → n ≤ most + 1 → sum ≤ n * w → sum ≤ (most + 1) * w
 many_within n most w sum few within = omega (arith, within, mul-le-mul_right w few)
 
-pub whole_within : (layout : Layout) (C : Table) (l : Listed) (m : Memory) (most : ℕ) (written : List ℕ) (whole : IsPutWhole layout C l m written) →
+pub whole_within : (layout : Layout) (C : Table) (l : RequestTable) (m : FramingView) (most : ℕ) (written : List ℕ) (whole : IsPutWhole layout C l m written) →
     HasRoom layout C l m → length m.slots.slots.entries ≤ most → 96 + entries_size whole.entries ≤ checkpoint_limit most (depth_of C.types)
 unfolding checkpoint_limit
 whole_within layout C l m most written whole room few =

@@ -3,7 +3,7 @@ use Rattle.std.proofs.Common.{◌≤◌, ◌≡◌, ℕ, ◌+◌, ◌*◌, get_o
 use Rattle.std.specs.List.{AllByRecursion as Each}
 use Rattle.std.proofs.lemmas.List.{drop_at, length-append}
 use Rattle.giop_sig.specs.Table.{Table}
-use Rattle.giop_message.specs.Signatures.{Listed}
+use Rattle.giop_message.specs.Signatures.{RequestTable}
 use Rattle.giop_checkpoint.specs.declared.fault.LoadFault.{LoadFault}
 use Rattle.giop_checkpoint.specs.declared.fault.LoadFault.TheVariants as refusals
 use Rattle.giop_checkpoint.specs.declared.fixed.Counts.{Counts}
@@ -16,7 +16,7 @@ use Rattle.giop_checkpoint.specs.Fixed.{HasRange, fixed_octets}
 use Rattle.giop_checkpoint.specs.Records.{Entry, EntryHasRange, AreRecords, used, kind_octets, own_octets, entry_octets}
 use Rattle.giop_checkpoint.specs.Refusals.{Refused, Passes}
 use Rattle.giop_stream.specs.Rules.{most_open}
-use Rattle.giop_stream.specs.Remembering.{Memory}
+use Rattle.giop_stream.specs.EngineView.{FramingView}
 use Rattle.giop_stream.specs.Checkpoint.{counts_of, fixed_of, checkpoint_octets, Spells, Allows, IsRefused}
 use Rattle.giop_stream.proofs.Restored.LoadRanges.{fixed_range}
 use Rattle.giop_stream.proofs.Restored.SavedSizes.{entry_long, entries_count, entries_range}
@@ -41,11 +41,11 @@ records_are (e ∷ es) h =
 
 -- ---- a checkpoint
 
-fixed_counts : (C : Table) (l : Listed) (m : Memory) → (fixed_of C l m).counts ≡ counts_of C l
+fixed_counts : (C : Table) (l : RequestTable) (m : FramingView) → (fixed_of C l m).counts ≡ counts_of C l
 unfolding fixed_of
 fixed_counts C l m = refl
 
-module _ (octets p : List ℕ) (C : Table) (l : Listed) (most : ℕ) (s : Spells octets C l most p) where
+module _ (octets p : List ℕ) (C : Table) (l : RequestTable) (most : ℕ) (s : Spells octets C l most p) where
   fixed_records : AreRecords (fixed_of C l s.memory).records (flat_map entry_octets s.entries)
   unfolding fixed_of
   fixed_records =

@@ -10,18 +10,18 @@ use Rattle.giop_print.specs.Text as print_text
 use Rattle.giop_print.specs.Lines.{type_word, continues_line, cancelled_line, fault_line, stream_fault_line, unfinished_line, total_line}
 use Rattle.giop_print.specs.Lines as print
 use Rattle.giop_stream.specs.Rules.{Rules}
-use Rattle.giop_stream.specs.Headers.{fronts, wrong, first_wrong, offence}
+use Rattle.giop_stream.specs.HeaderOctets.{fronts, wrong, first_wrong, first_wrong_octet}
 use Rattle.giop_message.specs.Headers.{minor, kind, order, has_more, size, may_be_fragmented, is_opener, is_fragment, is_cancel, has_name}
 use Rattle.giop_stream.specs.Framing.{with_first, cut_from, limit, limited, cut, messages, read_of}
-use Rattle.giop_message.specs.Reading.{Saying, Value, Rest, Fault, End, Remark, Reading}
+use Rattle.giop_message.specs.MessageReader.{LineClass, Value, Rest, Fault, End, TimedLine, MessageReader}
 use Rattle.giop_stream.specs.Text.{start_line}
 use Rattle.giop_message.specs.Text.{said_line, rest_text}
 use Rattle.giop_stream.specs.Stream.{is_inside, is_truncated}
 use Rattle.giop_stream.specs.Kinds.{may_be_cancelled, refused}
-use Rattle.giop_stream.specs.Events.{place, own, about, id, opener_of, has_named, goes_past, happens, events_of, changed, opened, events_from, events, open_after, octet, joined, header_acts, octet_acts, id_acts, end_acts}
-use Rattle.giop_stream.specs.Lines.{classes, line, tells, told, by_class, in_order, is_last_of, standing, said, stop_line, lines}
+use Rattle.giop_stream.specs.Events.{place, own, event_of_open, id, opener_of, has_named, goes_past, events_of_octet, events_of, changed, opened, events_from, events, open_after, octet, joined, header_events, payload_events, request_id_events, message_end_events}
+use Rattle.giop_stream.specs.Lines.{classes, line, lines_of_event, lines_of_events, by_class, in_order, is_last_of, up_to_last_line, lines_of_messages, stop_line, lines}
 use Rattle.giop_stream.specs.Text.{lines_text}
-use Rattle.giop_stream.specs.Stream.{text, start_count, fault_count, tally, is_over, heads, unfinished, final, closing}
+use Rattle.giop_stream.specs.Stream.{text, start_count, fault_count, tally, is_over, first_messages, unfinished, final, closing}
 
 -- ---- The reading, and streams in hexadecimal digits with spaces.
 
@@ -30,17 +30,17 @@ unfoldable pub id_text : ℕ → List ℕ
 id_text id = print_text.joined (codes "header.request_id ulong " ∷ decimal id ∷ [])
 
 -- A message that begins with its request id; one of fewer octets than these is short.
-unfoldable pub named_reads : List ℕ → List ℕ → List Remark
-named_reads header xs = if has_name header && nat_le 4 (length xs) then record { at = 4; saying = Value; text = id_text (num (order header) (take 4 xs)) } ∷ [] else []
+unfoldable pub named_reads : List ℕ → List ℕ → List TimedLine
+named_reads header xs = if has_name header && nat_le 4 (length xs) then record { at = 4; line_class = Value; text = id_text (num (order header) (take 4 xs)) } ∷ [] else []
 
-unfoldable pub behind : List ℕ → List (Saying × List ℕ)
+unfoldable pub behind : List ℕ → List (LineClass × List ℕ)
 behind [] = []
 behind (x ∷ xs) = (Rest, rest_text 0 (x ∷ xs)) ∷ []
 
-unfoldable pub named_closes : ℕ → List ℕ → List ℕ → List (Saying × List ℕ)
+unfoldable pub named_closes : ℕ → List ℕ → List ℕ → List (LineClass × List ℕ)
 named_closes least header xs = if nat_lt (length xs) least then (Fault, codes "short") ∷ [] else behind (drop 4 xs) ++ (End, codes "end") ∷ []
 
-unfoldable pub small_reading : ℕ → Reading
+unfoldable pub small_reading : ℕ → MessageReader
 small_reading least = record { reads = named_reads; closes = named_closes least }
 
 -- where as many messages may be open as in an engine that is made
@@ -60,7 +60,7 @@ record Writes (R : Rules) (p lines end : List ℕ) : Type 0 where
 
 -- names what the rows compute with
 unfoldable pub rows : ℕ
-unfolding named_reads behind named_closes small_reading small digit octets digits num hex type_word print.start_line continues_line cancelled_line fault_line stream_fault_line unfinished_line total_line fronts wrong first_wrong offence minor kind order has_more size with_first cut_from limit limited cut messages read_of start_line said_line id_text rest_text is_inside is_truncated may_be_fragmented is_opener is_fragment is_cancel may_be_cancelled refused place own about id opener_of has_named goes_past header_acts octet_acts id_acts end_acts happens events_of changed opened events_from events open_after octet joined classes line tells told by_class in_order is_last_of standing said stop_line lines lines_text text start_count fault_count tally is_over heads unfinished final closing
+unfolding named_reads behind named_closes small_reading small digit octets digits num hex type_word print.start_line continues_line cancelled_line fault_line stream_fault_line unfinished_line total_line fronts wrong first_wrong first_wrong_octet minor kind order has_more size with_first cut_from limit limited cut messages read_of start_line said_line id_text rest_text is_inside is_truncated may_be_fragmented is_opener is_fragment is_cancel may_be_cancelled refused place own event_of_open id opener_of has_named goes_past header_events payload_events request_id_events message_end_events events_of_octet events_of changed opened events_from events open_after octet joined classes line lines_of_event lines_of_events by_class in_order is_last_of up_to_last_line lines_of_messages stop_line lines lines_text text start_count fault_count tally is_over first_messages unfinished final closing
 rows = 0
 
 -- ---- The rows.

@@ -1,5 +1,5 @@
 use Rattle.giop_stream_rows.proofs.Computing.{close_connection, little_request, interleaved, open_twice, one_open, cancelled, replied, raised}
-use Rattle.giop_stream_rows.proofs.Listed.{listed}
+use Rattle.giop_stream_rows.proofs.Listed.{request_table}
 use Rattle.giop_stream_rows.proofs.worked_streams.Goals as goal
 
 pub returns : goal.returns
@@ -12,5 +12,5 @@ returns c = record {
   cancelled = cancelled;
   replied = replied;
   raised = raised;
-  listed = listed;
+  request_table = request_table;
 }

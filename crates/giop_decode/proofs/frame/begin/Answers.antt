@@ -1,6 +1,6 @@
 use Rattle.std.proofs.Common.{◌≡◌, ◌-◌, length, pred, refl, sym, ◌∙◌, arith}
 use Rattle.giop_sig.specs.Trees.{tree}
-use Rattle.giop_decode.specs.Turns.{places, is_inside, IsKnown}
+use Rattle.giop_decode.specs.Transitions.{open_parts, is_inside, IsKnown}
 use Rattle.giop_decode.proofs.Beginning.{begins, begins_places, all_push, map_push}
 use Rattle.giop_decode.proofs.Surrounding.{ended_push, inside_push, or_false, stand_push}
 use Rattle.giop_decode.proofs.Linking.{link_push}
@@ -19,7 +19,7 @@ loop-count-preserved c =
       known_outer = rw c.push.ensures.items (all_push (IsKnown t) old _ c.loop-count.invariant.known_outer
           (record { known = c.loop-count.invariant.known; within = (b.placed, b.bare, b.uncounted) }));
       fit = rw (← e, c.part-inner.ensures.tree) b.fit;
-      placed = λ at. rw (c.push.ensures.items, map_push, c.part-inner.ensures.tree) (begins_places d (places t at old) T c.in-Some.count b
+      placed = λ at. rw (c.push.ensures.items, map_push, c.part-inner.ensures.tree) (begins_places d (open_parts t at old) T c.in-Some.count b
           ∙ c.loop-count.invariant.placed at);
       ended = rw c.push.ensures.items (ended_push old _ refl ∙ c.loop-count.invariant.ended);
       inside = rw (c.push.ensures.items, inside_push) (or_false (is_inside old) ∙ c.loop-count.invariant.inside);

@@ -1,15 +1,15 @@
 use Rattle.std.proofs.Common.{◌≡◌, suc, false, ◌+◌, ◌-◌, ◌<◌, [], ◌∷◌, ◌++◌, length, refl, ap, subst, ◌∙◌, arith, add-one, append_assoc}
 use Rattle.giop_decode.specs.Begins.{start_leaf, start_outer}
-use Rattle.giop_decode.specs.Spine.{Content, Done, coded}
-use Rattle.giop_decode.specs.Steps.{around}
-use Rattle.giop_decode.specs.Turns.{has_ended, is_inside, part_in, place, places, IsKnown, StandAt}
+use Rattle.giop_decode.specs.ReadResult.{Content, Done, coded}
+use Rattle.giop_decode.specs.ReadingSteps.{around}
+use Rattle.giop_decode.specs.Transitions.{has_ended, is_inside, part_in, open_part, open_parts, IsKnown, StandAt}
 use Rattle.giop_sig.specs.Types.{part_of}
 use Rattle.giop_sig.specs.Trees.{tree}
 use Rattle.giop_decode.proofs.Around.{fit_part}
 use Rattle.giop_decode.proofs.Beginning.{all_push, map_push}
 use Rattle.giop_decode.proofs.Going.{part_popped, held_popped, next_in, length_places, goes_next, goes_out, goes_rest, goes_past, part_is, held_is}
 use Rattle.giop_decode.proofs.Surrounding.{around_gone, around_shut, ended_push, inside_push, outside_pop, shut, stand_pop, stand_push}
-use Rattle.giop_decode.proofs.Hearing.{rest_silent}
+use Rattle.giop_decode.proofs.Noting.{rest_silent}
 use Rattle.giop_decode.proofs.Linking.{link_push, link_pop}
 use Rattle.giop_decode.proofs.frame.go_on.Goals as goal
 
@@ -29,9 +29,9 @@ returns-then-left-gt0-clause-gone c coding path at =
     let end = at + (f.count - f.index) in
     let left : end - at ≡ f.count - f.index = omega arith in
     v.same coding path at
-    ∙ (ap (λ ps. around coding path ps (Done [] at [])) (ap (places t at) c.in-Some.ensures.items ∙ map_push (place t at) rest f)
-    ∙ (ap (λ q. around coding path (places t at rest ++ q ∷ []) (Done [] at [])) (held_is t at f order c.in-Some-inside.is)
-    ∙ (goes_rest coding path (places t at rest) T (coded order (at - f.index)) end at (f.count - f.index) (omega arith) left
+    ∙ (ap (λ ps. around coding path ps (Done [] at [])) (ap (open_parts t at) c.in-Some.ensures.items ∙ map_push (open_part t at) rest f)
+    ∙ (ap (λ q. around coding path (open_parts t at rest ++ q ∷ []) (Done [] at [])) (held_is t at f order c.in-Some-inside.is)
+    ∙ (goes_rest coding path (open_parts t at rest) T (coded order (at - f.index)) end at (f.count - f.index) (omega arith) left
     ∙ around_gone t coding path at rest [] (Content T (f.count - f.index) 0 []) p.known_rest)))
 
 pub returns-then-left-gt0-clause-linked : goal.returns-then-left-gt0-clause-linked
@@ -58,9 +58,9 @@ loop-frame-preserved-else-left-gt0 c =
       outside = λ h. outside_pop rest f (subst (λ fs. is_inside fs ≡ false) c.in-Some.ensures.items (v.outside h));
       stand = λ at h. stand_pop at rest f (subst (StandAt at) c.in-Some.ensures.items (v.stand at h));
       same = λ coding path at. (let none : (at + (f.count - f.index)) - at ≡ 0 = omega (arith, p.within) in v.same coding path at
-          ∙ (ap (λ ps. around coding path ps (Done [] at [])) (ap (places t at) c.in-Some.ensures.items ∙ map_push (place t at) rest f)
-          ∙ (ap (λ q. around coding path (places t at rest ++ q ∷ []) (Done [] at [])) (held_is t at f order c.in-Some-inside.is)
-          ∙ goes_past coding path (places t at rest) T (coded order (at - f.index)) (at + (f.count - f.index)) at none)));
+          ∙ (ap (λ ps. around coding path ps (Done [] at [])) (ap (open_parts t at) c.in-Some.ensures.items ∙ map_push (open_part t at) rest f)
+          ∙ (ap (λ q. around coding path (open_parts t at rest ++ q ∷ []) (Done [] at [])) (held_is t at f order c.in-Some-inside.is)
+          ∙ goes_past coding path (open_parts t at rest) T (coded order (at - f.index)) (at + (f.count - f.index)) at none)));
       linked = λ root inner h. (let l = v.linked root inner h in (f.of.0, link_pop t root c.loop-frame.outer.items rest f l.0 c.in-Some.ensures.items l.1));
     }
 
@@ -148,16 +148,16 @@ returns-then-frame-last-clause-gone c coding path at =
     let part = part_of T (suc f.index) in
     let ended : has_ended c.push.new.self.items ≡ has_ended rest = rw c.push.ensures.items (ended_push rest _ (rw c.in-None.is refl)) in
     let new = c.begin.new.outer.items in
-    let same : shut (has_ended rest) [] at (places t at rest ++ (next ∷ start_outer part)) (start_leaf part)
-    ≡ shut (has_ended new) [] at (places t at new) (start_leaf part) =
-    rw (c.begin.ensures.ended, c.begin.ensures.places at, ended, c.push.ensures.items, map_push)
+    let same : shut (has_ended rest) [] at (open_parts t at rest ++ (next ∷ start_outer part)) (start_leaf part)
+    ≡ shut (has_ended new) [] at (open_parts t at new) (start_leaf part) =
+    rw (c.begin.ensures.ended, c.begin.ensures.open_parts at, ended, c.push.ensures.items, map_push)
     (rw (c.part-part.ensures.tree, add-one f.index, c.in-None.is, append_assoc) refl) in
     v.same coding path at
-    ∙ (ap (λ ps. around coding path ps (Done [] at [])) (ap (places t at) c.in-Some.ensures.items ∙ map_push (place t at) rest f)
-    ∙ (ap (λ q. around coding path (places t at rest ++ q ∷ []) (Done [] at [])) (part_is t at f c.in-None.is)
-    ∙ (goes_next coding path (places t at rest) T f.index f.count at p.left n below
+    ∙ (ap (λ ps. around coding path ps (Done [] at [])) (ap (open_parts t at) c.in-Some.ensures.items ∙ map_push (open_part t at) rest f)
+    ∙ (ap (λ q. around coding path (open_parts t at rest ++ q ∷ []) (Done [] at [])) (part_is t at f c.in-None.is)
+    ∙ (goes_next coding path (open_parts t at rest) T f.index f.count at p.left n below
     ∙ (around_shut t coding path at rest [] (next ∷ start_outer part) (start_leaf part) p.known_rest
-    ∙ (same ∙ ap (λ l. shut (has_ended new) [] at (places t at new) l) (rw (c.part-part.ensures.tree, add-one) at c.begin.ensures.leaf))))))
+    ∙ (same ∙ ap (λ l. shut (has_ended new) [] at (open_parts t at new) l) (rw (c.part-part.ensures.tree, add-one) at c.begin.ensures.leaf))))))
 
 pub returns-then-frame-last-clause-linked : goal.returns-then-frame-last-clause-linked
 returns-then-frame-last-clause-linked c root inner h =
@@ -184,9 +184,9 @@ loop-frame-preserved c =
       outside = λ h. outside_pop rest f (subst (λ fs. is_inside fs ≡ false) c.in-Some.ensures.items (v.outside h));
       stand = λ at h. stand_pop at rest f (subst (StandAt at) c.in-Some.ensures.items (v.stand at h));
       same = λ coding path at. v.same coding path at
-          ∙ (ap (λ ps. around coding path ps (Done [] at [])) (ap (places t at) c.in-Some.ensures.items ∙ map_push (place t at) rest f)
-          ∙ (ap (λ q. around coding path (places t at rest ++ q ∷ []) (Done [] at [])) (part_is t at f c.in-None.is)
-          ∙ goes_out coding path (places t at rest) T f.index f.count at (omega arith)));
+          ∙ (ap (λ ps. around coding path ps (Done [] at [])) (ap (open_parts t at) c.in-Some.ensures.items ∙ map_push (open_part t at) rest f)
+          ∙ (ap (λ q. around coding path (open_parts t at rest ++ q ∷ []) (Done [] at [])) (part_is t at f c.in-None.is)
+          ∙ goes_out coding path (open_parts t at rest) T f.index f.count at (omega arith)));
       linked = λ root inner h. (let l = v.linked root inner h in (f.of.0, link_pop t root c.loop-frame.outer.items rest f l.0 c.in-Some.ensures.items l.1));
     }
 

@@ -1,20 +1,20 @@
 use Rattle.std.proofs.Common.{◌≡◌, ℕ, false, List, []}
 use Rattle.arrayvec.specs.ArrayVec.{array_vec_len}
-use Rattle.giop_decode.specs.Spine.{Coding, Seg, Done}
-use Rattle.giop_decode.specs.Steps.{around}
+use Rattle.giop_decode.specs.ReadResult.{Coding, PathSegment, Done}
+use Rattle.giop_decode.specs.ReadingSteps.{around}
 use Rattle.giop_decode.specs.Fits.{OpenFrom}
-use Rattle.giop_decode.specs.Turns.{places, is_inside, AreKnown, Link, StandAt}
+use Rattle.giop_decode.specs.Transitions.{open_parts, is_inside, AreKnown, Link, StandAt}
 use Rattle.giop_decode.proofs.frame.go_on.Given as goal
 
 abbrev pub invariant-loop-frame : goal.invariant-loop-frame
 invariant-loop-frame l = record {
   known : AreKnown l.catalogue l.outer.items;
-  are_open : (at : ℕ) × OpenFrom 24 (places l.catalogue at l.outer.items);
+  are_open : (at : ℕ) × OpenFrom 24 (open_parts l.catalogue at l.outer.items);
   outside : is_inside l.fn.outer.items ≡ false → is_inside l.outer.items ≡ false;
   stand : (at : ℕ) → StandAt at l.fn.outer.items → StandAt at l.outer.items;
-  same : (coding : Coding) (path : List Seg) (at : ℕ) →
-      around coding path (places l.catalogue at l.fn.outer.items) (Done [] at [])
-      ≡ around coding path (places l.catalogue at l.outer.items) (Done [] at []);
+  same : (coding : Coding) (path : List PathSegment) (at : ℕ) →
+      around coding path (open_parts l.catalogue at l.fn.outer.items) (Done [] at [])
+      ≡ around coding path (open_parts l.catalogue at l.outer.items) (Done [] at []);
   linked : (root inner : ℕ) → Link l.catalogue root l.fn.outer.items inner →
       (now : ℕ) × Link l.catalogue root l.outer.items now;
 }

@@ -1,6 +1,6 @@
 use Rattle.std.proofs.Common.{sym, ◌∙◌, arith}
 use Rattle.giop_decode.proofs.Surrounding.{counted_more, counted_ahead, free_ticked}
-use Rattle.giop_decode.specs.Turns.{tick_of}
+use Rattle.giop_decode.specs.Transitions.{tick_of}
 use Rattle.giop_decode.proofs.frame.tick.Goals as goal
 
 pub loop-frame-preserved : goal.loop-frame-preserved

@@ -1,5 +1,5 @@
 use Rattle.std.proofs.Common.{arith}
-use Rattle.giop_decode.specs.Turns.{tick_by_of}
+use Rattle.giop_decode.specs.Transitions.{tick_by_of}
 use Rattle.giop_decode.proofs.Surrounding.{counted_more, counted_ahead_by}
 use Rattle.giop_decode.proofs.frame.tick_all.Goals as goal
 

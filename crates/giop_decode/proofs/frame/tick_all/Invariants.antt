@@ -1,5 +1,5 @@
 use Rattle.giop_decode.proofs.Surrounding.{IsCounted}
-use Rattle.giop_decode.specs.Turns.{tick_by_of}
+use Rattle.giop_decode.specs.Transitions.{tick_by_of}
 use Rattle.giop_decode.proofs.frame.tick_all.Given as goal
 
 abbrev pub invariant-loop-frame : goal.invariant-loop-frame

@@ -1,5 +1,5 @@
 use Rattle.std.proofs.Common.{Some, ap, sym, ◌∙◌}
-use Rattle.giop_decode.specs.Turns.{is_inside}
+use Rattle.giop_decode.specs.Transitions.{is_inside}
 use Rattle.giop_decode.proofs.StoredFields.{fields_stand}
 use Rattle.giop_decode.proofs.restored.parsed.Goals as goal
 
@@ -16,5 +16,5 @@ returns c d h =
       inside = c.is_inside-inside.ensures ∙ ap is_inside c.as_slice.ensures.value;
       carry = c.carried.ensures ∙ c.as_slice-2.ensures.value ∙ c.held_at-carry.ensures d.carry _ h.range.carry f.carry.1;
       piece = c.held_at.ensures d.piece.items _ h.range.piece f.piece.1;
-      memory = c.memory_at.ensures d.memory _ h.range.memory f.memory.1;
+      notes = c.notes_at.ensures d.notes _ h.range.notes f.notes.1;
     }

@@ -1,4 +1,4 @@
-use Rattle.giop_decode.specs.Holding.{Fits}
+use Rattle.giop_decode.specs.DecoderState.{Fits}
 use Rattle.giop_decode_tests.proofs.room_tests.fails_within.Given as goal
 
 abbrev pub invariant-loop-octet : goal.invariant-loop-octet

@@ -1,4 +1,4 @@
-use Rattle.giop_decode.specs.Holding.{Fits}
+use Rattle.giop_decode.specs.DecoderState.{Fits}
 use Rattle.giop_decode_tests.proofs.tracing.take_all.Given as goal
 
 abbrev pub invariant-loop-taken : goal.invariant-loop-taken

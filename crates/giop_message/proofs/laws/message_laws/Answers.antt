@@ -1,4 +1,4 @@
-use Rattle.giop_message.specs.Signatures.{said_by}
+use Rattle.giop_message.specs.Signatures.{signatures_of}
 use Rattle.giop_message.proofs.Going.{message_goes, message_resumes}
 use Rattle.giop_message.proofs.Faults.{over_where_faulted}
 use Rattle.giop_message.proofs.Causal.{is_causal, is_ordered}
@@ -8,17 +8,17 @@ use Rattle.giop_message.proofs.AtOctet.{text_is, close_is}
 use Rattle.giop_message.proofs.laws.message_laws.Goals as goal
 
 pub returns : goal.returns
-unfolding said_by
+unfolding signatures_of
 returns c = record {
-  step = λ C listed. message_goes (said_by C listed);
-  many = λ C listed. message_resumes (said_by C listed);
-  over = λ C listed. over_where_faulted (said_by C listed);
-  causal = λ C listed. is_causal (said_by C listed);
-  ending = λ C listed. is_ending (said_by C listed);
-  named = λ C listed. is_named (said_by C listed) (has_ids C listed);
-  ordered = λ C listed. is_ordered (said_by C listed);
-  closing = λ C listed. is_closing (said_by C listed);
-  id = λ C listed. id_is_said (said_by C listed);
-  writes = λ C listed. text_is (said_by C listed);
-  closes = λ C listed. close_is (said_by C listed);
+  step = λ C request_table. message_goes (signatures_of C request_table);
+  many = λ C request_table. message_resumes (signatures_of C request_table);
+  over = λ C request_table. over_where_faulted (signatures_of C request_table);
+  causal = λ C request_table. is_causal (signatures_of C request_table);
+  ending = λ C request_table. is_ending (signatures_of C request_table);
+  named = λ C request_table. is_named (signatures_of C request_table) (has_ids C request_table);
+  ordered = λ C request_table. is_ordered (signatures_of C request_table);
+  closing = λ C request_table. is_closing (signatures_of C request_table);
+  id = λ C request_table. id_is_said (signatures_of C request_table);
+  writes = λ C request_table. text_is (signatures_of C request_table);
+  closes = λ C request_table. close_is (signatures_of C request_table);
 }

@@ -1,6 +1,6 @@
 -- What the engine's clauses say of a piece, answer by answer.
 use Rattle.std.proofs.Common.{refl, ◌++◌, sym, ◌∙◌}
-use Rattle.giop_stream.specs.Holding.{added}
+use Rattle.giop_stream.specs.EngineHolds.{added}
 use Rattle.giop_run.proofs.TextLemmas.{is_running, is_stopped}
 use Rattle.giop_run.proofs.running.feed.Goals as goal
 

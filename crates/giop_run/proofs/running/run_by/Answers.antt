@@ -34,33 +34,33 @@ returns-in_err-flush-clause-ran g c =
     let r = err_from_is_err_and c.from_residual-in_err-flush.result c.from_residual-in_err-flush.ensures.1 in
     (s.0, rw (r.1, r.2, c.in_err-flush.ensures.cause) (ran_flush _ p s.0 _ c.loop-turn._turn _ _ _ _ _ s.1 c.in_err-flush.ensures.flushed (omega (arith, c.loop-turn-test.true))))
 
-pub returns-in_err-turn-clause-ran : goal.returns-in_err-turn-clause-ran
-returns-in_err-turn-clause-ran g c =
+pub returns-in_err-read_and_feed-clause-ran : goal.returns-in_err-read_and_feed-clause-ran
+returns-in_err-read_and_feed-clause-ran g c =
     λ p h.
     let s = c.loop-turn.invariant.going p h in
     let f = going_flushed _ p s.0 _ c.loop-turn._turn _ _ _ _ _ _ s.1 c.in_ok-flush.ensures.flushed in
-    let t = c.in_err-turn.ensures.turned (p ++ s.0) f.took.holds in
-    let r = err_from_is_err_and c.from_residual-in_err-turn.result c.from_residual-in_err-turn.ensures.1 in
-    (s.0 ++ t.0, rw (r.1, r.2) (ran_err _ (adds_up c.args.engine) c.in_err-turn.field-0.0 p s.0 t.0 _ _ c.loop-turn._turn _ _ _ _ _ _ f t.1 (omega (arith, c.loop-turn-test.true))))
+    let t = c.in_err-read_and_feed.ensures.turned (p ++ s.0) f.took.holds in
+    let r = err_from_is_err_and c.from_residual-in_err-read_and_feed.result c.from_residual-in_err-read_and_feed.ensures.1 in
+    (s.0 ++ t.0, rw (r.1, r.2) (ran_err _ (adds_up c.args.engine) c.in_err-read_and_feed.field-0.0 p s.0 t.0 _ _ c.loop-turn._turn _ _ _ _ _ _ f t.1 (omega (arith, c.loop-turn-test.true))))
 
 pub returns-then-not-branch-2-clause-ran : goal.returns-then-not-branch-2-clause-ran
 returns-then-not-branch-2-clause-ran g c =
     λ p h.
     let s = c.loop-turn.invariant.going p h in
     let f = going_flushed _ p s.0 _ c.loop-turn._turn _ _ _ _ _ _ s.1 c.in_ok-flush.ensures.flushed in
-    let t = c.in_ok-turn.ensures.turned (p ++ s.0) f.took.holds in
+    let t = c.in_ok-read_and_feed.ensures.turned (p ++ s.0) f.took.holds in
     let u = rw c.if-not-branch-2.true at t.1 in
-    let same = c.in_ok-turn.ensures.same in
+    let same = c.in_ok-read_and_feed.ensures.same in
     let kept = c.loop-turn.invariant.same in
     (s.0 ++ t.0, ran_over _ (adds_up c.args.engine) c.close-then-not-branch-2.result p s.0 t.0 _ _ c.loop-turn._turn _ _ _ _ _ _ _ f u (omega (arith, c.loop-turn-test.true)) (same.0 ∙ kept.0, same.1 ∙ kept.1, same.2 ∙ kept.2) (c.close-then-not-branch-2.ensures.closed ((p ++ s.0) ++ t.0) u.3.holds))
 
-pub returns-in_err-turn-clause-reads : goal.returns-in_err-turn-clause-reads
-returns-in_err-turn-clause-reads g c =
-    one_more_read _ _ _ _ _ c.loop-turn.invariant.reads c.in_err-turn.ensures.reads (omega (arith, c.loop-turn-test.true))
+pub returns-in_err-read_and_feed-clause-reads : goal.returns-in_err-read_and_feed-clause-reads
+returns-in_err-read_and_feed-clause-reads g c =
+    one_more_read _ _ _ _ _ c.loop-turn.invariant.reads c.in_err-read_and_feed.ensures.reads (omega (arith, c.loop-turn-test.true))
 
 pub returns-then-not-branch-2-clause-reads : goal.returns-then-not-branch-2-clause-reads
 returns-then-not-branch-2-clause-reads g c =
-    one_more_read _ _ _ _ _ c.loop-turn.invariant.reads c.in_ok-turn.ensures.reads (omega (arith, c.loop-turn-test.true))
+    one_more_read _ _ _ _ _ c.loop-turn.invariant.reads c.in_ok-read_and_feed.ensures.reads (omega (arith, c.loop-turn-test.true))
 
 pub loop-turn-preserved : goal.loop-turn-preserved
 loop-turn-preserved g c =
@@ -68,14 +68,14 @@ loop-turn-preserved g c =
       going = λ p h.
           let s = c.loop-turn.invariant.going p h in
           let f = going_flushed _ p s.0 _ c.loop-turn._turn _ _ _ _ _ _ s.1 c.in_ok-flush.ensures.flushed in
-          let t = c.in_ok-turn.ensures.turned (p ++ s.0) f.took.holds in
+          let t = c.in_ok-read_and_feed.ensures.turned (p ++ s.0) f.took.holds in
           (s.0 ++ t.0, going_more _ (adds_up c.args.engine) p s.0 t.0 _ _ c.loop-turn._turn _ _ _ _ _ _ f (rw c.if-not-branch-2.false at t.1));
-      sound = c.in_ok-turn.ensures.leaves c.loop-turn.invariant.sound;
+      sound = c.in_ok-read_and_feed.ensures.leaves c.loop-turn.invariant.sound;
       same =
-          let same = c.in_ok-turn.ensures.same in
+          let same = c.in_ok-read_and_feed.ensures.same in
           let kept = c.loop-turn.invariant.same in
           (same.0 ∙ kept.0, same.1 ∙ kept.1, same.2 ∙ kept.2);
-      reads = one_more_read _ _ _ _ (c.loop-turn._turn + 1) c.loop-turn.invariant.reads c.in_ok-turn.ensures.reads (omega arith);
+      reads = one_more_read _ _ _ _ (c.loop-turn._turn + 1) c.loop-turn.invariant.reads c.in_ok-read_and_feed.ensures.reads (omega arith);
     }
 
 pub returns-in_err-flush-2-clause-ran : goal.returns-in_err-flush-2-clause-ran

@@ -1,5 +1,5 @@
 use Rattle.std.proofs.Common.{sym, subst, arith}
-use Rattle.giop_sig.specs.Scopes.{Placed}
+use Rattle.giop_sig.specs.Scopes.{AddedType}
 use Rattle.giop_sig.specs.ScopeViews.{IsKnown}
 use Rattle.giop_sig.proofs.TypeTaken.{added_is, added_grows, node_known}
 use Rattle.giop_sig.proofs.ItemTaken.{declared_takes, still_new}
@@ -25,5 +25,5 @@ name_type-requires-clause-few c =
 
 pub name_type-requires-clause-known : goal.name_type-requires-clause-known
 name_type-requires-clause-known c =
-    subst (λ (q : Placed). IsKnown (q.0).table.types q.1) (sym (added_is _ c.args.draft.now _ (c.add.new.self, c.in_ok-t.t.0) c.in_ok-t.ensures))
+    subst (λ (q : AddedType). IsKnown (q.0).table.types q.1) (sym (added_is _ c.args.draft.now _ (c.add.new.self, c.in_ok-t.t.0) c.in_ok-t.ensures))
     (node_known c.args.draft.now _ tt)

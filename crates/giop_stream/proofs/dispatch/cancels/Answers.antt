@@ -1,6 +1,6 @@
 use Rattle.std.proofs.Common.{None, refl, sym, ◌∙◌}
-use Rattle.giop_stream.proofs.Keep.Performing.{does_nothing}
-use Rattle.giop_stream.proofs.Keep.Named.{misses_all, spares, cancels_one, finds, header_may, cancel_named}
+use Rattle.giop_stream.proofs.SlotSteps.Performing.{does_nothing}
+use Rattle.giop_stream.proofs.SlotSteps.AtRequestId.{misses_all, spares, cancels_one, finds, header_may, cancel_named}
 use Rattle.giop_stream.proofs.dispatch.cancels.Goals as goal
 
 pub returns-in_default-clause-does : goal.returns-in_default-clause-does

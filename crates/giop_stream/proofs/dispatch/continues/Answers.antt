@@ -1,5 +1,5 @@
 use Rattle.std.proofs.Common.{None, refl, sym, ◌∙◌}
-use Rattle.giop_stream.proofs.Keep.Named.{finds, misses, fragment_named}
+use Rattle.giop_stream.proofs.SlotSteps.AtRequestId.{finds, misses, fragment_named}
 use Rattle.giop_stream.proofs.dispatch.continues.Goals as goal
 
 pub returns-in-Some-clause-does : goal.returns-in-Some-clause-does
@@ -12,4 +12,4 @@ pub returns-in-None-clause-does : goal.returns-in-None-clause-does
 returns-in-None-clause-does g c =
     λ C l c' m h f.
     let missed = misses C l c.args.slots.now c' m c.args.now c.args.id h (fragment_named m.header f) None (sym c.in-None.is ∙ c.find.ensures.value) refl in
-    rw missed (rw missed at (c.fails.ensures.does C l c' m c.args.id h f missed))
+    rw missed (rw missed at (c.fault_unopened.ensures.does C l c' m c.args.id h f missed))

@@ -1,6 +1,6 @@
 use Rattle.std.proofs.Common.{refl}
-use Rattle.giop_stream.proofs.Keep.Performing.{does_nothing, performs_on}
-use Rattle.giop_stream.proofs.Keep.Ending.{own_short, ends_short, ends_followed, ends_closed}
+use Rattle.giop_stream.proofs.SlotSteps.Performing.{does_nothing, performs_on}
+use Rattle.giop_stream.proofs.SlotSteps.Ending.{own_short, ends_short, ends_followed, ends_closed}
 use Rattle.giop_stream.proofs.dispatch.ends.Goals as goal
 
 pub returns-then-is_short-clause-does : goal.returns-then-is_short-clause-does
@@ -9,21 +9,21 @@ returns-then-is_short-clause-does g c =
     let C = c.args.catalogue.now in
     let keeps = rw (own_short c.args.catalogue.now l c.args.slots.now c' m c.args.now h c.if-is_short.ensures last) at h.keeps in
     rw (ends_short c.args.catalogue.now l c.args.slots.now c' m c.args.now h c.if-is_short.ensures)
-    (performs_on c.impose-faulted.result _ _ refl (λ k. c.lose.ensures.kept C l _ _ k) (c.impose-faulted.ensures.does C l c' _ keeps h.current.number h.rising))
+    (performs_on c.fault_message-faulted.result _ _ refl (λ k. c.set_no_owner.ensures.kept C l _ _ k) (c.fault_message-faulted.ensures.does C l c' _ keeps h.current.number h.rising))
 
 pub returns-then-is_short-clause-ready : goal.returns-then-is_short-clause-ready
 returns-then-is_short-clause-ready g c =
-    c.lose.ensures.ready _ _ (c.impose-faulted.ensures.ready _ _ c.requires.ready)
+    c.set_no_owner.ensures.ready _ _ (c.fault_message-faulted.ensures.ready _ _ c.requires.ready)
 
 pub returns-then-is_followed-clause-does : goal.returns-then-is_followed-clause-does
 returns-then-is_followed-clause-does g c =
     λ l c' m h last.
     rw (ends_followed c.args.catalogue.now l c.args.slots.now c' m c.args.now h c.if-is_short.ensures c.if-is_followed.ensures)
-    (does_nothing _ _ refl (c.lose-then-is_followed.ensures.kept c.args.catalogue.now l _ _ h.keeps))
+    (does_nothing _ _ refl (c.set_no_owner-then-is_followed.ensures.kept c.args.catalogue.now l _ _ h.keeps))
 
 pub returns-then-is_followed-clause-ready : goal.returns-then-is_followed-clause-ready
 returns-then-is_followed-clause-ready g c =
-    c.lose-then-is_followed.ensures.ready _ _ c.requires.ready
+    c.set_no_owner-then-is_followed.ensures.ready _ _ c.requires.ready
 
 pub returns-clause-does : goal.returns-clause-does
 returns-clause-does g c =

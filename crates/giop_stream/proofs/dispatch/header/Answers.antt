@@ -1,7 +1,7 @@
 use Rattle.std.proofs.Common.{arith}
 use Rattle.giop_stream.specs.Rules.{rules}
-use Rattle.giop_stream.proofs.Keep.Performing.{first_failed, call_failed, then_failed, done_then, counts_as}
-use Rattle.giop_stream.proofs.Keep.Headed.{in_two, ended_whose, none_come, come_is, begun_at}
+use Rattle.giop_stream.proofs.SlotSteps.Performing.{first_failed, call_failed, then_failed, done_then, counts_as}
+use Rattle.giop_stream.proofs.SlotSteps.AtHeader.{in_two, ended_whose, none_come, come_is, begun_at}
 use Rattle.giop_stream.proofs.dispatch.header.Goals as goal
 
 pub returns-in_err-refused-clause-does : goal.returns-in_err-refused-clause-does

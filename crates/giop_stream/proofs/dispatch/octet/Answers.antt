@@ -1,9 +1,9 @@
 use Rattle.std.proofs.Common.{sym, ap, arith}
 use Rattle.giop_stream.specs.Rules.{rules}
 use Rattle.giop_stream.specs.Effects.{Effect, with_octet}
-use Rattle.giop_stream.proofs.Keep.Parts.{in_parts, some_come, come_is, takes_effect, taken_here, named_at, third_whose}
-use Rattle.giop_stream.proofs.Keep.Performing.{performs_on, first_failed, call_failed, then_failed, done_then, counts_as}
-use Rattle.giop_stream.proofs.Keep.Headed.{ready_later}
+use Rattle.giop_stream.proofs.SlotSteps.Parts.{in_parts, some_come, come_is, takes_effect, taken_here, named_at, third_whose}
+use Rattle.giop_stream.proofs.SlotSteps.Performing.{performs_on, first_failed, call_failed, then_failed, done_then, counts_as}
+use Rattle.giop_stream.proofs.SlotSteps.AtHeader.{ready_later}
 use Rattle.giop_stream.proofs.dispatch.octet.Goals as goal
 
 pub take-requires : goal.take-requires
@@ -16,9 +16,9 @@ take-requires g c =
           (arith, c.args.now.behind_header, c.requires.limit);
     }
 
-pub finishes-requires : goal.finishes-requires
-finishes-requires g c =
-    record { ready = c.names.ensures.ready _ _ (ready_later c.args.catalogue.now _ _ _ (omega (arith, c.args.now.behind_header)) c.in_ok-taken.ensures.ready) }
+pub at_last_octet-requires : goal.at_last_octet-requires
+at_last_octet-requires g c =
+    record { ready = c.at_fourth_octet.ensures.ready _ _ (ready_later c.args.catalogue.now _ _ _ (omega (arith, c.args.now.behind_header)) c.in_ok-taken.ensures.ready) }
 
 pub returns-in_err-taken-clause-does : goal.returns-in_err-taken-clause-does
 returns-in_err-taken-clause-does g c =
@@ -56,9 +56,9 @@ returns-in_err-ended-clause-does g c =
     let took = performs_on _ _ _ (ap (λ (p : Effect). p.lines) effect) (λ k. k) (c.in_ok-taken.ensures.does c' _ h.keeps h.rising) in
     let taken = taken_here C l c.args.slots.now c' m c.args.now x h c.take.new.self took.kept in
     let named = rw c.in_ok-taken.ensures.most at (c.in_ok-named.ensures.does C l _ _ taken) in
-    let at = named_at C l c.args.slots.now c' m c.args.now x h c.names.new.slots named.kept in
-    let come = come_is C l c.args.slots.now c' m c.args.now x h in
-    let ended = call_failed _ c.from_residual-in_err-ended.result _ _ c.from_residual-in_err-ended.ensures.0 (c.in_err-ended.ensures.does l _ _ at come) in
+    let at = named_at C l c.args.slots.now c' m c.args.now x h c.at_fourth_octet.new.slots named.kept in
+    let payload_count = come_is C l c.args.slots.now c' m c.args.now x h in
+    let ended = call_failed _ c.from_residual-in_err-ended.result _ _ c.from_residual-in_err-ended.ensures.0 (c.in_err-ended.ensures.does l _ _ at payload_count) in
     let rest = then_failed _ c.from_residual-in_err-ended.result _ _ _ c.from_residual-in_err-ended.ensures.0 named ended in
     rw parts (then_failed _ c.from_residual-in_err-ended.result _ _ _ c.from_residual-in_err-ended.ensures.0 took rest)
 
@@ -73,7 +73,7 @@ returns-clause-does g c =
     let took = performs_on _ _ _ (ap (λ (p : Effect). p.lines) effect) (λ k. k) (c.in_ok-taken.ensures.does c' _ h.keeps h.rising) in
     let taken = taken_here C l c.args.slots.now c' m c.args.now x h c.take.new.self took.kept in
     let named = rw c.in_ok-taken.ensures.most at (c.in_ok-named.ensures.does C l _ _ taken) in
-    let at = named_at C l c.args.slots.now c' m c.args.now x h c.names.new.slots named.kept in
-    let come = come_is C l c.args.slots.now c' m c.args.now x h in
-    let all = done_then _ _ _ _ _ took (done_then _ _ _ _ _ named (c.in_ok-ended.ensures.does l _ _ at come)) in
+    let at = named_at C l c.args.slots.now c' m c.args.now x h c.at_fourth_octet.new.slots named.kept in
+    let payload_count = come_is C l c.args.slots.now c' m c.args.now x h in
+    let all = done_then _ _ _ _ _ took (done_then _ _ _ _ _ named (c.in_ok-ended.ensures.does l _ _ at payload_count)) in
     rw (parts, ← third_whose (rules C l c.args.slots.now.slots.most) c' (with_octet m x)) (counts_as _ _ _ _ (sym c.count.ensures.value) all)

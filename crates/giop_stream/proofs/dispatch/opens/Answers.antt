@@ -1,21 +1,21 @@
 use Rattle.std.proofs.Common.{refl, sym}
 use Rattle.std.proofs.lemmas.Bool.{leb-true, leb-false}
-use Rattle.giop_stream.proofs.Keep.Performing.{does_nothing, performs_on}
-use Rattle.giop_stream.proofs.Keep.Named.{twice, no_room, opens_one, opens_lines, opener_named}
+use Rattle.giop_stream.proofs.SlotSteps.Performing.{does_nothing, performs_on}
+use Rattle.giop_stream.proofs.SlotSteps.AtRequestId.{twice, no_room, opens_one, opens_lines, opener_named}
 use Rattle.giop_stream.proofs.dispatch.opens.Goals as goal
 
 pub returns-then-is_some-clause-does : goal.returns-then-is_some-clause-does
 returns-then-is_some-clause-does g c =
     λ C l c' m h f o.
     rw (twice C l c.args.slots.now c' m c.args.now c.args.id h c.find.result c.find.ensures.value
-    (sym c.if-is_some.ensures) f o) (c.impose.ensures.does C l c' _ h.keeps h.current.number h.rising)
+    (sym c.if-is_some.ensures) f o) (c.fault_message.ensures.does C l c' _ h.keeps h.current.number h.rising)
 
 pub returns-then-is_full-clause-does : goal.returns-then-is_full-clause-does
 returns-then-is_full-clause-does g c =
     λ C l c' m h f o.
     let full = leb-true c.args.slots.now.slots.most _ (sym c.if-is_full.ensures) in
     rw (no_room C l c.args.slots.now c' m c.args.now c.args.id h c.find.result c.find.ensures.value
-    (sym c.if-is_some.ensures) full f o) (c.impose-then-is_full.ensures.does C l c' _ h.keeps h.current.number h.rising)
+    (sym c.if-is_some.ensures) full f o) (c.fault_message-then-is_full.ensures.does C l c' _ h.keeps h.current.number h.rising)
 
 pub returns-clause-does : goal.returns-clause-does
 returns-clause-does g c =

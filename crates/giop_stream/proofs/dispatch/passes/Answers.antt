@@ -1,6 +1,6 @@
 use Rattle.std.proofs.Common.{[], sym, ◌∙◌}
-use Rattle.giop_stream.proofs.Keep.Performing.{no_faults, wrote_line, line_then, line_failed}
-use Rattle.giop_stream.proofs.Keep.Named.{in_order, out_of_order, goes_text, goes_faults, goes_first, opener_slot, orders}
+use Rattle.giop_stream.proofs.SlotSteps.Performing.{no_faults, wrote_line, line_then, line_failed}
+use Rattle.giop_stream.proofs.SlotSteps.AtRequestId.{in_order, out_of_order, goes_text, goes_faults, goes_first, opener_slot, orders}
 use Rattle.giop_stream.proofs.dispatch.passes.Goals as goal
 
 pub returns-in_err-continues_line-clause-does : goal.returns-in_err-continues_line-clause-does
@@ -21,7 +21,7 @@ returns-then-same_order-clause-does g c =
     let order = orders C l c.args.slots.now c' m c.args.now i h o _ _ _ _ c.order_of.ensures c.order_of-order.ensures header (sym c.if-same_order.ensures) in
     rw (in_order C l c.args.slots.now c' m c.args.now i h o f e order)
     (wrote_line _ _ _ _ (goes_text C l c.args.slots.now c' m c.args.now i h o _ number)
-    (goes_faults m o [] ∙ no_faults) c.in_ok-continues_line.ensures (c.pass_on.ensures.kept C l c' _ o h.keeps here))
+    (goes_faults m o [] ∙ no_faults) c.in_ok-continues_line.ensures (c.set_open_owner.ensures.kept C l c' _ o h.keeps here))
 
 pub returns-clause-does : goal.returns-clause-does
 returns-clause-does g c =
@@ -31,11 +31,11 @@ returns-clause-does g c =
     let header =
     (opener_slot C l c.args.slots.now c' m c.args.now i h c.args.k o _ here c.at-opener.ensures).1 in
     let order = orders C l c.args.slots.now c' m c.args.now i h o _ _ _ _ c.order_of.ensures c.order_of-order.ensures header (sym c.if-same_order.ensures) in
-    let passed = c.pass_on.ensures.kept C l c' _ o h.keeps here in
+    let passed = c.set_open_owner.ensures.kept C l c' _ o h.keeps here in
     rw (out_of_order C l c.args.slots.now c' m c.args.now i h o f e order)
-    (line_then c.impose.result _ _ _ _ (goes_text C l c.args.slots.now c' m c.args.now i h o _ number)
-    (goes_faults m o _) c.in_ok-continues_line.ensures (c.impose.ensures.does C l c' _ passed number h.rising))
+    (line_then c.fault_message.result _ _ _ _ (goes_text C l c.args.slots.now c' m c.args.now i h o _ number)
+    (goes_faults m o _) c.in_ok-continues_line.ensures (c.fault_message.ensures.does C l c' _ passed number h.rising))
 
 pub returns-clause-ready : goal.returns-clause-ready
 returns-clause-ready g c =
-    λ C n h. c.impose.ensures.ready C n (c.pass_on.ensures.ready C n h)
+    λ C n h. c.fault_message.ensures.ready C n (c.set_open_owner.ensures.ready C n h)

@@ -1,6 +1,6 @@
 use Rattle.std.proofs.Common.{[], arith, sym, ◌∙◌}
-use Rattle.giop_stream.proofs.Keep.Performing.{all_ok, no_faults, wrote_line, line_then, line_failed}
-use Rattle.giop_stream.proofs.Keep.Headed.{ready_later, starts_faults, apart, begins, refuses, starts_text, starts_first}
+use Rattle.giop_stream.proofs.SlotSteps.Performing.{all_ok, no_faults, wrote_line, line_then, line_failed}
+use Rattle.giop_stream.proofs.SlotSteps.AtHeader.{ready_later, starts_faults, apart, begins, refuses, starts_text, starts_first}
 use Rattle.giop_stream.proofs.dispatch.starts.Goals as goal
 
 pub returns-in_err-start_line-clause-does : goal.returns-in_err-start_line-clause-does
@@ -16,13 +16,13 @@ returns-in-Some-clause-does g c =
     c.begin.ensures.kept l c' who _ h.keeps h.current.number h.current.header h.unknown
     (apart c.args.catalogue.now l c.args.slots.now c' who m c.args.now h) in
     rw (refuses c.args.catalogue.now l c.args.slots.now c' who m c.args.now h c.in-Some.fault (sym c.in-Some.is ∙ c.refused.ensures))
-    (line_then c.impose.result _ _ _ _ (starts_text c.args.catalogue.now l c.args.slots.now c' who m c.args.now h)
+    (line_then c.fault_message.result _ _ _ _ (starts_text c.args.catalogue.now l c.args.slots.now c' who m c.args.now h)
     (starts_faults m _) c.in_ok-start_line.ensures
-    (c.impose.ensures.does c.args.catalogue.now l c' _ keeps h.current.number h.rising))
+    (c.fault_message.ensures.does c.args.catalogue.now l c' _ keeps h.current.number h.rising))
 
 pub returns-in-Some-clause-ready : goal.returns-in-Some-clause-ready
 returns-in-Some-clause-ready g c =
-    all_ok c.impose.result (c.impose.ensures.ready _ _
+    all_ok c.fault_message.result (c.fault_message.ensures.ready _ _
     (c.begin.ensures.ready _ (ready_later _ _ _ _ (omega arith) c.requires.ready) (omega (arith, c.args.now.behind_header))))
 
 pub returns-in-None-clause-does : goal.returns-in-None-clause-does

@@ -1,12 +1,12 @@
-use Rattle.giop_message.specs.Signatures.{said_by}
+use Rattle.giop_message.specs.Signatures.{signatures_of}
 use Rattle.giop_message.proofs.MessageLaws.{is_causal}
 use Rattle.giop_stream.specs.Rules.{rules}
-use Rattle.giop_stream.proofs.Keep.Parts.{in_turn}
-use Rattle.giop_stream.proofs.Told.InPieces.{fed_together, fed_alike}
+use Rattle.giop_stream.proofs.SlotSteps.Parts.{in_turn}
+use Rattle.giop_stream.proofs.StreamLines.InPieces.{fed_together, fed_alike}
 use Rattle.giop_stream.proofs.engine.any_pieces.Goals as goal
 
 pub returns : goal.returns
 returns c = record {
-  whole = λ C l n. fed_together (rules C l n) (is_causal (said_by C l)) (in_turn C l);
-  same = λ C l n. fed_alike (rules C l n) (is_causal (said_by C l)) (in_turn C l);
+  whole = λ C l n. fed_together (rules C l n) (is_causal (signatures_of C l)) (in_turn C l);
+  same = λ C l n. fed_alike (rules C l n) (is_causal (signatures_of C l)) (in_turn C l);
 }

@@ -1,10 +1,10 @@
-use Rattle.giop_message.specs.Signatures.{said_by}
+use Rattle.giop_message.specs.Signatures.{signatures_of}
 use Rattle.giop_message.proofs.MessageLaws.{is_causal}
 use Rattle.giop_stream.specs.Rules.{rules}
-use Rattle.giop_stream.specs.Holding.{added}
-use Rattle.giop_stream.proofs.Keep.Parts.{in_turn}
-use Rattle.giop_stream.proofs.Told.Further.{text_adds}
+use Rattle.giop_stream.specs.EngineHolds.{added}
+use Rattle.giop_stream.proofs.SlotSteps.Parts.{in_turn}
+use Rattle.giop_stream.proofs.StreamLines.MoreOctets.{text_adds}
 use Rattle.giop_stream.proofs.engine.text_begins.Goals as goal
 
 pub returns : goal.returns
-returns c = λ C l n p q. (added (rules C l n) p q, text_adds (rules C l n) (is_causal (said_by C l)) (in_turn C l) p q)
+returns c = λ C l n p q. (added (rules C l n) p q, text_adds (rules C l n) (is_causal (signatures_of C l)) (in_turn C l) p q)

@@ -1,5 +1,5 @@
 use Rattle.giop_stream.proofs.Cuts.Counts.{octets_few, octets_free, messages_few}
-use Rattle.giop_stream.proofs.Happening.FaultsBound.{faults_few, all_faults}
+use Rattle.giop_stream.proofs.Events.FaultsBound.{faults_few, all_faults}
 use Rattle.giop_stream.proofs.laws.counts_are_bounded.Goals as goal
 
 pub returns : goal.returns

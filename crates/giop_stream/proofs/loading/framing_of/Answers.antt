@@ -1,6 +1,6 @@
 use Rattle.std.proofs.Common.{length, refl, ap, ◌∙◌, arith}
 use Rattle.giop_stream.specs.Rules.{rules}
-use Rattle.giop_stream.specs.Engine.{state_of}
+use Rattle.giop_stream.specs.EngineState.{state_of}
 use Rattle.giop_stream.proofs.Restored.LoadedFields.{spells_left, room_for, limit_is, totals_again, shows_again}
 use Rattle.giop_stream.proofs.loading.framing_of.Goals as goal
 
@@ -34,7 +34,7 @@ returns-clause-again c l n octets p s fixed_is records_are =
       totals = refl;
       stopped = c.stop_of-stopped.ensures;
       header = c.header_of-header.ensures.header;
-      come = c.header_of-header.ensures.come;
+      payload_count = c.header_of-header.ensures.payload_count;
       payload = c.payload_of-slots.ensures;
       slots = refl;
       own = refl;

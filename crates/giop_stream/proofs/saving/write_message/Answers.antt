@@ -9,7 +9,7 @@ pub returns-clause-put : goal.returns-clause-put
 returns-clause-put c C fits =
     let few = c.store-count.ensures.few in
     let entry : Entry = record {
-      record_is = record { frames = c.store-count.result; standing = c.args.standing; number = c.args.number; header = c.args.header };
+      record_is = record { frames = c.store-count.result; record_kind = c.args.record_kind; number = c.args.number; header = c.args.header };
       message = c.store-count.new.fixed;
       frames = take (FRAME_SIZE * c.store-count.result) c.store-count.new.frames;
     } in

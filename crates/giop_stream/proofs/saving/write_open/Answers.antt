@@ -1,7 +1,7 @@
 use Rattle.std.proofs.Common.{◌+◌, ◌*◌, ◌++◌, length, ap, arith}
 use Rattle.giop_stream.proofs.Restored.Saved.{put_behind, put_read, puts_all, ready_at, ok_within}
-use Rattle.giop_stream.specs.Keeping.{Kept_slot}
-use Rattle.giop_stream.proofs.Keep.SlotLists.{entry_is}
+use Rattle.giop_stream.specs.SlotsRepresent.{OpenEntry}
+use Rattle.giop_stream.proofs.SlotSteps.SlotLists.{entry_is}
 use Rattle.giop_stream.proofs.saving.write_open.Goals as goal
 
 pub loop-k-preserved : goal.loop-k-preserved
@@ -9,7 +9,7 @@ loop-k-preserved g c =
     let slots = c.args.slots.now.slots.entries in
     let i = c.loop-k.k in
     let below = rw c.len-k-end.ensures.value at c.loop-k-test.true in
-    let slot : Kept_slot = record { key = c.id.result; value = c.at.result.now } in
+    let slot : OpenEntry = record { key = c.id.result; value = c.at.result.now } in
     let is = entry_is slots i slot c.id.ensures c.at.ensures in
     record {
       put = λ C at before front ready puts.

@@ -3,7 +3,7 @@ use Rattle.std.specs.List.{AllByRecursion as Each}
 use Rattle.std.specs.Result.{IfOk}
 use Rattle.giop_print.specs.Output.{OutLog}
 use Rattle.giop_sig.specs.Table.{Table}
-use Rattle.giop_stream.specs.Keeping.{IsReady}
+use Rattle.giop_stream.specs.SlotsRepresent.{IsReady}
 use Rattle.giop_stream.specs.Checkpoint.{IsPut, AreOpen, Puts, PutsSuch}
 use Rattle.giop_stream.proofs.saving.write_open.Given as goal
 

@@ -2,14 +2,14 @@ use Rattle.std.proofs.Common.{◌+◌, [], ap, append-nil, subst, sym, ◌∙◌
 use Rattle.giop_decode.proofs.Advancing.{stands_at, same_some, goes, step_fits, lines_turned}
 use Rattle.giop_decode.proofs.Surrounding.{IsCoded, coded_in}
 use Rattle.giop_print.proofs.Writing.{writes_failed}
-use Rattle.giop_decode.proofs.Hearing.{heard_on, leaf_inside}
-use Rattle.giop_decode.specs.Heard.{heard, hushed, in_string, is_header_root, nothing}
-use Rattle.giop_decode.specs.Holding.{Recalls}
-use Rattle.giop_decode.specs.Recalling.{leaf_in_string}
-use Rattle.giop_decode.specs.Moves.{stepped, leaf_in}
-use Rattle.giop_decode.specs.Spine.{plain, lines_of}
-use Rattle.giop_decode.specs.Steps.{around, path_in, step, coding_in}
-use Rattle.giop_decode.specs.Turns.{places, leaf_type, Link, coding_by, still_held}
+use Rattle.giop_decode.proofs.Noting.{heard_on, leaf_inside}
+use Rattle.giop_decode.specs.Noted.{noted, without_name_if, ends_in_string, is_header_root, nothing_noted}
+use Rattle.giop_decode.specs.DecoderState.{HoldsNoted}
+use Rattle.giop_decode.specs.NotingSteps.{leaf_in_string}
+use Rattle.giop_decode.specs.DecoderSteps.{decoder_step, leaf_in}
+use Rattle.giop_decode.specs.ReadResult.{plain, lines_of}
+use Rattle.giop_decode.specs.ReadingSteps.{around, path_in, step, coding_in}
+use Rattle.giop_decode.specs.Transitions.{open_parts, leaf_type, Link, coding_by, still_held}
 use Rattle.giop_sig.specs.Trees.{tree}
 use Rattle.giop_decode.proofs.decoder.Decoder.advance.Goals as goal
 
@@ -19,8 +19,8 @@ take_octet-step-requires-clause-fits g c = (stands_at c.args.catalogue.now c.arg
 pub take_octet-step-requires-clause-fit : goal.take_octet-step-requires-clause-fit
 take_octet-step-requires-clause-fit g c = (_, (stands_at c.args.catalogue.now c.args.self.now c.requires.fits c.in-Some.leaf c.in-Some.is).fit)
 
-pub tell-requires-clause-around : goal.tell-requires-clause-around
-tell-requires-clause-around g c =
+pub emit-requires-clause-around : goal.emit-requires-clause-around
+emit-requires-clause-around g c =
     let f = c.requires.fits in
     let leaf = c.in-Some.leaf in
     let s = stands_at c.args.catalogue.now c.args.self.now f leaf c.in-Some.is in
@@ -40,11 +40,11 @@ pub returns-clause-steps : goal.returns-clause-steps
 returns-clause-steps g c here h =
     let C = c.args.catalogue.now in
     let d = c.args.self.now in
-    let ps = places C here d.outer.items in
+    let ps = open_parts C here d.outer.items in
     let coding = coding_in (plain d.order) ps in
     let by : coding_by d.order d.at d.outer.items ≡ c.coding-order.result = rw (← c.as_slice.ensures.value) (sym c.coding-order.ensures) in
     let k = subst (IsCoded here coding) by (coded_in C here (plain d.order) d.order d.at d.outer.items h.1 (record { order = refl; at = omega (arith, h.0) })) in
-    let t = c.take_octet-step.ensures.turns coding (path_in [] ps) here k.order k.at in
+    let t = c.take_octet-step.ensures.transitions coding (path_in [] ps) here k.order k.at in
     let e = ap (λ l. step (plain d.order) [] ps (leaf_in C d l) here c.args.octet) c.in-Some.is ∙ ap (around (plain d.order) [] ps) t.comes in
     let s = rw (c.of-of.ensures, append-nil c.take_octet-step.new.piece.items) at (c.in_ok-progress.ensures.steps here t.lines) in
     rw e (s t.says)
@@ -55,15 +55,15 @@ returns-in_err-progress-clause-writes g c here h =
     let d = c.args.self.now in
     let f = c.requires.fits in
     let T = tree C (leaf_type c.in-Some.leaf) in
-    let ps = places C here d.outer.items in
+    let ps = open_parts C here d.outer.items in
     let coding = coding_in (plain d.order) ps in
     let by : coding_by d.order d.at d.outer.items ≡ c.coding-order.result = rw (← c.as_slice.ensures.value) (sym c.coding-order.ensures) in
     let k = subst (IsCoded here coding) by (coded_in C here (plain d.order) d.order d.at d.outer.items h.1 (record { order = refl; at = omega (arith, h.0) })) in
-    let t = c.take_octet-step.ensures.turns coding (path_in [] ps) here k.order k.at in
+    let t = c.take_octet-step.ensures.transitions coding (path_in [] ps) here k.order k.at in
     let e = ap (λ l. step (plain d.order) [] ps (leaf_in C d l) here c.args.octet) c.in-Some.is ∙ ap (around (plain d.order) [] ps) t.comes in
-    let turn = c.take_octet-step.result.turn in
-    let held = still_held c.take_octet-step.result.spoken c.take_octet-step.new.piece.items in
-    let ls = ap lines_of e ∙ lines_turned C here (plain d.order) [] d.outer.items T turn c.take_octet-step.new.carry held t.lines f.ahead f.known_outer in
+    let transition = c.take_octet-step.result.transition in
+    let held = still_held c.take_octet-step.result.output c.take_octet-step.new.piece.items in
+    let ls = ap lines_of e ∙ lines_turned C here (plain d.order) [] d.outer.items T transition c.take_octet-step.new.carry held t.lines f.ahead f.known_outer in
     let w = rw (c.of-of.ensures, append-nil c.take_octet-step.new.piece.items) at (c.in_err-progress.ensures.writes here (here + 1) t.lines) in
     rw ls (writes_failed c.from_residual.result _ _ _ c.from_residual.ensures.0 (w t.says))
 
@@ -73,15 +73,15 @@ returns-clause-writes g c here h =
     let d = c.args.self.now in
     let f = c.requires.fits in
     let T = tree C (leaf_type c.in-Some.leaf) in
-    let ps = places C here d.outer.items in
+    let ps = open_parts C here d.outer.items in
     let coding = coding_in (plain d.order) ps in
     let by : coding_by d.order d.at d.outer.items ≡ c.coding-order.result = rw (← c.as_slice.ensures.value) (sym c.coding-order.ensures) in
     let k = subst (IsCoded here coding) by (coded_in C here (plain d.order) d.order d.at d.outer.items h.1 (record { order = refl; at = omega (arith, h.0) })) in
-    let t = c.take_octet-step.ensures.turns coding (path_in [] ps) here k.order k.at in
+    let t = c.take_octet-step.ensures.transitions coding (path_in [] ps) here k.order k.at in
     let e = ap (λ l. step (plain d.order) [] ps (leaf_in C d l) here c.args.octet) c.in-Some.is ∙ ap (around (plain d.order) [] ps) t.comes in
-    let turn = c.take_octet-step.result.turn in
-    let held = still_held c.take_octet-step.result.spoken c.take_octet-step.new.piece.items in
-    let ls = ap lines_of e ∙ lines_turned C here (plain d.order) [] d.outer.items T turn c.take_octet-step.new.carry held t.lines f.ahead f.known_outer in
+    let transition = c.take_octet-step.result.transition in
+    let held = still_held c.take_octet-step.result.output c.take_octet-step.new.piece.items in
+    let ls = ap lines_of e ∙ lines_turned C here (plain d.order) [] d.outer.items T transition c.take_octet-step.new.carry held t.lines f.ahead f.known_outer in
     let w = rw (c.of-of.ensures, append-nil c.take_octet-step.new.piece.items) at (c.in_ok-progress.ensures.writes here (here + 1) t.lines) in
     rw ls (w t.says)
 
@@ -89,9 +89,9 @@ pub returns-clause-fits : goal.returns-clause-fits
 returns-clause-fits g c goes_on =
     let C = c.args.catalogue.now in
     let d = c.args.self.now in
-    let new = c.tell.new.self in
+    let new = c.emit.new.self in
     let f = c.requires.fits in
-    let k = goes C new c.in_ok-progress.progress (f.here + 1) (stepped C d f.here c.args.octet) (returns-clause-steps g c f.here f.stands) goes_on in
+    let k = goes C new c.in_ok-progress.progress (f.here + 1) (decoder_step C d f.here c.args.octet) (returns-clause-steps g c f.here f.stands) goes_on in
     let next = c.in_ok-progress.ensures.next goes_on in
     let same = same_some f.leaf c.in-Some.leaf (sym f.goes_on ∙ c.in-Some.is) in
     let before : Link C f.root d.outer.items c.of-of.result.0 = rw (c.of-of.ensures, ← same) f.link in
@@ -99,30 +99,30 @@ returns-clause-fits g c goes_on =
     (next.link f.root k.leaf before k.goes_on) next.known_outer (next.known k.leaf k.goes_on) (next.clean k.leaf k.goes_on)
     (λ other. let was = rw c.in_ok-progress.ensures.root at other in c.in_ok-progress.ensures.id was ∙ f.heeds was)
 
-pub returns-clause-minds : goal.returns-clause-minds
-returns-clause-minds g c here front h old_minds =
+pub returns-clause-keeps_noted : goal.returns-clause-keeps_noted
+returns-clause-keeps_noted g c here front h old_minds =
     let C = c.args.catalogue.now in
     let d = c.args.self.now in
     let f = c.requires.fits in
     let leaf = c.in-Some.leaf in
     let T = tree C (leaf_type leaf) in
-    let ps = places C here d.outer.items in
+    let ps = open_parts C here d.outer.items in
     let coding = coding_in (plain d.order) ps in
     let by : coding_by d.order d.at d.outer.items ≡ c.coding-order.result = rw (← c.as_slice.ensures.value) (sym c.coding-order.ensures) in
     let k = subst (IsCoded here coding) by (coded_in C here (plain d.order) d.order d.at d.outer.items h.1 (record { order = refl; at = omega (arith, h.0) })) in
-    let t = c.take_octet-step.ensures.turns coding (path_in [] ps) here k.order k.at in
+    let t = c.take_octet-step.ensures.transitions coding (path_in [] ps) here k.order k.at in
     let e = ap (λ l. step (plain d.order) [] ps (leaf_in C d l) here c.args.octet) c.in-Some.is ∙ ap (around (plain d.order) [] ps) t.comes in
-    let turn = c.take_octet-step.result.turn in
-    let spoken = c.take_octet-step.result.spoken in
+    let transition = c.take_octet-step.result.transition in
+    let output = c.take_octet-step.result.output in
     let piece = c.take_octet-step.new.piece.items in
-    let ls = ap lines_of e ∙ lines_turned C here (plain d.order) [] d.outer.items T turn c.take_octet-step.new.carry (still_held spoken piece) t.lines f.ahead f.known_outer in
+    let ls = ap lines_of e ∙ lines_turned C here (plain d.order) [] d.outer.items T transition c.take_octet-step.new.carry (still_held output piece) t.lines f.ahead f.known_outer in
     let header = is_header_root d.root in
     let i = rw c.of-of.ensures at (c.in_ok-progress.ensures.inside here t.lines) in
-    let before : Recalls d.memory (hushed (leaf_in_string T leaf) (heard header nothing front)) =
-    subst (λ b. Recalls d.memory (hushed b (heard header nothing front))) (leaf_inside C leaf d.carry d.piece.items)
+    let before : HoldsNoted d.notes (without_name_if (leaf_in_string T leaf) (noted header nothing_noted front)) =
+    subst (λ b. HoldsNoted d.notes (without_name_if b (noted header nothing_noted front))) (leaf_inside C leaf d.carry d.piece.items)
     (rw c.in-Some.is at old_minds) in
-    let now = rw (c.of-of.ensures, append-nil piece) at (c.in_ok-progress.ensures.hears (hushed (leaf_in_string T leaf)
-    (heard header nothing front)) here (here + 1) t.lines before) in
-    let on = heard_on header C leaf turn spoken (path_in [] ps) (here + 1) piece front t.lines (stepped C d here c.args.octet)
-    c.take_octet-step.ensures.voices t.says (ap in_string e ∙ i) ls in
-    subst (Recalls c.tell.new.self.memory) on (now t.says)
+    let now = rw (c.of-of.ensures, append-nil piece) at (c.in_ok-progress.ensures.hears (without_name_if (leaf_in_string T leaf)
+    (noted header nothing_noted front)) here (here + 1) t.lines before) in
+    let on = heard_on header C leaf transition output (path_in [] ps) (here + 1) piece front t.lines (decoder_step C d here c.args.octet)
+    c.take_octet-step.ensures.output_fits_string t.says (ap ends_in_string e ∙ i) ls in
+    subst (HoldsNoted c.emit.new.self.notes) on (now t.says)

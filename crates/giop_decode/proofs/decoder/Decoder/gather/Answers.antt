@@ -1,6 +1,6 @@
 use Rattle.std.proofs.Common.{◌≤◌, take, Some, refl, ◌∙◌, ap, arith}
 use Rattle.std.proofs.lemmas.List.{length-take-le, take-take}
-use Rattle.giop_decode.specs.Turns.{coding_by}
+use Rattle.giop_decode.specs.Transitions.{coding_by}
 use Rattle.giop_decode.specs.declared.leaf.Leaf.TheVariants as innermost
 use Rattle.giop_decode.proofs.Advancing.{stands_at}
 use Rattle.giop_decode.proofs.Counting.{ahead_fewer, coding_small}
@@ -52,7 +52,7 @@ returns-in-Number-clause-fits c =
         outer = c.tick_by.ensures.ticked;
         inside = refl;
         leaf = refl;
-        memory = refl;
+        notes = refl;
       },
       ahead_fewer n most d.outer.items few (rw c.as_slice.ensures.value at c.before_end-most.ensures.ahead),
     )) refl c.requires is (rw (← at, ← take-take n most octets few, ← c.width-width.ensures.width head.kind) c.gather_number-count.ensures.holds)).0
@@ -77,7 +77,7 @@ returns-in-Number-clause-gathers c =
         outer = c.tick_by.ensures.ticked;
         inside = refl;
         leaf = refl;
-        memory = refl;
+        notes = refl;
       },
       ahead_fewer n most d.outer.items few (rw c.as_slice.ensures.value at c.before_end-most.ensures.ahead),
     )) refl c.requires is (rw (← at, ← take-take n most octets few, ← c.width-width.ensures.width head.kind) c.gather_number-count.ensures.holds)).1
@@ -100,7 +100,7 @@ returns-in-Content-clause-fits c =
         outer = c.tick_by-in-Content.ensures.ticked;
         inside = refl;
         leaf = refl;
-        memory = refl;
+        notes = refl;
       },
       ahead_fewer n most d.outer.items few (rw c.as_slice.ensures.value at c.before_end-most.ensures.ahead),
     )) refl (rw (← take-take n most octets few) e.items) c.requires (c.in-Some.is ∙ ap Some c.in-Content.is) (λ some. rw size (e.room (rw size at some)))
@@ -124,7 +124,7 @@ returns-in-Content-clause-gathers c =
         outer = c.tick_by-in-Content.ensures.ticked;
         inside = refl;
         leaf = refl;
-        memory = refl;
+        notes = refl;
       },
       ahead_fewer n most d.outer.items few (rw c.as_slice.ensures.value at c.before_end-most.ensures.ahead),
     )) refl (rw (← take-take n most octets few) e.items) c.requires (c.in-Some.is ∙ ap Some c.in-Content.is) (λ some. rw size (e.room (rw size at some)))

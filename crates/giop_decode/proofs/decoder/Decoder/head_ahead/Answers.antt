@@ -1,5 +1,5 @@
 use Rattle.std.proofs.Common.{◌≡◌, Some, ◌∙◌, ap, refl, subst}
-use Rattle.giop_decode.specs.Turns.{StandsWhole}
+use Rattle.giop_decode.specs.Transitions.{StandsWhole}
 use Rattle.giop_decode.specs.declared.leaf.Leaf.TheVariants as innermost
 use Rattle.giop_decode.proofs.Advancing.{stands_at}
 use Rattle.giop_decode.proofs.Whole.{comes_head}
@@ -34,4 +34,4 @@ returns-in-Some c =
     comes_head C d c.in-Some-Number.of c.args.octets.now c.in-Some.count c.requires e c.if-self.false
     (c.if-not-is_empty.ensures.0 refl) c.in-Some.whole.now c.take_value.result
     (subst (λ w. StandsWhole w d.at c.args.octets.now c.in-Some.count c.in-Some.whole.now) (c.width.ensures.width head) c.in-Some.ensures.stands)
-    v.turns_in v.speaks v.voices v.turns
+    v.transition_fits v.has_output v.output_fits_string v.transitions

@@ -4,16 +4,16 @@ use Rattle.giop_decode.proofs.Runs.{text_more, takes_more, breaks_off, writes_br
 use Rattle.giop_decode.proofs.Segments.{said_none}
 use Rattle.giop_decode.proofs.Taking.{takes_to, due_is, done}
 use Rattle.giop_decode.proofs.Whole.{around_whole, before_last, gathered_whole, lines_at, lines_whole, minds_whole, says_at, told_whole}
-use Rattle.giop_decode.specs.Moves.{stepped}
-use Rattle.giop_decode.specs.Runs.{dues, TakesRun}
+use Rattle.giop_decode.specs.DecoderSteps.{decoder_step}
+use Rattle.giop_decode.specs.Runs.{added_lines_of_run, TakesRun}
 use Rattle.giop_decode.specs.Spelling.{lines_text}
-use Rattle.giop_decode.specs.Turns.{leaf_type, Link}
+use Rattle.giop_decode.specs.Transitions.{leaf_type, Link}
 use Rattle.giop_print.specs.Output.{Wrote}
 use Rattle.giop_print.proofs.Writing.{wrote-append, wrote-nil}
 use Rattle.giop_decode.proofs.decoder.Decoder.take_ahead.Goals as goal
 
-pub tell-requires-clause-around : goal.tell-requires-clause-around
-tell-requires-clause-around g c =
+pub emit-requires-clause-around : goal.emit-requires-clause-around
+emit-requires-clause-around g c =
     let a = c.args.ahead in
     around_whole c.args.catalogue.now c.args.self.now c.args.octets.now a.of a.count a.step a.rest.now c.requires.fits c.requires.ahead
     c.further-self.result (omega (arith, c.further-self.ensures))
@@ -62,7 +62,7 @@ returns-clause-writes g c T order at message root s r =
     let below : i < length octets = omega (arith, h.some, h.within) in
     let all : i + 1 ≡ a.count = omega (arith, h.some) in
     let ls = lines_whole C d octets a.of a.count a.step a.rest.now f h c.further-self.result here c.further-self.ensures k.offset in
-    let none : Wrote (g.O.Out.log c.args.out.now) (g.O.Out.log c.args.out.now) (lines_text message root (dues order T at s (take i octets))) =
+    let none : Wrote (g.O.Out.log c.args.out.now) (g.O.Out.log c.args.out.now) (lines_text message root (added_lines_of_run order T at s (take i octets))) =
     rw (said_none message root _ held.quiet) (wrote-nil _) in
     let one = rw (← ls, ← due_is C T order at message root before so_far b whole.0 k, k.same_message, k.same_root) at
     (c.in_ok-progress.ensures.writes here (here + 1) (lines_at C d octets a.of a.count a.step a.rest.now f h here)
@@ -80,7 +80,7 @@ returns-clause-takes g c T order at message root s r =
     let i = a.count - 1 in
     let b = get_or octets i 0 in
     let p = c.in_ok-progress.progress in
-    let new = c.tell.new.self in
+    let new = c.emit.new.self in
     let e = c.in_ok-progress.ensures in
     let step = c.further-self.ensures in
     let there = c.further-self.result in
@@ -108,15 +108,15 @@ returns-clause-fits g c goes_on =
     let h = c.requires.ahead in
     let f = c.requires.fits in
     let b = get_or octets (a.count - 1) 0 in
-    let new = c.tell.new.self in
+    let new = c.emit.new.self in
     let e = c.in_ok-progress.ensures in
     let there = c.further-self.result in
     let whole = gathered_whole C d octets a.of a.count a.step a.rest.now f h there c.further-self.ensures in
     let before = before_last C d octets a.of a.count a.step a.rest.now f h there in
     let g' = whole.0 in
-    let told = told_whole C d octets a.of a.count a.step a.rest.now f h there g'.here c.further-self.ensures g'.stands in
-    let k = goes C new c.in_ok-progress.progress (g'.here + 1) (stepped C before g'.here b)
-    (rw told (e.steps g'.here (lines_at C d octets a.of a.count a.step a.rest.now f h g'.here)
+    let emitted = told_whole C d octets a.of a.count a.step a.rest.now f h there g'.here c.further-self.ensures g'.stands in
+    let k = goes C new c.in_ok-progress.progress (g'.here + 1) (decoder_step C before g'.here b)
+    (rw emitted (e.steps g'.here (lines_at C d octets a.of a.count a.step a.rest.now f h g'.here)
     (says_at C d octets a.of a.count a.step a.rest.now f h g'.here))) goes_on in
     let next = e.next goes_on in
     let same = ap leaf_type (same_some g'.leaf h.leaf (sym g'.goes_on ∙ h.goes_on)) ∙ h.same in
@@ -134,6 +134,6 @@ returns-clause-done g c is =
     let h = c.requires.ahead in
     let f = c.requires.fits in
     let whole = gathered_whole C d octets a.of a.count a.step a.rest.now f h c.further-self.result c.further-self.ensures in
-    done C c.tell.new.self c.in_ok-progress.progress (whole.0.here + 1) _
+    done C c.emit.new.self c.in_ok-progress.progress (whole.0.here + 1) _
     (c.in_ok-progress.ensures.steps whole.0.here (lines_at C d octets a.of a.count a.step a.rest.now f h whole.0.here)
     (says_at C d octets a.of a.count a.step a.rest.now f h whole.0.here)) is

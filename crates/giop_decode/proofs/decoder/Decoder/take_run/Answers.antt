@@ -2,7 +2,7 @@ use Rattle.std.proofs.Common.{ℕ, List, ◌+◌, ◌++◌, take, drop, take-add
 use Rattle.std.proofs.lemmas.List.{take-append-drop}
 use Rattle.giop_cdr.specs.declared.order.Order.{Order}
 use Rattle.giop_decode.specs.declared.progress.Progress.TheVariants as progress
-use Rattle.giop_decode.specs.Holding.{Reads}
+use Rattle.giop_decode.specs.DecoderState.{Reads}
 use Rattle.giop_decode.specs.Runs.{TakesRun, BreaksOff}
 use Rattle.giop_decode.proofs.Runs.{text_none, text_both, takes_both, breaks_both, writes_broken}
 use Rattle.giop_decode.proofs.decoder.Decoder.take_run.Goals as goal
@@ -87,4 +87,4 @@ pub returns-clause-takes : goal.returns-clause-takes
 returns-clause-takes g c T order at message root s r =
     let before = c.loop-taken.invariant in
     let now = before.reads T order at message root s r in
-    record { answers = before.answers T order at message root s r; reads = λ unfaulty. now; minds = now.minds }
+    record { answers = before.answers T order at message root s r; reads = λ unfaulty. now; keeps_noted = now.keeps_noted }

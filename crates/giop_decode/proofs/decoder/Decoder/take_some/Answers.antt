@@ -3,7 +3,7 @@ use Rattle.giop_decode.proofs.Runs.{text_more, takes_more, breaks_off, writes_br
 use Rattle.giop_decode.proofs.Segments.{said_none}
 use Rattle.giop_decode.proofs.Taking.{takes_to, due_is, done}
 use Rattle.giop_decode.proofs.decoder.Decoder.take_some.Goals as goal
-use Rattle.giop_decode.specs.Runs.{dues}
+use Rattle.giop_decode.specs.Runs.{added_lines_of_run}
 use Rattle.giop_decode.specs.Spelling.{lines_text}
 use Rattle.giop_print.specs.Output.{Wrote}
 use Rattle.giop_print.proofs.Writing.{wrote-append, wrote-nil}
@@ -43,7 +43,7 @@ returns-clause-writes g c T order at message root s r =
     let held = c.gather-gathered.ensures.gathers T order at message root s r in
     let k = held.takes.reads (λ fault. fault) in
     let below : i < length octets = omega (arith, c.gather-gathered.ensures.within, c.if-gathered-octets.false) in
-    let none : Wrote (g.O.Out.log c.args.out.now) (g.O.Out.log c.args.out.now) (lines_text message root (dues order T at s (take i octets))) =
+    let none : Wrote (g.O.Out.log c.args.out.now) (g.O.Out.log c.args.out.now) (lines_text message root (added_lines_of_run order T at s (take i octets))) =
     rw (said_none message root _ held.quiet) (wrote-nil _) in
     rw (text_more message root order T at s octets i below)
     (wrote-append _ _ _ _ _ none
@@ -60,7 +60,7 @@ returns-clause-takes g c T order at message root s r =
     takes_more c.args.catalogue.now T order at message root c.advance.new.self s octets i c.in_ok-progress.progress
     below held.takes.answers
     (takes_to c.args.catalogue.now T order at message root c.gather-gathered.new.self c.advance.new.self (s ++ take i octets) (get_or octets i 0)
-    c.in_ok-progress.progress c.gather-gathered.ensures.fits e.order e.root e.message e.here e.steps e.minds (held.takes.reads (λ fault. fault)))
+    c.in_ok-progress.progress c.gather-gathered.ensures.fits e.order e.root e.message e.here e.steps e.keeps_noted (held.takes.reads (λ fault. fault)))
 
 pub returns-clause-done : goal.returns-clause-done
 returns-clause-done g c is =

@@ -1,12 +1,12 @@
 use Rattle.std.proofs.Common.{◌≡◌, ◌+◌, [], length, sym, subst}
 use Rattle.giop_sig.specs.Trees.{tree}
-use Rattle.giop_decode.specs.Spine.{plain}
+use Rattle.giop_decode.specs.ReadResult.{plain}
 use Rattle.giop_decode.specs.Reading.{read}
-use Rattle.giop_decode.specs.Heard.{nothing}
+use Rattle.giop_decode.specs.Noted.{nothing_noted}
 use Rattle.giop_message.specs.declared.part.Section.TheVariants as sections
 use Rattle.giop_message.specs.Headers.{order}
-use Rattle.giop_message.specs.Messages.{body, message, with_front, through}
-use Rattle.giop_message.specs.Signatures.{said_by}
+use Rattle.giop_message.specs.Messages.{body, message, with_front, section_and_rest}
+use Rattle.giop_message.specs.Signatures.{signatures_of}
 use Rattle.giop_message.proofs.Starting.{fit_some}
 use Rattle.giop_message.proofs.message.Message.begin_body.Goals as goal
 
@@ -18,16 +18,16 @@ returns-in-Nothing-clause-fits c = c.begin_rest.ensures.fits c.args.catalogue.no
 
 pub returns-in-Nothing-clause-arrives : goal.returns-in-Nothing-clause-arrives
 unfolding body
-returns-in-Nothing-clause-arrives c listed = rw c.in-Nothing.is (c.begin_rest.ensures.arrives c.args.catalogue.now listed)
+returns-in-Nothing-clause-arrives c request_table = rw c.in-Nothing.is (c.begin_rest.ensures.arrives c.args.catalogue.now request_table)
 
 pub returns-in-Type-clause-arrives : goal.returns-in-Type-clause-arrives
 unfolding body
-returns-in-Type-clause-arrives c listed = rw c.in-Type.is (c.begin_typed.ensures.arrives listed)
+returns-in-Type-clause-arrives c request_table = rw c.in-Type.is (c.begin_typed.ensures.arrives request_table)
 
 pub returns-in-Exception-clause-arrives : goal.returns-in-Exception-clause-arrives
-unfolding body said_by
-returns-in-Exception-clause-arrives c listed number header s at before e =
-    let S = said_by c.args.catalogue.now listed in
-    c.begin.ensures.enters listed number header s at before tt
-    (subst (λ T. message S header s ≡ with_front before (through S header sections.Exception nothing (read (plain (order header)) [] T (12 + length s) [])))
+unfolding body signatures_of
+returns-in-Exception-clause-arrives c request_table number header s at before e =
+    let S = signatures_of c.args.catalogue.now request_table in
+    c.begin.ensures.enters request_table number header s at before tt
+    (subst (λ T. message S header s ≡ with_front before (section_and_rest S header sections.Exception nothing_noted (read (plain (order header)) [] T (12 + length s) [])))
     (sym c.fixed-of.ensures.tree) (rw c.in-Exception.is at e))

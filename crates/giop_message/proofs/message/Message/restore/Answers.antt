@@ -3,12 +3,12 @@ use Rattle.giop_message.specs.Stored.{kept_id, PartStored, GoesOn}
 use Rattle.giop_message.proofs.Storing.{there, not_both, behind_own, of_own, both, own_fields, same_own, goes_on, kept_again, id_on, stands_on}
 use Rattle.giop_message.proofs.message.Message.restore.Goals as goal
 
-pub returns-then-not-is_behind_header-clause-again : goal.returns-then-not-is_behind_header-clause-again
-returns-then-not-is_behind_header-clause-again c m fits stored =
+pub returns-then-not-is_after_header-clause-again : goal.returns-then-not-is_after_header-clause-again
+returns-then-not-is_after_header-clause-again c m fits stored =
     let fields = own_fields m c.args.fixed.now stored.own in
     let at = c.eight_at-at.ensures m.at _ stored.own.at fields.at in
-    let behind = c.is_behind_header.ensures.1 (omega (arith, m.begun)) in
-    absurd (not_both c.if-not-is_behind_header.true behind)
+    let behind = c.is_after_header.ensures.1 (omega (arith, m.begun)) in
+    absurd (not_both c.if-not-is_after_header.true behind)
 
 pub returns-in_default-clause-again : goal.returns-in_default-clause-again
 returns-in_default-clause-again c m fits stored =
@@ -52,7 +52,7 @@ returns-clause-stored c =
     }
 
 pub returns-clause-follows : goal.returns-clause-follows
-returns-clause-follows c m fits same_number same_header stored listed number header s f =
+returns-clause-follows c m fits same_number same_header stored request_table number header s f =
     let fields = own_fields m c.args.fixed.now stored.own in
     let long = behind_own _ c.told-fixed in
     let octets = c.octets_at-octets.ensures _ [] long (sym (append-nil _)) in
@@ -64,5 +64,5 @@ returns-clause-follows c m fits same_number same_header stored listed number hea
       same_header = sym same_header ∙ f.same_header;
       id = id_on _ m.part c.in-Some.part m.id _ _ on id f.id;
       at = c.eight_at-at.ensures m.at _ stored.own.at fields.at ∙ f.at;
-      stands = stands_on _ listed number header s m.part c.in-Some.part on f.stands;
+      stands = stands_on _ request_table number header s m.part c.in-Some.part on f.stands;
     }

@@ -1,8 +1,8 @@
 use Rattle.std.proofs.Common.{◌≡◌, ◌+◌, ◌++◌, take, drop, take-add, sym, ap, subst, ◌∙◌, append-nil, append_assoc, length-drop, take_all, arith}
 use Rattle.std.proofs.lemmas.List.{take-append-drop}
 use Rattle.giop_print.proofs.Writing.{rest_from, wrote-append, wrote-front, wrote-nil, writes_failed}
-use Rattle.giop_message.specs.Signatures.{said_by}
-use Rattle.giop_message.specs.Holding.{Follows, due_text}
+use Rattle.giop_message.specs.Signatures.{signatures_of}
+use Rattle.giop_message.specs.MessageState.{Follows, due_text}
 use Rattle.giop_message.proofs.Dues.{text_none, text_so_far, text_ended, faulted_behind}
 use Rattle.giop_message.proofs.message.Message.take.Goals as goal
 
@@ -18,7 +18,7 @@ loop-taken-init g c =
 
 pub returns-in_err-count-clause-writes : goal.returns-in_err-count-clause-writes
 returns-in_err-count-clause-writes g c number header s f =
-    let S = said_by c.args.catalogue.now c.args.requests.now in
+    let S = signatures_of c.args.catalogue.now c.args.requests.now in
     let t = c.loop-taken.taken in
     let octets = c.args.octets.now in
     let before = c.loop-taken.invariant in
@@ -30,7 +30,7 @@ returns-in_err-count-clause-writes g c number header s f =
 
 pub returns-then-is_over-clause-writes : goal.returns-then-is_over-clause-writes
 returns-then-is_over-clause-writes g c number header s f =
-    let S = said_by c.args.catalogue.now c.args.requests.now in
+    let S = signatures_of c.args.catalogue.now c.args.requests.now in
     let t = c.loop-taken.taken in
     let n = c.in_ok-count.count in
     let octets = c.args.octets.now in
@@ -45,7 +45,7 @@ returns-then-is_over-clause-writes g c number header s f =
 
 pub returns-then-is_over-clause-took : goal.returns-then-is_over-clause-took
 returns-then-is_over-clause-took g c number header s f =
-    let S = said_by c.args.catalogue.now c.args.requests.now in
+    let S = signatures_of c.args.catalogue.now c.args.requests.now in
     let t = c.loop-taken.taken in
     let octets = c.args.octets.now in
     let before = c.loop-taken.invariant in
@@ -55,7 +55,7 @@ returns-then-is_over-clause-took g c number header s f =
 
 pub loop-taken-preserved : goal.loop-taken-preserved
 loop-taken-preserved g c =
-    let S = said_by c.args.catalogue.now c.args.requests.now in
+    let S = signatures_of c.args.catalogue.now c.args.requests.now in
     let t = c.loop-taken.taken in
     let n = c.in_ok-count.count in
     let octets = c.args.octets.now in

@@ -1,7 +1,7 @@
 use Rattle.std.proofs.Common.{◌≡◌, ℕ, ◌+◌, ◌-◌, ◌≤◌, List, ◌++◌, length, take}
 use Rattle.giop_print.specs.Output.{Wrote}
-use Rattle.giop_message.specs.Signatures.{said_by}
-use Rattle.giop_message.specs.Holding.{Fits, Follows, due_text}
+use Rattle.giop_message.specs.Signatures.{signatures_of}
+use Rattle.giop_message.specs.MessageState.{Fits, Follows, due_text}
 use Rattle.giop_message.proofs.message.Message.take.Given as goal
 
 abbrev pub invariant-loop-taken : goal.invariant-loop-taken
@@ -16,7 +16,7 @@ invariant-loop-taken g l =
       text : (number : ℕ) (header s : List ℕ) →
           Follows l.catalogue l.requests number header l.initial.self s →
           Wrote (g.O.Out.log l.initial.out) (g.O.Out.log l.out)
-          (due_text (said_by l.catalogue l.requests) number l.place header s
+          (due_text (signatures_of l.catalogue l.requests) number l.place header s
           (take l.taken l.octets));
     }
 

@@ -1,8 +1,8 @@
 use Rattle.std.proofs.Common.{◌≡◌, ◌+◌, ◌-◌, ◌<◌, ◌≤◌, ◌∷◌, [], ◌++◌, length, take, get_or, min, refl, sym}
 use Rattle.std.proofs.lemmas.List.{length-take-le}
 use Rattle.giop_print.proofs.Writing.{wrote-append, wrote-nil}
-use Rattle.giop_message.specs.Signatures.{said_by}
-use Rattle.giop_message.specs.Holding.{Follows}
+use Rattle.giop_message.specs.Signatures.{signatures_of}
+use Rattle.giop_message.specs.MessageState.{Follows}
 use Rattle.giop_message.proofs.Followings.{same_fields}
 use Rattle.giop_message.proofs.Rests.{no_text, rest_text, rest_follows}
 use Rattle.giop_message.proofs.SectionRuns.{run_front, run_failed, first_alone, standing, took, by_reads, ReadWith, text_broken, failed_behind, text_more, text_done, text_named, text_wrong, minds_header, went_on, went_done, went_wrong}
@@ -67,25 +67,25 @@ returns-in-Done-clause-went g c number header s f =
     let e = c.leave.ensures in
     let xs = take c.in_ok-taken-in-Typed.taken c.args.octets.now in
     went_done k _ _ (record { number = refl; header = refl; at = refl }) refl
-    (e.arrives number header (s ++ xs) c.in-Typed.field-0 (ReadWith t xs) (refl, k.takes.minds))
-    (record { number = e.number; header = e.header; at = e.at }) (e.id c.in-Typed.field-0 (ReadWith t xs) (refl, k.takes.minds)) e.past
+    (e.arrives number header (s ++ xs) c.in-Typed.field-0 (ReadWith t xs) (refl, k.takes.keeps_noted))
+    (record { number = e.number; header = e.header; at = e.at }) (e.id c.in-Typed.field-0 (ReadWith t xs) (refl, k.takes.keeps_noted)) e.past
 
 pub returns-in_err-fault_line-in-Fault-clause-writes : goal.returns-in_err-fault_line-in-Fault-clause-writes
 returns-in_err-fault_line-in-Fault-clause-writes g c number header s f =
     let t = standing f c.in-Typed.is c.requires.fits in
     let ran = c.in_ok-taken-in-Typed.ensures in
     let k = took t c.args.octets.now c.in_ok-taken-in-Typed.taken ran.within (ran.some c.requires.some) (by_reads t ran.takes) c.in-Fault.is in
-    let told = rw c.fault_word.ensures at c.in_err-fault_line-in-Fault.ensures in
+    let emitted = rw c.fault_word.ensures at c.in_err-fault_line-in-Fault.ensures in
     failed_behind c.from_residual-in_err-fault_line-in-Fault.result c.args.place c.from_residual-in_err-fault_line-in-Fault.ensures.0 k
-    (text_wrong c.in-Fault.kind k c.args.place) (by_reads t ran.writes) told
+    (text_wrong c.in-Fault.kind k c.args.place) (by_reads t ran.writes) emitted
 
 pub returns-in_ok-fault_line-in-Fault-clause-writes : goal.returns-in_ok-fault_line-in-Fault-clause-writes
 returns-in_ok-fault_line-in-Fault-clause-writes g c number header s f =
     let t = standing f c.in-Typed.is c.requires.fits in
     let ran = c.in_ok-taken-in-Typed.ensures in
     let k = took t c.args.octets.now c.in_ok-taken-in-Typed.taken ran.within (ran.some c.requires.some) (by_reads t ran.takes) c.in-Fault.is in
-    let told = rw c.fault_word.ensures at c.in_ok-fault_line-in-Fault.ensures in
-    rw (text_wrong c.in-Fault.kind k c.args.place) (wrote-append _ _ _ _ _ (by_reads t ran.writes) told)
+    let emitted = rw c.fault_word.ensures at c.in_ok-fault_line-in-Fault.ensures in
+    rw (text_wrong c.in-Fault.kind k c.args.place) (wrote-append _ _ _ _ _ (by_reads t ran.writes) emitted)
 
 pub returns-in_ok-fault_line-in-Fault-clause-went : goal.returns-in_ok-fault_line-in-Fault-clause-went
 returns-in_ok-fault_line-in-Fault-clause-went g c number header s f =
@@ -98,7 +98,7 @@ pub returns-in-Padding-clause-writes : goal.returns-in-Padding-clause-writes
 returns-in-Padding-clause-writes g c number header s f =
     let octet = get_or c.args.octets.now 0 0 in
     let here = same_fields f refl refl refl refl (sym c.in-Padding.is) in
-    let none = c.take_padding.ensures.told c.args.requests.now number header s octet here in
+    let none = c.take_padding.ensures.emitted c.args.requests.now number header s octet here in
     rw (first_alone c.args.octets.now c.requires.some, no_text _ number c.args.place header s (octet ∷ []) none) (wrote-nil _)
 
 pub returns-in-Padding-clause-went : goal.returns-in-Padding-clause-went
@@ -109,7 +109,7 @@ returns-in-Padding-clause-went g c number header s f =
 
 pub returns-in_err-take-in-Rest-clause-writes : goal.returns-in_err-take-in-Rest-clause-writes
 returns-in_err-take-in-Rest-clause-writes g c number header s f =
-    let S = said_by c.args.catalogue.now c.args.requests.now in
+    let S = signatures_of c.args.catalogue.now c.args.requests.now in
     let octets = c.args.octets.now in
     let n = c.min-taken.result in
     let place = c.args.place in

@@ -1,12 +1,12 @@
 use Rattle.std.proofs.Common.{◌≡◌, ℕ, ◌+◌, List, refl, arith}
 use Rattle.giop_decode.specs.declared.decoder.Decoder.{Decoder}
-use Rattle.giop_decode.specs.Holding as decoder
+use Rattle.giop_decode.specs.DecoderState as decoder
 use Rattle.giop_decode.specs.Stored as decoders
 use Rattle.giop_message.specs.declared.part.Part.{Part}
 use Rattle.giop_message.specs.declared.part.Part.TheVariants as parts
 use Rattle.giop_message.specs.declared.part.Section.{Section}
 use Rattle.giop_message.specs.declared.part.Section.TheVariants as sections
-use Rattle.giop_message.specs.Holding.{FitsPart}
+use Rattle.giop_message.specs.MessageState.{FitsPart}
 use Rattle.giop_message.specs.Stored.{section_octet, part_octet, PartStored, GoesOn, ReadsOn}
 use Rattle.giop_sig.specs.Table.{Table}
 use Rattle.giop_message.proofs.part.Part.restore_typed.Goals as goal
@@ -33,7 +33,7 @@ again : (C : Table) (section : Section) (e : Decoder) (octets frames : List ℕ)
     PartStored p octets frames → GoesOn C p (parts.Typed section e)
 again C section e octets frames reads at (parts.Typed own d) fits octet stored =
     (same own section octet, reads d fits stored)
-again C section e octets frames reads at (parts.Padding wanted) fits octet stored = absurd (small 0 section octet)
+again C section e octets frames reads at (parts.Padding body_type_id) fits octet stored = absurd (small 0 section octet)
 again C section e octets frames reads at (parts.Rest r) fits octet stored = absurd (small 1 section octet)
 
 pub returns-clause-again : goal.returns-clause-again

@@ -1,5 +1,5 @@
 use Rattle.std.proofs.Common.{sym, subst}
-use Rattle.giop_sig.specs.Headers.{IsTable}
+use Rattle.giop_sig.specs.HeaderTypes.{IsTable}
 use Rattle.giop_sig.proofs.Added.{exception_put, exception_added}
 use Rattle.giop_sig.proofs.catalogue.Catalogue.add_exception.Goals as goal
 

@@ -1,5 +1,5 @@
 use Rattle.std.proofs.Common.{sym, subst}
-use Rattle.giop_sig.specs.Headers.{IsTable}
+use Rattle.giop_sig.specs.HeaderTypes.{IsTable}
 use Rattle.giop_sig.proofs.Added.{operation_put, operation_added}
 use Rattle.giop_sig.proofs.catalogue.Catalogue.add_operation.Goals as goal
 

@@ -1,6 +1,6 @@
 use Rattle.std.proofs.Common.{ap, ◌∙◌, subst}
 use Rattle.giop_sig.specs.Table.{Table}
-use Rattle.giop_sig.specs.Headers.{IsTable}
+use Rattle.giop_sig.specs.HeaderTypes.{IsTable}
 use Rattle.giop_sig.proofs.Finds.{no_exception_long, exception_none, exception_found, exception_known}
 use Rattle.giop_sig.proofs.catalogue.Catalogue.exception.Goals as goal
 

@@ -1,7 +1,7 @@
 use Rattle.std.proofs.Common.{◌<◌, length, sym, ap, subst, ◌∙◌}
 use Rattle.giop_sig.specs.Fits.{IsFit}
 use Rattle.giop_sig.specs.Trees.{tree}
-use Rattle.giop_sig.specs.Headers.{fixed_number}
+use Rattle.giop_sig.specs.HeaderTypes.{fixed_number}
 use Rattle.giop_sig.proofs.Builtins.{fixed_built_in, builtin_known, builtin_tree, builtin_fit}
 use Rattle.giop_sig.proofs.catalogue.Catalogue.fixed.Goals as goal
 

@@ -1,7 +1,7 @@
 use Rattle.std.proofs.Common.{◌<◌, length}
 use Rattle.giop_sig.specs.Fits.{IsFit}
 use Rattle.giop_sig.specs.Trees.{tree}
-use Rattle.giop_sig.specs.Headers.{header_number}
+use Rattle.giop_sig.specs.HeaderTypes.{header_number}
 use Rattle.giop_sig.proofs.Builtins.{header_built_in, some_numbered, some_known, some_fit, header_found}
 use Rattle.giop_sig.proofs.HeaderLaws.{id_found}
 use Rattle.giop_sig.proofs.catalogue.Catalogue.header.Goals as goal

@@ -1,7 +1,7 @@
 use Rattle.std.proofs.Common.{◌<◌, refl}
 use Rattle.std.proofs.lemmas.List.Elements.{All-nil}
 use Rattle.giop_stream.specs.Rules.{rules}
-use Rattle.giop_stream.proofs.Moves.EngineLaws.{start_is}
+use Rattle.giop_stream.proofs.CodeSteps.EngineLaws.{start_is}
 use Rattle.giop_stream.proofs.engine.Engine.new.Goals as goal
 
 pub invariant_of-result : goal.invariant_of-result

@@ -1,5 +1,5 @@
 use Rattle.giop_print.proofs.Writing.{writes_then, writes_err}
-use Rattle.giop_stream.proofs.Told.Closing.{finish_text}
+use Rattle.giop_stream.proofs.StreamLines.FinishByFields.{finish_text}
 use Rattle.giop_stream.proofs.framing.Framing.finish.Goals as goal
 
 pub returns-in_err-truncation : goal.returns-in_err-truncation

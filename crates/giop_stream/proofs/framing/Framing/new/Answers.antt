@@ -1,5 +1,5 @@
 use Rattle.std.proofs.Common.{refl}
-use Rattle.giop_stream.proofs.Moves.Idle.{nothing_shown}
+use Rattle.giop_stream.proofs.CodeSteps.OutsideMessages.{nothing_shown}
 use Rattle.giop_stream.proofs.framing.Framing.new.Goals as goal
 
 pub returns-clause-shows : goal.returns-clause-shows

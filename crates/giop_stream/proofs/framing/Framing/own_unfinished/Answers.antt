@@ -1,7 +1,7 @@
 use Rattle.std.proofs.Common.{sym, ap, ◌∙◌}
 use Rattle.giop_print.proofs.Writing.{wrote-nil}
 use Rattle.giop_message.specs.Headers.{is_fragment}
-use Rattle.giop_stream.proofs.Told.Closing.{nothing_left, fragment_left, message_left}
+use Rattle.giop_stream.proofs.StreamLines.FinishByFields.{nothing_left, fragment_left, message_left}
 use Rattle.giop_stream.proofs.framing.Framing.own_unfinished.Goals as goal
 
 pub returns-in_default : goal.returns-in_default

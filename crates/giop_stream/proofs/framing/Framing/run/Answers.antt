@@ -1,20 +1,20 @@
 use Rattle.std.proofs.Common.{◌≡◌, ℕ, ◌+◌, length, arith, refl, sym, ap, ◌∙◌}
 use Rattle.giop_stream.specs.Rules.{rules}
 use Rattle.giop_stream.specs.Events.{open_after}
-use Rattle.giop_stream.specs.Effects.{stage}
-use Rattle.giop_stream.specs.Whose.{whose}
-use Rattle.giop_stream.specs.Shown.{shown}
+use Rattle.giop_stream.specs.Effects.{tracked_after}
+use Rattle.giop_stream.specs.PayloadOwner.{owner_of_next}
+use Rattle.giop_stream.specs.FramingView.{framing_view}
 use Rattle.giop_print.proofs.Writing.{writes_failed}
-use Rattle.giop_stream.proofs.Moves.Doing.{has_current}
-use Rattle.giop_stream.proofs.Moves.Settling.{on_err}
-use Rattle.giop_stream.proofs.Moves.Running.{run_keeps, run_fits, run_rises, run_does, run_shows, number_fits, one_byte}
+use Rattle.giop_stream.proofs.CodeSteps.MessageOctets.{has_current}
+use Rattle.giop_stream.proofs.CodeSteps.MessageEnds.{on_err}
+use Rattle.giop_stream.proofs.CodeSteps.PayloadRunSteps.{run_keeps, run_fits, run_rises, run_does, run_shows, number_fits, one_byte}
 use Rattle.giop_stream.proofs.framing.Framing.run.Goals as goal
 
 pub returns-in_err-faulted-clause-does : goal.returns-in_err-faulted-clause-does
 returns-in_err-faulted-clause-does g c s r h =
     let C = c.args.catalogue.now in
     let kept = c.args.requests.now in
-    let m = shown c.args.self.now in
+    let m = framing_view c.args.self.now in
     let q = c.args.octets.now in
     let asks = c.requires in
     let here = has_current C kept c.args.self.now.slots.slots.most s r m h asks.running asks.full in
@@ -23,23 +23,23 @@ returns-in_err-faulted-clause-does g c s r h =
     let failed = c.from_residual.ensures.0 in
     run_does C kept c.args.self.now.slots.slots.most s r m h asks.running here.0 here.1 q asks.apart asks.before_last asks.limit _ _ _ _
     (writes_failed c.from_residual.result (g.O.Out.log c.args.out.now) (g.O.Out.log c.take.new.out) _ failed
-    (c.in_err-faulted.ensures.does (stage (rules C kept c.args.self.now.slots.slots.most) r.stream)
-    (whose (open_after c.args.self.now.slots.slots.most r.stream) here.0) keeps rises).text) (on_err _ c.from_residual.result failed)
+    (c.in_err-faulted.ensures.does (tracked_after (rules C kept c.args.self.now.slots.slots.most) r.stream)
+    (owner_of_next (open_after c.args.self.now.slots.slots.most r.stream) here.0) keeps rises).text) (on_err _ c.from_residual.result failed)
 
 pub returns-clause-does : goal.returns-clause-does
 returns-clause-does g c s r h =
     let C = c.args.catalogue.now in
     let kept = c.args.requests.now in
-    let m = shown c.args.self.now in
+    let m = framing_view c.args.self.now in
     let q = c.args.octets.now in
     let asks = c.requires in
     let here = has_current C kept c.args.self.now.slots.slots.most s r m h asks.running asks.full in
     let keeps = run_keeps C kept c.args.self.now.slots.slots.most s r m h asks.running here.0 here.1 q asks.apart asks.before_last asks.limit in
     let fits = run_fits C kept c.args.self.now.slots.slots.most s r m h asks.running here.0 here.1 q asks.apart asks.before_last asks.limit in
     let rises = run_rises C kept c.args.self.now.slots.slots.most s r m h asks.running here.0 here.1 q asks.apart asks.before_last asks.limit in
-    let all : c.unwrap_or-come.result ≡ length q =
-    c.unwrap_or-come.ensures ∙ number_fits c.try_from.result (length q) _ (omega (arith, fits)) c.try_from.ensures in
-    let does = c.in_ok-faulted.ensures.does (stage (rules C kept c.args.self.now.slots.slots.most) r.stream) (whose (open_after c.args.self.now.slots.slots.most r.stream) here.0) keeps rises in
+    let all : c.unwrap_or-payload_count.result ≡ length q =
+    c.unwrap_or-payload_count.ensures ∙ number_fits c.try_from.result (length q) _ (omega (arith, fits)) c.try_from.ensures in
+    let does = c.in_ok-faulted.ensures.does (tracked_after (rules C kept c.args.self.now.slots.slots.most) r.stream) (owner_of_next (open_after c.args.self.now.slots.slots.most r.stream) here.0) keeps rises in
     run_does C kept c.args.self.now.slots.slots.most s r m h asks.running here.0 here.1 q asks.apart asks.before_last asks.limit _ _ _ _ does.text
     (run_shows C kept c.args.self.now.slots.slots.most s r m h asks.running here.0 here.1 q asks.apart asks.before_last asks.limit _ refl
     (ap (λ (n : ℕ). m.totals.faults + n) (c.from.ensures ∙ (one_byte _ ∙ sym does.faults))) refl refl refl

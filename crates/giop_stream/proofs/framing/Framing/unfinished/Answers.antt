@@ -1,5 +1,5 @@
 use Rattle.giop_print.proofs.Writing.{writes_then, writes_err}
-use Rattle.giop_stream.proofs.Told.Closing.{left_text}
+use Rattle.giop_stream.proofs.StreamLines.FinishByFields.{left_text}
 use Rattle.giop_stream.proofs.framing.Framing.unfinished.Goals as goal
 
 pub returns-in_err-unfinished : goal.returns-in_err-unfinished

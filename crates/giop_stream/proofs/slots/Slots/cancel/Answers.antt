@@ -1,8 +1,8 @@
 use Rattle.std.proofs.Common.{Some, refl, sym}
 use Rattle.std.proofs.lemmas.Bool.{false≢true}
-use Rattle.giop_stream.proofs.Keep.ReadingEffects.{cancel_says, cancelled_text, cancelled_none, no_lines, no_message}
-use Rattle.giop_stream.proofs.Keep.Keepers.{open_slot, open_there, cancel_keeps}
-use Rattle.giop_stream.proofs.Keep.Performing.{does_nothing, performs_on, writes_line}
+use Rattle.giop_stream.proofs.SlotSteps.ReadingEffects.{cancel_says, cancelled_text, cancelled_none, no_lines, no_message}
+use Rattle.giop_stream.proofs.SlotSteps.EventsOnSlots.{open_slot, open_there, cancel_keeps}
+use Rattle.giop_stream.proofs.SlotSteps.Performing.{does_nothing, performs_on, writes_line}
 use Rattle.giop_stream.proofs.slots.Slots.cancel.Goals as goal
 
 pub returns-then-is_none-clause-does : goal.returns-then-is_none-clause-does

@@ -1,5 +1,5 @@
-use Rattle.giop_stream.proofs.Keep.Keepers.{open_with}
-use Rattle.giop_stream.proofs.Keep.SlotLists.{push_ready}
+use Rattle.giop_stream.proofs.SlotSteps.EventsOnSlots.{open_with}
+use Rattle.giop_stream.proofs.SlotSteps.SlotLists.{push_ready}
 use Rattle.giop_stream.proofs.slots.Slots.open.Goals as goal
 
 pub returns : goal.returns

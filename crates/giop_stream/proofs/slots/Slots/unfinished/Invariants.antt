@@ -1,6 +1,6 @@
 use Rattle.std.proofs.Common.{flat_map, take}
 use Rattle.giop_print.specs.Output.{Wrote}
-use Rattle.giop_stream.proofs.Told.Closing.{slot_text}
+use Rattle.giop_stream.proofs.StreamLines.FinishByFields.{slot_text}
 use Rattle.giop_stream.proofs.slots.Slots.unfinished.Given as goal
 
 abbrev pub invariant-loop-k : goal.invariant-loop-k

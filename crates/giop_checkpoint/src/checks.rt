@@ -1,0 +1,78 @@
+//! The checks of a checkpoint, in their order.
+
+ghost use Rattle.std.specs.Prelude.{◌≡◌, ◌↔◌, ℕ, List, ◌++◌, ◌≤◌, drop, length, IfOk, IfErr, IsOkAnd, IsTrue};
+ghost use Rattle.giop_checkpoint.specs.Fixed.{HasRange, counts_octets, fixed_octets};
+ghost use Rattle.giop_checkpoint.specs.Records.{AreRecords};
+ghost use Rattle.giop_checkpoint.specs.Refusals.{IsLaidOut, IsOurs, IsNotOurs, Refused, Passes};
+ghost use Rattle.giop_checkpoint.specs.declared.fixed.Fixed.{Fixed as FixedPart};
+ghost use Rattle.giop_checkpoint.specs.declared.layout.Layout.{Layout as LayoutOf};
+
+use crate::fault::LoadFault;
+use crate::fixed::{Counts, Fixed, magic};
+use crate::layout::Layout;
+use crate::record::are_records;
+use crate::sizes::FIXED_SIZE;
+use crate::state::{same, state_at};
+use arrayvec::ArrayVec;
+
+/// The layout, and what stands behind the counts, where all up to there is as it is written by this layout, with these
+/// counts.
+fn after_counts<'a>(octets: &'a [u8], counts: Counts) -> Result<(Layout, &'a [u8]), LoadFault>
+    ensures ours { IfOk result (λ r. IsOurs counts octets.now) }
+    ensures layout { IfOk result (λ r. IsLaidOut octets.now r.0) }
+    ensures rest { IfOk result (λ r. r.1.now ≡ drop 28 octets.now) }
+    ensures refused { IfErr result (λ why. IsNotOurs counts octets.now why) }
+{
+    if octets.len() < FIXED_SIZE {
+        return Err(LoadFault::Length);
+    }
+    let (text, behind) = octets.split_at(8);
+    if !same(text, &magic()) {
+        return Err(LoadFault::Magic);
+    }
+    let (version, behind) = behind.split_at(4);
+    let Some(layout) = Layout::of(version) else {
+        return Err(LoadFault::Version);
+    };
+    let (read_with, behind) = behind.split_at(16);
+    if !counts.are(read_with) {
+        return Err(LoadFault::Catalogue);
+    }
+    Ok((layout, behind))
+}
+
+/// The fixed part of a checkpoint, and the octets of its records, each of which is whole. These are the counts of the
+/// catalogue and the request list that it is read with.
+pub fn fixed_part<'a>(octets: &'a [u8], counts: Counts) -> Result<(Fixed, &'a [u8]), LoadFault>
+    ensures passes { IfOk result (λ r. Passes counts octets.now r.0 r.1.now) }
+    ensures refused { IfErr result (λ why. Refused counts octets.now why) }
+    // What is written by either layout is read.
+    ensures again { (layout : LayoutOf) (f : FixedPart) (records : List ℕ) → f.counts ≡ counts →
+        HasRange layout f → AreRecords f.records records →
+        octets.now ≡ fixed_octets layout f ++ records → IsOkAnd result (λ r. (r.0 ≡ f)
+        × (r.1.now ≡ records)) }
+{
+    let (layout, behind) = match after_counts(octets, counts) {
+        Ok(front) => front,
+        Err(why) => return Err(why),
+    };
+    let (state, records) = behind.split_at(68);
+    let Some(fixed) = state_at(layout, counts, state) else {
+        return Err(LoadFault::State);
+    };
+    if !are_records(fixed.records, records) {
+        return Err(LoadFault::Length);
+    }
+    Ok((fixed, records))
+}
+
+impl Counts {
+    /// Whether octets are these counts.
+    fn are(&self, octets: &[u8]) -> bool
+        ensures { IsTrue result ↔ (octets.now ≡ counts_octets self.now) }
+    {
+        let mut own: ArrayVec<u8, 16> = ArrayVec::new();
+        self.write(&mut own);
+        same(own.as_slice(), octets)
+    }
+}

@@ -1,0 +1,140 @@
+-- The path of the innermost part, spelled from its end.
+use Rattle.std.proofs.Common.{◌≡◌, ℕ, true, false, Bool, Option, Some, None, ◌+◌, ◌-◌, ◌<◌, ◌≤◌, List, [], ◌∷◌, ◌++◌, length, get_or, drop, refl, ap, ◌∙◌, sym, append_assoc, append-nil, length-append, arith}
+use Rattle.std.proofs.lemmas.Bool.{false≢true}
+use Rattle.std.proofs.lemmas.List.{drop_more}
+use Rattle.giop_cdr.specs.declared.order.Order.{Order}
+use Rattle.giop_decode.specs.Segments.{end_segments, end_text, frames_text}
+use Rattle.giop_decode.specs.ReadResult.{PathSegment}
+use Rattle.giop_decode.specs.Spelling.{segment_text, segments_text, path_text}
+use Rattle.giop_decode.specs.ReadingSteps.{segment_in, path_in}
+use Rattle.giop_decode.specs.Transitions.{open_part_in, open_part, open_parts, switch_segment}
+use Rattle.giop_decode.specs.declared.frame.Frame.{Frame}
+use Rattle.giop_decode.proofs.Segments.{segments_text-append}
+use Rattle.giop_print.specs.declared.line.Line.{Line}
+use Rattle.giop_print.specs.declared.path.Root.{Root}
+use Rattle.giop_print.specs.Line.{line_text, line_room, Spells}
+use Rattle.giop_print.specs.Paths.{root_word}
+use Rattle.giop_sig.specs.Table.{Table}
+use Rattle.giop_sig.specs.Trees.{tree}
+use Rattle.giop_sig.specs.Types.{Ty}
+use Rattle.giop_sig.specs.declared.types.TypeId.{TypeId}
+
+-- it makes no difference at which offset a part stands
+seg_anywhere : (here : ℕ) (inside : Option Order) (T : Ty) (i count : ℕ) →
+    segment_in (open_part_in here inside T i count) ≡ segment_in (open_part_in 0 inside T i count)
+seg_anywhere here None T i count = refl
+seg_anywhere here (Some order) T i count = refl
+
+path_anywhere : (C : Table) (here : ℕ) (path : List PathSegment) (outer : List Frame) →
+    path_in path (open_parts C 0 outer) ≡ path_in path (open_parts C here outer)
+path_anywhere C here path [] = refl
+path_anywhere C here path (f ∷ outer) =
+    path_anywhere C here (path ++ segment_in (open_part C 0 f) ∷ []) outer
+    ∙ ap (λ seg. path_in (path ++ seg ∷ []) (open_parts C here outer)) (sym
+    (seg_anywhere here f.inside (tree C f.of.0) f.index f.count))
+
+-- the path of the innermost part, and of its discriminator
+pub stands_at : (C : Table) (here : ℕ) (root : Root) (outer : List Frame) →
+    path_text root (path_in [] (open_parts C 0 outer) ++ [])
+    ≡ path_text root (path_in [] (open_parts C here outer))
+stands_at C here root outer = ap (path_text root) (append-nil (path_in [] (open_parts C 0 outer))
+    ∙ path_anywhere C here [] outer)
+
+pub switch_at : (C : Table) (here : ℕ) (root : Root) (outer : List Frame) (seg : PathSegment) →
+    path_text root (path_in [] (open_parts C 0 outer) ++ seg ∷ [])
+    ≡ path_text root (path_in [] (open_parts C here outer) ++ seg ∷ [])
+switch_at C here root outer seg = ap (λ path. path_text root (path ++ seg ∷ []))
+    (path_anywhere C here [] outer)
+
+-- its text
+frames_spelled : (C : Table) (path : List PathSegment) (outer : List Frame) →
+    segments_text (path_in path (open_parts C 0 outer)) ≡ segments_text path ++ frames_text C outer
+frames_spelled C path [] = sym (append-nil (segments_text path))
+frames_spelled C path (f ∷ outer) =
+    let seg = segment_in (open_part C 0 f) in
+    frames_spelled C (path ++ seg ∷ []) outer
+    ∙ (ap (λ text. text ++ frames_text C outer) (segments_text-append path seg)
+    ∙ append_assoc (segments_text path) (segment_text seg) (frames_text C outer))
+
+ends_spelled : (C : Table) (path : List PathSegment) (switch : Option TypeId) →
+    segments_text (path ++ end_segments C switch) ≡ segments_text path ++ end_text C switch
+ends_spelled C path None = ap segments_text (append-nil path) ∙ sym (append-nil (segments_text path))
+ends_spelled C path (Some of) = segments_text-append path (switch_segment (tree C of.0))
+
+here_spelled : (C : Table) (root : Root) (outer : List Frame) (switch : Option TypeId) →
+    root_word root ++ (frames_text C outer ++ end_text C switch)
+    ≡ path_text root (path_in [] (open_parts C 0 outer) ++ end_segments C switch)
+unfolding path_text
+here_spelled C root outer switch =
+    ap (λ text. root_word root ++ text) (sym (ends_spelled C (path_in []
+    (open_parts C 0 outer)) switch
+    ∙ ap (λ text. text ++ end_text C switch) (frames_spelled C [] outer)))
+
+-- no room for what is left of a path
+pub spells_end : (a b : Line) (end text : List ℕ) → line_text b ≡ end ++ line_text a →
+    line_room b + length end ≡ line_room a → Spells false a b text
+spells_end a b end text e r = record {
+  front = end;
+  spelled = e;
+  room = r;
+  all = λ no. absurd
+      (false≢true no);
+}
+
+pub spells_more : (w : Bool) (a b c : Line) (end more text : List ℕ) →
+    line_text b ≡ end ++ line_text a → line_room b + length end ≡ line_room a → Spells w b c more →
+    Spells false a c text
+spells_more w a b c end more text e r s =
+    spells_end a c (s.front ++ end) text (s.spelled ∙ (ap (λ t. s.front ++ t) e
+    ∙ sym (append_assoc s.front end (line_text a))))
+    (omega (arith, length-append s.front end, s.room, r))
+
+-- room for all of it
+pub spells_here : (C : Table) (root : Root) (outer : List Frame) (switch : Option TypeId) (w : Bool)
+    (a b c d : Line) → line_text b ≡ end_text C switch ++ line_text a →
+    line_room b + length (end_text C switch) ≡ line_room a → Spells w b c (frames_text C outer) →
+    w ≡ true → line_text d ≡ root_word root ++ line_text c →
+    line_room d + length (root_word root) ≡ line_room c →
+    Spells true a d (path_text root (path_in [] (open_parts C 0 outer) ++ end_segments C switch))
+spells_here C root outer switch w a b c d be br s whole de dr =
+    let frames = frames_text C outer in
+    let end = end_text C switch in
+    let front : s.front ≡ frames = s.all whole in
+    let c_text : line_text c ≡ frames ++ line_text b = rw front at s.spelled in
+    let c_room : line_room c + length frames ≡ line_room b = rw front at s.room in
+    record {
+      front = root_word root ++ (frames ++ end);
+      spelled = rw (de, c_text, be) (sym (append_assoc (root_word root) (frames ++ end)
+          (line_text a)
+          ∙ ap (λ text. root_word root ++ text) (append_assoc frames end (line_text a))));
+      room = omega (
+        arith,
+        dr,
+        c_room,
+        br,
+        length-append (root_word root)
+            (frames ++ end),
+        length-append frames end,
+      );
+      all = λ h. here_spelled C root outer switch;
+    }
+
+-- the segments of frames, the innermost first
+from_end : {X : Type 0} (xs : List X) (i : ℕ) (d : X) → 0 < i → i ≤ length xs →
+    drop (i - 1) xs ≡ get_or xs (i - 1) d ∷ drop i xs
+from_end xs i d p h = let e : i - 1 + 1 ≡ i = omega arith in rw e at (drop_more xs (i - 1) d
+    (omega arith))
+
+pub frames_more : (C : Table) (outer : List Frame) (i : ℕ) (d : Frame) → 0 < i → i ≤ length outer →
+    frames_text C (drop (i - 1) outer)
+    ≡ segment_text (segment_in (open_part C 0 (get_or outer (i - 1) d))) ++ frames_text C (drop i outer)
+frames_more C outer i d p h = rw (from_end outer i d p h) refl
+
+pub text_more : (C : Table) (outer : List Frame) (i : ℕ) (d : Frame) (a b : List ℕ)
+    (text : List ℕ) → 0 < i → i ≤ length outer → a ≡ frames_text C (drop i outer) ++ text →
+    b ≡ segment_text (segment_in (open_part C 0 (get_or outer (i - 1) d))) ++ a →
+    b ≡ frames_text C (drop (i - 1) outer) ++ text
+text_more C outer i d a b text p h e n =
+    let seg = segment_text (segment_in (open_part C 0 (get_or outer (i - 1) d))) in
+    rw (frames_more C outer i d p h) (n ∙ (ap (λ t. seg ++ t) e
+    ∙ sym (append_assoc seg (frames_text C (drop i outer)) text)))

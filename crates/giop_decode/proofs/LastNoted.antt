@@ -1,0 +1,146 @@
+-- What a reading leaves in mind is what its lines say: the folds over the lines give the last of each.
+use Rattle.std.proofs.Common.{◌≡◌, ℕ, zero, suc, ◌+◌, ◌&&◌, Bool, true, false, List, [], ◌∷◌, ◌++◌, length, take, drop, Option, Some, None, refl, sym, ◌∙◌, ap, append_assoc, append-nil}
+use Rattle.std.specs.Prelude.{cond, flat_map, codes}
+use Rattle.std.specs.List.{cons_option, last_or}
+use Rattle.std.proofs.lemmas.List.{take-append-drop}
+use Rattle.giop_cdr.specs.declared.prim.Primitive.TheVariants as prims
+use Rattle.giop_decode.specs.Noted.{Noted, first_of, note, note_value, noted, noted_of, without_name_if, ends_in_string, is_member, name_if, nothing_noted}
+use Rattle.giop_decode.specs.NotedFromLines.{TextPiece, first_in, enum_of, enums, ulong_of, id_of, request_ids, text_of, text_pieces, cut_from, pieces_of, Strings, name_of, IsLeft}
+use Rattle.giop_decode.specs.Pieces.{full_pieces}
+use Rattle.giop_decode.specs.Reading.{read}
+use Rattle.giop_decode.specs.ReadResult.{Coding, PathSegment, Value, Number, Piece, Line, Read, lines_of}
+use Rattle.giop_sig.specs.Types.{Plain, Enum, Ty, Text}
+use Rattle.giop_decode.proofs.WholeStrings.{read_strings}
+
+-- one line more at the front
+last_cons : (o x : Option ℕ) (xs : List ℕ) →
+    last_or o (cons_option x xs) ≡ last_or (last_or o (cons_option x [])) xs
+last_cons o None xs = refl
+last_cons o (Some n) xs = refl
+
+-- ---- the last enum
+
+value_status : (is_id : Bool) (h : Noted) (value : Value) →
+    (note_value is_id h value).status ≡ last_or h.status (cons_option (enum_of value) [])
+value_status is_id h (Number (Plain p) n) = plain p
+  where
+    plain : (p : _) → (note_value is_id h (Number (Plain p) n)).status ≡ h.status
+    plain prims.ULong = refl
+    plain p = refl
+value_status is_id h (Number (Enum count names) n) = refl
+value_status is_id h (Piece (Text bound) offset octets true) = refl
+value_status is_id h (Piece (Text bound) offset octets false) = refl
+value_status is_id h value = refl
+
+left_status : (is_header : Bool) (h : Noted) (lines : List Line) →
+    (noted is_header h lines).status ≡ last_or h.status (enums lines)
+left_status is_header h [] = refl
+left_status is_header h (l ∷ ls) =
+    left_status is_header (note is_header h l) ls
+    ∙ (ap (λ o. last_or o (enums ls)) (value_status (is_header && is_member (codes "request_id") l.path) h l.value)
+    ∙ sym (last_cons h.status (enum_of l.value) (enums ls)))
+
+-- ---- the request id
+
+kept : (is_id : Bool) (o : Option ℕ) → o ≡ first_of o (cond is_id None None)
+kept true (Some n) = refl
+kept true None = refl
+kept false (Some n) = refl
+kept false None = refl
+
+value_id : (is_id : Bool) (h : Noted) (value : Value) →
+    (note_value is_id h value).request_id ≡ first_of h.request_id (cond is_id (ulong_of value) None)
+value_id is_id h (Number (Plain prims.ULong) n) = refl
+value_id is_id h (Number (Enum count names) n) = kept is_id h.request_id
+value_id is_id h (Piece (Text bound) offset octets true) = kept is_id h.request_id
+value_id is_id h (Piece (Text bound) offset octets false) = kept is_id h.request_id
+value_id is_id h value = kept is_id h.request_id
+
+first_cons : (o x : Option ℕ) (xs : List ℕ) →
+    first_of (first_of o x) (first_in xs) ≡ first_of o (first_in (cons_option x xs))
+first_cons (Some n) x xs = refl
+first_cons None (Some n) xs = refl
+first_cons None None xs = refl
+
+left_id : (is_header : Bool) (h : Noted) (lines : List Line) →
+    (noted is_header h lines).request_id
+    ≡ first_of h.request_id (first_in (request_ids is_header lines))
+left_id is_header h [] = kept true h.request_id
+left_id is_header h (l ∷ ls) =
+    let is_id = is_header && is_member (codes "request_id") l.path in
+    left_id is_header (note is_header h l) ls
+    ∙ (ap (λ o. first_of o (first_in (request_ids is_header ls))) (value_id is_id h l.value)
+    ∙ first_cons h.request_id (id_of is_header l) (request_ids is_header ls))
+
+-- ---- the last whole string
+
+-- the name behind pieces of strings, where so much is gathered of one that hasn't ended
+abbrev said : Option (List ℕ) → List ℕ → List TextPiece → Option (List ℕ)
+said name so_far [] = name
+said name so_far (p ∷ ps) = cond p.more (said None (so_far ++ p.octets) ps) (said (name_if (so_far ++ p.octets)) [] ps)
+
+value_name : (is_id : Bool) (h : Noted) (value : Value) (ps : List TextPiece) →
+    said (note_value is_id h value).name (note_value is_id h value).so_far ps
+    ≡ said h.name h.so_far (cons_option (text_of value) ps)
+value_name is_id h (Piece (Text bound) offset octets true) ps = refl
+value_name is_id h (Piece (Text bound) offset octets false) ps = refl
+value_name is_id h (Number (Plain prims.ULong) n) ps = refl
+value_name is_id h value ps = refl
+
+left_name : (is_header : Bool) (h : Noted) (lines : List Line) →
+    (noted is_header h lines).name ≡ said h.name h.so_far (text_pieces lines)
+left_name is_header h [] = refl
+left_name is_header h (l ∷ ls) =
+    left_name is_header (note is_header h l) ls ∙ value_name (is_header && is_member (codes "request_id") l.path) h l.value (text_pieces ls)
+
+said_cut : (full offset : ℕ) (content : List ℕ) (name : Option (List ℕ)) (so_far : List ℕ)
+    (ps : List TextPiece) → said name so_far (cut_from full offset content ++ ps)
+    ≡ said (name_if (so_far ++ content)) [] ps
+said_cut zero offset content name so_far ps = refl
+said_cut (suc full) offset content name so_far ps =
+    said_cut full (offset + 32) (drop 32 content) None (so_far ++ take 32 content) ps
+    ∙ ap (λ octets. said (name_if octets) [] ps) (append_assoc so_far (take 32 content) (drop 32 content)
+    ∙ ap (λ octets. so_far ++ octets) (take-append-drop 32 content))
+
+said_all : (before : Option (List ℕ)) (contents : List (List ℕ)) →
+    said (name_of before) [] (flat_map pieces_of contents) ≡ name_of (last_or before contents)
+said_all before [] = refl
+said_all before (c ∷ contents) =
+    said_cut (full_pieces (length c)) 0 c (name_of before) [] (flat_map pieces_of contents) ∙ said_all (Some c) contents
+
+outside_name : (is_header : Bool) (r : Read) (strings : Strings r) → ends_in_string r ≡ false →
+    (noted is_header nothing_noted (lines_of r)).name ≡ name_of (last_or None strings.contents)
+outside_name is_header r strings outside =
+    let whole : text_pieces (lines_of r) ≡ flat_map pieces_of strings.contents = rw (strings.lines, strings.none outside)
+    (append-nil (flat_map pieces_of strings.contents)) in
+    left_name is_header nothing_noted (lines_of r) ∙ (ap (said None []) whole ∙ said_all None strings.contents)
+
+-- ---- all of it
+
+hushed_id : (inside : Bool) (h : Noted) → (without_name_if inside h).request_id ≡ h.request_id
+hushed_id true h = refl
+hushed_id false h = refl
+
+hushed_status : (inside : Bool) (h : Noted) → (without_name_if inside h).status ≡ h.status
+hushed_status true h = refl
+hushed_status false h = refl
+
+is_left : (is_header : Bool) (r : Read) → Strings r → IsLeft is_header r (noted_of is_header r)
+is_left is_header r strings = record {
+  request_id = hushed_id (ends_in_string r) (noted is_header nothing_noted (lines_of r)) ∙ left_id is_header nothing_noted (lines_of r);
+  status = hushed_status (ends_in_string r) (noted is_header nothing_noted (lines_of r)) ∙ left_status is_header nothing_noted (lines_of r);
+  strings = strings;
+  name = name (ends_in_string r) refl;
+}
+  where
+    name : (inside : Bool) → ends_in_string r ≡ inside →
+        (without_name_if inside (noted is_header nothing_noted (lines_of r))).name
+        ≡ cond inside None (name_of (last_or None strings.contents))
+    name true e = refl
+    name false e = outside_name is_header r strings e
+
+-- What is left in mind of any reading.
+pub read_left : (is_header : Bool) (coding : Coding) (path : List PathSegment) (T : Ty) (at : ℕ)
+    (s : List ℕ) → IsLeft is_header (read coding path T at s)
+    (noted_of is_header (read coding path T at s))
+read_left is_header coding path T at s = is_left is_header (read coding path T at s) (read_strings coding path T at s)

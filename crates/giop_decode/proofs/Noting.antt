@@ -1,0 +1,180 @@
+-- What is heard of an octet.
+use Rattle.std.specs.Prelude.{slice_index_or, codes}
+use Rattle.std.specs.Str.{bytes_eq}
+use Rattle.std.proofs.Common.{◌≡◌, ◌≢◌, ℕ, ◌&&◌, Bool, true, false, List, [], ◌∷◌, ◌++◌, length, append_assoc, refl, ◌∙◌, arith, Option, Some, None, sym}
+use Rattle.giop_cdr.specs.declared.order.Order.{Order}
+use Rattle.giop_decode.specs.declared.leaf.Leaf.{Leaf as Innermost}
+use Rattle.giop_decode.specs.declared.leaf.Leaf.TheVariants as innermost
+use Rattle.giop_decode.specs.declared.leaf.Transition.{Transition}
+use Rattle.giop_decode.specs.declared.leaf.Output.{Output}
+use Rattle.giop_decode.specs.declared.leaf.Output.TheVariants as outputs
+use Rattle.giop_decode.specs.Noted.{Noted, note_value, ended, with_piece, noted_piece, is_member, noted, noted_of, without_name_if, in_content, ends_in_string, is_text, nothing_noted}
+use Rattle.giop_decode.specs.NotingSteps.{OutputFitsString, clears_name, leaf_in_string, transition_in_string}
+use Rattle.giop_decode.specs.ReadResult.{Leaf, LeadingNumber, Opening, Held, PathSegment, Name, Index, Switch, Line, line, Value, Piece, OpenPart, Content, Read, Done, Short, Fault, lines_of, with_front}
+use Rattle.giop_decode.specs.declared.frame.Frame.{Frame}
+use Rattle.giop_decode.specs.ReadingSteps.{path_in, segment_in}
+use Rattle.giop_decode.specs.Transitions.{has_ended, leaf_of, leaf_type, open_part, part_in, open_parts, IsOutput}
+use Rattle.giop_decode.proofs.Resuming.{noted-append, lines_front}
+use Rattle.std.specs.Prelude.{IfSome}
+use Rattle.giop_decode.specs.Fits.{IsEncapsulation}
+use Rattle.giop_decode.specs.DecoderSteps.{stopped_with}
+use Rattle.giop_decode.specs.Reading.{cut_off}
+use Rattle.giop_decode.proofs.Surrounding.{shut}
+use Rattle.giop_sig.specs.Table.{Table}
+use Rattle.giop_sig.specs.Trees.{tree}
+use Rattle.giop_sig.specs.Types.{Cases, Ty, Single, Text, Octets, Struct, Union, Sequence, Array, Plain, Enum, HasMember, name_in, shape_in, Encapsulation, Tag}
+
+content_in : (T : Ty) (total offset : ℕ) (piece : List ℕ) → in_content (Content T total offset piece) ≡ is_text T
+content_in (Text bound) total offset piece = refl
+content_in _ total offset piece = refl
+
+pub leaf_inside : (C : Table) (leaf : Innermost) (carry piece : List ℕ) → in_content (leaf_of C leaf carry piece) ≡ leaf_in_string (tree C (leaf_type leaf)) leaf
+leaf_inside C (innermost.Content of total offset) carry piece = content_in (tree C of.0) total offset piece
+leaf_inside C _ carry piece = refl
+
+-- an encapsulation's end in a string cuts it off
+pub cut_inside : (leaf : Leaf) → is_text (cut_off leaf) ≡ in_content leaf
+cut_inside (Content T total offset piece) = sym (content_in T total offset piece)
+cut_inside _ = refl
+
+pub shut_inside : (ended : Bool) (lines : List Line) (at : ℕ) (outer : List OpenPart) (leaf : Leaf) → ends_in_string (shut ended lines at outer leaf) ≡ in_content leaf
+shut_inside true lines at outer leaf = cut_inside leaf
+shut_inside false lines at outer leaf = refl
+
+-- the rest of an encapsulation is no string
+pub rest_silent : (T : Ty) → IsEncapsulation T → is_text T ≡ false
+rest_silent (Encapsulation T) h = refl
+rest_silent _ h = absurd h
+
+pub stopped_silent : (C : Table) (frames : List Frame) (carry piece : List ℕ) (leaf : Option Innermost) (lines : List Line) (at : ℕ) →
+    IfSome leaf (λ l. leaf_in_string (tree C (leaf_type l)) l ≡ false) → ends_in_string (stopped_with C frames carry piece leaf lines at) ≡ false
+stopped_silent C frames carry piece None lines at h = refl
+stopped_silent C frames carry piece (Some leaf) lines at h =
+    shut_inside (has_ended frames) lines at (open_parts C at frames) (leaf_of C leaf carry piece) ∙ (leaf_inside C leaf carry piece ∙ h)
+
+text_inside : (T : Ty) (leaf : Innermost) → leaf_in_string T leaf ≡ true → is_text T ≡ true
+text_inside T (innermost.Content of total offset) h = h
+text_inside T _ h = cc
+
+pub front_inside : (front : List Line) (r : Read) → ends_in_string (with_front front r) ≡ ends_in_string r
+front_inside front (Done lines at rest) = refl
+front_inside front _ = refl
+
+hushed_twice : (was : Bool) (h : Noted) → without_name_if true (without_name_if was h) ≡ without_name_if true h
+hushed_twice true h = refl
+hushed_twice false h = refl
+
+-- a piece of a string, or of octets, which are in no string
+piece_heard : (header : Bool) (T : Ty) (was more : Bool) (h : Noted) (path : List PathSegment) (at offset : ℕ) (octets : List ℕ) → (was ≡ true → is_text T ≡ true) →
+    noted header (without_name_if was h) (line at path (Piece T offset octets more) ∷ []) ≡ without_name_if (is_text T && more) (noted header h (line at path (Piece T offset octets more) ∷ []))
+piece_heard header (Text bound) true true h path at offset octets k = refl
+piece_heard header (Text bound) true false h path at offset octets k = refl
+piece_heard header (Text bound) false true h path at offset octets k = refl
+piece_heard header (Text bound) false false h path at offset octets k = refl
+piece_heard header (Octets bound) false more h path at offset octets k = refl
+piece_heard header (Octets bound) true more h path at offset octets k = let e = k refl in cc
+piece_heard header (Single scalar) false more h path at offset octets k = refl
+piece_heard header (Single scalar) true more h path at offset octets k = let e = k refl in cc
+piece_heard header (Struct n names parts) false more h path at offset octets k = refl
+piece_heard header (Struct n names parts) true more h path at offset octets k = let e = k refl in cc
+piece_heard header (Union choice scalar select names cases) false more h path at offset octets k = refl
+piece_heard header (Union choice scalar select names cases) true more h path at offset octets k = let e = k refl in cc
+piece_heard header (Sequence bound T) false more h path at offset octets k = refl
+piece_heard header (Sequence bound T) true more h path at offset octets k = let e = k refl in cc
+piece_heard header (Encapsulation T) false more h path at offset octets k = refl
+piece_heard header (Encapsulation T) true more h path at offset octets k = let e = k refl in cc
+piece_heard header (Array n T) false more h path at offset octets k = refl
+piece_heard header (Array n T) true more h path at offset octets k = let e = k refl in cc
+
+spoken_heard : (header : Bool) (T : Ty) (was : Bool) (transition : Transition) (output : Output) (path : List PathSegment) (at : ℕ) (piece : List ℕ) (lines : List Line) (h : Noted) →
+    OutputFitsString T was transition output → IsOutput T path at output piece lines → (was ≡ true → is_text T ≡ true) →
+    without_name_if (clears_name output) (noted header (without_name_if was h) lines) ≡ without_name_if (transition_in_string T transition) (noted header h lines)
+spoken_heard header T was transition outputs.Nothing path at piece lines h v says k = rw (says, v) refl
+spoken_heard header T was transition outputs.Length path at piece lines h v says k = rw (says, v) (hushed_twice was h)
+spoken_heard header T was transition (outputs.Size size) path at piece lines h v says k = rw (v.0, v.1, says) refl
+spoken_heard header T was transition (outputs.Ordered order) path at piece lines h v says k = rw (v.0, v.1, says) refl
+spoken_heard header T was transition (outputs.Piece offset more) path at piece lines h v says k = rw (says, v) (piece_heard header T was more h path at offset piece k)
+spoken_heard header T was transition _ path at piece lines h v says k = rw (v.0, v.1) refl
+
+-- What a reading leaves in mind, behind the lines of its front and of one octet.
+pub heard_on : (header : Bool) (C : Table) (leaf : Innermost) (transition : Transition) (output : Output) (path : List PathSegment) (at : ℕ) (piece : List ℕ) (front lines : List Line) (r : Read) →
+    OutputFitsString (tree C (leaf_type leaf)) (leaf_in_string (tree C (leaf_type leaf)) leaf) transition output → IsOutput (tree C (leaf_type leaf)) path at output piece lines →
+    ends_in_string r ≡ transition_in_string (tree C (leaf_type leaf)) transition → lines_of r ≡ lines →
+    without_name_if (clears_name output) (noted header (without_name_if (leaf_in_string (tree C (leaf_type leaf)) leaf) (noted header nothing_noted front)) lines) ≡ noted_of header (with_front front r)
+heard_on header C leaf transition output path at piece front lines r v says inside are =
+    let T = tree C (leaf_type leaf) in
+    spoken_heard header T (leaf_in_string T leaf) transition output path at piece lines (noted header nothing_noted front) v says (text_inside T leaf)
+    ∙ rw (front_inside front r, inside, lines_front front r, are, noted-append) refl
+
+-- ---- pieces and members
+
+-- a piece that isn't the last, and the last
+pub piece_last : (h : Noted) (octets : List ℕ) (more : Bool) → more ≡ false → ended (with_piece h octets) ≡ noted_piece h octets more
+piece_last h octets more last = rw last refl
+
+-- a piece in two parts is one piece
+pub piece_both : (h : Noted) (held rest : List ℕ) →
+    with_piece (with_piece h held) rest ≡ with_piece h (held ++ rest)
+piece_both h held rest = rw (append_assoc h.so_far held rest) refl
+
+pub piece_more : (h : Noted) (octets : List ℕ) (more : Bool) → more ≡ true →
+    with_piece h octets ≡ noted_piece h octets more
+piece_more h octets more e = rw e refl
+
+-- only a part with one whole around it is a member of the root
+deep : (name : List ℕ) (x y : PathSegment) (zs : List PathSegment) (ps : List OpenPart) → false ≡ is_member name (path_in (x ∷ y ∷ zs) ps)
+deep name (Name octets) y zs [] = refl
+deep name (Index i) y zs [] = refl
+deep name (Switch tag) y zs [] = refl
+deep name Held y zs [] = refl
+deep name x y zs (p ∷ ps) = deep name x y (zs ++ segment_in p ∷ []) ps
+
+pub no_member : (name : List ℕ) (C : Table) (here : ℕ) (outer : List Frame) → length outer ≢ 1 → false ≡ is_member name (path_in [] (open_parts C here outer))
+no_member name C here [] h = refl
+no_member name C here (f ∷ []) h = absurd (h refl)
+no_member name C here (f ∷ g ∷ outer) h = deep name (segment_in (open_part C here f)) (segment_in (open_part C here g)) [] (open_parts C here outer)
+
+-- the one part around it
+only : (C : Table) (here : ℕ) (outer : List Frame) (d : Frame) → length outer ≡ 1 → path_in [] (open_parts C here outer) ≡ segment_in (open_part C here (slice_index_or outer 0 d)) ∷ []
+only C here (f ∷ []) d h = refl
+only C here _ d h = absurd (omega arith)
+
+named_by : (name : List ℕ) (T : Ty) (i count : ℕ) → HasMember (shape_in T) i → is_member name (segment_in (part_in T i count) ∷ []) ≡ bytes_eq name (name_in T i)
+named_by name (Struct n names parts) i count h = refl
+named_by name (Union (Cases n) scalar select names cases) i count h = refl
+named_by name (Union Tag scalar select names cases) i count h = refl
+named_by name (Single (Plain p)) i count h = absurd h
+named_by name (Single (Enum n names)) i count h = absurd h
+named_by name (Text bound) i count h = absurd h
+named_by name (Octets bound) i count h = absurd h
+named_by name (Sequence bound T) i count h = absurd h
+named_by name (Array n T) i count h = absurd h
+named_by name (Encapsulation T) i count h = absurd h
+
+pub member_by : (name text : List ℕ) (C : Table) (here : ℕ) (outer : List Frame) (d : Frame) (b : Bool) → length outer ≡ 1 → (slice_index_or outer 0 d).inside ≡ None →
+    HasMember (shape_in (tree C (slice_index_or outer 0 d).of.0)) (slice_index_or outer 0 d).index →
+    text ≡ name_in (tree C (slice_index_or outer 0 d).of.0) (slice_index_or outer 0 d).index → b ≡ bytes_eq name text → b ≡ is_member name (path_in [] (open_parts C here outer))
+member_by name text C here outer d b one part h is e =
+    let f = slice_index_or outer 0 d in
+    rw (only C here outer d one, part, named_by name (tree C f.of.0) f.index f.count h, ← is) e
+
+-- what an encapsulation holds is no member
+pub held_member : (name : List ℕ) (C : Table) (here : ℕ) (outer : List Frame) (d : Frame) (order : Order) → length outer ≡ 1 → (slice_index_or outer 0 d).inside ≡ Some order →
+    false ≡ is_member name (path_in [] (open_parts C here outer))
+held_member name C here outer d order one inside = rw (only C here outer d one, inside) refl
+
+-- a discriminator is no member
+pub switch_member : (name : List ℕ) (path : List PathSegment) (tag : Option (List ℕ)) → is_member name (path ++ Switch tag ∷ []) ≡ false
+switch_member name [] tag = refl
+switch_member name (Name octets ∷ []) tag = refl
+switch_member name (Index i ∷ []) tag = refl
+switch_member name (Switch other ∷ []) tag = refl
+switch_member name (Held ∷ []) tag = refl
+switch_member name (Name octets ∷ y ∷ path) tag = refl
+switch_member name (Index i ∷ y ∷ path) tag = refl
+switch_member name (Switch other ∷ y ∷ path) tag = refl
+switch_member name (Held ∷ y ∷ path) tag = refl
+
+pub switch_heard : (header : Bool) (path : List PathSegment) (tag : Option (List ℕ)) (h : Noted) (value : Value) → note_value false h value ≡ note_value (header && is_member (codes "request_id") (path ++ Switch tag ∷ [])) h value
+switch_heard true path tag h value = rw (switch_member (codes "request_id") path tag) refl
+switch_heard false path tag h value = refl

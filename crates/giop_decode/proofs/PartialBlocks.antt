@@ -1,0 +1,91 @@
+-- An octet that only adds to what is held.
+use Rattle.std.proofs.Common.{◌≡◌, ℕ, ◌+◌, ◌%◌, List, [], Some, refl, sym, ◌∙◌, ap, subst, append-nil, arith}
+use Rattle.arrayvec.specs.ArrayVec.{ArrayVec}
+use Rattle.giop_decode.specs.declared.decoder.Decoder.{Decoder}
+use Rattle.giop_decode.specs.declared.leaf.Leaf.{Leaf as Innermost}
+use Rattle.giop_decode.specs.declared.progress.Progress.TheVariants as progress
+use Rattle.giop_decode.specs.Noted.{noted_of, is_header_root}
+use Rattle.giop_decode.specs.DecoderState.{Fits, CanStandAt, KeepsNoted, HoldsNoted, read_by_fields, read_by_leaf}
+use Rattle.giop_decode.specs.DecoderSteps.{decoder_step, leaf_in, Comes}
+use Rattle.giop_decode.specs.ReadResult.{plain, Line, PathSegment, Short, with_front}
+use Rattle.giop_decode.specs.ReadingSteps.{around, coding_in, leaf_step, path_in, step}
+use Rattle.giop_decode.specs.Transitions.{open_parts, leaf_of, leaf_type, ticked, HaveOctetsLeft, AreKnown, IsClean}
+use Rattle.giop_decode.proofs.Advancing.{same_some, step_fits}
+use Rattle.giop_decode.proofs.Noting.{leaf_inside}
+use Rattle.giop_decode.proofs.Around.{around-short}
+use Rattle.giop_decode.proofs.Surrounding.{inside_ticked, known_ticked, places_ticked, stand_ticked, surrounds}
+use Rattle.giop_decode.proofs.Linking.{link_ticked}
+use Rattle.giop_sig.specs.Table.{Table}
+
+-- a decoder whose held octets are these, at this offset
+abbrev pub held_in : Decoder → List ℕ → ArrayVec ℕ → ℕ → Decoder
+held_in d carry piece at = record {
+  order = d.order;
+  root = d.root;
+  message = d.message;
+  at = at;
+  outer = d.outer;
+  inside = d.inside;
+  leaf = d.leaf;
+  carry = carry;
+  piece = piece;
+  notes = d.notes;
+}
+
+-- the octet leaves the innermost part at its place, with what is now held
+abbrev pub Holds : Table → Decoder → Decoder → Innermost → ℕ → ℕ → Type 0
+Holds C d new leaf here octet = (path : List PathSegment) →
+    leaf_step (coding_in (plain d.order) (open_parts C here d.outer.items)) path
+    (leaf_of C leaf d.carry d.piece.items) here octet
+    ≡ Short [] (here + 1) [] (leaf_of C leaf new.carry new.piece.items)
+
+-- an octet at which no encapsulation ends, and which is counted in each
+module _ (C : Table) (d new : Decoder) (leaf : Innermost) (octet : ℕ)
+    (on : HaveOctetsLeft (ticked d.outer.items)) (f : Fits C d) (e : d.leaf ≡ Some leaf)
+    (e' : new.leaf ≡ Some leaf) (counts : new.outer.items ≡ ticked d.outer.items) where
+  known_on : AreKnown C (ticked d.outer.items)
+  known_on = known_ticked C d.outer.items f.ahead f.known_outer
+
+  pub step_held : (here : ℕ) → CanStandAt d here → Holds C d new leaf here octet →
+      decoder_step C d here octet ≡ Short [] (here + 1) (open_parts C (here + 1) new.outer.items)
+      (leaf_of C leaf new.carry new.piece.items)
+  step_held here h holds =
+      let ps = open_parts C here d.outer.items in
+      let qs = open_parts C (here + 1) (ticked d.outer.items) in
+      let held = leaf_of C leaf new.carry new.piece.items in
+      let stands = surrounds C (here + 1) (ticked d.outer.items) known_on on (stand_ticked here d.outer.items h.1) in
+      ap (λ l. step (plain d.order) [] ps (leaf_in C d l) here octet) e
+      ∙ (ap (around (plain d.order) [] ps) (holds (path_in [] ps))
+      ∙ (ap (λ zs. around (plain d.order) [] zs (Short [] (here + 1) [] held)) (sym (places_ticked C here d.outer.items f.ahead))
+      ∙ (around-short (plain d.order) [] qs [] (here + 1) [] held stands
+      ∙ (ap (λ zs. Short [] (here + 1) zs held) (append-nil qs)
+      ∙ ap (λ fs. Short [] (here + 1) (open_parts C (here + 1) fs) held) (sym counts)))))
+
+  held_stands : (here : ℕ) → CanStandAt d here → Holds C d new leaf here octet →
+      decoder_step C d here octet ≡ read_by_fields C new [] (here + 1)
+  held_stands here h holds = step_held here h holds ∙ sym (ap (λ l. read_by_leaf C new l [] (here + 1)) e')
+
+  pub held_comes : (here : ℕ) → CanStandAt d here → Holds C d new leaf here octet →
+      Comes C new progress.More (here + 1) (decoder_step C d here octet)
+  held_comes here h holds = ([], (held_stands here h holds, (leaf, e'), refl))
+
+  pub held_here : (here : ℕ) → new.at ≡ (d.at + 1) % 8 → CanStandAt d here → CanStandAt new (here + 1)
+  held_here here at h = (omega (arith, h.0, at), rw counts (stand_ticked here d.outer.items h.1))
+
+  pub held_fits : new.root ≡ d.root → new.notes ≡ d.notes → new.inside ≡ d.inside → new.at ≡ (d.at + 1) % 8 →
+      IsClean leaf new.carry new.piece.items → Holds C d new leaf f.here octet → Fits C new
+  held_fits root notes encloses at clean holds =
+      let it : f.leaf ≡ leaf = same_some f.leaf leaf (sym f.goes_on ∙ e) in
+      step_fits C d new f octet (record { lines = []; is = held_stands f.here f.stands holds; leaf = leaf; goes_on = e' })
+      (held_here f.here at f.stands) (rw counts on) (rw (encloses, counts, inside_ticked d.outer.items) f.inside)
+      (rw (counts, ← it) (link_ticked C f.root d.outer.items (leaf_type f.leaf) f.link)) (rw counts known_on) (rw (← it) f.known) clean (rw (root, notes) f.heeds)
+
+  pub held_minds : (here : ℕ) (front : List Line) → new.notes ≡ d.notes → CanStandAt d here →
+      Holds C d new leaf here octet → KeepsNoted d.root d (read_by_fields C d front here) →
+      KeepsNoted d.root new (with_front front (decoder_step C d here octet))
+  held_minds here front notes h holds old =
+      let header = is_header_root d.root in
+      let before : HoldsNoted d.notes (noted_of header (Short front here (open_parts C here d.outer.items) (leaf_of C leaf d.carry d.piece.items))) =
+      subst (λ l. HoldsNoted d.notes (noted_of header (read_by_leaf C d l front here))) e old in
+      let now = rw (leaf_inside C leaf d.carry d.piece.items, ← leaf_inside C leaf new.carry new.piece.items) at before in
+      rw (notes, step_held here h holds, append-nil front) now

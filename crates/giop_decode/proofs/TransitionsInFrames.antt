@@ -1,0 +1,30 @@
+-- What an innermost part has come to, inside its places.
+use Rattle.std.proofs.Common.{◌≡◌, ℕ, zero, suc, pred, ◌<◌, List, [], sym, ◌∙◌, ap, append-nil}
+use Rattle.giop_decode.specs.ReadResult.{Coding, PathSegment, Line, OpenPart, Done, with_front}
+use Rattle.giop_decode.specs.ReadingSteps.{around}
+use Rattle.giop_decode.specs.Fits.{HasParts, HasCase, IsEncapsulation}
+use Rattle.giop_decode.proofs.Around.{fit_part, around-front}
+use Rattle.giop_decode.proofs.Leaving.{fit_case, fit_held}
+use Rattle.giop_sig.specs.Types.{Ty, part_of}
+use Rattle.giop_sig.specs.Fits.{IsFit}
+
+pub fit_first : (d : ℕ) (T : Ty) (count : ℕ) → IsFit d T → HasParts T count → 0 < count →
+    IsFit (pred d) (part_of T 0)
+unfolding IsFit
+fit_first zero T count fit kind pos = absurd fit
+fit_first (suc d) T count fit kind pos = fit_part d T 0 count fit kind pos
+
+pub fit_selected : (d : ℕ) (T : Ty) (i : ℕ) → IsFit d T → HasCase T i → IsFit (pred d) (part_of T i)
+unfolding IsFit
+fit_selected zero T i fit kind = absurd fit
+fit_selected (suc d) T i fit kind = fit_case d T i fit kind
+
+pub fit_inside : (d : ℕ) (T : Ty) → IsFit d T → IsEncapsulation T → IsFit (pred d) (part_of T 0)
+unfolding IsFit
+fit_inside zero T fit kind = absurd fit
+fit_inside (suc d) T fit kind = fit_held d T fit kind
+
+module _ (coding : Coding) (path : List PathSegment) (ps : List OpenPart) (lines : List Line) (at : ℕ) where
+  pub around_done : around coding path ps (Done lines at [])
+      ≡ with_front lines (around coding path ps (Done [] at []))
+  around_done = ap (λ ls. around coding path ps (Done ls at [])) (sym (append-nil lines)) ∙ around-front coding path ps lines (Done [] at [])

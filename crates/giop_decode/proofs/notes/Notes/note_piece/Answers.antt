@@ -1,0 +1,55 @@
+use Rattle.std.proofs.Common.{◌≡◌, ℕ, List, [], ◌∷◌, ◌++◌, length, ◌∙◌, subst, sym, refl, true}
+use Rattle.std.proofs.lemmas.Bool.{false≢true}
+use Rattle.std.proofs.Math.Dec.{eqb-suc-zero}
+use Rattle.std.specs.Bool.{◌==◌}
+use Rattle.giop_decode.specs.declared.notes.Notes.{Notes}
+use Rattle.giop_decode.specs.Noted.{Noted, without_name_if, with_piece}
+use Rattle.giop_decode.specs.DecoderState.{HoldsNoted}
+use Rattle.giop_decode.proofs.Noting.{piece_both, piece_last, piece_more}
+use Rattle.giop_decode.proofs.notes.Notes.note_piece.Goals.{then-not-is_empty, else-not-is_empty}
+use Rattle.giop_decode.proofs.notes.Notes.note_piece.Goals as goal
+
+-- where nothing is held, the rest is all
+all_rest : (h : Noted) (held rest : List ℕ) → true ≡ (length held == 0) →
+    with_piece (without_name_if true h) rest ≡ with_piece h (held ++ rest)
+all_rest h [] rest none = refl
+all_rest h (x ∷ held) rest none = absurd (false≢true (sym (none ∙ eqb-suc-zero (length held))))
+
+module _ (h : Noted) (held rest : List ℕ) (m new : Notes)
+    (adds : (x : Noted) → HoldsNoted m x → HoldsNoted new (with_piece x rest)) where
+  with_held : (before : Notes) → m ≡ before → HoldsNoted before (with_piece (without_name_if true h) held) →
+      HoldsNoted new (with_piece h (held ++ rest))
+  with_held before same recalls = subst (HoldsNoted new) (piece_both (without_name_if true h) held rest)
+      (adds (with_piece (without_name_if true h) held) (subst (λ n. HoldsNoted n (with_piece (without_name_if true h) held)) (sym same) recalls))
+
+  without : (before : Notes) → m ≡ before → HoldsNoted before (without_name_if true h) →
+      true ≡ (length held == 0) → HoldsNoted new (with_piece h (held ++ rest))
+  without before same recalls none = subst (HoldsNoted new) (all_rest h held rest none)
+      (adds (without_name_if true h) (subst (λ n. HoldsNoted n (without_name_if true h)) (sym same) recalls))
+
+pub returns-then-not-more-clause-hears : goal.returns-then-not-more-clause-hears
+returns-then-not-more-clause-hears c h recalls =
+    let held = c.args.held.now in
+    let rest = c.args.rest.now in
+    let quiet = c.forget.ensures.hears h recalls in
+    let both : HoldsNoted c.extend-2.new.self (with_piece h (held ++ rest)) = elim c.if-not-is_empty.branch [
+      | then-not-is_empty w ↦ with_held h held rest c.if-not-is_empty.self c.extend-2.new.self c.extend-2.ensures.hears w.extend.new.self w.self-is
+          (w.extend.ensures.hears (without_name_if true h) quiet)
+      | else-not-is_empty w ↦ without h held rest c.if-not-is_empty.self c.extend-2.new.self c.extend-2.ensures.hears c.forget.new.self w.self-is quiet
+          w.if-not-is_empty.ensures
+    ] in
+    subst (HoldsNoted c.end.new.self) (piece_last h (held ++ rest) c.args.more c.if-not-more.true)
+    (c.end.ensures.hears (with_piece h (held ++ rest)) both)
+
+pub returns-else-not-more-clause-hears : goal.returns-else-not-more-clause-hears
+returns-else-not-more-clause-hears c h recalls =
+    let held = c.args.held.now in
+    let rest = c.args.rest.now in
+    let quiet = c.forget.ensures.hears h recalls in
+    let both : HoldsNoted c.extend-2.new.self (with_piece h (held ++ rest)) = elim c.if-not-is_empty.branch [
+      | then-not-is_empty w ↦ with_held h held rest c.if-not-is_empty.self c.extend-2.new.self c.extend-2.ensures.hears w.extend.new.self w.self-is
+          (w.extend.ensures.hears (without_name_if true h) quiet)
+      | else-not-is_empty w ↦ without h held rest c.if-not-is_empty.self c.extend-2.new.self c.extend-2.ensures.hears c.forget.new.self w.self-is quiet
+          w.if-not-is_empty.ensures
+    ] in
+    subst (HoldsNoted c.extend-2.new.self) (piece_more h (held ++ rest) c.args.more c.if-not-more.false) both

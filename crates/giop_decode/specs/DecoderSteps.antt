@@ -1,0 +1,104 @@
+-- What one octet does to a decoder's fields (steps).
+use Rattle.std.specs.Prelude.{◌≡◌, ℕ, ◌+◌, ◌-◌, ◌<◌, Bool, true, false, List, [], length, Option, Some, None}
+use Rattle.giop_decode.specs.declared.decoder.Decoder.{Decoder}
+use Rattle.giop_decode.specs.declared.frame.Frame.{Frame}
+use Rattle.giop_decode.specs.declared.leaf.Leaf.{Leaf as Innermost}
+use Rattle.giop_decode.specs.declared.leaf.Transition.{Transition}
+use Rattle.giop_decode.specs.declared.leaf.Transition.TheVariants as transitions
+use Rattle.giop_decode.specs.declared.leaf.Output.{Output}
+use Rattle.giop_decode.specs.declared.progress.Progress.{Progress}
+use Rattle.giop_decode.specs.declared.progress.Progress.TheVariants as progress
+use Rattle.giop_decode.specs.ReadResult.{plain, Line, Leaf, LeadingNumber, Read, Fault, Done}
+use Rattle.giop_decode.specs.declared.progress.Kind.TheVariants as kinds
+use Rattle.giop_decode.specs.Fits.{OpenFrom}
+use Rattle.giop_decode.specs.ReadingSteps.{around, step}
+use Rattle.giop_decode.specs.Noted.{is_header_root, names_operation}
+use Rattle.giop_decode.specs.DecoderState.{read_by_fields}
+use Rattle.giop_decode.specs.Transitions.{open_parts, gone_to, leaf_of, leaf_type, after_transition, still_held, is_inside, AreKnown, HaveOctetsLeft, IsClean, Link}
+use Rattle.giop_sig.specs.Types.{Ty}
+use Rattle.giop_sig.specs.Fits.{IsFit}
+use Rattle.giop_sig.specs.Table.{Table}
+use Rattle.giop_sig.specs.Trees.{tree}
+
+-- what a decoder's fields stand for, unless an encapsulation has ended
+abbrev pub stopped_with : Table → List Frame → List ℕ → List ℕ → Option Innermost → List Line → ℕ →
+    Read
+stopped_with C frames carry piece None lines at = Done lines at []
+stopped_with C frames carry piece (Some leaf) lines at =
+    gone_to C lines at frames (leaf_of C leaf carry piece)
+
+abbrev pub stopped : Table → Decoder → Option Innermost → List Line → ℕ → Read
+stopped C d leaf lines at = stopped_with C d.outer.items d.carry d.piece.items leaf lines at
+
+-- what an innermost part's turn comes to
+abbrev pub transition_result : Table → Ty → Decoder → Transition → List Line → ℕ → Read
+transition_result C T d (transitions.Refused kind) lines at = Fault lines at kind T
+transition_result C T d transition lines at = stopped C d d.leaf lines at
+
+-- the innermost part that a decoder stands in
+abbrev pub leaf_in : Table → Decoder → Option Innermost → Leaf
+leaf_in C d None = LeadingNumber (tree C 0) []
+leaf_in C d (Some leaf) = leaf_of C leaf d.carry d.piece.items
+
+-- one octet more, on a decoder's fields
+abbrev pub decoder_step : Table → Decoder → ℕ → ℕ → Read
+decoder_step C d here octet =
+    step (plain d.order) [] (open_parts C here d.outer.items) (leaf_in C d d.leaf) here octet
+
+-- a step with these lines has left the decoder so; it goes on by that name, or another
+abbrev pub progressed : Table → Decoder → Bool → Progress → List Line → ℕ → Read → Type 0
+progressed C d named progress.More lines at r =
+    (r ≡ read_by_fields C d lines at) × ((leaf : Innermost) × (d.leaf ≡ Some leaf)) × (named ≡ false)
+progressed C d named progress.Named lines at r =
+    (r ≡ read_by_fields C d lines at) × ((leaf : Innermost) × (d.leaf ≡ Some leaf)) × (named ≡ true)
+progressed C d named progress.Done lines at r = (r ≡ read_by_fields C d lines at) × (d.leaf ≡ None)
+progressed C d named (progress.Fault kind) lines at r = (T : Ty) × (r ≡ Fault lines at kind T)
+
+-- a value goes on as long as it has an innermost part
+abbrev pub IsGoing : Bool → Bool → Option Innermost → Progress → Type 0
+IsGoing named ended None p = p ≡ progress.Done
+IsGoing named true (Some leaf) p = p ≡ progress.Fault kinds.EncapShort
+IsGoing true false (Some leaf) p = p ≡ progress.Named
+IsGoing false false (Some leaf) p = p ≡ progress.More
+
+-- what an octet has come to, where an encapsulation has or hasn't ended: a rule that the octet breaks goes before that
+abbrev pub IsProgress : Bool → Bool → Transition → Option Innermost → Progress → Type 0
+IsProgress named ended (transitions.Refused kind) leaf p = p ≡ progress.Fault kind
+IsProgress named ended transition leaf p = IsGoing named ended leaf p
+
+-- a step of a root comes to this
+abbrev pub Comes : Table → Decoder → Progress → ℕ → Read → Type 0
+Comes C d p at r =
+    (lines : List Line)
+    × progressed C d (names_operation (is_header_root d.root) lines) p lines at r
+
+-- the innermost part breaks no rule
+abbrev pub IsMoved : Transition → Type 0
+IsMoved (transitions.Refused kind) = ⊥
+IsMoved transition = Unit {0}
+
+-- the parts around an innermost part of this type, whatever is held of it
+pub record IsAround (C : Table) (d : Decoder) (of : ℕ) : Type 0 where
+  pub known : of < length C.types
+  pub known_outer : AreKnown C d.outer.items
+  pub inside : d.inside ≡ is_inside d.outer.items
+  pub ahead : HaveOctetsLeft d.outer.items
+  pub are_open : (here : ℕ) × OpenFrom 24 (open_parts C here d.outer.items)
+  pub room : length d.outer.items < 24
+  pub fit : IsFit (24 - length d.outer.items) (tree C of)
+  pub at : d.at < 8
+
+-- what a turn of that part comes to in the parts around it, with these lines
+abbrev pub emitted : Table → Decoder → ℕ → Transition → Output → List Line → ℕ → Read
+emitted C d of transition output lines here = around (plain d.order) [] (open_parts C here d.outer.items)
+    (after_transition C (tree C of) transition d.carry (still_held output d.piece.items) lines (here + 1))
+
+-- the innermost part that comes next, and the parts around it
+pub record IsNext (C : Table) (d new : Decoder) (of : ℕ) : Type 0 where
+  pub known_outer : AreKnown C new.outer.items
+  pub inside : new.inside ≡ is_inside new.outer.items
+  pub ahead : HaveOctetsLeft new.outer.items
+  pub known : (leaf : Innermost) → new.leaf ≡ Some leaf → leaf_type leaf < length C.types
+  pub clean : (leaf : Innermost) → new.leaf ≡ Some leaf → IsClean leaf new.carry new.piece.items
+  pub link : (root : ℕ) (leaf : Innermost) → Link C root d.outer.items of → new.leaf ≡ Some leaf →
+      Link C root new.outer.items (leaf_type leaf)

@@ -1,0 +1,52 @@
+-- Which frames and innermost part can stand in a table, by the numbers of the types: what is tested of a decoder that comes from
+-- octets (state).
+use Rattle.std.specs.Prelude.{◌≡◌, ℕ, ◌<◌, false, List, [], ◌∷◌, length, Option, Some, None}
+use Rattle.giop_cdr.specs.declared.order.Order.{Order}
+use Rattle.giop_decode.specs.declared.decoder.Decoder.{Decoder}
+use Rattle.giop_decode.specs.declared.frame.Frame.{Frame}
+use Rattle.giop_decode.specs.declared.leaf.Leaf.{Leaf as Innermost}
+use Rattle.giop_decode.specs.Fits.{HasParts, FitsIn, IsEncapsulation}
+use Rattle.giop_decode.specs.Noted.{is_header_root}
+use Rattle.giop_decode.specs.Transitions.{leaf_of, leaf_type, is_inside, part_index, IsClean}
+use Rattle.giop_sig.specs.Fits.{IsEmptyStruct}
+use Rattle.giop_sig.specs.Table.{Table, part_number}
+use Rattle.giop_sig.specs.Trees.{tree}
+use Rattle.giop_sig.specs.Types.{Ty, Union, places_of}
+
+-- a type has that part among so many; a union's cases are not counted
+abbrev pub HasPart : Ty → ℕ → ℕ → Type 0
+HasPart (Union choice scalar select names cases) i count = (i < places_of choice) × (count ≡ 0)
+HasPart T i count = HasParts T count × (i < count)
+
+-- a frame of a type: of a part of its own, or of an encapsulation, of whose octets so many were taken and some are to come
+abbrev pub HasFrame : Option Order → Ty → ℕ → ℕ → Type 0
+HasFrame None T i count = HasPart T i count
+HasFrame (Some order) T i count = IsEncapsulation T × (0 < i) × (i < count)
+
+-- an innermost part of this type, with what is held of it
+abbrev pub LeafFits : Table → Innermost → List ℕ → List ℕ → Type 0
+LeafFits C leaf carry piece =
+    FitsIn (tree C (leaf_type leaf)) [] (leaf_of C leaf carry piece) × IsClean leaf carry piece
+
+-- each frame is of the part of the one before at its place, and the innermost part of that of the last
+abbrev pub Chained : Table → ℕ → List Frame → Innermost → Type 0
+Chained C id [] leaf = leaf_type leaf ≡ id
+Chained C id (f ∷ frames) leaf =
+    (f.of.0 ≡ id) × HasFrame f.inside (tree C id) f.index f.count
+    × Chained C (part_number C id (part_index f.inside f.index)) frames leaf
+
+abbrev pub root_of : List Frame → Innermost → ℕ
+root_of [] leaf = leaf_type leaf
+root_of (f ∷ frames) leaf = f.of.0
+
+pub record Chains (C : Table) (d : Decoder) : Type 0 where
+  pub leaf : Innermost
+  pub goes_on : d.leaf ≡ Some leaf
+  pub known_leaf : leaf_type leaf < length C.types
+  pub known : root_of d.outer.items leaf < length C.types
+  pub some : IsEmptyStruct (tree C (root_of d.outer.items leaf)) → ⊥
+  pub chain : Chained C (root_of d.outer.items leaf) d.outer.items leaf
+  pub inside : d.inside ≡ is_inside d.outer.items
+  pub fits : LeafFits C leaf d.carry d.piece.items
+  pub at : d.at < 8
+  pub heeds : is_header_root d.root ≡ false → d.notes.request_id ≡ None

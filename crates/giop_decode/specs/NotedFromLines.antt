@@ -1,0 +1,101 @@
+-- What a reading leaves in mind, said of its lines: the request id of a header, the last of the enums, and the last of the
+-- strings that are whole (meaning).
+use Rattle.std.specs.Prelude.{◌≡◌, ℕ, zero, suc, ◌+◌, ◌&&◌, Bool, true, false, cond, List, [], ◌∷◌, ◌++◌, length, take, drop, Option, Some, None, filter_map, flat_map, codes}
+use Rattle.std.specs.List.{AllByRecursion as Each, last_or}
+use Rattle.giop_cdr.specs.declared.prim.Primitive.TheVariants as prims
+use Rattle.giop_decode.specs.Noted.{Noted, ends_in_string, is_member, name_if}
+use Rattle.giop_decode.specs.Pieces.{full_pieces}
+use Rattle.giop_decode.specs.ReadResult.{Value, Number, Piece, Line, Read, lines_of}
+use Rattle.giop_sig.specs.Types.{Plain, Enum, Text}
+
+-- ---- numbers
+
+-- the number of a value that is an enum's
+abbrev pub enum_of : Value → Option ℕ
+enum_of (Number (Enum count names) n) = Some n
+enum_of value = None
+
+-- the numbers of the lines that are enums
+abbrev pub enums : List Line → List ℕ
+enums lines = filter_map (λ l. enum_of l.value) lines
+
+-- the number of a value that is an unsigned long
+abbrev pub ulong_of : Value → Option ℕ
+ulong_of (Number (Plain prims.ULong) n) = Some n
+ulong_of value = None
+
+-- the number of a line that is the root's member `request_id`, below a header
+abbrev pub id_of : Bool → Line → Option ℕ
+id_of is_header l =
+    cond (is_header && is_member (codes "request_id") l.path) (ulong_of l.value) None
+
+-- the numbers of such lines, of which a header has one
+abbrev pub request_ids : Bool → List Line → List ℕ
+request_ids is_header lines = filter_map (id_of is_header) lines
+
+-- the first of them
+abbrev pub first_in : List ℕ → Option ℕ
+first_in [] = None
+first_in (n ∷ ns) = Some n
+
+-- ---- strings
+
+-- of a string: where in the content, what, and whether more follows
+pub record TextPiece : Type 0 where
+  pub offset : ℕ
+  pub octets : List ℕ
+  pub more : Bool
+
+-- one with these fields
+abbrev pub piece : ℕ → List ℕ → Bool → TextPiece
+piece offset octets more = record { offset = offset; octets = octets; more = more }
+
+-- what a value is of a string, if it is a piece of one
+abbrev pub text_of : Value → Option TextPiece
+text_of (Piece (Text bound) offset octets more) = Some (piece offset octets more)
+text_of value = None
+
+-- the lines that are pieces of strings
+abbrev pub text_pieces : List Line → List TextPiece
+text_pieces lines = filter_map (λ l. text_of l.value) lines
+
+-- a content from an offset in it on, so many of whose pieces aren't the last: these have 32 octets
+abbrev pub cut_from : ℕ → ℕ → List ℕ → List TextPiece
+cut_from zero offset octets = piece offset octets false ∷ []
+cut_from (suc full) offset octets =
+    piece offset (take 32 octets) true ∷ cut_from full (offset + 32) (drop 32 octets)
+
+-- the pieces of a whole content
+abbrev pub pieces_of : List ℕ → List TextPiece
+pieces_of content = cut_from (full_pieces (length content)) 0 content
+
+-- pieces of which none is the last
+abbrev pub AreUnended : List TextPiece → Type 0
+AreUnended pieces = Each (λ p. p.more ≡ true) pieces
+
+-- The strings of a reading, in their order: the contents of those that are whole, and the pieces of one that has
+-- begun and not ended.
+pub record Strings (r : Read) : Type 0 where
+  pub contents : List (List ℕ)
+  pub begun : List TextPiece
+  pub lines : text_pieces (lines_of r) ≡ flat_map pieces_of contents ++ begun
+  pub unended : AreUnended begun
+  pub none : ends_in_string r ≡ false → begun ≡ []
+
+-- ---- what is left in mind
+
+-- a string of more than 128 octets is no name
+abbrev pub name_of : Option (List ℕ) → Option (List ℕ)
+name_of None = None
+name_of (Some content) = name_if content
+
+-- This is left in mind by a reading, of a header or not.
+pub record IsLeft (is_header : Bool) (r : Read) (h : Noted) : Type 0 where
+  -- the header's
+  pub request_id : h.request_id ≡ first_in (request_ids is_header (lines_of r))
+  -- the number of the last line that is an enum
+  pub status : h.status ≡ last_or None (enums (lines_of r))
+  pub strings : Strings r
+  -- the last whole string, of at most 128 octets; none between the last octet of a later one's length and
+  -- its end
+  pub name : h.name ≡ cond (ends_in_string r) None (name_of (last_or None strings.contents))

@@ -1,0 +1,166 @@
+-- One octet more, on the parts that a reading has begun and not ended (steps).
+use Rattle.std.specs.Prelude.{◌≡◌, ℕ, suc, ◌+◌, ◌-◌, ◌%◌, cond, ltb, List, [], ◌∷◌, ◌++◌, length}
+use Rattle.giop_cdr.specs.Alignment.{padding}
+use Rattle.giop_cdr.specs.Numbers.{num}
+use Rattle.giop_decode.specs.declared.progress.Kind.{Kind}
+use Rattle.giop_decode.specs.declared.progress.Kind.TheVariants as kinds
+use Rattle.giop_decode.specs.Pieces.{Complete, Block, Partial, content, full_piece, full_pieces, last_piece, octets, over, tail, text, unless}
+use Rattle.giop_decode.specs.Reading.{chosen, after_leading_number, parts_from, read, single, enclosed, opening, sized}
+use Rattle.giop_decode.specs.ReadResult.{Coding, Line, Content, Count, Done, Fault, LeadingNumber, Index, Leaf, Member, Name, Part, OpenPart, Read, PathSegment, Short, followed, line, with_front, within, Held, Inside, Opening, Size}
+use Rattle.giop_sig.specs.Types.{part_of, Octets, Sequence, Single, Struct, Text, Ty, Union, width, tag_of, Encapsulation}
+
+-- one octet more of n that are taken together, of which some are held
+unfoldable pub block_step : ℕ → ℕ → List ℕ → ℕ → Block
+block_step n at held b =
+    cond (ltb (length held + 1) n) (Partial (held ++ b ∷ []) (at + 1))
+    (Complete (held ++ b ∷ []) (at + 1) [])
+
+-- Padding is what comes at an offset that isn't aligned while nothing is held.
+unfoldable pub number_step : ℕ → ℕ → ℕ → List ℕ → ℕ → Block
+number_step origin n at [] b =
+    cond (ltb 0 (padding (at - origin) n)) (Partial [] (at + 1)) (block_step n at [] b)
+number_step origin n at (x ∷ carry) b = block_step n at (x ∷ carry) b
+
+-- Octets that leave a number incomplete, one after another: what is held behind them, where the first is at this
+-- offset modulo 8.
+abbrev pub AreHeld : ℕ → ℕ → List ℕ → List ℕ → List ℕ → Type 0
+AreHeld n at held [] new = new ≡ held
+AreHeld n at held (b ∷ more) new = (next : List ℕ)
+    × ((origin here : ℕ) → (here - origin) % 8 ≡ at → number_step origin n here held b ≡ Partial next (here + 1))
+    × AreHeld n ((at + 1) % 8) next more new
+
+-- the width of the number that begins a type
+abbrev pub leading_width : Ty → ℕ
+leading_width (Single scalar) = width scalar
+leading_width (Union choice scalar select names cases) = width scalar
+leading_width T = 4
+
+-- the part in a place
+abbrev pub segment_of : Ty → ℕ → PathSegment
+segment_of (Struct count names parts) i = Name (names i)
+segment_of (Union choice scalar select names cases) i = Name (names i)
+segment_of (Encapsulation T) i = Held
+segment_of T i = Index i
+
+-- the path inside a part
+abbrev pub inner_path : List PathSegment → Ty → ℕ → List PathSegment
+inner_path path T i = path ++ segment_of T i ∷ []
+
+-- the reading of a part in a place of a type, from an offset on
+abbrev pub part_at : Coding → List PathSegment → Ty → ℕ → ℕ → ℕ → List ℕ → Read
+part_at coding path T count i at s =
+    within (Part T i count) (read coding (path ++ segment_of T i ∷ []) (part_of T i) at s)
+
+-- what an encapsulation holds
+abbrev pub held : List PathSegment → Ty → Coding → ℕ → List ℕ → Read
+held path T coding = read coding (path ++ Held ∷ []) (part_of T 0)
+
+-- what follows the number that begins a type
+abbrev pub after : Coding → List PathSegment → Ty → ℕ → ℕ → List ℕ → Read
+after coding path (Single scalar) n at rest = single path scalar n at rest
+after coding path (Text bound) n at rest = text bound path n at rest
+after coding path (Octets bound) n at rest = octets bound path n at rest
+after coding path (Sequence bound T) n at rest = unless (Sequence bound T) (over bound n) at
+    (with_front (line at path (Count n) ∷ [])
+    (parts_from (part_at coding path (Sequence bound T) n) n 0 at rest))
+after coding path (Union choice scalar select names cases) n at rest =
+    chosen path (Union choice scalar select names cases) (tag_of choice names) scalar (select n) n
+    (λ i at s. within (Member (Union choice scalar select names cases) i)
+    (read coding (path ++ Name (names i) ∷ []) (cases i) at s)) at rest
+after coding path (Encapsulation T) n at rest =
+    with_front (line at path (Size n) ∷ [])
+    (sized path (Encapsulation T) (held path (Encapsulation T)) n at rest)
+after coding path T n at rest = Done [] at rest
+
+-- one octet more of a content of so many octets, whose piece begins at an offset in it
+abbrev pub content_step : Ty → List PathSegment → ℕ → ℕ → ℕ → List ℕ → ℕ → Read
+content_step T path total offset at piece b = cond (ltb 32 (total - offset))
+    (full_piece T path total offset
+    (content T path total (full_pieces (total - (offset + 32))) (offset + 32))
+    (block_step 32 at piece b))
+    (last_piece T path total offset (block_step (total - offset + tail T) at piece b))
+
+-- The innermost part after one octet more.
+abbrev pub leaf_step : Coding → List PathSegment → Leaf → ℕ → ℕ → Read
+leaf_step coding path (LeadingNumber T carry) at b =
+    after_leading_number T (λ xs at rest. after coding path T (num coding.order xs) at rest)
+    (number_step coding.origin (leading_width T) at carry b)
+leaf_step coding path (Opening T n) at b = opening path T (held path T) at n (block_step 1 at [] b)
+leaf_step coding path (Content T total offset piece) at b =
+    content_step T path total offset at piece b
+
+-- the segment of a place
+abbrev pub segment_in : OpenPart → PathSegment
+segment_in (Part T i count) = segment_of T i
+segment_in (Member T i) = segment_of T i
+segment_in (Inside T inner end) = Held
+
+-- how octets are taken in a place
+abbrev pub coding_at : Coding → OpenPart → Coding
+coding_at coding (Inside T inner end) = inner
+coding_at coding place = coding
+
+-- What a place comes to, once what is read in it has come so far.
+abbrev pub resumed : Coding → List PathSegment → OpenPart → Read → Read
+resumed coding path (Part T i count) r =
+    followed (within (Part T i count) r)
+    (parts_from (part_at coding path T count) (count - suc i) (suc i))
+resumed coding path (Member T i) r = within (Member T i) r
+resumed coding path (Inside T inner end) r = enclosed path T inner end r []
+
+-- what places, the outermost first, come to once what is read in the innermost has come so far
+abbrev pub around : Coding → List PathSegment → List OpenPart → Read → Read
+around coding path [] r = r
+around coding path (place ∷ outer) r =
+    resumed coding path place (around (coding_at coding place) (path ++ segment_in place ∷ []) outer r)
+
+-- the path inside places
+abbrev pub path_in : List PathSegment → List OpenPart → List PathSegment
+path_in path [] = path
+path_in path (place ∷ outer) = path_in (path ++ segment_in place ∷ []) outer
+
+-- how octets are taken inside places
+abbrev pub coding_in : Coding → List OpenPart → Coding
+coding_in coding [] = coding
+coding_in coding (place ∷ outer) = coding_in (coding_at coding place) outer
+
+-- The parts begun, the outermost first, after one octet more.
+abbrev pub step : Coding → List PathSegment → List OpenPart → Leaf → ℕ → ℕ → Read
+step coding path outer leaf at b =
+    around coding path outer (leaf_step (coding_in coding outer) (path_in path outer) leaf at b)
+
+-- A reading after one octet more.
+abbrev pub advance : Coding → List PathSegment → Read → ℕ → Read
+advance coding path (Done lines at rest) b = Done lines at (rest ++ b ∷ [])
+advance coding path (Short lines at outer leaf) b =
+    with_front lines (step coding path outer leaf at b)
+advance coding path (Fault lines at kind S) b = Fault lines at kind S
+
+-- a reading after these octets more
+abbrev pub resumes : Coding → List PathSegment → Read → List ℕ → Read
+resumes coding path r [] = r
+resumes coding path r (b ∷ t) = resumes coding path (advance coding path r b) t
+
+-- at most one line, and that at this offset
+abbrev pub OneAt : ℕ → List Line → Type 0
+OneAt n [] = Unit {0}
+OneAt n (l ∷ []) = l.at ≡ n
+OneAt n (l ∷ l' ∷ ls) = ⊥
+
+-- the lines at the octet of a fault: none of a value that breaks a rule, while the last octet of an encapsulation may say
+-- what it completes
+abbrev pub Faulted : ℕ → Kind → List Line → Type 0
+Faulted n kinds.EncapShort lines = OneAt n lines
+Faulted n why lines = lines ≡ []
+
+-- what an octet comes to: a line at most
+abbrev pub IsOctetResult : ℕ → Read → Type 0
+IsOctetResult n (Done lines at rest) = OneAt n lines × (at ≡ n) × (rest ≡ [])
+IsOctetResult n (Short lines at outer leaf) = OneAt n lines × (at ≡ n)
+IsOctetResult n (Fault lines at why S) = Faulted n why lines × (at ≡ n)
+
+-- what no octets come to: no line, and no refusal
+abbrev pub IsEmptyResult : ℕ → Read → Type 0
+IsEmptyResult n (Done lines at rest) = (lines ≡ []) × (at ≡ n) × (rest ≡ [])
+IsEmptyResult n (Short lines at outer leaf) = (lines ≡ []) × (at ≡ n)
+IsEmptyResult n (Fault lines at why S) = ⊥

@@ -1,0 +1,274 @@
+-- What the fields of a decoder stand for, and what one octet turns its innermost part into (steps).
+use Rattle.std.specs.Prelude.{◌≡◌, ℕ, ◌+◌, ◌-◌, ◌<◌, ◌≤◌, ◌^◌, ◌%◌, Bool, true, false, cond, eqb, List, [], ◌∷◌, ◌++◌, length, map, take, get_or, Option, Some, None, IfSome}
+use Rattle.giop_cdr.specs.Numbers.{num}
+use Rattle.giop_decode.specs.ReadingSteps.{AreHeld, leading_width, number_step}
+use Rattle.giop_cdr.specs.declared.order.Order.{Order}
+use Rattle.std.specs.List.{AllByRecursion, list_any}
+use Rattle.giop_cdr.specs.declared.number.Number.{Number as Taken}
+use Rattle.giop_decode.specs.declared.frame.Frame.{Frame}
+use Rattle.giop_decode.specs.declared.leaf.Leaf.{Leaf as Innermost}
+use Rattle.giop_decode.specs.declared.leaf.Leaf.TheVariants as innermost
+use Rattle.giop_decode.specs.declared.leaf.Transition.{Transition}
+use Rattle.giop_decode.specs.declared.leaf.Transition.TheVariants as transitions
+use Rattle.giop_decode.specs.declared.leaf.Output.{Output}
+use Rattle.giop_decode.specs.declared.leaf.Output.TheVariants as outputs
+use Rattle.giop_decode.specs.declared.progress.Kind.{Kind}
+use Rattle.giop_decode.specs.declared.progress.Kind.TheVariants as kinds
+use Rattle.giop_decode.specs.ReadResult.{PathSegment, Switch, Number, Count, Size, Ordered, Piece, Line, line, coded, OpenPart, Part, Member, Inside, Leaf, LeadingNumber, Opening, Content, Read, Done, Short, Fault}
+use Rattle.giop_decode.specs.Pieces.{Block, Partial, Complete}
+use Rattle.giop_decode.specs.Reading.{cut_off, enclosed, wrong}
+use Rattle.giop_decode.specs.Begins.{start_outer, start_leaf}
+use Rattle.giop_decode.specs.Fits.{HasParts, HasCase, HasContent, IsEncapsulation}
+use Rattle.giop_sig.specs.Types.{tag_of, Scalar, width, interpreted_by, Ty, Single, Struct, Union, Array, part_of, switch_of, shape_in, HasPlace, IsUnion}
+use Rattle.giop_sig.specs.Table.{Table, part_number}
+use Rattle.giop_sig.specs.Trees.{tree}
+
+-- ---- frames
+
+-- in a union the index is that of a case
+abbrev pub part_in : Ty → ℕ → ℕ → OpenPart
+part_in (Union choice scalar select names cases) i count = Member (Union choice scalar select names cases) i
+part_in T i count = Part T i count
+
+-- Of an encapsulation the index says how many of its octets stand in front of this offset, and the count how many it has.
+abbrev pub open_part_in : ℕ → Option Order → Ty → ℕ → ℕ → OpenPart
+open_part_in here None T i count = part_in T i count
+open_part_in here (Some order) T i count = Inside T (coded order (here - i)) (here + (count - i))
+
+-- the place that a frame of a table stands for, at an offset
+abbrev pub open_part : Table → ℕ → Frame → OpenPart
+open_part C here f = open_part_in here f.inside (tree C f.of.0) f.index f.count
+
+-- the places of frames, the outermost first
+abbrev pub open_parts : Table → ℕ → List Frame → List OpenPart
+open_parts C here frames = map (open_part C here) frames
+
+-- a part of an encapsulation or of another type
+abbrev pub IsWithin : Option Order → ℕ → ℕ → Ty → Type 0
+IsWithin None i count T = HasPlace (shape_in T) i × (IsEncapsulation T → ⊥) × (IsUnion (shape_in T) → count ≡ 0)
+IsWithin (Some order) i count T = IsEncapsulation T × (0 < i) × (i ≤ count)
+
+-- a frame of a type of the table, that has the place; a union's has no count
+pub record IsKnown (C : Table) (f : Frame) : Type 0 where
+  pub known : f.of.0 < length C.types
+  pub within : IsWithin f.inside f.index f.count (tree C f.of.0)
+
+-- frames of types of the table
+abbrev pub AreKnown : Table → List Frame → Type 0
+AreKnown C frames = AllByRecursion (IsKnown C) frames
+
+-- some octet of an encapsulation is to come
+abbrev pub HasOctetsLeft : Frame → Type 0
+HasOctetsLeft f = IfSome f.inside (λ order. f.index < f.count)
+
+abbrev pub HaveOctetsLeft : List Frame → Type 0
+HaveOctetsLeft frames = AllByRecursion HasOctetsLeft frames
+
+-- an offset at which a frame can stand: its octets are in front of it
+abbrev pub StandsAt : ℕ → Frame → Type 0
+StandsAt here f = IfSome f.inside (λ order. f.index ≤ here)
+
+abbrev pub StandAt : ℕ → List Frame → Type 0
+StandAt here frames = AllByRecursion (StandsAt here) frames
+
+-- which part is being read: an encapsulation has one
+abbrev pub part_index : Option Order → ℕ → ℕ
+part_index None i = i
+part_index (Some order) i = 0
+
+-- each frame names the part of the one before at its place: from the root to the innermost part
+abbrev pub Link : Table → ℕ → List Frame → ℕ → Type 0
+Link C root [] inner = inner ≡ root
+Link C root (f ∷ frames) inner = (f.of.0 ≡ root) × Link C (part_number C root (part_index f.inside f.index)) frames inner
+
+-- a type that begins with its first part
+abbrev pub IsWhole : Ty → ℕ → Type 0
+IsWhole (Struct n names parts) count = count ≡ n
+IsWhole (Array n T) count = count ≡ n
+IsWhole T count = ⊥
+
+-- ---- the innermost part
+
+-- the leaf that an innermost part stands for, with the octets that are held
+abbrev pub leaf_of : Table → Innermost → List ℕ → List ℕ → Leaf
+leaf_of C (innermost.Number of) carry piece = LeadingNumber (tree C of.0) carry
+leaf_of C (innermost.Opening of count) carry piece = Opening (tree C of.0) (count - 1)
+leaf_of C (innermost.Content of total offset) carry piece = Content (tree C of.0) total offset piece
+
+-- the number of the type of an innermost part
+abbrev pub leaf_type : Innermost → ℕ
+leaf_type (innermost.Number of) = of.0
+leaf_type (innermost.Opening of left) = of.0
+leaf_type (innermost.Content of total offset) = of.0
+
+-- what is held for neither a number nor a content is cleared
+abbrev pub IsClean : Innermost → List ℕ → List ℕ → Type 0
+IsClean (innermost.Number of) carry piece = piece ≡ []
+IsClean (innermost.Opening of count) carry piece = (carry ≡ []) × (piece ≡ []) × (0 < count)
+IsClean (innermost.Content of total offset) carry piece = carry ≡ []
+
+-- ---- the ends of encapsulations
+
+abbrev pub ended_at : Option Order → ℕ → ℕ → Bool
+ended_at None i count = false
+ended_at (Some order) i count = eqb i count
+
+abbrev pub is_some_order : Option Order → Bool
+is_some_order None = false
+is_some_order (Some order) = true
+
+-- whether some of these is an encapsulation
+abbrev pub is_inside : List Frame → Bool
+is_inside frames = list_any (λ f. is_some_order f.inside) frames
+
+abbrev pub ticked_at : Option Order → ℕ → ℕ
+ticked_at None i = i
+ticked_at (Some order) i = i + 1
+
+abbrev pub tick_of : Frame → Frame
+tick_of f = record { of = f.of; index = ticked_at f.inside f.index; count = f.count; inside = f.inside }
+
+-- an octet more in each encapsulation
+abbrev pub ticked : List Frame → List Frame
+ticked frames = map tick_of frames
+
+abbrev pub ticked_by_at : ℕ → Option Order → ℕ → ℕ
+ticked_by_at n None i = i
+ticked_by_at n (Some order) i = i + n
+
+abbrev pub tick_by_of : ℕ → Frame → Frame
+tick_by_of n f = record {
+  of = f.of;
+  index = ticked_by_at n f.inside f.index;
+  count = f.count;
+  inside = f.inside;
+}
+
+-- so many octets more in each encapsulation
+abbrev pub ticked_by : ℕ → List Frame → List Frame
+ticked_by n frames = map (tick_by_of n) frames
+
+abbrev pub coding_of : Order × ℕ → Option Order → ℕ → Order × ℕ
+coding_of c None i = c
+coding_of c (Some order) i = (order, i % 8)
+
+-- the byte order of the innermost part, and the offset, modulo 8, by which its numbers are aligned
+abbrev pub coding_by : Order → ℕ → List Frame → Order × ℕ
+coding_by order at [] = (order, at)
+coding_by order at (f ∷ frames) = (let c = coding_of (order, at) f.inside f.index in coding_by c.0 c.1 frames)
+
+-- whether an encapsulation has ended
+abbrev pub has_ended : List Frame → Bool
+has_ended frames = list_any (λ f. ended_at f.inside f.index f.count) frames
+
+-- an innermost part that goes on in these frames, unless one of them has ended
+abbrev pub gone_to : Table → List Line → ℕ → List Frame → Leaf → Read
+gone_to C lines at frames leaf =
+    cond (has_ended frames) (Fault lines at kinds.EncapShort (cut_off leaf)) (Short lines at (open_parts C at frames) leaf)
+
+-- what comes behind a part that has ended, at this offset
+abbrev pub gone_on : Table → ℕ → List Frame → Option Innermost → Read
+gone_on C at outer None = Done [] at []
+gone_on C at outer (Some leaf) = gone_to C [] at outer (leaf_of C leaf [] [])
+
+-- ---- turns
+
+-- what the reading of an innermost part comes to by a turn, with these lines at this offset
+abbrev pub after_transition : Table → Ty → Transition → List ℕ → List ℕ → List Line → ℕ → Read
+after_transition C T (transitions.More leaf) carry piece lines at = Short lines at [] (leaf_of C leaf carry piece)
+after_transition C T transitions.Ended carry piece lines at = Done lines at []
+after_transition C T (transitions.Opened count) carry piece lines at =
+    Short lines at (Part T 0 count ∷ start_outer (part_of T 0)) (start_leaf (part_of T 0))
+after_transition C T (transitions.Selected i) carry piece lines at =
+    Short lines at (Member T i ∷ start_outer (part_of T i)) (start_leaf (part_of T i))
+after_transition C T (transitions.Entered order count) carry piece lines at =
+    enclosed [] T (coded order (at - 1)) (at + (count - 1))
+    (Short lines at (start_outer (part_of T 0)) (start_leaf (part_of T 0))) []
+after_transition C T (transitions.Refused kind) carry piece lines at = Fault lines at kind T
+
+-- parts follow only where there are some, and an innermost part that goes on is of the same type
+abbrev pub TransitionFits : Ty → ℕ → Transition → List ℕ → List ℕ → Type 0
+TransitionFits T of (transitions.More leaf) carry piece = (leaf_type leaf ≡ of) × IsClean leaf carry piece
+TransitionFits T of (transitions.Opened count) carry piece = HasParts T count × (0 < count)
+TransitionFits T of (transitions.Selected i) carry piece = HasCase T i
+TransitionFits T of (transitions.Entered order count) carry piece = IsEncapsulation T × (0 < count)
+TransitionFits T of transition carry piece = Unit {0}
+
+-- a number that is a value of a type of one number
+pub record IsNumberOf (T : Ty) (number : Taken) : Type 0 where
+  pub scalar : Scalar
+  pub n : ℕ
+  pub is : T ≡ Single scalar
+  pub right : wrong scalar n ≡ None
+  pub taken : interpreted_by scalar n ≡ Some number
+  pub within : n < 256 ^ width scalar
+
+-- the discriminator's step of a path
+abbrev pub tag_in : Ty → Option (List ℕ)
+tag_in (Union choice scalar select names cases) = tag_of choice names
+tag_in T = None
+
+abbrev pub switch_segment : Ty → PathSegment
+switch_segment T = Switch (tag_in T)
+
+-- the line that an octet gives, if any, where a piece has these octets, held ones and those ahead
+abbrev pub IsOutput : Ty → List PathSegment → ℕ → Output → List ℕ → List Line → Type 0
+IsOutput T path at outputs.Nothing piece lines = lines ≡ []
+IsOutput T path at outputs.Length piece lines = lines ≡ []
+IsOutput T path at (outputs.Number number) piece lines =
+    (is : IsNumberOf T number) × (lines ≡ line at path (Number is.scalar is.n) ∷ [])
+IsOutput T path at (outputs.Switch number) piece lines =
+    (is : IsNumberOf (switch_of T) number)
+    × (lines ≡ line at (path ++ switch_segment T ∷ []) (Number is.scalar is.n) ∷ [])
+IsOutput T path at (outputs.Count count) piece lines = lines ≡ line at path (Count count) ∷ []
+IsOutput T path at (outputs.Size size) piece lines = lines ≡ line at path (Size size) ∷ []
+IsOutput T path at (outputs.Ordered order) piece lines = lines ≡ line at path (Ordered order) ∷ []
+IsOutput T path at (outputs.Piece offset more) piece lines =
+    lines ≡ line at path (Piece T offset piece more) ∷ []
+
+-- what is held of a piece behind that line: a piece that is said is let go
+abbrev pub still_held : Output → List ℕ → List ℕ
+still_held (outputs.Piece offset more) piece = []
+still_held output piece = piece
+
+-- what can be written of a type: the kind of its line
+abbrev pub HasOutput : Ty → Output → Type 0
+HasOutput T (outputs.Number number) = IsNumberOf T number
+HasOutput T (outputs.Switch number) = IsUnion (shape_in T) × IsNumberOf (switch_of T) number
+HasOutput T (outputs.Piece offset more) = HasContent T
+HasOutput T output = Unit {0}
+
+-- the innermost part comes to this, with this line, where these octets are held until it is said
+pub record TransitionGives (C : Table) (T : Ty) (transition : Transition) (output : Output) (carry piece : List ℕ)
+    (path : List PathSegment) (at : ℕ) (read : Read) : Type 0 where
+  pub lines : List Line
+  pub comes : read ≡ after_transition C T transition carry (still_held output piece) lines at
+  pub says : IsOutput T path at output piece lines
+
+-- too great, where there is a bound
+abbrev pub over_by : Bool → Option Kind
+over_by true = Some kinds.Bound
+over_by false = None
+
+-- octets held, which are all or wait for more
+abbrev pub block_of : Bool → List ℕ → ℕ → Block
+block_of true held at = Complete held at []
+block_of false held at = Partial held at
+
+-- The octets of a number of this width stand whole at the head of others, behind its padding, where the first is at this
+-- offset modulo 8: all up to the last of them are held until that comes.
+pub record StandsWhole (width at : ℕ) (octets : List ℕ) (count : ℕ) (all : List ℕ) : Type 0 where
+  pub some : 0 < count
+  pub within : count ≤ length octets
+  pub held : List ℕ
+  pub are_held : AreHeld width at [] (take (count - 1) octets) held
+  pub last : (origin here : ℕ) → (here - origin) % 8 ≡ (at + (count - 1)) % 8 →
+      number_step origin width here held (get_or octets (count - 1) 0) ≡ block_of true all (here + 1)
+
+-- a number of a type, whose octets stand so
+pub record IsWholeNumber (T : Ty) (order : Order) (at : ℕ) (octets : List ℕ) (count : ℕ)
+    (number : Taken) : Type 0 where
+  pub all : List ℕ
+  pub stands : StandsWhole (leading_width T) at octets count all
+  pub is : IsNumberOf T number
+  pub spelled : is.n ≡ num order all

@@ -1,0 +1,223 @@
+//! Where the innermost part stands: the path of its lines, spelled from the frames and the catalogue.
+
+ghost use Rattle.std.specs.Prelude.{◌≡◌, ℕ, ◌+◌, ◌<◌, ◌≤◌, [], ◌++◌, length};
+ghost use Rattle.giop_decode.specs.Spelling.{segment_text, path_text};
+ghost use Rattle.giop_decode.specs.ReadingSteps.{segment_in, path_in};
+ghost use Rattle.giop_decode.specs.Transitions.{open_part, open_parts, IsKnown, AreKnown, switch_segment};
+ghost use Rattle.giop_decode.specs.Segments.{frames_text, end_text, IsSwitch};
+ghost use Rattle.giop_print.specs.Line.{line_text, line_room, Spells};
+ghost use Rattle.giop_print.specs.Paths.{name_segment, index_segment};
+ghost use Rattle.giop_sig.specs.Types.{shape_in, IsUnion};
+ghost use Rattle.giop_sig.specs.Trees.{tree};
+
+use crate::frame::Frame;
+use giop_print::{Line, Path, Position, Root, put_root};
+use giop_sig::{Catalogue, Shape, TypeId};
+use std::marker::Model;
+
+/// Where the innermost part stands, or its discriminator.
+#[derive(Drop)]
+pub(crate) struct CurrentPath<'a> {
+    pub(crate) catalogue: &'a Catalogue,
+    pub(crate) root: Root,
+    pub(crate) outer: &'a [Frame],
+    /// The type of the innermost part, where it is a union and its discriminator is meant.
+    pub(crate) switch: Option<TypeId>,
+}
+
+impl<'a> Model for CurrentPath<'a> {
+    ghost use Rattle.std.specs.Prelude.{◌<◌, length};
+    ghost use Rattle.giop_decode.specs.Segments.{PathView, IsSwitch};
+    ghost use Rattle.giop_decode.specs.Transitions.{AreKnown};
+
+    ghost Value = { PathView };
+
+    ghost view = { λ here. record {
+      table = here.catalogue.now;
+      root = here.root;
+      frames = here.outer.now;
+      union = here.switch;
+    } };
+
+    ghost invariant = { λ here. AreKnown here.catalogue.now here.outer.now
+        × (length here.outer.now < 24) × IsSwitch here.catalogue.now here.switch };
+}
+
+impl Position for CurrentPath<'_> {
+    ghost use Rattle.giop_decode.specs.Segments.{current_path_text};
+
+    ghost spelled = { current_path_text };
+
+    fn spell(&self, line: &mut Line) -> bool {
+        if line.room() < SEGMENT {
+            return false;
+        }
+        spell_end(self.catalogue, self.switch, line);
+        if !spell_segments(self.catalogue, self.outer, line) {
+            return false;
+        }
+        if line.room() < SEGMENT {
+            return false;
+        }
+        put_root(line, self.root);
+        true
+    }
+
+    fn path(&self) -> Path {
+        let mut path = go_to(self.catalogue, self.root, self.outer);
+        let Some(of) = self.switch else {
+            return path;
+        };
+        push_switch(self.catalogue, of, &mut path);
+        path
+    }
+}
+
+/// The most octets that a segment has, or the word of a root.
+const SEGMENT: usize = 65;
+
+/// Spells the segments of the parts that are begun, the innermost first, and answers whether there was room for
+/// them.
+fn spell_segments(catalogue: &Catalogue, outer: &[Frame], line: &mut Line) -> bool
+    requires { AreKnown catalogue.now outer.now }
+    ensures { Spells result line.old line.new (frames_text catalogue.now outer.now) }
+{
+    let mut left = outer.len();
+    while left > 0 {
+        if line.room() < SEGMENT {
+            return false;
+        }
+        left -= 1;
+        spell_segment(catalogue, outer[left], line);
+    }
+    true
+}
+
+/// Spells the segment of a part.
+#[tactic(auto, using(crate::proofs::Segments::segment_laws))]
+fn spell_segment(catalogue: &Catalogue, frame: Frame, line: &mut Line)
+    requires known { IsKnown catalogue.now frame }
+    requires room { 65 ≤ line_room line.old }
+    ensures text { line_text line.new
+        ≡ segment_text (segment_in (open_part catalogue.now 0 frame)) ++ line_text line.old }
+    ensures room { line_room line.new + length (segment_text (segment_in (open_part catalogue.now 0 frame)))
+        ≡ line_room line.old }
+{
+    if frame.inside.is_some() {
+        return;
+    }
+    match catalogue.shape(frame.of) {
+        Shape::Members(_) => spell_name(line, catalogue.part_name(frame.of, frame.index)),
+        Shape::Union(_) => spell_name(line, catalogue.part_name(frame.of, frame.index)),
+        Shape::Tagged => spell_name(line, catalogue.part_name(frame.of, frame.index)),
+        Shape::Sequence(_) => spell_index(line, frame.index),
+        Shape::Array(_) => spell_index(line, frame.index),
+        _ => unreachable!(),
+    }
+}
+
+/// Spells the segment of a discriminator, where one is meant.
+fn spell_end(catalogue: &Catalogue, switch: Option<TypeId>, line: &mut Line)
+    requires union { IsSwitch catalogue.now switch }
+    requires room { 65 ≤ line_room line.old }
+    ensures text { line_text line.new ≡ end_text catalogue.now switch ++ line_text line.old }
+    ensures room { line_room line.new + length (end_text catalogue.now switch)
+        ≡ line_room line.old }
+{
+    match switch {
+        None => {}
+        Some(of) => spell_switch(catalogue, of, line),
+    }
+}
+
+/// Spells the segment of a discriminator, which is called so or has a name of its own.
+fn spell_switch(catalogue: &Catalogue, of: TypeId, line: &mut Line)
+    requires known { of.0 < length catalogue.now.types }
+    requires union { IsUnion (shape_in (tree catalogue.now of.0)) }
+    requires room { 65 ≤ line_room line.old }
+    ensures text { line_text line.new
+        ≡ segment_text (switch_segment (tree catalogue.now of.0)) ++ line_text line.old }
+    ensures room { line_room line.new + length (segment_text (switch_segment (tree catalogue.now of.0)))
+        ≡ line_room line.old }
+{
+    match catalogue.shape(of) {
+        Shape::Union(_) => spell_name(line, b"switch"),
+        Shape::Tagged => spell_name(line, catalogue.part_name(of, 0)),
+        _ => unreachable!(),
+    }
+}
+
+/// Spells the segment of a member, a case or a discriminator.
+#[inline]
+fn spell_name(line: &mut Line, name: &[u8])
+    requires { length name.now < line_room line.old }
+    ensures text { line_text line.new ≡ name_segment name.now ++ line_text line.old }
+    ensures room { line_room line.new + length (name_segment name.now) ≡ line_room line.old }
+{
+    line.put_octets(name);
+    line.put(b'.');
+}
+
+/// Spells the segment of an element.
+#[inline]
+fn spell_index(line: &mut Line, index: u32)
+    requires { 22 ≤ line_room line.old }
+    ensures text { line_text line.new ≡ index_segment index ++ line_text line.old }
+    ensures room { line_room line.new + length (index_segment index) ≡ line_room line.old }
+{
+    line.put(b']');
+    line.put_number(u64::from(index));
+    line.put(b'[');
+}
+
+/// Goes to the part that is being read.
+#[tactic(auto, using(crate::proofs::Segments::segment_laws))]
+fn push_segment(catalogue: &Catalogue, frame: Frame, path: &mut Path)
+    requires known { IsKnown catalogue.now frame }
+    requires room { path.old.segments < 24 }
+    ensures text { (here : ℕ) →
+        path.new.text ≡ path.old.text ++ segment_text (segment_in (open_part catalogue.now here frame)) }
+    ensures segments { path.new.segments ≤ path.old.segments + 1 }
+{
+    if frame.inside.is_some() {
+        return;
+    }
+    match catalogue.shape(frame.of) {
+        Shape::Members(_) => path.push_name(catalogue.part_name(frame.of, frame.index)),
+        Shape::Union(_) => path.push_name(catalogue.part_name(frame.of, frame.index)),
+        Shape::Tagged => path.push_name(catalogue.part_name(frame.of, frame.index)),
+        Shape::Sequence(_) => path.push_index(frame.index),
+        Shape::Array(_) => path.push_index(frame.index),
+        _ => unreachable!(),
+    }
+}
+
+/// Goes to a discriminator, which is called so or has a name of its own.
+fn push_switch(catalogue: &Catalogue, of: TypeId, path: &mut Path)
+    requires known { of.0 < length catalogue.now.types }
+    requires union { IsUnion (shape_in (tree catalogue.now of.0)) }
+    requires room { path.old.segments < 24 }
+    ensures text { path.new.text
+        ≡ path.old.text ++ segment_text (switch_segment (tree catalogue.now of.0)) }
+{
+    match catalogue.shape(of) {
+        Shape::Union(_) => path.push_name(b"switch"),
+        Shape::Tagged => path.push_name(catalogue.part_name(of, 0)),
+        _ => unreachable!(),
+    }
+}
+
+/// Goes to the innermost part.
+fn go_to(catalogue: &Catalogue, root: Root, outer: &[Frame]) -> Path
+    requires known { AreKnown catalogue.now outer.now }
+    requires room { length outer.now ≤ 24 }
+    ensures text { (here : ℕ) →
+        result.text ≡ path_text root (path_in [] (open_parts catalogue.now here outer.now)) }
+    ensures segments { result.segments ≤ length outer.now }
+{
+    let mut path = Path::new(root);
+    for frame in outer {
+        push_segment(catalogue, *frame, &mut path);
+    }
+    path
+}

@@ -1,0 +1,378 @@
+//! The number that begins an innermost part, and what follows it.
+
+ghost use Rattle.std.specs.Prelude.{◌≡◌, ℕ, ◌+◌, ◌-◌, ◌%◌, ◌<◌, ◌≤◌, List, [], ◌++◌, length, take, IsTrue, false};
+ghost use Rattle.giop_cdr.specs.Alignment.{IsAlignment, padding};
+ghost use Rattle.giop_cdr.specs.Numbers.{num};
+ghost use Rattle.giop_decode.specs.ReadResult.{Coding, PathSegment};
+ghost use Rattle.giop_decode.specs.Pieces.{over};
+ghost use Rattle.giop_decode.specs.NotingSteps.{OutputFitsString};
+ghost use Rattle.giop_decode.specs.ReadingSteps.{after, leading_width, number_step, AreHeld};
+ghost use Rattle.giop_decode.specs.Fits.{HasLeadingNumber};
+ghost use Rattle.giop_decode.specs.Transitions.{TransitionGives, TransitionFits, HasOutput, IsNumberOf, over_by, block_of};
+ghost use Rattle.giop_sig.specs.Types.{Ty, Text, Octets, Sequence, switch_of, shape_in, IsUnion};
+ghost use Rattle.giop_sig.specs.Fits.{IsFit};
+ghost use Rattle.giop_sig.specs.Trees.{tree};
+
+use crate::encapsulation;
+use crate::leaf::{Leaf, Output, Step, Transition, refused};
+use crate::progress::Kind;
+use giop_cdr::{Carry, Number, Order, Prim, number_of, pad, size};
+use giop_sig::{Catalogue, Selected, Shape, TypeId};
+
+/// The size of the number that begins a type.
+#[inline(always)]
+pub(crate) fn width(catalogue: &Catalogue, t: TypeId) -> u8
+    requires known { t.0 < length catalogue.now.types }
+    ensures width { HasLeadingNumber (tree catalogue.now t.0) →
+        result ≡ leading_width (tree catalogue.now t.0) }
+    ensures aligned { IsAlignment result }
+{
+    match catalogue.shape(t) {
+        Shape::Prim(prim) => size(prim),
+        Shape::Union(_) => switch_width(catalogue, t),
+        Shape::Tagged => switch_width(catalogue, t),
+        _ => 4,
+    }
+}
+
+/// The size of the number of a discriminator.
+#[inline(always)]
+fn switch_width(catalogue: &Catalogue, t: TypeId) -> u8
+    requires known { t.0 < length catalogue.now.types }
+    requires union { IsUnion (shape_in (tree catalogue.now t.0)) }
+    ensures width { HasLeadingNumber (tree catalogue.now t.0) →
+        result ≡ leading_width (tree catalogue.now t.0) }
+    ensures aligned { IsAlignment result }
+{
+    match catalogue.shape(catalogue.switch_type(t)) {
+        Shape::Prim(prim) => size(prim),
+        _ => 4,
+    }
+}
+
+/// How many octets of padding stand in front of a number of this width. Each width has an arm of its own, so that none waits
+/// for a division.
+#[inline(always)]
+pub(crate) fn padding_at(at: u8, width: u8) -> u8
+    requires { IsAlignment width }
+    ensures { result ≡ padding at width }
+{
+    let at = u64::from(at);
+    match width {
+        1 => pad(at, 1),
+        2 => pad(at, 2),
+        4 => pad(at, 4),
+        8 => pad(at, 8),
+        _ => unreachable!(),
+    }
+}
+
+/// Takes an octet of the padding before a number, or one that leaves the number incomplete, and answers whether it was one.
+#[inline(always)]
+#[tactic(auto, using(crate::proofs::Padding::number_laws))]
+fn hold_number(carry: &mut Carry, at: u8, width: u8, octet: u8) -> bool
+    requires width { IsAlignment width }
+    requires room { length carry.old < width }
+    ensures left { result ≡ false → carry.new ≡ carry.old }
+    ensures last { result ≡ false →
+        (length carry.old + 1 ≡ width) × (carry.old ≡ [] → padding at width ≡ 0) }
+    ensures holds { IsTrue result → (origin here : ℕ) → (here - origin) % 8 ≡ at →
+        number_step origin width here carry.old octet ≡ block_of false carry.new (here + 1) }
+{
+    if carry.is_empty() && padding_at(at, width) > 0 {
+        return true;
+    }
+    if carry.len() + 1 < usize::from(width) {
+        carry.push(octet);
+        return true;
+    }
+    false
+}
+
+/// Takes octets of the padding before a number, and octets that leave the number incomplete, all that stand there
+/// together, and answers how many there were.
+#[inline]
+pub(crate) fn gather_number(carry: &mut Carry, at: u8, width: u8, octets: &[u8]) -> usize
+    requires width { IsAlignment width }
+    requires room { length carry.old < width }
+    requires small { at < 8 }
+    ensures within { result ≤ length octets.now }
+    ensures holds { AreHeld width at carry.old (take result octets.now) carry.new }
+{
+    if !carry.is_empty() {
+        return hold_some(carry, width, octets);
+    }
+    let padding = usize::from(padding_at(at, width)).min(octets.len());
+    padding + hold_some(carry, width, &octets[padding..])
+}
+
+/// Holds octets that leave the number incomplete, all that stand there together, and answers how many there were.
+#[inline]
+fn hold_some(carry: &mut Carry, width: u8, octets: &[u8]) -> usize
+    requires width { IsAlignment width }
+    requires room { length carry.old < width }
+    ensures within { result ≤ length octets.now }
+    ensures held { carry.new ≡ carry.old ++ take result octets.now }
+    ensures room { length carry.old + result < width }
+{
+    let room = usize::from(width) - carry.len() - 1;
+    let count = room.min(octets.len());
+    for octet in &octets[..count] {
+        carry.push(*octet);
+    }
+    count
+}
+
+/// Takes an octet of a number or of the padding before it, and answers whether the number is whole.
+#[inline(always)]
+#[tactic(auto, using(crate::proofs::Padding::number_laws))]
+pub(crate) fn take_number(carry: &mut Carry, at: u8, width: u8, octet: u8) -> bool
+    requires width { IsAlignment width }
+    requires room { length carry.old < width }
+    ensures whole { IsTrue result → length carry.new ≡ width }
+    ensures takes { (origin here : ℕ) → (here - origin) % 8 ≡ at →
+        number_step origin width here carry.old octet ≡ block_of result carry.new (here + 1) }
+{
+    if hold_number(carry, at, width, octet) {
+        return false;
+    }
+    carry.push(octet);
+    true
+}
+
+/// Goes on behind the number that begins a type, of these octets.
+#[inline(always)]
+pub(crate) fn take_value(catalogue: &Catalogue, order: Order, of: TypeId, octets: &[u8]) -> Step
+    requires known { of.0 < length catalogue.now.types }
+    requires head { HasLeadingNumber (tree catalogue.now of.0) }
+    requires fit { (d : ℕ) × IsFit d (tree catalogue.now of.0) }
+    requires whole { length octets.now ≡ leading_width (tree catalogue.now of.0) }
+    ensures transition_fits { TransitionFits (tree catalogue.now of.0) of.0 result.transition [] [] }
+    ensures has_output { HasOutput (tree catalogue.now of.0) result.output }
+    ensures output_fits_string { OutputFitsString (tree catalogue.now of.0) false result.transition result.output }
+    ensures transitions { (coding : Coding) (path : List PathSegment) (at : ℕ) →
+        TransitionGives catalogue.now (tree catalogue.now of.0) result.transition result.output [] [] path at
+        (after coding path (tree catalogue.now of.0) (num order octets.now) at []) }
+{
+    match catalogue.shape(of) {
+        Shape::Prim(prim) => match number_of(order, prim, octets) {
+            Ok(number) => Step {
+                transition: Transition::Ended,
+                output: Output::Number(number),
+            },
+            Err(_) => refused(Kind::Boolean),
+        },
+        Shape::Enumeration(count) => {
+            let n = long_of(order, octets);
+            if n >= count {
+                return refused(Kind::Enum);
+            }
+            Step {
+                transition: Transition::Ended,
+                output: Output::Number(Number::Unsigned(u64::from(n))),
+            }
+        }
+        Shape::Text(bound) => take_length(catalogue, of, bound, long_of(order, octets)),
+        Shape::Octets(bound) => take_size(catalogue, of, bound, long_of(order, octets)),
+        Shape::Sequence(bound) => take_count(catalogue, of, bound, long_of(order, octets)),
+        Shape::Union(_) => take_switch(catalogue, order, of, octets),
+        Shape::Tagged => take_switch(catalogue, order, of, octets),
+        Shape::Encapsulation => encapsulation::take_length(catalogue, of, long_of(order, octets)),
+        Shape::Members(_) => unreachable!(),
+        Shape::Array(_) => unreachable!(),
+    }
+}
+
+/// Goes on behind the number of a union's discriminator, of these octets.
+#[inline(always)]
+fn take_switch(catalogue: &Catalogue, order: Order, of: TypeId, octets: &[u8]) -> Step
+    requires known { of.0 < length catalogue.now.types }
+    requires union { IsUnion (shape_in (tree catalogue.now of.0)) }
+    requires fit { (d : ℕ) × IsFit d (tree catalogue.now of.0) }
+    requires whole { length octets.now ≡ leading_width (tree catalogue.now of.0) }
+    ensures transition_fits { TransitionFits (tree catalogue.now of.0) of.0 result.transition [] [] }
+    ensures has_output { HasOutput (tree catalogue.now of.0) result.output }
+    ensures output_fits_string { OutputFitsString (tree catalogue.now of.0) false result.transition result.output }
+    ensures transitions { (coding : Coding) (path : List PathSegment) (at : ℕ) →
+        TransitionGives catalogue.now (tree catalogue.now of.0) result.transition result.output [] [] path at
+        (after coding path (tree catalogue.now of.0) (num order octets.now) at []) }
+{
+    match catalogue.shape(catalogue.switch_type(of)) {
+        Shape::Prim(prim) => match number_of(order, prim, octets) {
+            Ok(number) => take_selected(catalogue, of, number),
+            Err(_) => refused(Kind::Boolean),
+        },
+        Shape::Enumeration(count) => {
+            let label = long_of(order, octets);
+            if label >= count {
+                return refused(Kind::Enum);
+            }
+            take_selected(catalogue, of, Number::Unsigned(u64::from(label)))
+        }
+        _ => unreachable!(),
+    }
+}
+
+/// Goes on behind the number of a union's discriminator, which is this value.
+#[inline(always)]
+fn take_selected(catalogue: &Catalogue, of: TypeId, number: Number) -> Step
+    requires known { of.0 < length catalogue.now.types }
+    requires union { IsUnion (shape_in (tree catalogue.now of.0)) }
+    requires fit { (d : ℕ) × IsFit d (tree catalogue.now of.0) }
+    requires number { IsNumberOf (switch_of (tree catalogue.now of.0)) number }
+    ensures transition_fits { TransitionFits (tree catalogue.now of.0) of.0 result.transition [] [] }
+    ensures has_output { HasOutput (tree catalogue.now of.0) result.output }
+    ensures output_fits_string { OutputFitsString (tree catalogue.now of.0) false result.transition result.output }
+    ensures transitions { (is : IsNumberOf (switch_of (tree catalogue.now of.0)) number) (coding : Coding)
+        (path : List PathSegment) (at : ℕ) →
+        TransitionGives catalogue.now (tree catalogue.now of.0) result.transition result.output [] [] path at
+        (after coding path (tree catalogue.now of.0) is.n at []) }
+{
+    match catalogue.select(of, number) {
+        Selected::Case(i) => Step {
+            transition: Transition::Selected(i),
+            output: Output::Switch(number),
+        },
+        Selected::Nothing => Step {
+            transition: Transition::Ended,
+            output: Output::Switch(number),
+        },
+        Selected::Refused => refused(Kind::Disposition),
+    }
+}
+
+/// Goes on behind the length of a string.
+#[inline(always)]
+fn take_length(catalogue: &Catalogue, of: TypeId, bound: Option<u32>, n: u32) -> Step
+    requires { tree catalogue.now of.0 ≡ Text bound }
+    ensures transition_fits { TransitionFits (tree catalogue.now of.0) of.0 result.transition [] [] }
+    ensures has_output { HasOutput (tree catalogue.now of.0) result.output }
+    ensures output_fits_string { OutputFitsString (tree catalogue.now of.0) false result.transition result.output }
+    ensures transitions { (coding : Coding) (path : List PathSegment) (at : ℕ) →
+        TransitionGives catalogue.now (tree catalogue.now of.0) result.transition result.output [] [] path at
+        (after coding path (tree catalogue.now of.0) n at []) }
+{
+    let _types = catalogue;
+    if n == 0 {
+        return Step {
+            transition: Transition::Ended,
+            output: empty_piece(),
+        };
+    }
+    if exceeds(bound, n - 1) {
+        return Step {
+            transition: Transition::Refused(Kind::Bound),
+            output: Output::Length,
+        };
+    }
+    Step {
+        transition: Transition::More(Leaf::Content {
+            of,
+            total: n - 1,
+            offset: 0,
+        }),
+        output: Output::Length,
+    }
+}
+
+/// Goes on behind the length of an octet sequence.
+#[inline(always)]
+fn take_size(catalogue: &Catalogue, of: TypeId, bound: Option<u32>, n: u32) -> Step
+    requires { tree catalogue.now of.0 ≡ Octets bound }
+    ensures transition_fits { TransitionFits (tree catalogue.now of.0) of.0 result.transition [] [] }
+    ensures has_output { HasOutput (tree catalogue.now of.0) result.output }
+    ensures output_fits_string { OutputFitsString (tree catalogue.now of.0) false result.transition result.output }
+    ensures transitions { (coding : Coding) (path : List PathSegment) (at : ℕ) →
+        TransitionGives catalogue.now (tree catalogue.now of.0) result.transition result.output [] [] path at
+        (after coding path (tree catalogue.now of.0) n at []) }
+{
+    let _types = catalogue;
+    if exceeds(bound, n) {
+        return refused(Kind::Bound);
+    }
+    if n == 0 {
+        return Step {
+            transition: Transition::Ended,
+            output: empty_piece(),
+        };
+    }
+    Step {
+        transition: Transition::More(Leaf::Content {
+            of,
+            total: n,
+            offset: 0,
+        }),
+        output: Output::Nothing,
+    }
+}
+
+/// Goes on behind the count of a sequence.
+#[inline(always)]
+fn take_count(catalogue: &Catalogue, of: TypeId, bound: Option<u32>, n: u32) -> Step
+    requires is { (E : Ty) × (tree catalogue.now of.0 ≡ Sequence bound E) }
+    requires fit { (d : ℕ) × IsFit d (tree catalogue.now of.0) }
+    ensures transition_fits { TransitionFits (tree catalogue.now of.0) of.0 result.transition [] [] }
+    ensures has_output { HasOutput (tree catalogue.now of.0) result.output }
+    ensures output_fits_string { OutputFitsString (tree catalogue.now of.0) false result.transition result.output }
+    ensures transitions { (coding : Coding) (path : List PathSegment) (at : ℕ) →
+        TransitionGives catalogue.now (tree catalogue.now of.0) result.transition result.output [] [] path at
+        (after coding path (tree catalogue.now of.0) n at []) }
+{
+    let _types = catalogue;
+    let _type = of;
+    if exceeds(bound, n) {
+        return refused(Kind::Bound);
+    }
+    let output = Output::Count(n);
+    if n == 0 {
+        return Step {
+            transition: Transition::Ended,
+            output,
+        };
+    }
+    Step {
+        transition: Transition::Opened(n),
+        output,
+    }
+}
+
+/// Whether a count is above its bound.
+fn exceeds(bound: Option<u32>, n: u32) -> bool
+    ensures { over bound n ≡ over_by result }
+{
+    match bound {
+        None => false,
+        Some(bound) => bound < n,
+    }
+}
+
+/// Four octets, as a slice whose length is a constant, so that no loop reads them.
+#[inline(always)]
+fn just_four(octets: &[u8]) -> &[u8]
+    requires { length octets.now ≡ 4 }
+    ensures { result.now ≡ octets.now }
+{
+    &octets[..4]
+}
+
+/// The number that four octets spell.
+fn long_of(order: Order, octets: &[u8]) -> u32
+    requires { length octets.now ≡ 4 }
+    ensures { result ≡ num order octets.now }
+{
+    match number_of(order, Prim::ULong, just_four(octets)) {
+        Ok(Number::Unsigned(n)) => n as u32,
+        _ => unreachable!(),
+    }
+}
+
+/// The one piece of an empty content.
+#[inline(always)]
+fn empty_piece() -> Output
+    ensures { result ≡ Output.Piece 0 false }
+{
+    Output::Piece {
+        offset: 0,
+        more: false,
+    }
+}

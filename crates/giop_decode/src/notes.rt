@@ -1,0 +1,275 @@
+//! What was last heard of a value: a header's request id, an enum's number, and the last string as a name.
+
+ghost use Rattle.std.specs.Prelude.{◌≡◌, ℕ, ◌<◌, ◌&&◌, IsTrue, true, false, List, [], ◌++◌, length};
+ghost use Rattle.std.specs.Option.{option_map};
+ghost use Rattle.giop_decode.specs.Noted.{Noted, nothing_noted, with_piece, ended, noted_piece, is_member, is_header_root, without_name_if, note_value, noted, names_operation};
+ghost use Rattle.giop_decode.specs.DecoderState.{HoldsNoted};
+ghost use Rattle.giop_decode.specs.NotingSteps.{IsPlain, clears_name};
+ghost use Rattle.giop_decode.specs.ReadResult.{Line};
+ghost use Rattle.giop_decode.specs.ReadResult as spines;
+ghost use Rattle.giop_decode.specs.ReadingSteps.{path_in};
+ghost use Rattle.giop_decode.specs.Transitions.{open_parts, AreKnown, IsNumberOf, IsOutput, HasOutput};
+ghost use Rattle.giop_sig.specs.Trees.{tree};
+
+use crate::frame::Frame;
+use crate::leaf::Output;
+use arrayvec::ArrayVec;
+use giop_cdr::{Number, Prim};
+use giop_print::Root;
+use giop_sig::{Catalogue, Shape, TypeId};
+
+/// What the name buffer has.
+#[derive(Clone, Copy, Debug, PartialEq, Eq)]
+pub(crate) enum Buffer {
+    /// The pieces of a string that hasn't ended: none where there was no string.
+    Begun,
+    /// The last string.
+    Whole,
+    /// Nothing: the string's pieces are more than a name has room for.
+    TooLong,
+}
+
+/// What was last heard.
+#[derive(Debug, Drop)]
+pub(crate) struct Notes {
+    // The first that was said.
+    pub(crate) request_id: Option<u32>,
+    pub(crate) status: Option<u32>,
+    pub(crate) name: ArrayVec<u8, 128>,
+    pub(crate) buffer: Buffer,
+}
+
+impl Notes {
+    /// Nothing heard.
+    pub(crate) fn new() -> Notes
+        ensures { HoldsNoted result nothing_noted }
+    {
+        Notes {
+            request_id: None,
+            status: None,
+            name: ArrayVec::new(),
+            buffer: Buffer::Begun,
+        }
+    }
+
+    /// The request id of a header.
+    pub(crate) fn request_id(&self) -> Option<u32>
+        ensures { (h : Noted) → HoldsNoted self.now h → result ≡ h.request_id }
+    {
+        self.request_id
+    }
+
+    /// The number of the last enum.
+    pub(crate) fn status(&self) -> Option<u32>
+        ensures { (h : Noted) → HoldsNoted self.now h → result ≡ h.status }
+    {
+        self.status
+    }
+
+    /// The last string, where that has ended and is a name.
+    pub(crate) fn name(&self) -> Option<&[u8]>
+        ensures { (h : Noted) → HoldsNoted self.now h →
+            option_map (λ octets. octets.now) result ≡ h.name }
+    {
+        match self.buffer {
+            Buffer::Whole => Some(&self.name),
+            Buffer::Begun => None,
+            Buffer::TooLong => None,
+        }
+    }
+
+    /// Lets go of the last name: the length of a string has come.
+    #[inline(always)]
+    fn forget(&mut self)
+        ensures hears { (h : Noted) → HoldsNoted self.old h → HoldsNoted self.new (without_name_if true h) }
+        ensures id { self.new.request_id ≡ self.old.request_id }
+        ensures begun { self.new.buffer ≡ Buffer.Whole → ⊥ }
+    {
+        match self.buffer {
+            Buffer::Whole => {
+                self.name = ArrayVec::new();
+                self.buffer = Buffer::Begun;
+            }
+            Buffer::Begun => {}
+            Buffer::TooLong => {}
+        }
+    }
+
+    /// Hears octets of a string whose end is to come, where no name stands.
+    #[inline(always)]
+    fn extend(&mut self, octets: &[u8])
+        requires { self.old.buffer ≡ Buffer.Whole → ⊥ }
+        ensures hears { (h : Noted) → HoldsNoted self.old h →
+            HoldsNoted self.new (with_piece h octets.now) }
+        ensures id { self.new.request_id ≡ self.old.request_id }
+        ensures begun { self.new.buffer ≡ Buffer.Whole → ⊥ }
+    {
+        match self.buffer {
+            Buffer::Begun => {
+                if self.name.try_extend_from_slice(octets).is_err() {
+                    self.name = ArrayVec::new();
+                    self.buffer = Buffer::TooLong;
+                }
+            }
+            Buffer::Whole => {}
+            Buffer::TooLong => {}
+        }
+    }
+
+    /// Hears that a string has ended.
+    #[inline(always)]
+    fn end(&mut self)
+        requires { self.old.buffer ≡ Buffer.Whole → ⊥ }
+        ensures hears { (h : Noted) → HoldsNoted self.old h → HoldsNoted self.new (ended h) }
+        ensures id { self.new.request_id ≡ self.old.request_id }
+    {
+        match self.buffer {
+            Buffer::Begun => self.buffer = Buffer::Whole,
+            Buffer::Whole => {}
+            Buffer::TooLong => self.buffer = Buffer::Begun,
+        }
+    }
+
+    /// Hears a piece of a string, which may be its last: the octets that were held, mostly none, and the rest.
+    #[inline(always)]
+    fn note_piece(&mut self, held: &[u8], rest: &[u8], more: bool)
+        ensures hears { (h : Noted) → HoldsNoted self.old h →
+            HoldsNoted self.new (noted_piece h (held.now ++ rest.now) more) }
+        ensures id { self.new.request_id ≡ self.old.request_id }
+    {
+        self.forget();
+        if !held.is_empty() {
+            self.extend(held);
+        }
+        self.extend(rest);
+        if !more {
+            self.end();
+        }
+    }
+
+    /// Hears the number of a type, which is that of a request id or isn't.
+    #[inline(always)]
+    fn note_number(&mut self, catalogue: &Catalogue, t: TypeId, number: Number, is_id: bool)
+        requires known { t.0 < length catalogue.now.types }
+        requires number { IsNumberOf (tree catalogue.now t.0) number }
+        ensures hears { (h : Noted) (is : IsNumberOf (tree catalogue.now t.0) number) →
+            HoldsNoted self.old h →
+            HoldsNoted self.new (note_value is_id h (spines.Number is.scalar is.n)) }
+        ensures id { is_id ≡ false → self.new.request_id ≡ self.old.request_id }
+    {
+        let Number::Unsigned(n) = number else {
+            return;
+        };
+        match catalogue.shape(t) {
+            Shape::Enumeration(_) => self.status = Some(n as u32),
+            Shape::Prim(Prim::ULong) => {
+                if is_id && self.request_id.is_none() {
+                    self.request_id = Some(n as u32);
+                }
+            }
+            _ => {}
+        }
+    }
+
+    /// Hears what an octet gives to say of an innermost part of this type, and answers whether that ends the operation of
+    /// a Request's header. Below any other root nothing is heard of a primitive, as which this may be known.
+    #[inline(always)]
+    pub(crate) fn note(
+        &mut self,
+        catalogue: &Catalogue,
+        root: Root,
+        outer: &[Frame],
+        of: TypeId,
+        output: Output,
+        held: &[u8],
+        rest: &[u8],
+        is_plain: bool,
+    ) -> bool
+        requires known { of.0 < length catalogue.now.types }
+        requires known_outer { AreKnown catalogue.now outer.now }
+        requires has_output { HasOutput (tree catalogue.now of.0) output }
+        requires plain { IsTrue is_plain → IsPlain (tree catalogue.now of.0) output }
+        ensures id { is_header_root root ≡ false → self.new.request_id ≡ self.old.request_id }
+        ensures hears { (h : Noted) (here at : ℕ) (lines : List Line) → HoldsNoted self.old h →
+            IsOutput (tree catalogue.now of.0) (path_in [] (open_parts catalogue.now here outer.now))
+            at output (held.now ++ rest.now) lines →
+            HoldsNoted self.new (without_name_if (clears_name output) (noted (is_header_root root) h lines)) }
+        ensures named { (here at : ℕ) (lines : List Line) →
+            IsOutput (tree catalogue.now of.0) (path_in [] (open_parts catalogue.now here outer.now))
+            at output (held.now ++ rest.now) lines →
+            result ≡ names_operation (is_header_root root) lines }
+    {
+        if is_plain && !is_header(root) {
+            return false;
+        }
+        match output {
+            Output::Nothing => false,
+            Output::Count(_) => false,
+            Output::Size(_) => false,
+            Output::Ordered(_) => false,
+            Output::Length => {
+                self.forget();
+                false
+            }
+            Output::Number(number) => {
+                let is_id = is_header_member(catalogue, root, outer, b"request_id");
+                self.note_number(catalogue, of, number, is_id);
+                false
+            }
+            Output::Switch(number) => {
+                self.note_number(catalogue, catalogue.switch_type(of), number, false);
+                false
+            }
+            Output::Piece { more, .. } => match catalogue.shape(of) {
+                Shape::Text(_) => {
+                    self.note_piece(held, rest, more);
+                    !more && is_header_member(catalogue, root, outer, b"operation")
+                }
+                _ => false,
+            },
+        }
+    }
+}
+
+/// Whether lines of this root are a header's.
+#[inline(always)]
+pub(crate) fn is_header(root: Root) -> bool
+    ensures { result ≡ is_header_root root }
+{
+    match root {
+        Root::Header => true,
+        Root::Exception => false,
+        Root::Body => false,
+    }
+}
+
+/// Whether the innermost part is the member of this name of a header.
+#[inline(always)]
+fn is_header_member(catalogue: &Catalogue, root: Root, outer: &[Frame], name: &[u8]) -> bool
+    requires { AreKnown catalogue.now outer.now }
+    ensures { (here : ℕ) → result ≡ (is_header_root root
+        && is_member name.now (path_in [] (open_parts catalogue.now here outer.now))) }
+{
+    is_header(root) && is_member(catalogue, outer, name)
+}
+
+/// Whether the innermost part is the root's member of this name.
+fn is_member(catalogue: &Catalogue, outer: &[Frame], name: &[u8]) -> bool
+    requires { AreKnown catalogue.now outer.now }
+    ensures { (here : ℕ) →
+        result ≡ is_member name.now (path_in [] (open_parts catalogue.now here outer.now)) }
+{
+    if outer.len() != 1 {
+        return false;
+    }
+    let frame = outer[0];
+    if frame.inside.is_some() {
+        return false;
+    }
+    match catalogue.shape(frame.of) {
+        Shape::Members(_) => name == catalogue.part_name(frame.of, frame.index),
+        Shape::Union(_) => name == catalogue.part_name(frame.of, frame.index),
+        Shape::Tagged => name == catalogue.part_name(frame.of, frame.index),
+        _ => false,
+    }
+}

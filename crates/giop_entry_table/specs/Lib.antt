@@ -1,0 +1,3 @@
+pub mod EntryTable
+pub mod EntryTableView
+pub mod MutBorrow

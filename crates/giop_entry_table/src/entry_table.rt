@@ -1,0 +1,195 @@
+//! Values under ids, in the order of being added.
+
+ghost use Rattle.std.specs.Prelude.{◌≡◌, ◌+◌, ◌<◌, ◌≤◌, ◌==◌, ◌↔◌, [], ◌∷◌, ◌++◌, length, nat_le, slice_get, option_copied, IsSome, IfSome, OnSome, IfNone, IfOk};
+ghost use Rattle.std.specs.List.{remove, position_from};
+ghost use Rattle.std.specs.Option.{option_map, option_copied_mut};
+ghost use Rattle.std.specs.Borrow.{sem};
+
+use crate::search::place_of;
+use slab::Slab;
+use std::alloc::{AllocError, Global};
+use std::marker::Model;
+
+/// A value and the id that it stands under.
+#[derive(Drop)]
+pub struct Entry<V> {
+    pub key: u32,
+    pub value: V,
+}
+
+/// Values under ids, in the order of being added. All of its memory is taken when it is made.
+#[derive(Drop)]
+pub struct EntryTable<V> {
+    // How many entries there may be.
+    most: usize,
+    // The id of each entry.
+    keys: Vec<u32>,
+    // The key of each entry's value in `values`.
+    numbers: Vec<usize>,
+    values: Slab<V>,
+}
+
+impl<V> Model for EntryTable<V> {
+    ghost use Rattle.giop_entry_table.specs.EntryTable.{Entries, entries_code};
+
+    ghost Value = { Entries V };
+
+    ghost coded = { entries_code V.code };
+
+    ghost use Rattle.std.specs.Prelude.{length, ◌≤◌, vec_capacity};
+    ghost use Rattle.giop_entry_table.specs.EntryTableView.{entries_of, IsTied, HasRoom};
+
+    ghost view = { λ r. record {
+      most = r.most;
+      entries = entries_of r.values r.keys.items r.numbers.items;
+    } };
+
+    ghost invariant = { λ r. IsTied r.keys.items r.numbers.items r.values
+        × HasRoom r.most (vec_capacity r.keys) (vec_capacity r.numbers) r.values
+        × (length r.numbers.items ≤ r.most) };
+}
+
+impl<V> EntryTable<V> {
+    ghost use Rattle.giop_entry_table.specs.MutBorrow.{lends_value, lends_get};
+
+    /// No entry, and the memory for so many.
+    pub fn new(alloc: Global, most: usize) -> Result<EntryTable<V>, AllocError>
+        ensures most { IfOk result (λ r. r.most ≡ most) }
+        ensures entries { IfOk result (λ r. r.entries ≡ []) }
+    {
+        Ok(EntryTable {
+            most,
+            keys: Vec::with_capacity(alloc, most)?,
+            numbers: Vec::with_capacity(alloc, most)?,
+            values: Slab::with_capacity(alloc, most)?,
+        })
+    }
+
+    /// How many entries there may be.
+    pub fn most(&self) -> usize
+        ensures { result ≡ self.now.most }
+    {
+        self.most
+    }
+
+    /// How many entries there are.
+    pub fn len(&self) -> usize
+        ensures value { result ≡ length self.now.entries }
+        ensures few { result ≤ self.now.most }
+    {
+        self.numbers.len()
+    }
+
+    /// Whether there are as many entries as there may be.
+    pub fn is_full(&self) -> bool
+        ensures { result ≡ nat_le self.now.most (length self.now.entries) }
+    {
+        self.len() >= self.most
+    }
+
+    /// The place of the first entry with this id.
+    pub fn find(&self, key: u32) -> Option<usize>
+        ensures value { result ≡ position_from (λ e. e.key == key) 0 self.now.entries }
+        ensures within { IfSome result (λ place. place < length self.now.entries) }
+    {
+        place_of(self.keys.as_slice(), key)
+    }
+
+    /// The id of the entry at this place.
+    pub fn key(&self, place: usize) -> Option<u32>
+        ensures { result ≡ option_map (λ e. e.key) (slice_get self.now.entries place) }
+    {
+        match self.keys.get(place) {
+            Some(key) => Some(*key),
+            None => None,
+        }
+    }
+
+    /// The value of the entry at this place.
+    pub fn get(&self, place: usize) -> Option<&V>
+        ensures { option_copied result
+            ≡ option_map (λ e. e.value) (slice_get self.now.entries place) }
+    {
+        match self.numbers.get(place) {
+            Some(number) => self.values.get(*number),
+            None => None,
+        }
+    }
+
+    /// The value of the entry at this place, for writing.
+    pub fn get_mut(&mut self, place: usize) -> Option<&mut V>
+        ensures* writes_back { sem 𝓛 (lends_get V.row self.entry place result) }
+        ensures value { option_copied_mut result
+            ≡ option_map (λ e. e.value) (slice_get self.old.entries place) }
+    {
+        if place < self.len() {
+            Some(self.value_mut(place))
+        } else {
+            None
+        }
+    }
+
+    fn value_mut(&mut self, place: usize) -> &mut V
+        requires { place < length self.old.entries }
+        ensures* writes_back { sem 𝓛 (lends_value V.row self.entry place result) }
+        ensures value { option_map (λ e. e.value) (slice_get self.old.entries place)
+            ≡ Some result.now }
+    {
+        let number = self.numbers[place];
+        &mut self.values[number]
+    }
+
+    /// Adds a value under this id, behind the others. There must be room.
+    pub fn add(&mut self, key: u32, value: V)
+        requires { length self.old.entries < self.old.most }
+        ensures entries { self.new.entries
+            ≡ self.old.entries ++ record { key = key; value = value } ∷ [] }
+        ensures most { self.new.most ≡ self.old.most }
+    {
+        let number = self.values.insert_reserved(value);
+        self.numbers.push_reserved(number);
+        self.keys.push_reserved(key);
+    }
+
+    /// Takes the entry at this place out; those behind it move up.
+    pub fn take(&mut self, place: usize) -> Option<Entry<V>>
+        ensures value { result ≡ slice_get self.old.entries place }
+        ensures variant { IsSome result ↔ (place < length self.old.entries) }
+        ensures entries { OnSome result (self.new.entries ≡ remove self.old.entries place) }
+        ensures len { OnSome result
+            (length self.new.entries + 1 ≡ length self.old.entries) }
+        ensures absent { IfNone result (self.new ≡ self.old) }
+        ensures most { self.new.most ≡ self.old.most }
+    {
+        if place < self.len() {
+            Some(self.remove(place))
+        } else {
+            None
+        }
+    }
+
+    fn remove(&mut self, place: usize) -> Entry<V>
+        requires { place < length self.old.entries }
+        ensures value { slice_get self.old.entries place ≡ Some result }
+        ensures entries { self.new.entries ≡ remove self.old.entries place }
+        ensures len { length self.new.entries + 1 ≡ length self.old.entries }
+        ensures most { self.new.most ≡ self.old.most }
+    {
+        let key = self.keys.remove(place);
+        let number = self.numbers.remove(place);
+        let value = self.values.remove(number);
+        Entry { key, value }
+    }
+
+    /// Lets every entry go, and keeps the memory.
+    pub fn clear(&mut self)
+    where
+        V: Drop,
+        ensures entries { self.new.entries ≡ [] }
+        ensures most { self.new.most ≡ self.old.most }
+    {
+        self.keys.clear();
+        self.numbers.clear();
+        self.values.clear();
+    }
+}

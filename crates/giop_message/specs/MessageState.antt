@@ -1,0 +1,152 @@
+-- What a message holds of the octets that it has taken behind its header, one field a clause; and what its calls write (state).
+use Rattle.std.specs.Prelude.{◌≡◌, ℕ, ◌+◌, ◌-◌, ◌<◌, ◌≤◌, Bool, true, false, cond, List, [], ◌∷◌, ◌++◌, length, take, drop, flat_map, Option, Some, None}
+use Rattle.giop_sig.specs.Types.{Ty}
+use Rattle.giop_sig.specs.Table.{Table, operation_number}
+use Rattle.giop_sig.specs.Trees.{tree}
+use Rattle.giop_sig.specs.HeaderTypes.{header_type}
+use Rattle.giop_sig.specs.RequestList.{Entry, IsOf}
+use Rattle.giop_decode.specs.ReadResult.{plain}
+use Rattle.giop_decode.specs.declared.decoder.Decoder.{Decoder}
+use Rattle.giop_decode.specs.Reading.{read}
+use Rattle.giop_decode.specs.Noted.{nothing_noted}
+use Rattle.giop_decode.specs.DecoderState as decoder
+use Rattle.giop_message.specs.declared.message.Message.{Message}
+use Rattle.giop_message.specs.declared.part.Part.{Part}
+use Rattle.giop_message.specs.declared.part.Part.TheVariants as parts
+use Rattle.giop_message.specs.declared.part.Section.{Section}
+use Rattle.giop_message.specs.declared.part.Section.TheVariants as sections
+use Rattle.giop_message.specs.declared.body_type.BodyTypeId.{BodyTypeId}
+use Rattle.giop_message.specs.declared.body_type.BodyTypeId.TheVariants as body_type_ids
+use Rattle.giop_message.specs.Headers.{minor, kind, order}
+use Rattle.giop_message.specs.MessageReader.{LineClass, TimedLine}
+use Rattle.giop_message.specs.Text.{line_class_text}
+use Rattle.giop_message.specs.Signatures.{Signatures, RequestTable, signatures_of}
+use Rattle.giop_message.specs.Messages.{MessageLine, ShortLine, LineAt, BodyType, Untyped, Typed, UserException, In_padding, In_rest, ReadTo, with_front, section_and_rest, root_of, message, message_lines, stage_of}
+use Rattle.giop_message.specs.ReaderOfTable.{line_class_of, text_of, first_request_id, is_over}
+
+-- ---- what is written
+
+-- the line of what is said at a place of the stream
+unfoldable pub message_line_text : ℕ → ℕ → MessageLine → List ℕ
+message_line_text number place s = line_class_text place number (line_class_of s) (text_of s)
+
+-- The lines of what is told behind an offset, to which as many octets of the stream came as that place says.
+unfoldable pub message_lines_text : ℕ → ℕ → ℕ → List LineAt → List ℕ
+message_lines_text number place offset emitted = flat_map (λ t. message_line_text number (place + (t.at - offset)) t.message_line) emitted
+
+-- what is told of more octets
+unfoldable pub due : Signatures → List ℕ → List ℕ → List ℕ → List LineAt
+due S header s more = drop (length (message_lines (message S header s))) (message_lines (message S header (s ++ more)))
+
+-- and its lines, where the first of these octets comes behind so many octets of the stream
+unfoldable pub due_text : Signatures → ℕ → ℕ → List ℕ → List ℕ → List ℕ → List ℕ
+due_text S number place header s more = message_lines_text number place (12 + length s) (due S header s more)
+
+unfoldable pub closing_text : ℕ → ℕ → List MessageLine → List ℕ
+closing_text number place speeches = flat_map (message_line_text number place) speeches
+
+-- the same by remarks of a reading, whose octets count from 1 behind the header: those of which so many came before, and the
+-- octets of the stream up to there
+unfoldable pub timed_lines_text : ℕ → ℕ → ℕ → List TimedLine → List ℕ
+timed_lines_text number place before timed_lines = flat_map (λ r. line_class_text (place + (r.at - before)) number r.line_class r.text) timed_lines
+
+unfoldable pub closes_text : ℕ → ℕ → List (LineClass × List ℕ) → List ℕ
+closes_text number place line_classes = flat_map (λ l. line_class_text place number l.0 l.1) line_classes
+
+unfoldable pub is_short : List MessageLine → Bool
+is_short (ShortLine ∷ more) = true
+is_short speeches = false
+
+-- ---- a message and its catalogue
+
+-- what is kept of a list of requests for the operations of this table
+abbrev pub AreOf : Table → RequestTable → Type 0
+AreOf C request_table = (entries : List Entry) × IsOf (operation_number C) entries request_table
+
+abbrev pub body_type : Table → BodyTypeId → BodyType
+body_type C body_type_ids.Nothing = Untyped
+body_type C (body_type_ids.Type of) = Typed (tree C of.0)
+body_type C body_type_ids.Exception = UserException
+
+-- a type of the table
+abbrev pub IsKnown : Table → BodyTypeId → Type 0
+IsKnown C body_type_ids.Nothing = Unit {0}
+IsKnown C (body_type_ids.Type of) = of.0 < length C.types
+IsKnown C body_type_ids.Exception = Unit {0}
+
+-- a part of a message that has taken so many octets
+abbrev pub FitsPart : Table → ℕ → Part → Type 0
+FitsPart C at (parts.Typed section d) = decoder.Fits C d
+FitsPart C at (parts.Padding body_type_id) = IsKnown C body_type_id
+FitsPart C at (parts.Rest r) = r.offset + length r.held.items ≤ at
+
+-- a message that isn't faulted, and whose types are those of the table
+abbrev pub Fits : Table → Message → Type 0
+Fits C m = FitsPart C m.at m.part
+
+-- how many of its octets a message has taken, its header's 12 included
+abbrev pub reach : Message → ℕ
+reach m = m.at
+
+-- ---- a message of a list
+
+-- The header is the first section of a message: there is no line before it, and its type is the header's.
+abbrev pub IsFirst : List ℕ → Section → Ty → List LineAt → Type 0
+IsFirst header sections.Header T before = (header_type (minor header) (kind header) ≡ Some T) × (before ≡ [])
+IsFirst header sections.Exception T before = Unit {0}
+IsFirst header sections.Body T before = Unit {0}
+
+-- Lines, and then a section that begins there: a decoder reads its octets as a value of a type.
+pub record Decodes (C : Table) (S : Signatures) (number : ℕ) (header s : List ℕ) (section : Section) (d : Decoder)
+    : Type 0 where
+  pub T : Ty
+  pub before : List LineAt
+  pub front : List ℕ
+  pub octets : List ℕ
+  pub since : s ≡ front ++ octets
+  pub is : message S header s ≡ with_front before
+      (section_and_rest S header section nothing_noted (read (plain (order header)) [] T (12 + length front) octets))
+  pub first : IsFirst header section T before
+  pub reads : decoder.Reads C T (order header) (12 + length front) number (root_of section) d octets
+
+-- where a message of this number and header stands behind these octets, by the part that the next octet belongs to
+abbrev pub Stands : Table → RequestTable → ℕ → List ℕ → List ℕ → Part → Type 0
+Stands C request_table number header s (parts.Typed section d) = Decodes C (signatures_of C request_table) number header s section d
+Stands C request_table number header s (parts.Padding body_type_id) =
+    (emitted : List LineAt) × (message (signatures_of C request_table) header s
+    ≡ ReadTo emitted (12 + length s) (In_padding (body_type C body_type_id)))
+Stands C request_table number header s (parts.Rest r) =
+    (emitted : List LineAt) × (message (signatures_of C request_table) header s ≡ ReadTo emitted (12 + length s) (In_rest r.offset r.held.items))
+
+-- in the header
+abbrev pub is_header : Section → Bool
+is_header sections.Header = true
+is_header sections.Exception = false
+is_header sections.Body = false
+
+abbrev pub in_header : Part → Bool
+in_header (parts.Typed section d) = is_header section
+in_header (parts.Padding body_type_id) = false
+in_header (parts.Rest r) = false
+
+-- The message's fields are what its header and these octets behind it come to. While the header is read its decoder
+-- has the request id.
+pub record Follows (C : Table) (request_table : RequestTable) (number : ℕ) (header : List ℕ) (m : Message) (s : List ℕ) : Type 0 where
+  pub same_number : m.number ≡ number
+  pub same_header : m.header ≡ header
+  pub id : m.id ≡ cond (in_header m.part) None (first_request_id (message_lines (message (signatures_of C request_table) header s)))
+  pub at : m.at ≡ 12 + length s
+  pub stands : Stands C request_table number header s m.part
+
+-- ---- its calls
+
+-- It follows the longer list, or the n-th of these octets, from 1, is faulted.
+pub record FaultedAt (S : Signatures) (header s more : List ℕ) (n : ℕ) : Type 0 where
+  pub some : 0 < n
+  pub within : n ≤ length more
+  pub here : is_over (stage_of (message S header (s ++ take n more))) ≡ true
+  pub not_before : is_over (stage_of (message S header (s ++ take (n - 1) more))) ≡ false
+
+abbrev pub TookAll : Table → RequestTable → ℕ → List ℕ → Message → List ℕ → List ℕ → Option ℕ → Type 0
+TookAll C request_table number header m s more None = Follows C request_table number header m (s ++ more)
+TookAll C request_table number header m s more (Some n) = FaultedAt (signatures_of C request_table) header s more n

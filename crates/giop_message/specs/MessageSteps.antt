@@ -1,0 +1,109 @@
+-- What the parts of a message's code do: the text of an octet, and where a message stands behind a part that has ended (steps). Private
+-- contracts alone cite it.
+use Rattle.std.specs.Prelude.{◌≡◌, ℕ, ◌+◌, Bool, true, false, List, [], ◌∷◌, ◌++◌, length, take, Option, Some, Result, MatchResult, ◌&&◌, ◌==◌, nat_lt, if◌then◌else◌}
+use Rattle.giop_cdr.specs.Alignment.{padding}
+use Rattle.giop_print.specs.Lines.{call_line, fault_line, rest_line}
+use Rattle.giop_print.specs.Output.{OutLog, Wrote, WroteFront}
+use Rattle.giop_sig.specs.Types.{Ty}
+use Rattle.giop_sig.specs.Table.{Table}
+use Rattle.giop_decode.specs.ReadResult.{plain, Read, Done, Short, Fault}
+use Rattle.giop_decode.specs.Reading.{read}
+use Rattle.giop_decode.specs.Noted.{Noted, nothing_noted}
+use Rattle.giop_decode.specs.DecoderState.{KeepsNoted}
+use Rattle.giop_message.specs.declared.message.Message.{Message}
+use Rattle.giop_message.specs.declared.part.Section.{Section}
+use Rattle.giop_message.specs.declared.part.Section.TheVariants as sections
+use Rattle.giop_message.specs.declared.part.Part.{Part}
+use Rattle.giop_message.specs.declared.part.Part.TheVariants as parts
+use Rattle.giop_message.specs.Headers.{minor, order}
+use Rattle.giop_message.specs.Text.{fault_word}
+use Rattle.giop_message.specs.Signatures.{Signatures, RequestTable, signatures_of}
+use Rattle.giop_message.specs.Messages
+use Rattle.giop_message.specs.Messages.{LineAt, BodyType, Untyped, is_shown, is_request, has_body, body_of, members_of, type_if, with_front, section_and_rest, root_of, message}
+use Rattle.giop_message.specs.MessageState.{due_text, IsFirst, Stands, Follows, FaultedAt}
+
+-- the line of a reading's fault, whose octet has this place
+abbrev pub fault_text : ℕ → ℕ → Read → List ℕ
+fault_text number place (Done lines at rest) = []
+fault_text number place (Short lines at outer leaf) = []
+fault_text number place (Fault lines at why T) = fault_line number (fault_word why) place
+
+-- the line of a call, where it can be shown
+unfoldable pub called_text : ℕ → Option ℕ → Option (List ℕ) → List ℕ
+called_text number (Some id) (Some operation) = if is_shown operation then call_line number id operation else []
+called_text number id operation = []
+
+-- of a Request's header
+unfoldable pub request_call : ℕ → List ℕ → Noted → List ℕ
+request_call number header h = if is_request header then called_text number h.request_id h.name else []
+
+-- the type of what follows a section, by what is heard of it
+abbrev pub body_type_after : Signatures → List ℕ → Section → Noted → BodyType
+body_type_after S header sections.Header h = if has_body header then body_of S header h else Untyped
+body_type_after S header sections.Exception h = type_if (members_of S h.name)
+body_type_after S header sections.Body h = Untyped
+
+-- In 1.2 there is padding in front of a body that would begin at this offset.
+unfoldable pub is_unaligned : List ℕ → ℕ → Bool
+is_unaligned header at = (minor header == 2) && nat_lt 0 (padding at 8)
+
+-- which stands between a header and the body
+abbrev pub is_padded : List ℕ → Section → ℕ → Bool
+is_padded header sections.Header at = has_body header && is_unaligned header at
+is_padded header sections.Exception at = false
+is_padded header sections.Body at = false
+
+-- a message of this number and header, that has taken so many octets
+pub record IsAt (number : ℕ) (header : List ℕ) (m : Message) (s : List ℕ) : Type 0 where
+  pub same_number : m.number ≡ number
+  pub same_header : m.header ≡ header
+  pub at : m.at ≡ 12 + length s
+
+-- a message that comes to these lines and then this stands where that does
+abbrev pub Arrives : Table → RequestTable → ℕ → List ℕ → Message → Message → List ℕ → Messages.Message → Type 0
+Arrives C request_table number header old new s m =
+    IsAt number header old s → (before : List LineAt) → message (signatures_of C request_table) header s ≡ with_front before m →
+    Stands C request_table number header s new.part
+
+-- A message that comes to these lines, and then to a section of this type of which nothing has come, stands in that.
+abbrev pub Enters : Table → RequestTable → ℕ → List ℕ → Message → Message → List ℕ → Section → Ty → Type 0
+Enters C request_table number header old new s section T =
+    IsAt number header old s → (before : List LineAt) → IsFirst header section T before →
+    message (signatures_of C request_table) header s
+    ≡ with_front before (section_and_rest (signatures_of C request_table) header section nothing_noted (read (plain (order header)) [] T (12 + length s) [])) →
+    Stands C request_table number header s new.part
+
+-- a part that is read as a value
+abbrev pub IsTyped : Part → Type 0
+IsTyped (parts.Typed section d) = Unit {0}
+IsTyped part = ⊥
+
+-- a part that is this section, and whose decoder has this reading of it in mind
+abbrev pub Ended : Part → Section → Read → Type 0
+Ended (parts.Typed held d) section r = (held ≡ section) × KeepsNoted (root_of section) d r
+Ended part section r = ⊥
+
+-- the last part of a rest
+abbrev pub held_text : ℕ → ℕ → List ℕ → List ℕ
+held_text number offset [] = []
+held_text number offset (x ∷ held) = rest_line number offset (x ∷ held)
+
+abbrev pub last_rest_text : ℕ → Part → List ℕ
+last_rest_text number (parts.Typed section d) = []
+last_rest_text number (parts.Padding body_type_id) = []
+last_rest_text number (parts.Rest r) = held_text number r.offset r.held.items
+
+-- ---- one go over a run of octets
+
+-- of which it took so many: the message is over, at the last of them, or follows the longer list
+abbrev pub TookSome : Table → RequestTable → ℕ → List ℕ → Message → List ℕ → List ℕ → ℕ → Bool → Type 0
+TookSome C request_table number header m s octets n false = Follows C request_table number header m (s ++ take n octets)
+TookSome C request_table number header m s octets n true = FaultedAt (signatures_of C request_table) header s octets n
+
+-- the lines of the octets that it took; or a front of those of the run, and then a put failed
+abbrev pub WritesRun : {E : Type 0} → Result (ℕ × Bool) E → Signatures → ℕ → ℕ → List ℕ → List ℕ → List ℕ →
+    OutLog → OutLog → Type 0
+WritesRun result S number place header s octets before after =
+    MatchResult result
+    (λ went. Wrote before after (due_text S number place header s (take went.0 octets)))
+    (λ _. WroteFront before after (due_text S number place header s octets))

@@ -1,0 +1,79 @@
+-- The reading of one message as the stream takes it, by a catalogue's table and what is kept of a request list; and its request id (meaning).
+use Rattle.std.specs.Prelude.{◌≡◌, ℕ, ◌-◌, Bool, true, false, cond, List, [], ◌∷◌, map, Option, Some, None, codes, IfSome}
+use Rattle.giop_cdr.specs.declared.prim.Primitive.TheVariants as prims
+use Rattle.giop_print.specs.declared.path.Root.TheVariants as roots
+use Rattle.giop_decode.specs.ReadResult.{Number}
+use Rattle.giop_decode.specs.Spelling.{path_text}
+use Rattle.giop_decode.specs.Noted.{is_member}
+use Rattle.giop_sig.specs.Types.{Plain}
+use Rattle.giop_sig.specs.Table.{Table}
+use Rattle.giop_sig.specs.HeaderTypes.{BeginsWithId}
+use Rattle.giop_message.specs.Headers.{minor, kind, has_name}
+use Rattle.giop_message.specs.MessageReader.{LineClass, Value, Call, Rest, Fault, End, TimedLine, MessageReader}
+use Rattle.giop_message.specs.Text.{value_said, call_text, rest_text, fault_word}
+use Rattle.giop_message.specs.Signatures.{Signatures, RequestTable, signatures_of}
+use Rattle.giop_message.specs.Messages.{MessageLine, ValueLine, CallLine, RestLine, FaultLine, ShortLine, EndLine, LineAt, Stage, Over, message, message_lines, stage_of, close}
+
+unfoldable pub line_class_of : MessageLine → LineClass
+line_class_of (ValueLine root path v) = Value
+line_class_of (CallLine id operation) = Call
+line_class_of (RestLine offset octets) = Rest
+line_class_of (FaultLine why) = Fault
+line_class_of ShortLine = Fault
+line_class_of EndLine = End
+
+-- the text, without the message's number; of a fault its word
+unfoldable pub text_of : MessageLine → List ℕ
+text_of (ValueLine root path v) = value_said (path_text root path) v
+text_of (CallLine id operation) = call_text id operation
+text_of (RestLine offset octets) = rest_text offset octets
+text_of (FaultLine why) = fault_word why
+text_of ShortLine = codes "short"
+text_of EndLine = codes "end"
+
+-- Offsets count from the front of the message, and a reading counts octets behind the header.
+abbrev pub timed_line_of : LineAt → TimedLine
+timed_line_of t = record { at = t.at - 12; line_class = line_class_of t.message_line; text = text_of t.message_line }
+
+abbrev pub closing_of : MessageLine → LineClass × List ℕ
+closing_of s = (line_class_of s, text_of s)
+
+unfoldable pub reader_by : Signatures → MessageReader
+reader_by S = record {
+  reads = λ header xs. map timed_line_of (message_lines (message S header xs));
+  closes = λ header xs. map closing_of (close (stage_of (message S header xs)));
+}
+
+-- by this table and these requests
+abbrev pub message_reader : Table → RequestTable → MessageReader
+message_reader C request_table = reader_by (signatures_of C request_table)
+
+-- The headers of the messages that the stream knows by their request ids begin with them.
+pub record HasIds (S : Signatures) : Type 0 where
+  pub begins : (header : List ℕ) → has_name header ≡ true →
+      IfSome (S.header (minor header) (kind header)) BeginsWithId
+
+-- the request id that is said
+unfoldable pub id_in : MessageLine → Option ℕ
+id_in (ValueLine roots.Header path (Number (Plain prims.ULong) n)) = cond (is_member (codes "request_id") path) (Some n) None
+id_in message_line = None
+
+unfoldable pub first_id : Option ℕ → Option ℕ → Option ℕ
+first_id (Some id) later = Some id
+first_id None later = later
+
+-- the first of them
+unfoldable pub first_request_id : List LineAt → Option ℕ
+first_request_id [] = None
+first_request_id (t ∷ ts) = first_id (id_in t.message_line) (first_request_id ts)
+
+unfoldable pub is_over : Stage → Bool
+is_over Over = true
+is_over stage = false
+
+unfoldable pub is_wrong : LineAt → Bool
+is_wrong t = is_fault (line_class_of t.message_line)
+  where
+    is_fault : LineClass → Bool
+    is_fault Fault = true
+    is_fault line_class = false

@@ -1,0 +1,29 @@
+-- One octet more, on where a message stands (steps).
+use Rattle.std.specs.Prelude.{ℕ, ◌+◌, List, [], ◌∷◌, ◌++◌, length, ◌==◌, nat_lt, if◌then◌else◌}
+use Rattle.giop_cdr.specs.Alignment.{padding}
+use Rattle.giop_decode.specs.ReadResult.{plain}
+use Rattle.giop_decode.specs.ReadingSteps as decoder
+use Rattle.giop_message.specs.Headers.{order}
+use Rattle.giop_message.specs.Signatures.{Signatures}
+use Rattle.giop_message.specs.Messages.{line_at, RestLine, Stage, In_typed, In_padding, In_rest, Over, Message, ReadTo, with_front, body, section_and_rest}
+
+unfoldable pub rest_step : ℕ → List ℕ → ℕ → Message
+rest_step offset held at =
+    if length held == 32 then ReadTo (line_at at (RestLine offset held) ∷ []) at (In_rest (offset + 32) []) else ReadTo [] at (In_rest offset held)
+
+-- The octet comes at that offset. A part that ends hands over to the reading of no octets of what follows it.
+unfoldable pub message_step : Signatures → List ℕ → ℕ → Stage → ℕ → Message
+message_step S header at (In_typed section h outer leaf) b =
+    section_and_rest S header section h (decoder.step (plain (order header)) [] outer leaf at b)
+message_step S header at (In_padding t) b =
+    if nat_lt 1 (padding at 8) then ReadTo [] (at + 1) (In_padding t) else body S header t (at + 1) []
+message_step S header at (In_rest offset held) b = rest_step offset (held ++ b ∷ []) (at + 1)
+message_step S header at Over b = ReadTo [] at Over
+
+unfoldable pub advance : Signatures → List ℕ → Message → ℕ → Message
+advance S header (ReadTo emitted at stage) b = with_front emitted (message_step S header at stage b)
+
+-- a message after these octets more
+abbrev pub goes_on : Signatures → List ℕ → Message → List ℕ → Message
+goes_on S header m [] = m
+goes_on S header m (b ∷ t) = goes_on S header (advance S header m b) t

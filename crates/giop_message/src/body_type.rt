@@ -1,0 +1,169 @@
+//! Which type a body has (GIOP Message Formats, Request Body, Reply Body).
+
+ghost use Rattle.std.specs.Prelude.{◌≡◌, ◌<◌, length, true};
+ghost use Rattle.std.specs.Option.{option_map};
+ghost use Rattle.giop_sig.specs.Trees.{tree};
+ghost use Rattle.giop_message.specs.Signatures.{RequestTable, signatures_of};
+ghost use Rattle.giop_decode.specs.ReadResult.{Read};
+ghost use Rattle.giop_decode.specs.Noted.{noted_of, is_header_root};
+ghost use Rattle.giop_decode.specs.DecoderState.{KeepsNoted};
+ghost use Rattle.giop_message.specs.Messages.{Typed, root_of, body_may_be_missing, members_of, type_if, request_body, result_body, reply_body};
+ghost use Rattle.giop_message.specs.MessageState.{AreOf, IsKnown, body_type};
+ghost use Rattle.giop_message.specs.MessageSteps.{body_type_after};
+
+use crate::header::kind_of;
+use crate::part::Section;
+use giop_decode::Decoder;
+use giop_print::Root;
+use giop_sig::{Catalogue, Fixed, Requests, Shape, TypeId};
+
+/// The type of a body: none, this one, or that of the exception whose repository id comes first.
+#[derive(Clone, Copy, Debug, PartialEq, Eq)]
+pub enum BodyTypeId {
+    Nothing,
+    Type(TypeId),
+    Exception,
+}
+
+/// Of what follows a section, by what its decoder has in mind.
+pub fn body_type_after(
+    catalogue: &Catalogue,
+    requests: &Requests,
+    header: &[u8],
+    section: Section,
+    decoder: &Decoder,
+) -> BodyTypeId
+    requires header { length header.now ≡ 12 }
+    requires of { AreOf catalogue.now requests.now }
+    ensures is { (r : Read) → KeepsNoted (root_of section) decoder.now r →
+        body_type catalogue.now result ≡ body_type_after (signatures_of catalogue.now requests.now)
+        header.now section (noted_of (is_header_root (root_of section)) r) }
+    ensures known { IsKnown catalogue.now result }
+{
+    match section {
+        Section::Header => header_body(catalogue, requests, header, decoder),
+        Section::Exception => members_body(catalogue, decoder.name()),
+        Section::Body => BodyTypeId::Nothing,
+    }
+}
+
+/// Of a message, by its type and by what the decoder of its header has in mind.
+fn header_body(
+    catalogue: &Catalogue,
+    requests: &Requests,
+    header: &[u8],
+    decoder: &Decoder,
+) -> BodyTypeId
+    requires header { length header.now ≡ 12 }
+    requires of { AreOf catalogue.now requests.now }
+    ensures is { (r : Read) → KeepsNoted Root.Header decoder.now r →
+        body_type catalogue.now result ≡ body_type_after (signatures_of catalogue.now requests.now)
+        header.now Section.Header (noted_of true r) }
+    ensures known { IsKnown catalogue.now result }
+{
+    if kind_of(header) == 0 {
+        return request_body(catalogue, decoder.name());
+    }
+    if kind_of(header) == 1 {
+        return reply_body(catalogue, requests, decoder.request_id(), decoder.status());
+    }
+    BodyTypeId::Nothing
+}
+
+/// Of an exception, by its repository id.
+#[tactic(auto, unfolding(crate::specs::Messages::members_of, crate::specs::Messages::type_if, crate::specs::Signatures::signatures_of))]
+fn members_body(catalogue: &Catalogue, repository: Option<&[u8]>) -> BodyTypeId
+    ensures is { (request_table : RequestTable) → body_type catalogue.now result ≡ type_if (members_of
+        (signatures_of catalogue.now request_table) (option_map (λ x. x.now) repository.entry)) }
+    ensures known { IsKnown catalogue.now result }
+{
+    let Some(repository) = repository else {
+        return BodyTypeId::Nothing;
+    };
+    match catalogue.exception(repository) {
+        Some(of) => BodyTypeId::Type(of),
+        None => BodyTypeId::Nothing,
+    }
+}
+
+/// Of a Request, by its operation.
+#[tactic(auto, unfolding(crate::specs::Messages::request_body, crate::specs::Messages::type_if, crate::specs::Signatures::signatures_of))]
+fn request_body(catalogue: &Catalogue, name: Option<&[u8]>) -> BodyTypeId
+    ensures is { (request_table : RequestTable) → body_type catalogue.now result ≡ request_body
+        (signatures_of catalogue.now request_table) (option_map (λ x. x.now) name.entry) }
+    ensures known { IsKnown catalogue.now result }
+{
+    let Some(name) = name else {
+        return BodyTypeId::Nothing;
+    };
+    match catalogue.operation(name) {
+        Some(operation) => BodyTypeId::Type(catalogue.request_of(operation)),
+        None => BodyTypeId::Nothing,
+    }
+}
+
+/// Of a Reply that has results, by the id of its request.
+#[tactic(auto, unfolding(crate::specs::Messages::result_body, crate::specs::Messages::type_if, crate::specs::Signatures::signatures_of))]
+fn result_body(catalogue: &Catalogue, requests: &Requests, id: Option<u32>) -> BodyTypeId
+    requires { AreOf catalogue.now requests.now }
+    ensures is { body_type catalogue.now result ≡ result_body
+        (signatures_of catalogue.now requests.now) id }
+    ensures known { IsKnown catalogue.now result }
+{
+    let Some(id) = id else {
+        return BodyTypeId::Nothing;
+    };
+    match requests.operation(id) {
+        Some(operation) => BodyTypeId::Type(catalogue.reply_of(operation)),
+        None => BodyTypeId::Nothing,
+    }
+}
+
+/// Of a Reply, by its status and the id of its request.
+#[tactic(auto, unfolding(crate::specs::Messages::reply_body, crate::specs::Signatures::signatures_of))]
+fn reply_body(
+    catalogue: &Catalogue,
+    requests: &Requests,
+    id: Option<u32>,
+    status: Option<u32>,
+) -> BodyTypeId
+    requires { AreOf catalogue.now requests.now }
+    ensures is { body_type catalogue.now result ≡ reply_body
+        (signatures_of catalogue.now requests.now) id status }
+    ensures known { IsKnown catalogue.now result }
+{
+    let Some(status) = status else {
+        return BodyTypeId::Nothing;
+    };
+    match status {
+        0 => result_body(catalogue, requests, id),
+        1 => BodyTypeId::Exception,
+        2 => BodyTypeId::Type(catalogue.fixed(Fixed::SystemException)),
+        3 | 4 => BodyTypeId::Type(catalogue.fixed(Fixed::Forward)),
+        5 => BodyTypeId::Type(catalogue.fixed(Fixed::Addressing)),
+        _ => BodyTypeId::Nothing,
+    }
+}
+
+/// Whether a message may end where this body would begin.
+pub fn body_may_be_missing(catalogue: &Catalogue, body_type_id: BodyTypeId) -> bool
+    requires { IsKnown catalogue.now body_type_id }
+    ensures { result ≡ body_may_be_missing (body_type catalogue.now body_type_id) }
+{
+    match body_type_id {
+        BodyTypeId::Nothing => true,
+        BodyTypeId::Type(of) => is_empty(catalogue, of),
+        BodyTypeId::Exception => false,
+    }
+}
+
+/// Whether a type is the struct without members.
+pub fn is_empty(catalogue: &Catalogue, of: TypeId) -> bool
+    requires { of.0 < length catalogue.now.types }
+    ensures { result ≡ body_may_be_missing (Typed (tree catalogue.now of.0)) }
+{
+    match catalogue.shape(of) {
+        Shape::Members(count) => count == 0,
+        _ => false,
+    }
+}

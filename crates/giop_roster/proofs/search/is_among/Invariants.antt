@@ -1,7 +1,0 @@
-use Rattle.std.proofs.Common.{◌≡◌, ◌==◌, take}
-use Rattle.std.specs.List.{list_any}
-use Rattle.giop_roster.proofs.search.is_among.Given as goal
-
--- whether the id stands among those seen
-abbrev pub invariant-loop-k : goal.invariant-loop-k
-invariant-loop-k l = l.found ≡ list_any (λ k. k == l.key) (take l.k-index l.keys)

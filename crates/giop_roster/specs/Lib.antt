@@ -1,3 +1,0 @@
-pub mod Roster
-pub mod Holding
-pub mod Lends

@@ -1,9 +1,0 @@
-//! Values under ids, in the order of being added, in memory that is all taken at the start.
-#![tactic(auto)]
-
-mod roster;
-mod search;
-#[cfg(test)]
-mod tests;
-
-pub use roster::{Entry, Roster};

@@ -1,0 +1,88 @@
+-- What each turn of a run did (steps): private clauses alone cite these.
+use Rattle.std.specs.Prelude.{◌≡◌, ℕ, ◌+◌, ◌^◌, ◌≤◌, ◌<◌, List, ◌++◌, length, None, Result, Ok, Err, Bool, true, false}
+use Rattle.std.specs.Io.KnownBytes.{Consumes}
+use Rattle.giop_cdr.specs.Numbers.{AreOctets}
+use Rattle.giop_print.specs.Output.{OutLog, counted, Wrote, WroteFront}
+use Rattle.giop_stream.specs.Rules.{Rules}
+use Rattle.giop_stream.specs.Framing.{cut}
+use Rattle.giop_stream.specs.Stream.{closing, final}
+use Rattle.giop_stream.specs.EngineHolds.{added, Holds, rules_of}
+use Rattle.giop_stream.specs.EngineView.{EngineView}
+use Rattle.giop_run.specs.SourceLog.{SourceLog}
+use Rattle.giop_run.specs.Running.{IsStopped, IsOver, RunSetup, reads_by, end_text, EndsAs}
+use Rattle.giop_stream.specs.declared.status.Totals.{Totals}
+use Rattle.giop_run.specs.declared.running.Report.{Report}
+use Rattle.giop_run.specs.declared.fault.RunFault.{RunFault}
+use Rattle.giop_run.specs.declared.fault.RunFault.TheVariants as fault
+
+-- the stream p has no fault
+abbrev pub IsRunning : List ℕ → Type 0
+IsRunning p = (cut p).stop ≡ None
+
+-- the octets s went into an engine that held p and read messages by R, and their lines were written
+pub record HasFed (R : Rules) (p s : List ℕ) (e : EngineView) (x y : OutLog) : Type 0 where
+  pub reads : rules_of e ≡ R
+  pub holds : Holds e (p ++ s)
+  pub written : Wrote x y (added R p s)
+
+-- what feeding the octets s to an engine that held p did: true where the stream goes on
+abbrev pub Fed : Rules → Result Bool RunFault → List ℕ → List ℕ → EngineView → OutLog → OutLog → Type 0
+Fed R (Ok true) p s e x y = HasFed R p s e x y × IsRunning (p ++ s)
+Fed R (Ok false) p s e x y = HasFed R p s e x y × IsStopped (p ++ s)
+Fed R (Err fault.Out) p s e x y = WroteFront x y (added R p s)
+Fed R (Err fault.Read) p s e x y = ⊥
+Fed R (Err fault.Turns) p s e x y = ⊥
+Fed R (Err fault.Failed) p s e x y = ⊥
+
+-- one read, of at most 4096 octets, gave the octets s
+pub record OneRead (s : List ℕ) (before after : SourceLog) : Type 0 where
+  pub left : Consumes before.left after.left s
+  pub octets : AreOctets s
+  pub within : length s ≤ 4096
+  pub reads : after.reads ≡ counted before.reads
+
+-- what one read and its feed did on an engine that held p: true where the stream goes on
+abbrev pub HasReadAndFed : Rules → Result Bool RunFault → List ℕ → List ℕ → EngineView → SourceLog → SourceLog → OutLog → OutLog → Type 0
+HasReadAndFed R (Ok true) p s e before after x y =
+    OneRead s before after × (after.failures ≡ before.failures) × (after.ends ≡ before.ends) × HasFed R p s e x y × IsRunning (p ++ s)
+HasReadAndFed R (Ok false) p s e before after x y =
+    OneRead s before after × (after.failures ≡ before.failures) × IsOver (p ++ s) before after × HasFed R p s e x y
+HasReadAndFed R (Err fault.Read) p s e before after x y =
+    OneRead s before after × (after.failures ≡ counted before.failures) × Wrote x y (added R p s)
+HasReadAndFed R (Err fault.Out) p s e before after x y =
+    OneRead s before after × (after.failures ≡ before.failures) × WroteFront x y (added R p s)
+HasReadAndFed R (Err fault.Turns) p s e before after x y = ⊥
+HasReadAndFed R (Err fault.Failed) p s e before after x y = ⊥
+
+-- what the ending writes behind the lines of p was written, and what it does is done
+pub record Ended (w : RunSetup) (report : Report) (p : List ℕ) (x y : OutLog) : Type 0 where
+  pub written : Wrote x y (end_text w.ending (reads_by w) p)
+  pub ended : EndsAs w.ending w report p
+
+-- what the finish of an engine that held p did
+abbrev pub Completed : Rules → Result Totals RunFault → List ℕ → OutLog → OutLog → Type 0
+Completed R (Ok totals) p x y = Wrote x y (closing R p) × (totals ≡ final R p)
+Completed R (Err fault.Out) p x y = WroteFront x y (closing R p)
+Completed R (Err fault.Read) p x y = ⊥
+Completed R (Err fault.Turns) p x y = ⊥
+Completed R (Err fault.Failed) p x y = ⊥
+
+-- what the end of a run did, of which the engine held p
+abbrev pub Closed : RunSetup → Result Report RunFault → List ℕ → OutLog → OutLog → Type 0
+Closed w (Ok report) p x y = Ended w report p x y
+Closed w (Err fault.Out) p x y = WroteFront x y (end_text w.ending (reads_by w) p)
+Closed w (Err fault.Read) p x y = ⊥
+Closed w (Err fault.Turns) p x y = ⊥
+Closed w (Err fault.Failed) p x y = ⊥
+
+-- k turns, after all of which the stream goes on, did this to a stream p that the engine held
+pub record Going (R : Rules) (p s : List ℕ) (e : EngineView) (k : ℕ) (before after : SourceLog) (x y : OutLog) : Type 0 where
+  pub began : IsRunning p
+  pub running : IsRunning (p ++ s)
+  pub took : HasFed R p s e x y
+  pub left : Consumes before.left after.left s
+  pub octets : AreOctets s
+  pub reads : after.reads ≤ before.reads + k
+  pub exact : before.reads + k < 2 ^ 64 → after.reads ≡ before.reads + k
+  pub failures : after.failures ≡ before.failures
+  pub ends : after.ends ≡ before.ends

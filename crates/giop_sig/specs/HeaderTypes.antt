@@ -1,0 +1,94 @@
+-- Which built-in types are headers and bodies (GIOP Message Formats), and what holds of a catalogue as a whole (meaning).
+use Rattle.std.specs.Prelude.{◌≡◌, ℕ, suc, ◌<◌, ◌≤◌, ◌⊎◌, List, [], ◌∷◌, ◌++◌, length, Option, Some, None, slice_get, slice_index_or, codes}
+use Rattle.std.specs.List.{All}
+use Rattle.std.specs.Option.{option_map}
+use Rattle.giop_cdr.specs.declared.prim.Primitive.TheVariants.{ULong}
+use Rattle.giop_sig.specs.declared.numbers.TheConstants.{SHORT, STRING, IOR, SYSTEM_EXCEPTION, REQUEST_1_0, REQUEST_1_1, REQUEST_1_2, REPLY, REPLY_1_2, ID_ALONE, LOCATE_REQUEST, LOCATE_REQUEST_1_2, LOCATE_REPLY, LOCATE_REPLY_1_2}
+use Rattle.giop_sig.specs.declared.types.Fixed.{Fixed}
+use Rattle.giop_sig.specs.declared.types.Fixed.TheVariants as fixeds
+use Rattle.giop_sig.specs.Types.{Plain, Ty, Single, Struct}
+use Rattle.giop_sig.specs.Table.{Node, Operation, Exception, Table, no_operation, no_exception}
+use Rattle.giop_sig.specs.Trees.{AreTypes, type_in}
+use Rattle.giop_sig.specs.Builtin.{builtin_types}
+
+-- the numbers of the header types of each message type, in 1.0, 1.1 and 1.2
+abbrev pub header_rows : List (List (Option ℕ))
+header_rows =
+    -- Request, Reply, CancelRequest, LocateRequest, LocateReply
+    (Some REQUEST_1_0 ∷ Some REQUEST_1_1 ∷ Some REQUEST_1_2 ∷ [])
+    ∷ (Some REPLY ∷ Some REPLY ∷ Some REPLY_1_2 ∷ [])
+    ∷ (Some ID_ALONE ∷ Some ID_ALONE ∷ Some ID_ALONE ∷ [])
+    ∷ (Some LOCATE_REQUEST ∷ Some LOCATE_REQUEST ∷ Some LOCATE_REQUEST_1_2 ∷ [])
+    ∷ (Some LOCATE_REPLY ∷ Some LOCATE_REPLY ∷ Some LOCATE_REPLY_1_2 ∷ [])
+    -- CloseConnection, MessageError
+    ∷ (None ∷ None ∷ None ∷ [])
+    ∷ (None ∷ None ∷ None ∷ [])
+    -- Fragment
+    ∷ (None ∷ None ∷ Some ID_ALONE ∷ [])
+    ∷ []
+
+abbrev pub cell_of : Option (Option ℕ) → Option ℕ
+cell_of None = None
+cell_of (Some cell) = cell
+
+abbrev pub cell_in : Option (List (Option ℕ)) → ℕ → Option ℕ
+cell_in None minor = None
+cell_in (Some row) minor = cell_of (slice_get row minor)
+
+-- the number of the header type of a minor version and a message type
+abbrev pub header_number : ℕ → ℕ → Option ℕ
+header_number minor kind = cell_in (slice_get header_rows kind) minor
+
+-- the header type of a minor version and a message type
+abbrev pub header_type : ℕ → ℕ → Option Ty
+header_type minor kind = option_map (type_in builtin_types) (header_number minor kind)
+
+abbrev pub fixed_number : Fixed → ℕ
+fixed_number fixeds.ExceptionId = STRING
+fixed_number fixeds.SystemException = SYSTEM_EXCEPTION
+fixed_number fixeds.Forward = IOR
+fixed_number fixeds.Addressing = SHORT
+
+abbrev pub fixed_type : Fixed → Ty
+fixed_type fixed = type_in builtin_types (fixed_number fixed)
+
+-- a header that begins with the request id
+abbrev pub BeginsWithId : Ty → Type 0
+BeginsWithId T =
+    (count : ℕ) × (names : ℕ → List ℕ) × (parts : ℕ → Ty) × (T ≡ Struct (suc count) names parts)
+    × (names 0 ≡ codes "request_id") × (parts 0 ≡ Single (Plain ULong))
+
+-- where the request id is read before the type is: in all messages of 1.2 that have a header, and in every cancel request
+abbrev pub IdStandsFirst : ℕ → ℕ → Type 0
+IdStandsFirst minor kind = (minor ≡ 2) ⊎ (kind ≡ 2)
+
+-- ---- a catalogue's table
+
+-- an operation whose structs are in the table
+pub record IsOperation (types : List Node) (o : Operation) : Type 0 where
+  pub short : length o.name ≤ 128
+  pub request : o.request < length types
+  pub reply : o.reply < length types
+
+-- an exception whose struct is in the table
+pub record IsException (types : List Node) (e : Exception) : Type 0 where
+  pub short : length e.repository ≤ 128
+  pub members : e.members < length types
+
+-- no two have one name
+abbrev pub AreDistinct : {X : Type 0} → (X → List ℕ) → X → List X → Type 0
+AreDistinct name_in d xs =
+    (i j : ℕ) → i < length xs → j < length xs
+    → name_in (slice_index_or xs i d) ≡ name_in (slice_index_or xs j d) → i ≡ j
+
+-- a table that begins with the built-in types, within the limits
+pub record IsTable (t : Table) : Type 0 where
+  pub types : AreTypes t.types
+  pub begins : (more : List Node) × (t.types ≡ builtin_types ++ more)
+  pub operations : All (IsOperation t.types) t.operations
+  pub exceptions : All (IsException t.types) t.exceptions
+  pub operations_distinct : AreDistinct (λ o. o.name) no_operation t.operations
+  pub exceptions_distinct : AreDistinct (λ e. e.repository) no_exception t.exceptions
+  pub operations_few : length t.operations ≤ 4096
+  pub exceptions_few : length t.exceptions ≤ 4096
+  pub declared_few : t.declared ≤ 4096

@@ -1,0 +1,119 @@
+-- What is so of every stream, octet for octet: what `Soundness` says, and that a message which begins with its request id is not
+-- over before that is complete.
+use Rattle.std.proofs.Common.{inl, inr, ◌⊎◌, ◌≡◌, ℕ, suc, ◌-◌, ◌<◌, ◌≤◌, true, List, [], ◌∷◌, ◌++◌, length, get_or, refl, sym, ap, ◌∙◌, Some, None, arith, append-nil}
+use Rattle.std.specs.List.{AllByRecursion as Each}
+use Rattle.std.proofs.lemmas.List.{length_push, get_or_push}
+use Rattle.giop_message.specs.Headers.{size, has_name}
+use Rattle.giop_message.specs.MessageReader.{MessageReader, End, IsCausal, IsStreamable}
+use Rattle.giop_stream.specs.Rules.{Rules}
+use Rattle.giop_stream.specs.Framing.{Message, Cut, cut, messages}
+use Rattle.giop_stream.specs.Events.{Takes, Event, Rising, message_key, place, events_of_octet, events, open_after}
+use Rattle.giop_stream.specs.OpenSlots.{octets_of}
+use Rattle.giop_stream.specs.Effects.{Tracked, Effect, octets_then, effects, one_effect, starts, with_octet, tracked_after}
+use Rattle.giop_stream.specs.Octet.{Octet, AfterStop, Ends, Held, Of, octet_of}
+use Rattle.giop_stream.proofs.Lists.{by_growth}
+use Rattle.giop_stream.proofs.Cuts.Cutting.{stopped_at, of_parts}
+use Rattle.giop_stream.proofs.Events.EventsKeep.{IsFew}
+use Rattle.giop_stream.proofs.Cuts.Start.{sound_start}
+use Rattle.giop_stream.proofs.SlotSteps.OneSlotChanges.{own_then}
+use Rattle.giop_stream.proofs.SlotSteps.Cases.{octet_own, header_begins}
+use Rattle.giop_stream.proofs.StreamLines.Accepted.{named_accepted}
+use Rattle.giop_stream.proofs.StreamLines.IdBeforeEnd.{IsAlive, alive_start, named_then, early_octet, first_octet, settled_is, not_past}
+use Rattle.giop_stream.proofs.Events.Soundness.{IsSound}
+use Rattle.giop_stream.proofs.CodeSteps.OneOctet.{Then, then_is}
+
+known_is : (R : Rules) (p : List ℕ) (i : ℕ) → (tracked_after R p).known i ≡ octets_of R p i
+unfolding tracked_after
+known_is R p i = refl
+
+module _ (R : Rules) (laws : IsStreamable R.reading) (p : List ℕ) (x : ℕ) (sound : IsSound R p) (alive : IsAlive R p) where
+  -- what is kept of the message then
+  kept_now : (m : Message) → (cut p).stop ≡ None → length m.payload ≤ size m.header → length m.payload < size m.header → m.number ≡ suc (length (cut p).whole) → has_name m.header ≡ true → length m.payload < 4
+      → (((cut p).current ≡ None) × (m.payload ≡ [])) ⊎ ((was : Message) × ((cut p).current ≡ Some was) × (m ≡ with_octet was x)) → (effects R.reading (tracked_after R p) (events_of_octet R.most (open_after R.most p) m)).tracked.known m.number ≡ Some m.payload
+  unfolding messages
+  kept_now m st fits lacks number name few (inl (cur, none)) =
+      let free : length m.payload ≡ 0 = ap length none in
+      let count : length (messages (cut p)) ≡ length (cut p).whole = rw cur (ap length (append-nil (cut p).whole)) in
+      let known : octets_of R p m.number ≡ Some [] = sound.unknown m.number (omega (arith, count, number)) in
+      let some : 0 < size m.header = omega (arith, lacks, free) in
+      let stepped : effects R.reading (tracked_after R p) (events_of_octet R.most (open_after R.most p) m) ≡ record { tracked = tracked_after R p; lines = starts m ∷ [] } = rw (first_octet R.most (open_after R.most p) m free some) (header_begins R.reading (tracked_after R p) m [] (known_is R p m.number ∙ known) (named_accepted m.header name)) in
+      ap (λ (q : Effect). q.tracked.known m.number) stepped ∙ (known_is R p m.number ∙ (known ∙ ap Some (sym none)))
+  kept_now m st fits lacks number name few (inr (was, cur, is)) = rw is (next was cur (rw is at name) (rw is at few) (rw is at lacks))
+    where
+      next : (was : Message) → (cut p).current ≡ Some was → has_name was.header ≡ true → length (was.payload ++ x ∷ []) < 4 → length (was.payload ++ x ∷ []) < size was.header → (effects R.reading (tracked_after R p) (events_of_octet R.most (open_after R.most p) (with_octet was x))).tracked.known was.number ≡ Some (was.payload ++ x ∷ [])
+      next was cur name few lacks =
+          let m = with_octet was x in
+          let long = length_push was.payload x in
+          let known : octets_of R p was.number ≡ Some was.payload = alive st was cur name (omega (arith, few, long)) in
+          let last : get_or m.payload (length m.payload - 1) 0 ≡ x = get_or_push was.payload x 0 (length m.payload - 1) (omega (arith, long)) in
+          let e : Event = record { place = place m; subject = message_key was; what = Takes x } in
+          let stepped : effects R.reading (tracked_after R p) (events_of_octet R.most (open_after R.most p) m) ≡ one_effect R.reading (tracked_after R p) (place m) (message_key was) (Takes x) = rw (early_octet R.most (open_after R.most p) m (omega (arith, long)) few lacks, octet_own R.reading (tracked_after R p) (open_after R.most p) m (not_past m (omega (arith, few))), last) refl in
+          ap (λ (q : Effect). q.tracked.known was.number) stepped ∙ (own_then R.reading (tracked_after R p) e ∙ (ap (octets_then R.reading e) (known_is R p was.number ∙ known) ∙ named_then R.reading laws (place m) (message_key was) was.payload x name (omega (arith, few, long))))
+
+  pub alive_then : (o : Octet) → Then R p x o → IsAlive R (p ++ x ∷ [])
+  unfolding stopped_at of_parts
+  alive_then AfterStop h st m cur name few = absurd (let no : Some h.0 ≡ None = sym h.1 ∙ (ap (λ (c : Cut). c.stop) (sym h.2.cut_is) ∙ st) in cc)
+  alive_then (Ends fault) h st m cur name few = absurd (let no : Some (suc (length p), fault) ≡ None = ap (λ (c : Cut). c.stop) (sym h.1.cut_is) ∙ st in cc)
+  alive_then (Held front) h st m cur name few = absurd (let no : None ≡ Some m = ap (λ (c : Cut). c.current) (sym h.2.cut_is) ∙ cur in cc)
+  alive_then (Of now) h st m cur name few =
+      let one = h.1 in
+      let adds = one.adds in
+      let s = settled_is (cut p).whole one.m m (ap (λ (c : Cut). c.current) (sym adds.cut_is) ∙ cur) in
+      let same = s.same in
+      let name' : has_name one.m.header ≡ true = ap (λ (n : Message). has_name n.header) (sym same) ∙ name in
+      let few' : length one.m.payload < 4 = omega (arith, few, ap (λ (n : Message). length n.payload) same) in
+      sym (known_is R (p ++ x ∷ []) m.number)
+      ∙ (ap (λ (c : Tracked). c.known m.number) adds.tracked_after
+      ∙ (ap (λ (n : Message). (effects R.reading (tracked_after R p) (events_of_octet R.most (open_after R.most p) one.m)).tracked.known n.number) same ∙ (kept_now one.m h.0 one.fits s.lacks one.number_is name' few' one.from ∙ ap (λ (n : Message). Some n.payload) (sym same))))
+
+-- ---- What is kept throughout.
+
+sound_by : (R : Rules) (p : List ℕ) (x : ℕ) (o : Octet) → Then R p x o → IsSound R (p ++ x ∷ [])
+sound_by R p x (Ends fault) h = h.1.sound
+sound_by R p x (Of now) h = h.1.adds.sound
+sound_by R p x _ h = h.2.sound
+
+record IsKept (R : Rules) (p : List ℕ) : Type 0 where
+  sound : IsSound R p
+  alive : IsAlive R p
+
+kept : (R : Rules) → IsCausal R.reading → IsStreamable R.reading → (p : List ℕ) → IsKept R p
+kept R causal laws = by_growth (IsKept R) (record { sound = sound_start R; alive = alive_start R }) (λ p x h.
+    let octet = then_is R causal laws p x h.sound in
+    record { sound = sound_by R p x (octet_of (cut p) (length p) x) octet; alive = alive_then R laws p x h.sound h.alive (octet_of (cut p) (length p) x) octet })
+
+pub sound : (R : Rules) → IsCausal R.reading → IsStreamable R.reading → (p : List ℕ) → IsSound R p
+sound R causal laws p = (kept R causal laws p).sound
+
+pub alive : (R : Rules) → IsCausal R.reading → IsStreamable R.reading → (p : List ℕ) → IsAlive R p
+alive R causal laws p = (kept R causal laws p).alive
+
+-- ---- What depends on no reading.
+
+mute : MessageReader
+mute = record { reads = λ header xs. []; closes = λ header xs. (End, []) ∷ [] }
+
+abbrev mute_rules : ℕ → Rules
+mute_rules most = record { reading = mute; most = most }
+
+mute_causal : IsCausal mute
+unfolding mute
+mute_causal = record { earlier = λ header xs more k h. refl }
+
+mute_in_turn : IsStreamable mute
+unfolding mute
+mute_in_turn = record {
+  named = record { named = λ header xs name few. tt };
+  ordered = record { ordered = λ header xs k. inl refl };
+  closing = record { closed = λ header xs. inr (inl refl); over = λ header xs x no. absurd cc; one_rest = λ header xs x no. absurd cc };
+}
+
+pub few_open : (most : ℕ) (p : List ℕ) → length (open_after most p) ≤ most
+unfolding IsFew
+few_open most p = (sound (mute_rules most) mute_causal mute_in_turn p).still_open.few
+
+pub rising_open : (most : ℕ) (p : List ℕ) → Rising (open_after most p)
+rising_open most p = (sound (mute_rules most) mute_causal mute_in_turn p).rising
+
+pub early_events : (most : ℕ) (p : List ℕ) → Each (λ e. e.place ≤ length p) (events most p)
+early_events most p = (sound (mute_rules most) mute_causal mute_in_turn p).places

@@ -1,0 +1,92 @@
+-- Octets that only add to a header, all at once: the code does their steps, and writes nothing.
+use Rattle.std.proofs.Common.{◌≡◌, ℕ, suc, ◌+◌, ◌^◌, ◌<◌, ◌≤◌, List, [], ◌∷◌, ◌++◌, length, take, refl, sym, ap, subst, ◌∙◌, append_assoc, append-nil, None, arith}
+use Rattle.std.proofs.lemmas.List.{length_push}
+use Rattle.giop_sig.specs.Table.{Table}
+use Rattle.giop_message.specs.Signatures.{RequestTable}
+use Rattle.giop_stream.specs.HeaderOctets.{wrong}
+use Rattle.giop_stream.specs.Rules.{Rules, rules}
+use Rattle.giop_stream.specs.EngineView.{FramingView}
+use Rattle.giop_stream.specs.EngineState.{State}
+use Rattle.giop_stream.specs.EngineStep.{held_on, run, run_state}
+use Rattle.giop_stream.specs.FramingSteps as steps
+use Rattle.giop_stream.specs.ViewOfState.{Shows}
+use Rattle.giop_stream.proofs.CodeSteps.OutsideMessages.{held_step, held_shows}
+
+-- None of these octets is wrong, behind these of a header.
+abbrev pub AreRight : List ℕ → List ℕ → Type 0
+AreRight front octets = (k : ℕ) → k < length octets → wrong (front ++ take (k + 1) octets) ≡ None
+
+take_more : (k x : ℕ) (xs : List ℕ) → take (k + 1) (x ∷ xs) ≡ x ∷ take k xs
+take_more k x xs = let one : k + 1 ≡ suc k = omega arith in rw one refl
+
+right_first : (front : List ℕ) (x : ℕ) (xs : List ℕ) → AreRight front (x ∷ xs) →
+    wrong (front ++ x ∷ []) ≡ None
+right_first front x xs h = h 0 (omega arith)
+
+right_more : (front : List ℕ) (x : ℕ) (xs : List ℕ) → AreRight front (x ∷ xs) →
+    AreRight (front ++ x ∷ []) xs
+right_more front x xs h =
+    λ k less. ap wrong (append_assoc front (x ∷ []) (take (k + 1) xs) ∙ ap (λ (z : List ℕ). front ++ z) (sym (take_more (k + 1) x xs)))
+    ∙ h (k + 1) (omega (arith, less))
+
+-- what is remembered with them
+abbrev pub held_all : FramingView → List ℕ → FramingView
+held_all m xs = record m { totals = record m.totals { octets = m.totals.octets + length xs }; header = m.header ++ xs }
+
+held_none : (m : FramingView) → held_all m [] ≡ m
+held_none m =
+    let none : m.totals.octets + 0 ≡ m.totals.octets = omega arith in
+    λ j. record m { totals = record m.totals { octets = none j }; header = append-nil m.header j }
+
+held_more : (m : FramingView) (x : ℕ) (xs : List ℕ) →
+    held_all (steps.held_on m x) xs ≡ held_all m (x ∷ xs)
+unfolding steps.held_on
+held_more m x xs =
+    let count : suc m.totals.octets + length xs ≡ m.totals.octets + length (x ∷ xs) = omega arith in
+    λ j. record m { totals = record m.totals { octets = count j }; header = append_assoc m.header (x ∷ []) xs j }
+
+-- there is room for them in a header and in the stream, behind what is held
+pub record Fit (m : FramingView) (xs : List ℕ) : Type 0 where
+  pub free : m.stopped ≡ None
+  pub few : length m.header + length xs < 12
+  pub room : m.totals.octets + length xs ≤ 2 ^ 48
+  pub right : AreRight m.header xs
+
+fit_more : (m : FramingView) (x : ℕ) (xs : List ℕ) → Fit m (x ∷ xs) → Fit (steps.held_on m x) xs
+unfolding steps.held_on
+fit_more m x xs f = record {
+  free = f.free;
+  few = omega (arith, f.few, length_push m.header x);
+  room = omega (arith, f.room);
+  right = right_more m.header x xs f.right;
+}
+
+module _ (C : Table) (l : RequestTable) (most : ℕ) where
+  abbrev R : Rules
+  R = rules C l most
+
+  pub heads_show : (xs : List ℕ) (m : FramingView) (s : State) → Shows C l m s → Fit m xs →
+      Shows C l (held_all m xs) (run_state R s xs)
+  unfolding run_state
+  heads_show [] m s h f = subst (λ (n : FramingView). Shows C l n s) (sym (held_none m)) h
+  heads_show (x ∷ xs) m s h f =
+      let other : length (m.header ++ x ∷ []) ≡ 12 → ⊥ = λ e. omega (arith, f.few, length_push m.header x, e) in
+      let room : m.totals.octets < 2 ^ 48 = omega (arith, f.room) in
+      let few : length m.header < 12 = omega (arith, f.few) in
+      let more =
+      heads_show xs (steps.held_on m x) (held_on s (m.header ++ x ∷ [])).state (held_shows C l most m s h x f.free room few other)
+      (fit_more m x xs f) in
+      rw (held_step C l most m s h x f.free room few (right_first m.header x xs f.right) other)
+      (subst (λ (n : FramingView). Shows C l n (run_state R (held_on s (m.header ++ x ∷ [])).state xs)) (held_more m x xs) more)
+
+  pub heads_quiet : (xs : List ℕ) (m : FramingView) (s : State) → Shows C l m s → Fit m xs →
+      run R s xs ≡ []
+  unfolding run held_on
+  heads_quiet [] m s h f = refl
+  heads_quiet (x ∷ xs) m s h f =
+      let other : length (m.header ++ x ∷ []) ≡ 12 → ⊥ = λ e. omega (arith, f.few, length_push m.header x, e) in
+      let room : m.totals.octets < 2 ^ 48 = omega (arith, f.room) in
+      let few : length m.header < 12 = omega (arith, f.few) in
+      rw (held_step C l most m s h x f.free room few (right_first m.header x xs f.right) other)
+      (heads_quiet xs (steps.held_on m x) (held_on s (m.header ++ x ∷ [])).state (held_shows C l most m s h x f.free room few other)
+      (fit_more m x xs f))

@@ -1,0 +1,80 @@
+-- A call does a step, by what it makes of a stream; and what is remembered behind a message's last octet.
+use Rattle.std.proofs.Common.{inl, inr, ◌≡◌, ℕ, ◌+◌, ◌<◌, ◌≤◌, Bool, true, false, List, [], ◌∷◌, ◌++◌, length, refl, sym, subst, ◌∙◌, Option, Some, None, Result, Ok, Err, IsErr, arith}
+use Rattle.std.specs.Prelude.{◌==◌, if◌then◌else◌, OnOk}
+use Rattle.std.proofs.lemmas.Bool.{cases_lt, lt-ltb, le-ltb, eq-eqb, ne_eqb, false≢true}
+use Rattle.std.proofs.lemmas.List.{append_cancel_left}
+use Rattle.giop_print.specs.Output.{OutLog, Writes}
+use Rattle.giop_sig.specs.Table.{Table}
+use Rattle.giop_message.specs.Headers.{size}
+use Rattle.giop_message.specs.Signatures.{RequestTable}
+use Rattle.giop_checkpoint.specs.declared.fault.StreamFault.{StreamFault}
+use Rattle.giop_stream.specs.Rules.{rules}
+use Rattle.giop_stream.specs.Framing.{Message, fault_of}
+use Rattle.giop_stream.specs.Events.{Open}
+use Rattle.giop_stream.specs.Lines.{Line, lines}
+use Rattle.giop_stream.specs.Text.{lines_text}
+use Rattle.giop_stream.specs.SlotsRepresent.{AreReady}
+use Rattle.giop_stream.specs.PayloadOwner.{owner_of_next_in, owner_after}
+use Rattle.giop_stream.specs.EngineView.{FramingView}
+use Rattle.giop_stream.specs.EngineState.{State, state_of}
+use Rattle.giop_stream.specs.EngineStep.{Step}
+use Rattle.giop_stream.specs.FramingSteps.{end_message as settled}
+use Rattle.giop_stream.specs.ViewOfState.{Shows, Does}
+use Rattle.giop_stream.proofs.Cuts.Cutting.{of_parts}
+use Rattle.giop_stream.proofs.Cuts.CutFrom.{end_message}
+
+-- ---- A call does a step, by what it makes of a stream.
+
+pub does_by : {A E : Type 0} (C : Table) (l : RequestTable) (most : ℕ) (p q : List ℕ) (one : Step) (ls : List Line) (result : Result A E) (before after : OutLog) (f : FramingView)
+    → (let R = rules C l most in state_of R q ≡ one.state → lines R q ≡ lines R p ++ one.lines
+    → lines R q ≡ lines R p ++ ls → Writes result before after (lines_text ls) → OnOk result (Shows C l f (state_of R q))
+    → Does C l result before after f one)
+does_by C l most p q one ls result before after f state more grows text shows =
+    let R = rules C l most in
+    let same : one.lines ≡ ls = append_cancel_left (lines R p) one.lines ls (sym more ∙ grows) in
+    record { text = rw same text; shows = subst (λ (s : State). OnOk result (Shows C l f s)) state shows }
+
+-- where a put failed nothing is said of the fields
+pub on_err : {A E : Type 0} (P : Type 0) (r : Result A E) → IsErr r → OnOk r P
+on_err P (Ok x) h = absurd (false≢true h)
+on_err P (Err e) h = tt
+
+-- ---- Behind a message's last octet, and within it.
+
+pub settled_on : (m : FramingView) (n : ℕ) → (m.payload_count ≡ n → ⊥) → settled m n ≡ m
+unfolding settled
+settled_on m n other = rw (ne_eqb m.payload_count n other) refl
+
+pub settled_off : (m : FramingView) (n : ℕ) → m.payload_count ≡ n → settled m n ≡ record m { header = []; payload_count = 0 }
+unfolding settled
+settled_off m n same = rw (eq-eqb m.payload_count n same) refl
+
+pub goes_on : (whole : List Message) (m : Message) → length m.payload < size m.header → end_message whole m ≡ of_parts whole (Some m) [] None
+unfolding end_message of_parts
+goes_on whole m less = rw (lt-ltb (length m.payload) (size m.header) less) refl
+
+pub goes_off : (whole : List Message) (m : Message) → size m.header ≤ length m.payload → end_message whole m ≡ of_parts (whole ++ m ∷ []) None [] None
+unfolding end_message of_parts
+goes_off whole m more = rw (le-ltb (length m.payload) (size m.header) more) refl
+
+pub whose_settled : (still_open : List Open) (whole : List Message) (m : Message) → length m.payload ≤ size m.header
+    → owner_of_next_in still_open (end_message whole m).current ≡ owner_after still_open m
+unfolding end_message owner_after
+whose_settled still_open whole m fits = elim (cases_lt (length m.payload) (size m.header)) [
+  | inl less ↦ rw (lt-ltb (length m.payload) (size m.header) less, ne_eqb (length m.payload) (size m.header) (λ e. omega (arith, less, e))) refl
+  | inr more ↦ rw (le-ltb (length m.payload) (size m.header) more, eq-eqb (length m.payload) (size m.header) (omega (arith, more, fits))) refl
+]
+
+-- what can take the next octet can behind a message's last octet
+pub ready_settled : (C : Table) (m m' : FramingView) (n place : ℕ) → m' ≡ settled m n → place ≡ m.totals.octets
+    → AreReady C (place + 1) m.slots → AreReady C (m'.totals.octets + 1) m'.slots
+unfolding settled
+ready_settled C m m' n place e is h = rw e (go (m.payload_count == n))
+  where
+    go : (b : Bool) → (let m : FramingView = if b then record m { header = []; payload_count = 0 } else m in AreReady C (m.totals.octets + 1) m.slots)
+    go true = rw (← is) h
+    go false = rw (← is) h
+
+pub none_stops : (o : Option (ℕ × StreamFault)) → fault_of o ≡ None → o ≡ None
+none_stops None e = refl
+none_stops (Some found) e = absurd cc

@@ -1,0 +1,353 @@
+-- What the code does at an octet of a message, over what its fields show of a stream: the step.
+use Rattle.std.proofs.Common.{inl, inr, ◌≡◌, ℕ, suc, ◌+◌, ◌^◌, ◌<◌, ◌≤◌, List, [], ◌∷◌, ◌++◌, length, refl, sym, ap, subst, ◌∙◌, append-nil, Option, Some, None, Result, arith}
+use Rattle.std.specs.Prelude.{OnOk}
+use Rattle.std.proofs.lemmas.Bool.{cases_lt}
+use Rattle.std.proofs.lemmas.List.{length_push}
+use Rattle.std.proofs.lemmas.List.Elements.{All-append}
+use Rattle.giop_cdr.specs.Numbers.{AreOctets}
+use Rattle.giop_print.specs.Output.{OutLog, Writes}
+use Rattle.giop_sig.specs.Table.{Table}
+use Rattle.giop_message.specs.Headers.{size}
+use Rattle.giop_message.specs.MessageReader.{IsCausal}
+use Rattle.giop_message.specs.Signatures.{RequestTable, signatures_of}
+use Rattle.giop_message.proofs.MessageLaws.{is_causal}
+use Rattle.giop_stream.specs.declared.status.Totals.{Totals}
+use Rattle.giop_stream.specs.declared.slots.Slots.{Slots}
+use Rattle.giop_stream.specs.declared.current.Current.{Current}
+use Rattle.giop_stream.specs.HeaderOctets.{wrong, first_wrong_octet}
+use Rattle.giop_stream.specs.Rules.{Rules, rules}
+use Rattle.giop_stream.specs.Framing.{Message, Cut, cut, messages}
+use Rattle.giop_stream.specs.Events.{events_of_octet, open_after}
+use Rattle.giop_stream.specs.Lines.{Line, lines}
+use Rattle.giop_stream.specs.Text.{lines_text}
+use Rattle.giop_stream.specs.Stream.{fault_count, tally}
+use Rattle.giop_stream.specs.Effects.{Tracked, Effect, effects, tracked_after, with_octet}
+use Rattle.giop_stream.specs.SlotsRepresent.{SlotsRepresent}
+use Rattle.giop_stream.specs.PayloadOwner.{IsBeforeOctet, IsBeforeMessage, IsNewest, SlotsRepresentStream, owner_of_next_in, owner_after}
+use Rattle.giop_stream.specs.EngineView.{FramingView}
+use Rattle.giop_stream.specs.Octet.{header_of, come_of}
+use Rattle.giop_stream.specs.EngineState.{State, state_of}
+use Rattle.giop_stream.specs.EngineStep.{step, run_state, runs}
+use Rattle.giop_stream.specs.FramingSteps.{held_on, end_message as settled}
+use Rattle.giop_stream.specs.ViewOfState.{IsReached, Shows, Does}
+use Rattle.giop_stream.proofs.Lists.{each_weaker}
+use Rattle.giop_stream.proofs.Cuts.Cutting.{of_parts}
+use Rattle.giop_stream.proofs.Cuts.CutFrom.{end_message}
+use Rattle.giop_stream.proofs.Events.Soundness.{CurrentFits, Fits, IsSound}
+use Rattle.giop_stream.proofs.Events.StepCases.{place_more, place_first}
+use Rattle.giop_stream.proofs.Events.StepCases.{if_some}
+use Rattle.giop_stream.proofs.SlotSteps.Parts.{in_turn}
+use Rattle.giop_stream.proofs.Cuts.OfOctets.{header_octets, size_fits}
+use Rattle.giop_stream.proofs.SlotSteps.RequestIds.{says_id}
+use Rattle.giop_stream.proofs.CodeSteps.OneOctet.{Adds, beginner, paid_is, begins_is}
+use Rattle.giop_stream.proofs.CodeSteps.EngineStep.{tally_settled}
+use Rattle.giop_stream.proofs.CodeSteps.NextOctet.{read_all}
+use Rattle.giop_stream.proofs.CodeSteps.EngineAlive.{sound, alive}
+use Rattle.giop_stream.proofs.CodeSteps.EngineLaws.{step_state, step_lines, run_holds, run_lines}
+use Rattle.giop_stream.proofs.CodeSteps.SlotsToState.{come_state, shows_by, knows_it}
+use Rattle.giop_stream.proofs.CodeSteps.OutsideMessages.{within_limit}
+use Rattle.giop_stream.proofs.CodeSteps.MessageEnds.{does_by, settled_on, settled_off, goes_on, goes_off, whose_settled, none_stops}
+
+-- ---- A state of a stream.
+
+-- and of more of it
+pub reached_on : (C : Table) (l : RequestTable) (most : ℕ) (s : State) (q : List ℕ) → AreOctets q → IsReached C l most s → IsReached C l most (run_state (rules C l most) s q)
+reached_on C l most s q octets r =
+    let R = rules C l most in
+    record {
+      stream = r.stream ++ q;
+      octets = All-append (λ x. x < 256) r.stream q r.octets octets;
+      held = ap (λ (t : State). run_state R t q) r.held ∙ sym (run_holds R (is_causal (signatures_of C l)) (in_turn C l) r.stream q);
+    }
+
+-- where as many messages may be open
+pub reached_at : (C : Table) (l : RequestTable) (n most : ℕ) (s : State) → n ≡ most → IsReached C l n s → IsReached C l most s
+reached_at C l n most s same r = subst (λ (k : ℕ). IsReached C l k s) same r
+
+module _ (C : Table) (l : RequestTable) (most : ℕ) (s : State) (reached : IsReached C l most s) (m : FramingView) (h : Shows C l m s) where
+  abbrev R : Rules
+  R = rules C l most
+
+  abbrev pub p : List ℕ
+  p = reached.stream
+
+  causal : IsCausal R.reading
+  causal = is_causal (signatures_of C l)
+
+  so : IsSound R p
+  so = sound R causal (in_turn C l) p
+
+  at_p : Shows C l m (state_of R p)
+  at_p = subst (Shows C l m) reached.held h
+
+  -- a call that adds this to the stream does the step,
+  pub does_step : {A E : Type 0} (x : ℕ) (ls : List Line) (result : Result A E) (before after : OutLog) (f : FramingView)
+      → lines R (p ++ x ∷ []) ≡ lines R p ++ ls → Writes result before after (lines_text ls)
+      → OnOk result (Shows C l f (state_of R (p ++ x ∷ []))) → Does C l result before after f (step R s x)
+  does_step x ls result before after f grows text shows =
+      subst (λ (t : State). Does C l result before after f (step R t x)) (sym reached.held)
+      (does_by C l most p (p ++ x ∷ []) (step R (state_of R p) x) ls result before after f
+      (step_state R causal (in_turn C l) p x) (step_lines R causal (in_turn C l) p x) grows text shows)
+
+  -- and a run
+  pub does_run : {A E : Type 0} (q : List ℕ) (ls : List Line) (result : Result A E) (before after : OutLog) (f : FramingView)
+      → lines R (p ++ q) ≡ lines R p ++ ls → Writes result before after (lines_text ls)
+      → OnOk result (Shows C l f (state_of R (p ++ q))) → Does C l result before after f (runs R s q)
+  does_run q ls result before after f grows text shows =
+      subst (λ (t : State). Does C l result before after f (runs R t q)) (sym reached.held)
+      (does_by C l most p (p ++ q) (runs R (state_of R p) q) ls result before after f (run_holds R causal (in_turn C l) p q)
+      (run_lines R causal (in_turn C l) p q) grows text shows)
+
+  -- ---- What the fields say of the stream, where the reading goes on.
+
+  module _ (free : m.stopped ≡ None) where
+    pub runs_on : (cut p).stop ≡ None
+    unfolding state_of
+    runs_on = none_stops (cut p).stop (sym at_p.stopped ∙ free)
+
+    header_at : m.header ≡ header_of (cut p).current (cut p).held
+    unfolding state_of
+    header_at = at_p.header ∙ rw runs_on refl
+
+    come_at : m.payload_count ≡ come_of (cut p).current
+    come_at = at_p.payload_count ∙ (come_state R p so ∙ rw runs_on refl)
+
+    pub all_read : m.totals.octets ≡ length p
+    unfolding state_of tally
+    all_read = ap (λ (t : Totals). t.octets) at_p.totals ∙ read_all p runs_on
+
+    fits_at : Fits (length p) (cut p)
+    fits_at = so.fits runs_on
+
+    pub knows_at : SlotsRepresentStream C l most m.slots p
+    knows_at = knows_it C l most p m runs_on at_p
+
+    -- a header that isn't whole is that of no message yet
+    no_current : length m.header < 12 → (cut p).current ≡ None
+    no_current few = go (cut p).current refl
+      where
+        go : (o : Option Message) → (cut p).current ≡ o → o ≡ None
+        go None e = refl
+        go (Some c) e =
+            let fit = if_some (CurrentFits (length p) (cut p)) (cut p).current c e fits_at.current in
+            let same : m.header ≡ c.header = header_at ∙ ap (λ (o : Option Message). header_of o (cut p).held) e in
+            let whole : length m.header ≡ 12 = ap length same ∙ fit.twelve in
+            absurd (omega (arith, few, whole))
+
+    -- and one that is, is the current message's
+    pub has_current : length m.header ≡ 12 → (c : Message) × ((cut p).current ≡ Some c)
+    has_current full = go (cut p).current refl
+      where
+        go : (o : Option Message) → (cut p).current ≡ o → (c : Message) × ((cut p).current ≡ Some c)
+        go (Some c) e = (c, e)
+        go None e =
+            let same : m.header ≡ (cut p).held = header_at ∙ ap (λ (o : Option Message). header_of o (cut p).held) e in
+            absurd (omega (arith, full, ap length same, fits_at.short))
+
+  messages_at : m.totals.messages ≡ length (messages (cut p))
+  unfolding state_of tally
+  messages_at = ap (λ (t : Totals). t.messages) at_p.totals ∙ so.starts
+
+  pub faults_at : m.totals.faults ≡ fault_count (lines R p)
+  unfolding state_of tally
+  faults_at = ap (λ (t : Totals). t.faults) at_p.totals
+
+  -- ---- What they show once the octet of this message is done with.
+
+  abbrev pub effect_of : Message → Effect
+  effect_of n = effects R.reading (tracked_after R p) (events_of_octet most (tracked_after R p).still_open n)
+
+  module _ (x : ℕ) (n : Message) (fits : length n.payload ≤ size n.header) (number : n.number ≡ suc (length (cut p).whole))
+      (adds : Adds R p (p ++ x ∷ []) (end_message (cut p).whole n) (effect_of n).lines (effect_of n).tracked) where
+    knows_then : (slots : Slots) → SlotsRepresent C l slots (effect_of n).tracked (owner_after (effect_of n).tracked.still_open n) → SlotsRepresentStream C l most slots (p ++ x ∷ [])
+    unfolding tracked_after
+    knows_then slots keeps =
+        let p' = p ++ x ∷ [] in
+        let who : owner_after (tracked_after R p').still_open n ≡ owner_of_next_in (open_after most p') (cut p').current =
+        sym (ap (λ (d : Cut). owner_of_next_in (open_after most p') d.current) adds.cut_is
+        ∙ whose_settled (open_after most p') (cut p).whole n fits) in
+        subst (SlotsRepresent C l slots (tracked_after R p')) who (subst (λ (d : Tracked). SlotsRepresent C l slots d (owner_after d.still_open n)) (sym adds.tracked_after) keeps)
+
+    settled_shows : (b f : FramingView) (k : ℕ) → f ≡ settled b k → b.totals.messages ≡ n.number
+        → b.totals.faults ≡ m.totals.faults + fault_count (effect_of n).lines → b.totals.octets ≡ suc (length p)
+        → b.stopped ≡ None → b.header ≡ n.header → b.payload_count ≡ length n.payload → k ≡ size n.header
+        → SlotsRepresent C l b.slots (effect_of n).tracked (owner_after (effect_of n).tracked.still_open n) → Shows C l f (state_of R (p ++ x ∷ []))
+    unfolding of_parts tracked_after
+    settled_shows b f k e messages faults octets stopped header payload_count sized keeps =
+        let p' = p ++ x ∷ [] in
+        let all : b.totals.faults ≡ fault_count (lines R p) + fault_count (effect_of n).lines = omega (arith, faults, faults_at) in
+        let totals : b.totals ≡ tally R p' =
+        (λ j. record { messages = messages j; faults = all j; octets = octets j })
+        ∙ sym (tally_settled R p x n number adds) in
+        rw e (elim (cases_lt (length n.payload) (size n.header)) [
+          | inl less ↦
+              rw (settled_on b k (λ same. omega (arith, same, payload_count, sized, less)))
+              (shows_by C l most p' b (of_parts (cut p).whole (Some n) [] None)
+              (adds.cut_is ∙ goes_on (cut p).whole n less) refl totals stopped header payload_count (knows_then b.slots keeps))
+          | inr more ↦
+              rw (settled_off b k (omega (arith, payload_count, sized, more, fits)))
+              (shows_by C l most p' (record b { header = []; payload_count = 0 }) (of_parts ((cut p).whole ++ n ∷ []) None [] None)
+              (adds.cut_is ∙ goes_off (cut p).whole n more) refl totals stopped refl refl (knows_then b.slots keeps))
+        ])
+
+  -- ---- A header's last octet.
+
+  module _ (x : ℕ) (b : FramingView) (e : b ≡ held_on m x) (full : length b.header ≡ 12) (right : wrong b.header ≡ None)
+      (free : b.stopped ≡ None) (room : b.totals.octets ≤ 2 ^ 48) where
+    ran : m.stopped ≡ None
+    unfolding held_on
+    ran = ap (λ (n : FramingView). n.stopped) (sym e) ∙ free
+
+    header_was : b.header ≡ m.header ++ x ∷ []
+    unfolding held_on
+    header_was = ap (λ (n : FramingView). n.header) e
+
+    octets_was : b.totals.octets ≡ suc m.totals.octets
+    unfolding held_on
+    octets_was = ap (λ (n : FramingView). n.totals.octets) e
+
+    messages_was : b.totals.messages ≡ m.totals.messages
+    unfolding held_on
+    messages_was = ap (λ (n : FramingView). n.totals.messages) e
+
+    faults_was : b.totals.faults ≡ m.totals.faults
+    unfolding held_on
+    faults_was = ap (λ (n : FramingView). n.totals.faults) e
+
+    come_was : b.payload_count ≡ m.payload_count
+    unfolding held_on
+    come_was = ap (λ (n : FramingView). n.payload_count) e
+
+    slots_was : b.slots ≡ m.slots
+    unfolding held_on
+    slots_was = ap (λ (n : FramingView). n.slots) e
+
+    cur : (cut p).current ≡ None
+    cur = no_current ran (omega (arith, length_push m.header x, full, ap length header_was))
+
+    header_now : b.header ≡ (cut p).held ++ x ∷ []
+    header_now = header_was ∙ ap (λ (front : List ℕ). front ++ x ∷ []) (header_at ran ∙ ap (λ (o : Option Message). header_of o (cut p).held) cur)
+
+    -- the message that begins
+    abbrev pub first : Message
+    first = beginner (cut p).whole (suc (length p)) ((cut p).held ++ x ∷ [])
+
+    first_adds : Adds R p (p ++ x ∷ []) (end_message (cut p).whole first) (effect_of first).lines (effect_of first).tracked
+    unfolding tracked_after
+    first_adds =
+        begins_is R causal (in_turn C l) p x so (runs_on ran) cur
+        (within_limit (length p) (omega (arith, all_read ran, octets_was, room))) (ap wrong (sym header_now) ∙ right)
+        (ap length (sym header_now) ∙ full)
+
+    count : length (messages (cut p)) ≡ length (cut p).whole
+    unfolding messages
+    count = rw cur (ap length (append-nil (cut p).whole))
+
+    none_come : b.payload_count ≡ 0
+    none_come = come_was ∙ (come_at ran ∙ ap come_of cur)
+
+    pub is_first : (now : Current) → now.number ≡ b.totals.messages + 1 → now.header ≡ b.header
+        → now.place ≡ b.totals.octets → now.payload_count ≡ b.payload_count
+        → IsBeforeMessage C l b.slots (tracked_after R p) (owner_of_next_in (open_after most p) (cut p).current) first now
+    unfolding tracked_after
+    is_first now number header at payload_count =
+        let within = fits_at ran in
+        record {
+          keeps = subst (λ (z : Slots). SlotsRepresent C l z (tracked_after R p) (owner_of_next_in (open_after most p) (cut p).current)) (sym slots_was) (knows_at ran);
+          rising = so.rising;
+          current = record {
+            number = omega (arith, number, messages_was, messages_at, count);
+            header = sym header_now ∙ sym header;
+            place = place_first (length p) first refl refl
+                (omega (arith, within.held, ap length header_now, length_push (cut p).held x, full))
+                ∙ (ap suc (sym (all_read ran)) ∙ (sym octets_was ∙ sym at));
+          };
+          none_come = refl;
+          payload_count = payload_count ∙ none_come;
+          newest = each_weaker (λ o. o.opener.number ≤ length (messages (cut p)))
+              (λ o. o.opener.number < suc (length (cut p).whole)) (λ o k. omega (arith, k, count)) (open_after most p) so.numbers;
+          unknown = so.unknown (suc (length (cut p).whole)) (omega (arith, count));
+        }
+
+    pub begun_does : {A E : Type 0} (result : Result A E) (before after : OutLog) (f : FramingView)
+        → Writes result before after (lines_text (effect_of first).lines) → OnOk result (Shows C l f (state_of R (p ++ x ∷ [])))
+        → Does C l result before after f (step R s x)
+    begun_does result before after f text shows = does_step x (effect_of first).lines result before after f first_adds.lines text shows
+
+    pub begun_shows : (b' f : FramingView) (k : ℕ) → f ≡ settled b' k → b'.totals.messages ≡ b.totals.messages + 1
+        → b'.totals.faults ≡ b.totals.faults + fault_count (effect_of first).lines → b'.totals.octets ≡ b.totals.octets
+        → b'.stopped ≡ b.stopped → b'.header ≡ b.header → b'.payload_count ≡ b.payload_count → k ≡ size b.header
+        → SlotsRepresent C l b'.slots (effect_of first).tracked (owner_after (effect_of first).tracked.still_open first) → Shows C l f (state_of R (p ++ x ∷ []))
+    begun_shows b' f k is messages faults octets stopped header payload_count sized keeps =
+        settled_shows x first (omega arith) refl first_adds b' f k is
+        (omega (arith, messages, messages_was, messages_at, count)) (omega (arith, faults, faults_was))
+        (omega (arith, octets, octets_was, all_read ran)) (stopped ∙ free) (header ∙ header_now) (payload_count ∙ none_come)
+        (sized ∙ ap size header_now) keeps
+
+  -- ---- An octet of a payload.
+
+  module _ (free : m.stopped ≡ None) (c : Message) (cur : (cut p).current ≡ Some c) where
+    at_hand : CurrentFits (length p) (cut p) c
+    at_hand = if_some (CurrentFits (length p) (cut p)) (cut p).current c cur (fits_at free).current
+
+    pub header_is : m.header ≡ c.header
+    header_is = header_at free ∙ ap (λ (o : Option Message). header_of o (cut p).held) cur
+
+    pub come_is : m.payload_count ≡ length c.payload
+    come_is = come_at free ∙ ap come_of cur
+
+    all_messages : length (messages (cut p)) ≡ length (cut p).whole + 1
+    unfolding messages
+    all_messages = rw cur (length_push (cut p).whole c)
+
+    pub number_is : c.number ≡ m.totals.messages
+    number_is = omega (arith, at_hand.number_is, messages_at, all_messages)
+
+    right : AreOctets c.header × (first_wrong_octet c.header ≡ None)
+    right = if_some (λ c. AreOctets c.header × (first_wrong_octet c.header ≡ None)) (cut p).current c cur (header_octets p reached.octets)
+
+    -- there is room to count its octets
+    pub size_few : size m.header < 2 ^ 32
+    size_few = omega (arith, ap size header_is, size_fits c.header right.0 at_hand.twelve)
+
+    module _ (x : ℕ) (room : m.totals.octets < 2 ^ 48) where
+      paid : Adds R p (p ++ x ∷ []) (end_message (cut p).whole (with_octet c x)) (effect_of (with_octet c x)).lines (effect_of (with_octet c x)).tracked
+      unfolding tracked_after
+      paid = paid_is R causal (in_turn C l) p x so c (runs_on free) cur (within_limit (length p) (omega (arith, room, all_read free)))
+
+      pub come_fits : m.payload_count + 1 < 2 ^ 32
+      come_fits = omega (arith, come_is, at_hand.lacks, ap size header_is, size_few)
+
+      pub is_next : (now : Current) → now.number ≡ m.totals.messages → now.header ≡ m.header
+          → now.place ≡ m.totals.octets + 1 → now.payload_count ≡ m.payload_count + 1 → IsBeforeOctet C l m.slots (tracked_after R p) c now x
+      unfolding tracked_after
+      is_next now number header place payload_count = record {
+        keeps = subst (λ (o : Option Message). SlotsRepresent C l m.slots (tracked_after R p) (owner_of_next_in (open_after most p) o)) cur (knows_at free);
+        rising = so.rising;
+        current = record {
+          number = number_is ∙ sym number;
+          header = sym (header ∙ header_is);
+          place = omega (arith, place_more c x (length p) at_hand.place_is, all_read free, place);
+        };
+        payload_count = omega (arith, payload_count, come_is);
+        newest = if_some (λ m. length m.payload < 4 → IsNewest m.number (open_after most p)) (cut p).current c cur (so.early (runs_on free));
+        alive = λ name few. alive R causal (in_turn C l) p (runs_on free) c cur name few;
+        says = λ name. says_id c.header at_hand.twelve right.1 name;
+      }
+
+      pub paid_does : {A E : Type 0} (result : Result A E) (before after : OutLog) (f : FramingView)
+          → Writes result before after (lines_text (effect_of (with_octet c x)).lines)
+          → OnOk result (Shows C l f (state_of R (p ++ x ∷ []))) → Does C l result before after f (step R s x)
+      paid_does result before after f text shows = does_step x (effect_of (with_octet c x)).lines result before after f paid.lines text shows
+
+      pub paid_shows : (b f : FramingView) (k : ℕ) → f ≡ settled b k → b.totals.messages ≡ m.totals.messages
+          → b.totals.faults ≡ m.totals.faults + fault_count (effect_of (with_octet c x)).lines
+          → b.totals.octets ≡ m.totals.octets + 1 → b.stopped ≡ m.stopped → b.header ≡ m.header → b.payload_count ≡ m.payload_count + 1
+          → k ≡ size m.header
+          → SlotsRepresent C l b.slots (effect_of (with_octet c x)).tracked
+          (owner_after (effect_of (with_octet c x)).tracked.still_open (with_octet c x)) → Shows C l f (state_of R (p ++ x ∷ []))
+      paid_shows b f k is messages faults octets stopped header payload_count sized keeps =
+          settled_shows x (with_octet c x) (omega
+          (arith, at_hand.lacks, length_push c.payload x)) at_hand.number_is paid b f k is (messages ∙ sym number_is) faults
+          (omega (arith, octets, all_read free)) (stopped ∙ free) (header ∙ header_is)
+          (omega (arith, payload_count, come_is, length_push c.payload x)) (sized ∙ ap size header_is) keeps

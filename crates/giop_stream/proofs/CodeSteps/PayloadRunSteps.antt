@@ -1,0 +1,286 @@
+-- Octets that are of a message's contents alone, all at once: what is known of the stream with them, and that the code does
+-- their steps.
+use Rattle.std.proofs.Common.{◌≡◌, ◌≢◌, ℕ, suc, ◌+◌, ◌-◌, ◌^◌, ◌<◌, ◌≤◌, Bool, true, false, List, [], ◌∷◌, ◌++◌, length, get_or, refl, sym, ap, subst, ◌∙◌, append_assoc, append-nil, length-append, Option, Some, None, Result, Ok, Err, arith}
+use mir.Val.{bool_byte}
+use Rattle.std.specs.Prelude.{OnOk}
+use Rattle.std.specs.Result.{OkIff, result_unwrap_or}
+use Rattle.std.proofs.lemmas.Bool.{le-ltb, ne_eqb}
+use Rattle.std.proofs.lemmas.List.{length_push, get_or_push}
+use Rattle.giop_print.specs.Output.{OutLog, Writes}
+use Rattle.giop_sig.specs.Table.{Table}
+use Rattle.giop_message.specs.Headers.{size}
+use Rattle.giop_message.specs.Signatures.{RequestTable, signatures_of}
+use Rattle.giop_message.specs.ReaderOfTable.{message_reader}
+use Rattle.giop_message.specs.MessageReader.{IsCausal, IsStreamable}
+use Rattle.giop_message.proofs.MessageLaws.{is_causal}
+use Rattle.giop_stream.specs.declared.slots.Slots.{Slots}
+use Rattle.giop_stream.specs.Rules.{Rules, rules}
+use Rattle.giop_stream.specs.Framing.{Message, Cut, with_payload, limit, cut, messages, read_of}
+use Rattle.giop_stream.specs.Events.{Takes, MessageKey, Open, Rising, events_of_octet, events_at_octet, changed, open_after}
+use Rattle.giop_stream.specs.Lines.{lines}
+use Rattle.giop_stream.specs.Text.{lines_text}
+use Rattle.giop_stream.specs.Stream.{start_count, fault_count, tally}
+use Rattle.giop_stream.specs.Effects.{Tracked, Effect, effects, tracked_at, tracked_after, with_octet}
+use Rattle.giop_stream.specs.SlotsRepresent.{SlotsRepresent, effect_to}
+use Rattle.giop_stream.specs.DoesEffect.{one_if}
+use Rattle.giop_stream.specs.PayloadRuns.{run_effect}
+use Rattle.giop_stream.specs.PayloadOwner.{SlotsRepresentStream, owner_of_next, owner_of_next_in}
+use Rattle.giop_stream.specs.EngineView.{FramingView}
+use Rattle.giop_stream.specs.EngineState.{State, state_of}
+use Rattle.giop_stream.specs.EngineStep.{runs}
+use Rattle.giop_stream.specs.ViewOfState.{IsReached, Shows, Does}
+use Rattle.giop_stream.specs.Octet.{header_of, come_of}
+use Rattle.giop_stream.proofs.Cuts.Cutting.{next, of_parts, parts_by, cut_grows, next_payload}
+use Rattle.giop_stream.proofs.Cuts.CutFrom.{end_message}
+use Rattle.giop_stream.proofs.Events.AfterMoreEvents.{count_append}
+use Rattle.giop_stream.proofs.Events.Soundness.{CurrentFits}
+use Rattle.giop_stream.proofs.Events.StepCases.{place_more}
+use Rattle.giop_stream.proofs.Events.StepCases.{if_some}
+use Rattle.giop_stream.proofs.SlotSteps.AfterOctet.{whose_elsewhere}
+use Rattle.giop_stream.proofs.SlotSteps.Parts.{in_turn, octet_does, whose_next}
+use Rattle.giop_stream.proofs.CodeSteps.OneOctet.{Adds, paid_is}
+use Rattle.giop_stream.proofs.CodeSteps.NextOctet.{read_all}
+use Rattle.giop_stream.proofs.CodeSteps.EngineAlive.{sound}
+use Rattle.giop_stream.proofs.CodeSteps.SlotsToState.{shows_by}
+use Rattle.giop_stream.proofs.CodeSteps.MessageOctets.{does_run, runs_on, all_read, knows_at, faults_at, header_is, come_is, number_is, size_few}
+use Rattle.giop_stream.proofs.CodeSteps.MessageEnds.{goes_on}
+
+-- ---- One of them.
+
+-- So many octets more are of the contents of this message alone: none of them is the last of its request id, or its last.
+pub record Within (p : List ℕ) (m : Message) (n : ℕ) : Type 0 where
+  pub free : (cut p).stop ≡ None
+  pub current : (cut p).current ≡ Some m
+  pub apart : length m.payload < 4 → length m.payload + n < 4
+  pub before_last : length m.payload + n < size m.header
+  pub room : length p + n ≤ limit
+
+within_grows : (p : List ℕ) (m : Message) (x n : ℕ) → Within p m (suc n) → cut (p ++ x ∷ []) ≡ of_parts (cut p).whole (Some (with_octet m x)) [] None
+within_grows p m x n h =
+    cut_grows p x
+    ∙ (ap (next (length p) x) (parts_by (cut p) (Some m) None h.current h.free)
+    ∙ (next_payload (cut p).whole m (cut p).held (length p) x (le-ltb limit (suc (length p)) (omega (arith, h.room)))
+    ∙ goes_on (cut p).whole (with_octet m x) (omega (arith, h.before_last, length_push m.payload x))))
+
+-- the next one is not the last of the request id
+not_named : (p : List ℕ) (m : Message) (x n : ℕ) → Within p m (suc n) →
+    length (m.payload ++ x ∷ []) ≢ 4
+not_named p m x n h e =
+    let three : length m.payload ≡ 3 = omega (arith, e, length_push m.payload x) in
+    omega (arith, three, h.apart (omega (arith, three)))
+
+within_on : (p : List ℕ) (m : Message) (x n : ℕ) → Within p m (suc n) → Within (p ++ x ∷ []) (with_octet m x) n
+unfolding of_parts
+within_on p m x n h =
+    let grown = within_grows p m x n h in
+    record {
+      free = ap (λ (d : Cut). d.stop) grown;
+      current = ap (λ (d : Cut). d.current) grown;
+      apart = λ less. omega (arith, h.apart (omega (arith, less, length_push m.payload x)), length_push m.payload x);
+      before_last = omega (arith, h.before_last, length_push m.payload x);
+      room = omega (arith, h.room, length_push p x);
+    }
+
+-- it does nothing but come to the message whose it is,
+comes_alone : (most : ℕ) (still_open : List Open) (m : Message) → 0 < length m.payload →
+    length m.payload ≢ 4 → length m.payload < size m.header →
+    events_of_octet most still_open m ≡ events_at_octet still_open m
+unfolding events_of_octet
+comes_alone most still_open m some other less =
+    rw (
+      ne_eqb (length m.payload) 0 (λ e. omega (arith, some, e)),
+      ne_eqb (length m.payload) 4 other,
+      ne_eqb (length m.payload) (size m.header) (λ e. omega (arith, less, e)),
+    )
+    (append-nil (events_at_octet still_open m))
+
+-- whose the next one is too
+whose_on : (still_open : List Open) (m : Message) (x : ℕ) → length (m.payload ++ x ∷ []) ≢ 4 →
+    owner_of_next still_open (with_octet m x) ≡ owner_of_next still_open m
+whose_on still_open m x other =
+    whose_elsewhere still_open (with_octet m x) (ne_eqb (length (m.payload ++ x ∷ [])) 4 other) ∙ whose_next still_open m x
+
+module _ (C : Table) (l : RequestTable) where
+  takes_live : (at : ℕ) (c : Tracked) (w : Option MessageKey) (x : ℕ) → (effect_to C l at c w (Takes x)).tracked.still_open ≡ c.still_open
+  unfolding tracked_at changed
+  takes_live at c None x = refl
+  takes_live at c (Some w) x = refl
+
+  module _ (most : ℕ) (p : List ℕ) (m : Message) (x n : ℕ) (h : Within p m (suc n)) where
+    at_hand : CurrentFits (length p) (cut p) m
+    at_hand =
+        if_some (CurrentFits (length p) (cut p)) (cut p).current m h.current
+        ((sound (rules C l most) (is_causal (signatures_of C l)) (in_turn C l) p).fits h.free).current
+
+    -- what the octet does to the message whose it is
+    abbrev taken : Effect
+    taken = effect_to C l (suc (length p)) (tracked_after (rules C l most) p) (owner_of_next (open_after most p) m) (Takes x)
+
+    octet_takes : effects (message_reader C l) (tracked_after (rules C l most) p) (events_of_octet most (open_after most p) (with_octet m x)) ≡ taken
+    unfolding tracked_after
+    octet_takes =
+        let last : get_or (m.payload ++ x ∷ []) (length (m.payload ++ x ∷ []) - 1) 0 ≡ x =
+        get_or_push m.payload x 0 (length (m.payload ++ x ∷ []) - 1) (omega (arith, length_push m.payload x)) in
+        let alone =
+        comes_alone most (open_after most p) (with_octet m x) (omega (arith, length_push m.payload x)) (not_named p m x n h)
+        (omega (arith, h.before_last, length_push m.payload x)) in
+        rw (alone, ← whose_next (open_after most p) m x)
+        (octet_does C l (tracked_after (rules C l most) p) (with_octet m x) x (suc (length p)) last
+        (place_more m x (length p) at_hand.place_is))
+
+    octet_adds : Adds (rules C l most) p (p ++ x ∷ []) (end_message (cut p).whole (with_octet m x)) taken.lines taken.tracked
+    octet_adds =
+        let so = sound (rules C l most) (is_causal (signatures_of C l)) (in_turn C l) p in
+        let room = le-ltb limit (suc (length p)) (omega (arith, h.room)) in
+        rw octet_takes at (paid_is (rules C l most) (is_causal (signatures_of C l)) (in_turn C l) p x so m h.free h.current room)
+
+    octet_whose : owner_of_next (open_after most (p ++ x ∷ [])) (with_octet m x) ≡ owner_of_next (open_after most p) m
+    unfolding tracked_after
+    octet_whose =
+        let still_open : open_after most (p ++ x ∷ []) ≡ open_after most p =
+        ap (λ (c : Tracked). c.still_open) octet_adds.tracked_after
+        ∙ takes_live (suc (length p)) (tracked_after (rules C l most) p) (owner_of_next (open_after most p) m) x in
+        ap (λ (open' : List Open). owner_of_next open' (with_octet m x)) still_open ∙ whose_on (open_after most p) m x (not_named p m x n h)
+
+-- ---- All of them.
+
+-- what they make of the stream p, in which this message is the current one
+pub record IsRun (C : Table) (l : RequestTable) (most : ℕ) (p : List ℕ) (m : Message) (q : List ℕ) : Type 0 where
+  pub within : Within (p ++ q) (with_payload m (m.payload ++ q)) 0
+  pub lines : lines (rules C l most) (p ++ q) ≡ lines
+      (rules C l most) p ++ (run_effect C l (length p) (tracked_after (rules C l most) p) (owner_of_next (open_after most p) m) q).lines
+  pub tracked_after : tracked_after (rules C l most) (p ++ q) ≡ (run_effect C l (length p) (tracked_after (rules C l most) p) (owner_of_next (open_after most p) m) q).tracked
+  pub owner_of_next : owner_of_next (open_after most (p ++ q)) (with_payload m (m.payload ++ q)) ≡ owner_of_next (open_after most p) m
+
+module _ (C : Table) (l : RequestTable) where
+  pub run_is : (most : ℕ) (q p : List ℕ) (m : Message) → Within p m (length q) → IsRun C l most p m q
+  unfolding run_effect
+  run_is most [] p m h =
+      let R = rules C l most in
+      let same = append-nil p in
+      let none = append-nil m.payload in
+      record {
+        within = subst (λ (z : List ℕ). Within (p ++ []) (with_payload m z) 0) (sym none) (subst (λ (r : List ℕ). Within r m 0) (sym same) h);
+        lines = ap (lines R) same ∙ sym (append-nil (lines R p));
+        tracked_after = ap (tracked_after R) same;
+        owner_of_next = λ j. owner_of_next (open_after most (same j)) (with_payload m (none j));
+      }
+  run_is most (x ∷ q) p m h =
+      let R = rules C l most in
+      let p' = p ++ x ∷ [] in
+      let more = run_is most q p' (with_octet m x) (within_on p m x (length q) h) in
+      let all : p' ++ q ≡ p ++ x ∷ q = append_assoc p (x ∷ []) q in
+      let payload : (m.payload ++ x ∷ []) ++ q ≡ m.payload ++ x ∷ q = append_assoc m.payload (x ∷ []) q in
+      let at : length p' ≡ suc (length p) = omega (arith, length_push p x) in
+      let one = octet_adds C l most p m x (length q) h in
+      let who = octet_whose C l most p m x (length q) h in
+      record {
+        within = subst (λ (z : List ℕ). Within (p ++ x ∷ q) (with_payload m z) 0) payload
+            (subst (λ (r : List ℕ). Within r (with_payload m ((m.payload ++ x ∷ []) ++ q)) 0) all more.within);
+        lines = ap (lines R) (sym all) ∙ (more.lines
+            ∙ ((λ j. one.lines j ++ (run_effect C l (at j) (one.tracked_after j) (who j) q).lines) ∙ append_assoc (lines R p) _ _));
+        tracked_after = ap (tracked_after R) (sym all) ∙ (more.tracked_after ∙ (λ j. (run_effect C l (at j) (one.tracked_after j) (who j) q).tracked));
+        owner_of_next = (λ j. owner_of_next (open_after most (sym all j)) (with_payload m (sym payload j))) ∙ (more.owner_of_next ∙ who);
+      }
+
+-- ---- What the fields show with them.
+
+-- a fault, as the code counts it
+pub one_byte : (b : Bool) → bool_byte b ≡ one_if b
+one_byte true = refl
+one_byte false = refl
+
+-- so many octets as a size counts fit a number of 32 bits
+pub number_fits : {E : Type 0} (r : Result ℕ E) (n other : ℕ) → n < 2 ^ 32 → OkIff r (n < 2 ^ 32) n → result_unwrap_or r other ≡ n
+number_fits (Ok k) n other less h = h.1
+number_fits (Err e) n other less h = absurd (h less)
+
+-- the current message is the one that started last
+started_last : (R : Rules) → IsCausal R.reading → IsStreamable R.reading → (p : List ℕ) (m : Message) → (cut p).stop ≡ None
+    → (cut p).current ≡ Some m → start_count (lines R p) ≡ m.number
+unfolding messages
+started_last R causal laws p m free current =
+    let so = sound R causal laws p in
+    let at_hand = if_some (CurrentFits (length p) (cut p)) (cut p).current m current (so.fits free).current in
+    let count : length (messages (cut p)) ≡ length (cut p).whole + 1 = rw current (length_push (cut p).whole m) in
+    omega (arith, so.starts, count, at_hand.number_is)
+
+module _ (C : Table) (l : RequestTable) (most : ℕ) (s : State) (reached : IsReached C l most s) (m : FramingView) (h : Shows C l m s)
+    (free : m.stopped ≡ None) (c : Message) (current : (cut reached.stream).current ≡ Some c) (q : List ℕ)
+    (apart : m.payload_count < 4 → m.payload_count + length q < 4)
+    (before_last : m.payload_count + length q < size m.header) (room : m.totals.octets + length q ≤ 2 ^ 48) where
+  abbrev R : Rules
+  R = rules C l most
+
+  abbrev p : List ℕ
+  p = reached.stream
+
+  all : m.totals.octets ≡ length p
+  all = all_read C l most s reached m h free
+
+  begins : Within p c (length q)
+  unfolding limit
+  begins =
+      let payload_count = come_is C l most s reached m h free c current in
+      record {
+        free = runs_on C l most s reached m h free;
+        current = current;
+        apart = λ less. omega (arith, apart (omega (arith, less, payload_count)), payload_count);
+        before_last = omega (arith, before_last, payload_count, ap size (header_is C l most s reached m h free c current));
+        room = omega (arith, room, all);
+      }
+
+  -- there is room to count them
+  pub run_fits : m.payload_count + length q < 2 ^ 32
+  run_fits = omega (arith, before_last, size_few C l most s reached m h free c current)
+
+  run : IsRun C l most p c q
+  run = run_is C l most q p c begins
+
+  -- their effect
+  abbrev pub ran : Effect
+  ran = run_effect C l m.totals.octets (tracked_after R p) (owner_of_next (open_after most p) c) q
+
+  grows_by_run : lines R (p ++ q) ≡ lines R p ++ ran.lines
+  grows_by_run = rw all run.lines
+
+  -- what the slots keep before them
+  pub run_keeps : SlotsRepresent C l m.slots (tracked_after R p) (owner_of_next (open_after most p) c)
+  run_keeps = subst (λ (o : Option Message). SlotsRepresent C l m.slots (tracked_after R p) (owner_of_next_in (open_after most p) o)) current (knows_at C l most s reached m h free)
+
+  pub run_rises : Rising (tracked_after R p).still_open
+  unfolding tracked_after
+  run_rises = (sound R (is_causal (signatures_of C l)) (in_turn C l) p).rising
+
+  pub run_does : {A E : Type 0} (result : Result A E) (before after : OutLog) (f : FramingView)
+      → Writes result before after (lines_text ran.lines) → OnOk result (Shows C l f (state_of R (p ++ q)))
+      → Does C l result before after f (runs R s q)
+  run_does result before after f text shows = does_run C l most s reached m h q ran.lines result before after f grows_by_run text shows
+
+  knows_so : (slots : Slots) → SlotsRepresent C l slots ran.tracked (owner_of_next (open_after most p) c) → SlotsRepresentStream C l most slots (p ++ q)
+  knows_so slots k =
+      let tracked : ran.tracked ≡ tracked_after R (p ++ q) = rw all (sym run.tracked_after) in
+      let who : owner_of_next (open_after most p) c ≡ owner_of_next_in (open_after most (p ++ q)) (cut (p ++ q)).current =
+      sym (ap (owner_of_next_in (open_after most (p ++ q))) run.within.current ∙ run.owner_of_next) in
+      subst (SlotsRepresent C l slots (tracked_after R (p ++ q))) who (subst (λ (s : Tracked). SlotsRepresent C l slots s (owner_of_next (open_after most p) c)) tracked k)
+
+  pub run_shows : (b : FramingView) → b.totals.messages ≡ m.totals.messages
+      → b.totals.faults ≡ m.totals.faults + fault_count ran.lines → b.totals.octets ≡ m.totals.octets + length q
+      → b.stopped ≡ m.stopped → b.header ≡ m.header → b.payload_count ≡ m.payload_count + length q
+      → SlotsRepresent C l b.slots ran.tracked (owner_of_next (open_after most p) c)
+      → Shows C l b (state_of R (p ++ q))
+  unfolding tally
+  run_shows b messages faults octets stopped header payload_count keeps =
+      let then = run.within.current in
+      let started : b.totals.messages ≡ start_count (lines R (p ++ q)) =
+      messages ∙ (sym (number_is C l most s reached m h free c current)
+      ∙ sym (started_last R (is_causal (signatures_of C l)) (in_turn C l) (p ++ q)
+      (with_payload c (c.payload ++ q)) run.within.free then)) in
+      let grown : fault_count (lines R (p ++ q)) ≡ fault_count (lines R p) + fault_count ran.lines =
+      ap fault_count grows_by_run ∙ count_append (lines R p) ran.lines in
+      let faulted : b.totals.faults ≡ fault_count (lines R (p ++ q)) = omega (arith, faults, grown, faults_at C l most s reached m h) in
+      let read : b.totals.octets ≡ read_of (p ++ q) (cut (p ++ q)).stop =
+      omega (arith, octets, all, length-append p q) ∙ sym (read_all (p ++ q) run.within.free) in
+      shows_by C l most (p ++ q) b (cut (p ++ q)) refl run.within.free (λ j. record { messages = started j; faults = faulted j; octets = read j }) (stopped ∙ free)
+      (header ∙ (header_is C l most s reached m h free c current ∙ ap (λ (o : Option Message). header_of o (cut (p ++ q)).held) (sym then)))
+      (omega (arith, payload_count, come_is C l most s reached m h free c current, length-append c.payload q) ∙ ap come_of (sym then)) (knows_so b.slots keeps)

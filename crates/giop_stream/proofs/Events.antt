@@ -1,0 +1,15 @@
+-- What the octets of a stream do to its messages.
+pub mod EventInduction
+pub mod EventsOfOctet
+pub mod EventsKeep
+pub mod UnfinishedKept
+pub mod Sharing
+pub mod Soundness
+pub mod UnfinishedAreOpen
+pub mod UnfinishedAtFinish
+pub mod AfterMoreEvents
+pub mod KeptSlots
+pub mod StepCases
+pub mod EventsByEngine
+pub mod CurrentIsOpen
+pub mod FaultsBound

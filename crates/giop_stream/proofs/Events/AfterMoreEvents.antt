@@ -1,0 +1,89 @@
+-- What the definitions say of a stream after some events more, from what they say before.
+use Rattle.std.proofs.Common.{◌≡◌, ℕ, suc, ◌+◌, ◌≤◌, Bool, true, false, List, [], ◌++◌, length, refl, ap, Option, Some, None, length-append}
+use Rattle.std.specs.Prelude.{if◌then◌else◌, ◌||◌, option_map}
+use Rattle.std.specs.List.{filter, list_any, AllByRecursion as Each}
+use Rattle.std.proofs.lemmas.List.{append-nil}
+use Rattle.std.proofs.lemmas.List.Elements.{filter-append}
+use Rattle.giop_checkpoint.specs.declared.fault.StreamFault.{StreamFault}
+use Rattle.giop_stream.specs.Rules.{Rules}
+use Rattle.giop_stream.specs.Framing.{cut}
+use Rattle.giop_message.specs.MessageReader.{MessageReader, IsCausal}
+use Rattle.giop_stream.specs.Events.{Event, opened, events, open_after, joined}
+use Rattle.giop_stream.specs.Lines.{Line, lines_of_events, by_class, in_order, is_last_of, lines_of_messages, stop_line, lines}
+use Rattle.giop_stream.specs.Stream.{is_fault, fault_count, is_over}
+use Rattle.giop_stream.specs.OpenSlots.{octets_of}
+use Rattle.giop_stream.specs.Effects.{kept_with, kept_after}
+use Rattle.giop_stream.proofs.StreamLines.EventsTogether.{sorted_lines}
+use Rattle.giop_stream.proofs.Lists.{any_append}
+use Rattle.giop_stream.proofs.Events.EventsOfOctet.{opened_append}
+use Rattle.giop_stream.proofs.StreamLines.LinesOfOctet.{joined_append, heard, heard_each, told_heard, told_grows, in_order_grows, in_order_idle, standing_append, keeping, standing_all_lines}
+
+-- What the definitions say after these events, from what they say before.
+told_places : (R : MessageReader) → IsCausal R → (es : List Event) (n : ℕ) → Each (λ e. e.place ≤ n) es → Each (λ l. l.place ≤ n) (lines_of_events R es [] es)
+told_places R causal es n h = rw (told_heard R causal es [] es refl) (heard_each R (λ k. k ≤ n) [] es h)
+
+pub said_grows : (R : Rules) → IsCausal R.reading → (p p' : List ℕ) (es : List Event) → length p' ≡ suc (length p)
+    → events R.most p' ≡ events R.most p ++ es → Each (λ e. e.place ≤ length p) (events R.most p) → Each (λ e. e.place ≡ suc (length p)) es
+    → lines_of_messages R p' ≡ lines_of_messages R p ++ sorted_lines R.reading (octets_of R p) es
+unfolding lines_of_messages sorted_lines is_over octets_of keeping
+said_grows R causal p p' es len ev old new =
+    let none : ℕ → Bool = λ i. false in
+    let before = lines_of_events R.reading (events R.most p) [] (events R.most p) in
+    let more = heard R.reading (events R.most p) es in
+    rw (
+      ev,
+      len,
+      told_grows R.reading causal (events R.most p) es,
+      in_order_grows (length p) before more
+          (told_places R.reading causal (events R.most p) (length p) old)
+          (heard_each R.reading (λ k. k ≡ suc (length p)) (events R.most p) es new),
+      standing_append none (in_order (length p) before)
+          (by_class more),
+    )
+    (ap (λ (ls : List Line). lines_of_messages R p ++ ls) (standing_all_lines R.reading (is_over R p) (events R.most p) es))
+
+pub said_idle : (R : Rules) → IsCausal R.reading → (p p' : List ℕ) → length p' ≡ suc (length p) → events R.most p' ≡ events R.most p
+    → Each (λ e. e.place ≤ length p) (events R.most p) → lines_of_messages R p' ≡ lines_of_messages R p
+unfolding lines_of_messages
+said_idle R causal p p' len ev old =
+    rw (ev, len, in_order_idle (length p) (lines_of_events R.reading (events R.most p) [] (events R.most p)) (told_places R.reading causal (events R.most p) (length p) old)) refl
+
+octets_by : (over again : Bool) (xs ys : List ℕ)
+    → (if over || again then None else Some (xs ++ ys))
+    ≡ (if again then None else option_map (λ zs. zs ++ ys) (if over then None else Some xs))
+octets_by true true xs ys = refl
+octets_by true false xs ys = refl
+octets_by false true xs ys = refl
+octets_by false false xs ys = refl
+
+pub octets_grow : (R : Rules) (p p' : List ℕ) (es : List Event) (ls : List Line) → events R.most p' ≡ events R.most p ++ es
+    → lines_of_messages R p' ≡ lines_of_messages R p ++ ls → (i : ℕ) → octets_of R p' i ≡ kept_after (kept_with (octets_of R p) es) ls i
+unfolding octets_of is_over kept_after kept_with
+octets_grow R p p' es ls ev sd i =
+    rw (ev, sd, any_append (is_last_of i) (lines_of_messages R p) ls, joined_append i (events R.most p) es)
+    (octets_by (list_any (is_last_of i) (lines_of_messages R p)) (list_any (is_last_of i) ls) (joined i (events R.most p)) (joined i es))
+
+pub octets_idle : (R : Rules) (p p' : List ℕ) → events R.most p' ≡ events R.most p → lines_of_messages R p' ≡ lines_of_messages R p → (i : ℕ) → octets_of R p' i ≡ octets_of R p i
+unfolding octets_of is_over
+octets_idle R p p' ev sd i = rw (ev, sd) refl
+
+pub open_grows : (most : ℕ) (p p' : List ℕ) (es : List Event) → events most p' ≡ events most p ++ es → open_after most p' ≡ opened (open_after most p) es
+unfolding open_after
+open_grows most p p' es ev = rw ev (opened_append [] (events most p) es)
+
+pub open_idle : (most : ℕ) (p p' : List ℕ) → events most p' ≡ events most p → open_after most p' ≡ open_after most p
+unfolding open_after
+open_idle most p p' ev = rw ev refl
+
+pub count_append : (xs ys : List Line) → fault_count (xs ++ ys) ≡ fault_count xs + fault_count ys
+unfolding fault_count
+count_append xs ys =
+    rw (filter-append (λ l. is_fault l.content) xs ys) (length-append (filter (λ l. is_fault l.content) xs) (filter (λ l. is_fault l.content) ys))
+
+pub lines_free : (R : Rules) (p : List ℕ) → (cut p).stop ≡ None → lines R p ≡ lines_of_messages R p
+unfolding lines stop_line
+lines_free R p e = rw (lines, e) (append-nil (lines_of_messages R p))
+
+pub lines_stopped : (R : Rules) (p : List ℕ) (o : Option (ℕ × StreamFault)) → (cut p).stop ≡ o → lines R p ≡ lines_of_messages R p ++ stop_line o
+unfolding lines
+lines_stopped R p o e = rw (lines, e) refl

@@ -1,0 +1,283 @@
+-- How many faults a stream can have: each message one at most, and the stream one, a stream fault or the truncated end.
+use Rattle.std.proofs.Common.{inl, inr, ◌≡◌, ℕ, zero, suc, ◌+◌, ◌<◌, ◌≤◌, Bool, true, false, List, [], ◌∷◌, ◌++◌, length, take, drop, refl, sym, ap, ◌∙◌, Option, Some, None, arith}
+use Rattle.std.specs.Prelude.{◌==◌, ◌||◌, nat_lt, if◌then◌else◌, flat_map}
+use Rattle.std.specs.List.{filter, AllByRecursion as Each}
+use Rattle.std.proofs.lemmas.Bool.{cases_lt, cases_eq, eq-eqb}
+use Rattle.giop_checkpoint.specs.declared.fault.StreamFault.{StreamFault}
+use Rattle.giop_message.specs.Headers.{size}
+use Rattle.giop_message.specs.MessageReader.{LineClass, Value, Call, Rest, Fault, End, MessageReader, IsCausal, IsStreamable}
+use Rattle.giop_stream.specs.HeaderOctets.{fronts, first_wrong_octet}
+use Rattle.giop_stream.specs.Rules.{Rules}
+use Rattle.giop_stream.specs.Framing.{Message, with_payload, Cut, with_first, cut_from, limit, stop_or_limit, limited, cut, messages}
+use Rattle.giop_stream.specs.Events.{EventKind, Begins, Takes, Opens, Continues, Cancelled, Faults, Closes, Event, Open, events_of_octet, events_of, opened, events_from, events}
+use Rattle.giop_stream.specs.Lines.{Content, Started, Said, ContinuesMessage, CancelledBy, Faulted, Line, line, lines_of_event, lines_of_events, classes, by_class, in_order, ends, is_last_of, up_to_last_line, lines_of_messages, stop_line, lines}
+use Rattle.giop_stream.specs.Stream.{is_fault, fault_count, is_inside, is_truncated, tally, final}
+use Rattle.giop_stream.proofs.Lists.{each_append, each_weaker, each_map, each_filter}
+use Rattle.giop_stream.proofs.Cuts.CutFrom.{cut_wrong, cut_short, cut_open, cut_more}
+use Rattle.giop_stream.proofs.Events.EventsOfOctet.{happens_each, opened_each}
+use Rattle.giop_stream.proofs.StreamLines.LinesOfOctet.{classes_each}
+use Rattle.giop_stream.proofs.Events.AfterMoreEvents.{count_append}
+use Rattle.giop_stream.proofs.CodeSteps.EngineAlive.{sound}
+
+-- ---- The messages have the numbers from 1 to their count.
+
+abbrev IsNumber : ℕ → ℕ → Type 0
+IsNumber n i = (0 < i) × (i ≤ n)
+
+abbrev Numbered : ℕ → Cut → Type 0
+Numbered first c = Each (λ m. (first ≤ m.number) × (m.number < first + length (messages c))) (messages c)
+
+numbered_first : (first : ℕ) (m : Message) (c : Cut) → m.number ≡ first → Numbered (suc first) c
+    → Numbered first (with_first m c)
+unfolding with_first messages
+numbered_first first m c number h =
+    let count = length (messages c) in (
+      (omega (arith, number), omega (arith, number)),
+      each_weaker (λ k. (suc first ≤ k.number) × (k.number < suc first + count))
+          (λ k. (first ≤ k.number) × (k.number < first + suc count)) (λ k j. (omega (arith, j.0), omega (arith, j.1))) (messages c) h,
+    )
+
+numbered_by : (fuel first before : ℕ) (xs : List ℕ)
+    → ((first before : ℕ) (ys : List ℕ) → Numbered first (cut_from fuel first before ys))
+    → (o : Option (ℕ × StreamFault)) → first_wrong_octet (take 12 xs) ≡ o → Numbered first (cut_from (suc fuel) first before xs)
+unfolding messages
+numbered_by fuel first before xs ih (Some found) e = rw (cut_wrong fuel first before xs found e) tt
+numbered_by fuel first before xs ih None e = elim (cases_lt (length xs) 12) [
+  | inl short ↦ rw (cut_short fuel first before xs e short) tt
+  | inr long ↦ elim (cases_lt (length (drop 12 xs)) (size (take 12 xs))) [
+    | inl lacks ↦ rw (cut_open fuel first before xs e long lacks) ((omega arith, omega arith), tt)
+    | inr full ↦
+        let header = take 12 xs in
+        let left = drop (size header) (drop 12 xs) in
+        let m : Message = record { number = first; before = before; header = header; payload = take (size header) (drop 12 xs) } in
+        let more : Cut = cut_from fuel (suc first) (before + 12 + size header) left in
+        rw (cut_more fuel first before xs e long full)
+        (numbered_first first m more refl (ih (suc first) (before + 12 + size header) left))
+  ]
+]
+
+numbered_from : (fuel first before : ℕ) (xs : List ℕ) → Numbered first (cut_from fuel first before xs)
+unfolding cut_from messages
+numbered_from zero first before xs = tt
+numbered_from (suc fuel) first before xs =
+    numbered_by fuel first before xs (numbered_from fuel) (first_wrong_octet (take 12 xs)) refl
+
+numbered : (p : List ℕ) → Numbered 1 (cut p)
+unfolding cut limited messages
+numbered p = go (nat_lt limit (length p))
+  where
+    whole : Cut
+    whole = cut_from (suc (length p)) 1 0 (take limit p)
+
+    all : Numbered 1 whole
+    all = numbered_from (suc (length p)) 1 0 (take limit p)
+
+    stopped : (o : Option (ℕ × StreamFault)) → Numbered 1 (stop_or_limit o whole)
+    stopped (Some found) = all
+    stopped None = all
+
+    go : (b : Bool) → Numbered 1 (limited b whole)
+    go true = stopped whole.stop
+    go false = all
+
+-- ---- and so have the events, and the lines.
+
+module _ (most : ℕ) (P : ℕ → Type 0) where
+  abbrev Named : List Event → Type 0
+  Named es = Each (λ e. P e.subject.number) es
+
+  abbrev Live : List Open → Type 0
+  Live still_open = Each (λ o. P o.opener.number) still_open
+
+  events_of_each : (still_open : List Open) (m : Message) → P m.number → Live still_open → Named (events_of most still_open m)
+  unfolding events_of
+  events_of_each still_open m h k = go (fronts m.payload)
+    where
+      here : (front : List ℕ) → Named (events_of_octet most still_open (with_payload m front))
+      here front =
+          happens_each most (λ e. P e.subject.number) still_open (with_payload m front) (λ what. h)
+          (each_weaker (λ o. P o.opener.number) (λ o. (what : EventKind) → P o.opener.number) (λ o j what. j) still_open k)
+
+      go : (fs : List (List ℕ)) → Named (flat_map (λ front. events_of_octet most still_open (with_payload m front)) fs)
+      go [] = tt
+      go (front ∷ fs) = each_append (λ e. P e.subject.number) (events_of_octet most still_open (with_payload m front)) _ (here front) (go fs)
+
+  events_each : (still_open : List Open) (ms : List Message) → Live still_open → Each (λ m. P m.number) ms
+      → Named (events_from most still_open ms)
+  unfolding events_from
+  events_each still_open [] h k = tt
+  events_each still_open (m ∷ ms) h k =
+      let es = events_of most still_open m in
+      let here = events_of_each still_open m k.0 h in
+      let then_live = opened_each (λ subject. P subject.number) still_open es h here in
+      each_append (λ e. P e.subject.number) es (events_from most (opened still_open es) ms) here
+      (events_each (opened still_open es) ms then_live k.1)
+
+-- a line of one of so many messages, which is its last one where it is a fault
+record IsOne (n : ℕ) (l : Line) : Type 0 where
+  number : IsNumber n l.number
+  last : is_fault l.content ≡ true → ends l.content ≡ true
+
+one_line : (n : ℕ) (e : Event) → IsNumber n e.subject.number → (content : Content)
+    → (is_fault content ≡ true → ends content ≡ true) → IsOne n (line e content)
+unfolding line
+one_line n e h content last = record { number = h; last = last }
+
+one_said : (n : ℕ) (e : Event) → IsNumber n e.subject.number → (s : LineClass) (text : List ℕ)
+    → IsOne n (line e (Said s text))
+one_said n e h Value text = one_line n e h (Said Value text) (λ no. absurd cc)
+one_said n e h Call text = one_line n e h (Said Call text) (λ no. absurd cc)
+one_said n e h Rest text = one_line n e h (Said Rest text) (λ no. absurd cc)
+one_said n e h Fault text = one_line n e h (Said Fault text) (λ yes. refl)
+one_said n e h End text = one_line n e h (Said End text) (λ no. absurd cc)
+
+one_each : (R : MessageReader) (n : ℕ) (e : Event) → IsNumber n e.subject.number → (so_far all : List ℕ) (what : EventKind)
+    → Each (IsOne n) (lines_of_event R e so_far all what)
+unfolding lines_of_event
+one_each R n e h so_far all Begins = (one_line n e h (Started e.subject.header) (λ no. absurd cc), tt)
+one_each R n e h so_far all (Takes x) =
+    each_map (IsOne n) (λ r. line e (Said r.line_class r.text)) (λ r. one_said n e h r.line_class r.text)
+    (filter (λ r. r.at == suc (length so_far)) (R.reads e.subject.header all))
+one_each R n e h so_far all (Opens id) = tt
+one_each R n e h so_far all (Continues i) = (one_line n e h (ContinuesMessage i) (λ no. absurd cc), tt)
+one_each R n e h so_far all (Cancelled j) = (one_line n e h (CancelledBy j) (λ no. absurd cc), tt)
+one_each R n e h so_far all (Faults fault) = (one_line n e h (Faulted fault) (λ yes. refl), tt)
+one_each R n e h so_far all Closes =
+    each_map (IsOne n) (λ l. line e (Said l.0 l.1)) (λ l. one_said n e h l.0 l.1) (R.closes e.subject.header so_far)
+
+told_each : (R : MessageReader) (n : ℕ) (all past es : List Event) → Each (λ e. IsNumber n e.subject.number) es
+    → Each (IsOne n) (lines_of_events R all past es)
+unfolding lines_of_events
+told_each R n all past [] h = tt
+told_each R n all past (e ∷ es) h =
+    each_append (IsOne n) _ (lines_of_events R all (past ++ e ∷ []) es) (one_each R n e h.0 _ _ e.what)
+    (told_each R n all (past ++ e ∷ []) es h.1)
+
+order_each : (P : Line → Type 0) (n : ℕ) (ls : List Line) → Each P ls → Each P (in_order n ls)
+unfolding in_order by_class
+order_each P zero ls h = tt
+order_each P (suc n) ls h =
+    let here = filter (λ l. l.place == suc n) ls in
+    each_append P (in_order n ls) (by_class here) (order_each P n ls h)
+    (classes_each P here classes (each_filter P (λ l. l.place == suc n) ls h))
+
+-- ---- Of the messages that are not over, each has one fault at most.
+
+-- how many of the first so many messages are not over
+free : (ℕ → Bool) → ℕ → ℕ
+free over zero = 0
+free over (suc n) = (if over (suc n) then 0 else 1) + free over n
+
+all_free : (n : ℕ) → free (λ i. false) n ≡ n
+unfolding free
+all_free zero = refl
+all_free (suc n) = omega (arith, all_free n)
+
+one_fewer : (b c : Bool) → (b ≡ true → c ≡ true) → (if c then 0 else 1) ≤ (if b then 0 else 1)
+one_fewer b true h = omega arith
+one_fewer true false h = absurd (let no : false ≡ true = h refl in cc)
+one_fewer false false h = omega arith
+
+module _ (f g : ℕ → Bool) (more : (i : ℕ) → f i ≡ true → g i ≡ true) where
+  fewer_free : (n : ℕ) → free g n ≤ free f n
+  unfolding free
+  fewer_free zero = omega arith
+  fewer_free (suc n) = let one = one_fewer (f (suc n)) (g (suc n)) (more (suc n)) in omega (arith, one, fewer_free n)
+
+  -- where one of them is over that wasn't
+  less_free : (k n : ℕ) → IsNumber n k → f k ≡ false → g k ≡ true → free g n < free f n
+  unfolding free
+  less_free k zero h e d = absurd (omega (arith, h.0, h.1))
+  less_free k (suc n) h e d = elim (cases_eq k (suc n)) [
+    | inl same ↦
+        let was : f (suc n) ≡ false = ap f (sym same) ∙ e in
+        let now : g (suc n) ≡ true = ap g (sym same) ∙ d in
+        rw (was, now) (omega (arith, fewer_free n))
+    | inr other ↦
+        let one = one_fewer (f (suc n)) (g (suc n)) (more (suc n)) in
+        omega (arith, one, less_free k n (h.0, omega (arith, h.1, other)) e d)
+  ]
+
+faults_free : (n : ℕ) (over : ℕ → Bool) (ls : List Line) → Each (IsOne n) ls
+    → fault_count (up_to_last_line over ls) ≤ free over n
+unfolding up_to_last_line fault_count is_last_of
+faults_free n over [] h = omega arith
+faults_free n over (l ∷ ls) h = go (over l.number) (is_fault l.content) refl refl (λ f. faults_free n f ls h.1)
+  where
+    then_over : ℕ → Bool
+    then_over i = over i || is_last_of i l
+
+    more : (i : ℕ) → over i ≡ true → then_over i ≡ true
+    more i e = rw e refl
+
+    go : (b c : Bool) → over l.number ≡ b → is_fault l.content ≡ c
+        → ((f : ℕ → Bool) → fault_count (up_to_last_line f ls) ≤ free f n)
+        → fault_count (if b then up_to_last_line over ls else l ∷ up_to_last_line then_over ls) ≤ free over n
+    go true c e k ih = ih over
+    go false true e k ih =
+        let last : then_over l.number ≡ true = rw (e, eq-eqb l.number l.number refl, h.0.last k) refl in
+        rw k (omega (arith, ih then_over, less_free over then_over more l.number n h.0.number e last))
+    go false false e k ih = rw k (omega (arith, ih then_over, fewer_free over then_over more n))
+
+-- ---- Of a stream.
+
+numbers : (p : List ℕ) → Each (λ m. IsNumber (length (messages (cut p))) m.number) (messages (cut p))
+numbers p =
+    let n = length (messages (cut p)) in
+    each_weaker (λ m. (1 ≤ m.number) × (m.number < 1 + n)) (λ m. IsNumber n m.number)
+    (λ m h. (omega (arith, h.0), omega (arith, h.1))) (messages (cut p)) (numbered p)
+
+said_few : (R : Rules) (p : List ℕ) → fault_count (lines_of_messages R p) ≤ length (messages (cut p))
+unfolding lines_of_messages events
+said_few R p =
+    let n = length (messages (cut p)) in
+    let all = lines_of_events R.reading (events R.most p) [] (events R.most p) in
+    let ones = told_each R.reading n (events R.most p) [] (events R.most p) (events_each R.most (IsNumber n) [] (messages (cut p)) tt (numbers p)) in
+    let most = faults_free n (λ i. false) (in_order (length p) all) (order_each (IsOne n) (length p) all ones) in
+    omega (arith, most, all_free n)
+
+-- the stream's own
+unfoldable pub stop_count : Option (ℕ × StreamFault) → ℕ
+stop_count None = 0
+stop_count (Some found) = 1
+
+stop_faults : (stop : Option (ℕ × StreamFault)) → fault_count (stop_line stop) ≡ stop_count stop
+unfolding fault_count stop_line stop_count
+stop_faults None = refl
+stop_faults (Some found) = refl
+
+lines_few : (R : Rules) (p : List ℕ) → fault_count (lines R p) ≤ length (messages (cut p)) + stop_count (cut p).stop
+unfolding lines
+lines_few R p = omega (arith, count_append (lines_of_messages R p) (stop_line (cut p).stop), said_few R p, stop_faults (cut p).stop)
+
+pub one_stop : (stop : Option (ℕ × StreamFault)) → stop_count stop ≤ 1
+unfolding stop_count
+one_stop None = omega arith
+one_stop (Some found) = omega arith
+
+free_stop : (stop : Option (ℕ × StreamFault)) → stop ≡ None → stop_count stop ≡ 0
+unfolding stop_count
+free_stop None e = refl
+free_stop (Some found) e = absurd cc
+
+one_end : (stop : Option (ℕ × StreamFault)) (current : Option Message) (held : List ℕ)
+    → stop_count stop + (if is_inside current held stop then 1 else 0) ≤ 1
+unfolding stop_count is_inside
+one_end (Some found) current held = omega arith
+one_end None current held = go (is_inside current held None)
+  where
+    go : (b : Bool) → 0 + (if b then 1 else 0) ≤ 1
+    go true = omega arith
+    go false = omega arith
+
+module _ (R : Rules) (causal : IsCausal R.reading) (laws : IsStreamable R.reading) (p : List ℕ) where
+  pub tally_faults : (tally R p).faults ≤ (tally R p).messages + stop_count (cut p).stop
+  unfolding tally
+  tally_faults = omega (arith, lines_few R p, (sound R causal laws p).starts)
+
+  pub faults_few : (cut p).stop ≡ None → (tally R p).faults ≤ (tally R p).messages
+  faults_few free = omega (arith, tally_faults, free_stop (cut p).stop free)
+
+  pub all_faults : (final R p).faults ≤ suc (final R p).messages
+  unfolding final is_truncated
+  all_faults = omega (arith, tally_faults, one_end (cut p).stop (cut p).current (cut p).held)

@@ -1,0 +1,17 @@
+-- What the code keeps of the messages, and what its calls make of them.
+pub mod OneSlotChanges
+pub mod EventsInSlots
+pub mod Performing
+pub mod SlotLists
+pub mod EventsOnSlots
+pub mod FindingOpen
+pub mod AtRequestId
+pub mod Ending
+pub mod AfterOctet
+pub mod Parts
+pub mod AtHeader
+pub mod StateToSlots
+pub mod RequestIds
+pub mod Cases
+pub mod ReadingEffects
+pub mod Adding

@@ -1,0 +1,33 @@
+-- What octets add to the text of a stream.
+use Rattle.std.proofs.Common.{◌≡◌, ℕ, List, [], ◌++◌, length, drop, refl, ap, ◌∙◌, append-nil}
+use Rattle.std.proofs.Math.Seq.{drop-append_seam}
+use Rattle.giop_message.specs.MessageReader.{IsCausal, IsStreamable}
+use Rattle.giop_stream.specs.Rules.{Rules}
+use Rattle.giop_stream.specs.Lines.{Line, lines}
+use Rattle.giop_stream.specs.Text.{lines_text}
+use Rattle.giop_stream.specs.Stream.{text}
+use Rattle.giop_stream.specs.EngineState.{state_of}
+use Rattle.giop_stream.specs.EngineStep.{run}
+use Rattle.giop_stream.specs.EngineHolds.{added}
+use Rattle.giop_stream.proofs.CodeSteps.EngineLaws.{run_lines}
+use Rattle.giop_stream.proofs.SlotSteps.Performing.{text_append}
+
+-- the text of the lines by which the stream's grow
+added_by : (R : Rules) (p q : List ℕ) (ls : List Line) → lines R (p ++ q) ≡ lines R p ++ ls → added R p q ≡ lines_text ls
+unfolding added text
+added_by R p q ls e =
+    ap (λ (all : List Line). drop (length (lines_text (lines R p))) (lines_text all)) e
+    ∙ (ap (drop (length (lines_text (lines R p)))) (text_append (lines R p) ls)
+    ∙ drop-append_seam (lines_text (lines R p)) (lines_text ls))
+
+-- those of a run
+pub added_run : (R : Rules) → IsCausal R.reading → IsStreamable R.reading → (p q : List ℕ) → added R p q ≡ lines_text (run R (state_of R p) q)
+added_run R causal laws p q = added_by R p q (run R (state_of R p) q) (run_lines R causal laws p q)
+
+pub added_text : (R : Rules) → IsCausal R.reading → IsStreamable R.reading → (p q : List ℕ) → drop (length (text R p)) (text R (p ++ q)) ≡ lines_text (run R (state_of R p) q)
+unfolding added
+added_text R causal laws p q = added_run R causal laws p q
+
+pub added_nil : (R : Rules) → (p : List ℕ) → added R p [] ≡ []
+unfolding lines_text
+added_nil R p = added_by R p [] [] (rw (append-nil p, append-nil (lines R p)) refl)

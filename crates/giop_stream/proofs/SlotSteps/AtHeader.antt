@@ -1,0 +1,106 @@
+-- What the code does at a header's last octet: the message begins, and ends there where it has no payload.
+use Rattle.std.proofs.Common.{◌≡◌, ℕ, ◌<◌, ◌≤◌, Bool, true, false, List, [], ◌∷◌, ◌++◌, length, refl, sym, ap, ◌∙◌, Option, Some, None, arith}
+use Rattle.std.specs.Prelude.{◌==◌, if◌then◌else◌}
+use Rattle.std.proofs.lemmas.Bool.{eq-eqb, ne_eqb}
+use Rattle.giop_sig.specs.Table.{Table}
+use Rattle.giop_message.specs.Signatures.{RequestTable}
+use Rattle.giop_message.specs.ReaderOfTable.{message_reader}
+use Rattle.giop_message.specs.Headers.{size}
+use Rattle.giop_stream.specs.declared.fault.FramingFault.{FramingFault}
+use Rattle.giop_stream.specs.declared.slots.Slots.{Slots}
+use Rattle.giop_stream.specs.declared.current.Current.{Current}
+use Rattle.giop_stream.specs.Rules.{Rules, rules}
+use Rattle.giop_stream.specs.Framing.{Message}
+use Rattle.giop_stream.specs.Text.{line_text, start_line}
+use Rattle.giop_stream.specs.Kinds.{refused}
+use Rattle.giop_stream.specs.Events.{MessageKey, Open, Event, Faults, message_key, now_of, events_at_header, events_of_octet, opened}
+use Rattle.giop_stream.specs.Lines.{Line}
+use Rattle.giop_stream.specs.Stream.{fault_count}
+use Rattle.giop_stream.specs.Effects.{Tracked, Effect, effects, one_effect, no_effect, then_effect, line_effect, starts, IsNotOpen}
+use Rattle.giop_stream.specs.SlotsRepresent.{SlotsRepresent, AreReady}
+use Rattle.giop_stream.specs.PayloadOwner.{IsBeforeMessage, IsAtOctet, owner_of_next, owner_after, end_events}
+use Rattle.giop_stream.proofs.Lists.{each_weaker}
+use Rattle.giop_stream.proofs.Events.EventsOfOctet.{quiet_header}
+use Rattle.giop_stream.proofs.SlotSteps.SlotLists.{later_ready, all_later}
+use Rattle.giop_stream.proofs.SlotSteps.Cases.{effects_append, header_begins, header_refused}
+use Rattle.giop_stream.proofs.SlotSteps.Performing.{BeginsSo}
+use Rattle.giop_stream.proofs.SlotSteps.Ending.{whose_early}
+use Rattle.giop_stream.proofs.SlotSteps.Parts.{effects_live}
+
+-- what is ready for an octet is ready for a later one
+pub ready_later : (C : Table) (n n' : ℕ) (s : Slots) → n ≤ n' → AreReady C n s → AreReady C n' s
+ready_later C n n' s less h = record { own_ready = later_ready C n n' s.own less h.own_ready; each_ready = all_later C n n' s.slots.entries less h.each_ready }
+
+pub starts_faults : (m : Message) (ls : List Line) → fault_count (starts m ∷ ls) ≡ fault_count ls
+unfolding fault_count
+starts_faults m ls = refl
+
+-- ---- The header's own events, then the end.
+
+module _ (R : Rules) (c : Tracked) (m : Message) where
+  abbrev pub begun : Effect
+  begun = effects R.reading c (events_at_header m)
+
+  abbrev pub ended : Effect
+  ended = effects R.reading begun.tracked (end_events begun.tracked.still_open m)
+
+  pub begun_live : begun.tracked.still_open ≡ c.still_open
+  begun_live = effects_live R.reading c (events_at_header m) ∙ quiet_header c.still_open (now_of m)
+
+  parts : length m.payload ≡ 0 → events_of_octet R.most c.still_open m ≡ events_at_header m ++ end_events c.still_open m
+  unfolding events_of_octet end_events
+  parts none = rw (eq-eqb (length m.payload) 0 none, ne_eqb (length m.payload) 4 (λ e. omega (arith, none, e))) refl
+
+  pub in_two : length m.payload ≡ 0 → effects R.reading c (events_of_octet R.most c.still_open m) ≡ then_effect begun ended
+  in_two none =
+      let ends : end_events c.still_open m ≡ end_events begun.tracked.still_open m = ap (λ (still_open : List Open). end_events still_open m) (sym begun_live) in
+      ap (effects R.reading c) (parts none ∙ ap (λ (es : List Event). events_at_header m ++ es) ends) ∙ effects_append R.reading c (events_at_header m) (end_events begun.tracked.still_open m)
+
+  pub ended_whose : owner_after begun.tracked.still_open m ≡ owner_after ended.tracked.still_open m
+  unfolding owner_after end_events opened
+  ended_whose = go (length m.payload == size m.header) refl
+    where
+      go : (b : Bool) → (length m.payload == size m.header) ≡ b
+          → (if b then None else owner_of_next begun.tracked.still_open m) ≡ (if b then None else owner_of_next ended.tracked.still_open m)
+      go true e = refl
+      go false e = ap (λ (still_open : List Open). owner_of_next still_open m) (sym (effects_live R.reading begun.tracked (end_events begun.tracked.still_open m) ∙ rw e refl))
+
+module _ (C : Table) (l : RequestTable) (s : Slots) (c : Tracked) (who : Option MessageKey) (m : Message) (now : Current) (h : IsBeforeMessage C l s c who m now) where
+  pub apart : IsNotOpen m.number c.still_open
+  apart =
+      each_weaker {A = Open} (λ o. o.opener.number < m.number) (λ o. o.opener.number ≡ m.number → ⊥) (λ o less same. omega (arith, less, same)) c.still_open h.newest
+
+  pub none_come : length m.payload ≡ 0
+  none_come = ap length h.none_come
+
+  pub begins : None ≡ refused now.header → effects (message_reader C l) c (events_at_header m) ≡ line_effect (starts m) (no_effect c)
+  begins e = header_begins (message_reader C l) c m [] h.unknown (ap refused h.current.header ∙ sym e)
+
+  pub refuses : (fault : FramingFault) → Some fault ≡ refused now.header
+      → effects (message_reader C l) c (events_at_header m) ≡ line_effect (starts m) (one_effect (message_reader C l) c now.place (message_key m) (Faults fault))
+  refuses fault e = header_refused (message_reader C l) c m [] fault h.unknown (ap refused h.current.header ∙ sym e) ∙ rw h.current.place refl
+
+  pub starts_text : line_text (starts m) ≡ start_line now.number now.header
+  starts_text = rw (h.current.number, h.current.header) refl
+
+  pub starts_first : BeginsSo (starts m) (effects (message_reader C l) c (events_at_header m)).lines
+  starts_first = go (refused now.header) refl
+    where
+      go : (r : Option FramingFault) → r ≡ refused now.header → BeginsSo (starts m) (effects (message_reader C l) c (events_at_header m)).lines
+      go None e = record { more = _; is = ap (λ (p : Effect). p.lines) (begins e) }
+      go (Some fault) e = record { more = _; is = ap (λ (p : Effect). p.lines) (refuses fault e) }
+
+  pub begun_at : (s' : Slots) → SlotsRepresent C l s' (begun (rules C l s.slots.most) c m).tracked (Some (message_key m))
+      → IsAtOctet C l s' (begun (rules C l s.slots.most) c m).tracked m now
+  begun_at s' k =
+      let still_open = begun_live (rules C l s.slots.most) c m in
+      let none = none_come in
+      let few : length m.payload < 4 = omega (arith, none) in
+      record {
+        keeps = rw (whose_early (begun (rules C l s.slots.most) c m).tracked.still_open m few) k;
+        rising = rw still_open h.rising;
+        current = h.current;
+      }
+
+  pub come_is : length m.payload ≡ now.payload_count
+  come_is = none_come ∙ sym h.payload_count

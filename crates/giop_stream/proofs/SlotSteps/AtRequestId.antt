@@ -1,0 +1,204 @@
+-- What the code does at a request id, by the slots that it finds.
+use Rattle.std.proofs.Common.{◌≡◌, ℕ, ◌<◌, ◌≤◌, Bool, true, false, List, [], ◌∷◌, length, refl, sym, ap, ◌∙◌, Option, Some, None, arith}
+use Rattle.std.specs.Prelude.{◌==◌, ◌||◌, slice_get, option_map, is_some}
+use Rattle.std.specs.List.{find, position_from}
+use Rattle.giop_sig.specs.Table.{Table}
+use Rattle.giop_message.specs.Signatures.{RequestTable}
+use Rattle.giop_message.specs.ReaderOfTable.{message_reader}
+use Rattle.giop_message.specs.Headers.{order, is_fragment, is_opener, is_cancel, has_name}
+use Rattle.giop_stream.specs.declared.fault.FramingFault.TheVariants.{NoOpen, IdOpen, TooManyOpen, FragmentOrder}
+use Rattle.giop_stream.specs.declared.slots.Slots.{Slots}
+use Rattle.giop_stream.specs.declared.current.Current.{Current}
+use Rattle.giop_stream.specs.Rules.{rules}
+use Rattle.giop_stream.specs.Framing.{Message}
+use Rattle.giop_stream.specs.Events.{Open, Opens, Faults, Cancelled, message_key, opener_of, events_at_request_id, same_order}
+use Rattle.giop_stream.specs.OpenSlots.{slots_of}
+use Rattle.giop_stream.specs.Effects.{Tracked, Effect, effects, one_effect, no_effect, line_effect, lines_of, goes_on, lines_for}
+use Rattle.giop_stream.specs.Lines.{Line, lines_of_event, up_to_last_line}
+use Rattle.giop_stream.specs.Text.{line_text}
+use Rattle.giop_stream.specs.Stream.{fault_count}
+use Rattle.giop_cdr.specs.declared.order.Order.{Order}
+use Rattle.giop_stream.specs.Kinds.{may_be_cancelled}
+use Rattle.giop_stream.specs.declared.slots.Slot.{Slot as Contents}
+use Rattle.giop_print.specs.Lines.{continues_line}
+use Rattle.giop_stream.specs.SlotsRepresent.{event}
+use Rattle.giop_stream.specs.PayloadOwner.{IsAtRequestId, opener_key, owner_after_id}
+use Rattle.giop_stream.proofs.SlotSteps.Performing.{BeginsSo}
+use Rattle.giop_stream.proofs.SlotSteps.EventsOnSlots.{open_slot}
+use Rattle.giop_stream.proofs.SlotSteps.SlotLists.{are_as_many, entry_there, slots_many}
+use Rattle.giop_stream.proofs.SlotSteps.FindingOpen.{none_open, one_open}
+use Rattle.giop_stream.proofs.SlotSteps.Cases.{opener_twice, opener_no_room, opener_opens, fragment_unknown, fragment_in_order, fragment_out_of_order, cancel_misses, cancel_spares, cancel_closes, other_id}
+
+-- the open message that is found, and where
+pub record IsFound (c : Tracked) (m : Message) (k : ℕ) : Type 0 where
+  pub o : Open
+  pub here : slice_get c.still_open k ≡ Some o
+  pub is : opener_of c.still_open m ≡ Some o
+
+-- ---- What a header says by its kind.
+
+pub fragment_named : (header : List ℕ) → is_fragment header ≡ true → has_name header ≡ true
+fragment_named header f = rw f (go (is_opener header) (is_cancel header))
+  where
+    go : (a b : Bool) → (a || true || b) ≡ true
+    go true b = refl
+    go false b = refl
+
+pub opener_named : (header : List ℕ) → is_opener header ≡ true → has_name header ≡ true
+opener_named header f = rw f refl
+
+pub cancel_named : (header : List ℕ) → is_cancel header ≡ true → has_name header ≡ true
+cancel_named header f = rw f (go (is_opener header) (is_fragment header))
+  where
+    go : (a b : Bool) → (a || b || true) ≡ true
+    go true b = refl
+    go false true = refl
+    go false false = refl
+
+-- ---- A message that becomes open says nothing.
+
+module _ (C : Table) (l : RequestTable) where
+  pub opens_lines : (c : Tracked) (m : Message) (at i : ℕ) → (one_effect (message_reader C l) c at (message_key m) (Opens i)).lines ≡ []
+  unfolding lines_of lines_for lines_of_event up_to_last_line
+  opens_lines c m at i = go (c.known m.number)
+    where
+      go : (o : Option (List ℕ)) → lines_of (message_reader C l) (event at (message_key m) (Opens i)) o ≡ []
+      go None = refl
+      go (Some xs) = refl
+
+pub goes_faults : (m : Message) (o : Open) (ls : List Line) → fault_count (goes_on m o ∷ ls) ≡ fault_count ls
+unfolding fault_count
+goes_faults m o ls = refl
+
+-- ---- Whose the octets are then.
+
+pub whose_fragment : (still_open : List Open) (m : Message) → is_fragment m.header ≡ true → owner_after_id still_open m ≡ opener_key (opener_of still_open m)
+unfolding owner_after_id
+whose_fragment still_open m f = rw f refl
+
+pub whose_other : (still_open : List Open) (m : Message) → is_fragment m.header ≡ false → owner_after_id still_open m ≡ Some (message_key m)
+unfolding owner_after_id
+whose_other still_open m f = rw f refl
+
+module _ (C : Table) (l : RequestTable) (s : Slots) (c : Tracked) (m : Message) (now : Current) (i : ℕ) (h : IsAtRequestId C l s c m now i) where
+  -- ---- The search.
+
+  opener_is : has_name m.header ≡ true → opener_of c.still_open m ≡ find (λ o. o.id == i) c.still_open
+  unfolding opener_of
+  opener_is name = ap (λ (n : ℕ). find (λ (o : Open). o.id == n) c.still_open) (h.id_is name)
+
+  pub misses : has_name m.header ≡ true → (r : Option ℕ) → r ≡ position_from (λ slot. slot.key == i) 0 s.slots.entries
+      → is_some r ≡ false → opener_of c.still_open m ≡ None
+  misses name None e n = opener_is name ∙ none_open C l s.slots.entries c i h.keeps.slots (sym e)
+  misses name (Some k) e n = absurd cc
+
+  pub finds : has_name m.header ≡ true → (k : ℕ) → Some k ≡ position_from (λ slot. slot.key == i) 0 s.slots.entries → IsFound c m k
+  finds name k e =
+      let f = one_open C l s.slots.entries c i k h.keeps.slots (sym e) in
+      record { o = f.o; here = f.here; is = opener_is name ∙ f.is }
+
+  pub hits : has_name m.header ≡ true → (r : Option ℕ) → r ≡ position_from (λ slot. slot.key == i) 0 s.slots.entries
+      → is_some r ≡ true → (o : Open) × (opener_of c.still_open m ≡ Some o)
+  hits name None e n = absurd cc
+  hits name (Some k) e n = let f = finds name k e in (f.o, f.is)
+
+  pub as_many : length s.slots.entries ≡ length c.still_open
+  as_many = are_as_many C l s.slots.entries (slots_of c.known c.still_open) h.keeps.slots ∙ slots_many c.known c.still_open
+
+  -- ---- A message that opens.
+
+  pub twice : (r : Option ℕ) → r ≡ position_from (λ slot. slot.key == i) 0 s.slots.entries → is_some r ≡ true
+      → is_fragment m.header ≡ false → is_opener m.header ≡ true
+      → effects (message_reader C l) c (events_at_request_id s.slots.most c.still_open m) ≡ one_effect (message_reader C l) c now.place (message_key m) (Faults IdOpen)
+  twice r e n f g = let o = hits (opener_named m.header g) r e n in opener_twice (rules C l s.slots.most) c c.still_open m o.0 f g o.1 ∙ rw h.current.place refl
+
+  pub no_room : (r : Option ℕ) → r ≡ position_from (λ slot. slot.key == i) 0 s.slots.entries → is_some r ≡ false
+      → s.slots.most ≤ length s.slots.entries → is_fragment m.header ≡ false → is_opener m.header ≡ true
+      → effects (message_reader C l) c (events_at_request_id s.slots.most c.still_open m) ≡ one_effect (message_reader C l) c now.place (message_key m) (Faults TooManyOpen)
+  no_room r e n full f g =
+      let many = as_many in
+      let room : s.slots.most ≤ length c.still_open = omega (arith, many, full) in
+      opener_no_room (rules C l s.slots.most) c c.still_open m f g (misses (opener_named m.header g) r e n) room ∙ rw h.current.place refl
+
+  pub opens_one : (r : Option ℕ) → r ≡ position_from (λ slot. slot.key == i) 0 s.slots.entries → is_some r ≡ false
+      → length s.slots.entries < s.slots.most → is_fragment m.header ≡ false → is_opener m.header ≡ true
+      → effects (message_reader C l) c (events_at_request_id s.slots.most c.still_open m) ≡ one_effect (message_reader C l) c now.place (message_key m) (Opens i)
+  opens_one r e n few f g =
+      let many = as_many in
+      let room : length c.still_open < s.slots.most = omega (arith, many, few) in
+      opener_opens (rules C l s.slots.most) c c.still_open m f g (misses (opener_named m.header g) r e n) room
+      ∙ rw (h.current.place, h.id_is (opener_named m.header g)) refl
+
+  -- ---- A Fragment.
+
+  pub unknown : is_fragment m.header ≡ true → opener_of c.still_open m ≡ None
+      → effects (message_reader C l) c (events_at_request_id s.slots.most c.still_open m) ≡ one_effect (message_reader C l) c now.place (message_key m) (Faults NoOpen)
+  unknown f e = fragment_unknown (rules C l s.slots.most) c c.still_open m f e ∙ rw h.current.place refl
+
+  pub in_order : (o : Open) → is_fragment m.header ≡ true → opener_of c.still_open m ≡ Some o → same_order (order m.header) (order o.opener.header) ≡ true
+      → effects (message_reader C l) c (events_at_request_id s.slots.most c.still_open m) ≡ line_effect (goes_on m o) (no_effect c)
+  in_order o f e same = let xs = h.alive (fragment_named m.header f) in fragment_in_order (rules C l s.slots.most) c c.still_open m o xs.0 f e xs.1 same
+
+  pub out_of_order : (o : Open) → is_fragment m.header ≡ true → opener_of c.still_open m ≡ Some o → same_order (order m.header) (order o.opener.header) ≡ false
+      → effects (message_reader C l) c (events_at_request_id s.slots.most c.still_open m) ≡ line_effect (goes_on m o) (one_effect (message_reader C l) c now.place o.opener (Faults FragmentOrder))
+  out_of_order o f e other =
+      let xs = h.alive (fragment_named m.header f) in
+      fragment_out_of_order (rules C l s.slots.most) c c.still_open m o xs.0 f e xs.1 other ∙ rw h.current.place refl
+
+  -- the line of a Fragment, as the code writes it
+  pub goes_text : (o : Open) (number : ℕ) → o.opener.number ≡ number → line_text (goes_on m o) ≡ continues_line now.number number
+  goes_text o number e = rw (h.current.number, e) refl
+
+  -- which begins all that is written
+  pub goes_first : (o : Open) → is_fragment m.header ≡ true → opener_of c.still_open m ≡ Some o
+      → BeginsSo (goes_on m o) (effects (message_reader C l) c (events_at_request_id s.slots.most c.still_open m)).lines
+  goes_first o f e = go (same_order (order m.header) (order o.opener.header)) refl
+    where
+      go : (b : Bool) → same_order (order m.header) (order o.opener.header) ≡ b → BeginsSo (goes_on m o) (effects (message_reader C l) c (events_at_request_id s.slots.most c.still_open m)).lines
+      go true same = record { more = _; is = ap (λ (p : Effect). p.lines) (in_order o f e same) }
+      go false other = record { more = _; is = ap (λ (p : Effect). p.lines) (out_of_order o f e other) }
+
+  -- the slot of its opener
+  pub opener_slot : (k : ℕ) (o : Open) (v : Contents) → slice_get c.still_open k ≡ Some o
+      → option_map (λ e. e.value) (slice_get s.slots.entries k) ≡ Some v
+      → (v.number ≡ o.opener.number) × (v.header ≡ o.opener.header)
+  opener_slot k o v here e =
+      let there = entry_there s.slots.entries k v e in
+      let is = open_slot C l s there.0 c (Some (message_key m)) k o h.keeps here there.1 in
+      (rw there.2 at is.number, rw there.2 at is.header)
+
+  pub orders : (o : Open) (a b : Order) (header : List ℕ) (r : Bool) → a ≡ order now.header → b ≡ order header
+      → header ≡ o.opener.header → same_order a b ≡ r → same_order (order m.header) (order o.opener.header) ≡ r
+  orders o a b header r e f g same = rw (h.current.header, ← g, ← e, ← f) same
+
+  -- ---- A CancelRequest.
+
+  pub misses_all : (r : Option ℕ) → r ≡ position_from (λ slot. slot.key == i) 0 s.slots.entries → is_some r ≡ false
+      → is_fragment m.header ≡ false → is_opener m.header ≡ false → is_cancel m.header ≡ true
+      → effects (message_reader C l) c (events_at_request_id s.slots.most c.still_open m) ≡ no_effect c
+  misses_all r e n f g b = cancel_misses (rules C l s.slots.most) c c.still_open m f g b (misses (cancel_named m.header b) r e n)
+
+  -- the header of the open message that is found
+  pub header_may : (o : Open) (v : Contents) (k : ℕ) (r : Bool) → slice_get c.still_open k ≡ Some o
+      → option_map (λ e. e.value) (slice_get s.slots.entries k) ≡ Some v → may_be_cancelled v.header ≡ r
+      → may_be_cancelled o.opener.header ≡ r
+  header_may o v k r here e may = let kept = opener_slot k o v here e in rw (← kept.1) may
+
+  pub spares : (o : Open) → is_fragment m.header ≡ false → is_opener m.header ≡ false → is_cancel m.header ≡ true
+      → opener_of c.still_open m ≡ Some o → may_be_cancelled o.opener.header ≡ false
+      → effects (message_reader C l) c (events_at_request_id s.slots.most c.still_open m) ≡ no_effect c
+  spares o f g b e j = cancel_spares (rules C l s.slots.most) c c.still_open m o f g b e j
+
+  pub cancels_one : (o : Open) → is_fragment m.header ≡ false → is_opener m.header ≡ false → is_cancel m.header ≡ true
+      → opener_of c.still_open m ≡ Some o → may_be_cancelled o.opener.header ≡ true
+      → effects (message_reader C l) c (events_at_request_id s.slots.most c.still_open m) ≡ one_effect (message_reader C l) c now.place o.opener (Cancelled now.number)
+  cancels_one o f g b e j = cancel_closes (rules C l s.slots.most) c c.still_open m o f g b e j ∙ rw (h.current.place, h.current.number) refl
+
+  -- ---- Any message.
+
+  pub header_is : (says : List ℕ → Bool) (r : Bool) → says now.header ≡ r → says m.header ≡ r
+  header_is says r e = ap says h.current.header ∙ e
+
+  pub no_name : is_fragment now.header ≡ false → is_opener now.header ≡ false → is_cancel now.header ≡ false
+      → effects (message_reader C l) c (events_at_request_id s.slots.most c.still_open m) ≡ no_effect c
+  no_name f g b = other_id (rules C l s.slots.most) c c.still_open m (header_is is_fragment false f) (header_is is_opener false g) (header_is is_cancel false b)

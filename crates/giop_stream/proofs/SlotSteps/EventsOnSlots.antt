@@ -1,0 +1,353 @@
+-- What the code keeps of the messages, event by event.
+use Rattle.std.proofs.Common.{◌≡◌, ℕ, ◌<◌, true, false, not, List, [], ◌∷◌, ◌++◌, length, refl, sym, ap, subst, ◌∙◌, Option, Some, None, Result, Ok, append-nil}
+use Rattle.std.specs.Prelude.{◌==◌, slice_get, slice_set, option_map}
+use Rattle.std.specs.List.{filter, remove, AllByRecursion as Each}
+use Rattle.std.proofs.lemmas.Bool.{ne_eqb}
+use Rattle.giop_entry_table.specs.EntryTable.{Entries, with_value}
+use Rattle.giop_stream.specs.declared.slots.Slot.{Slot as Contents}
+use Rattle.giop_stream.specs.declared.fault.FramingFault.{FramingFault}
+use Rattle.giop_message.specs.declared.message.Message.{Message}
+use Rattle.giop_stream.specs.SlotsRepresent.{OpenEntry, open_entry, with_message}
+use Rattle.giop_stream.specs.declared.slots.Slots.{Slots}
+use Rattle.giop_stream.specs.declared.slots.Payload.TheVariants as payload
+use Rattle.giop_sig.specs.Table.{Table}
+use Rattle.giop_message.specs.Signatures.{RequestTable}
+use Rattle.giop_message.specs.ReaderOfTable.{message_reader}
+use Rattle.giop_message.specs.MessageState.{Follows}
+use Rattle.giop_print.specs.Output.{OutLog}
+use Rattle.giop_stream.specs.Events.{MessageKey, Open, EventKind, Takes, Opens, Faults, Cancelled, Closes, octet, changed, Rising}
+use Rattle.giop_stream.specs.Lines.{lines_of_event, up_to_last_line}
+use Rattle.giop_stream.specs.OpenSlots.{Slot, slots_of}
+use Rattle.giop_stream.specs.Effects.{Tracked, Effect, Part, part_of, tracked_at, lines_of, octets_then, one_effect, IsNotOpen, lines_for}
+use Rattle.giop_stream.specs.SlotsRepresent.{RepresentsMessage, IsSlot, AreSlots, SlotsRepresent, event, effect_to}
+use Rattle.giop_stream.specs.DoesEffect.{DoesEffect, DoesPart, WritesLines, one_if}
+use Rattle.giop_stream.proofs.Lists.{each_weaker, each_filter, filter_keeps}
+use Rattle.giop_stream.proofs.SlotSteps.Performing.{performs_on, does_nothing}
+use Rattle.giop_stream.proofs.SlotSteps.OneSlotChanges.{at_index, own_then, others_then, slot_at, no_slot, slot_gone, slot_comes}
+use Rattle.giop_stream.proofs.SlotSteps.SlotLists.{slots_get, get_last, slots_many, slot_of, entry_there, revalued_set, set_slot, no_more_slots, are_as_many, push_slot, remove_slot}
+
+-- ---- An event that opens and closes nothing.
+
+abbrev pub IsStill : EventKind → Type 0
+IsStill what = (still_open : List Open) (subject : MessageKey) → changed still_open subject what ≡ still_open
+
+pub still_takes : (x : ℕ) → IsStill (Takes x)
+unfolding changed
+still_takes x still_open subject = refl
+
+pub still_imposed : (fault : FramingFault) → IsStill (Faults fault)
+unfolding changed
+still_imposed fault still_open subject = refl
+
+-- of an open message, in its slot
+record Place (s : Slots) (c : Tracked) (w : MessageKey) (k : ℕ) : Type 0 where
+  own : s.own ≡ None
+  slot : Open
+  here : slice_get c.still_open k ≡ Some slot
+  is : slot.opener ≡ w
+
+-- An effect, from what is tracked, that does to one message what this part does, and nothing else.
+pub record Alters (c : Tracked) (w : MessageKey) (effect : Effect) (part : Part) : Type 0 where
+  pub lines : effect.lines ≡ part.lines
+  pub still_open : effect.tracked.still_open ≡ c.still_open
+  pub own : effect.tracked.known w.number ≡ part.octets
+  pub others : (i : ℕ) → (i ≡ w.number → ⊥) → effect.tracked.known i ≡ c.known i
+
+-- ---- An open message goes.
+
+abbrev pub IsGone : EventKind → Type 0
+IsGone what = (still_open : List Open) (subject : MessageKey) → changed still_open subject what ≡ filter (λ o. not (o.opener.number == subject.number)) still_open
+
+pub gone_closes : IsGone Closes
+unfolding changed
+gone_closes still_open subject = refl
+
+pub gone_cancelled : (j : ℕ) → IsGone (Cancelled j)
+unfolding changed
+gone_cancelled j still_open subject = refl
+
+none_there : (still_open : List Open) (n : ℕ) → Each (λ o. o.opener.number ≡ n → ⊥) still_open → filter (λ o. not (o.opener.number == n)) still_open ≡ still_open
+none_there still_open n h =
+    filter_keeps (λ o. not (o.opener.number == n)) still_open
+    (each_weaker {A = Open} (λ o. o.opener.number ≡ n → ⊥) (λ o. not (o.opener.number == n) ≡ true)
+    (λ o j. rw (ne_eqb o.opener.number n j) refl) still_open h)
+
+-- ---- A cancel, of an open message by one whose payload comes.
+
+module _ (C : Table) (l : RequestTable) where
+  pub still_alters : (at : ℕ) (c : Tracked) (w : MessageKey) (what : EventKind) → IsStill what
+      → Alters c w (one_effect (message_reader C l) c at w what) (part_of (message_reader C l) (event at w what) (c.known w.number))
+  unfolding tracked_at part_of
+  still_alters at c w what still =
+      let R = message_reader C l in
+      let e = event at w what in
+      record { lines = refl; still_open = still c.still_open w; own = own_then R c e; others = λ i h. others_then R c e i h }
+
+  -- of the message whose payload comes, which isn't open
+  own_parts : (s : Slots) (c : Tracked) (w : MessageKey) → s.payload ≡ payload.Own → SlotsRepresent C l s c (Some w)
+      → IsNotOpen w.number c.still_open × RepresentsMessage C l s.own w (c.known w.number)
+  own_parts s c w e k = rw e at k.payload
+
+  own_now : (s : Slots) (own' : Option Message) (c : Tracked) (w : MessageKey) (effect : Effect) (part : Part) → Alters c w effect part
+      → AreSlots C l s.slots.entries (slots_of c.known c.still_open) → IsNotOpen w.number c.still_open
+      → RepresentsMessage C l own' w part.octets → SlotsRepresent C l (record { slots = s.slots; own = own'; payload = payload.Own }) effect.tracked (Some w)
+  own_now s own' c w effect part alters slots apart kept = record {
+    slots = rw (alters.still_open, no_slot effect.tracked.known c.known c.still_open w.number apart alters.others) slots;
+    payload = (rw alters.still_open apart, rw alters.own kept);
+  }
+
+  place_of : (s : Slots) (c : Tracked) (w : MessageKey) (k : ℕ) → s.payload ≡ payload.Open k → SlotsRepresent C l s c (Some w) → Place s c w k
+  place_of s c w k e h = let p = parts in record { own = p.0; slot = p.1.0; here = p.1.1; is = p.1.2 }
+    where
+      parts : (s.own ≡ None) × ((o : Open) × (slice_get c.still_open k ≡ Some o) × (o.opener ≡ w))
+      parts = rw e at h.payload
+
+  slot_here : (s : Slots) (c : Tracked) (w : MessageKey) (k : ℕ) (x : OpenEntry) → SlotsRepresent C l s c (Some w) → (p : Place s c w k)
+      → slice_get s.slots.entries k ≡ Some x → IsSlot C l x (record { open_as = p.slot; octets = c.known w.number })
+  slot_here s c w k x h p e =
+      let number : p.slot.opener.number ≡ w.number = ap (λ (t : MessageKey). t.number) p.is in
+      let one =
+      slot_of C l s.slots.entries (slots_of c.known c.still_open) k x
+      (record { open_as = p.slot; octets = c.known p.slot.opener.number }) h.slots e (slots_get c k p.slot p.here) in
+      subst (λ (n : ℕ). IsSlot C l x (record { open_as = p.slot; octets = c.known n })) number one
+
+  slot_now : (s : Slots) (x : OpenEntry) (message : Option Message) (c : Tracked) (w : MessageKey) (effect : Effect) (part : Part)
+      (k : ℕ) → Alters c w effect part → Rising c.still_open → SlotsRepresent C l s c (Some w)
+      → s.payload ≡ payload.Open k → slice_get s.slots.entries k ≡ Some x → RepresentsMessage C l message w part.octets
+      → SlotsRepresent C l (record {
+        slots = record { most = s.slots.most; entries = slice_set s.slots.entries k (with_message x message) };
+        own = s.own;
+        payload = payload.Open k;
+      }) effect.tracked (Some w)
+  slot_now s x message c w effect part k alters rising h e get kept =
+      let p = place_of s c w k e h in
+      let number : p.slot.opener.number ≡ w.number = ap (λ (t : MessageKey). t.number) p.is in
+      let was = slot_here s c w k x h p get in
+      let slot : Slot = record { open_as = p.slot; octets = part.octets } in
+      let new : IsSlot C l (with_message x message) slot = record { number = was.number; header = was.header; id = was.id; message = rw p.is kept } in
+      let slots' = slot_at effect.tracked.known c.known c.still_open k p.slot rising p.here (λ i other. alters.others i (λ same. other (same ∙ sym number))) in
+      let later : effect.tracked.known p.slot.opener.number ≡ part.octets = ap effect.tracked.known number ∙ alters.own in
+      record {
+        slots = rw (alters.still_open, slots', later) (set_slot C l s.slots.entries (slots_of c.known c.still_open) k (with_message x message) slot h.slots new);
+        payload = (p.own, (p.slot, rw alters.still_open p.here, p.is));
+      }
+
+  -- ---- A call that does a part of a message's, which is the one whose the octets are.
+
+  -- that message has the octets
+  pub own_has : (Q : Option MessageKey → Type 0) (s : Slots) (c : Tracked) (owner_of_next : Option MessageKey) → s.payload ≡ payload.Own
+      → SlotsRepresent C l s c owner_of_next → ((w : MessageKey) → SlotsRepresent C l s c (Some w) → Q (Some w)) → Q owner_of_next
+  own_has Q s c None e h f = absurd (rw e at h.payload)
+  own_has Q s c (Some w) e h f = f w h
+
+  pub slot_has : (Q : Option MessageKey → Type 0) (s : Slots) (c : Tracked) (owner_of_next : Option MessageKey) (k : ℕ)
+      → s.payload ≡ payload.Open k → SlotsRepresent C l s c owner_of_next → ((w : MessageKey) → SlotsRepresent C l s c (Some w) → Q (Some w)) → Q owner_of_next
+  slot_has Q s c None k e h f = absurd (rw e at h.payload)
+  slot_has Q s c (Some w) k e h f = f w h
+
+  pub nobody_has : (Q : Option MessageKey → Type 0) (s : Slots) (c : Tracked) (owner_of_next : Option MessageKey) → s.payload ≡ payload.Nobody
+      → SlotsRepresent C l s c owner_of_next → (SlotsRepresent C l s c None → Q None) → Q owner_of_next
+  nobody_has Q s c None e h f = f h
+  nobody_has Q s c (Some w) e h f = absurd (rw e at h.payload)
+
+  -- what is kept in the slot of an open message
+  in_slot : (s : Slots) (x : OpenEntry) (c : Tracked) (w : MessageKey) (k : ℕ) → s.payload ≡ payload.Open k
+      → slice_get s.slots.entries k ≡ Some x → SlotsRepresent C l s c (Some w)
+      → (w.number ≡ x.value.number) × RepresentsMessage C l x.value.message w (c.known w.number)
+  in_slot s x c w k e get h =
+      let p = place_of s c w k e h in
+      let was = slot_here s c w k x h p get in
+      let number : p.slot.opener.number ≡ w.number = ap (λ (t : MessageKey). t.number) p.is in
+      (sym number ∙ sym was.number, rw p.is at was.message)
+
+  module _ {A E : Type 0} {n : A → ℕ} (r : Result A E) (a b : OutLog) where
+    pub own_effects : (s : Slots) (own' : Option Message) (c : Tracked) (w : MessageKey) (effect : Effect) (part : Part)
+        → s.payload ≡ payload.Own → SlotsRepresent C l s c (Some w) → Alters c w effect part
+        → (RepresentsMessage C l s.own w (c.known w.number) → DoesPart C l n r a b own' w part)
+        → DoesEffect C l n r a b (record { slots = s.slots; own = own'; payload = s.payload }) effect (Some w)
+    own_effects s own' c w effect part e h alters f =
+        let now = own_parts s c w e h in
+        performs_on r a b alters.lines (λ k. rw e (own_now s own' c w effect part alters h.slots now.0 k)) (f now.1)
+
+    -- of an open message
+    pub slot_effects : (s : Slots) (v : Contents) (message : Option Message) (c : Tracked) (w : MessageKey) (effect : Effect)
+        (part : Part) (k : ℕ) → s.payload ≡ payload.Open k → option_map (λ e. e.value) (slice_get s.slots.entries k) ≡ Some v
+        → Rising c.still_open → SlotsRepresent C l s c (Some w) → Alters c w effect part
+        → (w.number ≡ v.number → RepresentsMessage C l v.message w (c.known w.number) → DoesPart C l n r a b message w part)
+        → DoesEffect C l n r a b (record {
+          slots = with_value s.slots k (record v { message = message });
+          own = s.own;
+          payload = s.payload;
+        }) effect (Some w)
+    slot_effects s v message c w effect part k e get rising h alters f =
+        let there = entry_there s.slots.entries k v get in
+        let x = there.0 in
+        let was = in_slot s x c w k e there.1 h in
+        performs_on r a b alters.lines
+        (λ kept. rw (e, ← there.2, revalued_set s.slots.entries k x message there.1)
+        (slot_now s x message c w effect part k alters rising h e there.1 kept))
+        (f (rw there.2 at was.0) (rw there.2 at was.1))
+
+  -- there is a slot where an open message is
+  pub no_slot_says : {A : Type 0} (s : Slots) (c : Tracked) (owner_of_next : Option MessageKey) (k : ℕ) → s.payload ≡ payload.Open k
+      → (k < length s.slots.entries → ⊥) → SlotsRepresent C l s c owner_of_next → A
+  no_slot_says s c None k e n h = absurd (rw e at h.payload)
+  no_slot_says s c (Some w) k e n h =
+      let p = place_of s c w k e h in
+      absurd (n (no_more_slots C l s.slots.entries (slots_of c.known c.still_open) k
+      (record { open_as = p.slot; octets = c.known p.slot.opener.number }) h.slots (slots_get c k p.slot p.here)))
+
+  pub begin_keeps : (s : Slots) (m : Message) (c : Tracked) (owner_of_next : Option MessageKey) (w : MessageKey) (number : ℕ) (header : List ℕ)
+      → SlotsRepresent C l s c owner_of_next → Follows C l number header m [] → w.number ≡ number → w.header ≡ header
+      → c.known w.number ≡ Some [] → Each (λ o. o.opener.number ≡ w.number → ⊥) c.still_open
+      → SlotsRepresent C l (record { slots = s.slots; own = Some m; payload = payload.Own }) c (Some w)
+  begin_keeps s m c owner_of_next w number header h e n f known apart = record { slots = h.slots; payload = (apart, rw known kept) }
+    where
+      kept : RepresentsMessage C l (Some m) w (Some [])
+      kept = rw (n, f) e
+
+  -- an event that says nothing and takes nothing
+  opens_then : (at : ℕ) (w : MessageKey) (i : ℕ) (o : Option (List ℕ)) → octets_then (message_reader C l) (event at w (Opens i)) o ≡ o
+  unfolding octets_then lines_of lines_for lines_of_event up_to_last_line octet
+  opens_then at w i None = refl
+  opens_then at w i (Some xs) = ap Some (append-nil xs)
+
+  opened_live : (at : ℕ) (c : Tracked) (w : MessageKey) (i : ℕ)
+      → (tracked_at (message_reader C l) c (event at w (Opens i))).still_open ≡ c.still_open ++ record { id = i; opener = w } ∷ []
+  unfolding tracked_at changed
+  opened_live at c w i = refl
+
+  open_keeps : (s : Slots) (c : Tracked) (w : MessageKey) (at number : ℕ) (header : List ℕ) (i : ℕ) → s.payload ≡ payload.Own
+      → SlotsRepresent C l s c (Some w) → w.number ≡ number → w.header ≡ header
+      → SlotsRepresent C l (record {
+        slots = record {
+          most = s.slots.most;
+          entries = s.slots.entries ++ open_entry i number header s.own ∷ [];
+        };
+        own = None;
+        payload = payload.Open (length s.slots.entries);
+      })
+      (tracked_at (message_reader C l) c (event at w (Opens i))) (Some w)
+  open_keeps s c w at number header i e h n f =
+      let own = own_parts s c w e h in
+      let ev = event at w (Opens i) in
+      let o : Open = record { id = i; opener = w } in
+      let known : (tracked_at (message_reader C l) c ev).known w.number ≡ c.known w.number =
+      own_then (message_reader C l) c ev ∙ opens_then at w i (c.known w.number) in
+      let same : Each (λ a. (tracked_at (message_reader C l) c ev).known a.opener.number ≡ c.known a.opener.number) c.still_open =
+      each_weaker (λ a. a.opener.number ≡ w.number → ⊥)
+      (λ a. (tracked_at (message_reader C l) c ev).known a.opener.number ≡ c.known a.opener.number)
+      (λ a j. others_then (message_reader C l) c ev a.opener.number j) c.still_open own.0 in
+      let many : length s.slots.entries ≡ length c.still_open = are_as_many C l s.slots.entries (slots_of c.known c.still_open) h.slots ∙ slots_many c.known c.still_open in
+      record {
+        slots = rw (opened_live at c w i, slot_comes (tracked_at (message_reader C l) c ev).known c.known c.still_open o same, known)
+            (push_slot C l s.slots.entries (slots_of c.known c.still_open)
+            (open_entry i number header s.own)
+            (record { open_as = o; octets = c.known w.number }) h.slots
+            (record { number = sym n; header = sym f; id = refl; message = own.1 }));
+        payload = (refl, (o, rw (opened_live at c w i, many) (get_last c.still_open o), refl));
+      }
+
+  gone_live : (at : ℕ) (c : Tracked) (w : MessageKey) (what : EventKind) → IsGone what
+      → (tracked_at (message_reader C l) c (event at w what)).still_open ≡ filter (λ o. not (o.opener.number == w.number)) c.still_open
+  unfolding tracked_at
+  gone_live at c w what h = h c.still_open w
+
+  -- the slots, where a message that isn't open closes
+  own_gone : (c : Tracked) (w : MessageKey) (at : ℕ) (what : EventKind) (ks : List OpenEntry) → IsGone what
+      → Each (λ o. o.opener.number ≡ w.number → ⊥) c.still_open → AreSlots C l ks (slots_of c.known c.still_open)
+      → AreSlots C l ks (slots_of (tracked_at (message_reader C l) c (event at w what)).known (tracked_at (message_reader C l) c (event at w what)).still_open)
+  own_gone c w at what ks gone apart h =
+      let e = event at w what in
+      rw (
+        gone_live at c w what gone,
+        none_there c.still_open w.number apart,
+        no_slot
+            (tracked_at (message_reader C l) c e).known c.known c.still_open w.number apart
+            (λ i j. others_then (message_reader C l) c e i j),
+      ) h
+
+  -- and where the one in this slot does
+  pub slot_goes : (c : Tracked) (k : ℕ) (o : Open) (at : ℕ) (what : EventKind) (ks : List OpenEntry) → IsGone what
+      → Rising c.still_open → slice_get c.still_open k ≡ Some o → AreSlots C l ks (slots_of c.known c.still_open)
+      → AreSlots C l (remove ks k) (slots_of (tracked_at (message_reader C l) c (event at o.opener what)).known
+      (tracked_at (message_reader C l) c (event at o.opener what)).still_open)
+  slot_goes c k o at what ks gone rising here h =
+      let e = event at o.opener what in
+      rw (
+        gone_live at c o.opener what gone,
+        slot_gone
+            (tracked_at (message_reader C l) c e).known c.known c.still_open k o rising here
+            (λ i j. others_then (message_reader C l) c e i j),
+      ) (remove_slot C l ks (slots_of c.known c.still_open) k h)
+
+  -- a call that closes a message
+  module _ {A E : Type 0} {n : A → ℕ} (r : Result A E) (a b : OutLog) (at : ℕ) where
+    pub own_closes : (s : Slots) (own' : Option Message) (c : Tracked) (owner_of_next : Option MessageKey) → s.payload ≡ payload.Own → own' ≡ None → SlotsRepresent C l s c owner_of_next
+        → ((w : MessageKey) → RepresentsMessage C l s.own w (c.known w.number) → WritesLines n r a b (lines_of (message_reader C l) (event at w Closes) (c.known w.number)))
+        → DoesEffect C l n r a b (record { slots = s.slots; own = own'; payload = payload.Nobody }) (effect_to C l at c owner_of_next Closes) None
+    own_closes s own' c None e none h f = absurd (rw e at h.payload)
+    own_closes s own' c (Some w) e none h f =
+        let now = own_parts s c w e h in
+        performs_on r a b refl (λ k. record { slots = own_gone c w at Closes s.slots.entries gone_closes now.0 h.slots; payload = none }) (f w now.1)
+
+    pub slot_closes : (s : Slots) (x : OpenEntry) (slots' : Entries Contents) (c : Tracked) (owner_of_next : Option MessageKey) (k : ℕ)
+        → s.payload ≡ payload.Open k → slice_get s.slots.entries k ≡ Some x → slots'.entries ≡ remove s.slots.entries k
+        → Rising c.still_open → SlotsRepresent C l s c owner_of_next
+        → ((w : MessageKey) → RepresentsMessage C l x.value.message w (c.known w.number) → WritesLines n r a b (lines_of (message_reader C l) (event at w Closes) (c.known w.number)))
+        → DoesEffect C l n r a b (record { slots = slots'; own = s.own; payload = payload.Nobody }) (effect_to C l at c owner_of_next Closes) None
+    slot_closes s x slots' c None k e get items rising h f = absurd (rw e at h.payload)
+    slot_closes s x slots' c (Some w) k e get items rising h f =
+        let p = place_of s c w k e h in
+        performs_on r a b refl (λ j. record {
+          slots = rw (items, ← p.is)
+              (slot_goes c k p.slot at Closes s.slots.entries gone_closes rising p.here h.slots);
+          payload = p.own;
+        })
+        (f w (in_slot s x c w k e get h).1)
+
+  pub nobody_closes : {E : Type 0} (log : OutLog) (at : ℕ) (s : Slots) (c : Tracked) (owner_of_next : Option MessageKey) → s.payload ≡ payload.Nobody → SlotsRepresent C l s c owner_of_next
+      → DoesEffect {E = E} C l one_if (Ok false) log log (record { slots = s.slots; own = s.own; payload = payload.Nobody }) (effect_to C l at c owner_of_next Closes) None
+  nobody_closes log at s c None e h = does_nothing false log refl (record { slots = h.slots; payload = rw e at h.payload })
+  nobody_closes log at s c (Some w) e h = absurd (rw e at h.payload)
+
+  -- as the code does it
+  pub open_with : (s : Slots) (slots' : Entries Contents) (c : Tracked) (w : MessageKey) (at number : ℕ) (header : List ℕ)
+      (i : ℕ) (message own' : Option Message) (k : ℕ)
+      → slots'.entries ≡ s.slots.entries ++ open_entry i number header message ∷ []
+      → message ≡ s.own → own' ≡ None → k ≡ length s.slots.entries
+      → s.payload ≡ payload.Own → SlotsRepresent C l s c (Some w) → w.number ≡ number → w.header ≡ header
+      → SlotsRepresent C l (record { slots = slots'; own = own'; payload = payload.Open k }) (tracked_at (message_reader C l) c (event at w (Opens i))) (Some w)
+  open_with s slots' c w at number header i message own' k items m o l e h n f =
+      let all = open_keeps s c w at number header i e h n f in
+      record { slots = rw (items, m) all.slots; payload = rw (o, l) all.payload }
+
+  pub open_slot : (s : Slots) (x : OpenEntry) (c : Tracked) (owner_of_next : Option MessageKey) (k : ℕ) (o : Open) → SlotsRepresent C l s c owner_of_next
+      → slice_get c.still_open k ≡ Some o → slice_get s.slots.entries k ≡ Some x
+      → IsSlot C l x (record { open_as = o; octets = c.known o.opener.number })
+  open_slot s x c owner_of_next k o h here e =
+      slot_of C l s.slots.entries (slots_of c.known c.still_open) k x (record { open_as = o; octets = c.known o.opener.number }) h.slots e (slots_get c k o here)
+
+  pub open_there : {A : Type 0} (s : Slots) (c : Tracked) (owner_of_next : Option MessageKey) (k : ℕ) (o : Open)
+      → (k < length s.slots.entries → ⊥) → SlotsRepresent C l s c owner_of_next → slice_get c.still_open k ≡ Some o → A
+  open_there s c owner_of_next k o n h here =
+      absurd (n (no_more_slots C l s.slots.entries (slots_of c.known c.still_open) k
+      (record { open_as = o; octets = c.known o.opener.number }) h.slots (slots_get c k o here)))
+
+  pub cancel_keeps : (s : Slots) (slots' : Entries Contents) (c : Tracked) (w : MessageKey) (k : ℕ) (o : Open) (at j : ℕ)
+      → SlotsRepresent C l s c (Some w) → s.payload ≡ payload.Own → slice_get c.still_open k ≡ Some o → Rising c.still_open
+      → slots'.entries ≡ remove s.slots.entries k
+      → SlotsRepresent C l (record { slots = slots'; own = s.own; payload = s.payload }) (tracked_at (message_reader C l) c (event at o.opener (Cancelled j))) (Some w)
+  cancel_keeps s slots' c w k o at j h e here rising items =
+      let p = own_parts s c w e h in
+      let ev = event at o.opener (Cancelled j) in
+      let apart : o.opener.number ≡ w.number → ⊥ = at_index (λ a. a.opener.number ≡ w.number → ⊥) c.still_open k o here p.0 in
+      rw e (record {
+        slots = rw items (slot_goes c k o at (Cancelled j) s.slots.entries (gone_cancelled j) rising here h.slots);
+        payload = (
+          rw (gone_live at c o.opener (Cancelled j) (gone_cancelled j))
+              (each_filter (λ a. a.opener.number ≡ w.number → ⊥) (λ a. not (a.opener.number == o.opener.number)) c.still_open p.0),
+          rw
+              (others_then (message_reader C l) c ev w.number (λ same. apart (sym same))) p.1,
+        );
+      })

@@ -1,0 +1,222 @@
+-- An octet of a payload part by part, as the code does it: the message whose it is takes it, then the request id, then the end.
+use Rattle.std.proofs.Common.{inl, inr, append-nil, suc, ◌≡◌, ℕ, ◌-◌, ◌<◌, ◌≤◌, Bool, true, false, List, [], ◌∷◌, ◌++◌, length, get_or, refl, sym, ap, ◌∙◌, Option, Some, None, arith}
+use Rattle.std.specs.Prelude.{◌==◌, if◌then◌else◌}
+use Rattle.std.proofs.lemmas.Bool.{ne_eqb, eqb-true, le-leb, lt-ltb, cases_lt}
+use Rattle.std.proofs.lemmas.List.{length_push, get_or_push, take-append-le}
+use Rattle.giop_sig.specs.Table.{Table}
+use Rattle.giop_message.specs.Signatures.{RequestTable, signatures_of}
+use Rattle.giop_message.specs.ReaderOfTable.{message_reader}
+use Rattle.giop_message.specs.MessageReader.{MessageReader, IsStreamable}
+use Rattle.giop_message.specs.Headers.{size, is_fragment, has_name}
+use Rattle.giop_message.proofs.MessageLaws.{is_ordered, is_closing, is_named}
+use Rattle.giop_stream.specs.declared.slots.Slots.{Slots}
+use Rattle.giop_stream.specs.declared.current.Current.{Current}
+use Rattle.giop_stream.specs.Rules.{Rules, rules}
+use Rattle.giop_stream.specs.Framing.{Message}
+use Rattle.giop_stream.specs.Events.{Takes, MessageKey, Open, Event, message_key, place, opener_of, has_named, goes_past, id, events_at_octet, events_at_request_id, events_of_octet, opened, Rising, now_of, request_id_events, message_end_events}
+use Rattle.giop_stream.specs.Effects.{Tracked, Effect, effects, tracked_at, then_effect, with_octet}
+use Rattle.giop_stream.specs.SlotsRepresent.{SlotsRepresent, event, effect_to}
+use Rattle.giop_stream.specs.PayloadRuns.{run_effect}
+use Rattle.giop_stream.specs.PayloadOwner.{IsBeforeOctet, IsAfterTake, IsAtOctet, IsNewest, opener_key, owner_of_next, owner_of_octet, owner_after, id_events, end_events}
+use Rattle.giop_stream.proofs.Events.EventsOfOctet.{quiet_octet, quiet_continues}
+use Rattle.giop_stream.proofs.Events.EventsKeep.{rising_push, rising_filter, opened_by, kept_id}
+use Rattle.giop_stream.proofs.SlotSteps.OneSlotChanges.{own_then}
+use Rattle.giop_stream.proofs.StreamLines.IdBeforeEnd.{named_then}
+use Rattle.giop_stream.proofs.SlotSteps.Cases.{effects_append, octet_own, octet_passed, octet_lost}
+use Rattle.giop_stream.proofs.SlotSteps.Ending.{whose_early, whose_plain}
+use Rattle.giop_stream.proofs.SlotSteps.AfterOctet.{whose_own}
+
+-- ---- The open messages between the parts.
+
+pub effects_live : (R : MessageReader) (c : Tracked) (es : List Event) → (effects R c es).tracked.still_open ≡ opened c.still_open es
+unfolding effects opened tracked_at
+effects_live R c [] = refl
+effects_live R c (e ∷ es) = effects_live R (tracked_at R c e) es
+
+-- a Fragment's request id opens and closes nothing
+fragment_still : (most : ℕ) (still_open : List Open) (m : Message) → is_fragment m.header ≡ true → opened still_open (id_events most still_open m) ≡ still_open
+unfolding id_events request_id_events opened
+fragment_still most still_open m f = go (length m.payload == 4)
+  where
+    go : (b : Bool) → opened still_open (if b then events_at_request_id most still_open m else []) ≡ still_open
+    go true = rw f (quiet_continues still_open (now_of m) (opener_of still_open m))
+    go false = refl
+
+-- so that the end does the same after it
+plain_end : (still_open still_open' : List Open) (m : Message) → is_fragment m.header ≡ false → end_events still_open' m ≡ end_events still_open m
+unfolding end_events message_end_events
+plain_end still_open still_open' m f = rw f refl
+
+end_same : (most : ℕ) (still_open : List Open) (m : Message) → end_events (opened still_open (id_events most still_open m)) m ≡ end_events still_open m
+end_same most still_open m = go (is_fragment m.header) refl
+  where
+    go : (f : Bool) → is_fragment m.header ≡ f → end_events (opened still_open (id_events most still_open m)) m ≡ end_events still_open m
+    go true f = ap (λ (open' : List Open). end_events open' m) (fragment_still most still_open m f)
+    go false f = plain_end still_open (opened still_open (id_events most still_open m)) m f
+
+-- and the octets are the same message's
+whose_same : (most : ℕ) (still_open : List Open) (m : Message) → owner_of_next (opened still_open (id_events most still_open m)) m ≡ owner_of_next still_open m
+whose_same most still_open m = go (is_fragment m.header) refl
+  where
+    go : (f : Bool) → is_fragment m.header ≡ f → owner_of_next (opened still_open (id_events most still_open m)) m ≡ owner_of_next still_open m
+    go true f = ap (λ (open' : List Open). owner_of_next open' m) (fragment_still most still_open m f)
+    go false f = whose_plain (opened still_open (id_events most still_open m)) m f ∙ sym (whose_plain still_open m f)
+
+rising_id : (most : ℕ) (still_open : List Open) (m : Message) → Rising still_open → (length m.payload ≡ 4 → IsNewest m.number still_open) → Rising (opened still_open (id_events most still_open m))
+unfolding id_events opened opened_by
+rising_id most still_open m r newest = go (length m.payload == 4) refl
+  where
+    go : (b : Bool) → (length m.payload == 4) ≡ b → Rising (opened still_open (if b then events_at_request_id most still_open m else []))
+    go true e =
+        kept_id most Rising still_open m (record {
+          fewer = rising_filter;
+          more = λ can q. rising_push still_open (opened_by m) q
+              (newest can.named);
+        }) (eqb-true (length m.payload) 4 e) r
+    go false e = r
+
+-- ---- The parts.
+
+module _ (R : Rules) (c : Tracked) (m : Message) where
+  abbrev pub first : Effect
+  first = effects R.reading c (events_at_octet c.still_open m)
+
+  abbrev pub second : Effect
+  second = effects R.reading first.tracked (id_events R.most first.tracked.still_open m)
+
+  abbrev pub third : Effect
+  third = effects R.reading second.tracked (end_events second.tracked.still_open m)
+
+  pub first_live : first.tracked.still_open ≡ c.still_open
+  first_live = effects_live R.reading c (events_at_octet c.still_open m) ∙ quiet_octet c.still_open (now_of m) (opener_of c.still_open m)
+
+  second_live : second.tracked.still_open ≡ opened c.still_open (id_events R.most c.still_open m)
+  second_live = effects_live R.reading first.tracked (id_events R.most first.tracked.still_open m) ∙ ap (λ (still_open : List Open). opened still_open (id_events R.most still_open m)) first_live
+
+  parts : (length m.payload ≡ 0 → ⊥) → events_of_octet R.most c.still_open m ≡ events_at_octet c.still_open m ++ (id_events R.most c.still_open m ++ end_events c.still_open m)
+  unfolding events_of_octet id_events end_events
+  parts some = rw (ne_eqb (length m.payload) 0 some) refl
+
+  pub in_parts : (length m.payload ≡ 0 → ⊥) → effects R.reading c (events_of_octet R.most c.still_open m) ≡ then_effect first (then_effect second third)
+  in_parts some =
+      let ids : id_events R.most c.still_open m ≡ id_events R.most first.tracked.still_open m = ap (λ (still_open : List Open). id_events R.most still_open m) (sym first_live) in
+      let ends : end_events c.still_open m ≡ end_events second.tracked.still_open m = sym (ap (λ (still_open : List Open). end_events still_open m) second_live ∙ end_same R.most c.still_open m) in
+      ap (effects R.reading c) (parts some ∙ (ap (λ (es : List Event). events_at_octet c.still_open m ++ (es ++ end_events c.still_open m)) ids
+      ∙ ap (λ (es : List Event). events_at_octet c.still_open m ++ (id_events R.most first.tracked.still_open m ++ es)) ends))
+      ∙ (effects_append R.reading c (events_at_octet c.still_open m) (id_events R.most first.tracked.still_open m ++ end_events second.tracked.still_open m)
+      ∙ rw (effects_append R.reading first.tracked (id_events R.most first.tracked.still_open m) (end_events second.tracked.still_open m)) refl)
+
+  pub second_whose : owner_of_next first.tracked.still_open m ≡ owner_of_next second.tracked.still_open m
+  second_whose = ap (λ (still_open : List Open). owner_of_next still_open m) first_live ∙ (sym (whose_same R.most c.still_open m) ∙ ap (λ (still_open : List Open). owner_of_next still_open m) (sym second_live))
+
+  pub second_rising : Rising c.still_open → (length m.payload ≡ 4 → IsNewest m.number c.still_open) → Rising second.tracked.still_open
+  second_rising r newest = rw second_live (rising_id R.most c.still_open m r newest)
+
+  -- whose the octets are after the message's last one is nobody's, whatever is open
+  pub third_whose : owner_after second.tracked.still_open m ≡ owner_after third.tracked.still_open m
+  unfolding owner_after end_events opened
+  third_whose = go (length m.payload == size m.header) refl
+    where
+      go : (b : Bool) → (length m.payload == size m.header) ≡ b
+          → (if b then None else owner_of_next second.tracked.still_open m) ≡ (if b then None else owner_of_next third.tracked.still_open m)
+      go true e = refl
+      go false e = ap (λ (still_open : List Open). owner_of_next still_open m) (sym (effects_live R.reading second.tracked (end_events second.tracked.still_open m) ∙ rw e refl))
+
+-- ---- Whose an octet is that comes.
+
+same_opener : (still_open : List Open) (m : Message) (x : ℕ) → 4 ≤ length m.payload → opener_of still_open (with_octet m x) ≡ opener_of still_open m
+unfolding opener_of id
+same_opener still_open m x many = rw (take-append-le 4 m.payload (x ∷ []) many) refl
+
+pub whose_next : (still_open : List Open) (m : Message) (x : ℕ) → owner_of_octet still_open (with_octet m x) ≡ owner_of_next still_open m
+unfolding owner_of_octet owner_of_next has_named goes_past
+whose_next still_open m x = elim (cases_lt (length m.payload) 4) [
+  | inl few ↦ unfold owner_of_next owner_of_octet in whose_own still_open (with_octet m x) (omega (arith, length_push m.payload x)) ∙ sym (whose_early still_open m few)
+  | inr many ↦
+      let past : 4 < length (m.payload ++ x ∷ []) = omega (arith, length_push m.payload x) in
+      rw (lt-ltb 4 (length (m.payload ++ x ∷ [])) past, le-leb 4 (length m.payload) (omega arith), same_opener still_open m x (omega arith)) refl
+]
+
+module _ (C : Table) (l : RequestTable) where
+  pub in_turn : IsStreamable (message_reader C l)
+  in_turn = record { named = is_named C l; ordered = is_ordered (signatures_of C l); closing = is_closing (signatures_of C l) }
+
+  about_takes : (c : Tracked) (m : Message) (x at : ℕ) (r : Option Open) → goes_past m ≡ true → opener_of c.still_open m ≡ r
+      → get_or m.payload (length m.payload - 1) 0 ≡ x → place m ≡ at
+      → effects (message_reader C l) c (events_at_octet c.still_open m) ≡ effect_to C l at c (opener_key r) (Takes x)
+  about_takes c m x at None past e last here = octet_lost (message_reader C l) c c.still_open m past e
+  about_takes c m x at (Some o) past e last here = octet_passed (message_reader C l) c c.still_open m o past e ∙ rw (last, here) refl
+
+  pub octet_does : (c : Tracked) (m : Message) (x at : ℕ) → get_or m.payload (length m.payload - 1) 0 ≡ x → place m ≡ at
+      → effects (message_reader C l) c (events_at_octet c.still_open m) ≡ effect_to C l at c (owner_of_octet c.still_open m) (Takes x)
+  unfolding owner_of_octet
+  octet_does c m x at last here = go (goes_past m) refl
+    where
+      go : (b : Bool) → goes_past m ≡ b → effects (message_reader C l) c (events_at_octet c.still_open m) ≡ effect_to C l at c
+          (if goes_past m then opener_key (opener_of c.still_open m) else Some (message_key m)) (Takes x)
+      go true past = rw past (about_takes c m x at (opener_of c.still_open m) past refl last here)
+      go false own = rw own (octet_own (message_reader C l) c c.still_open m own ∙ rw (last, here) refl)
+
+module _ (C : Table) (l : RequestTable) (s : Slots) (c : Tracked) (m : Message) (now : Current) (x : ℕ) (h : IsBeforeOctet C l s c m now x) where
+  last_is : get_or (m.payload ++ x ∷ []) (length (m.payload ++ x ∷ []) - 1) 0 ≡ x
+  last_is = get_or_push m.payload x 0 (length (m.payload ++ x ∷ []) - 1) (omega (arith, length_push m.payload x))
+
+  pub some_come : length (m.payload ++ x ∷ []) ≡ 0 → ⊥
+  some_come e = omega (arith, length_push m.payload x, e)
+
+  some_place : suc (now.place - 1) ≡ now.place
+  unfolding place
+  some_place = omega (arith, h.current.place)
+
+  takes_at : first (rules C l s.slots.most) c (with_octet m x) ≡ effect_to C l now.place c (owner_of_next c.still_open m) (Takes x)
+  takes_at = rw (← whose_next c.still_open m x) (octet_does C l c (with_octet m x) x now.place last_is h.current.place)
+
+  -- which is a run of one octet
+  pub takes_effect : first (rules C l s.slots.most) c (with_octet m x) ≡ run_effect C l (now.place - 1) c (owner_of_next c.still_open m) (x ∷ [])
+  unfolding run_effect
+  takes_effect =
+      let effect = effect_to C l now.place c (owner_of_next c.still_open m) (Takes x) in
+      takes_at ∙ rw some_place (λ j. record { tracked = effect.tracked; lines = sym (append-nil effect.lines) j })
+
+  known_is : length m.payload < 4 → has_name m.header ≡ true
+      → (first (rules C l s.slots.most) c (with_octet m x)).tracked.known m.number ≡ Some (m.payload ++ x ∷ [])
+  known_is few name =
+      let w : owner_of_octet c.still_open (with_octet m x) ≡ Some (message_key m) = whose_own c.still_open (with_octet m x) (omega (arith, length_push m.payload x)) in
+      let tracked : (first (rules C l s.slots.most) c (with_octet m x)).tracked ≡ tracked_at (message_reader C l) c (event now.place (message_key m) (Takes x)) =
+      ap (λ (p : Effect). p.tracked) (octet_does C l c (with_octet m x) x now.place last_is h.current.place)
+      ∙ ap (λ (v : Option MessageKey). (effect_to C l now.place c v (Takes x)).tracked) w in
+      ap (λ (d : Tracked). d.known m.number) tracked
+      ∙ (own_then (message_reader C l) c (event now.place (message_key m) (Takes x))
+      ∙ rw (h.alive name few) (named_then (message_reader C l) (in_turn C l) now.place (message_key m) m.payload x name few))
+
+  pub taken_here : (s' : Slots) → SlotsRepresent C l s' (run_effect C l (now.place - 1) c (owner_of_next c.still_open m) (x ∷ [])).tracked
+      (owner_of_next c.still_open m) → IsAfterTake C l s' (first (rules C l s.slots.most) c (with_octet m x)).tracked (with_octet m x) now
+  taken_here s' k =
+      let R = rules C l s.slots.most in
+      let m' = with_octet m x in
+      let still_open : (first R c m').tracked.still_open ≡ c.still_open = first_live R c m' in
+      let w : owner_of_octet (first R c m').tracked.still_open m' ≡ owner_of_next c.still_open m = ap (λ (open' : List Open). owner_of_octet open' m') still_open ∙ whose_next c.still_open m x in
+      record {
+        keeps = rw (w, takes_effect) k;
+        rising = rw still_open h.rising;
+        current = h.current;
+        payload_count = omega (arith, length_push m.payload x, h.payload_count);
+        newest = λ four. rw still_open (h.newest (omega (arith, length_push m.payload x, four)));
+        alive = λ name four. known_is (omega (arith, length_push m.payload x, four)) name;
+        says = h.says;
+      }
+
+  pub come_is : length (m.payload ++ x ∷ []) ≡ now.payload_count
+  come_is = omega (arith, length_push m.payload x, h.payload_count)
+
+  pub named_at : (s' : Slots) → SlotsRepresent C l s' (second (rules C l s.slots.most) c (with_octet m x)).tracked
+      (owner_of_next (first (rules C l s.slots.most) c (with_octet m x)).tracked.still_open (with_octet m x))
+      → IsAtOctet C l s' (second (rules C l s.slots.most) c (with_octet m x)).tracked (with_octet m x) now
+  named_at s' k =
+      let R = rules C l s.slots.most in
+      let m' = with_octet m x in
+      record {
+        keeps = rw (← second_whose R c m') k;
+        rising = second_rising R c m' h.rising (λ four. h.newest (omega (arith, length_push m.payload x, four)));
+        current = h.current;
+      }

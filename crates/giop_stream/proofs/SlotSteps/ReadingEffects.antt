@@ -1,0 +1,256 @@
+-- What the reading of a message by a table makes of its events, and what a message's calls do of it.
+use Rattle.std.proofs.Common.{inl, inr, ◌⊎◌, ◌≡◌, ℕ, suc, Bool, true, false, List, [], ◌∷◌, ◌++◌, length, map, refl, sym, ap, subst, ◌∙◌, Option, Some, None, Result, Ok, Err}
+use Rattle.std.specs.Prelude.{◌||◌, if◌then◌else◌, is_some, IfOk}
+use Rattle.std.specs.List.{list_any}
+use Rattle.std.proofs.lemmas.Bool.{eq-eqb}
+use Rattle.giop_print.specs.Lines.{fault_line, cancelled_line}
+use Rattle.giop_print.specs.Output.{OutLog, Wrote, WroteFront, Writes}
+use Rattle.giop_sig.specs.Table.{Table}
+use Rattle.giop_message.specs.declared.message.Message.{Message}
+use Rattle.giop_message.specs.MessageReader.{LineClass, Value, Call, Rest, Fault, End, TimedLine, MessageReader, AreInLineOrder, AtClose, due, is_fault, is_last}
+use Rattle.giop_message.specs.Text.{line_class_text, said_text}
+use Rattle.giop_message.specs.Signatures.{RequestTable, signatures_of}
+use Rattle.giop_message.specs.Messages.{message, stage_of, close}
+use Rattle.giop_message.specs.ReaderOfTable.{message_reader}
+use Rattle.giop_message.specs.MessageState.{due_text, closing_text, closes_text, is_short, Follows}
+use Rattle.giop_message.proofs.MessageLaws.{is_ordered, octet_text, close_short, is_closing, close_is}
+use Rattle.giop_stream.specs.declared.fault.FramingFault.{FramingFault}
+use Rattle.giop_stream.specs.Events.{MessageKey, Event, Takes, Faults, Cancelled, Closes, octet, joined}
+use Rattle.giop_stream.specs.Lines.{Line, Said, CancelledBy, Faulted, line, lines_of_event, is_last_of, up_to_last_line}
+use Rattle.giop_stream.specs.Text.{framing_fault_word, line_text, lines_text}
+use Rattle.giop_stream.specs.Stream.{fault_count}
+use Rattle.giop_stream.specs.Effects.{lines_of, octets_then, part_of, no_part, lines_for}
+use Rattle.giop_stream.specs.SlotsRepresent.{RepresentsMessage, event}
+use Rattle.giop_stream.specs.DoesEffect.{WritesLines, one_if}
+
+-- ---- Lines that a reading says.
+
+abbrev said_lines : ℕ → ℕ → List TimedLine → List Line
+said_lines at number rs = map (λ r. record { place = at; number = number; content = Said r.line_class r.text }) rs
+
+abbrev close_lines : ℕ → ℕ → List (LineClass × List ℕ) → List Line
+close_lines at number cs = map (λ c. record { place = at; number = number; content = Said c.0 c.1 }) cs
+
+said_is : (at number : ℕ) (rs : List TimedLine) → lines_text (said_lines at number rs) ≡ said_text at number rs
+unfolding lines_text said_text
+said_is at number [] = refl
+said_is at number (r ∷ rs) = ap (λ (t : List ℕ). line_class_text at number r.line_class r.text ++ t) (said_is at number rs)
+
+closed_is : (at number : ℕ) (cs : List (LineClass × List ℕ)) → lines_text (close_lines at number cs) ≡ closes_text number at cs
+unfolding lines_text closes_text
+closed_is at number [] = refl
+closed_is at number (c ∷ cs) = ap (λ (t : List ℕ). line_class_text at number c.0 c.1 ++ t) (closed_is at number cs)
+
+-- two lines of one octet are a value and its call, or a value and a fault
+two_values : (s t : LineClass) → AreInLineOrder (s ∷ t ∷ []) → (s ≡ Value) × ((t ≡ Call) ⊎ (t ≡ Fault))
+two_values s t (inl e) = absurd cc
+two_values s t (inr (inl e)) = absurd cc
+two_values s t (inr (inr (inl e))) = (cc, inl cc)
+two_values s t (inr (inr (inr (inl e)))) = absurd cc
+two_values s t (inr (inr (inr (inr (inl e))))) = absurd cc
+two_values s t (inr (inr (inr (inr (inr e))))) = (cc, inr cc)
+
+few_in_turn : (a b c : LineClass) (more : List LineClass) → AreInLineOrder (a ∷ b ∷ c ∷ more) → ⊥
+few_in_turn a b c more (inl e) = absurd cc
+few_in_turn a b c more (inr (inl e)) = absurd cc
+few_in_turn a b c more (inr (inr (inl e))) = absurd cc
+few_in_turn a b c more (inr (inr (inr (inl e)))) = absurd cc
+few_in_turn a b c more (inr (inr (inr (inr (inl e))))) = absurd cc
+few_in_turn a b c more (inr (inr (inr (inr (inr e))))) = absurd cc
+
+no_end : AreInLineOrder (End ∷ []) → ⊥
+no_end (inl e) = absurd cc
+no_end (inr (inl e)) = absurd cc
+no_end (inr (inr (inl e))) = absurd cc
+no_end (inr (inr (inr (inl e)))) = absurd cc
+no_end (inr (inr (inr (inr (inl e))))) = absurd cc
+no_end (inr (inr (inr (inr (inr e))))) = absurd cc
+
+-- two lines of a close are a part of the rest and the end
+two_closes : (s t : LineClass) → AtClose (s ∷ t ∷ []) → (s ≡ Rest) × (t ≡ End)
+two_closes s t (inl e) = absurd cc
+two_closes s t (inr (inl e)) = absurd cc
+two_closes s t (inr (inr e)) = (cc, cc)
+
+few_at_close : (a b c : LineClass) (more : List LineClass) → AtClose (a ∷ b ∷ c ∷ more) → ⊥
+few_at_close a b c more (inl e) = absurd cc
+few_at_close a b c more (inr (inl e)) = absurd cc
+few_at_close a b c more (inr (inr e)) = absurd cc
+
+turn_stands : (at n : ℕ) (rs : List TimedLine) → AreInLineOrder (map (λ r. r.line_class) rs) → up_to_last_line (λ i. false) (said_lines at n rs) ≡ said_lines at n rs
+unfolding up_to_last_line is_last_of
+turn_stands at n (r ∷ s ∷ []) h = let e = two_values r.line_class s.line_class h in rw (e.0, eq-eqb n n refl) refl
+turn_stands at n (r ∷ s ∷ t ∷ rs) h = absurd (few_in_turn r.line_class s.line_class t.line_class (map (λ r. r.line_class) rs) h)
+turn_stands at n _ h = refl
+
+one_fault : (at n : ℕ) (s : LineClass) (text : List ℕ) → fault_count (record { place = at; number = n; content = Said s text } ∷ []) ≡ (if is_fault s || false then 1 else 0)
+unfolding fault_count
+one_fault at n Value text = refl
+one_fault at n _ text = refl
+
+turn_faults : (at n : ℕ) (rs : List TimedLine) → AreInLineOrder (map (λ r. r.line_class) rs) → fault_count (said_lines at n rs) ≡ (if list_any (λ r. is_fault r.line_class) rs then 1 else 0)
+unfolding fault_count
+turn_faults at n [] h = refl
+turn_faults at n (r ∷ []) h = unfold fault_count in one_fault at n r.line_class r.text
+turn_faults at n (r ∷ s ∷ []) h = go (two_values r.line_class s.line_class h)
+  where
+    go : (r.line_class ≡ Value) × ((s.line_class ≡ Call) ⊎ (s.line_class ≡ Fault)) → fault_count (said_lines at n (r ∷ s ∷ [])) ≡ (if list_any (λ r. is_fault r.line_class) (r ∷ s ∷ []) then 1 else 0)
+    go (e, inl c) = rw (e, c) refl
+    go (e, inr c) = rw (e, c) refl
+turn_faults at n (r ∷ s ∷ t ∷ rs) h = absurd (few_in_turn r.line_class s.line_class t.line_class (map (λ r. r.line_class) rs) h)
+
+one_last : (s : LineClass) → AreInLineOrder (s ∷ []) → is_last s ≡ is_fault s
+one_last End h = absurd (no_end h)
+one_last _ h = refl
+
+turn_last : (at n : ℕ) (rs : List TimedLine) → AreInLineOrder (map (λ r. r.line_class) rs) → list_any (is_last_of n) (said_lines at n rs) ≡ list_any (λ r. is_fault r.line_class) rs
+unfolding is_last_of
+turn_last at n [] h = refl
+turn_last at n (r ∷ []) h = rw (eq-eqb n n refl) (ap (λ (b : Bool). b || false) (one_last r.line_class h))
+turn_last at n (r ∷ s ∷ []) h = go (two_values r.line_class s.line_class h)
+  where
+    go : (r.line_class ≡ Value) × ((s.line_class ≡ Call) ⊎ (s.line_class ≡ Fault)) → list_any (is_last_of n) (said_lines at n (r ∷ s ∷ [])) ≡ list_any (λ r. is_fault r.line_class) (r ∷ s ∷ [])
+    go (e, inl c) = rw (e, c, eq-eqb n n refl) refl
+    go (e, inr c) = rw (e, c, eq-eqb n n refl) refl
+turn_last at n (r ∷ s ∷ t ∷ rs) h = absurd (few_in_turn r.line_class s.line_class t.line_class (map (λ r. r.line_class) rs) h)
+
+close_stands : (at n : ℕ) (cs : List (LineClass × List ℕ)) → AtClose (map (λ c. c.0) cs) → up_to_last_line (λ i. false) (close_lines at n cs) ≡ close_lines at n cs
+unfolding up_to_last_line is_last_of
+close_stands at n (c ∷ d ∷ []) h = let e = two_closes c.0 d.0 h in rw (e.0, eq-eqb n n refl) refl
+close_stands at n (c ∷ d ∷ e ∷ cs) h = absurd (few_at_close c.0 d.0 e.0 (map (λ c. c.0) cs) h)
+close_stands at n _ h = refl
+
+close_faults : (at n : ℕ) (cs : List (LineClass × List ℕ)) → AtClose (map (λ c. c.0) cs) → fault_count (close_lines at n cs) ≡ (if list_any (λ c. is_fault c.0) cs then 1 else 0)
+unfolding fault_count
+close_faults at n [] h = refl
+close_faults at n (c ∷ []) h = unfold fault_count in one_fault at n c.0 c.1
+close_faults at n (c ∷ d ∷ []) h = let e = two_closes c.0 d.0 h in rw (e.0, e.1) refl
+close_faults at n (c ∷ d ∷ e ∷ cs) h = absurd (few_at_close c.0 d.0 e.0 (map (λ c. c.0) cs) h)
+
+one_octet : (at : ℕ) (w : MessageKey) (x : ℕ) → joined w.number (event at w (Takes x) ∷ []) ≡ x ∷ []
+unfolding joined octet
+one_octet at w x = rw (eq-eqb w.number w.number refl) refl
+
+pub no_message : (message : Option Message) → is_some message ≡ false → message ≡ None
+no_message None h = refl
+no_message (Some m) h = absurd cc
+
+-- ---- The lines of an event, and what is kept then.
+
+module _ (R : MessageReader) where
+  pub over_lines : (e : Event) → lines_of R e None ≡ []
+  unfolding lines_of lines_for up_to_last_line
+  over_lines e = refl
+
+  pub over_then : (e : Event) → octets_then R e None ≡ None
+  unfolding octets_then
+  over_then e = rw (over_lines e) refl
+
+  imposed_lines : (at : ℕ) (w : MessageKey) (fault : FramingFault) (xs : List ℕ) → lines_of R (event at w (Faults fault)) (Some xs) ≡ record { place = at; number = w.number; content = Faulted fault } ∷ []
+  unfolding lines_of lines_for lines_of_event line up_to_last_line
+  imposed_lines at w fault xs = refl
+
+  imposed_then : (w : MessageKey) (o : Option (List ℕ)) (at : ℕ) (fault : FramingFault) → octets_then R (event at w (Faults fault)) o ≡ None
+  unfolding octets_then is_last_of
+  imposed_then w (Some xs) at fault = rw (imposed_lines at w fault xs, eq-eqb w.number w.number refl) refl
+  imposed_then w None at fault = over_then (event at w (Faults fault))
+
+  cancelled_lines : (at : ℕ) (w : MessageKey) (j : ℕ) (xs : List ℕ) → lines_of R (event at w (Cancelled j)) (Some xs) ≡ record { place = at; number = w.number; content = CancelledBy j } ∷ []
+  unfolding lines_of lines_for lines_of_event line up_to_last_line
+  cancelled_lines at w j xs = refl
+
+module _ (C : Table) (l : RequestTable) where
+  abbrev pub R_of : MessageReader
+  R_of = message_reader C l
+
+  in_turn : (header xs : List ℕ) (x : ℕ) → AreInLineOrder (map (λ r. r.line_class) (due R_of header xs x))
+  in_turn header xs x = (is_ordered (signatures_of C l)).ordered header (xs ++ x ∷ []) (suc (length xs))
+
+  at_close : (header xs : List ℕ) → AtClose (map (λ c. c.0) (R_of.closes header xs))
+  at_close header xs = (is_closing (signatures_of C l)).closed header xs
+
+  take_lines : (at : ℕ) (w : MessageKey) (xs : List ℕ) (x : ℕ) → lines_of R_of (event at w (Takes x)) (Some xs) ≡ said_lines at w.number (due R_of w.header xs x)
+  unfolding lines_of lines_for lines_of_event line
+  take_lines at w xs x = rw (one_octet at w x) (turn_stands at w.number (due R_of w.header xs x) (in_turn w.header xs x))
+
+  closing_lines : (at : ℕ) (w : MessageKey) (xs : List ℕ) → lines_of R_of (event at w Closes) (Some xs) ≡ close_lines at w.number (R_of.closes w.header xs)
+  unfolding lines_of lines_for lines_of_event line
+  closing_lines at w xs = close_stands at w.number (R_of.closes w.header xs) (at_close w.header xs)
+
+  -- ---- An octet.
+
+  abbrev pub Faulty : MessageKey → List ℕ → ℕ → Bool
+  Faulty w xs x = list_any (λ r. is_fault r.line_class) (due R_of w.header xs x)
+
+  pub take_text : (before : ℕ) (w : MessageKey) (xs : List ℕ) (x : ℕ) → lines_text (lines_of R_of (event (suc before) w (Takes x)) (Some xs)) ≡ due_text (signatures_of C l) w.number before w.header xs (x ∷ [])
+  take_text before w xs x =
+      ap lines_text (take_lines (suc before) w xs x) ∙ (said_is (suc before) w.number (due R_of w.header xs x) ∙ sym (octet_text (signatures_of C l) w.number before w.header xs x))
+
+  pub then_by : (at : ℕ) (w : MessageKey) (xs : List ℕ) (x : ℕ) → octets_then R_of (event at w (Takes x)) (Some xs) ≡ (if Faulty w xs x then None else Some (xs ++ x ∷ []))
+  unfolding octets_then octet
+  then_by at w xs x = rw (take_lines at w xs x, turn_last at w.number (due R_of w.header xs x) (in_turn w.header xs x)) refl
+
+  pub faults_by : (at : ℕ) (w : MessageKey) (xs : List ℕ) (x : ℕ) → fault_count (lines_of R_of (event at w (Takes x)) (Some xs)) ≡ (if Faulty w xs x then 1 else 0)
+  faults_by at w xs x = rw (take_lines at w xs x) (turn_faults at w.number (due R_of w.header xs x) (in_turn w.header xs x))
+
+  -- ---- A close.
+
+  shut_text : (P : List ℕ → Type 0) (w : MessageKey) (at : ℕ) (xs : List ℕ) → P (closing_text w.number at (close (stage_of (message (signatures_of C l) w.header xs))))
+      → P (lines_text (lines_of R_of (event at w Closes) (Some xs)))
+  shut_text P w at xs p =
+      let text : lines_text (lines_of R_of (event at w Closes) (Some xs)) ≡ closing_text w.number at (close (stage_of (message (signatures_of C l) w.header xs))) =
+      ap lines_text (closing_lines at w xs) ∙ (closed_is at w.number (R_of.closes w.header xs) ∙ sym (close_is (signatures_of C l) w.number at w.header xs)) in
+      subst P (sym text) p
+
+  shut_by : (at : ℕ) (w : MessageKey) (xs : List ℕ) → fault_count (lines_of R_of (event at w Closes) (Some xs)) ≡ one_if (is_short (close (stage_of (message (signatures_of C l) w.header xs))))
+  shut_by at w xs = rw (closing_lines at w xs, close_short (signatures_of C l) w.header xs) (close_faults at w.number (R_of.closes w.header xs) (at_close w.header xs))
+
+  pub shut_says : {E : Type 0} (m : Message) (w : MessageKey) (o : Option (List ℕ)) (at : ℕ) (r : Result Bool E) (a b : OutLog) → RepresentsMessage C l (Some m) w o
+      → ((number : ℕ) (header s : List ℕ) → Follows C l number header m s → Writes r a b (closing_text number at (close (stage_of (message (signatures_of C l) header s)))))
+      → IfOk r (λ short. (kept : RequestTable) (number : ℕ) (header s : List ℕ) → Follows C kept number header m s → short ≡ is_short (close (stage_of (message (signatures_of C kept) header s))))
+      → WritesLines one_if r a b (lines_of R_of (event at w Closes) o)
+  shut_says m w None at r a b k text short = absurd k
+  shut_says m w (Some xs) at (Err e) a b k text short = record { text = shut_text (WroteFront a b) w at xs (text w.number w.header xs k); faults = tt; kept = tt }
+  shut_says m w (Some xs) at (Ok answer) a b k text short = record {
+    text = shut_text (Wrote a b) w at xs (text w.number w.header xs k);
+    faults = shut_by at w xs ∙ ap one_if (sym (short l w.number w.header xs k));
+    kept = tt;
+  }
+
+  -- ---- An imposed fault, a cancel, and what happens to a message that is over.
+
+  pub no_lines : (w : MessageKey) (o : Option (List ℕ)) (e : Event) → RepresentsMessage C l None w o → lines_of R_of e o ≡ []
+  no_lines w None e k = over_lines R_of e
+  no_lines w (Some xs) e k = absurd k
+
+  pub over_part : (w : MessageKey) (o : Option (List ℕ)) (e : Event) → RepresentsMessage C l None w o → part_of R_of e o ≡ no_part None
+  unfolding part_of
+  over_part w None e k = λ j. record { octets = over_then R_of e j; lines = over_lines R_of e j }
+  over_part w (Some xs) e k = absurd k
+
+  pub imposed_part : (message : Option Message) (w : MessageKey) (o : Option (List ℕ)) (at : ℕ) (fault : FramingFault) → is_some message ≡ true → RepresentsMessage C l message w o
+      → part_of R_of (event at w (Faults fault)) o ≡ record { octets = None; lines = record { place = at; number = w.number; content = Faulted fault } ∷ [] }
+  unfolding part_of
+  imposed_part (Some m) w (Some xs) at fault h k = λ j. record { octets = imposed_then R_of w (Some xs) at fault j; lines = imposed_lines R_of at w fault xs j }
+  imposed_part (Some m) w None at fault h k = absurd k
+  imposed_part None w o at fault h k = absurd cc
+
+  pub cancel_says : (message : Option Message) (w : MessageKey) (o : Option (List ℕ)) (at j : ℕ) → is_some message ≡ true → RepresentsMessage C l message w o
+      → lines_of R_of (event at w (Cancelled j)) o ≡ record { place = at; number = w.number; content = CancelledBy j } ∷ []
+  cancel_says (Some m) w (Some xs) at j h k = cancelled_lines R_of at w j xs
+  cancel_says (Some m) w None at j h k = absurd k
+  cancel_says None w o at j h k = absurd cc
+
+pub faulted_text : (at number : ℕ) (fault : FramingFault) (w : MessageKey) → w.number ≡ number → line_text (record { place = at; number = w.number; content = Faulted fault }) ≡ fault_line number (framing_fault_word fault) at
+faulted_text at number fault w e = ap (λ (n : ℕ). fault_line n (framing_fault_word fault) at) e
+
+pub faulted_one : (at number : ℕ) (fault : FramingFault) → fault_count (record { place = at; number = number; content = Faulted fault } ∷ []) ≡ 1
+unfolding fault_count
+faulted_one at number fault = refl
+
+pub cancelled_text : (at number j : ℕ) (w : MessageKey) → w.number ≡ number → line_text (record { place = at; number = w.number; content = CancelledBy j }) ≡ cancelled_line number j
+cancelled_text at number j w e = ap (λ (n : ℕ). cancelled_line n j) e
+
+pub cancelled_none : (at number j : ℕ) → fault_count (record { place = at; number = number; content = CancelledBy j } ∷ []) ≡ 0
+unfolding fault_count
+cancelled_none at number j = refl

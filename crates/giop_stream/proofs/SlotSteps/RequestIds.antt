@@ -1,0 +1,140 @@
+-- The header of a message that goes by its request id begins with it, so that its first four octets say it.
+use Rattle.std.proofs.Common.{inl, inr, ◌≡◌, ℕ, zero, suc, ◌<◌, Bool, true, false, List, [], ◌∷◌, length, take, refl, sym, subst, ◌∙◌, Option, Some, None, arith}
+use Rattle.std.specs.Prelude.{◌==◌, ◌&&◌, ◌||◌, IfSome, nat_lt}
+use Rattle.std.proofs.lemmas.Bool.{and_parts, cases_lt, eqb-true, ltb-true, ne_eqb, false≢true}
+use Rattle.giop_cdr.specs.Numbers.{num}
+use Rattle.giop_sig.specs.Types.{Ty}
+use Rattle.giop_sig.specs.Table.{Table}
+use Rattle.giop_sig.specs.HeaderTypes.{BeginsWithId, header_type}
+use Rattle.giop_message.specs.Headers.{minor, kind, order, has_more, may_be_fragmented, is_opener, is_fragment, is_cancel, has_name}
+use Rattle.giop_message.specs.Signatures.{RequestTable, signatures_of}
+use Rattle.giop_message.specs.Messages.{message, message_lines}
+use Rattle.giop_message.specs.ReaderOfTable.{first_request_id}
+use Rattle.giop_message.proofs.MessageLaws.{begins_with_id, id_is_said}
+use Rattle.giop_checkpoint.specs.declared.fault.StreamFault.{StreamFault}
+use Rattle.giop_checkpoint.specs.declared.fault.StreamFault.TheVariants.{Version}
+use Rattle.giop_stream.specs.HeaderOctets.{unless, wrong, fronts, first_wrong, first_wrong_octet}
+use Rattle.giop_stream.specs.Framing.{Message}
+use Rattle.giop_stream.specs.Events.{id}
+use Rattle.giop_stream.specs.PayloadOwner.{SaysId}
+
+-- ---- A right header has one of three minor versions.
+
+behind : (x : List ℕ) (fs : List (List ℕ)) → first_wrong (x ∷ fs) ≡ None → first_wrong fs ≡ None
+unfolding first_wrong
+behind x fs h = go (wrong x) refl h
+  where
+    go : (o : Option StreamFault) → wrong x ≡ o → first_wrong (x ∷ fs) ≡ None → first_wrong fs ≡ None
+    go None e h = rw e at h
+    go (Some fault) e h =
+        absurd (let no : first_wrong (x ∷ fs) ≡ Some (length x, fault) = rw e refl in let never : Some (length x, fault) ≡ None = sym no ∙ h in cc)
+
+right_here : (x : List ℕ) (fs : List (List ℕ)) → first_wrong (x ∷ fs) ≡ None → wrong x ≡ None
+unfolding first_wrong
+right_here x fs h = go (wrong x) refl
+  where
+    go : (o : Option StreamFault) → wrong x ≡ o → wrong x ≡ None
+    go None e = e
+    go (Some fault) e =
+        absurd (let no : first_wrong (x ∷ fs) ≡ Some (length x, fault) = rw e refl in let never : Some (length x, fault) ≡ None = sym no ∙ h in cc)
+
+version : (a b c d e f : ℕ) → wrong (a ∷ b ∷ c ∷ d ∷ e ∷ f ∷ []) ≡ None → f < 3
+unfolding wrong
+version a b c d e f w = ltb-true f 3 (go (nat_lt f 3) w)
+  where
+    go : (r : Bool) → unless r Version ≡ None → r ≡ true
+    go true h = refl
+    go false h = absurd cc
+
+minor_few : (header : List ℕ) → length header ≡ 12 → first_wrong_octet header ≡ None → minor header < 3
+unfolding first_wrong_octet fronts minor
+minor_few (a ∷ b ∷ c ∷ d ∷ e ∷ f ∷ g ∷ more) twelve h =
+    let two = behind (a ∷ []) _ (behind [] _ h) in
+    let four = behind (a ∷ b ∷ c ∷ []) _ (behind (a ∷ b ∷ []) _ two) in
+    let six = behind (a ∷ b ∷ c ∷ d ∷ e ∷ []) _ (behind (a ∷ b ∷ c ∷ d ∷ []) _ four) in
+    version a b c d e f (right_here (a ∷ b ∷ c ∷ d ∷ e ∷ f ∷ []) _ six)
+minor_few _ twelve h = absurd (omega (arith, twelve))
+
+-- ---- Its type, by its kind.
+
+abbrev HasType : ℕ → ℕ → Type 0
+HasType version kind = (T : Ty) × (header_type version kind ≡ Some T)
+
+typed : (version kind : ℕ) → version < 3 → kind < 5 → HasType version kind
+typed zero zero v k = (_, refl)
+typed (suc zero) zero v k = (_, refl)
+typed (suc (suc zero)) zero v k = (_, refl)
+typed zero (suc zero) v k = (_, refl)
+typed (suc zero) (suc zero) v k = (_, refl)
+typed (suc (suc zero)) (suc zero) v k = (_, refl)
+typed zero (suc (suc zero)) v k = (_, refl)
+typed (suc zero) (suc (suc zero)) v k = (_, refl)
+typed (suc (suc zero)) (suc (suc zero)) v k = (_, refl)
+typed zero (suc (suc (suc zero))) v k = (_, refl)
+typed (suc zero) (suc (suc (suc zero))) v k = (_, refl)
+typed (suc (suc zero)) (suc (suc (suc zero))) v k = (_, refl)
+typed zero (suc (suc (suc (suc zero)))) v k = (_, refl)
+typed (suc zero) (suc (suc (suc (suc zero)))) v k = (_, refl)
+typed (suc (suc zero)) (suc (suc (suc (suc zero)))) v k = (_, refl)
+typed (suc (suc (suc version))) kind v k = absurd (omega (arith, v))
+typed version (suc (suc (suc (suc (suc kind))))) v k = absurd (omega (arith, k))
+
+kind_few : (k : ℕ) → ((k == 0) || (k == 1) || (k == 3) || (k == 4)) ≡ true → k < 5
+kind_few k h = elim (cases_lt k 5) [
+  | inl less ↦ less
+  | inr more ↦
+      absurd (let none : ((k == 0) || (k == 1) || (k == 3) || (k == 4)) ≡ false = rw (
+        ne_eqb k 0 (λ e. omega (arith, more, e)),
+        ne_eqb k 1 (λ e. omega (arith, more, e)),
+        ne_eqb k 3
+            (λ e. omega (arith, more, e)),
+        ne_eqb k 4 (λ e. omega (arith, more, e)),
+      ) refl in false≢true (sym none ∙ h))
+]
+
+module _ (header : List ℕ) (few : minor header < 3) where
+  opener_type : is_opener header ≡ true → HasType (minor header) (kind header)
+  unfolding is_opener may_be_fragmented
+  opener_type h =
+      typed (minor header) (kind header) few (kind_few (kind header) (and_parts ((minor header == 2) && has_more header) (may_be_fragmented header) h).1)
+
+  fragment_type : is_fragment header ≡ true → HasType (minor header) (kind header)
+  unfolding is_fragment
+  fragment_type h =
+      let both = and_parts (minor header == 2) (kind header == 7) h in
+      subst (λ v. HasType v (kind header)) (sym (eqb-true (minor header) 2 both.0)) (subst (HasType 2) (sym (eqb-true (kind header) 7 both.1)) (_, refl))
+
+  cancel_type : is_cancel header ≡ true → HasType (minor header) (kind header)
+  unfolding is_cancel
+  cancel_type h = let two = eqb-true (kind header) 2 h in typed (minor header) (kind header) few (omega (arith, two))
+
+  has_type : has_name header ≡ true → HasType (minor header) (kind header)
+  has_type h = go (is_opener header) (is_fragment header) refl refl h
+    where
+      go : (a b : Bool) → is_opener header ≡ a → is_fragment header ≡ b → (a || b || is_cancel header) ≡ true → HasType (minor header) (kind header)
+      go true b e f n = opener_type e
+      go false true e f n = fragment_type f
+      go false false e f n = cancel_type n
+
+id_first : (o : Option Ty) (T : Ty) → o ≡ Some T → IfSome o BeginsWithId → BeginsWithId T
+id_first o T e h = rw e at h
+
+pub says_id : (header : List ℕ) → length header ≡ 12 → first_wrong_octet header ≡ None → has_name header ≡ true → SaysId header
+says_id header twelve right name =
+    let type = has_type header (minor_few header twelve right) name in
+    (type.0, type.1, id_first (header_type (minor header) (kind header)) type.0 type.1 (begins_with_id header name))
+
+-- ---- What its first four octets say.
+
+pub id_is_id : (C : Table) (l : RequestTable) (m : Message) → length m.payload ≡ 4 → SaysId m.header
+    → first_request_id (message_lines (message (signatures_of C l) m.header m.payload)) ≡ Some (id m)
+unfolding id signatures_of
+id_is_id C l m four says = go m.payload four
+  where
+    go : (xs : List ℕ) → length xs ≡ 4 → first_request_id (message_lines (message (signatures_of C l) m.header xs)) ≡ Some (num (order m.header) (take 4 xs))
+    go [] e = absurd (omega (arith, e))
+    go (a ∷ []) e = absurd (omega (arith, e))
+    go (a ∷ b ∷ []) e = absurd (omega (arith, e))
+    go (a ∷ b ∷ c ∷ []) e = absurd (omega (arith, e))
+    go (a ∷ b ∷ c ∷ d ∷ []) e = id_is_said (signatures_of C l) m.header says.0 says.1 says.2 a b c d []
+    go (a ∷ b ∷ c ∷ d ∷ x ∷ xs) e = absurd (omega (arith, e))

@@ -1,0 +1,82 @@
+-- What more and more octets add to the text of a stream, and what a run of them does.
+use Rattle.std.proofs.Common.{◌≡◌, ℕ, ◌<◌, List, [], ◌∷◌, ◌++◌, length, take, drop, refl, sym, ap, subst, ◌∙◌, append_assoc, append-nil, take_all, Some, arith}
+use Rattle.std.specs.Prelude.{slice_get}
+use Rattle.std.proofs.Math.Seq.{drop-append_seam}
+use Rattle.std.proofs.lemmas.List.{take-append-le}
+use Rattle.std.proofs.lemmas.List.Elements.{All-take}
+use Rattle.giop_cdr.specs.Numbers.{AreOctets}
+use Rattle.giop_message.specs.MessageReader.{IsCausal, IsStreamable}
+use Rattle.giop_stream.specs.Rules.{Rules}
+use Rattle.giop_stream.specs.Text.{lines_text}
+use Rattle.giop_stream.specs.Stream.{text}
+use Rattle.giop_stream.specs.EngineHolds.{added}
+use Rattle.giop_stream.specs.EngineState.{State}
+use Rattle.giop_stream.specs.EngineStep.{step, run, run_state, runs}
+use Rattle.giop_stream.proofs.SlotSteps.Performing.{text_append}
+use Rattle.giop_stream.proofs.CodeSteps.EngineLaws.{run_text}
+use Rattle.giop_stream.proofs.SlotSteps.Adding.{added_run}
+
+added_from : (R : Rules) (p q z : List ℕ) → text R (p ++ q) ≡ text R p ++ z → added R p q ≡ z
+unfolding added
+added_from R p q z e = ap (drop (length (text R p))) e ∙ drop-append_seam (text R p) z
+
+-- the text of a stream, and then what more octets add to it
+pub text_adds : (R : Rules) → IsCausal R.reading → IsStreamable R.reading → (p q : List ℕ) → text R (p ++ q) ≡ text R p ++ added R p q
+text_adds R causal laws p q = run_text R causal laws p q ∙ ap (λ (z : List ℕ). text R p ++ z) (sym (added_run R causal laws p q))
+
+-- what octets add, and then others
+pub added_both : (R : Rules) → IsCausal R.reading → IsStreamable R.reading → (p q r : List ℕ) → added R p (q ++ r) ≡ added R p q ++ added R (p ++ q) r
+added_both R causal laws p q r =
+    added_from R p (q ++ r) (added R p q ++ added R (p ++ q) r)
+    (ap (text R) (sym (append_assoc p q r))
+    ∙ (text_adds R causal laws (p ++ q) r ∙ (ap (λ (z : List ℕ). z ++ added R (p ++ q) r) (text_adds R causal laws p q)
+    ∙ append_assoc (text R p) (added R p q) (added R (p ++ q) r))))
+
+-- ---- A run, and then another.
+
+pub run_state_on : (R : Rules) (s : State) (q r : List ℕ) → run_state R s (q ++ r) ≡ run_state R (run_state R s q) r
+unfolding run_state
+run_state_on R s [] r = refl
+run_state_on R s (x ∷ q) r = run_state_on R (step R s x).state q r
+
+run_on : (R : Rules) (s : State) (q r : List ℕ) → run R s (q ++ r) ≡ run R s q ++ run R (run_state R s q) r
+unfolding run run_state
+run_on R s [] r = refl
+run_on R s (x ∷ q) r =
+    rw (run_on R (step R s x).state q r) (sym (append_assoc (step R s x).lines (run R (step R s x).state q) (run R (run_state R (step R s x).state q) r)))
+
+pub run_text_on : (R : Rules) (s : State) (q r : List ℕ) → lines_text (run R s (q ++ r)) ≡ lines_text (run R s q) ++ lines_text (run R (run_state R s q) r)
+run_text_on R s q r = ap lines_text (run_on R s q r) ∙ text_append (run R s q) (run R (run_state R s q) r)
+
+pub one_run : (R : Rules) (s : State) (x : ℕ) → runs R s (x ∷ []) ≡ step R s x
+unfolding run run_state
+one_run R s x = λ j. record { state = (step R s x).state; lines = append-nil (step R s x).lines j }
+
+-- ---- A piece, as it comes.
+
+pub first_of : (xs : List ℕ) (x : ℕ) → Some x ≡ slice_get xs 0 → xs ≡ x ∷ drop 1 xs
+first_of [] x e = absurd cc
+first_of (y ∷ xs) x e = let same : y ≡ x = cc in ap (λ (z : ℕ). z ∷ xs) same
+
+-- what came of it, and more of it that comes
+pub further : (payload_count rest q left piece : List ℕ) → piece ≡ payload_count ++ rest → rest ≡ q ++ left → piece ≡ (payload_count ++ q) ++ left
+further payload_count rest q left piece e f = e ∙ (ap (λ (z : List ℕ). payload_count ++ z) f ∙ sym (append_assoc payload_count q left))
+
+-- is of octets
+pub octets_come : (payload_count left piece : List ℕ) → piece ≡ payload_count ++ left → AreOctets piece → AreOctets payload_count
+octets_come payload_count left piece e h =
+    let front : take (length payload_count) piece ≡ payload_count =
+    ap (take (length payload_count)) e ∙ (take-append-le (length payload_count) payload_count left (omega arith)
+    ∙ take_all (length payload_count) payload_count (omega arith)) in
+    subst AreOctets front (All-take (λ x. x < 256) (length payload_count) piece h)
+
+-- and what it has written so far
+pub run_within : (R : Rules) (s : State) (payload_count q left piece : List ℕ) → piece ≡ (payload_count ++ q) ++ left
+    → (more : List ℕ) × (lines_text (run R s piece)
+    ≡ (lines_text (run R s payload_count) ++ lines_text (run R (run_state R s payload_count) q)) ++ more)
+run_within R s payload_count q left piece e = (
+  lines_text (run R (run_state R s (payload_count ++ q)) left),
+  ap (λ (z : List ℕ). lines_text (run R s z)) e
+      ∙ (run_text_on R s (payload_count ++ q) left ∙ ap (λ (z : List ℕ). z ++ lines_text (run R (run_state R s (payload_count ++ q)) left))
+      (run_text_on R s payload_count q)),
+)

@@ -1,0 +1,103 @@
+-- No octet has two lines of one class.
+use Rattle.std.proofs.Common.{inl, inr, ◌≡◌, ℕ, suc, ◌<◌, ◌≤◌, Bool, true, false, cond, List, [], ◌∷◌, ◌++◌, length, refl, append-nil, arith}
+use Rattle.std.specs.Prelude.{◌==◌, ◌&&◌}
+use Rattle.std.specs.List.{filter, AllByRecursion as Each}
+use Rattle.std.proofs.lemmas.Bool.{cases_eq, eqb-true, ne_eqb, and_parts}
+use Rattle.std.proofs.lemmas.List.{length_push}
+use Rattle.std.proofs.lemmas.List.Elements.{filter-append}
+use Rattle.giop_stream.specs.Rules.{Rules}
+use Rattle.giop_stream.specs.Framing.{Cut}
+use Rattle.giop_message.specs.MessageReader.{IsCausal, IsStreamable}
+use Rattle.giop_stream.specs.Lines.{Class, rank, Line, has_class, lines}
+use Rattle.giop_stream.specs.Effects.{Tracked}
+use Rattle.giop_stream.specs.Octet.{Octet, AfterStop, Ends, Held, Of}
+use Rattle.giop_stream.proofs.Lists.{by_growth, filter_drops, each_append, each_weaker}
+use Rattle.giop_stream.proofs.StreamLines.Ordering.{rank_of, Rises}
+use Rattle.giop_stream.proofs.Cuts.Start.{lines_nothing}
+use Rattle.giop_stream.proofs.CodeSteps.OneOctet.{Adds, Then, then_is}
+use Rattle.giop_stream.proofs.CodeSteps.EngineAlive.{sound}
+
+-- ---- Of lines whose classes rise one is of a class at most.
+
+passed : (test : Line → Bool) (n : ℕ) → ((l : Line) → test l ≡ true → rank_of l ≡ n) → (k : Line) → n < rank_of k → test k ≡ false
+passed test n h k less = go (test k) refl
+  where
+    go : (b : Bool) → test k ≡ b → b ≡ false
+    go true e = absurd (let same = h k e in omega arith)
+    go false e = refl
+
+one_at_most : (test : Line → Bool) (n : ℕ) → ((l : Line) → test l ≡ true → rank_of l ≡ n) → (ls : List Line) → Rises ls → length (filter test ls) ≤ 1
+one_at_most test n h [] r = omega arith
+one_at_most test n h (l ∷ ls) r = go (test l) refl (one_at_most test n h ls r.1)
+  where
+    none : rank_of l ≡ n → filter test ls ≡ []
+    none same = filter_drops test ls (each_weaker (λ k. rank_of l < rank_of k) (λ k. test k ≡ false) (λ k less. passed test n h k (omega arith)) ls r.0)
+
+    go : (b : Bool) → test l ≡ b → length (filter test ls) ≤ 1 → length (cond b (l ∷ filter test ls) (filter test ls)) ≤ 1
+    go true e later = rw (none (h l e)) (omega arith)
+    go false e later = later
+
+-- ---- The lines that an octet adds.
+
+record More (R : Rules) (p : List ℕ) (x : ℕ) : Type 0 where
+  more : List Line
+  grows : lines R (p ++ x ∷ []) ≡ lines R p ++ more
+  here : Each (λ l. l.place ≡ suc (length p)) more
+  rises : Rises more
+
+more_of : (R : Rules) (p : List ℕ) (x : ℕ) (c : Cut) (ls : List Line) (tracked : Tracked) → Adds R p (p ++ x ∷ []) c ls tracked → More R p x
+more_of R p x c ls tracked h = record { more = ls; grows = h.lines; here = h.here; rises = h.rises }
+
+more_by : (R : Rules) (p : List ℕ) (x : ℕ) (o : Octet) → Then R p x o → More R p x
+more_by R p x (Ends fault) h = more_of R p x _ _ _ h.1
+more_by R p x (Of now) h = more_of R p x _ _ _ h.1.adds
+more_by R p x _ h = more_of R p x _ _ _ h.2
+
+-- ---- Octet by octet.
+
+abbrev is_at : ℕ → Class → Line → Bool
+is_at k c l = (l.place == k) && has_class c l
+
+record Apart (R : Rules) (p : List ℕ) : Type 0 where
+  places : Each (λ l. l.place ≤ length p) (lines R p)
+  one : (k : ℕ) (c : Class) → length (filter (is_at k c) (lines R p)) ≤ 1
+
+is_ranked : (k : ℕ) (c : Class) (l : Line) → is_at k c l ≡ true → rank_of l ≡ rank c
+is_ranked k c l h = eqb-true (rank_of l) (rank c) (and_parts (l.place == k) (has_class c l) h).1
+
+elsewhere : (k : ℕ) (c : Class) (l : Line) → (l.place ≡ k → ⊥) → is_at k c l ≡ false
+elsewhere k c l h = rw (ne_eqb l.place k h) refl
+
+apart_more : (R : Rules) → IsCausal R.reading → IsStreamable R.reading → (p : List ℕ) (x : ℕ) → Apart R p → Apart R (p ++ x ∷ [])
+apart_more R causal laws p x h =
+    let a = more_by R p x _ (then_is R causal laws p x (sound R causal laws p)) in
+    let old = lines R p in
+    let n = length p in
+    let grown : length (p ++ x ∷ []) ≡ suc n = omega (arith, length_push p x) in
+    record {
+      places = rw (a.grows, grown) (each_append (λ l. l.place ≤ suc n) old a.more
+          (each_weaker (λ l. l.place ≤ n) (λ l. l.place ≤ suc n) (λ l k. omega arith) old h.places)
+          (each_weaker (λ l. l.place ≡ suc n) (λ l. l.place ≤ suc n) (λ l k. omega arith) a.more a.here));
+      one = λ k c. rw (a.grows, filter-append (is_at k c) old a.more) (elim (cases_eq k (suc n)) [
+        | inl now ↦
+            rw (filter_drops (is_at k c) old
+            (each_weaker (λ l. l.place ≤ n) (λ l. is_at k c l ≡ false)
+            (λ l early. elsewhere k c l (λ e. omega arith)) old h.places))
+            (one_at_most (is_at k c) (rank c) (is_ranked k c) a.more a.rises)
+        | inr other ↦
+            rw (
+              filter_drops (is_at k c) a.more
+                  (each_weaker (λ l. l.place ≡ suc n) (λ l. is_at k c l ≡ false)
+                  (λ l late. elsewhere k c l (λ e. other (omega arith))) a.more a.here),
+              append-nil (filter (is_at k c) old),
+            )
+            (h.one k c)
+      ]);
+    }
+
+apart_start : (R : Rules) → Apart R []
+apart_start R = record { places = rw (lines_nothing R) tt; one = λ k c. rw (lines_nothing R) (omega arith) }
+
+pub one_of_class : (R : Rules) → IsCausal R.reading → IsStreamable R.reading → (p : List ℕ) (k : ℕ) (c : Class)
+    → length (filter (λ l. (l.place == k) && has_class c l) (lines R p)) ≤ 1
+one_of_class R causal laws p = (by_growth (Apart R) (apart_start R) (λ p x. apart_more R causal laws p x) p).one

@@ -1,0 +1,115 @@
+-- Lines whose classes rise, from one rank to another; and the same of what is said.
+use Rattle.std.proofs.Common.{inl, inr, ◌⊎◌, ◌≡◌, ℕ, ◌<◌, ◌≤◌, true, List, [], ◌∷◌, ◌++◌, map, refl, sym, ap, subst, arith}
+use Rattle.std.specs.List.{list_any, AllByRecursion as Each}
+use Rattle.giop_message.specs.MessageReader.{LineClass, Value, Call, Rest, Fault, End, AreInLineOrder, AtClose, is_fault}
+use Rattle.giop_stream.specs.Events.{Event}
+use Rattle.giop_stream.specs.Lines.{Said, Line, line}
+use Rattle.giop_stream.proofs.Lists.{each_append, each_weaker}
+use Rattle.giop_stream.proofs.StreamLines.Ordering.{rank_of, Rises}
+
+-- ---- Lines whose classes rise, from one rank to another.
+
+abbrev pub Between : ℕ → ℕ → Line → Type 0
+Between lo hi l = (lo ≤ rank_of l) × (rank_of l ≤ hi)
+
+pub record Spans (lo hi : ℕ) (ls : List Line) : Type 0 where
+  pub within : Each (Between lo hi) ls
+  pub rises : Rises ls
+
+pub spans_none : (lo hi : ℕ) → Spans lo hi []
+spans_none lo hi = record { within = tt; rises = tt }
+
+pub spans_wider : (a b lo hi : ℕ) (ls : List Line) → a ≤ lo → hi ≤ b → Spans lo hi ls → Spans a b ls
+spans_wider a b lo hi ls h k s = record { within = each_weaker (Between lo hi) (Between a b) (λ l i. let low = i.0 in let high = i.1 in (omega arith, omega arith)) ls s.within; rises = s.rises }
+
+rises_join : (n : ℕ) (xs ys : List Line) → Each (λ l. rank_of l ≤ n) xs → Each (λ l. n < rank_of l) ys → Rises xs → Rises ys → Rises (xs ++ ys)
+rises_join n [] ys h k o p = p
+rises_join n (x ∷ xs) ys h k o p =
+    let top = h.0 in
+    (each_append (λ l. rank_of x < rank_of l) xs ys o.0 (each_weaker (λ l. n < rank_of l) (λ l. rank_of x < rank_of l) (λ l i. omega arith) ys k), rises_join n xs ys h.1 k o.1 p)
+
+pub spans_join : (a b c d : ℕ) (xs ys : List Line) → b < c → a ≤ c → b ≤ d → Spans a b xs → Spans c d ys → Spans a d (xs ++ ys)
+spans_join a b c d xs ys h k i s t = record {
+  within = each_append (Between a d) xs ys (each_weaker (Between a b) (Between a d) (λ l j. let low = j.0 in let high = j.1 in (omega arith, omega arith)) xs s.within) (each_weaker (Between c d) (Between a d) (λ l j. let low = j.0 in let high = j.1 in (omega arith, omega arith)) ys t.within);
+  rises = rises_join b xs ys (each_weaker (Between a b) (λ l. rank_of l ≤ b) (λ l j. j.1) xs s.within) (each_weaker (Between c d) (λ l. b < rank_of l) (λ l j. let low = j.0 in omega arith) ys t.within) s.rises t.rises;
+}
+
+pub spans_one : (n : ℕ) (l : Line) → rank_of l ≡ n → Spans n n (l ∷ [])
+spans_one n l h = record { within = ((omega arith, omega arith), tt); rises = (tt, tt) }
+
+-- ---- The same of what is said.
+
+abbrev pub said_rank : LineClass → ℕ
+said_rank Value = 1
+said_rank Call = 2
+said_rank Rest = 6
+said_rank Fault = 7
+said_rank End = 8
+
+abbrev pub SayingsRise : List LineClass → Type 0
+SayingsRise [] = Unit {0}
+SayingsRise (s ∷ ss) = Each (λ t. said_rank s < said_rank t) ss × SayingsRise ss
+
+pub record SaySpans (lo hi : ℕ) (ss : List LineClass) : Type 0 where
+  pub within : Each (λ s. (lo ≤ said_rank s) × (said_rank s ≤ hi)) ss
+  pub rises : SayingsRise ss
+
+pub rank_said : (e : Event) (s : LineClass) (text : List ℕ) → rank_of (line e (Said s text)) ≡ said_rank s
+unfolding line
+rank_said e Value text = refl
+rank_said e _ text = refl
+
+pub said_each : {A : Type 0} (P : ℕ → Type 0) (e : Event) (f : A → LineClass) (g : A → List ℕ) (xs : List A) → Each (λ s. P (said_rank s)) (map f xs) → Each (λ l. P (rank_of l)) (map (λ a. line e (Said (f a) (g a))) xs)
+said_each P e f g [] h = tt
+said_each P e f g (x ∷ xs) h = (subst P (sym (rank_said e (f x) (g x))) h.0, said_each P e f g xs h.1)
+
+pub said_rises : {A : Type 0} (e : Event) (f : A → LineClass) (g : A → List ℕ) (xs : List A) → SayingsRise (map f xs) → Rises (map (λ a. line e (Said (f a) (g a))) xs)
+said_rises e f g [] h = tt
+said_rises {A} e f g (x ∷ xs) h = (rw (rank_said e (f x) (g x)) (said_each (λ n. said_rank (f x) < n) e f g xs h.0), said_rises e f g xs h.1)
+
+pub said_spans : {A : Type 0} (lo hi : ℕ) (e : Event) (f : A → LineClass) (g : A → List ℕ) (xs : List A) → SaySpans lo hi (map f xs) → Spans lo hi (map (λ a. line e (Said (f a) (g a))) xs)
+said_spans lo hi e f g xs h = record { within = said_each (λ n. (lo ≤ n) × (n ≤ hi)) e f g xs h.within; rises = said_rises e f g xs h.rises }
+
+pub turn_spans : (ss : List LineClass) → AreInLineOrder ss → SaySpans 1 7 ss
+turn_spans ss (inl e) = rw e (record { within = tt; rises = tt })
+turn_spans ss (inr (inl e)) = rw e (record { within = omega arith; rises = omega arith })
+turn_spans ss (inr (inr (inl e))) = rw e (record { within = omega arith; rises = omega arith })
+turn_spans ss (inr (inr (inr (inl e)))) = rw e (record { within = omega arith; rises = omega arith })
+turn_spans ss (inr (inr (inr (inr (inl e))))) = rw e (record { within = omega arith; rises = omega arith })
+turn_spans ss (inr (inr (inr (inr (inr e))))) = rw e (record { within = omega arith; rises = omega arith })
+
+pub close_spans : (ss : List LineClass) → AtClose ss → SaySpans 6 8 ss
+close_spans ss (inl e) = rw e (record { within = omega arith; rises = omega arith })
+close_spans ss (inr (inl e)) = rw e (record { within = omega arith; rises = omega arith })
+close_spans ss (inr (inr e)) = rw e (record { within = omega arith; rises = omega arith })
+
+-- at one octet and at the close behind it, where only a fault can be said twice
+pub both_say : (ds cs : List LineClass) → AreInLineOrder ds → AtClose cs → (list_any is_fault ds ≡ true → cs ≡ End ∷ []) → (ds ≡ Rest ∷ [] → cs ≡ Rest ∷ End ∷ [] → ⊥)
+    → SayingsRise (ds ++ cs) ⊎ ((ds ≡ Fault ∷ []) × (cs ≡ Fault ∷ []))
+both_say ds cs (inl e) c h k = rw e (inl (close_spans cs c).rises)
+both_say ds cs (inr (inl e)) (inl f) h k = rw (e, f) (inl (omega arith))
+both_say ds cs (inr (inl e)) (inr (inl f)) h k = rw (e, f) (inl (omega arith))
+both_say ds cs (inr (inl e)) (inr (inr f)) h k = rw (e, f) (inl (omega arith))
+both_say ds cs (inr (inr (inl e))) (inl f) h k = rw (e, f) (inl (omega arith))
+both_say ds cs (inr (inr (inl e))) (inr (inl f)) h k = rw (e, f) (inl (omega arith))
+both_say ds cs (inr (inr (inl e))) (inr (inr f)) h k = rw (e, f) (inl (omega arith))
+both_say ds cs (inr (inr (inr (inl e)))) (inl f) h k = rw (e, f) (inl (omega arith))
+both_say ds cs (inr (inr (inr (inl e)))) (inr (inl f)) h k = rw (e, f) (inl (omega arith))
+both_say ds cs (inr (inr (inr (inl e)))) (inr (inr f)) h k = absurd (k e f)
+both_say ds cs (inr (inr (inr (inr (inl e))))) c h k = let f = h (ap (list_any is_fault) e) in rw (e, f) (inl (omega arith))
+both_say ds cs (inr (inr (inr (inr (inr e))))) c h k = let f = h (ap (list_any is_fault) e) in rw (e, f) (inl (omega arith))
+
+values_each : {A : Type 0} (f : A → LineClass) (xs : List A) → Each (λ a. f a ≡ Value) xs → Each (λ s. (1 ≤ said_rank s) × (said_rank s ≤ 1)) (map f xs)
+values_each f [] h = tt
+values_each f (x ∷ xs) h = let one : said_rank (f x) ≡ 1 = ap said_rank h.0 in ((omega arith, omega arith), values_each f xs h.1)
+
+values_rise : (ss : List LineClass) → AreInLineOrder ss → Each (λ s. (1 ≤ said_rank s) × (said_rank s ≤ 1)) ss → SayingsRise ss
+values_rise ss (inl e) h = rw e tt
+values_rise ss (inr (inl e)) h = rw e (tt, tt)
+values_rise ss (inr (inr (inl e))) h = absurd (let each = rw e at h in let two = each.1.0.1 in omega arith)
+values_rise ss (inr (inr (inr (inl e)))) h = absurd (let each = rw e at h in let six = each.0.1 in omega arith)
+values_rise ss (inr (inr (inr (inr (inl e))))) h = absurd (let each = rw e at h in let seven = each.0.1 in omega arith)
+values_rise ss (inr (inr (inr (inr (inr e))))) h = absurd (let each = rw e at h in let seven = each.1.0.1 in omega arith)
+
+pub value_spans : {A : Type 0} (f : A → LineClass) (xs : List A) → AreInLineOrder (map f xs) → Each (λ a. f a ≡ Value) xs → SaySpans 1 1 (map f xs)
+value_spans f xs t h = let each = values_each f xs h in record { within = each; rises = values_rise (map f xs) t each }

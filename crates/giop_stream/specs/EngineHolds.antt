@@ -1,0 +1,51 @@
+-- Which streams an engine holds: each of its fields is said from the whole stream (state).
+use Rattle.std.specs.Prelude.{◌≡◌, ℕ, List, length, drop, ◌++◌, true, false, Option, Some, None, Result, Ok, Err}
+use Rattle.giop_cdr.specs.Numbers.{AreOctets}
+use Rattle.giop_print.specs.Output.{OutLog, Wrote, WroteFront}
+use Rattle.giop_sig.specs.Table.{Table}
+use Rattle.giop_message.specs.Signatures.{RequestTable}
+use Rattle.giop_stream.specs.Rules.{Rules, rules}
+use Rattle.giop_message.specs.MessageState as messages
+use Rattle.giop_checkpoint.specs.declared.fault.StreamFault.{StreamFault}
+use Rattle.giop_stream.specs.declared.status.Status.{Status}
+use Rattle.giop_stream.specs.declared.status.Status.TheVariants.{Running, Stopped}
+use Rattle.giop_stream.specs.declared.fault.Stop.{Stop}
+use Rattle.giop_stream.specs.declared.fault.Stop.TheVariants as stop
+use Rattle.giop_stream.specs.Stream.{text}
+use Rattle.giop_stream.specs.EngineState.{state_of}
+use Rattle.giop_stream.specs.ViewOfState.{Shows}
+use Rattle.giop_stream.specs.EngineView.{EngineView}
+
+-- what is kept of a list of requests for the operations of this table
+abbrev pub AreOf : Table → RequestTable → Type 0
+AreOf C l = messages.AreOf C l
+
+-- by what an engine reads: its table, what it knows of requests, and how many messages may be open
+abbrev pub rules_of : EngineView → Rules
+rules_of e = rules e.table e.request_table e.most
+
+-- what these octets add to the text of a stream
+unfoldable pub added : Rules → List ℕ → List ℕ → List ℕ
+added R p more = drop (length (text R p)) (text R (p ++ more))
+
+-- The engine holds the stream p: its fields show what there is to hold of it.
+pub record Holds (e : EngineView) (p : List ℕ) : Type 0 where
+  pub sound : e.failed ≡ false
+  pub octets : AreOctets p
+  pub shows : Shows e.table e.request_table e.stream (state_of (rules_of e) p)
+
+abbrev pub status_of : Option StreamFault → Status
+status_of None = Running
+status_of (Some fault) = Stopped fault
+
+-- what was written: all that was due, a front of it before a put failed, or nothing by a failed engine
+abbrev pub StopWrites : {A : Type 0} → Result A Stop → OutLog → OutLog → List ℕ → Type 0
+StopWrites (Ok x) before after due = Wrote before after due
+StopWrites (Err (stop.Out f)) before after due = WroteFront before after due
+StopWrites (Err stop.Failed) before after due = after ≡ before
+
+-- what a call leaves of the engine
+abbrev pub Leaves : {A : Type 0} → Result A Stop → EngineView → EngineView → Type 0
+Leaves (Ok x) before after = (before.failed ≡ false) × (after.failed ≡ false)
+Leaves (Err (stop.Out f)) before after = (before.failed ≡ false) × (after.failed ≡ true) × (after.stream.totals ≡ before.stream.totals)
+Leaves (Err stop.Failed) before after = (before.failed ≡ true) × (after ≡ before)

@@ -1,0 +1,132 @@
+-- What the next octet of a stream makes of what an engine holds, and its lines; and what is written at the finish (steps).
+use Rattle.std.specs.Prelude.{ℕ, suc, ◌+◌, ◌-◌, Bool, ◌&&◌, List, [], ◌∷◌, ◌++◌, length, map, flat_map, Option, Some, None, is_none, ◌==◌, nat_lt, if◌then◌else◌, option_map}
+use Rattle.std.specs.List.{find}
+use Rattle.giop_cdr.specs.Numbers.{num}
+use Rattle.giop_print.specs.Lines.{unfinished_line, total_line}
+use Rattle.giop_stream.specs.Rules.{Rules}
+use Rattle.giop_message.specs.Headers.{order, size, is_fragment}
+use Rattle.giop_checkpoint.specs.declared.fault.StreamFault.{StreamFault}
+use Rattle.giop_stream.specs.declared.status.Totals.{Totals}
+use Rattle.giop_stream.specs.Events.{Event, Open, Now, events_with_id}
+use Rattle.giop_stream.specs.Lines.{Line, stop_line}
+use Rattle.giop_stream.specs.Stream.{fault_count, with_truncated}
+use Rattle.giop_stream.specs.Text.{truncated_line}
+use Rattle.giop_stream.specs.OpenSlots.{slots_of, kept, left_open}
+use Rattle.giop_stream.specs.Effects.{Tracked, Effect, effects}
+use Rattle.giop_stream.specs.Octet.{Octet, AfterStop, Ends, Held, Of, octet_in}
+use Rattle.giop_stream.specs.EngineState.{State, Own, own_for, owner_for, held_for}
+
+pub record Step : Type 0 where
+  pub state : State
+  pub lines : List Line
+
+-- before the first octet
+unfoldable pub fresh : State
+fresh = record { totals = record { messages = 0; faults = 0; octets = 0 }; stop = None; held = []; left = 0; slots = []; own = None; owner = None }
+
+unfoldable pub octet_at : State → ℕ → Octet
+octet_at s x = octet_in s.stop s.held s.totals.messages s.totals.octets (size s.held - s.left) x
+
+-- ---- An octet of a message.
+
+-- what is kept of the message itself; of one that begins, that nothing has come
+abbrev pub own_octets : State → Now → Option (List ℕ)
+own_octets s now = if now.payload_count == 0 then Some [] else option_map (λ o. o.octets) s.own
+
+unfoldable pub live_of : State → List Open
+live_of s = map (λ slot. slot.open_as) s.slots
+
+unfoldable pub tracked_of : State → Now → Tracked
+tracked_of s now = record { still_open = live_of s; known = kept s.slots now.subject.number (own_octets s now) }
+
+-- its request id, where the octet is the last of that
+abbrev pub id_by : Now → Option (List ℕ) → ℕ
+id_by now None = 0
+id_by now (Some xs) = num (order now.subject.header) (xs ++ now.octet ∷ [])
+
+unfoldable pub id_of : State → Now → ℕ
+id_of s now = id_by now (own_octets s now)
+
+-- the open message that has this request id; behind that, the one whose the octet is
+abbrev pub numbered : List Open → Option ℕ → Option Open
+numbered still_open None = None
+numbered still_open (Some number) = find (λ o. o.opener.number == number) still_open
+
+unfoldable pub other_of : State → Now → Option Open
+other_of s now = if now.payload_count == 4 then find (λ o. o.id == id_of s now) (live_of s) else numbered (live_of s) s.owner
+
+unfoldable pub events_at : ℕ → State → Now → List Event
+events_at most s now = events_with_id most (live_of s) now (id_of s now) (other_of s now)
+
+unfoldable pub stepped : State → Now → Effect → Step
+stepped s now effect =
+    let goes_on = nat_lt now.payload_count (size now.subject.header) in
+    record {
+      state = record {
+        totals = record { messages = now.subject.number; faults = s.totals.faults + fault_count effect.lines; octets = now.place };
+        stop = None;
+        held = held_for now;
+        left = size now.subject.header - now.payload_count;
+        slots = slots_of effect.tracked.known effect.tracked.still_open;
+        own = if goes_on then own_for effect.tracked.known effect.tracked.still_open now else None;
+        owner = if goes_on then owner_for effect.tracked.known effect.tracked.still_open now (other_of s now) else None;
+      };
+      lines = effect.lines;
+    }
+
+-- ---- Any octet.
+
+unfoldable pub ended : State → StreamFault → Step
+ended s fault = record {
+  state = record s {
+    totals = record { messages = s.totals.messages; faults = suc s.totals.faults; octets = suc s.totals.octets };
+    stop = Some fault;
+    held = [];
+    left = 0;
+  };
+  lines = stop_line (Some (suc s.totals.octets, fault));
+}
+
+unfoldable pub held_on : State → List ℕ → Step
+held_on s front = record { state = record s { totals = record s.totals { octets = suc s.totals.octets }; held = front }; lines = [] }
+
+abbrev pub step_by : Rules → State → Octet → Step
+step_by R s AfterStop = record { state = s; lines = [] }
+step_by R s (Ends fault) = ended s fault
+step_by R s (Held front) = held_on s front
+step_by R s (Of now) = stepped s now (effects R.reading (tracked_of s now) (events_at R.most s now))
+
+unfoldable pub step : Rules → State → ℕ → Step
+step R s x = step_by R s (octet_at s x)
+
+unfoldable pub run : Rules → State → List ℕ → List Line
+run R s [] = []
+run R s (x ∷ xs) = let one = step R s x in one.lines ++ run R one.state xs
+
+unfoldable pub run_state : Rules → State → List ℕ → State
+run_state R s [] = s
+run_state R s (x ∷ xs) = run_state R (step R s x).state xs
+
+-- all that a run does
+abbrev pub runs : Rules → State → List ℕ → Step
+runs R s xs = record { state = run_state R s xs; lines = run R s xs }
+
+-- ---- The finish.
+
+abbrev pub left_own : Option Own → List ℕ
+left_own None = []
+left_own (Some o) = if is_fragment o.message_key.header then [] else o.message_key.number ∷ []
+
+unfoldable pub left_over : State → List ℕ
+left_over s = flat_map left_open s.slots ++ left_own s.own
+
+unfoldable pub is_cut_short : State → Bool
+is_cut_short s = is_none s.stop && nat_lt 0 (length s.held)
+
+unfoldable pub final_totals : State → Totals
+final_totals s = with_truncated (is_cut_short s) s.totals
+
+unfoldable pub finish : State → List ℕ
+finish s =
+    (if is_cut_short s then truncated_line s.totals.octets else [])
+    ++ (flat_map unfinished_line (left_over s) ++ total_line (final_totals s).messages (final_totals s).faults (final_totals s).octets)

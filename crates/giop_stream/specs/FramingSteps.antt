@@ -1,0 +1,31 @@
+-- What the calls of the framing do to the fields that are remembered (steps): private clauses alone cite these.
+use Rattle.std.specs.Prelude.{ℕ, suc, Bool, [], ◌∷◌, ◌++◌, length, Some, is_none, ◌&&◌, ◌==◌, nat_lt, if◌then◌else◌}
+use Rattle.giop_checkpoint.specs.declared.fault.StreamFault.{StreamFault}
+use Rattle.giop_stream.specs.declared.status.Totals.{Totals}
+use Rattle.giop_stream.specs.Stream.{with_truncated}
+use Rattle.giop_stream.specs.EngineView.{FramingView}
+
+-- an octet more that is read, and held of a header
+unfoldable pub held_on : FramingView → ℕ → FramingView
+held_on m x = record m { totals = record m.totals { octets = suc m.totals.octets }; header = m.header ++ x ∷ [] }
+
+-- the reading ends with a fault at this place
+unfoldable pub stop : FramingView → StreamFault → ℕ → FramingView
+stop m fault place = record m {
+  totals = record { messages = m.totals.messages; faults = suc m.totals.faults; octets = place };
+  stopped = Some fault;
+  header = [];
+  payload_count = 0;
+}
+
+-- behind a message's last octet the next header comes
+unfoldable pub end_message : FramingView → ℕ → FramingView
+end_message m size = if m.payload_count == size then record m { header = []; payload_count = 0 } else m
+
+-- ---- The finish.
+
+unfoldable pub is_cut_short : FramingView → Bool
+is_cut_short m = is_none m.stopped && nat_lt 0 (length m.header)
+
+unfoldable pub final_totals : FramingView → Totals
+final_totals m = with_truncated (is_cut_short m) m.totals

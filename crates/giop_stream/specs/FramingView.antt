@@ -1,0 +1,12 @@
+-- The fields of the code as what an engine remembers (state).
+use Rattle.giop_stream.specs.declared.framing.Framing.{Framing}
+use Rattle.giop_stream.specs.EngineView.{FramingView}
+
+abbrev pub framing_view : Framing → FramingView
+framing_view f = record {
+  totals = f.totals;
+  stopped = f.stopped;
+  header = f.header.items;
+  payload_count = f.payload_count;
+  slots = f.slots;
+}

@@ -1,0 +1,42 @@
+-- A message header of 12 octets: its fields, and which of its octets is wrong (GIOP Message Formats, GIOP Message Header; meaning).
+use Rattle.std.specs.Prelude.{ℕ, ◌-◌, Bool, true, false, ◌||◌, List, [], ◌∷◌, length, get_or, map, Option, Some, None, nat_lt, ◌==◌, if◌then◌else◌}
+use Rattle.giop_checkpoint.specs.declared.fault.StreamFault.{StreamFault}
+use Rattle.giop_checkpoint.specs.declared.fault.StreamFault.TheVariants.{Magic, Version, ByteOrder}
+
+-- the fronts of a list, from the empty one to the whole
+unfoldable pub fronts : {A : Type 0} → List A → List (List A)
+fronts [] = [] ∷ []
+fronts (x ∷ xs) = [] ∷ map (λ front. x ∷ front) (fronts xs)
+
+abbrev pub unless : Bool → StreamFault → Option StreamFault
+unless true fault = None
+unless false fault = Some fault
+
+-- What is wrong with the last octet of a header's front: `GIOP`, the major version 1, a minor version up to 2, and in 1.0
+-- a byte order of 0 or 1. The octets of size and type may have any value.
+unfoldable pub wrong : List ℕ → Option StreamFault
+wrong front =
+    let at = length front - 1 in
+    let octet = get_or front at 0 in
+    if length front == 0 then None
+    else (if at == 0 then unless (octet == 71) Magic
+    else (if at == 1 then unless (octet == 73) Magic
+    else (if at == 2 then unless (octet == 79) Magic
+    else (if at == 3 then unless (octet == 80) Magic
+    else (if at == 4 then unless (octet == 1) Version
+    else (if at == 5 then unless (nat_lt octet 3) Version
+    else (if at == 6 then unless (nat_lt octet 2 || nat_lt 0 (get_or front 5 0)) ByteOrder
+    else None)))))))
+
+-- a fault at the last of so many octets, or what comes later
+abbrev pub wrong_or : Option StreamFault → ℕ → Option (ℕ × StreamFault) → Option (ℕ × StreamFault)
+wrong_or (Some fault) size later = Some (size, fault)
+wrong_or None size later = later
+
+-- the first wrong one of these fronts: how many octets it has, and the fault
+unfoldable pub first_wrong : List (List ℕ) → Option (ℕ × StreamFault)
+first_wrong [] = None
+first_wrong (front ∷ more) = wrong_or (wrong front) (length front) (first_wrong more)
+
+unfoldable pub first_wrong_octet : List ℕ → Option (ℕ × StreamFault)
+first_wrong_octet header = first_wrong (fronts header)

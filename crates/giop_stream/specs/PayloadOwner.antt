@@ -1,0 +1,114 @@
+-- Whose the octets of a message's payload are, and what the code knows of that message at one of them (state).
+use Rattle.std.specs.Prelude.{◌≡◌, ◌==◌, ◌<◌, ◌+◌, ℕ, true, List, [], length, Option, Some, None, if◌then◌else◌}
+use Rattle.std.specs.List.{AllByRecursion as Each}
+use Rattle.giop_sig.specs.Types.{Ty}
+use Rattle.giop_sig.specs.Table.{Table}
+use Rattle.giop_sig.specs.HeaderTypes.{BeginsWithId, header_type}
+use Rattle.giop_message.specs.Signatures.{RequestTable}
+use Rattle.giop_stream.specs.Rules.{rules}
+use Rattle.giop_message.specs.Headers.{minor, kind, size, is_fragment, has_name}
+use Rattle.giop_stream.specs.declared.slots.Slots.{Slots}
+use Rattle.giop_stream.specs.declared.slots.Payload.TheVariants.{Own}
+use Rattle.giop_stream.specs.declared.current.Current.{Current}
+use Rattle.giop_stream.specs.Framing.{Message, cut}
+use Rattle.giop_stream.specs.Events.{MessageKey, Event, Open, Rising, id, message_key, place, opener_of, has_named, goes_past, events_at_request_id, events_at_end, open_after}
+use Rattle.giop_stream.specs.Effects.{Tracked, tracked_after, with_octet}
+use Rattle.giop_stream.specs.SlotsRepresent.{SlotsRepresent}
+
+-- the message that an open one began with
+abbrev pub opener_key : Option Open → Option MessageKey
+opener_key None = None
+opener_key (Some o) = Some o.opener
+
+-- Whose the next octet is, where these messages are open: a Fragment's after its request id is its opener's.
+unfoldable pub owner_of_next : List Open → Message → Option MessageKey
+owner_of_next still_open m = if has_named m then opener_key (opener_of still_open m) else Some (message_key m)
+
+-- and once the request id is complete
+unfoldable pub owner_after_id : List Open → Message → Option MessageKey
+owner_after_id still_open m = if is_fragment m.header then opener_key (opener_of still_open m) else Some (message_key m)
+
+-- what the code knows of a message, at the octet that came last
+pub record IsCurrent (now : Current) (m : Message) : Type 0 where
+  pub number : m.number ≡ now.number
+  pub header : m.header ≡ now.header
+  pub place : place m ≡ now.place
+
+-- A message of this header begins with its request id.
+abbrev pub SaysId : List ℕ → Type 0
+SaysId header = (T : Ty) × (header_type (minor header) (kind header) ≡ Some T) × BeginsWithId T
+
+-- The request id of a message is complete: its own octets came, and the message isn't over where it begins with that id.
+pub record IsAtRequestId (C : Table) (l : RequestTable) (s : Slots) (c : Tracked) (m : Message) (now : Current) (i : ℕ) : Type 0 where
+  pub keeps : SlotsRepresent C l s c (Some (message_key m))
+  pub rising : Rising c.still_open
+  pub current : IsCurrent now m
+  pub id_is : has_name m.header ≡ true → id m ≡ i
+  pub own_comes : has_name m.header ≡ true → s.payload ≡ Own
+  pub alive : has_name m.header ≡ true → (xs : List ℕ) × (c.known m.number ≡ Some xs)
+
+-- The slots keep what is tracked at an octet of a message, the last that came.
+pub record IsAtOctet (C : Table) (l : RequestTable) (s : Slots) (c : Tracked) (m : Message) (now : Current) : Type 0 where
+  pub keeps : SlotsRepresent C l s c (owner_of_next c.still_open m)
+  pub rising : Rising c.still_open
+  pub current : IsCurrent now m
+
+-- ---- An octet that has come, part by part: whose it is, and what it does at the request id and at the end.
+
+unfoldable pub owner_of_octet : List Open → Message → Option MessageKey
+owner_of_octet still_open m = if goes_past m then opener_key (opener_of still_open m) else Some (message_key m)
+
+unfoldable pub id_events : ℕ → List Open → Message → List Event
+id_events most still_open m = if length m.payload == 4 then events_at_request_id most still_open m else []
+
+unfoldable pub end_events : List Open → Message → List Event
+end_events still_open m = if length m.payload == size m.header then events_at_end still_open m else []
+
+-- and whose the octets are from then on
+unfoldable pub owner_after : List Open → Message → Option MessageKey
+owner_after still_open m = if length m.payload == size m.header then None else owner_of_next still_open m
+
+-- no open message has this number or a later one
+abbrev pub IsNewest : ℕ → List Open → Type 0
+IsNewest n still_open = Each (λ o. o.opener.number < n) still_open
+
+-- The slots keep what is tracked once the octet has been given to the message whose it is.
+pub record IsAfterTake (C : Table) (l : RequestTable) (s : Slots) (c : Tracked) (m : Message) (now : Current) : Type 0 where
+  pub keeps : SlotsRepresent C l s c (owner_of_octet c.still_open m)
+  pub rising : Rising c.still_open
+  pub current : IsCurrent now m
+  pub payload_count : length m.payload ≡ now.payload_count
+  pub newest : length m.payload ≡ 4 → IsNewest m.number c.still_open
+  pub alive : has_name m.header ≡ true → length m.payload ≡ 4 → c.known m.number ≡ Some m.payload
+  pub says : has_name m.header ≡ true → SaysId m.header
+
+-- The slots keep what is tracked before this octet of a message comes.
+pub record IsBeforeOctet (C : Table) (l : RequestTable) (s : Slots) (c : Tracked) (m : Message) (now : Current) (x : ℕ) : Type 0 where
+  pub keeps : SlotsRepresent C l s c (owner_of_next c.still_open m)
+  pub rising : Rising c.still_open
+  pub current : IsCurrent now (with_octet m x)
+  pub payload_count : length m.payload + 1 ≡ now.payload_count
+  pub newest : length m.payload < 4 → IsNewest m.number c.still_open
+  pub alive : has_name m.header ≡ true → length m.payload < 4 → c.known m.number ≡ Some m.payload
+  pub says : has_name m.header ≡ true → SaysId m.header
+
+-- The slots keep what is tracked before the message begins, whose header is complete.
+pub record IsBeforeMessage (C : Table) (l : RequestTable) (s : Slots) (c : Tracked) (who : Option MessageKey) (m : Message) (now : Current) : Type 0 where
+  pub keeps : SlotsRepresent C l s c who
+  pub rising : Rising c.still_open
+  pub current : IsCurrent now m
+  pub none_come : m.payload ≡ []
+  pub payload_count : now.payload_count ≡ 0
+  pub newest : IsNewest m.number c.still_open
+  pub unknown : c.known m.number ≡ Some []
+
+-- ---- The slots, and the whole stream that has come.
+
+abbrev pub owner_of_next_in : List Open → Option Message → Option MessageKey
+owner_of_next_in still_open None = None
+owner_of_next_in still_open (Some m) = owner_of_next still_open m
+
+-- The slots keep what there is to know of the messages of this stream.
+abbrev pub SlotsRepresentStream : Table → RequestTable → ℕ → Slots → List ℕ → Type 0
+SlotsRepresentStream C l most s p =
+    SlotsRepresent C l s (tracked_after (rules C l most) p) (owner_of_next_in (open_after most p) (cut p).current)

@@ -1,0 +1,22 @@
+-- What a run of octets does that are of one message's contents alone: what its octets do, one after the other (steps).
+use Rattle.std.specs.Prelude.{ℕ, suc, List, [], ◌∷◌, Option}
+use Rattle.giop_sig.specs.Table.{Table}
+use Rattle.giop_message.specs.Signatures.{RequestTable}
+use Rattle.giop_message.specs.ReaderOfTable.{message_reader}
+use Rattle.giop_stream.specs.Events.{MessageKey, Takes}
+use Rattle.giop_stream.specs.Effects.{Tracked, Effect, no_effect, then_effect, Part, no_part, then_part, part_of}
+use Rattle.giop_stream.specs.SlotsRepresent.{event, effect_to}
+
+-- The octets come behind so many of the stream, and are the contents of the message whose they are.
+unfoldable pub run_effect : Table → RequestTable → ℕ → Tracked → Option MessageKey → List ℕ → Effect
+run_effect C l before c owner_of_next [] = no_effect c
+run_effect C l before c owner_of_next (x ∷ xs) =
+    let one = effect_to C l (suc before) c owner_of_next (Takes x) in
+    then_effect one (run_effect C l (suc before) one.tracked owner_of_next xs)
+
+-- the same of that message alone, of which these octets had come, unless it was over
+unfoldable pub run_part : Table → RequestTable → ℕ → MessageKey → Option (List ℕ) → List ℕ → Part
+run_part C l before w o [] = no_part o
+run_part C l before w o (x ∷ xs) =
+    let one = part_of (message_reader C l) (event (suc before) w (Takes x)) o in
+    then_part one (run_part C l (suc before) w one.octets xs)

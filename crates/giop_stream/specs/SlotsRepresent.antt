@@ -1,0 +1,86 @@
+-- What the code keeps of the messages, against what there is to know of them (state).
+use Rattle.std.specs.Prelude.{◌≡◌, ◌<◌, ℕ, List, [], ◌∷◌, Option, Some, None, slice_get}
+use Rattle.std.specs.List.{AllByRecursion as Each}
+use Rattle.giop_sig.specs.Table.{Table}
+use Rattle.giop_message.specs.declared.message.Message.{Message as CodeMessage}
+use Rattle.giop_message.specs.Signatures.{RequestTable}
+use Rattle.giop_message.specs.ReaderOfTable.{message_reader}
+use Rattle.giop_message.specs.MessageState.{Follows, Fits, reach}
+use Rattle.giop_entry_table.specs.declared.entry_table.Entry.{Entry}
+use Rattle.giop_stream.specs.declared.slots.Slot.{Slot as Contents}
+use Rattle.giop_stream.specs.declared.slots.Slots.{Slots}
+use Rattle.giop_stream.specs.declared.slots.Payload.{Payload}
+use Rattle.giop_stream.specs.declared.slots.Payload.TheVariants.{Own, Open, Nobody}
+use Rattle.giop_stream.specs.Events.{MessageKey, Event, EventKind}
+use Rattle.giop_stream.specs.Events as events
+use Rattle.giop_stream.specs.OpenSlots.{Slot, slots_of}
+use Rattle.giop_stream.specs.Effects.{Tracked, Effect, one_effect, no_effect}
+
+-- An open message, under its request id.
+abbrev pub OpenEntry : Type 0
+OpenEntry = Entry Contents
+
+abbrev pub open_entry : ℕ → ℕ → List ℕ → Option CodeMessage → OpenEntry
+open_entry id number header message =
+    record { key = id; value = record { number = number; header = header; message = message } }
+
+-- and of which this is kept from now on
+abbrev pub with_message : OpenEntry → Option CodeMessage → OpenEntry
+with_message slot message = open_entry slot.key slot.value.number slot.value.header message
+
+-- A message is kept of which these octets have come, or none where it is over.
+abbrev pub RepresentsMessage : Table → RequestTable → Option CodeMessage → MessageKey → Option (List ℕ) → Type 0
+RepresentsMessage C l (Some m) w (Some xs) = Follows C l w.number w.header m xs
+RepresentsMessage C l None w None = Unit {0}
+RepresentsMessage C l (Some m) w None = ⊥
+RepresentsMessage C l None w (Some xs) = ⊥
+
+-- A message can take the octet at this place: it fits the table, and has fewer octets than the stream has up to there.
+abbrev pub IsReady : Table → ℕ → Option CodeMessage → Type 0
+IsReady C at None = Unit {0}
+IsReady C at (Some m) = Fits C m × (reach m < at)
+
+-- and each that is kept can
+pub record AreReady (C : Table) (at : ℕ) (s : Slots) : Type 0 where
+  pub own_ready : IsReady C at s.own
+  pub each_ready : Each (λ slot. IsReady C at slot.value.message) s.slots.entries
+
+pub record IsSlot (C : Table) (l : RequestTable) (kept : OpenEntry) (slot : Slot) : Type 0 where
+  pub number : kept.value.number ≡ slot.open_as.opener.number
+  pub header : kept.value.header ≡ slot.open_as.opener.header
+  pub id : kept.key ≡ slot.open_as.id
+  pub message : RepresentsMessage C l kept.value.message slot.open_as.opener slot.octets
+
+abbrev pub AreSlots : Table → RequestTable → List OpenEntry → List Slot → Type 0
+AreSlots C l [] [] = Unit {0}
+AreSlots C l (kept ∷ more) (slot ∷ slots) = IsSlot C l kept slot × AreSlots C l more slots
+AreSlots C l [] (slot ∷ slots) = ⊥
+AreSlots C l (kept ∷ more) [] = ⊥
+
+-- whose the octets of the payload are
+abbrev pub PayloadBelongs : Table → RequestTable → Payload → Option CodeMessage → Tracked → Option MessageKey → Type 0
+PayloadBelongs C l Own own c (Some w) = Each (λ o. o.opener.number ≡ w.number → ⊥) c.still_open × RepresentsMessage C l own w (c.known w.number)
+PayloadBelongs C l (Open k) own c (Some w) = (own ≡ None) × ((o : events.Open) × (slice_get c.still_open k ≡ Some o) × (o.opener ≡ w))
+PayloadBelongs C l Nobody own c None = own ≡ None
+PayloadBelongs C l Own own c None = ⊥
+PayloadBelongs C l (Open k) own c None = ⊥
+PayloadBelongs C l Nobody own c (Some w) = ⊥
+
+pub record SlotsRepresent (C : Table) (l : RequestTable) (s : Slots) (c : Tracked) (owner_of_next : Option MessageKey) : Type 0 where
+  pub slots : AreSlots C l s.slots.entries (slots_of c.known c.still_open)
+  pub payload : PayloadBelongs C l s.payload s.own c owner_of_next
+
+-- no message is kept
+pub record IsBare (s : Slots) : Type 0 where
+  pub no_slots : s.slots.entries ≡ []
+  pub no_own : s.own ≡ None
+  pub nobody : s.payload ≡ Nobody
+
+-- what happens at a place to the message whose the octets are
+abbrev pub event : ℕ → MessageKey → EventKind → Event
+event at subject what = record { place = at; subject = subject; what = what }
+
+-- and what that makes of what is tracked, with its lines; nothing where they are nobody's
+abbrev pub effect_to : Table → RequestTable → ℕ → Tracked → Option MessageKey → EventKind → Effect
+effect_to C l at c None what = no_effect c
+effect_to C l at c (Some w) what = one_effect (message_reader C l) c at w what

@@ -1,0 +1,67 @@
+-- The fields of the code as what an engine holds of a stream (state); and what a call does to them (steps).
+use Rattle.std.specs.Prelude.{◌≡◌, ◌-◌, ℕ, Bool, true, false, not, ◌&&◌, List, length, Option, Some, None, Result, OnOk, slice_get, option_map, nat_lt, nat_le, if◌then◌else◌}
+use Rattle.giop_print.specs.Output.{OutLog, Writes}
+use Rattle.giop_cdr.specs.Numbers.{AreOctets}
+use Rattle.giop_sig.specs.Table.{Table}
+use Rattle.giop_message.specs.declared.message.Message.{Message as CodeMessage}
+use Rattle.giop_message.specs.Headers.{size, is_fragment}
+use Rattle.giop_message.specs.MessageState.{Follows}
+use Rattle.giop_stream.specs.Rules.{rules}
+use Rattle.giop_message.specs.Signatures.{RequestTable}
+use Rattle.giop_stream.specs.EngineView.{FramingView}
+use Rattle.giop_stream.specs.declared.slots.Payload.{Payload}
+use Rattle.giop_stream.specs.declared.slots.Payload.TheVariants as payload
+use Rattle.giop_stream.specs.Text.{lines_text}
+use Rattle.giop_stream.specs.OpenSlots.{Slot}
+use Rattle.giop_stream.specs.SlotsRepresent.{AreSlots}
+use Rattle.giop_stream.specs.EngineState.{State, Own, state_of}
+use Rattle.giop_stream.specs.EngineStep.{Step}
+
+abbrev pub IsOwn : Table → RequestTable → Option CodeMessage → Option Own → Type 0
+IsOwn C l None None = Unit {0}
+IsOwn C l (Some m) (Some o) = Follows C l o.message_key.number o.message_key.header m o.octets
+IsOwn C l (Some m) None = ⊥
+IsOwn C l None (Some o) = ⊥
+
+-- the payload octets that have come
+unfoldable pub come_in : State → ℕ
+come_in s = if nat_lt (length s.held) 12 then 0 else size s.held - s.left
+
+-- the next octets are of a payload, and the current message's own: it is no Fragment whose request id is complete
+unfoldable pub comes_itself : State → Bool
+comes_itself s = nat_le 12 (length s.held) && not (is_fragment s.held && nat_le 4 (come_in s))
+
+-- Whose the payload's next octets are: the current message's, unless it is over; an open message's; or nobody's.
+abbrev pub IsOwner : Payload → State → Type 0
+IsOwner payload.Own s = s.owner ≡ option_map (λ o. o.message_key.number) s.own
+IsOwner (payload.Open k) s =
+    (s.own ≡ None) × ((slot : Slot) × (slice_get s.slots k ≡ Some slot) × (s.owner ≡ Some slot.open_as.opener.number))
+IsOwner payload.Nobody s = s.owner ≡ None
+
+-- and whether they are the current message's own
+abbrev pub IsTurn : Payload → State → Type 0
+IsTurn payload.Own s = comes_itself s ≡ true
+IsTurn (payload.Open k) s = Unit {0}
+IsTurn payload.Nobody s = comes_itself s ≡ false
+
+-- The fields show this state; whether octets are the current message's own, only while there are any to come.
+pub record Shows (C : Table) (l : RequestTable) (f : FramingView) (s : State) : Type 0 where
+  pub totals : f.totals ≡ s.totals
+  pub stopped : f.stopped ≡ s.stop
+  pub header : f.header ≡ s.held
+  pub payload_count : f.payload_count ≡ come_in s
+  pub slots : AreSlots C l f.slots.slots.entries s.slots
+  pub own : IsOwn C l f.slots.own s.own
+  pub owner : IsOwner f.slots.payload s
+  pub turn : s.stop ≡ None → IsTurn f.slots.payload s
+
+-- This state is held of some stream of octets.
+pub record IsReached (C : Table) (l : RequestTable) (most : ℕ) (s : State) : Type 0 where
+  pub stream : List ℕ
+  pub octets : AreOctets stream
+  pub held : s ≡ state_of (rules C l most) stream
+
+-- a call writes the lines of this step, and leaves its state
+pub record Does {A E : Type 0} (C : Table) (l : RequestTable) (result : Result A E) (before after : OutLog) (f : FramingView) (one : Step) : Type 0 where
+  pub text : Writes result before after (lines_text one.lines)
+  pub shows : OnOk result (Shows C l f one.state)

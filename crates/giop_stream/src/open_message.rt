@@ -1,0 +1,93 @@
+//! What is done to one message that has begun and not ended, of which nothing is kept once it is over.
+
+ghost use Rattle.std.specs.Prelude.{◌≡◌, ◌+◌, ◌≤◌, ◌^◌, ℕ, List, length, Option, None, OnOk, IfOk, if◌then◌else◌};
+ghost use Rattle.giop_sig.specs.Table.{Table};
+ghost use Rattle.giop_message.specs.Signatures.{RequestTable};
+ghost use Rattle.giop_message.specs.ReaderOfTable.{message_reader};
+ghost use Rattle.giop_message.specs.MessageState.{AreOf};
+ghost use Rattle.giop_stream.specs.Events.{MessageKey, Faults, Closes};
+ghost use Rattle.giop_stream.specs.Effects.{part_of, lines_of};
+ghost use Rattle.giop_stream.specs.SlotsRepresent.{RepresentsMessage, IsReady, event};
+ghost use Rattle.giop_stream.specs.DoesEffect.{DoesPart, WritesLines, one_if};
+ghost use Rattle.giop_stream.specs.PayloadRuns.{run_part};
+
+use crate::fault::FramingFault;
+use crate::lines::framing_fault_line;
+use giop_message::Message;
+use giop_print::{Out, OutFault};
+use giop_sig::{Catalogue, Requests};
+
+/// Lets go of a message that is over. It stands apart from what is done at every octet, which needs no room for it.
+fn forget(message: &mut Option<Message>)
+    ensures { message.new ≡ None }
+{
+    *message = None;
+}
+
+/// Gives a message octets, behind so many of the stream; says whether one of them faults it.
+pub fn take_octets<O: Out>(
+    message: &mut Option<Message>,
+    catalogue: &Catalogue,
+    requests: &Requests,
+    octets: &[u8],
+    before: u64,
+    out: &mut O,
+) -> Result<bool, OutFault>
+    requires ready { IsReady catalogue.now (before + 1) message.old }
+    requires of { AreOf catalogue.now requests.now }
+    requires limit { before + length octets.now ≤ 2 ^ 48 }
+    ensures does { (w : MessageKey) (o : Option (List ℕ)) →
+        RepresentsMessage catalogue.now requests.now message.old w o →
+        DoesPart catalogue.now requests.now one_if result (O.log out.old) (O.log out.new)
+        message.new w (run_part catalogue.now requests.now before w o octets.now) }
+    ensures ready { OnOk result
+        (IsReady catalogue.now (before + length octets.now + 1) message.new) }
+{
+    let Some(m) = message else {
+        return Ok(false);
+    };
+    if m.take(catalogue, requests, octets, before, out)?.is_none() {
+        return Ok(false);
+    }
+    forget(message);
+    Ok(true)
+}
+
+/// Faults a message of this number, unless it is over; says whether it does.
+pub fn fault_message<O: Out>(
+    message: &mut Option<Message>,
+    number: u64,
+    fault: FramingFault,
+    place: u64,
+    out: &mut O,
+) -> Result<bool, OutFault>
+    ensures does { (C : Table) (l : RequestTable) (w : MessageKey) (o : Option (List ℕ)) →
+        RepresentsMessage C l message.old w o → w.number ≡ number →
+        DoesPart C l one_if result (O.log out.old) (O.log out.new) message.new w
+        (part_of (message_reader C l) (event place w (Faults fault)) o) }
+    ensures ready { (C : Table) (n : ℕ) → IsReady C n message.new }
+{
+    if message.take().is_none() {
+        return Ok(false);
+    }
+    framing_fault_line(out, number, fault, place)?;
+    Ok(true)
+}
+
+/// Closes a message, unless it is over; says whether that faults it.
+pub fn close_message<O: Out>(
+    message: Option<Message>,
+    catalogue: &Catalogue,
+    place: u64,
+    out: &mut O,
+) -> Result<bool, OutFault>
+    requires ready { IsReady catalogue.now (place + 1) message }
+    ensures { (l : RequestTable) (w : MessageKey) (o : Option (List ℕ)) → RepresentsMessage catalogue.now l message w o →
+        WritesLines one_if result (O.log out.old) (O.log out.new)
+        (lines_of (message_reader catalogue.now l) (event place w Closes) o) }
+{
+    match message {
+        Some(m) => m.close(catalogue, place, out),
+        None => Ok(false),
+    }
+}
