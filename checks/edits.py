@@ -1,0 +1,263 @@
+#!/usr/bin/env python3
+"""Tries wrong bodies: all those of a crate in one check of it, each refused by a goal of the function that it changes.
+
+    edits.py [--plan] [--lanes N] [CRATE ..]
+
+It works on the repository in the current folder; with no crate, on each that has a folder wrong/. An edit is a file
+crates/CRATE/wrong/NAME.edit: a line `file: src/FILE.rt`, and then pairs of lines `old: TEXT` and `new: TEXT`, each TEXT a
+part of one line; `old:` stands in the file once, as the pairs before it have left that. It changes a value and keeps the
+names that proofs cite. An edit of a constant has a line `in: MODULE::FUNCTION` that names the function that refuses it.
+
+A function is proved from the contracts of what it calls and not from their bodies, so wrong bodies of different functions
+don't touch each other. All edits of a crate are made in one copy, and one check of the copy tells of each function which
+goals of its own fail; to call a function that isn't proved is no goal of its own. So a function has one edit at most. The
+status is 0 where each edited function has a failed goal of its own and no other function has one. Else it is 1, and each
+fault is told by name: an edit that isn't refused, one whose text is missing or stands there twice, one in no function, two
+of one function, and a function that has no edit and fails.
+
+The libraries below a crate are used as `rt ci` or `rt check` leaves them in out/. Nothing but a temporary copy is changed.
+"""
+
+import argparse
+import os
+import re
+import shutil
+import subprocess
+import sys
+import tempfile
+from concurrent.futures import ThreadPoolExecutor, as_completed
+from dataclasses import dataclass
+from pathlib import Path
+
+# What one check takes of memory, with room to spare.
+LANE_BYTES = 3 << 30
+
+
+@dataclass(frozen=True)
+class Edit:
+    """A wrong body: what it makes of the lines of files, and the function that has to refuse it."""
+
+    name: str
+    lines: dict[tuple[str, int], str]
+    function: str
+
+
+class Fault(Exception):
+    """An edit that can't be tried."""
+
+
+def functions_of(text: str) -> list[tuple[int, int, str]]:
+    """The functions of a file that rt fmt has laid out: first and last line, and the name, in its type where it has one."""
+    found, around, end = [], "", ""
+    lines = text.split("\n")
+    for at, line in enumerate(lines):
+        if head := re.match(r"impl\b(?:<[^{]*?>)?\s+(?:(\w+)(?:<[^{]*?>)? for )?(\w+)", line):
+            around = head[2] + (head[1] or "") + "::"
+        elif line == "}":
+            around = ""
+        if head := re.match(r"(\s*)(?:pub(?:\([a-z]+\))? )?(?:const )?(?:unsafe )?fn (\w+)", line):
+            end = head[1] + "}"
+            last = next((it for it in range(at, len(lines)) if lines[it] in (end, head[1] + "{}")), at)
+            found.append((at, last, around + head[2]))
+    return found
+
+
+def module_of(path: str) -> str:
+    """The module of a source file, as the check prints it in front of a function's name."""
+    return path.removeprefix("src/").removesuffix(".rt").removesuffix("/mod").replace("/", "::")
+
+
+def function_at(path: str, text: str, line: int) -> str | None:
+    """The function around a line, as a check prints it: by its type, or by its module where it has none."""
+    for first, last, name in functions_of(text):
+        if first <= line <= last:
+            return name if "::" in name else f"{module_of(path)}::{name}"
+    return None
+
+
+def changed(file: Path, crate: Path) -> tuple[dict[tuple[str, int], str], str | None]:
+    """The lines that an edit changes, those apart that it only lays out anew, and the function that it names."""
+    before: dict[str, str] = {}
+    after: dict[str, str] = {}
+    path, old, named = "", None, None
+    for line in file.read_text(encoding="utf-8").split("\n"):
+        if line.startswith("file: "):
+            path = line.removeprefix("file: ").strip()
+            if path not in before:
+                before[path] = after[path] = (crate / path).read_text(encoding="utf-8")
+        elif line.startswith("in: "):
+            named = line.removeprefix("in: ").strip()
+        elif line.startswith("old: "):
+            old = line.removeprefix("old: ")
+        elif line.startswith("new:") and old is not None:
+            count = after[path].count(old)
+            if count != 1:
+                raise Fault(f"its text {old.strip()!r} stands in {path} {count} times, and not once")
+            after[path] = after[path].replace(old, line.removeprefix("new:").removeprefix(" "))
+            old = None
+    lines = {}
+    for path, text in before.items():
+        for at, (was, now) in enumerate(zip(text.split("\n"), after[path].split("\n"))):
+            if was.strip() != now.strip():
+                lines[path, at] = now
+    return lines, named
+
+
+def read(file: Path, crate: Path) -> Edit:
+    """An edit, with the one function in which it stands."""
+    lines, named = changed(file, crate)
+    if not lines:
+        raise Fault("it changes nothing")
+    texts = {path: (crate / path).read_text(encoding="utf-8") for path, _ in lines}
+    if named:
+        stands = {name if "::" in name else f"{module_of(path.name)}::{name}"
+                  for path in (crate / "src").rglob("*.rt")
+                  for _, _, name in functions_of(path.read_text(encoding="utf-8"))}
+        if named not in stands:
+            raise Fault(f"there is no function {named}")
+        return Edit(file.stem, lines, named)
+    functions = {function_at(path, texts[path], at) for path, at in lines}
+    if None in functions:
+        raise Fault("it stands in no function: name the function that refuses it by a line 'in: MODULE::FUNCTION'")
+    if len(functions) != 1:
+        raise Fault(f"it stands in more than one function: {', '.join(sorted(map(str, functions)))}")
+    return Edit(file.stem, lines, str(functions.pop()))
+
+
+def edits_of(crate: Path) -> tuple[list[Edit], list[str]]:
+    """The edits of a crate that can be tried together, and what is wrong with the others."""
+    edits: list[Edit] = []
+    faults = []
+    for file in sorted((crate / "wrong").iterdir()):
+        try:
+            if file.suffix != ".edit":
+                raise Fault("it is no edit: its name doesn't end in .edit")
+            edit = read(file, crate)
+            if other := next((it for it in edits if it.function == edit.function), None):
+                raise Fault(f"{edit.function} has an edit already: {other.name}")
+            if other := next((it for it in edits if it.lines.keys() & edit.lines.keys()), None):
+                raise Fault(f"it changes a line that {other.name} changes")
+            edits.append(edit)
+        except (Fault, OSError) as why:
+            faults.append(f"{crate.name}/{file.stem}: {why}")
+    return edits, faults
+
+
+def apply(edits: list[Edit], crate: Path) -> None:
+    """Makes all edits in a copy of their crate."""
+    lines = {place: line for edit in edits for place, line in edit.lines.items()}
+    for path in {path for path, _ in lines}:
+        file = crate / path
+        made = file.read_text(encoding="utf-8").split("\n")
+        for at in range(len(made)):
+            made[at] = lines.get((path, at), made[at])
+        file.write_text("\n".join(made), encoding="utf-8")
+
+
+def failed(said: str, crate: str) -> dict[str, str]:
+    """The functions with a failed goal of their own, by the names that a check prints, and which goal it is."""
+    found = {}
+    for name, told in re.findall(rf"(?m)^fn {crate}::(\S+): ((?:not proved|no proof).*)$", said):
+        own = re.search(r"`search` did not prove (.*?)(?:;|$)", told)
+        folder = "proofs/" + name.replace("::", "/") + "/"
+        error = re.search(rf"(?m)^(?:\./)?{re.escape(folder)}\S*?: error: (`[^`]*`)", said)
+        if own or error:
+            found[name] = own[1] if own else error[1]
+    return found
+
+
+def below(crates: Path, name: str) -> set[str]:
+    """The crates of the repository that a crate stands on, by the lines of crates.txt."""
+    uses = {}
+    for line in (crates.parent / "crates.txt").read_text(encoding="utf-8").split("\n"):
+        head, _, tail = line.partition("#")[0].partition(":")
+        if head.strip():
+            uses[head.split()[0]] = {it for it in tail.split() if (crates / it).is_dir()}
+    found: set[str] = set()
+    left = {name}
+    while left:
+        left = set().union(*(uses.get(it, set()) for it in left)) - found
+        found |= left
+    return found
+
+
+def checked(name: str, edits: list[Edit], top: Path) -> str:
+    """What one check says of a copy of the crate with all its edits."""
+    with tempfile.TemporaryDirectory(prefix=f"edits-{name}-") as made:
+        room = Path(made)
+        shutil.copy(top / "crates.txt", room)
+        if (top / "HANDLES").is_file():
+            shutil.copy(top / "HANDLES", room)
+        listed = below(top / "crates", name) | {name}
+        kept = shutil.ignore_patterns("incremental", "*.o", "wrong", "must-fail")
+        for it in listed:
+            shutil.copytree(top / "crates" / it, room / "crates" / it, ignore=kept)
+        (room / "crates.txt").write_text("".join(
+            line + "\n" for line in (top / "crates.txt").read_text(encoding="utf-8").split("\n")
+            if line.partition(":")[0].split()[:1] and line.partition(":")[0].split()[0] in listed), encoding="utf-8")
+        apply(edits, room / "crates" / name)
+        ran = subprocess.run(
+            ["rt", "check", "--jobs", "1"], cwd=room / "crates" / name, check=False, stdin=subprocess.DEVNULL,
+            stdout=subprocess.PIPE, stderr=subprocess.STDOUT, encoding="utf-8", errors="replace")
+        return ran.stdout
+
+
+def tried(name: str, edits: list[Edit], top: Path) -> tuple[list[str], list[str]]:
+    """What refuses each edit of a crate, a line each, and what is wrong."""
+    said = checked(name, edits, top)
+    if not re.search(r"(?m)^logic=(?:not-)?proved", said):
+        return [], [f"{name}: the check did not come to its end:\n{said[-1500:]}"]
+    left = failed(said, name)
+    told, faults = [], []
+    for edit in edits:
+        hits = [it for it in left if it == edit.function or it.endswith("::" + edit.function)]
+        if hits:
+            told.append(f"{name}/{edit.name}: refused in {hits[0]} by {left.pop(hits[0])}")
+        else:
+            faults.append(f"{name}/{edit.name}: not refused in {edit.function}")
+    faults += [f"{name}: {it} has no edit, and fails by {goal}" for it, goal in left.items()]
+    return told, faults
+
+
+def size_of(crate: Path) -> int:
+    """How much there is to prove, about: the octets of sources and proofs."""
+    return sum(it.stat().st_size for part in ("src", "proofs") for it in (crate / part).rglob("*") if it.is_file())
+
+
+def lanes_of() -> int:
+    """As many checks side by side as there are processors, and memory."""
+    memory = os.sysconf("SC_AVPHYS_PAGES") * os.sysconf("SC_PAGE_SIZE")
+    return max(1, min(len(os.sched_getaffinity(0)), memory // LANE_BYTES))
+
+
+def main() -> int:
+    words = argparse.ArgumentParser(description=__doc__, formatter_class=argparse.RawDescriptionHelpFormatter)
+    words.add_argument("--plan", action="store_true", help="read the edits and try none")
+    words.add_argument("--lanes", type=int, default=lanes_of(), help="how many checks run side by side")
+    words.add_argument("crates", nargs="*")
+    asked = words.parse_args()
+    top = Path.cwd()
+    names = asked.crates or [it.parent.name for it in top.glob("crates/*/wrong")]
+    names.sort(key=lambda it: -size_of(top / "crates" / it))
+    plans, faults = {}, []
+    for name in names:
+        plans[name], wrong = edits_of(top / "crates" / name)
+        faults += wrong
+    if asked.plan:
+        for name, edits in sorted(plans.items()):
+            print(f"{name}: {len(edits)} edits")
+    else:
+        with ThreadPoolExecutor(asked.lanes) as lanes:
+            runs = [lanes.submit(tried, name, edits, top) for name, edits in plans.items() if edits]
+            for run in as_completed(runs):
+                told, wrong = run.result()
+                print("\n".join(told), flush=True)
+                faults += wrong
+    for fault in faults:
+        print(fault)
+    print(f"edits: {sum(map(len, plans.values()))} tried of {len(plans)} crates, {len(faults)} faults")
+    return 1 if faults else 0
+
+
+if __name__ == "__main__":
+    sys.exit(main())
