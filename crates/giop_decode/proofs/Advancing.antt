@@ -9,7 +9,7 @@ use Rattle.giop_decode.specs.Reading.{cut_off}
 use Rattle.giop_decode.specs.Begins.{start_outer, start_leaf}
 use Rattle.giop_decode.specs.ReadingSteps.{around, step}
 use Rattle.giop_decode.proofs.OctetResults.{around_mute, mute_lines}
-use Rattle.giop_decode.proofs.Surrounding.{around_shut, known_ticked, lines_shut, places_ticked, surrounds}
+use Rattle.giop_decode.proofs.Surrounding.{around_unless_ended, known_ticked, lines_shut, places_ticked, surrounds}
 use Rattle.std.specs.Prelude.{cond, ltb}
 use Rattle.giop_decode.specs.declared.progress.Kind.TheVariants as kinds
 use Rattle.giop_decode.proofs.Resuming.{lines_front}
@@ -73,7 +73,7 @@ comes_by C T d named ended (transitions.Refused kind) lines at p r n k e h = rw 
 comes_by C T d named ended (transitions.More leaf) lines at p r n k e h = going_by C d named ended d.leaf lines at p r n k refl e h
 comes_by C T d named ended _ lines at p r n k e h = going_by C d named ended d.leaf lines at p r n k refl e h
 
--- a decoder that goes on, behind its lines
+-- a decoder that goes on: the reading that its fields stand for, with its lines
 pub record Goes (C : Table) (d : Decoder) (at : ℕ) (r : Read) : Type 0 where
   pub lines : List Line
   pub is : r ≡ read_by_fields C d lines at
@@ -89,7 +89,7 @@ pub moved : (named ended : Bool) (transition : Transition) (leaf : Option Innerm
 moved named ended (transitions.Refused kind) leaf p h g = rw h at g
 moved named ended _ leaf p h g = tt
 
--- where it goes on, no encapsulation has ended
+-- where the answer is that the value goes on, no encapsulation has ended
 going_unended : (named ended : Bool) (leaf : Option Innermost) (p : Progress) → IsGoing named ended leaf p → GoesOn p → ended ≡ false
 going_unended named ended None p h g = absurd (rw h at g)
 going_unended named true (Some leaf) p h g = absurd (rw h at g)
@@ -134,20 +134,20 @@ step_fits C d new f octet g here ahead inside link known_outer known clean heeds
 lines_entered : (C : Table) (coding : Coding) (path : List PathSegment) (frames : List Frame) (test : Bool) (inner : List OpenPart) (leaf : Leaf) (lines : List Line) (at : ℕ) → AreKnown C frames →
     lines_of (around coding path (open_parts C at frames) (cond test (Short lines at inner leaf) (Fault lines at kinds.EncapShort (cut_off leaf)))) ≡ lines
 lines_entered C coding path frames true inner leaf lines at k =
-    ap lines_of (around_shut C coding path at frames lines inner leaf k) ∙ lines_shut (has_ended frames) lines at (open_parts C at frames ++ inner) leaf
+    ap lines_of (around_unless_ended C coding path at frames lines inner leaf k) ∙ lines_shut (has_ended frames) lines at (open_parts C at frames ++ inner) leaf
 lines_entered C coding path frames false inner leaf lines at k = ap lines_of (around-fault coding path (open_parts C at frames) lines at kinds.EncapShort (cut_off leaf))
 
 lines_turned_at : (C : Table) (coding : Coding) (path : List PathSegment) (frames : List Frame) (T : Ty) (transition : Transition) (carry piece : List ℕ) (lines : List Line) (at : ℕ) → AreKnown C frames →
     lines_of (around coding path (open_parts C at frames) (after_transition C T transition carry piece lines at)) ≡ lines
 lines_turned_at C coding path frames T (transitions.Refused kind) carry piece lines at k = ap lines_of (around-fault coding path (open_parts C at frames) lines at kind T)
 lines_turned_at C coding path frames T (transitions.More leaf) carry piece lines at k =
-    ap lines_of (around_shut C coding path at frames lines [] (leaf_of C leaf carry piece) k) ∙ lines_shut (has_ended frames) lines at (open_parts C at frames ++ []) (leaf_of C leaf carry piece)
+    ap lines_of (around_unless_ended C coding path at frames lines [] (leaf_of C leaf carry piece) k) ∙ lines_shut (has_ended frames) lines at (open_parts C at frames ++ []) (leaf_of C leaf carry piece)
 lines_turned_at C coding path frames T (transitions.Opened count) carry piece lines at k =
     let inner = Part T 0 count ∷ start_outer (part_of T 0) in
-    ap lines_of (around_shut C coding path at frames lines inner (start_leaf (part_of T 0)) k) ∙ lines_shut (has_ended frames) lines at (open_parts C at frames ++ inner) (start_leaf (part_of T 0))
+    ap lines_of (around_unless_ended C coding path at frames lines inner (start_leaf (part_of T 0)) k) ∙ lines_shut (has_ended frames) lines at (open_parts C at frames ++ inner) (start_leaf (part_of T 0))
 lines_turned_at C coding path frames T (transitions.Selected i) carry piece lines at k =
     let inner = Member T i ∷ start_outer (part_of T i) in
-    ap lines_of (around_shut C coding path at frames lines inner (start_leaf (part_of T i)) k) ∙ lines_shut (has_ended frames) lines at (open_parts C at frames ++ inner) (start_leaf (part_of T i))
+    ap lines_of (around_unless_ended C coding path at frames lines inner (start_leaf (part_of T i)) k) ∙ lines_shut (has_ended frames) lines at (open_parts C at frames ++ inner) (start_leaf (part_of T i))
 lines_turned_at C coding path frames T (transitions.Entered order count) carry piece lines at k =
     lines_entered C coding path frames (ltb at (at + (count - 1))) (Inside T (coded order (at - 1)) (at + (count - 1)) ∷ start_outer (part_of T 0)) (start_leaf (part_of T 0)) lines at k
 lines_turned_at C coding path frames T transitions.Ended carry piece lines at k =
@@ -156,7 +156,7 @@ lines_turned_at C coding path frames T transitions.Ended carry piece lines at k 
     let none : lines_of inner ≡ [] = mute_lines at inner (around_mute at coding path ps (Done [] at []) (refl, refl, refl)) in
     ap lines_of (around_done coding path ps lines at) ∙ (lines_front lines inner ∙ (ap (λ ls. lines ++ ls) none ∙ append-nil lines))
 
--- nothing is said but by the innermost part
+-- no lines but those of the innermost part
 pub lines_turned : (C : Table) (here : ℕ) (coding : Coding) (path : List PathSegment) (frames : List Frame) (T : Ty) (transition : Transition) (carry piece : List ℕ) (lines : List Line) → HaveOctetsLeft frames → AreKnown C frames →
     lines_of (around coding path (open_parts C here frames) (after_transition C T transition carry piece lines (here + 1))) ≡ lines
 lines_turned C here coding path frames T transition carry piece lines ahead known =

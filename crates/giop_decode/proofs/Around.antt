@@ -1,4 +1,4 @@
--- The machine, from its innermost part outwards.
+-- The step of an octet in the parts around the innermost one: before the first octet, and where a part ends.
 use Rattle.std.proofs.Common.{◌≡◌, ℕ, zero, suc, ◌-◌, ◌<◌, ◌≤◌, List, [], ◌∷◌, ◌++◌, refl, ◌∙◌, ap, arith, add-zero, lit<, lt-ltb}
 use Rattle.giop_decode.specs.Begins.{start_leaf, start_outer}
 use Rattle.giop_decode.specs.Fits.{HasParts, Surrounds}
@@ -59,7 +59,7 @@ around-front coding path (Inside T c end ∷ outer) front r =
 pub block_none : (n at : ℕ) → 0 < n → block n at [] ≡ Partial [] at
 block_none n at pos = block_waits n at [] pos ∙ ap (Partial []) (add-zero at)
 
--- the first of several parts, and what comes behind it
+-- the first of several parts, and what follows it
 pub first_part : (coding : Coding) (path : List PathSegment) (T : Ty) (count more i : ℕ) (at : ℕ) →
     (read coding (inner_path path T i) (part_of T i) at []
     ≡ Short [] at (start_outer (part_of T i)) (start_leaf (part_of T i))) →
@@ -112,7 +112,7 @@ last_part coding path T i count at h =
     let e : count - suc i ≡ 0 = omega arith in
     rw e refl
 
--- nothing fits in no depth
+-- no type fits in no depth
 pub fit_none : (T : Ty) → IsFit zero T → ⊥
 unfolding IsFit
 fit_none T fit = fit

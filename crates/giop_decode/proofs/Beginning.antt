@@ -1,4 +1,4 @@
--- How a type begins.
+-- The frames and the leaf with which a type begins, in a decoder's fields.
 use Rattle.std.proofs.Common.{◌≡◌, ℕ, zero, suc, pred, ◌<◌, List, [], ◌∷◌, ◌++◌, map, refl, sym, ◌∙◌, ap, arith, append_assoc}
 use Rattle.std.specs.List.{AllByRecursion}
 use Rattle.giop_decode.specs.ReadResult.{OpenPart, Part}

@@ -1,4 +1,4 @@
--- The path of the innermost part, spelled from its end.
+-- The path of the innermost part, spelled from its end, is that of the decoder's frames.
 use Rattle.std.proofs.Common.{◌≡◌, ℕ, true, false, Bool, Option, Some, None, ◌+◌, ◌-◌, ◌<◌, ◌≤◌, List, [], ◌∷◌, ◌++◌, length, get_or, drop, refl, ap, ◌∙◌, sym, append_assoc, append-nil, length-append, arith}
 use Rattle.std.proofs.lemmas.Bool.{false≢true}
 use Rattle.std.proofs.lemmas.List.{drop_more}
@@ -19,11 +19,11 @@ use Rattle.giop_sig.specs.Trees.{tree}
 use Rattle.giop_sig.specs.Types.{Ty}
 use Rattle.giop_sig.specs.declared.types.TypeId.{TypeId}
 
--- it makes no difference at which offset a part stands
-seg_anywhere : (here : ℕ) (inside : Option Order) (T : Ty) (i count : ℕ) →
+-- the segment of a part doesn't depend on the offset that its frame is at
+segment_anywhere : (here : ℕ) (inside : Option Order) (T : Ty) (i count : ℕ) →
     segment_in (open_part_in here inside T i count) ≡ segment_in (open_part_in 0 inside T i count)
-seg_anywhere here None T i count = refl
-seg_anywhere here (Some order) T i count = refl
+segment_anywhere here None T i count = refl
+segment_anywhere here (Some order) T i count = refl
 
 path_anywhere : (C : Table) (here : ℕ) (path : List PathSegment) (outer : List Frame) →
     path_in path (open_parts C 0 outer) ≡ path_in path (open_parts C here outer)
@@ -31,7 +31,7 @@ path_anywhere C here path [] = refl
 path_anywhere C here path (f ∷ outer) =
     path_anywhere C here (path ++ segment_in (open_part C 0 f) ∷ []) outer
     ∙ ap (λ seg. path_in (path ++ seg ∷ []) (open_parts C here outer)) (sym
-    (seg_anywhere here f.inside (tree C f.of.0) f.index f.count))
+    (segment_anywhere here f.inside (tree C f.of.0) f.index f.count))
 
 -- the path of the innermost part, and of its discriminator
 pub stands_at : (C : Table) (here : ℕ) (root : Root) (outer : List Frame) →

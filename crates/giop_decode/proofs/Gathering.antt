@@ -21,12 +21,11 @@ use Rattle.giop_decode.proofs.PieceLaws.{content_held}
 use Rattle.giop_decode.proofs.Runs.{dues_both, dues_none, takes_one, takes_both}
 use Rattle.giop_decode.proofs.Surrounding.{coded_in, free_coding_by}
 use Rattle.giop_decode.proofs.Taking.{takes_to, due_is}
-use Rattle.giop_decode.proofs.PartialBlocks.{Holds, step_held, held_comes, held_here, held_fits, held_minds}
+use Rattle.giop_decode.proofs.PartialBlocks.{Holds, step_held, held_comes, held_here, held_fits, held_keeps_noted}
 use Rattle.giop_sig.specs.Table.{Table}
 use Rattle.giop_sig.specs.Trees.{tree}
 
--- a decoder that stands as many octets further on in the same innermost part, in these frames, and may
--- hold others
+-- a decoder that is so many octets further on in the same innermost part, in these frames, and may hold other octets
 pub record IsFurther (d new : Decoder) (count : ℕ) (frames : List Frame) : Type 0 where
   pub order : new.order ≡ d.order
   pub root : new.root ≡ d.root
@@ -115,7 +114,7 @@ module _ (C : Table) (d new : Decoder) (leaf : Innermost) (b : ℕ) where
               (takes_to C T order at message root d new s b progress.More f on.order on.root on.message
               (λ here h. held_here C d new leaf b ahead f e e' on.outer here on.at h)
               (λ here h. held_comes C d new leaf b ahead f e e' on.outer here h (holds here h))
-              (λ here front h old. held_minds C d new leaf b ahead f e e' on.outer here front on.notes h (holds here h) old) r);
+              (λ here front h old. held_keeps_noted C d new leaf b ahead f e e' on.outer here front on.notes h (holds here h) old) r);
           quiet = due_is C T order at message root d s b f r
               ∙ ap lines_of (step_held C d new leaf b ahead f e e' on.outer (at + length s) r.offset (holds (at + length s) r.offset));
         },
@@ -132,7 +131,7 @@ module _ (C : Table) (d new : Decoder) (leaf : Innermost) (b : ℕ) where
         quiet = dues_both order T at s (b ∷ []) bs ∙ (ap (λ z. z ++ added_lines_of_run order T at (s ++ b ∷ []) bs) one.quiet ∙ others.quiet);
       }
 
--- the decoder behind the first of several octets
+-- the decoder after the first of several octets
 abbrev next_in : Decoder → List ℕ → List ℕ → Decoder
 next_in d carry piece = record {
   order = d.order;
@@ -176,7 +175,7 @@ counted_free d new count free ahead on =
 
 -- ---- of a content
 
--- So many octets of a piece may be held, where it waits for one more: of a full one, or of a last one with what ends it.
+-- At most so many octets of a piece are held while it is incomplete: of a full one, or of a last one with what ends it.
 module _ (C : Table) (of : TypeId) (total offset most : ℕ) (full : 32 < total - offset → most < 32)
     (last : total - offset ≤ 32 → most < total - offset + tail (tree C of.0)) where
   pub waits_gathered : (d new : Decoder) (octets : List ℕ) → IsCountedBy d new (length octets) →

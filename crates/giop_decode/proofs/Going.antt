@@ -1,4 +1,4 @@
--- Behind a part that has ended.
+-- What comes next after a part that has ended: the next of several parts, or the rest of an encapsulation.
 use Rattle.std.proofs.Common.{◌≡◌, ℕ, zero, suc, ◌+◌, ◌-◌, ◌<◌, ◌≤◌, List, [], ◌∷◌, ◌++◌, length, Some, None, refl, ◌∙◌, ap, subst, arith}
 use Rattle.std.specs.List.{AllByRecursion}
 use Rattle.giop_decode.specs.ReadResult.{Coding, PathSegment, OpenPart, Part, Member, Done, Short, coded, Inside, Content}
@@ -17,7 +17,7 @@ use Rattle.giop_cdr.specs.declared.order.Order.{Order}
 use Rattle.giop_sig.specs.Trees.{tree}
 use Rattle.giop_sig.specs.Table.{Table}
 
--- the innermost place, and how much depth is left at it
+-- the innermost open part, and how much depth is left for it
 pub record Innermost (d : ℕ) (ps : List OpenPart) (p : OpenPart) : Type 0 where
   pub front : OpenFrom d ps
   pub left : ℕ
@@ -34,7 +34,7 @@ innermost zero (q ∷ ps) p h = absurd h
 innermost (suc d) [] p h = record { front = tt; left = d; depth = omega arith; «open» = h.0 }
 innermost (suc d) (q ∷ ps) p h = innermost_deeper d q ps p h.0 (innermost d ps p h.1)
 
--- a place with more parts behind it is one of several
+-- an open part that more parts follow is one of several
 pub record Next (d : ℕ) (T : Ty) (i count : ℕ) : Type 0 where
   pub is : part_in T i count ≡ Part T i count
   pub then : part_in T (suc i) count ≡ Part T (suc i) count
@@ -60,7 +60,7 @@ goes_next coding path ps T i count at e next below = rw (next.is, next.then)
     (around-append coding path ps (Part T i count) (Done [] at [])
     ∙ ap (around coding path ps) (next_part (coding_in coding ps) (path_in path ps) e T i count at next.fit next.parts below))
 
--- behind the value in an encapsulation
+-- after the value in an encapsulation
 pub goes_rest : (coding : Coding) (path : List PathSegment) (ps : List OpenPart) (T : Ty) (inner : Coding)
     (end at left : ℕ) → 0 < left → end - at ≡ left →
     around coding path (ps ++ Inside T inner end ∷ []) (Done [] at [])
@@ -118,7 +118,7 @@ popped C at items rest f known are_open e =
       inner = innermost 24 (open_parts C at rest) (open_part C at f) (subst (OpenFrom 24) (ap (open_parts C at) e ∙ map_push (open_part C at) rest f) are_open);
     }
 
--- a frame that is no encapsulation's
+-- what holds where a frame is removed that is no encapsulation's
 pub record PartPopped (C : Table) (at : ℕ) (rest : List Frame) (f : Frame) : Type 0 where
   pub known_rest : AreKnown C rest
   pub known : f.of.0 < length C.types
@@ -149,7 +149,7 @@ part_popped C at items rest f known are_open e none =
       is = is;
     }
 
--- and of an encapsulation
+-- and where one of an encapsulation is removed
 pub record HeldPopped (C : Table) (at : ℕ) (rest : List Frame) (f : Frame) (order : Order) : Type 0
   where
     pub known_rest : AreKnown C rest

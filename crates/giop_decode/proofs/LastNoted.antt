@@ -1,4 +1,5 @@
--- What a reading leaves in mind is what its lines say: the folds over the lines give the last of each.
+-- What is noted of a reading, line by line, is what all of its lines give at once: the first request id, and the last
+-- of enums and strings.
 use Rattle.std.proofs.Common.{◌≡◌, ℕ, zero, suc, ◌+◌, ◌&&◌, Bool, true, false, List, [], ◌∷◌, ◌++◌, length, take, drop, Option, Some, None, refl, sym, ◌∙◌, ap, append_assoc, append-nil}
 use Rattle.std.specs.Prelude.{cond, flat_map, codes}
 use Rattle.std.specs.List.{cons_option, last_or}
@@ -74,7 +75,7 @@ left_id is_header h (l ∷ ls) =
 
 -- ---- the last whole string
 
--- the name behind pieces of strings, where so much is gathered of one that hasn't ended
+-- the name after pieces of strings, where so much is noted of one that hasn't ended
 abbrev said : Option (List ℕ) → List ℕ → List TextPiece → Option (List ℕ)
 said name so_far [] = name
 said name so_far (p ∷ ps) = cond p.more (said None (so_far ++ p.octets) ps) (said (name_if (so_far ++ p.octets)) [] ps)
@@ -117,18 +118,18 @@ outside_name is_header r strings outside =
 
 -- ---- all of it
 
-hushed_id : (inside : Bool) (h : Noted) → (without_name_if inside h).request_id ≡ h.request_id
-hushed_id true h = refl
-hushed_id false h = refl
+without_name_id : (inside : Bool) (h : Noted) → (without_name_if inside h).request_id ≡ h.request_id
+without_name_id true h = refl
+without_name_id false h = refl
 
-hushed_status : (inside : Bool) (h : Noted) → (without_name_if inside h).status ≡ h.status
-hushed_status true h = refl
-hushed_status false h = refl
+without_name_status : (inside : Bool) (h : Noted) → (without_name_if inside h).status ≡ h.status
+without_name_status true h = refl
+without_name_status false h = refl
 
 is_left : (is_header : Bool) (r : Read) → Strings r → IsLeft is_header r (noted_of is_header r)
 is_left is_header r strings = record {
-  request_id = hushed_id (ends_in_string r) (noted is_header nothing_noted (lines_of r)) ∙ left_id is_header nothing_noted (lines_of r);
-  status = hushed_status (ends_in_string r) (noted is_header nothing_noted (lines_of r)) ∙ left_status is_header nothing_noted (lines_of r);
+  request_id = without_name_id (ends_in_string r) (noted is_header nothing_noted (lines_of r)) ∙ left_id is_header nothing_noted (lines_of r);
+  status = without_name_status (ends_in_string r) (noted is_header nothing_noted (lines_of r)) ∙ left_status is_header nothing_noted (lines_of r);
   strings = strings;
   name = name (ends_in_string r) refl;
 }
@@ -139,7 +140,7 @@ is_left is_header r strings = record {
     name true e = refl
     name false e = outside_name is_header r strings e
 
--- What is left in mind of any reading.
+-- What is noted of any reading.
 pub read_left : (is_header : Bool) (coding : Coding) (path : List PathSegment) (T : Ty) (at : ℕ)
     (s : List ℕ) → IsLeft is_header (read coding path T at s)
     (noted_of is_header (read coding path T at s))

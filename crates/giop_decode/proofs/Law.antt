@@ -20,7 +20,7 @@ use Rattle.giop_sig.specs.declared.types.Selected.TheVariants.{Case, Nothing, Re
 use Rattle.giop_cdr.specs.declared.prim.Primitive.TheVariants as prims
 use Rattle.giop_decode.specs.ReadResult
 
--- a reader that goes on as the machine does
+-- a reader for which one octet more is one step
 abbrev pub Goes : Coding → List PathSegment → (ℕ → List ℕ → Read) → Type 0
 Goes coding path reader = (at : ℕ) (s : List ℕ) (b : ℕ) → reader at (s ++ b ∷ []) ≡ advance coding path (reader at s) b
 
@@ -81,7 +81,7 @@ module _ (coding : Coding) (path : List PathSegment) (T : Ty) (count : ℕ) wher
       ap (λ r. followed (within (Part T i count) r) (parts more (suc i))) (each i at s b)
       ∙ part_goes i more is_next (parts_go each more (suc i) is_next) (read coding (inner_path path T i) (part_of T i) at s) b
 
--- a union's member, behind which nothing follows
+-- a union's member, which no other part follows
 pub member_goes : (coding : Coding) (path : List PathSegment) (T : Ty) (i : ℕ) (r : Read) (b : ℕ) →
     within (Member T i) (advance coding (inner_path path T i) r b)
     ≡ advance coding path (within (Member T i) r) b
@@ -304,7 +304,7 @@ module _ (coding : Coding) (path : List PathSegment) where
 
 -- what begins with a number
 
--- what follows the number, once that has come
+-- what follows the number, once that is complete
 abbrev pub headed_by : Coding → List PathSegment → Ty → Block → Read
 headed_by coding path T g =
     after_leading_number T (λ xs at rest. after coding path T (num coding.order xs) at rest) g

@@ -14,7 +14,7 @@ use Rattle.giop_decode.proofs.Law.{headed_by, block_step_waits, block_step_got, 
 use Rattle.giop_decode.proofs.Around.{fit_none, fit_part}
 use Rattle.giop_decode.proofs.Sound.{Takes, ordered_sound, sound_enclosed, sound_followed, sound_part, sound_member, parts_keep, after_keeps, read_keeps, full_piece_sound, last_piece_sound, content_keeps}
 
--- the leaf, with how much depth is left at it
+-- the leaf, with how much depth is left for it
 pub record LeafAt (d : ℕ) (outer : List OpenPart) (leaf : Leaf) : Type 0 where
   pub are_open : OpenFrom d outer
   pub left : ℕ

@@ -1,4 +1,4 @@
--- What is heard of an octet.
+-- What is noted of an octet's line, and which part is a member of the root.
 use Rattle.std.specs.Prelude.{slice_index_or, codes}
 use Rattle.std.specs.Str.{bytes_eq}
 use Rattle.std.proofs.Common.{◌≡◌, ◌≢◌, ℕ, ◌&&◌, Bool, true, false, List, [], ◌∷◌, ◌++◌, length, append_assoc, refl, ◌∙◌, arith, Option, Some, None, sym}
@@ -19,7 +19,7 @@ use Rattle.std.specs.Prelude.{IfSome}
 use Rattle.giop_decode.specs.Fits.{IsEncapsulation}
 use Rattle.giop_decode.specs.DecoderSteps.{stopped_with}
 use Rattle.giop_decode.specs.Reading.{cut_off}
-use Rattle.giop_decode.proofs.Surrounding.{shut}
+use Rattle.giop_decode.proofs.Surrounding.{unless_ended}
 use Rattle.giop_sig.specs.Table.{Table}
 use Rattle.giop_sig.specs.Trees.{tree}
 use Rattle.giop_sig.specs.Types.{Cases, Ty, Single, Text, Octets, Struct, Union, Sequence, Array, Plain, Enum, HasMember, name_in, shape_in, Encapsulation, Tag}
@@ -37,9 +37,9 @@ pub cut_inside : (leaf : Leaf) → is_text (cut_off leaf) ≡ in_content leaf
 cut_inside (Content T total offset piece) = sym (content_in T total offset piece)
 cut_inside _ = refl
 
-pub shut_inside : (ended : Bool) (lines : List Line) (at : ℕ) (outer : List OpenPart) (leaf : Leaf) → ends_in_string (shut ended lines at outer leaf) ≡ in_content leaf
-shut_inside true lines at outer leaf = cut_inside leaf
-shut_inside false lines at outer leaf = refl
+pub unless_ended_inside : (ended : Bool) (lines : List Line) (at : ℕ) (outer : List OpenPart) (leaf : Leaf) → ends_in_string (unless_ended ended lines at outer leaf) ≡ in_content leaf
+unless_ended_inside true lines at outer leaf = cut_inside leaf
+unless_ended_inside false lines at outer leaf = refl
 
 -- the rest of an encapsulation is no string
 pub rest_silent : (T : Ty) → IsEncapsulation T → is_text T ≡ false
@@ -50,7 +50,7 @@ pub stopped_silent : (C : Table) (frames : List Frame) (carry piece : List ℕ) 
     IfSome leaf (λ l. leaf_in_string (tree C (leaf_type l)) l ≡ false) → ends_in_string (stopped_with C frames carry piece leaf lines at) ≡ false
 stopped_silent C frames carry piece None lines at h = refl
 stopped_silent C frames carry piece (Some leaf) lines at h =
-    shut_inside (has_ended frames) lines at (open_parts C at frames) (leaf_of C leaf carry piece) ∙ (leaf_inside C leaf carry piece ∙ h)
+    unless_ended_inside (has_ended frames) lines at (open_parts C at frames) (leaf_of C leaf carry piece) ∙ (leaf_inside C leaf carry piece ∙ h)
 
 text_inside : (T : Ty) (leaf : Innermost) → leaf_in_string T leaf ≡ true → is_text T ≡ true
 text_inside T (innermost.Content of total offset) h = h
@@ -60,50 +60,50 @@ pub front_inside : (front : List Line) (r : Read) → ends_in_string (with_front
 front_inside front (Done lines at rest) = refl
 front_inside front _ = refl
 
-hushed_twice : (was : Bool) (h : Noted) → without_name_if true (without_name_if was h) ≡ without_name_if true h
-hushed_twice true h = refl
-hushed_twice false h = refl
+without_name_twice : (was : Bool) (h : Noted) → without_name_if true (without_name_if was h) ≡ without_name_if true h
+without_name_twice true h = refl
+without_name_twice false h = refl
 
 -- a piece of a string, or of octets, which are in no string
-piece_heard : (header : Bool) (T : Ty) (was more : Bool) (h : Noted) (path : List PathSegment) (at offset : ℕ) (octets : List ℕ) → (was ≡ true → is_text T ≡ true) →
+piece_noted : (header : Bool) (T : Ty) (was more : Bool) (h : Noted) (path : List PathSegment) (at offset : ℕ) (octets : List ℕ) → (was ≡ true → is_text T ≡ true) →
     noted header (without_name_if was h) (line at path (Piece T offset octets more) ∷ []) ≡ without_name_if (is_text T && more) (noted header h (line at path (Piece T offset octets more) ∷ []))
-piece_heard header (Text bound) true true h path at offset octets k = refl
-piece_heard header (Text bound) true false h path at offset octets k = refl
-piece_heard header (Text bound) false true h path at offset octets k = refl
-piece_heard header (Text bound) false false h path at offset octets k = refl
-piece_heard header (Octets bound) false more h path at offset octets k = refl
-piece_heard header (Octets bound) true more h path at offset octets k = let e = k refl in cc
-piece_heard header (Single scalar) false more h path at offset octets k = refl
-piece_heard header (Single scalar) true more h path at offset octets k = let e = k refl in cc
-piece_heard header (Struct n names parts) false more h path at offset octets k = refl
-piece_heard header (Struct n names parts) true more h path at offset octets k = let e = k refl in cc
-piece_heard header (Union choice scalar select names cases) false more h path at offset octets k = refl
-piece_heard header (Union choice scalar select names cases) true more h path at offset octets k = let e = k refl in cc
-piece_heard header (Sequence bound T) false more h path at offset octets k = refl
-piece_heard header (Sequence bound T) true more h path at offset octets k = let e = k refl in cc
-piece_heard header (Encapsulation T) false more h path at offset octets k = refl
-piece_heard header (Encapsulation T) true more h path at offset octets k = let e = k refl in cc
-piece_heard header (Array n T) false more h path at offset octets k = refl
-piece_heard header (Array n T) true more h path at offset octets k = let e = k refl in cc
+piece_noted header (Text bound) true true h path at offset octets k = refl
+piece_noted header (Text bound) true false h path at offset octets k = refl
+piece_noted header (Text bound) false true h path at offset octets k = refl
+piece_noted header (Text bound) false false h path at offset octets k = refl
+piece_noted header (Octets bound) false more h path at offset octets k = refl
+piece_noted header (Octets bound) true more h path at offset octets k = let e = k refl in cc
+piece_noted header (Single scalar) false more h path at offset octets k = refl
+piece_noted header (Single scalar) true more h path at offset octets k = let e = k refl in cc
+piece_noted header (Struct n names parts) false more h path at offset octets k = refl
+piece_noted header (Struct n names parts) true more h path at offset octets k = let e = k refl in cc
+piece_noted header (Union choice scalar select names cases) false more h path at offset octets k = refl
+piece_noted header (Union choice scalar select names cases) true more h path at offset octets k = let e = k refl in cc
+piece_noted header (Sequence bound T) false more h path at offset octets k = refl
+piece_noted header (Sequence bound T) true more h path at offset octets k = let e = k refl in cc
+piece_noted header (Encapsulation T) false more h path at offset octets k = refl
+piece_noted header (Encapsulation T) true more h path at offset octets k = let e = k refl in cc
+piece_noted header (Array n T) false more h path at offset octets k = refl
+piece_noted header (Array n T) true more h path at offset octets k = let e = k refl in cc
 
-spoken_heard : (header : Bool) (T : Ty) (was : Bool) (transition : Transition) (output : Output) (path : List PathSegment) (at : ℕ) (piece : List ℕ) (lines : List Line) (h : Noted) →
+output_noted : (header : Bool) (T : Ty) (was : Bool) (transition : Transition) (output : Output) (path : List PathSegment) (at : ℕ) (piece : List ℕ) (lines : List Line) (h : Noted) →
     OutputFitsString T was transition output → IsOutput T path at output piece lines → (was ≡ true → is_text T ≡ true) →
     without_name_if (clears_name output) (noted header (without_name_if was h) lines) ≡ without_name_if (transition_in_string T transition) (noted header h lines)
-spoken_heard header T was transition outputs.Nothing path at piece lines h v says k = rw (says, v) refl
-spoken_heard header T was transition outputs.Length path at piece lines h v says k = rw (says, v) (hushed_twice was h)
-spoken_heard header T was transition (outputs.Size size) path at piece lines h v says k = rw (v.0, v.1, says) refl
-spoken_heard header T was transition (outputs.Ordered order) path at piece lines h v says k = rw (v.0, v.1, says) refl
-spoken_heard header T was transition (outputs.Piece offset more) path at piece lines h v says k = rw (says, v) (piece_heard header T was more h path at offset piece k)
-spoken_heard header T was transition _ path at piece lines h v says k = rw (v.0, v.1) refl
+output_noted header T was transition outputs.Nothing path at piece lines h v says k = rw (says, v) refl
+output_noted header T was transition outputs.Length path at piece lines h v says k = rw (says, v) (without_name_twice was h)
+output_noted header T was transition (outputs.Size size) path at piece lines h v says k = rw (v.0, v.1, says) refl
+output_noted header T was transition (outputs.Ordered order) path at piece lines h v says k = rw (v.0, v.1, says) refl
+output_noted header T was transition (outputs.Piece offset more) path at piece lines h v says k = rw (says, v) (piece_noted header T was more h path at offset piece k)
+output_noted header T was transition _ path at piece lines h v says k = rw (v.0, v.1) refl
 
--- What a reading leaves in mind, behind the lines of its front and of one octet.
-pub heard_on : (header : Bool) (C : Table) (leaf : Innermost) (transition : Transition) (output : Output) (path : List PathSegment) (at : ℕ) (piece : List ℕ) (front lines : List Line) (r : Read) →
+-- What is noted of a reading, after the lines of its front and of one octet.
+pub noted_on : (header : Bool) (C : Table) (leaf : Innermost) (transition : Transition) (output : Output) (path : List PathSegment) (at : ℕ) (piece : List ℕ) (front lines : List Line) (r : Read) →
     OutputFitsString (tree C (leaf_type leaf)) (leaf_in_string (tree C (leaf_type leaf)) leaf) transition output → IsOutput (tree C (leaf_type leaf)) path at output piece lines →
     ends_in_string r ≡ transition_in_string (tree C (leaf_type leaf)) transition → lines_of r ≡ lines →
     without_name_if (clears_name output) (noted header (without_name_if (leaf_in_string (tree C (leaf_type leaf)) leaf) (noted header nothing_noted front)) lines) ≡ noted_of header (with_front front r)
-heard_on header C leaf transition output path at piece front lines r v says inside are =
+noted_on header C leaf transition output path at piece front lines r v says inside are =
     let T = tree C (leaf_type leaf) in
-    spoken_heard header T (leaf_in_string T leaf) transition output path at piece lines (noted header nothing_noted front) v says (text_inside T leaf)
+    output_noted header T (leaf_in_string T leaf) transition output path at piece lines (noted header nothing_noted front) v says (text_inside T leaf)
     ∙ rw (front_inside front r, inside, lines_front front r, are, noted-append) refl
 
 -- ---- pieces and members
@@ -121,7 +121,7 @@ pub piece_more : (h : Noted) (octets : List ℕ) (more : Bool) → more ≡ true
     with_piece h octets ≡ noted_piece h octets more
 piece_more h octets more e = rw e refl
 
--- only a part with one whole around it is a member of the root
+-- only a part with one part around it is a member of the root
 deep : (name : List ℕ) (x y : PathSegment) (zs : List PathSegment) (ps : List OpenPart) → false ≡ is_member name (path_in (x ∷ y ∷ zs) ps)
 deep name (Name octets) y zs [] = refl
 deep name (Index i) y zs [] = refl
@@ -175,6 +175,6 @@ switch_member name (Index i ∷ y ∷ path) tag = refl
 switch_member name (Switch other ∷ y ∷ path) tag = refl
 switch_member name (Held ∷ y ∷ path) tag = refl
 
-pub switch_heard : (header : Bool) (path : List PathSegment) (tag : Option (List ℕ)) (h : Noted) (value : Value) → note_value false h value ≡ note_value (header && is_member (codes "request_id") (path ++ Switch tag ∷ [])) h value
-switch_heard true path tag h value = rw (switch_member (codes "request_id") path tag) refl
-switch_heard false path tag h value = refl
+pub switch_noted : (header : Bool) (path : List PathSegment) (tag : Option (List ℕ)) (h : Noted) (value : Value) → note_value false h value ≡ note_value (header && is_member (codes "request_id") (path ++ Switch tag ∷ [])) h value
+switch_noted true path tag h value = rw (switch_member (codes "request_id") path tag) refl
+switch_noted false path tag h value = refl

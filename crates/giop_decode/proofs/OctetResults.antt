@@ -1,4 +1,4 @@
--- The lines of a step stand at its octet, and the reading of no octets has none.
+-- A step has at most one line, which is at its octet, and the reading of no octets has none.
 use Rattle.std.proofs.Common.{◌≡◌, ℕ, zero, suc, ◌+◌, ◌-◌, ◌<◌, ◌≤◌, Bool, true, false, List, [], ◌∷◌, ◌++◌, length, take, drop, get_or, Option, Some, None, refl, append-nil, arith, add-zero, ◌⊎◌, inl, inr, lit<}
 use Rattle.std.specs.Prelude.{cond, ltb}
 use Rattle.std.specs.List.{AllByRecursion as Each}
@@ -24,12 +24,12 @@ pub each_append : {A : Type 0} (P : A → Type 0) (xs ys : List A) → Each P xs
 each_append P [] ys h k = k
 each_append P (x ∷ xs) ys h k = (h.0, each_append P xs ys h.1 k)
 
--- where nothing is said a fault of any kind may come
+-- a fault of any kind may have no line
 faulted_none : (n : ℕ) (why : Kind) → Faulted n why []
 faulted_none n kinds.EncapShort = tt
 faulted_none n kind = refl
 
--- nothing is said, though an encapsulation may have ended
+-- no line, though an encapsulation may have ended
 abbrev pub Mute : ℕ → Read → Type 0
 Mute n (Done lines at rest) = (lines ≡ []) × (at ≡ n) × (rest ≡ [])
 Mute n (Short lines at outer leaf) = (lines ≡ []) × (at ≡ n)
@@ -111,45 +111,45 @@ parts_quiet coding path T count n more i = quiet_parts n (part_at coding path T 
 
 -- one octet
 
-abbrev GrabNow : ℕ → Block → Type 0
-GrabNow n (Partial held at) = at ≡ n
-GrabNow n (Complete xs at rest) = (at ≡ n) × (rest ≡ [])
+abbrev BlockNow : ℕ → Block → Type 0
+BlockNow n (Partial held at) = at ≡ n
+BlockNow n (Complete xs at rest) = (at ≡ n) × (rest ≡ [])
 
-grab_by : (n : ℕ) (test : Bool) (xs : List ℕ) → GrabNow n (cond test (Partial xs n) (Complete xs n []))
-grab_by n true xs = refl
-grab_by n false xs = (refl, refl)
+block_by : (n : ℕ) (test : Bool) (xs : List ℕ) → BlockNow n (cond test (Partial xs n) (Complete xs n []))
+block_by n true xs = refl
+block_by n false xs = (refl, refl)
 
-block_none_now : (w n : ℕ) → GrabNow n (block w n [])
+block_none_now : (w n : ℕ) → BlockNow n (block w n [])
 unfolding block
 block_none_now w n = go (cases_lt 0 w)
   where
-    go : (0 < w) ⊎ (w ≤ 0) → GrabNow n (cond (ltb 0 w) (Partial [] (n + 0))
+    go : (0 < w) ⊎ (w ≤ 0) → BlockNow n (cond (ltb 0 w) (Partial [] (n + 0))
         (Complete (take w []) (n + w) (drop w [])))
     go (inl h) = rw (lt-ltb 0 w h) (add-zero n)
     go (inr h) = let e : w ≡ 0 = omega arith in rw e (add-zero n, refl)
 
-block_now : (w at : ℕ) (held : List ℕ) (b : ℕ) → GrabNow (at + 1) (block_step w at held b)
+block_now : (w at : ℕ) (held : List ℕ) (b : ℕ) → BlockNow (at + 1) (block_step w at held b)
 unfolding block_step
-block_now w at held b = grab_by (at + 1) (ltb (length held + 1) w) (held ++ b ∷ [])
+block_now w at held b = block_by (at + 1) (ltb (length held + 1) w) (held ++ b ∷ [])
 
 number_by : (w at : ℕ) (test : Bool) (b : ℕ) →
-    GrabNow (at + 1) (cond test (Partial [] (at + 1)) (block_step w at [] b))
+    BlockNow (at + 1) (cond test (Partial [] (at + 1)) (block_step w at [] b))
 number_by w at true b = refl
 number_by w at false b = block_now w at [] b
 
-number_now : (o w at : ℕ) (carry : List ℕ) (b : ℕ) → GrabNow (at + 1) (number_step o w at carry b)
+number_now : (o w at : ℕ) (carry : List ℕ) (b : ℕ) → BlockNow (at + 1) (number_step o w at carry b)
 unfolding number_step
 number_now o w at [] b = number_by w at (ltb 0 (padding (at - o) w)) b
 number_now o w at (x ∷ carry) b = block_now w at (x ∷ carry) b
 
-last_now : (n : ℕ) (T : Ty) (path : List PathSegment) (total offset : ℕ) (g : Block) → GrabNow n g →
+last_now : (n : ℕ) (T : Ty) (path : List PathSegment) (total offset : ℕ) (g : Block) → BlockNow n g →
     IsOctetResult n (last_piece T path total offset g)
 last_now n T path total offset (Partial piece at) h = (tt, h)
 last_now n T path total offset (Complete xs at rest) h =
     rw (h.0, h.1) (now_unless n T (ends T (total - offset) xs) _ (refl, refl, refl))
 
 full_now : (n : ℕ) (T : Ty) (path : List PathSegment) (total offset : ℕ) (next : ℕ → List ℕ → Read)
-    (g : Block) → GrabNow n g → IsEmptyResult n (next n []) → IsOctetResult n (full_piece T path total offset next g)
+    (g : Block) → BlockNow n g → IsEmptyResult n (next n []) → IsOctetResult n (full_piece T path total offset next g)
 full_now n T path total offset next (Partial piece at) h k = (tt, h)
 full_now n T path total offset next (Complete xs at rest) h k = rw (h.0, h.1) (now_front n (line n path (Piece T offset xs true) ∷ []) _ refl k)
 
@@ -241,7 +241,7 @@ ordered_now n path T origin k (Some order) =
     rw (take-nil, drop-nil) (mute_front n (line n path (Ordered order) ∷ []) (enclosed path T inner (n + k) (held path T inner n []) []) refl
     (mute_enclosed n path T inner (n + k) _ (quiet_mute n _ (read_quiet inner (path ++ Held ∷ []) (part_of T 0) n))))
 
-opening_now : (n : ℕ) (path : List PathSegment) (T : Ty) (origin k : ℕ) (g : Block) → GrabNow n g →
+opening_now : (n : ℕ) (path : List PathSegment) (T : Ty) (origin k : ℕ) (g : Block) → BlockNow n g →
     IsOctetResult n (opening path T (held path T) origin k g)
 opening_now n path T origin k (Partial none at) h = (tt, h)
 opening_now n path T origin k (Complete xs at rest) h = rw (h.0, h.1) (ordered_now n path T origin k (order_of (get_or xs 0 0)))
@@ -270,7 +270,7 @@ after_now n coding path (Union choice scalar select names cases) k =
     (now_unless n T (refused (select k)) _ (now_front n front _ refl (member_quiet n coding path T (select k))))
 after_now n coding path T k = (tt, refl, refl)
 
-headed_now : (n : ℕ) (coding : Coding) (path : List PathSegment) (T : Ty) (g : Block) → GrabNow n g →
+headed_now : (n : ℕ) (coding : Coding) (path : List PathSegment) (T : Ty) (g : Block) → BlockNow n g →
     IsOctetResult n (headed_by coding path T g)
 headed_now n coding path T (Partial carry at) h = (tt, h)
 headed_now n coding path T (Complete xs at rest) h = rw (h.0, h.1) (after_now n coding path T (num coding.order xs))

@@ -32,7 +32,7 @@ held_in d carry piece at = record {
   notes = d.notes;
 }
 
--- the octet leaves the innermost part at its place, with what is now held
+-- the innermost part goes on after the octet, with what is now held
 abbrev pub Holds : Table → Decoder → Decoder → Innermost → ℕ → ℕ → Type 0
 Holds C d new leaf here octet = (path : List PathSegment) →
     leaf_step (coding_in (plain d.order) (open_parts C here d.outer.items)) path
@@ -80,10 +80,10 @@ module _ (C : Table) (d new : Decoder) (leaf : Innermost) (octet : ℕ)
       (held_here f.here at f.stands) (rw counts on) (rw (encloses, counts, inside_ticked d.outer.items) f.inside)
       (rw (counts, ← it) (link_ticked C f.root d.outer.items (leaf_type f.leaf) f.link)) (rw counts known_on) (rw (← it) f.known) clean (rw (root, notes) f.heeds)
 
-  pub held_minds : (here : ℕ) (front : List Line) → new.notes ≡ d.notes → CanStandAt d here →
+  pub held_keeps_noted : (here : ℕ) (front : List Line) → new.notes ≡ d.notes → CanStandAt d here →
       Holds C d new leaf here octet → KeepsNoted d.root d (read_by_fields C d front here) →
       KeepsNoted d.root new (with_front front (decoder_step C d here octet))
-  held_minds here front notes h holds old =
+  held_keeps_noted here front notes h holds old =
       let header = is_header_root d.root in
       let before : HoldsNoted d.notes (noted_of header (Short front here (open_parts C here d.outer.items) (leaf_of C leaf d.carry d.piece.items))) =
       subst (λ l. HoldsNoted d.notes (noted_of header (read_by_leaf C d l front here))) e old in

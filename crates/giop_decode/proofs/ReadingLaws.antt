@@ -44,7 +44,7 @@ pub read_keeps : (d : ℕ) (coding : Coding) (path : List PathSegment) (T : Ty) 
     (at : ℕ) (s : List ℕ) → Sound T (at + length s) (read coding path T at s)
 read_keeps d coding path T fit at s = sound.read_keeps d coding path T fit at s
 
--- Lines in front, and what they leave in mind.
+-- Lines in front, and what is noted of them.
 
 pub lines_front : (front : List Line) (r : Read) →
     lines_of (with_front front r) ≡ front ++ lines_of r
@@ -57,11 +57,11 @@ noted-append header h xs ys = resuming.noted-append header h xs ys
 pub front_inside : (front : List Line) (r : Read) → ends_in_string (with_front front r) ≡ ends_in_string r
 front_inside front r = hearing.front_inside front r
 
--- What a step comes to stays what an octet comes to, inside a part.
+-- The reading of one octet is one inside a part, too.
 pub now_within : (n : ℕ) (place : OpenPart) (r : Read) → IsOctetResult n r → IsOctetResult n (within place r)
 now_within n place r h = now.now_within n place r h
 
--- what the end of an encapsulation cuts off inside a string is one
+-- the type that an encapsulation's end cuts off inside a string is a string
 pub cut_inside : (leaf : Leaf) → is_text (cut_off leaf) ≡ in_content leaf
 cut_inside leaf = hearing.cut_inside leaf
 
@@ -70,7 +70,7 @@ pub switch_member : (name : List ℕ) (path : List PathSegment) (tag : Option (L
     is_member name (path ++ Switch tag ∷ []) ≡ false
 switch_member name path tag = hearing.switch_member name path tag
 
--- No octets: nothing is said of a value, of its parts, or of those from a place on.
+-- No octets give no line: of a value, of its parts, or of those from an index on.
 
 pub read_quiet : (coding : Coding) (path : List PathSegment) (T : Ty) (n : ℕ) →
     IsEmptyResult n (read coding path T n [])

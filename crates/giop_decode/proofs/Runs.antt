@@ -67,7 +67,7 @@ text_both message root order T at s xs ys =
     ap (lines_text message root) (dues_both order T at s xs ys)
     ∙ lines_text_both message root (added_lines_of_run order T at s xs) (added_lines_of_run order T at (s ++ xs) ys)
 
--- ---- what has come of them
+-- ---- the answers to them
 
 pub answered_both : (order : Order) (T : Ty) (at : ℕ) (root : Root) (s xs ys : List ℕ)
     (p : Progress) → AreAnswered order T at root s xs progress.More →
@@ -187,7 +187,7 @@ taken_one C T order at message root d s n octet p some t =
     let run = subst (λ xs. TakesRun C T order at message root d s xs p) (one_taken n octet some) t in
     record { answer = run.answers; reads = run.reads; keeps_noted = run.keeps_noted }
 
--- the front of one octet up to an octet of it is that octet
+-- a front of one octet, with the octet after it, is that octet
 lone_front : (front : List ℕ) (octet last : ℕ) (rest : List ℕ) →
     octet ∷ [] ≡ front ++ last ∷ rest → front ++ last ∷ [] ≡ octet ∷ []
 lone_front [] octet last rest e = ap (λ xs. get_or xs 0 0 ∷ []) (sym e)

@@ -1,4 +1,4 @@
--- What a shape says of its type.
+-- What follows for a type from its shape.
 use Rattle.std.proofs.Common.{◌≡◌, ℕ, zero, suc, Option, refl, inl, inr}
 use Rattle.giop_cdr.specs.Alignment.{IsAlignment}
 use Rattle.giop_cdr.specs.Primitives.{size_of}
@@ -44,7 +44,7 @@ aligned prims.Float = inr (inr (inl refl))
 aligned prims.Double = inr (inr (inr refl))
 aligned p = inl refl
 
--- the struct without members is told by its shape
+-- a type is the struct without members if its shape has none
 pub empty_is : (T : Ty) (n : ℕ) → HasShape T (shapes.Members n) → n ≡ 0 → IsEmptyStruct T
 empty_is T n h e = rw (h.2, e) tt
 

@@ -1,4 +1,4 @@
--- What a reading leaves: the offset at its end, and places that fit the type.
+-- A reading ends at the offset after its last octet, and leaves open parts that fit the type.
 use Rattle.std.proofs.Common.{◌≡◌, ℕ, zero, suc, ◌+◌, ◌-◌, ◌<◌, ◌≤◌, true, List, [], ◌∷◌, ◌++◌, length, take, drop, Option, Some, None, refl, sym, subst, arith, add-zero, length-append, length-drop, lt-ltb, le-ltb, ◌⊎◌, inl, inr, lit<, length-take-le}
 use Rattle.std.proofs.lemmas.Bool.{cases_lt}
 use Rattle.std.proofs.lemmas.List.{take_all, drop_all}
@@ -171,7 +171,7 @@ encapsulation_content : (T : Ty) → IsEncapsulation T → HasContent T
 encapsulation_content (Encapsulation T) h = tt
 encapsulation_content T h = absurd h
 
--- a value in an encapsulation, read up to here, and what follows it, which is nothing while the encapsulation goes on
+-- a value in an encapsulation, read up to here, and what follows it: no octets while the encapsulation goes on
 pub sound_enclosed : (T : Ty) (path : List PathSegment) (inner : Coding) (end here : ℕ) →
     IsEncapsulation T → inner.origin < here → (r : Read) (more : List ℕ) →
     Sound (part_of T 0) here r → (here < end → more ≡ []) →
@@ -210,7 +210,7 @@ inside_sound T path value inner n at s kind began keeps = go (cases_lt (length s
         (sound_enclosed T path inner (at + n) (at + length (take n s)) kind (omega (arith, began)) (value inner at (take n s)) (drop n s) (keeps at (take n s))
         (λ below. absurd (omega (arith, l, below))))
 
--- what an encapsulation holds keeps so, in each order and from each origin
+-- the same of what an encapsulation holds, in each order and from each origin
 abbrev pub HeldKeeps : Ty → List PathSegment → Type 0
 HeldKeeps T path = (inner : Coding) → Keeps (part_of T 0) (held path T inner)
 

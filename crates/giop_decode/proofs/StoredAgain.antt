@@ -1,4 +1,4 @@
--- What is restored of a decoder fits, reads and is stored as the decoder did and was.
+-- A restored decoder fits, reads what the stored one read, and is stored in the same octets.
 use Rattle.std.proofs.Common.{◌≡◌, ℕ, List, [], Option, Some, None, refl, sym, ap, ◌∙◌}
 use Rattle.giop_cdr.specs.declared.order.Order.{Order}
 use Rattle.giop_decode.specs.declared.decoder.Decoder.{Decoder}
@@ -49,9 +49,9 @@ recalls_again m n h kept recalls = record {
   name = rw (kept.buffer, kept.name) (kept_held m.buffer m.name.items h.so_far h.name recalls.name);
 }
 
-minds_again : (root : Root) (d e : Decoder) (r : Read) → IsRestored d e → KeepsNoted root d r →
+keeps_noted_again : (root : Root) (d e : Decoder) (r : Read) → IsRestored d e → KeepsNoted root d r →
     KeepsNoted root e r
-minds_again root d e r restored keeps_noted = recalls_again d.notes e.notes _ restored.notes keeps_noted
+keeps_noted_again root d e r restored keeps_noted = recalls_again d.notes e.notes _ restored.notes keeps_noted
 
 standing_again : (C : Table) (d e : Decoder) (lines : List Line) (at : ℕ) → IsRestored d e →
     read_by_fields C d lines at ≡ read_by_fields C e lines at
@@ -67,7 +67,7 @@ pub restored_reads : (C : Table) (d e : Decoder) (T : Ty) (order : Order) (at me
 restored_reads C d e T order at message root s r reads = record {
   lines = reads.lines;
   is = reads.is ∙ standing_again C d e reads.lines _ r;
-  keeps_noted = minds_again root d e (read (plain order) [] T at s) r reads.keeps_noted;
+  keeps_noted = keeps_noted_again root d e (read (plain order) [] T at s) r reads.keeps_noted;
   same_order = r.order ∙ reads.same_order;
   same_message = r.message ∙ reads.same_message;
   same_root = r.root ∙ reads.same_root;

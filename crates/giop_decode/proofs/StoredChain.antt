@@ -1,4 +1,5 @@
--- What chains fits, and what fits chains; how many parts that are begun fit in a type.
+-- The test of a restored decoder is exact: it passes exactly if the decoder fits the table; how many parts that are
+-- begun fit in a type.
 use Rattle.std.proofs.Common.{◌≡◌, ℕ, zero, suc, ◌+◌, ◌*◌, ◌<◌, ◌≤◌, List, [], ◌∷◌, length, Option, Some, None, refl, sym, subst, arith}
 use Rattle.std.specs.Prelude.{IfSome}
 use Rattle.giop_cdr.specs.declared.order.Order.{Order}
@@ -21,7 +22,7 @@ use Rattle.giop_sig.specs.Trees.{tree}
 use Rattle.giop_sig.specs.Types.{Cases, Tag, Encapsulation, Ty, Single, Text, Octets, Struct, Union, Sequence, Array, HasPlace, IsUnion, part_of, shape_in}
 use Rattle.giop_sig.proofs.PartLaws.{part_is, root_is}
 
--- ---- one place
+-- ---- one open part
 
 pub part_place : (T : Ty) (i count : ℕ) → HasPart T i count → HasPlace (shape_in T) i
 part_place (Union (Cases n) scalar select names cases) i count has = has.0
@@ -172,7 +173,7 @@ fits_chain C here id (f ∷ frames) leaf carry piece laws known fits ahead are l
     let rest = fits_chain C here (part_number C id i) frames leaf carry piece laws below inner ahead.1 are.1 link.1 in
     record { chain = (link.0, u.has, rest.chain); inner = rest.inner }
 
--- ---- an offset at which frames can stand
+-- ---- an offset that frames can be at
 
 all_octets : List Frame → ℕ
 all_octets [] = 0

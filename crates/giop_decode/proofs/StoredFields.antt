@@ -1,4 +1,4 @@
--- Where the fields of a stored decoder stand.
+-- At which offsets the fields of a stored decoder are.
 use Rattle.std.proofs.Common.{◌≡◌, ℕ, ◌+◌, ◌≤◌, List, [], ◌∷◌, ◌++◌, length, drop, replicate, refl, subst, ap, ◌∙◌, append_assoc, arith}
 use Rattle.giop_decode.specs.declared.decoder.Decoder.{Decoder}
 use Rattle.giop_decode.specs.declared.frame.Frame.{Frame}
@@ -11,7 +11,7 @@ use Rattle.giop_decode.specs.Stored.{order_octet, root_octet, leaf_octets, buffe
 use Rattle.giop_octets.specs.Fields.{four, eight, optional, held}
 use Rattle.giop_octets.proofs.FieldLaws.{eight_long, optional_long, held_long, behind}
 
--- a field stands there
+-- the octets of a field are at this offset
 abbrev pub Stands : ℕ → List ℕ → List ℕ → Type 0
 Stands at octets field = (rest : List ℕ) × (drop at octets ≡ field ++ rest)
 
@@ -34,7 +34,7 @@ pub record MemoryStands (m : Notes) (at : ℕ) (octets : List ℕ) : Type 0 wher
   pub buffer : Stands (at + 10) octets (buffer_octet m.buffer ∷ [])
   pub name : Stands (at + 11) octets (name_octets m)
 
--- the same place, counted from an earlier one
+-- the same offset, counted from an earlier one
 pub further : (at a b c : ℕ) (octets xs : List ℕ) → a + b ≡ c → drop (at + a + b) octets ≡ xs →
     drop (at + c) octets ≡ xs
 further at a b c octets xs e is = let same : at + a + b ≡ at + c = omega arith in subst (λ (n : ℕ). drop n octets ≡ xs) same is
@@ -95,7 +95,7 @@ fields_stand d leaf fixed is range =
       notes = (_, notes);
     }
 
--- the fields, written one behind the other
+-- the fields, written one after the other
 pub fields_written : (d : Decoder) (leaf : Innermost) (carry piece o0 o1 o2 o3 o4 o5 o6 o7 o8
     o9 : List ℕ) → carry ≡ d.carry → piece ≡ d.piece.items → o0 ≡ [] →
     o1 ≡ o0 ++ order_octet d.order ∷ [] → o2 ≡ o1 ++ root_octet d.root ∷ [] →
@@ -110,7 +110,7 @@ fields_written d leaf carry piece o0 o1 o2 o3 o4 o5 o6 o7 o8 o9 a b e0 e1 e2 e3 
     let f5 : o5 ≡ front ++ d.at ∷ leaf_octets leaf = rw (e5, e4, f3) (append_assoc front (d.at ∷ []) (leaf_octets leaf)) in
     rw (e9, e8, e7, e6, f5, a, b) refl
 
--- the fields of a frame, put one behind the other
+-- the fields of a frame, put one after the other
 pub put_together : (o a b c z : List ℕ) (i : ℕ) →
     ((((o ++ a) ++ b) ++ c) ++ i ∷ []) ++ z ≡ o ++ (a ++ b ++ c ++ i ∷ z)
 put_together o a b c z i = simp append_assoc

@@ -12,7 +12,7 @@ use Rattle.giop_octets.specs.Fields.{four}
 use Rattle.giop_octets.proofs.FieldLaws.{four_long, behind}
 use Rattle.giop_sig.specs.Table.{type_id}
 
--- what reads a number of four octets at that place
+-- n is the number of four octets at this offset
 abbrev ReadsFour : ℕ → List ℕ → ℕ → Type 0
 ReadsFour at octets n = (m : ℕ) (rest : List ℕ) → m < 2 ^ 32 → drop at octets ≡ four m ++ rest → n ≡ m
 
@@ -21,7 +21,7 @@ four_fields a b c d e = simp append_assoc
 
 -- ---- the innermost part
 
--- the numbers behind its tag
+-- the numbers after its tag
 numbers_stand : (at tag a b c : ℕ) (octets rest : List ℕ) →
     drop at octets ≡ (tag ∷ four a ++ four b ++ four c) ++ rest →
     (drop (at + 1) octets ≡ four a ++ (four b ++ (four c ++ rest)))

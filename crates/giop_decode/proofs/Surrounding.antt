@@ -118,22 +118,22 @@ resumed_fault : (coding : Coding) (path : List PathSegment) (T : Ty) (i count : 
 resumed_fault coding path (Union n scalar select names cases) i count lines at S = refl
 resumed_fault coding path T i count lines at S = refl
 
--- so far inside these places, or cut off
-abbrev pub shut : Bool → List Line → ℕ → List OpenPart → Leaf → Read
-shut ended lines at outer leaf = cond ended (Fault lines at kinds.EncapShort (cut_off leaf)) (Short lines at outer leaf)
+-- a reading inside these open parts, or cut off by the end of an encapsulation
+abbrev pub unless_ended : Bool → List Line → ℕ → List OpenPart → Leaf → Read
+unless_ended ended lines at outer leaf = cond ended (Fault lines at kinds.EncapShort (cut_off leaf)) (Short lines at outer leaf)
 
 resumed_shut : (coding : Coding) (path : List PathSegment) (inside : Option Order) (T : Ty) (i count : ℕ)
     (ended : Bool) (lines : List Line) (at : ℕ) (outer : List OpenPart) (leaf : Leaf) →
     IsWithin inside i count T → resumed coding path (open_part_in at inside T i count)
-    (shut ended lines at outer leaf) ≡ shut (ended_at inside i count || ended) lines
+    (unless_ended ended lines at outer leaf) ≡ unless_ended (ended_at inside i count || ended) lines
     at (open_part_in at inside T i count ∷ outer) leaf
 resumed_shut coding path None T i count true lines at outer leaf k = resumed_fault coding path T i count lines at (cut_off leaf)
 resumed_shut coding path None T i count false lines at outer leaf k = resumed_short coding path T i count lines at outer leaf
 resumed_shut coding path (Some order) T i count ended lines at outer leaf k = go (cases_lt i count) ended
   where
     go : (i < count) ⊎ (count ≤ i) → (b : Bool) →
-        resumed coding path (open_part_in at (Some order) T i count) (shut b lines at outer leaf)
-        ≡ shut (eqb i count || b) lines at (open_part_in at (Some order) T i count ∷ outer) leaf
+        resumed coding path (open_part_in at (Some order) T i count) (unless_ended b lines at outer leaf)
+        ≡ unless_ended (eqb i count || b) lines at (open_part_in at (Some order) T i count ∷ outer) leaf
     go (inl l) true = rw (ne_eqb i count (λ e. absurd (omega arith))) refl
     go (inl l) false =
         let below : at < at + (count - i) = omega arith in
@@ -148,13 +148,13 @@ resumed_shut coding path (Some order) T i count ended lines at outer leaf k = go
         let over : at + (count - i) ≤ at = omega arith in
         rw (same, le-ltb at (at + (count - i)) over) refl
 
-pub around_shut : (C : Table) (coding : Coding) (path : List PathSegment) (at : ℕ) (frames : List Frame)
+pub around_unless_ended : (C : Table) (coding : Coding) (path : List PathSegment) (at : ℕ) (frames : List Frame)
     (lines : List Line) (inner : List OpenPart) (leaf : Leaf) → AreKnown C frames →
     around coding path (open_parts C at frames) (Short lines at inner leaf)
-    ≡ shut (has_ended frames) lines at (open_parts C at frames ++ inner) leaf
-around_shut C coding path at [] lines inner leaf k = refl
-around_shut C coding path at (f ∷ frames) lines inner leaf k =
-    ap (resumed coding path (open_part C at f)) (around_shut C (coding_at coding (open_part C at f)) (path ++ segment_in (open_part C at f) ∷ []) at frames lines inner leaf
+    ≡ unless_ended (has_ended frames) lines at (open_parts C at frames ++ inner) leaf
+around_unless_ended C coding path at [] lines inner leaf k = refl
+around_unless_ended C coding path at (f ∷ frames) lines inner leaf k =
+    ap (resumed coding path (open_part C at f)) (around_unless_ended C (coding_at coding (open_part C at f)) (path ++ segment_in (open_part C at f) ∷ []) at frames lines inner leaf
     k.1)
     ∙ resumed_shut coding path f.inside (tree C f.of.0) f.index f.count (has_ended frames) lines at (open_parts C at frames ++ inner) leaf k.0.within
 
@@ -163,10 +163,10 @@ pub around_gone : (C : Table) (coding : Coding) (path : List PathSegment) (at : 
     around coding path (open_parts C at frames) (Short lines at [] leaf)
     ≡ gone_to C lines at frames leaf
 around_gone C coding path at frames lines leaf k =
-    around_shut C coding path at frames lines [] leaf k ∙ ap (λ ps. shut (has_ended frames) lines at ps leaf) (append-nil (open_parts C at frames))
+    around_unless_ended C coding path at frames lines [] leaf k ∙ ap (λ ps. unless_ended (has_ended frames) lines at ps leaf) (append-nil (open_parts C at frames))
 
 pub lines_shut : (ended : Bool) (lines : List Line) (at : ℕ) (outer : List OpenPart) (leaf : Leaf) →
-    lines_of (shut ended lines at outer leaf) ≡ lines
+    lines_of (unless_ended ended lines at outer leaf) ≡ lines
 lines_shut true lines at outer leaf = refl
 lines_shut false lines at outer leaf = refl
 
@@ -262,7 +262,7 @@ free_coding_by order at (f ∷ frames) h =
     let n = free_first f.inside (is_inside frames) h in
     rw n.0 (free_coding_by order at frames n.1)
 
--- counting an octet leaves them what they are
+-- counting an octet doesn't change what frames are
 pub inside_ticked : (frames : List Frame) → is_inside (ticked frames) ≡ is_inside frames
 inside_ticked [] = refl
 inside_ticked (f ∷ frames) = ap (λ b. is_some_order f.inside || b) (inside_ticked frames)
@@ -360,13 +360,13 @@ pub coding_step : (order : Order) (at : ℕ) (outer : List Frame) (i : ℕ) (f d
 coding_step order at outer i f d now next below is e n =
     rw (take_more outer i d below, coding_push order at (take i outer) (get_or outer i d), ← is, ← e) n
 
--- what a decoder stands in, behind some lines
+-- the reading after a part has ended, with some lines
 abbrev pub gone_behind : Table → List Line → ℕ → List Frame → Option Innermost → Read
 gone_behind C lines at frames None = Done lines at []
 gone_behind C lines at frames (Some leaf) = gone_to C lines at frames (leaf_of C leaf [] [])
 
 front_shut : (ended : Bool) (front : List Line) (at : ℕ) (outer : List OpenPart) (leaf : Leaf) →
-    with_front front (shut ended [] at outer leaf) ≡ shut ended front at outer leaf
+    with_front front (unless_ended ended [] at outer leaf) ≡ unless_ended ended front at outer leaf
 front_shut true front at outer leaf = ap (λ ls. Fault ls at kinds.EncapShort (cut_off leaf)) (append-nil front)
 front_shut false front at outer leaf = ap (λ ls. Short ls at outer leaf) (append-nil front)
 
@@ -382,6 +382,6 @@ pub behind_stopped : (C : Table) (frames : List Frame) (carry piece : List ℕ)
 behind_stopped C frames carry piece None lines at no_carry no_piece = refl
 behind_stopped C frames carry piece (Some leaf) lines at no_carry no_piece = rw (no_carry, no_piece) refl
 
--- the frame of an encapsulation whose order was read
+-- the frame of an encapsulation whose byte order was read
 abbrev pub inside_frame : TypeId → Order → ℕ → Frame
 inside_frame of order count = record { of = of; index = 1; count = count; inside = Some order }

@@ -1,4 +1,4 @@
--- What the number that begins a type comes to, before any octet behind it.
+-- The transition after the number that begins a type, before any octet behind it.
 use Rattle.std.proofs.Common.{◌≡◌, ◌≢◌, ℕ, zero, suc, ◌+◌, ◌-◌, ◌^◌, ◌<◌, ◌≤◌, ◌⊎◌, inl, inr, false, List, [], ◌∷◌, ◌++◌, length, Option, Some, None, refl, ap, subst, arith, add-zero, lit<, lt-ltb, ne_eqb, sym}
 use Rattle.std.proofs.lemmas.Bool.{cases_lt}
 use Rattle.giop_cdr.proofs.NumberLaws.{num_bound}
@@ -35,7 +35,7 @@ pub content_none : (path : List PathSegment) (U : Ty) (total full offset at : �
 content_none path U total zero offset at pos = rw (block_none (total - offset + tail U) at pos) refl
 content_none path U total (suc full) offset at pos = rw (block_none 32 at (lit< tt)) refl
 
--- a number that is taken as a value isn't wrong
+-- a number that is a value of its type isn't wrong
 pub right_taken : (p : Primitive) (n : ℕ) (number : Taken) → interpreted_as p n ≡ Some number → wrong (Plain p) n ≡ None
 right_taken prims.Octet n number e = refl
 right_taken prims.Char n number e = refl
@@ -55,7 +55,7 @@ right_taken prims.ULongLong n number e = refl
 right_taken prims.Float n number e = refl
 right_taken prims.Double n number e = refl
 
--- octets spell a number below 256 to the primitive's size
+-- octets spell a number below 256 to the power of the primitive's size
 pub prim_bound : (T : Ty) (p : Primitive) (order : Order) (octets : List ℕ) → T ≡ Single (Plain p) → length octets ≡ leading_width T → AreOctets octets → num order octets < 256 ^ size_of p
 prim_bound T p order octets is whole are = subst (λ k. num order octets < 256 ^ k) (rw is at whole) (num_bound order octets are)
 
@@ -125,7 +125,7 @@ member_case (Single (Enum n names)) i u h = absurd u
 member_case (Text bound) i u h = absurd u
 member_case (Octets bound) i u h = absurd u
 
--- a union behind a discriminator that is a value
+-- a union after a discriminator that is a value
 module _ (C : Table) (coding : Coding) (path : List PathSegment) (at : ℕ) (number : Taken) where
   pub turns_case : (d : ℕ) (T : Ty) (i : ℕ) (is : IsNumberOf (switch_of T) number) → IsFit d T → IsUnion (shape_in T) → select_in T is.n ≡ Case i → HasCase T i →
       TransitionGives C T (transitions.Selected i) (outputs.Switch number) [] [] path at (after coding path T is.n at [])
@@ -207,7 +207,7 @@ module _ (C : Table) (coding : Coding) (path : List PathSegment) (T : Ty) (count
   pub order_bad : order_of b ≡ None → leaf_step coding path (Opening T (count - 1)) here b ≡ Fault [] (here + 1) kinds.EncapOrder T
   order_bad e = rw (block_step_got 1 here [] b (omega arith), e) refl
 
-  -- what stands behind the octet of an order
+  -- what follows the octet that gives a byte order
   pub order_turns : (d : ℕ) (order : Order) → IsFit d T → IsEncapsulation T → order_of b ≡ Some order →
       TransitionGives C T (transitions.Entered order count) (outputs.Ordered order) [] [] path (here + 1) (leaf_step coding path (Opening T (count - 1)) here b)
   unfolding IsFit

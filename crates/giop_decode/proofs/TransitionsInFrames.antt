@@ -1,4 +1,4 @@
--- What an innermost part has come to, inside its places.
+-- The reading after a transition of an innermost part, inside the frames around it.
 use Rattle.std.proofs.Common.{◌≡◌, ℕ, zero, suc, pred, ◌<◌, List, [], sym, ◌∙◌, ap, append-nil}
 use Rattle.giop_decode.specs.ReadResult.{Coding, PathSegment, Line, OpenPart, Done, with_front}
 use Rattle.giop_decode.specs.ReadingSteps.{around}

@@ -1,4 +1,4 @@
--- Octets that come together: those of a number, or the rest of a piece.
+-- Octets that are taken together do what they do one after another: those of a number, or the rest of a piece.
 use Rattle.std.proofs.Common.{◌≡◌, ℕ, ◌+◌, ◌-◌, ◌%◌, ◌^◌, true, false, ◌<◌, ◌≤◌, List, [], ◌∷◌, ◌++◌, length, take, drop, get_or, Some, refl, sym, ◌∙◌, ap, subst, arith, length-append, length-drop, take-add, append_assoc}
 use Rattle.std.proofs.Math.Bool.{and-true, and-false}
 use Rattle.std.proofs.lemmas.List.{get_or-drop, length-take-le}
@@ -30,7 +30,7 @@ use Rattle.giop_decode.specs.ReadingSteps.{AreHeld, after, around, leading_width
 use Rattle.giop_decode.specs.Transitions.{HasOutput, IsClean, IsOutput, IsWholeNumber, StandsWhole, TransitionGives, TransitionFits, is_inside, leaf_of, leaf_type, open_parts, still_held}
 use Rattle.giop_decode.proofs.Advancing.{lines_turned, same_some, stands_at}
 use Rattle.giop_decode.proofs.Gathering.{IsFurther, counted_free, number_gathered, waits_gathered}
-use Rattle.giop_decode.proofs.Noting.{heard_on, leaf_inside}
+use Rattle.giop_decode.proofs.Noting.{noted_on, leaf_inside}
 use Rattle.giop_decode.proofs.PieceLaws.{full_whole, octets_last, text_last}
 use Rattle.giop_decode.proofs.Surrounding.{free_coded}
 use Rattle.giop_decode.proofs.PartialBlocks.{held_in}
@@ -42,7 +42,7 @@ use Rattle.giop_decode.proofs.Runs.{take_more}
 use Rattle.giop_decode.proofs.TransitionLaws.{number_prim, turns_number}
 use Rattle.giop_sig.specs.Types.{Encapsulation, Octets, Plain, Single, Text, Ty}
 
--- ---- where they stand
+-- ---- where a number's octets are
 
 -- padding is smaller than the size
 padding_below : (at size : ℕ) → IsAlignment size → padding at size < size
@@ -162,7 +162,7 @@ module _ (C : Table) (d : Decoder) (of : TypeId) (total offset : ℕ) (octets : 
       let it : f.leaf ≡ leaf = same_some f.leaf leaf (sym f.goes_on ∙ e) in
       subst (λ l. IsClean l d.carry d.piece.items) it f.clean
 
-  -- what is held and the octets are what is held before the last, and that
+  -- what is held and the octets ahead: what is held before the last of them, and the last
   with_last : 0 < count → count ≤ length octets →
       (d.piece.items ++ take (count - 1) octets) ++ get_or octets (count - 1) 0 ∷ [] ≡ d.piece.items ++ take count octets
   with_last some within =
@@ -291,7 +291,7 @@ module _ (C : Table) (d : Decoder) (octets : List ℕ) (of : TypeId) (count : �
   free : is_inside d.outer.items ≡ false
   free = sym f.inside ∙ h.outside
 
-  -- behind all but the last of them
+  -- the decoder after all but the last of them
   abbrev pub before_last : ℕ → Decoder
   before_last at = held_in d h.carry (record { items = h.piece }) at
 
@@ -343,13 +343,13 @@ module _ (C : Table) (d : Decoder) (octets : List ℕ) (of : TypeId) (count : �
       ∙ lines_turned C here (plain d.order) [] d.outer.items (tree C of.0) s.transition d.carry (still_held s.output d.piece.items)
       (lines_at here) f.ahead f.known_outer
 
-  pub minds_whole : (new : Decoder) (at here : ℕ) (front : List Line) → at ≡ (d.at + (count - 1)) % 8 → CanStandAt (before_last at) here →
+  pub keeps_noted_whole : (new : Decoder) (at here : ℕ) (front : List Line) → at ≡ (d.at + (count - 1)) % 8 → CanStandAt (before_last at) here →
       ends_in_string (emitted C d of.0 s.transition s.output (lines_at here) here) ≡ transition_in_string (tree C of.0)
       s.transition →
       ((o : Noted) → HoldsNoted d.notes o → HoldsNoted new.notes (without_name_if (clears_name s.output)
       (noted (is_header_root d.root) o (lines_at here)))) →
       KeepsNoted d.root (before_last at) (read_by_fields C (before_last at) front here) → KeepsNoted d.root new (with_front front (decoder_step C (before_last at) here (get_or octets (count - 1) 0)))
-  minds_whole new at here front e stands inside hears old =
+  keeps_noted_whole new at here front e stands inside notes old =
       let r = decoder_step C (before_last at) here (get_or octets (count - 1) 0) in
       let header = is_header_root d.root in
       let path = path_in [] (open_parts C here d.outer.items) in
@@ -358,9 +358,9 @@ module _ (C : Table) (d : Decoder) (octets : List ℕ) (of : TypeId) (count : �
       let before : HoldsNoted d.notes (without_name_if (leaf_in_string T h.leaf) (noted header nothing_noted front)) =
       subst (λ b. HoldsNoted d.notes (without_name_if b (noted header nothing_noted front))) (leaf_inside C h.leaf h.carry h.piece)
       (rw h.goes_on at old) in
-      let on = heard_on header C h.leaf s.transition s.output path (here + 1) (d.piece.items ++ rest) front (lines_at here) r
+      let on = noted_on header C h.leaf s.transition s.output path (here + 1) (d.piece.items ++ rest) front (lines_at here) r
       (subst (λ t. OutputFitsString (tree C t) (leaf_in_string (tree C t) h.leaf) s.transition s.output) back h.output_fits_string)
       (subst (λ t. IsOutput (tree C t) path (here + 1) s.output (d.piece.items ++ rest) (lines_at here)) back (says_at here))
       (subst (λ t. ends_in_string r ≡ transition_in_string (tree C t) s.transition) back (ap ends_in_string (told_whole at here e stands) ∙ inside))
       (lines_whole at here e stands) in
-      subst (HoldsNoted new.notes) on (hears (without_name_if (leaf_in_string T h.leaf) (noted header nothing_noted front)) before)
+      subst (HoldsNoted new.notes) on (notes (without_name_if (leaf_in_string T h.leaf) (noted header nothing_noted front)) before)

@@ -74,7 +74,7 @@ parts_strings part h (suc more) i at s = followed_strings (part i at s) (parts_f
 
 -- ---- one string
 
--- A content from an offset on has come, or ends inside.
+-- A content from an offset on: whole, or begun and not ended.
 abbrev Comes : ℕ → ℕ → ℕ → Read → Type 0
 Comes total full offset r =
     ((octets : List ℕ) × (offset + length octets ≡ total) × (text_pieces (lines_of r) ≡ cut_from full offset octets))
@@ -161,7 +161,7 @@ text_strings bound path (suc n) at s =
 
 -- ---- octets are no string
 
--- pieces of a type that say no string, and that no octet ends
+-- pieces of a type that is no string, and that no octet behind it ends
 module _ (T : Ty) (none : (offset : ℕ) (octets : List ℕ) (more : Bool) →
     text_of (Piece T offset octets more) ≡ None)
     (endless : (n : ℕ) (xs : List ℕ) → ends T n xs ≡ None) where

@@ -21,11 +21,12 @@ use Rattle.giop_sig.specs.Trees.{tree}
 
 -- ---- a decoder of a catalogue
 
--- an offset at which a decoder can stand
+-- an offset that a decoder can be at, by its own offset modulo 8 and by its encapsulations
 abbrev pub CanStandAt : Decoder → ℕ → Type 0
 CanStandAt d here = (here % 8 ≡ d.at) × StandAt here d.outer.items
 
--- A decoder that is neither done nor faulted: its frames name types of the table, each the part of the one before at its place.
+-- A decoder that is neither done nor faulted: its frames name types of the table, each the part that the one before is
+-- at.
 pub record Fits (C : Table) (d : Decoder) : Type 0 where
   pub leaf : Innermost
   pub goes_on : d.leaf ≡ Some leaf
@@ -33,7 +34,7 @@ pub record Fits (C : Table) (d : Decoder) : Type 0 where
   pub known_root : root < length C.types
   pub link : Link C root d.outer.items (leaf_type leaf)
   pub fit : IsFit 24 (tree C root)
-  -- an offset at which it can stand
+  -- an offset that it can be at
   pub here : ℕ
   pub stands : CanStandAt d here
   pub fits : FitsIn (tree C root) (open_parts C here d.outer.items)
@@ -53,13 +54,13 @@ IsDone d = d.leaf ≡ None
 
 -- ---- a decoder of a list
 
--- what a decoder's fields stand for, behind these lines and at this offset
+-- the reading that a decoder's fields stand for, with these lines at this offset, by its innermost part
 abbrev pub read_by_leaf : Table → Decoder → Option Innermost → List Line → ℕ → Read
 read_by_leaf C d None lines at = Done lines at []
 read_by_leaf C d (Some leaf) lines at =
     Short lines at (open_parts C at d.outer.items) (leaf_of C leaf d.carry d.piece.items)
 
--- what a decoder's fields stand for, by whether it has an innermost part
+-- the reading that a decoder's fields stand for, with these lines at this offset
 abbrev pub read_by_fields : Table → Decoder → List Line → ℕ → Read
 read_by_fields C d lines at = read_by_leaf C d d.leaf lines at
 
@@ -69,17 +70,17 @@ IsHeld buffers.Whole octets name so_far = (name ≡ Some octets) × (so_far ≡ 
 IsHeld buffers.Begun octets name so_far = (name ≡ None) × (so_far ≡ octets) × (length octets ≤ 128)
 IsHeld buffers.TooLong octets name so_far = (name ≡ None) × (octets ≡ []) × (128 < length so_far)
 
--- a memory has what was heard: request id, status, and name or the pieces of one
+-- the notes have what was noted: request id, status, and name or the pieces of one
 pub record HoldsNoted (m : Notes) (h : Noted) : Type 0 where
   pub request_id : m.request_id ≡ h.request_id
   pub status : m.status ≡ h.status
   pub name : IsHeld m.buffer m.name.items h.name h.so_far
 
--- what a decoder has in mind of a reading, whether that goes on, has ended or is faulted
+-- the decoder's notes are those of a reading, whether that goes on, has ended or is faulted
 abbrev pub KeepsNoted : Root → Decoder → Read → Type 0
 KeepsNoted root d r = HoldsNoted d.notes (noted_of (is_header_root root) r)
 
--- The decoder's fields are what reading the list has begun and not ended, and what it leaves in mind.
+-- The decoder's fields are what reading the list has begun and not ended, and what is noted of it.
 pub record Reads (C : Table) (T : Ty) (order : Order) (at message : ℕ) (root : Root) (d : Decoder)
     (s : List ℕ) : Type 0 where
   pub lines : List Line
@@ -98,8 +99,8 @@ added_lines order T at s octet =
     drop (length (lines_of (read (plain order) [] T at s)))
     (lines_of (read (plain order) [] T at (s ++ octet ∷ [])))
 
--- What has come of a list that ends at this offset, and whose last octet does or doesn't name an operation: the value goes on,
--- has ended at its last octet, or is faulted there.
+-- The answer to the last octet of a list that ends at this offset, and whose last octet does or doesn't end an
+-- operation: the value goes on, has ended at that octet, or is faulted there.
 abbrev pub IsAnswer : ℕ → Bool → Progress → Read → Type 0
 IsAnswer end named progress.More (Short lines at outer leaf) = named ≡ false
 IsAnswer end named progress.Named (Short lines at outer leaf) = named ≡ true
@@ -118,7 +119,8 @@ abbrev pub IsFault : Progress → Type 0
 IsFault (progress.Fault kind) = Unit {0}
 IsFault p = ⊥
 
--- A decoder that read a list has come to this with one octet more: it reads the longer list, unless that is faulted.
+-- A decoder that read a list gives this answer to one octet more: then it reads the longer list, unless that is
+-- faulted.
 pub record Takes (C : Table) (T : Ty) (order : Order) (at message : ℕ) (root : Root) (d : Decoder)
     (s : List ℕ) (octet : ℕ) (p : Progress) : Type 0 where
   pub answer : IsAnswer (at + length (s ++ octet ∷ []))

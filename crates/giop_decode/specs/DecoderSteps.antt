@@ -20,7 +20,7 @@ use Rattle.giop_sig.specs.Fits.{IsFit}
 use Rattle.giop_sig.specs.Table.{Table}
 use Rattle.giop_sig.specs.Trees.{tree}
 
--- what a decoder's fields stand for, unless an encapsulation has ended
+-- the reading that a decoder's fields stand for: a fault, where an encapsulation has ended before its value
 abbrev pub stopped_with : Table → List Frame → List ℕ → List ℕ → Option Innermost → List Line → ℕ →
     Read
 stopped_with C frames carry piece None lines at = Done lines at []
@@ -30,12 +30,12 @@ stopped_with C frames carry piece (Some leaf) lines at =
 abbrev pub stopped : Table → Decoder → Option Innermost → List Line → ℕ → Read
 stopped C d leaf lines at = stopped_with C d.outer.items d.carry d.piece.items leaf lines at
 
--- what an innermost part's turn comes to
+-- the reading that the fields stand for after a transition of the innermost part
 abbrev pub transition_result : Table → Ty → Decoder → Transition → List Line → ℕ → Read
 transition_result C T d (transitions.Refused kind) lines at = Fault lines at kind T
 transition_result C T d transition lines at = stopped C d d.leaf lines at
 
--- the innermost part that a decoder stands in
+-- the innermost part of a decoder
 abbrev pub leaf_in : Table → Decoder → Option Innermost → Leaf
 leaf_in C d None = LeadingNumber (tree C 0) []
 leaf_in C d (Some leaf) = leaf_of C leaf d.carry d.piece.items
@@ -45,7 +45,7 @@ abbrev pub decoder_step : Table → Decoder → ℕ → ℕ → Read
 decoder_step C d here octet =
     step (plain d.order) [] (open_parts C here d.outer.items) (leaf_in C d d.leaf) here octet
 
--- a step with these lines has left the decoder so; it goes on by that name, or another
+-- the answer fits the decoder after a step with these lines, and the reading; a value that goes on is named or isn't
 abbrev pub progressed : Table → Decoder → Bool → Progress → List Line → ℕ → Read → Type 0
 progressed C d named progress.More lines at r =
     (r ≡ read_by_fields C d lines at) × ((leaf : Innermost) × (d.leaf ≡ Some leaf)) × (named ≡ false)
@@ -54,25 +54,26 @@ progressed C d named progress.Named lines at r =
 progressed C d named progress.Done lines at r = (r ≡ read_by_fields C d lines at) × (d.leaf ≡ None)
 progressed C d named (progress.Fault kind) lines at r = (T : Ty) × (r ≡ Fault lines at kind T)
 
--- a value goes on as long as it has an innermost part
+-- the answer to an octet that breaks no rule: a value goes on as long as it has an innermost part
 abbrev pub IsGoing : Bool → Bool → Option Innermost → Progress → Type 0
 IsGoing named ended None p = p ≡ progress.Done
 IsGoing named true (Some leaf) p = p ≡ progress.Fault kinds.EncapShort
 IsGoing true false (Some leaf) p = p ≡ progress.Named
 IsGoing false false (Some leaf) p = p ≡ progress.More
 
--- what an octet has come to, where an encapsulation has or hasn't ended: a rule that the octet breaks goes before that
+-- the answer to an octet, by its transition, where an encapsulation has or hasn't ended: a rule that the octet breaks
+-- goes first
 abbrev pub IsProgress : Bool → Bool → Transition → Option Innermost → Progress → Type 0
 IsProgress named ended (transitions.Refused kind) leaf p = p ≡ progress.Fault kind
 IsProgress named ended transition leaf p = IsGoing named ended leaf p
 
--- a step of a root comes to this
+-- the answer fits the reading after a step, with some lines
 abbrev pub Comes : Table → Decoder → Progress → ℕ → Read → Type 0
 Comes C d p at r =
     (lines : List Line)
     × progressed C d (names_operation (is_header_root d.root) lines) p lines at r
 
--- the innermost part breaks no rule
+-- a transition at which no rule is broken
 abbrev pub IsMoved : Transition → Type 0
 IsMoved (transitions.Refused kind) = ⊥
 IsMoved transition = Unit {0}
@@ -88,12 +89,12 @@ pub record IsAround (C : Table) (d : Decoder) (of : ℕ) : Type 0 where
   pub fit : IsFit (24 - length d.outer.items) (tree C of)
   pub at : d.at < 8
 
--- what a turn of that part comes to in the parts around it, with these lines
+-- the reading after a transition of that part, in the parts around it, with these lines
 abbrev pub emitted : Table → Decoder → ℕ → Transition → Output → List Line → ℕ → Read
 emitted C d of transition output lines here = around (plain d.order) [] (open_parts C here d.outer.items)
     (after_transition C (tree C of) transition d.carry (still_held output d.piece.items) lines (here + 1))
 
--- the innermost part that comes next, and the parts around it
+-- the decoder after that transition: the innermost part that comes next, and the parts around it
 pub record IsNext (C : Table) (d new : Decoder) (of : ℕ) : Type 0 where
   pub known_outer : AreKnown C new.outer.items
   pub inside : new.inside ≡ is_inside new.outer.items

@@ -1,4 +1,4 @@
--- Which places and leaf can stand inside a type (state).
+-- Which open parts and leaf a type can have (state).
 use Rattle.std.specs.Prelude.{◌≡◌, ℕ, zero, suc, ◌+◌, ◌-◌, ◌<◌, ◌≤◌, List, [], ◌∷◌, length}
 use Rattle.giop_decode.specs.ReadResult.{OpenPart, Part, Member, Inside, Leaf, LeadingNumber, Opening, Content, Read, Done, Short, Fault}
 use Rattle.giop_decode.specs.Pieces.{tail}
@@ -13,14 +13,14 @@ HasLeadingNumber (Struct count names parts) = ⊥
 HasLeadingNumber (Array count T) = ⊥
 HasLeadingNumber T = Unit {0}
 
--- a type that has a content behind its length: a string, or an octet sequence
+-- a type that has a content after its length: a string, an octet sequence, or an encapsulation, by its rest
 abbrev pub HasContent : Ty → Type 0
 HasContent (Text bound) = Unit {0}
 HasContent (Octets bound) = Unit {0}
 HasContent (Encapsulation T) = Unit {0}
 HasContent T = ⊥
 
--- a content of octets alone
+-- a content of octets alone, without a zero behind it
 abbrev pub IsBare : Ty → Type 0
 IsBare (Octets bound) = Unit {0}
 IsBare (Encapsulation T) = Unit {0}
@@ -37,7 +37,7 @@ HasParts (Array n T) count = count ≡ n
 HasParts (Sequence bound T) count = Unit {0}
 HasParts T count = ⊥
 
--- a union with a case in that place
+-- a union that has a case of that number
 abbrev pub HasCase : Ty → ℕ → Type 0
 HasCase (Union choice scalar select names cases) i = i < places_of choice
 HasCase T i = ⊥
@@ -57,28 +57,28 @@ pub record ContentFits (T U : Ty) (total offset : ℕ) (piece : List ℕ) : Type
   pub room_full : 32 < total - offset → length piece < 32
   pub room_last : total - offset ≤ 32 → length piece < total - offset + tail T
 
--- a part of a type at a place, of so many
+-- part i of a type, of so many
 pub record PartFits (T U : Ty) (i count : ℕ) : Type 0 where
   pub same : U ≡ T
   pub kind : HasParts T count
   pub below : i < count
 
--- a case of a union at a place
+-- case i of a union
 pub record MemberFits (T U : Ty) (i : ℕ) : Type 0 where
   pub same : U ≡ T
   pub kind : HasCase T i
 
--- the octet of an encapsulation that says its order
+-- the octet of an encapsulation that gives its byte order
 pub record OpeningFits (T U : Ty) : Type 0 where
   pub same : U ≡ T
   pub kind : IsEncapsulation T
 
--- what stands behind that octet
+-- the octets behind that one
 pub record InsideFits (T U : Ty) : Type 0 where
   pub same : U ≡ T
   pub kind : IsEncapsulation T
 
--- places and a leaf that can stand in a type, each in the one before
+-- open parts and a leaf that fit a type, each in the one before
 abbrev pub FitsIn : Ty → List OpenPart → Leaf → Type 0
 FitsIn T [] (LeadingNumber U carry) = LeadingNumberFits T U carry
 FitsIn T [] (Opening U n) = OpeningFits T U
@@ -87,7 +87,7 @@ FitsIn T (Part U i count ∷ outer) leaf = PartFits T U i count × FitsIn (part_
 FitsIn T (Member U i ∷ outer) leaf = MemberFits T U i × FitsIn (part_of T i) outer leaf
 FitsIn T (Inside U coding end ∷ outer) leaf = InsideFits T U × FitsIn (part_of T 0) outer leaf
 
--- where so many octets of a message were read, no encapsulation around has ended, and each began among these octets
+-- where so many octets of a message were read, an encapsulation began among them and has not ended
 abbrev pub Surround : ℕ → OpenPart → Type 0
 Surround at (Inside T coding end) = (at < end) × (coding.origin < at)
 Surround at place = Unit {0}
@@ -95,13 +95,13 @@ Surround at place = Unit {0}
 abbrev pub Surrounds : ℕ → List OpenPart → Type 0
 Surrounds at open_parts = AllByRecursion (Surround at) open_parts
 
--- a place at which so much depth is left: its whole fits, and has that part
+-- an open part for which so much depth is left: its type fits in that, and has that part
 abbrev pub IsOpen : ℕ → OpenPart → Type 0
 IsOpen d (Part T i count) = HasParts T count × (i < count) × IsFit d T
 IsOpen d (Member T i) = HasCase T i × IsFit d T
 IsOpen d (Inside T coding end) = IsEncapsulation T × IsFit d T
 
--- places one in the other, the outermost of which has so much depth left
+-- open parts, each in the one before; so much depth is left for the outermost
 abbrev pub OpenFrom : ℕ → List OpenPart → Type 0
 OpenFrom d [] = Unit {0}
 OpenFrom zero (place ∷ outer) = ⊥
@@ -113,7 +113,8 @@ leaf_ty (LeadingNumber T carry) = T
 leaf_ty (Opening T n) = T
 leaf_ty (Content T total offset piece) = T
 
--- What a reading whose last octet stands in front of this offset leaves: that offset, and places and a leaf that fit there.
+-- A reading whose last octet stands in front of this offset ends there, and leaves open parts and a leaf that fit the
+-- type.
 abbrev pub Sound : Ty → ℕ → Read → Type 0
 Sound T end (Done lines at rest) = at + length rest ≡ end
 Sound T end (Short lines at outer leaf) = (at ≡ end) × FitsIn T outer leaf × Surrounds end outer

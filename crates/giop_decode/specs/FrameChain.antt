@@ -1,5 +1,5 @@
--- Which frames and innermost part can stand in a table, by the numbers of the types: what is tested of a decoder that comes from
--- octets (state).
+-- Which frames and innermost part fit a table, by the numbers of the types: what is tested of a decoder that is
+-- restored from octets (state).
 use Rattle.std.specs.Prelude.{◌≡◌, ℕ, ◌<◌, false, List, [], ◌∷◌, length, Option, Some, None}
 use Rattle.giop_cdr.specs.declared.order.Order.{Order}
 use Rattle.giop_decode.specs.declared.decoder.Decoder.{Decoder}
@@ -28,7 +28,7 @@ abbrev pub LeafFits : Table → Innermost → List ℕ → List ℕ → Type 0
 LeafFits C leaf carry piece =
     FitsIn (tree C (leaf_type leaf)) [] (leaf_of C leaf carry piece) × IsClean leaf carry piece
 
--- each frame is of the part of the one before at its place, and the innermost part of that of the last
+-- each frame is of the part that the one before is at, and the innermost part of that which the last is at
 abbrev pub Chained : Table → ℕ → List Frame → Innermost → Type 0
 Chained C id [] leaf = leaf_type leaf ≡ id
 Chained C id (f ∷ frames) leaf =

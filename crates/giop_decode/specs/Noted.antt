@@ -1,4 +1,5 @@
--- What the lines of a reading leave in mind: a header's request id, the number of the last enum, and the last string that is complete (meaning).
+-- What is noted of a reading, line by line: a header's request id, the number of the last enum, and the last string
+-- that is complete (meaning).
 use Rattle.std.specs.Prelude.{ℕ, ◌&&◌, ◌||◌, Bool, true, false, cond, ltb, List, [], ◌∷◌, ◌++◌, length, Option, Some, None, codes}
 use Rattle.std.specs.Str.{bytes_eq}
 use Rattle.giop_cdr.specs.declared.prim.Primitive.TheVariants as prims
@@ -8,13 +9,13 @@ use Rattle.giop_print.specs.declared.path.Root.TheVariants as roots
 use Rattle.giop_sig.specs.Types.{Plain, Enum, Ty, Text}
 
 pub record Noted : Type 0 where
-  -- a header's: the first that was said
+  -- a header's: the first that has a line
   pub request_id : Option ℕ
   -- the number of the last enum
   pub status : Option ℕ
   -- the last string, where that has at most 128 octets
   pub name : Option (List ℕ)
-  -- the pieces of a string whose last isn't there
+  -- the octets so far of a string that has not ended
   pub so_far : List ℕ
 
 -- the path of the member of the root that has a name
@@ -45,7 +46,7 @@ abbrev pub noted_piece : Noted → List ℕ → Bool → Noted
 noted_piece h octets true = with_piece h octets
 noted_piece h octets false = ended (with_piece h octets)
 
--- a number that is there stays
+-- the first of two numbers, where it is there
 abbrev pub first_of : Option ℕ → Option ℕ → Option ℕ
 first_of (Some n) later = Some n
 first_of None later = later
@@ -76,7 +77,7 @@ noted is_header h (l ∷ ls) = noted is_header (note is_header h l) ls
 abbrev pub nothing_noted : Noted
 nothing_noted = record { request_id = None; status = None; name = None; so_far = [] }
 
--- Whether the length of a string has come and its end hasn't, which never comes where the string breaks a rule.
+-- whether the innermost part is the content of a string: its length was read, and its end wasn't
 abbrev pub in_content : Leaf → Bool
 in_content (Content (Text bound) total offset piece) = true
 in_content leaf = false
@@ -86,7 +87,7 @@ abbrev pub is_text : Ty → Bool
 is_text (Text bound) = true
 is_text T = false
 
--- a reading that ends so, or at a fault in a string
+-- whether a reading ends inside a string, or at a fault in one
 abbrev pub ends_in_string : Read → Bool
 ends_in_string (Done lines at rest) = false
 ends_in_string (Short lines at outer leaf) = in_content leaf
@@ -98,16 +99,16 @@ without_name_if false h = h
 without_name_if true h =
     record { request_id = h.request_id; status = h.status; name = None; so_far = h.so_far }
 
--- what a reading leaves in mind
+-- what is noted of a reading
 abbrev pub noted_of : Bool → Read → Noted
 noted_of is_header r = without_name_if (ends_in_string r) (noted is_header nothing_noted (lines_of r))
 
--- a string's last piece
+-- whether a value is a string's last piece
 abbrev pub ends_text : Value → Bool
 ends_text (Piece (Text bound) offset octets false) = true
 ends_text value = false
 
--- a line that ends the operation of a Request's header
+-- whether a line ends the operation of a Request's header
 abbrev pub ends_operation : Bool → Line → Bool
 ends_operation is_header l =
     is_header && (is_member (codes "operation") l.path && ends_text l.value)
@@ -117,7 +118,7 @@ abbrev pub names_operation : Bool → List Line → Bool
 names_operation is_header [] = false
 names_operation is_header (l ∷ ls) = ends_operation is_header l || names_operation is_header ls
 
--- below this root a request id and an operation are told by their names
+-- whether this is a header's root, below which request id and operation are known by their names
 abbrev pub is_header_root : Root → Bool
 is_header_root roots.Header = true
 is_header_root root = false

@@ -1,5 +1,5 @@
--- What a reading leaves in mind, said of its lines: the request id of a header, the last of the enums, and the last of the
--- strings that are whole (meaning).
+-- What is noted of a reading, from all of its lines at once: the request id of a header, the last of the enums, and the
+-- last of the strings that are whole (meaning).
 use Rattle.std.specs.Prelude.{◌≡◌, ℕ, zero, suc, ◌+◌, ◌&&◌, Bool, true, false, cond, List, [], ◌∷◌, ◌++◌, length, take, drop, Option, Some, None, filter_map, flat_map, codes}
 use Rattle.std.specs.List.{AllByRecursion as Each, last_or}
 use Rattle.giop_cdr.specs.declared.prim.Primitive.TheVariants as prims
@@ -40,7 +40,7 @@ first_in (n ∷ ns) = Some n
 
 -- ---- strings
 
--- of a string: where in the content, what, and whether more follows
+-- a piece of a string: where in the content it begins, its octets, and whether more follow
 pub record TextPiece : Type 0 where
   pub offset : ℕ
   pub octets : List ℕ
@@ -50,7 +50,7 @@ pub record TextPiece : Type 0 where
 abbrev pub piece : ℕ → List ℕ → Bool → TextPiece
 piece offset octets more = record { offset = offset; octets = octets; more = more }
 
--- what a value is of a string, if it is a piece of one
+-- the piece of a string that a value is, if it is one
 abbrev pub text_of : Value → Option TextPiece
 text_of (Piece (Text bound) offset octets more) = Some (piece offset octets more)
 text_of value = None
@@ -82,14 +82,14 @@ pub record Strings (r : Read) : Type 0 where
   pub unended : AreUnended begun
   pub none : ends_in_string r ≡ false → begun ≡ []
 
--- ---- what is left in mind
+-- ---- what is noted
 
 -- a string of more than 128 octets is no name
 abbrev pub name_of : Option (List ℕ) → Option (List ℕ)
 name_of None = None
 name_of (Some content) = name_if content
 
--- This is left in mind by a reading, of a header or not.
+-- this is what is noted of a reading, of a header or not
 pub record IsLeft (is_header : Bool) (r : Read) (h : Noted) : Type 0 where
   -- the header's
   pub request_id : h.request_id ≡ first_in (request_ids is_header (lines_of r))

@@ -1,4 +1,4 @@
--- What an octet that has something to say does to what was heard (steps).
+-- What an octet that completes a line changes in the notes (steps).
 use Rattle.std.specs.Prelude.{◌≡◌, ◌&&◌, Bool, true, false}
 use Rattle.giop_decode.specs.declared.leaf.Leaf.{Leaf as Innermost}
 use Rattle.giop_decode.specs.declared.leaf.Leaf.TheVariants as innermost
@@ -11,7 +11,7 @@ use Rattle.giop_cdr.specs.declared.number.Number.{Number as Taken}
 use Rattle.giop_cdr.specs.declared.prim.Primitive.{Primitive}
 use Rattle.giop_sig.specs.Types.{Plain, Single, Ty}
 
--- a string's length hushes the name
+-- a string's length clears the name
 abbrev pub clears_name : Output → Bool
 clears_name outputs.Length = true
 clears_name output = false
@@ -22,13 +22,13 @@ leaf_in_string T (innermost.Number of) = false
 leaf_in_string T (innermost.Opening of left) = false
 leaf_in_string T (innermost.Content of total offset) = is_text T
 
--- and whether what it has come to does
+-- and whether it does after a transition
 abbrev pub transition_in_string : Ty → Transition → Bool
 transition_in_string T (transitions.More leaf) = leaf_in_string T leaf
 transition_in_string T (transitions.Refused kind) = is_text T
 transition_in_string T transition = false
 
--- Inside a string nothing but its pieces is said: its length leads into it, and its last piece out of it.
+-- Inside a string no lines but its pieces are written: its length leads into it, and its last piece out of it.
 abbrev pub OutputFitsString : Ty → Bool → Transition → Output → Type 0
 OutputFitsString T was transition outputs.Nothing = transition_in_string T transition ≡ was
 OutputFitsString T was transition outputs.Length = transition_in_string T transition ≡ true
@@ -39,7 +39,7 @@ OutputFitsString T was transition output = (was ≡ false) × (transition_in_str
 abbrev pub IsPrim : Ty → Type 0
 IsPrim T = (p : Primitive) × (T ≡ Single (Plain p))
 
--- The number of a primitive, of which nothing is heard but the request id of a header.
+-- the number of a primitive, of which nothing is noted unless it is the request id of a header
 pub record IsPlain (T : Ty) (output : Output) : Type 0 where
   pub prim : Primitive
   pub number : Taken

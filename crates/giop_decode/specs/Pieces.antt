@@ -1,5 +1,5 @@
--- Octets that are taken together: numbers behind their padding (CDR Transfer Syntax, Alignment), and the contents of strings and
--- octet sequences in pieces of 32 (docs/FORMATS.md; meaning).
+-- Octets that are taken together: numbers after their padding (CDR Transfer Syntax, Alignment), and the contents of
+-- strings and octet sequences in pieces of 32 (docs/FORMATS.md; meaning).
 use Rattle.std.specs.Prelude.{ℕ, zero, suc, ◌+◌, ◌-◌, ◌/◌, false, true, cond, ltb, eqb, List, [], ◌∷◌, length, take, drop, get_or, Option, Some, None}
 use Rattle.giop_cdr.specs.Alignment.{padding}
 use Rattle.giop_decode.specs.declared.progress.Kind.{Kind}
@@ -7,7 +7,7 @@ use Rattle.giop_decode.specs.declared.progress.Kind.TheVariants as kinds
 use Rattle.giop_decode.specs.ReadResult.{PathSegment, Piece, line, Content, Read, Done, Short, Fault, with_front}
 use Rattle.giop_sig.specs.Types.{Ty, Text, Octets}
 
--- so many octets, the offset behind them, and what follows; or too few of them
+-- so many octets, the offset after them, and what follows; or too few of them
 pub data Block : Type 0 where
   Partial : List ℕ → ℕ → Block
   Complete : List ℕ → ℕ → List ℕ → Block
@@ -22,7 +22,7 @@ unfoldable pub number : ℕ → ℕ → ℕ → List ℕ → Block
 number origin n at s = cond (ltb (length s) (padding (at - origin) n)) (Partial [] (at + length s))
     (block n (at + padding (at - origin) n) (drop (padding (at - origin) n) s))
 
--- a fault takes the place of a value
+-- a fault instead of a value, if there is one
 abbrev pub unless : Ty → Option Kind → ℕ → Read → Read
 unless T None at read = read
 unless T (Some kind) at read = Fault [] at kind T
@@ -46,13 +46,13 @@ abbrev pub ends : Ty → ℕ → List ℕ → Option Kind
 ends (Text bound) n octets = cond (eqb (get_or octets n 0) 0) None (Some kinds.StringEnd)
 ends T n octets = None
 
--- the last piece of a content, or the wait for it: up to 32 octets from an offset in the content
+-- the last piece of a content, or what has come of it: up to 32 octets from an offset in the content
 abbrev pub last_piece : Ty → List PathSegment → ℕ → ℕ → Block → Read
 last_piece T path total offset (Partial piece at) = Short [] at [] (Content T total offset piece)
 last_piece T path total offset (Complete octets at rest) = unless T (ends T (total - offset) octets) at
     (Done (line at path (Piece T offset (take (total - offset) octets) false) ∷ []) at rest)
 
--- a piece of 32 octets at an offset in the content, and what comes next
+-- a piece of 32 octets at an offset in the content, and what is read next
 abbrev pub full_piece : Ty → List PathSegment → ℕ → ℕ → (ℕ → List ℕ → Read) → Block → Read
 full_piece T path total offset next (Partial piece at) =
     Short [] at [] (Content T total offset piece)
@@ -66,13 +66,13 @@ content T path total zero offset at s =
 content T path total (suc full) offset at s =
     full_piece T path total offset (content T path total full (offset + 32)) (block 32 at s)
 
--- behind the length of a string, which counts its zero: a string of length 0 is the empty one, and ends there
+-- after the length of a string, which counts its zero: a string of length 0 is the empty one, and ends there
 abbrev pub text : Option ℕ → List PathSegment → ℕ → ℕ → List ℕ → Read
 text bound path zero at rest = Done (line at path (Piece (Text bound) 0 [] false) ∷ []) at rest
 text bound path (suc n) at rest =
     unless (Text bound) (over bound n) at (content (Text bound) path n (full_pieces n) 0 at rest)
 
--- behind the length of an octet sequence
+-- after the length of an octet sequence
 abbrev pub octets : Option ℕ → List PathSegment → ℕ → ℕ → List ℕ → Read
 octets bound path n at rest =
     unless (Octets bound) (over bound n) at

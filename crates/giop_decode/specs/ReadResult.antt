@@ -1,4 +1,4 @@
--- What the reading of a value says, and what it leaves: its lines, and the parts that it has begun and not ended (meaning).
+-- The result of reading a value: its lines, and the parts that it has begun and not ended (meaning).
 use Rattle.std.specs.Prelude.{ℕ, Bool, List, ◌∷◌, ◌++◌, Option}
 use Rattle.giop_cdr.specs.declared.order.Order.{Order}
 use Rattle.giop_decode.specs.declared.progress.Kind.{Kind}
@@ -6,15 +6,15 @@ use Rattle.giop_sig.specs.Types.{Scalar, Ty}
 
 -- ---- lines
 
--- one step of a path: a member, an element, a discriminator with its name if it has one, or what an encapsulation holds,
--- which has its path
+-- one step of a path: a member, an element, a discriminator with its name if it has one, or what an encapsulation
+-- holds, which has the encapsulation's own path
 pub data PathSegment : Type 0 where
   Name : List ℕ → PathSegment
   Index : ℕ → PathSegment
   Switch : Option (List ℕ) → PathSegment
   Held : PathSegment
 
--- what a line tells
+-- what a line shows
 pub data Value : Type 0 where
   -- the whole number that the octets of a primitive or of an enum spell
   Number : Scalar → ℕ → Value
@@ -23,10 +23,11 @@ pub data Value : Type 0 where
   -- of an encapsulation: how many octets it has, and their byte order
   Size : ℕ → Value
   Ordered : Order → Value
-  -- of a string, an octet sequence or the rest of an encapsulation: where in the content, what, and whether more follows
+  -- a piece of a string, an octet sequence or the rest of an encapsulation: where in the content it begins, its octets,
+  -- and whether more follow
   Piece : Ty → ℕ → List ℕ → Bool → Value
 
--- a line: the offset just past the last octet of its value, its path below the root, and what stands there
+-- a line: the offset just past the last octet of its value, its path below the root, and the value
 pub record Line : Type 0 where
   pub at : ℕ
   pub path : List PathSegment
@@ -74,8 +75,8 @@ pub data Leaf : Type 0 where
 
 -- ---- readings
 
--- What a reading comes to: its lines, the offset at its end, and what follows it,
--- or the parts begun and not ended, the outermost first, or the fault, the offset just past its octet, and the type whose value has it.
+-- The result of a reading: its lines, the offset at its end, and what follows it; or the parts begun and not ended, the
+-- outermost first; or the fault, the offset just past its octet, and the type whose value has it.
 pub data Read : Type 0 where
   Done : List Line → ℕ → List ℕ → Read
   Short : List Line → ℕ → List OpenPart → Leaf → Read

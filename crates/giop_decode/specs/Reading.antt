@@ -23,12 +23,12 @@ wrong (Plain prims.Boolean) n = cond (ltb n 2) None (Some kinds.Boolean)
 wrong (Plain p) n = None
 wrong (Enum count names) n = cond (ltb n count) None (Some kinds.Enum)
 
--- a value of one number, behind its octets
+-- a value of one number, after its octets
 abbrev pub single : List PathSegment → Scalar → ℕ → ℕ → List ℕ → Read
 single path scalar n at rest =
     unless (Single scalar) (wrong scalar n) at (Done (line at path (Number scalar n) ∷ []) at rest)
 
--- so many parts, from place i on, each from where the one before ended
+-- so many parts, from part i on, each from where the one before ended
 abbrev pub parts_from : (ℕ → ℕ → List ℕ → Read) → ℕ → ℕ → ℕ → List ℕ → Read
 parts_from part zero i at s = Done [] at s
 parts_from part (suc more) i at s = followed (part i at s) (parts_from part more (suc i))
@@ -39,12 +39,12 @@ member (Case i) case at s = case i at s
 member Nothing case at s = Done [] at s
 member Refused case at s = Done [] at s
 
--- why what a discriminator selects is a fault: none of the dispositions
+-- why what a discriminator selects is a fault: it is none of the dispositions
 abbrev pub refused : Selected → Option Kind
 refused Refused = Some kinds.Disposition
 refused _ = None
 
--- a union behind its discriminator, which has a line where it is a value that can stand there
+-- a union after its discriminator, which has a line where its value is allowed
 abbrev pub chosen : List PathSegment → Ty → Option (List ℕ) → Scalar → Selected → ℕ →
     (ℕ → ℕ → List ℕ → Read) → ℕ → List ℕ → Read
 chosen path T tag scalar selected n case at rest =
@@ -54,18 +54,18 @@ chosen path T tag scalar selected n case at rest =
 
 -- ---- encapsulations
 
--- the byte order that an octet says
+-- the byte order that an octet gives
 abbrev pub order_of : ℕ → Option Order
 order_of zero = Some Big
 order_of (suc zero) = Some Little
 order_of n = None
 
--- what is left of an encapsulation behind its value
+-- what is left of an encapsulation after its value
 abbrev pub rest_of : List PathSegment → Ty → ℕ → ℕ → List ℕ → Read
 rest_of path T zero at s = Done [] at s
 rest_of path T (suc n) at s = content T path (suc n) (full_pieces (suc n)) 0 at s
 
--- whose value the end of an encapsulation cuts off: that of a content whose length was there, or of the encapsulation itself
+-- the type whose value an encapsulation's end cuts off: a content whose length was read, or the encapsulation itself
 abbrev pub cut_off : Leaf → Ty
 cut_off (Content T total offset piece) = T
 cut_off (LeadingNumber T carry) = Encapsulation T
@@ -86,7 +86,7 @@ abbrev pub inside : List PathSegment → Ty → (Coding → ℕ → List ℕ →
 inside path T value coding n at s =
     enclosed path T coding (at + n) (value coding at (take n s)) (drop n s)
 
--- behind the octet that says the byte order, from which alignment is counted
+-- after the octet that gives the byte order, from which alignment is counted
 abbrev pub ordered : List PathSegment → Ty → (Coding → ℕ → List ℕ → Read) → ℕ → ℕ → Option Order → ℕ →
     List ℕ → Read
 ordered path T value origin n None at rest = Fault [] at kinds.EncapOrder T
@@ -100,14 +100,14 @@ opening path T value origin n (Partial none at) = Short [] at [] (Opening T n)
 opening path T value origin n (Complete octets at rest) =
     ordered path T value origin n (order_of (get_or octets 0 0)) at rest
 
--- the octets of an encapsulation, behind their number
+-- the octets of an encapsulation, after their number
 abbrev pub sized : List PathSegment → Ty → (Coding → ℕ → List ℕ → Read) → ℕ → ℕ → List ℕ → Read
 sized path T value zero at s = Fault [] at kinds.EncapShort T
 sized path T value (suc n) at s = opening path T value at n (block 1 at s)
 
 -- ---- any type
 
--- read coding path T at s: a value of T from the list s, whose first octet stands at that offset of the message
+-- read coding path T at s: a value of T from the list s, whose first octet is at that offset of the message
 abbrev pub read : Coding → List PathSegment → Ty → ℕ → List ℕ → Read
 read coding path (Single scalar) at s =
     after_leading_number (Single scalar) (λ xs at rest. single path scalar (num coding.order xs) at rest)

@@ -15,14 +15,14 @@ block_step n at held b =
     cond (ltb (length held + 1) n) (Partial (held ++ b ∷ []) (at + 1))
     (Complete (held ++ b ∷ []) (at + 1) [])
 
--- Padding is what comes at an offset that isn't aligned while nothing is held.
+-- An octet at an offset that isn't aligned is padding, as long as no octet is held.
 unfoldable pub number_step : ℕ → ℕ → ℕ → List ℕ → ℕ → Block
 number_step origin n at [] b =
     cond (ltb 0 (padding (at - origin) n)) (Partial [] (at + 1)) (block_step n at [] b)
 number_step origin n at (x ∷ carry) b = block_step n at (x ∷ carry) b
 
--- Octets that leave a number incomplete, one after another: what is held behind them, where the first is at this
--- offset modulo 8.
+-- Octets that leave a number incomplete, one after another: what is held after them, where the first is at this offset
+-- modulo 8.
 abbrev pub AreHeld : ℕ → ℕ → List ℕ → List ℕ → List ℕ → Type 0
 AreHeld n at held [] new = new ≡ held
 AreHeld n at held (b ∷ more) new = (next : List ℕ)
@@ -35,18 +35,18 @@ leading_width (Single scalar) = width scalar
 leading_width (Union choice scalar select names cases) = width scalar
 leading_width T = 4
 
--- the part in a place
+-- the path segment of part i of a type
 abbrev pub segment_of : Ty → ℕ → PathSegment
 segment_of (Struct count names parts) i = Name (names i)
 segment_of (Union choice scalar select names cases) i = Name (names i)
 segment_of (Encapsulation T) i = Held
 segment_of T i = Index i
 
--- the path inside a part
+-- the path inside part i
 abbrev pub inner_path : List PathSegment → Ty → ℕ → List PathSegment
 inner_path path T i = path ++ segment_of T i ∷ []
 
--- the reading of a part in a place of a type, from an offset on
+-- the reading of part i of a type, from an offset on
 abbrev pub part_at : Coding → List PathSegment → Ty → ℕ → ℕ → ℕ → List ℕ → Read
 part_at coding path T count i at s =
     within (Part T i count) (read coding (path ++ segment_of T i ∷ []) (part_of T i) at s)
@@ -89,18 +89,18 @@ leaf_step coding path (Opening T n) at b = opening path T (held path T) at n (bl
 leaf_step coding path (Content T total offset piece) at b =
     content_step T path total offset at piece b
 
--- the segment of a place
+-- the path segment of an open part
 abbrev pub segment_in : OpenPart → PathSegment
 segment_in (Part T i count) = segment_of T i
 segment_in (Member T i) = segment_of T i
 segment_in (Inside T inner end) = Held
 
--- how octets are taken in a place
+-- how octets are taken in an open part
 abbrev pub coding_at : Coding → OpenPart → Coding
 coding_at coding (Inside T inner end) = inner
 coding_at coding place = coding
 
--- What a place comes to, once what is read in it has come so far.
+-- the reading of an open part, by the reading so far of what is in it
 abbrev pub resumed : Coding → List PathSegment → OpenPart → Read → Read
 resumed coding path (Part T i count) r =
     followed (within (Part T i count) r)
@@ -108,18 +108,18 @@ resumed coding path (Part T i count) r =
 resumed coding path (Member T i) r = within (Member T i) r
 resumed coding path (Inside T inner end) r = enclosed path T inner end r []
 
--- what places, the outermost first, come to once what is read in the innermost has come so far
+-- the reading of open parts, the outermost first, by the reading so far of what is in the innermost
 abbrev pub around : Coding → List PathSegment → List OpenPart → Read → Read
 around coding path [] r = r
 around coding path (place ∷ outer) r =
     resumed coding path place (around (coding_at coding place) (path ++ segment_in place ∷ []) outer r)
 
--- the path inside places
+-- the path inside open parts
 abbrev pub path_in : List PathSegment → List OpenPart → List PathSegment
 path_in path [] = path
 path_in path (place ∷ outer) = path_in (path ++ segment_in place ∷ []) outer
 
--- how octets are taken inside places
+-- how octets are taken inside open parts
 abbrev pub coding_in : Coding → List OpenPart → Coding
 coding_in coding [] = coding
 coding_in coding (place ∷ outer) = coding_in (coding_at coding place) outer
@@ -147,19 +147,19 @@ OneAt n [] = Unit {0}
 OneAt n (l ∷ []) = l.at ≡ n
 OneAt n (l ∷ l' ∷ ls) = ⊥
 
--- the lines at the octet of a fault: none of a value that breaks a rule, while the last octet of an encapsulation may say
--- what it completes
+-- the lines at the octet of a fault: none of a value that breaks a rule, while the last octet of an encapsulation may
+-- have the line of what it completes
 abbrev pub Faulted : ℕ → Kind → List Line → Type 0
 Faulted n kinds.EncapShort lines = OneAt n lines
 Faulted n why lines = lines ≡ []
 
--- what an octet comes to: a line at most
+-- the reading of one octet: a line at most
 abbrev pub IsOctetResult : ℕ → Read → Type 0
 IsOctetResult n (Done lines at rest) = OneAt n lines × (at ≡ n) × (rest ≡ [])
 IsOctetResult n (Short lines at outer leaf) = OneAt n lines × (at ≡ n)
 IsOctetResult n (Fault lines at why S) = Faulted n why lines × (at ≡ n)
 
--- what no octets come to: no line, and no refusal
+-- the reading of no octets: no line, and no fault
 abbrev pub IsEmptyResult : ℕ → Read → Type 0
 IsEmptyResult n (Done lines at rest) = (lines ≡ []) × (at ≡ n) × (rest ≡ [])
 IsEmptyResult n (Short lines at outer leaf) = (lines ≡ []) × (at ≡ n)

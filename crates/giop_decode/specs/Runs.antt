@@ -29,14 +29,14 @@ added_lines_of_run order T at s octets =
     drop (length (lines_of (read (plain order) [] T at s)))
     (lines_of (read (plain order) [] T at (s ++ octets)))
 
--- what has come of a list with one octet more
+-- the answer to one octet more than a list
 abbrev pub Answers : Order → Ty → ℕ → Root → List ℕ → ℕ → Progress → Type 0
 Answers order T at root s octet p =
     IsAnswer (at + length (s ++ octet ∷ []))
     (names_operation (is_header_root root) (added_lines order T at s octet)) p
     (read (plain order) [] T at (s ++ octet ∷ []))
 
--- Octets more, one after another: behind each but the last the value goes on, and no operation has ended there.
+-- Octets more, one after another: after each but the last the value goes on, and no operation has ended there.
 abbrev pub AreAnswered : Order → Ty → ℕ → Root → List ℕ → List ℕ → Progress → Type 0
 AreAnswered order T at root s [] p = p ≡ progress.More
 AreAnswered order T at root s (octet ∷ []) p = Answers order T at root s octet p
@@ -44,7 +44,8 @@ AreAnswered order T at root s (octet ∷ next ∷ more) p =
     Answers order T at root s octet progress.More
     × AreAnswered order T at root (s ++ octet ∷ []) (next ∷ more) p
 
--- A decoder that read a list has come to this with these octets more: it reads the longer list, unless that is faulted.
+-- A decoder that read a list gives this answer to these octets more: then it reads the longer list, unless that is
+-- faulted.
 pub record TakesRun (C : Table) (T : Ty) (order : Order) (at message : ℕ) (root : Root)
     (d : Decoder) (s octets : List ℕ) (p : Progress) : Type 0 where
   pub answers : AreAnswered order T at root s octets p
@@ -74,7 +75,7 @@ WritesRun result T order at message root s octets before after =
 
 -- ---- octets that only add to a piece
 
--- a decoder that read a list reads the longer one, and had nothing to say
+-- a decoder that read a list reads the longer one, and the octets more give no line
 pub record Gathered (C : Table) (T : Ty) (order : Order) (at message : ℕ) (root : Root)
     (new : Decoder) (s octets : List ℕ) : Type 0 where
   pub takes : TakesRun C T order at message root new s octets progress.More
@@ -85,9 +86,9 @@ abbrev pub AllGathered : Table → Decoder → Decoder → List ℕ → Type 0
 AllGathered C d new octets = (T : Ty) (order : Order) (at message : ℕ) (root : Root) (s : List ℕ) →
     Reads C T order at message root d s → Gathered C T order at message root new s octets
 
--- ---- octets that come together
+-- ---- octets that are taken together
 
--- what is held behind octets that only add to it, in no encapsulation
+-- what is held after octets that only add to it, in no encapsulation
 abbrev pub Adds : Table → Decoder → Innermost → List ℕ → List ℕ → List ℕ → Type 0
 Adds C d (innermost.Number of) octets carry piece =
     AreHeld (leading_width (tree C of.0)) d.at d.carry octets carry × (piece ≡ d.piece.items)
@@ -97,8 +98,8 @@ Adds C d (innermost.Content of total offset) octets carry piece =
     × (32 < total - offset → length piece < 32)
     × (total - offset ≤ 32 → length piece < total - offset + tail (tree C of.0))
 
--- So many octets stand at the head of these, in no encapsulation, of which all but the last only add to what is held, and
--- the last does this step: what it says of a piece are the octets that are held, and the rest.
+-- So many octets stand at the head of these, in no encapsulation, of which all but the last only add to what is held,
+-- and the last does this step: a piece that it gives are the octets that are held, and the rest.
 pub record ComesWhole (C : Table) (d : Decoder) (octets : List ℕ) (of : TypeId) (count : ℕ)
     (step : Step) (rest : List ℕ) : Type 0 where
   pub leaf : Innermost
@@ -112,7 +113,7 @@ pub record ComesWhole (C : Table) (d : Decoder) (octets : List ℕ) (of : TypeId
   pub carry : List ℕ
   pub piece : List ℕ
   pub adds : Adds C d leaf (take (count - 1) octets) carry piece
-  -- what the last comes to, and says
+  -- the step and the lines of the last
   pub transition_fits : TransitionFits (tree C of.0) of.0 step.transition d.carry
       (still_held step.output d.piece.items)
   pub has_output : HasOutput (tree C of.0) step.output

@@ -1,4 +1,4 @@
--- The path of the innermost part, as the decoder's fields have it (steps).
+-- The path of the innermost part and its text, from the decoder's fields (steps).
 use Rattle.std.specs.Prelude.{ℕ, ◌<◌, List, [], ◌∷◌, ◌++◌, length, Option, Some, None}
 use Rattle.giop_decode.specs.declared.frame.Frame.{Frame}
 use Rattle.giop_decode.specs.ReadResult.{PathSegment}
@@ -11,7 +11,7 @@ use Rattle.giop_sig.specs.Trees.{tree}
 use Rattle.giop_sig.specs.Types.{shape_in, IsUnion}
 use Rattle.giop_sig.specs.declared.types.TypeId.{TypeId}
 
--- a type of the table that has a discriminator, where there is one
+-- a type of the table that has a discriminator, or no type
 abbrev pub IsSwitch : Table → Option TypeId → Type 0
 IsSwitch C None = Unit {0}
 IsSwitch C (Some of) = (of.0 < length C.types) × IsUnion (shape_in (tree C of.0))
@@ -31,7 +31,8 @@ abbrev pub frames_text : Table → List Frame → List ℕ
 frames_text C [] = []
 frames_text C (f ∷ outer) = segment_text (segment_in (open_part C 0 f)) ++ frames_text C outer
 
--- where the innermost part stands, or its discriminator: its root, the frames around it, and the union that is meant
+-- where the innermost part stands, or its discriminator: its root, the frames around it, and the union whose
+-- discriminator is meant
 pub record PathView : Type 0 where
   pub table : Table
   pub root : Root

@@ -11,7 +11,7 @@ use Rattle.giop_print.specs.Text.{joined, quoted}
 use Rattle.giop_print.specs.declared.path.Root.{Root}
 use Rattle.giop_sig.specs.Types.{Plain, Enum, Text, Octets, Encapsulation}
 
--- the text of a segment: a name behind a point, or an index in brackets
+-- the text of a segment: a name after a point, or an index in brackets
 abbrev pub segment_text : PathSegment → List ℕ
 segment_text (Name name) = name_segment name
 segment_text (Index i) = index_segment i
@@ -28,12 +28,12 @@ segments_text (s ∷ ss) = segment_text s ++ segments_text ss
 unfoldable pub path_text : Root → List PathSegment → List ℕ
 path_text root path = root_word root ++ segments_text path
 
--- a number that is a value of its primitive
+-- the words of a number that is a value of its primitive
 abbrev pub number_words : Primitive → Option Taken → List (List ℕ)
 number_words p None = []
 number_words p (Some number) = spaced (kind_word p) ∷ number_text (size_of p) number ∷ []
 
--- the words of a value's line behind its path
+-- the words of a value's line after its path
 abbrev pub value_words : Value → List (List ℕ)
 value_words (Number (Plain p) n) = number_words p (interpreted_as p n)
 value_words (Number (Enum count names) n) = codes " enum " ∷ names n ∷ []

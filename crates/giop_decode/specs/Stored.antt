@@ -8,7 +8,7 @@
 --     11       1  innermost part: 0 the number that begins it, 1 its content, 2 the octet with an encapsulation's byte order
 --     12       4  its type
 --     16       4  octets of the content, or of the encapsulation; 0 in a number
---     20       4  where in the content the piece on its way begins; else 0
+--     20       4  where in the content the unfinished piece begins; else 0
 --     24       9  the octets held of a number: how many, and room for 8; none in a content
 --     33      33  the octets held of a piece: how many, and room for 32; none in a number
 --     66       5  whether a header's request id was read, 0 or 1, and the id
@@ -17,11 +17,11 @@
 --     77     129  the octets in it: how many, and room for 128; none where it is too short
 --    206       2  zero
 --
--- and a frame of 24 octets for each part that is begun and not ended, the outermost first: its type, the place of its own part
--- that is being read, how many it has (0 in a union), and 12 zeros. Of an encapsulation whose byte order was read the place says
+-- and a frame of 24 octets for each part that is begun and not ended, the outermost first: its type, the index of its own part
+-- that is being read, how many it has (0 in a union), and 12 zeros. Of an encapsulation whose byte order was read the index is
 -- how many of its octets were taken and the count how many it has, and the first of the zeros is 1 for big or 2 for little. The
 -- last frame is the innermost part's: its type and zeros.
--- Numbers have the heaviest octet first; what is held is followed by zeros.
+-- Numbers are big-endian; held octets are followed by zeros.
 use Rattle.std.specs.Prelude.{◌≡◌, ℕ, ◌+◌, ◌^◌, ◌<◌, ◌≤◌, List, [], ◌∷◌, ◌++◌, length, replicate, Option, Some, None, IfSome}
 use Rattle.std.specs.List.{flat_map, AllByRecursion}
 use Rattle.giop_cdr.specs.declared.order.Order.{Order}
@@ -139,14 +139,14 @@ pub record Stored (d : Decoder) (fixed frames : List ℕ) : Type 0 where
   pub outer_range : AllByRecursion FrameHasRange d.outer.items
   pub few : length d.outer.items < 24
 
--- the memory is what is kept of another
+-- the notes n are what a checkpoint keeps of the notes m
 pub record IsKept (m n : Notes) : Type 0 where
   pub request_id : n.request_id ≡ m.request_id
   pub status : n.status ≡ m.status
   pub buffer : n.buffer ≡ m.buffer
   pub name : n.name.items ≡ kept_name m.buffer m.name.items
 
--- the decoder is what is kept of another
+-- the decoder e is what a checkpoint keeps of the decoder d
 pub record IsRestored (d e : Decoder) : Type 0 where
   pub order : e.order ≡ d.order
   pub root : e.root ≡ d.root

@@ -1,4 +1,4 @@
--- What the fields of a decoder stand for, and what one octet turns its innermost part into (steps).
+-- What the fields of a decoder stand for, and the transition of its innermost part at one octet (steps).
 use Rattle.std.specs.Prelude.{◌≡◌, ℕ, ◌+◌, ◌-◌, ◌<◌, ◌≤◌, ◌^◌, ◌%◌, Bool, true, false, cond, eqb, List, [], ◌∷◌, ◌++◌, length, map, take, get_or, Option, Some, None, IfSome}
 use Rattle.giop_cdr.specs.Numbers.{num}
 use Rattle.giop_decode.specs.ReadingSteps.{AreHeld, leading_width, number_step}
@@ -30,25 +30,25 @@ abbrev pub part_in : Ty → ℕ → ℕ → OpenPart
 part_in (Union choice scalar select names cases) i count = Member (Union choice scalar select names cases) i
 part_in T i count = Part T i count
 
--- Of an encapsulation the index says how many of its octets stand in front of this offset, and the count how many it has.
+-- Of an encapsulation the index is how many of its octets stand in front of this offset, and the count how many it has.
 abbrev pub open_part_in : ℕ → Option Order → Ty → ℕ → ℕ → OpenPart
 open_part_in here None T i count = part_in T i count
 open_part_in here (Some order) T i count = Inside T (coded order (here - i)) (here + (count - i))
 
--- the place that a frame of a table stands for, at an offset
+-- the open part that a frame of a table stands for, at an offset
 abbrev pub open_part : Table → ℕ → Frame → OpenPart
 open_part C here f = open_part_in here f.inside (tree C f.of.0) f.index f.count
 
--- the places of frames, the outermost first
+-- the open parts of frames, the outermost first
 abbrev pub open_parts : Table → ℕ → List Frame → List OpenPart
 open_parts C here frames = map (open_part C here) frames
 
--- a part of an encapsulation or of another type
+-- an index and a count of an encapsulation, or of another type
 abbrev pub IsWithin : Option Order → ℕ → ℕ → Ty → Type 0
 IsWithin None i count T = HasPlace (shape_in T) i × (IsEncapsulation T → ⊥) × (IsUnion (shape_in T) → count ≡ 0)
 IsWithin (Some order) i count T = IsEncapsulation T × (0 < i) × (i ≤ count)
 
--- a frame of a type of the table, that has the place; a union's has no count
+-- a frame of a type of the table, which has a part of that index; a union's has no count
 pub record IsKnown (C : Table) (f : Frame) : Type 0 where
   pub known : f.of.0 < length C.types
   pub within : IsWithin f.inside f.index f.count (tree C f.of.0)
@@ -64,7 +64,7 @@ HasOctetsLeft f = IfSome f.inside (λ order. f.index < f.count)
 abbrev pub HaveOctetsLeft : List Frame → Type 0
 HaveOctetsLeft frames = AllByRecursion HasOctetsLeft frames
 
--- an offset at which a frame can stand: its octets are in front of it
+-- an offset that a frame can be at: so many octets of an encapsulation are in front of it
 abbrev pub StandsAt : ℕ → Frame → Type 0
 StandsAt here f = IfSome f.inside (λ order. f.index ≤ here)
 
@@ -76,7 +76,7 @@ abbrev pub part_index : Option Order → ℕ → ℕ
 part_index None i = i
 part_index (Some order) i = 0
 
--- each frame names the part of the one before at its place: from the root to the innermost part
+-- each frame is of the part that the one before is at, from the root to the innermost part
 abbrev pub Link : Table → ℕ → List Frame → ℕ → Type 0
 Link C root [] inner = inner ≡ root
 Link C root (f ∷ frames) inner = (f.of.0 ≡ root) × Link C (part_number C root (part_index f.inside f.index)) frames inner
@@ -166,14 +166,14 @@ abbrev pub gone_to : Table → List Line → ℕ → List Frame → Leaf → Rea
 gone_to C lines at frames leaf =
     cond (has_ended frames) (Fault lines at kinds.EncapShort (cut_off leaf)) (Short lines at (open_parts C at frames) leaf)
 
--- what comes behind a part that has ended, at this offset
+-- the reading after a part has ended, at this offset, by the innermost part that comes next
 abbrev pub gone_on : Table → ℕ → List Frame → Option Innermost → Read
 gone_on C at outer None = Done [] at []
 gone_on C at outer (Some leaf) = gone_to C [] at outer (leaf_of C leaf [] [])
 
--- ---- turns
+-- ---- transitions
 
--- what the reading of an innermost part comes to by a turn, with these lines at this offset
+-- the reading of an innermost part after a transition, with these lines at this offset
 abbrev pub after_transition : Table → Ty → Transition → List ℕ → List ℕ → List Line → ℕ → Read
 after_transition C T (transitions.More leaf) carry piece lines at = Short lines at [] (leaf_of C leaf carry piece)
 after_transition C T transitions.Ended carry piece lines at = Done lines at []
@@ -203,7 +203,7 @@ pub record IsNumberOf (T : Ty) (number : Taken) : Type 0 where
   pub taken : interpreted_by scalar n ≡ Some number
   pub within : n < 256 ^ width scalar
 
--- the discriminator's step of a path
+-- the name of a union's discriminator, if it has one
 abbrev pub tag_in : Ty → Option (List ℕ)
 tag_in (Union choice scalar select names cases) = tag_of choice names
 tag_in T = None
@@ -226,19 +226,20 @@ IsOutput T path at (outputs.Ordered order) piece lines = lines ≡ line at path 
 IsOutput T path at (outputs.Piece offset more) piece lines =
     lines ≡ line at path (Piece T offset piece more) ∷ []
 
--- what is held of a piece behind that line: a piece that is said is let go
+-- what is held of a piece after that line: a piece that is written is no longer held
 abbrev pub still_held : Output → List ℕ → List ℕ
 still_held (outputs.Piece offset more) piece = []
 still_held output piece = piece
 
--- what can be written of a type: the kind of its line
+-- which outputs a type can have
 abbrev pub HasOutput : Ty → Output → Type 0
 HasOutput T (outputs.Number number) = IsNumberOf T number
 HasOutput T (outputs.Switch number) = IsUnion (shape_in T) × IsNumberOf (switch_of T) number
 HasOutput T (outputs.Piece offset more) = HasContent T
 HasOutput T output = Unit {0}
 
--- the innermost part comes to this, with this line, where these octets are held until it is said
+-- the reading is that after this transition, with the line of this output, where these octets are held until it is
+-- written
 pub record TransitionGives (C : Table) (T : Ty) (transition : Transition) (output : Output) (carry piece : List ℕ)
     (path : List PathSegment) (at : ℕ) (read : Read) : Type 0 where
   pub lines : List Line
@@ -250,12 +251,12 @@ abbrev pub over_by : Bool → Option Kind
 over_by true = Some kinds.Bound
 over_by false = None
 
--- octets held, which are all or wait for more
+-- octets held: all of a block, or a part of it
 abbrev pub block_of : Bool → List ℕ → ℕ → Block
 block_of true held at = Complete held at []
 block_of false held at = Partial held at
 
--- The octets of a number of this width stand whole at the head of others, behind its padding, where the first is at this
+-- The octets of a number of this width stand whole at the head of others, after its padding, where the first is at this
 -- offset modulo 8: all up to the last of them are held until that comes.
 pub record StandsWhole (width at : ℕ) (octets : List ℕ) (count : ℕ) (all : List ℕ) : Type 0 where
   pub some : 0 < count

@@ -1,4 +1,4 @@
-//! Whether the parts of a decoder that comes from octets fit a catalogue.
+//! Whether the parts of a decoder that is restored from octets fit a catalogue.
 
 ghost use Rattle.std.specs.Prelude.{◌≡◌, ◌↔◌, IsTrue, ℕ, ◌+◌, ◌-◌, ◌<◌, ◌≤◌, List, [], length};
 ghost use Rattle.giop_decode.specs.FrameChain.{HasFrame, HasPart, LeafFits, Chained, Chains, root_of};
@@ -44,7 +44,7 @@ fn root_of(frames: &[Frame], leaf: Leaf) -> TypeId
     }
 }
 
-/// Whether each frame is of the part of the one before at its place, from this type to the innermost part.
+/// Whether each frame is of the part that the one before is at, from this type to the innermost part.
 fn follow(catalogue: &Catalogue, of: TypeId, frames: &[Frame], leaf: Leaf) -> bool
     requires { of.0 < length catalogue.now.types }
     ensures { IsTrue result ↔ Chained catalogue.now of.0 frames.now leaf }
@@ -160,7 +160,8 @@ fn has_leading_number(catalogue: &Catalogue, of: TypeId) -> bool
     whole(catalogue, of).is_none()
 }
 
-/// Whether so many octets of a piece can be held, which begins there in the content, and which so many octets end.
+/// Whether so many octets can be held of a piece that begins at this offset of the content; `tail` octets stand behind
+/// the content.
 fn content_fits(total: u32, offset: u32, held: usize, tail: usize) -> bool
     requires { tail ≤ 1 }
     ensures { IsTrue result ↔ (offset ≤ total) × (32 < total - offset → held < 32)

@@ -18,8 +18,8 @@ use crate::progress::Kind;
 use arrayvec::ArrayVec;
 use giop_sig::{Catalogue, Shape, TypeId};
 
-/// Takes octets that leave the piece incomplete, where so much of a content is left from the piece's start, all that
-/// stand there together, and answers how many there were.
+/// Takes octets as long as they leave the piece incomplete, where so much of a content is left from the piece's start,
+/// and answers how many it took.
 pub(crate) fn gather_content(left: u32, octets: &[u8], piece: &mut ArrayVec<u8, 32>) -> usize
     ensures within { result ≤ length octets.now }
     ensures items { piece.new.items ≡ piece.old.items ++ take result octets.now }
@@ -98,7 +98,7 @@ pub(crate) fn take_content(
     }
 }
 
-/// Takes an octet of a content's last piece, behind which nothing stands.
+/// Takes an octet of the last piece of a content that has no zero behind it.
 #[inline(always)]
 fn take_last(
     catalogue: &Catalogue,
@@ -137,7 +137,7 @@ fn take_last(
     }
 }
 
-/// A content that goes on with nothing to say.
+/// A content that goes on, without a line.
 #[inline(always)]
 fn goes_on(of: TypeId, total: u32, offset: u32) -> Step
     ensures transition { result.transition ≡ Transition.More (Leaf.Content of total offset) }
@@ -149,7 +149,7 @@ fn goes_on(of: TypeId, total: u32, offset: u32) -> Step
     }
 }
 
-/// Lets go of the piece that is held, if it was said.
+/// Empties the piece that is held, if its line was written.
 #[inline(always)]
 pub(crate) fn let_go(output: Output, piece: &mut ArrayVec<u8, 32>)
     ensures { piece.new.items ≡ still_held output piece.old.items }

@@ -1,4 +1,4 @@
-//! Where the innermost part stands: the path of its lines, spelled from the frames and the catalogue.
+//! The path of the innermost part, which its lines show, spelled from the frames and the catalogue.
 
 ghost use Rattle.std.specs.Prelude.{◌≡◌, ℕ, ◌+◌, ◌<◌, ◌≤◌, [], ◌++◌, length};
 ghost use Rattle.giop_decode.specs.Spelling.{segment_text, path_text};
@@ -15,7 +15,7 @@ use giop_print::{Line, Path, Position, Root, put_root};
 use giop_sig::{Catalogue, Shape, TypeId};
 use std::marker::Model;
 
-/// Where the innermost part stands, or its discriminator.
+/// The path of the innermost part, or of its discriminator.
 #[derive(Drop)]
 pub(crate) struct CurrentPath<'a> {
     pub(crate) catalogue: &'a Catalogue,
@@ -130,7 +130,7 @@ fn spell_end(catalogue: &Catalogue, switch: Option<TypeId>, line: &mut Line)
     }
 }
 
-/// Spells the segment of a discriminator, which is called so or has a name of its own.
+/// Spells the segment of a discriminator: `switch`, or a name of its own.
 fn spell_switch(catalogue: &Catalogue, of: TypeId, line: &mut Line)
     requires known { of.0 < length catalogue.now.types }
     requires union { IsUnion (shape_in (tree catalogue.now of.0)) }
@@ -170,7 +170,7 @@ fn spell_index(line: &mut Line, index: u32)
     line.put(b'[');
 }
 
-/// Goes to the part that is being read.
+/// Adds the segment of the part that is being read.
 #[tactic(auto, using(crate::proofs::Segments::segment_laws))]
 fn push_segment(catalogue: &Catalogue, frame: Frame, path: &mut Path)
     requires known { IsKnown catalogue.now frame }
@@ -192,7 +192,7 @@ fn push_segment(catalogue: &Catalogue, frame: Frame, path: &mut Path)
     }
 }
 
-/// Goes to a discriminator, which is called so or has a name of its own.
+/// Adds the segment of a discriminator: `switch`, or a name of its own.
 fn push_switch(catalogue: &Catalogue, of: TypeId, path: &mut Path)
     requires known { of.0 < length catalogue.now.types }
     requires union { IsUnion (shape_in (tree catalogue.now of.0)) }
@@ -207,7 +207,7 @@ fn push_switch(catalogue: &Catalogue, of: TypeId, path: &mut Path)
     }
 }
 
-/// Goes to the innermost part.
+/// The path of the innermost part.
 fn go_to(catalogue: &Catalogue, root: Root, outer: &[Frame]) -> Path
     requires known { AreKnown catalogue.now outer.now }
     requires room { length outer.now ≤ 24 }

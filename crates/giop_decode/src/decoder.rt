@@ -30,7 +30,7 @@ use giop_cdr::{Carry, Order};
 use giop_print::{Out, OutFault, Root};
 use giop_sig::{Catalogue, TypeId};
 
-/// The parts of a value that are begun and not ended, and what was last heard of the value.
+/// The parts of a value that are begun and not ended, and what was last noted of the value.
 #[derive(Debug, Drop)]
 pub struct Decoder {
     pub(crate) order: Order,
@@ -49,7 +49,7 @@ pub struct Decoder {
 }
 
 impl Decoder {
-    /// Begins to read a value of a type, whose first octet stands at this offset of its message.
+    /// Begins to read a value of a type, whose first octet is at this offset of its message.
     pub fn start(
         catalogue: &Catalogue,
         of: TypeId,
@@ -84,8 +84,8 @@ impl Decoder {
         decoder
     }
 
-    /// Takes an octet of the value, and writes what it gives to say: a run of one. A decoder that is done or faulted takes no
-    /// more.
+    /// Takes an octet of the value, and writes the line that it completes, if any: a run of one. A decoder that is done
+    /// or faulted takes no more.
     pub fn take<O: Out>(
         &mut self,
         catalogue: &Catalogue,
@@ -140,7 +140,7 @@ impl Decoder {
         self.notes.name()
     }
 
-    /// Goes on from what the innermost part, of this type, has come to.
+    /// Does a transition of the innermost part, of this type, and goes on in the parts around it.
     #[inline(always)]
     fn advance_frames(&mut self, catalogue: &Catalogue, of: TypeId, transition: Transition)
         requires known { of.0 < length catalogue.now.types }
@@ -169,7 +169,7 @@ impl Decoder {
             ≡ transition_in_string (tree catalogue.now of.0) transition }
         ensures stand { (at : ℕ) → 0 < at → StandAt at self.old.outer.items →
             StandAt at self.new.outer.items }
-        ensures settles { (coding : Coding) (path : List PathSegment) (at : ℕ) (lines : List Line) →
+        ensures advances { (coding : Coding) (path : List PathSegment) (at : ℕ) (lines : List Line) →
             around coding path (open_parts catalogue.now at self.old.outer.items)
             (after_transition catalogue.now (tree catalogue.now of.0) transition
             self.old.carry self.old.piece.items lines at)
@@ -224,8 +224,8 @@ impl Decoder {
         }
     }
 
-    /// Does one step: what the innermost part gives to say is said and heard, and then the parts around it go on. It is
-    /// kept out of line, so that few instructions stand in the loops over octets.
+    /// Does one step: the output of the innermost part is written and noted, and then the parts around it go on. It is
+    /// never inlined, so that the loops over octets have few instructions.
     #[inline(never)]
     pub(crate) fn advance<O: Out>(
         &mut self,
@@ -268,8 +268,8 @@ impl Decoder {
         Ok(progress)
     }
 
-    /// Says and hears what the innermost part, of this type, gives to say by an octet, and goes on from what it has come
-    /// to. A piece that is said has the octets that are held, and these. A number may be known as a primitive's.
+    /// Writes and notes the output of an octet of the innermost part, of this type, and does its transition. A piece
+    /// that is written has the octets that are held, and the rest. A number may be known as a primitive's.
     #[inline(always)]
     pub(crate) fn emit<O: Out>(
         &mut self,
@@ -310,7 +310,7 @@ impl Decoder {
             ≡ transition_in_string (tree catalogue.now of.0) step.transition) }
         ensures id { OnOk result (is_header_root self.old.root ≡ false →
             self.new.notes.request_id ≡ self.old.notes.request_id) }
-        ensures hears { OnOk result ((h : Noted) (here at : ℕ) (lines : List Line) → HoldsNoted self.old.notes h →
+        ensures notes { OnOk result ((h : Noted) (here at : ℕ) (lines : List Line) → HoldsNoted self.old.notes h →
             IsOutput (tree catalogue.now of.0)
             (path_in [] (open_parts catalogue.now here self.old.outer.items))
             at step.output (self.old.piece.items ++ rest.now) lines →

@@ -22,7 +22,7 @@ use giop_sig::{Catalogue, Shape, TypeId};
 pub(crate) struct Frame {
     /// The part's type.
     pub(crate) of: TypeId,
-    /// The place of the part in it: of a member, an element or a case. Of an encapsulation, how many of its octets were
+    /// The index of that part: of a member, an element or a case. Of an encapsulation, how many of its octets were
     /// taken, so that its numbers are aligned by this.
     pub(crate) index: u32,
     /// How many members or elements it has; 0 for a union. Of an encapsulation, how many octets.
@@ -42,7 +42,7 @@ impl Default for Frame {
     }
 }
 
-/// Whether some part is an encapsulation, where this says whether one was before parts had ended.
+/// Whether some part is an encapsulation; `was` is whether one was before parts ended.
 pub(crate) fn is_inside(was: bool, outer: &[Frame]) -> bool
     requires { was ≡ false → is_inside outer.now ≡ false }
     ensures { result ≡ is_inside outer.now }
@@ -171,7 +171,8 @@ fn is_at_end(frame: Frame) -> bool
     }
 }
 
-/// How the octets of the innermost part are taken: the byte order, and the offset, modulo 8, that is aligned.
+/// How the octets of the innermost part are taken: the byte order, and the offset, modulo 8, by which numbers are
+/// aligned.
 pub(crate) fn coding(inside: bool, order: Order, at: u8, outer: &[Frame]) -> (Order, u8)
     requires { inside ≡ is_inside outer.now }
     ensures { result ≡ coding_by order at outer.now }
@@ -186,7 +187,7 @@ pub(crate) fn coding(inside: bool, order: Order, at: u8, outer: &[Frame]) -> (Or
     coding
 }
 
-/// How octets are taken in a part, of what holds around it.
+/// How octets are taken in a part, from how they are taken around it.
 fn coding_at(coding: (Order, u8), frame: Frame) -> (Order, u8)
     ensures { result ≡ coding_of coding frame.inside frame.index }
 {
@@ -268,7 +269,7 @@ pub(crate) fn begin(catalogue: &Catalogue, outer: &mut ArrayVec<Frame, 24>, t: T
     inner
 }
 
-/// Goes on behind a part that has ended, and answers the innermost part that comes next, the rest of an encapsulation or
+/// Goes on after a part that has ended, and answers the innermost part that comes next, the rest of an encapsulation or
 /// the next number, or None where the whole has ended.
 #[inline(always)]
 pub(crate) fn go_on(catalogue: &Catalogue, outer: &mut ArrayVec<Frame, 24>) -> Option<Leaf>

@@ -1,4 +1,4 @@
-//! The laws of reading: what one octet more, or many, do to the reading of a list, and what a reading leaves in mind.
+//! The laws of reading: what one octet more, or many, do to the reading of a list, and what is noted of a reading.
 
 ghost use Rattle.std.specs.Prelude.{◌≡◌, ℕ, ◌+◌, Bool, List, [], ◌∷◌, ◌++◌, length, flat_map};
 ghost use Rattle.giop_sig.specs.Types.{Ty};
@@ -11,8 +11,8 @@ ghost use Rattle.giop_decode.specs.Fits.{FitsIn, Sound, Surrounds};
 ghost use Rattle.giop_decode.specs.Noted.{noted_of};
 ghost use Rattle.giop_decode.specs.NotedFromLines.{TextPiece, pieces_of, AreUnended, IsLeft};
 
-/// The reading of a list is told by the parts that the reading of a front of it has begun and not ended. It has no body,
-/// and is called for its contract.
+/// The reading of a list follows from the parts that the reading of a front of it has begun and not ended, and the
+/// octets behind that front. It has no body, and is called for its contract.
 pub fn reading_laws()
     // One octet more is one step on those parts.
     ensures step { (coding : Coding) (path : List PathSegment) (T : Ty) (at : ℕ) (s : List ℕ) (b : ℕ) →
@@ -24,12 +24,12 @@ pub fn reading_laws()
     ensures lines { (coding : Coding) (path : List PathSegment) (T : Ty) (at : ℕ) (s t : List ℕ) →
         (more : List Line)
         × (lines_of (read coding path T at (s ++ t)) ≡ lines_of (read coding path T at s) ++ more) }
-    // A step has at most one line, which stands at its octet, and none where that breaks a rule of its own value; an octet
-    // that only ends an encapsulation too soon has the line of what it completes.
+    // A step has at most one line, which stands at its octet, and none where that breaks a rule of its own value; an
+    // octet that only ends an encapsulation too soon has the line of what it completes.
     ensures prompt { (coding : Coding) (path : List PathSegment) (outer : List OpenPart) (leaf : Leaf)
         (at b : ℕ) →
         IsOctetResult (at + 1) (step coding path outer leaf at b) }
-    // Where each part takes some octet, the parts begun before the first octet are those that stand first in their wholes.
+    // Where each part takes some octet, the parts begun before the first octet are the first ones of their wholes.
     ensures begins { (d : ℕ) (coding : Coding) (path : List PathSegment) (T : Ty) (at : ℕ) → IsFit d T →
         read coding path T at [] ≡ Short [] at (start_outer T) (start_leaf T) }
     // The parts begun and not ended fit in the type, each in the one before, and no encapsulation among them has ended,
@@ -43,8 +43,8 @@ pub fn reading_laws()
         Sound T (at + 1) (step coding path outer leaf at b) }
 {}
 
-/// What a reading leaves in mind is what its lines say last: of the values at the request id of a header, of the enums, and
-/// of the strings that are whole. It has no body, and is called for its contract.
+/// What is noted of a reading follows from its lines: the first request id of a header, the last of the enums, and the
+/// last of the strings that are whole. It has no body, and is called for its contract.
 pub fn noting_laws()
     ensures left { (is_header : Bool) (coding : Coding) (path : List PathSegment) (T : Ty) (at : ℕ)
         (s : List ℕ) →

@@ -50,8 +50,8 @@ fn switch_width(catalogue: &Catalogue, t: TypeId) -> u8
     }
 }
 
-/// How many octets of padding stand in front of a number of this width. Each width has an arm of its own, so that none waits
-/// for a division.
+/// How many octets of padding stand in front of a number of this width. Each width has an arm of its own, so that none
+/// waits for a division.
 #[inline(always)]
 pub(crate) fn padding_at(at: u8, width: u8) -> u8
     requires { IsAlignment width }
@@ -67,7 +67,8 @@ pub(crate) fn padding_at(at: u8, width: u8) -> u8
     }
 }
 
-/// Takes an octet of the padding before a number, or one that leaves the number incomplete, and answers whether it was one.
+/// Takes an octet of the padding before a number, or one that leaves the number incomplete, and answers whether it was
+/// such an octet.
 #[inline(always)]
 #[tactic(auto, using(crate::proofs::Padding::number_laws))]
 fn hold_number(carry: &mut Carry, at: u8, width: u8, octet: u8) -> bool
@@ -89,8 +90,8 @@ fn hold_number(carry: &mut Carry, at: u8, width: u8, octet: u8) -> bool
     false
 }
 
-/// Takes octets of the padding before a number, and octets that leave the number incomplete, all that stand there
-/// together, and answers how many there were.
+/// Takes octets of the padding before a number, and octets as long as they leave the number incomplete, and answers how
+/// many it took.
 #[inline]
 pub(crate) fn gather_number(carry: &mut Carry, at: u8, width: u8, octets: &[u8]) -> usize
     requires width { IsAlignment width }
@@ -106,7 +107,7 @@ pub(crate) fn gather_number(carry: &mut Carry, at: u8, width: u8, octets: &[u8])
     padding + hold_some(carry, width, &octets[padding..])
 }
 
-/// Holds octets that leave the number incomplete, all that stand there together, and answers how many there were.
+/// Holds octets as long as they leave the number incomplete, and answers how many it took.
 #[inline]
 fn hold_some(carry: &mut Carry, width: u8, octets: &[u8]) -> usize
     requires width { IsAlignment width }
@@ -140,7 +141,7 @@ pub(crate) fn take_number(carry: &mut Carry, at: u8, width: u8, octet: u8) -> bo
     true
 }
 
-/// Goes on behind the number that begins a type, of these octets.
+/// Goes on after the number that begins a type, which has these octets.
 #[inline(always)]
 pub(crate) fn take_value(catalogue: &Catalogue, order: Order, of: TypeId, octets: &[u8]) -> Step
     requires known { of.0 < length catalogue.now.types }
@@ -183,7 +184,7 @@ pub(crate) fn take_value(catalogue: &Catalogue, order: Order, of: TypeId, octets
     }
 }
 
-/// Goes on behind the number of a union's discriminator, of these octets.
+/// Goes on after the number of a union's discriminator, which has these octets.
 #[inline(always)]
 fn take_switch(catalogue: &Catalogue, order: Order, of: TypeId, octets: &[u8]) -> Step
     requires known { of.0 < length catalogue.now.types }
@@ -213,7 +214,7 @@ fn take_switch(catalogue: &Catalogue, order: Order, of: TypeId, octets: &[u8]) -
     }
 }
 
-/// Goes on behind the number of a union's discriminator, which is this value.
+/// Goes on after the number of a union's discriminator, which is this value.
 #[inline(always)]
 fn take_selected(catalogue: &Catalogue, of: TypeId, number: Number) -> Step
     requires known { of.0 < length catalogue.now.types }
@@ -241,7 +242,7 @@ fn take_selected(catalogue: &Catalogue, of: TypeId, number: Number) -> Step
     }
 }
 
-/// Goes on behind the length of a string.
+/// Goes on after the length of a string.
 #[inline(always)]
 fn take_length(catalogue: &Catalogue, of: TypeId, bound: Option<u32>, n: u32) -> Step
     requires { tree catalogue.now of.0 ≡ Text bound }
@@ -275,7 +276,7 @@ fn take_length(catalogue: &Catalogue, of: TypeId, bound: Option<u32>, n: u32) ->
     }
 }
 
-/// Goes on behind the length of an octet sequence.
+/// Goes on after the length of an octet sequence.
 #[inline(always)]
 fn take_size(catalogue: &Catalogue, of: TypeId, bound: Option<u32>, n: u32) -> Step
     requires { tree catalogue.now of.0 ≡ Octets bound }
@@ -306,7 +307,7 @@ fn take_size(catalogue: &Catalogue, of: TypeId, bound: Option<u32>, n: u32) -> S
     }
 }
 
-/// Goes on behind the count of a sequence.
+/// Goes on after the count of a sequence.
 #[inline(always)]
 fn take_count(catalogue: &Catalogue, of: TypeId, bound: Option<u32>, n: u32) -> Step
     requires is { (E : Ty) × (tree catalogue.now of.0 ≡ Sequence bound E) }

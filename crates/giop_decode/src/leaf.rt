@@ -1,4 +1,4 @@
-//! The innermost part that is begun and not ended, and what an octet turns it into.
+//! The innermost part that is begun and not ended, and the transition and the output of one octet of it.
 
 ghost use Rattle.std.specs.Prelude.{◌≡◌, ℕ, ◌+◌, ◌-◌, ◌%◌, ◌<◌, List, [], length};
 ghost use Rattle.giop_decode.specs.ReadResult.{Coding, PathSegment};
@@ -17,7 +17,7 @@ use arrayvec::ArrayVec;
 use giop_cdr::{Carry, Number, Order};
 use giop_sig::{Catalogue, TypeId};
 
-/// The innermost part: the number that begins it, or its content, in which the piece on its way begins at an offset.
+/// The innermost part: the number that begins it, or its content, in which the unfinished piece begins at an offset.
 #[derive(Clone, Copy, Debug, PartialEq, Eq)]
 pub(crate) enum Leaf {
     /// The number that begins a value of this type.
@@ -53,7 +53,7 @@ impl Leaf {
     }
 }
 
-/// What the innermost part has come to.
+/// What follows an octet of the innermost part.
 #[derive(Clone, Copy, Debug, PartialEq, Eq)]
 pub(crate) enum Transition {
     /// It goes on.
@@ -62,7 +62,7 @@ pub(crate) enum Transition {
     Ended,
     /// So many elements follow, at least one.
     Opened(u32),
-    /// The case at this place follows.
+    /// The case of this number follows.
     Selected(u32),
     /// The value in an encapsulation of so many octets follows, in this byte order.
     Entered(Order, u32),
@@ -70,12 +70,12 @@ pub(crate) enum Transition {
     Refused(Kind),
 }
 
-/// What an octet gives to say.
+/// What an octet puts out: nothing, or that of which a line is written.
 #[derive(Clone, Copy, Debug, PartialEq, Eq)]
 pub(crate) enum Output {
     /// Nothing.
     Nothing,
-    /// Nothing either: the length of a string has come, or was too great.
+    /// Nothing either, but the last name is cleared: the length of a string has come, or was too great.
     Length,
     /// The value of a type of one number.
     Number(Number),
@@ -87,7 +87,7 @@ pub(crate) enum Output {
     Size(u32),
     /// The byte order of an encapsulation.
     Ordered(Order),
-    /// A piece of a content: what is held of it, which is let go once the piece is said, and the octets ahead that end it.
+    /// A piece of a content: what is held of it, up to when its line is written, and the octets ahead that end it.
     Piece {
         /// Where it begins in the content.
         offset: u32,
@@ -96,14 +96,14 @@ pub(crate) enum Output {
     },
 }
 
-/// What an octet does.
+/// What an octet does: its transition and its output.
 #[derive(Clone, Copy, Debug)]
 pub(crate) struct Step {
     pub(crate) transition: Transition,
     pub(crate) output: Output,
 }
 
-/// An octet that breaks a rule.
+/// The step of an octet that breaks a rule.
 #[inline(always)]
 pub(crate) fn refused(kind: Kind) -> Step
     ensures transition { result.transition ≡ Transition.Refused kind }

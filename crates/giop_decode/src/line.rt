@@ -1,4 +1,4 @@
-//! The lines of a value: where it stands, and what is said of it.
+//! The lines of a value: its path, and its number, count or piece.
 
 ghost use Rattle.std.specs.Prelude.{ℕ, ◌+◌, ◌<◌, ◌≤◌, List, [], ◌++◌, length};
 ghost use Rattle.giop_decode.specs.ReadResult.{Line};
@@ -101,8 +101,8 @@ fn octets_line<O: Out>(
     }
 }
 
-/// Says what an octet of an innermost part of this type gives to say, where a piece has the octets that are held
-/// and the rest.
+/// Writes the output of an octet of an innermost part of this type, where a piece has the octets that are held and the
+/// rest.
 #[inline(always)]
 pub(crate) fn write_line<O: Out>(
     catalogue: &Catalogue,

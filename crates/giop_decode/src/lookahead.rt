@@ -1,4 +1,4 @@
-//! What the octets ahead give together: a number that stands whole in them, or the rest of a piece.
+//! Octets ahead that are taken together: those of a number that is whole in them, or of the rest of a piece.
 
 ghost use Rattle.std.specs.Prelude.{◌≡◌, ◌-◌, ◌<◌, ◌≤◌, false, length, Some, IfSome};
 ghost use Rattle.giop_cdr.specs.Alignment.{IsAlignment};
@@ -26,13 +26,13 @@ pub(crate) struct Lookahead<'a> {
     pub(crate) count: usize,
     /// What the last of them does.
     pub(crate) step: Step,
-    /// Those of them that belong to the piece that is said, behind the ones that are held.
+    /// Those of them that belong to the piece that is written, after the ones that are held.
     pub(crate) rest: &'a [u8],
 }
 
 impl Decoder {
-    /// The number of a primitive that comes next, where it stands whole at the head of these octets, in no encapsulation, and
-    /// none of it is held.
+    /// The number of a primitive that comes next, where it stands whole at the head of these octets, in no
+    /// encapsulation, and none of it is held.
     #[inline(always)]
     pub(crate) fn number_ahead<'a>(
         &self,
@@ -95,7 +95,7 @@ impl Decoder {
         }
     }
 
-    /// The rest of the piece that is on its way, where it stands whole at the head of these octets, with the zero that ends it
+    /// The rest of the unfinished piece, where it stands whole at the head of these octets, with the zero that ends it
     /// where it is a string's last, in no encapsulation.
     #[inline(always)]
     pub(crate) fn piece_ahead<'a>(
@@ -190,7 +190,7 @@ impl Decoder {
         }
     }
 
-    /// The rest of the last piece of a content behind which nothing stands.
+    /// The rest of the last piece of a content that has no zero behind it.
     #[inline(always)]
     fn bare_ahead<'a>(
         &self,
@@ -216,7 +216,7 @@ impl Decoder {
         Some(last(of, size, offset, &octets[..size]))
     }
 
-    /// How many octets of its content a piece has to come, where none but these are left of it.
+    /// How many octets are still to come of the last piece of a content.
     #[inline]
     fn left_of(&self, total: u32, offset: u32) -> usize
         ensures { result ≡ total - offset - length self.now.piece.items }
@@ -225,7 +225,7 @@ impl Decoder {
     }
 }
 
-/// The rest of the last piece of a content, which it ends.
+/// The rest of the last piece of a content, which ends the content.
 #[inline(always)]
 fn last(of: TypeId, count: usize, offset: u32, rest: &[u8]) -> Lookahead<'_>
     ensures of { result.of ≡ of }
@@ -248,8 +248,8 @@ fn last(of: TypeId, count: usize, offset: u32, rest: &[u8]) -> Lookahead<'_>
     }
 }
 
-/// The number of a type, where that is a primitive and stands whole at the head of these octets, the first of which is at this
-/// offset modulo 8, and how many octets it takes with its padding.
+/// The number of a type, where that is a primitive and stands whole at the head of these octets, the first of which is
+/// at this offset modulo 8, and how many octets it takes with its padding.
 #[inline(always)]
 pub(crate) fn whole_number(
     catalogue: &Catalogue,
@@ -300,8 +300,8 @@ fn wide_number(
     }
 }
 
-/// The octets of a number of this width, where they stand whole at the head of these, the first of which is at this offset
-/// modulo 8, and how many they are with its padding.
+/// The octets of a number of this width, where they stand whole at the head of these, the first of which is at this
+/// offset modulo 8, and how many they are with its padding.
 #[inline(always)]
 pub(crate) fn whole_octets(width: u8, at: u8, octets: &[u8]) -> Option<(usize, &[u8])>
     requires aligned { IsAlignment width }

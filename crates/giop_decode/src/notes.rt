@@ -1,4 +1,4 @@
-//! What was last heard of a value: a header's request id, an enum's number, and the last string as a name.
+//! What was last noted of a value: a header's request id, an enum's number, and the last string as a name.
 
 ghost use Rattle.std.specs.Prelude.{◌≡◌, ℕ, ◌<◌, ◌&&◌, IsTrue, true, false, List, [], ◌++◌, length};
 ghost use Rattle.std.specs.Option.{option_map};
@@ -29,10 +29,10 @@ pub(crate) enum Buffer {
     TooLong,
 }
 
-/// What was last heard.
+/// What was last noted.
 #[derive(Debug, Drop)]
 pub(crate) struct Notes {
-    // The first that was said.
+    // The first that was read.
     pub(crate) request_id: Option<u32>,
     pub(crate) status: Option<u32>,
     pub(crate) name: ArrayVec<u8, 128>,
@@ -40,7 +40,7 @@ pub(crate) struct Notes {
 }
 
 impl Notes {
-    /// Nothing heard.
+    /// Nothing noted.
     pub(crate) fn new() -> Notes
         ensures { HoldsNoted result nothing_noted }
     {
@@ -78,10 +78,10 @@ impl Notes {
         }
     }
 
-    /// Lets go of the last name: the length of a string has come.
+    /// Clears the last name: the length of a string has come.
     #[inline(always)]
     fn forget(&mut self)
-        ensures hears { (h : Noted) → HoldsNoted self.old h → HoldsNoted self.new (without_name_if true h) }
+        ensures notes { (h : Noted) → HoldsNoted self.old h → HoldsNoted self.new (without_name_if true h) }
         ensures id { self.new.request_id ≡ self.old.request_id }
         ensures begun { self.new.buffer ≡ Buffer.Whole → ⊥ }
     {
@@ -95,11 +95,11 @@ impl Notes {
         }
     }
 
-    /// Hears octets of a string whose end is to come, where no name stands.
+    /// Notes octets of a string whose end is to come, where the buffer has no whole name.
     #[inline(always)]
     fn extend(&mut self, octets: &[u8])
         requires { self.old.buffer ≡ Buffer.Whole → ⊥ }
-        ensures hears { (h : Noted) → HoldsNoted self.old h →
+        ensures notes { (h : Noted) → HoldsNoted self.old h →
             HoldsNoted self.new (with_piece h octets.now) }
         ensures id { self.new.request_id ≡ self.old.request_id }
         ensures begun { self.new.buffer ≡ Buffer.Whole → ⊥ }
@@ -116,11 +116,11 @@ impl Notes {
         }
     }
 
-    /// Hears that a string has ended.
+    /// Notes that a string has ended.
     #[inline(always)]
     fn end(&mut self)
         requires { self.old.buffer ≡ Buffer.Whole → ⊥ }
-        ensures hears { (h : Noted) → HoldsNoted self.old h → HoldsNoted self.new (ended h) }
+        ensures notes { (h : Noted) → HoldsNoted self.old h → HoldsNoted self.new (ended h) }
         ensures id { self.new.request_id ≡ self.old.request_id }
     {
         match self.buffer {
@@ -130,10 +130,10 @@ impl Notes {
         }
     }
 
-    /// Hears a piece of a string, which may be its last: the octets that were held, mostly none, and the rest.
+    /// Notes a piece of a string, which may be its last: the octets that were held, mostly none, and the rest.
     #[inline(always)]
     fn note_piece(&mut self, held: &[u8], rest: &[u8], more: bool)
-        ensures hears { (h : Noted) → HoldsNoted self.old h →
+        ensures notes { (h : Noted) → HoldsNoted self.old h →
             HoldsNoted self.new (noted_piece h (held.now ++ rest.now) more) }
         ensures id { self.new.request_id ≡ self.old.request_id }
     {
@@ -147,12 +147,12 @@ impl Notes {
         }
     }
 
-    /// Hears the number of a type, which is that of a request id or isn't.
+    /// Notes the number of a type, which is that of a request id or isn't.
     #[inline(always)]
     fn note_number(&mut self, catalogue: &Catalogue, t: TypeId, number: Number, is_id: bool)
         requires known { t.0 < length catalogue.now.types }
         requires number { IsNumberOf (tree catalogue.now t.0) number }
-        ensures hears { (h : Noted) (is : IsNumberOf (tree catalogue.now t.0) number) →
+        ensures notes { (h : Noted) (is : IsNumberOf (tree catalogue.now t.0) number) →
             HoldsNoted self.old h →
             HoldsNoted self.new (note_value is_id h (spines.Number is.scalar is.n)) }
         ensures id { is_id ≡ false → self.new.request_id ≡ self.old.request_id }
@@ -171,8 +171,8 @@ impl Notes {
         }
     }
 
-    /// Hears what an octet gives to say of an innermost part of this type, and answers whether that ends the operation of
-    /// a Request's header. Below any other root nothing is heard of a primitive, as which this may be known.
+    /// Notes the output of an octet of an innermost part of this type, and answers whether that ends the operation of a
+    /// Request's header. Below any other root nothing is noted of a primitive, as which this may be known.
     #[inline(always)]
     pub(crate) fn note(
         &mut self,
@@ -190,7 +190,7 @@ impl Notes {
         requires has_output { HasOutput (tree catalogue.now of.0) output }
         requires plain { IsTrue is_plain → IsPlain (tree catalogue.now of.0) output }
         ensures id { is_header_root root ≡ false → self.new.request_id ≡ self.old.request_id }
-        ensures hears { (h : Noted) (here at : ℕ) (lines : List Line) → HoldsNoted self.old h →
+        ensures notes { (h : Noted) (here at : ℕ) (lines : List Line) → HoldsNoted self.old h →
             IsOutput (tree catalogue.now of.0) (path_in [] (open_parts catalogue.now here outer.now))
             at output (held.now ++ rest.now) lines →
             HoldsNoted self.new (without_name_if (clears_name output) (noted (is_header_root root) h lines)) }

@@ -1,5 +1,5 @@
-//! A decoder from the octets that were stored of one. Octets that no decoder stores are read as any; what was read is stored
-//! anew and compared.
+//! A decoder from the octets that were stored of one. They are read without a check of each; the decoder is then stored
+//! anew, and the octets are compared.
 
 ghost use Rattle.std.specs.Prelude.{◌≡◌, ◌↔◌, IsTrue, ℕ, ◌+◌, ◌<◌, ◌≤◌, List, [], ◌∷◌, ◌++◌, length, drop, Option, Some, IfSome, IsSome};
 ghost use Rattle.std.specs.List.{AllByRecursion};
@@ -27,8 +27,8 @@ use giop_print::Root;
 use giop_sig::{Catalogue, TypeId};
 
 impl Decoder {
-    /// The decoder that was stored in these octets: its own, and those of its frames. None where no decoder that fits the
-    /// catalogue is stored so.
+    /// The decoder that was stored in these octets: its own, and those of its frames. None where no decoder that fits
+    /// the catalogue is stored so.
     pub fn restore(catalogue: &Catalogue, fixed: &[u8; 208], frames: &[u8]) -> Option<Decoder>
         ensures fits { IfSome result (λ d. Fits catalogue.now d) }
         ensures stored { IfSome result (λ d. Stored d fixed.now frames.now) }
@@ -76,7 +76,7 @@ fn same(octets: &[u8], others: &[u8]) -> bool
     octets == others
 }
 
-/// What octets say of a decoder.
+/// The decoder that octets stand for, unchecked.
 fn parsed(fixed: &[u8; 208], frames: &[u8]) -> Decoder
     ensures { (d : State) → Stored d fixed.now frames.now → IsRestored d result }
 {
@@ -98,7 +98,7 @@ fn parsed(fixed: &[u8; 208], frames: &[u8]) -> Decoder
     }
 }
 
-/// The byte order that stands there.
+/// The byte order that is stored at this index.
 fn order_at(octets: &[u8], at: usize) -> Order
     requires room { at < length octets.now }
     ensures { (order : ByteOrder) (rest : List ℕ) → drop at octets.now ≡ order_octet order ∷ rest →
@@ -110,7 +110,7 @@ fn order_at(octets: &[u8], at: usize) -> Order
     }
 }
 
-/// The root that stands there.
+/// The root that is stored at this index.
 fn root_at(octets: &[u8], at: usize) -> Root
     requires room { at < length octets.now }
     ensures { (root : PathRoot) (rest : List ℕ) → drop at octets.now ≡ root_octet root ∷ rest →
@@ -123,7 +123,7 @@ fn root_at(octets: &[u8], at: usize) -> Root
     }
 }
 
-/// The innermost part that stands there.
+/// The innermost part that is stored at this index.
 fn leaf_at(octets: &[u8], at: usize) -> Leaf
     requires room { at + 13 ≤ length octets.now }
     ensures { (leaf : Innermost) (rest : List ℕ) → LeafHasRange leaf →
@@ -157,7 +157,7 @@ fn carried(octets: &[u8]) -> Carry
     carry
 }
 
-/// What was last heard, as it stands there.
+/// The notes that are stored at this index.
 fn notes_at(octets: &[u8], at: usize) -> Notes
     requires room { at + 140 ≤ length octets.now }
     ensures { (notes : MemoryState) (rest : List ℕ) → NotesHaveRange notes →
@@ -171,7 +171,7 @@ fn notes_at(octets: &[u8], at: usize) -> Notes
     }
 }
 
-/// What the name buffer has, as it stands there.
+/// The state of the name buffer that is stored at this index.
 fn buffer_at(octets: &[u8], at: usize) -> Buffer
     requires room { at < length octets.now }
     ensures { (buffer : BufferState) (rest : List ℕ) →
@@ -185,7 +185,7 @@ fn buffer_at(octets: &[u8], at: usize) -> Buffer
     }
 }
 
-/// The frames that stand in octets, but for the last, which is the innermost part's.
+/// The frames that are stored in octets, but for the last, which is the innermost part's.
 fn outer_at(octets: &[u8]) -> ArrayVec<Frame, 24>
     ensures { (frames : List FrameState) (own : FrameState) → AllByRecursion FrameHasRange frames →
         length frames < 24 → octets.now ≡ frames_octets (frames ++ own ∷ []) →
@@ -201,7 +201,7 @@ fn outer_at(octets: &[u8]) -> ArrayVec<Frame, 24>
     outer
 }
 
-/// The frame that stands at the front of octets.
+/// The frame that is stored at the front of octets.
 fn frame_at(octets: &[u8]) -> Frame
     requires { frame_size ≤ length octets.now }
     ensures { (frame : FrameState) (rest : List ℕ) → FrameHasRange frame →
@@ -215,7 +215,7 @@ fn frame_at(octets: &[u8]) -> Frame
     }
 }
 
-/// The byte order of an encapsulation that stands there, or none.
+/// The byte order of an encapsulation that is stored at this index, or none.
 fn inside_at(octets: &[u8], at: usize) -> Option<Order>
     requires room { at < length octets.now }
     ensures { (inside : Option ByteOrder) (rest : List ℕ) →

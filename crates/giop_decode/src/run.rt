@@ -1,4 +1,4 @@
-//! Octets taken together: a run of them, up to the one behind which its caller has something to do.
+//! A run of octets, taken up to the one at which an operation or the value ends, or a rule is broken.
 
 ghost use Rattle.std.specs.Prelude.{◌≡◌, ℕ, ◌+◌, ◌%◌, ◌^◌, ◌<◌, ◌≤◌, List, length, take, IfOk, IsTrue};
 ghost use Rattle.giop_cdr.specs.declared.order.Order.{Order as ByteOrder};
@@ -20,9 +20,9 @@ use giop_print::{Out, OutFault};
 use giop_sig::Catalogue;
 
 impl Decoder {
-    /// Takes octets of the value, and writes what they give to say: all of them, or as many as there are up to one that
-    /// ends an operation or the value, or breaks a rule. Answers how many it took, and what the last of them came to;
-    /// no octets leave the value as it is. A decoder that is done or faulted takes no more.
+    /// Takes octets of the value, and writes their lines: all of them, or as many as there are up to one that ends an
+    /// operation or the value, or breaks a rule. Answers how many it took, and the answer to the last of them; no
+    /// octets leave the value as it is. A decoder that is done or faulted takes no more.
     pub fn take_run<O: Out>(
         &mut self,
         catalogue: &Catalogue,
@@ -57,8 +57,8 @@ impl Decoder {
         Ok((taken, Progress::More))
     }
 
-    /// Takes some of the octets, of which there is one: a number that stands whole at their head, or those that only add to
-    /// what is held together, and one more.
+    /// Takes some of the octets, of which there is at least one: a number or the rest of a piece that stands whole at
+    /// their head, or those that only add to what is held, and one more.
     #[inline(never)]
     fn take_some<O: Out>(
         &mut self,
@@ -99,7 +99,7 @@ impl Decoder {
         Ok((gathered + 1, progress))
     }
 
-    /// Takes octets ahead that belong together, perhaps known as a primitive, and writes what they give to say.
+    /// Takes octets ahead that belong together, perhaps known as a primitive, and writes their line.
     #[inline(always)]
     fn take_ahead<O: Out>(
         &mut self,
@@ -134,8 +134,8 @@ impl Decoder {
         Ok((ahead.count, progress))
     }
 
-    /// Takes the octets that only add to what is held, all that stand there together before the last one of an
-    /// encapsulation, and answers how many there were.
+    /// Takes octets as long as they only add to what is held, up to before the last one of an encapsulation, and
+    /// answers how many it took.
     #[inline(always)]
     fn gather(&mut self, catalogue: &Catalogue, octets: &[u8]) -> usize
         requires { Fits catalogue.now self.old }
@@ -168,7 +168,7 @@ impl Decoder {
     }
 }
 
-/// The offset behind so many octets more, modulo 8.
+/// The offset after so many octets more, modulo 8.
 #[inline]
 fn further(at: u8, count: usize) -> u8
     requires { count < 2 ^ 63 }

@@ -1,4 +1,4 @@
-//! What a checkpoint keeps of a decoder that goes on, as octets.
+//! What a checkpoint keeps of a decoder that goes on, written as octets.
 
 ghost use Rattle.std.specs.Prelude.{◌≡◌, ◌+◌, ◌*◌, ◌<◌, ◌≤◌, [], ◌∷◌, ◌++◌, length, take, drop};
 ghost use Rattle.std.specs.List.{AllByRecursion};
@@ -21,13 +21,14 @@ use giop_print::Root;
 pub(crate) const FRAME_SIZE: usize = 24;
 
 impl Decoder {
-    /// Writes what is kept of a decoder that goes on: its own octets and those of its frames, of which it answers the number.
+    /// Writes what is kept of a decoder that goes on: its own octets and those of its frames, of which it answers the
+    /// number.
     pub fn store(&self, fixed: &mut [u8; 208], frames: &mut [u8; 576]) -> u8
         ensures few { result ≤ 24 }
         ensures depth { (C : Table) → Fits C self.now → result ≤ depth_of C.types }
         ensures stored { (C : Table) → Fits C self.now →
             Stored self.now fixed.new (take (frame_size * result) frames.new) }
-        // The octets behind them are as they were.
+        // The octets after them are unchanged.
         ensures behind { drop (frame_size * result) frames.new
             ≡ drop (frame_size * result) frames.old }
     {
@@ -118,7 +119,7 @@ fn put_leaf(out: &mut ArrayVec<u8, 208>, leaf: Leaf)
     }
 }
 
-/// Writes what was last heard, in 140 octets.
+/// Writes what was last noted, in 140 octets.
 fn put_notes(out: &mut ArrayVec<u8, 208>, notes: &Notes)
     requires room { array_vec_len out.old + 140 ≤ 208 }
     ensures put { out.new.items ≡ out.old.items ++ notes_octets notes.now }
@@ -142,7 +143,7 @@ fn buffer_octet(buffer: Buffer) -> u8
     }
 }
 
-/// What is kept of the name: nothing where the buffer is too short.
+/// The octets of the name that are stored: none where the buffer is too short.
 fn kept_name(notes: &Notes) -> &[u8]
     ensures name { result.now ≡ kept_name notes.now.buffer notes.now.name.items }
     ensures short { length result.now ≤ 128 }

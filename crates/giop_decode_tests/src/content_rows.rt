@@ -1,4 +1,4 @@
-//! Strings and octet sequences of every length about a piece and about a name, octet by octet.
+//! Strings and octet sequences of lengths around those of a piece and of a name, octet by octet.
 
 pub static ROWS: &str = r#"a string of 0 octets
 11 big 48 exception

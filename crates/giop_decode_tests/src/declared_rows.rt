@@ -12,8 +12,8 @@ pub struct Declared<'a> {
     pub value: Row<'a>,
 }
 
-/// The row that a text spells: a line of its name, one of its operation and its order, one of its signature file, one of
-/// its octets, and what is wanted.
+/// The row that a text spells: a line with its name, one with its operation and its byte order, one with its signature
+/// file, one with its octets, and what is expected.
 pub fn declared_of(text: &str) -> Declared {
     let mut parts = text.splitn(5, '\n');
     let name = parts.next().unwrap_or("");

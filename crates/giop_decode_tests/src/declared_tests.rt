@@ -30,7 +30,7 @@ fn values_in_encapsulations_are_told_at_their_last_octets(rt: HostRuntime) -> Re
     are_declared(&rt, encapsulation_rows::ROWS)
 }
 
-/// Compares what comes of each row of a table.
+/// Compares the decoder's results with those expected, for each row of a table.
 fn are_declared(rt: &(impl Abort + AllocGlobal), rows: &str) -> Result<(), Fail> {
     for text in rows.split("=\n") {
         is_declared(rt, declared_of(text))?;

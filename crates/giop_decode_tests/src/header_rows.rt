@@ -1,4 +1,4 @@
-//! Headers of each message type, octet by octet: what is written, answered and kept in mind.
+//! Headers of each message type, octet by octet: what is written, answered and noted.
 
 pub static ROWS: &str = r#"Request 1.0
 31 big 12 header

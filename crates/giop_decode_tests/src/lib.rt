@@ -1,4 +1,4 @@
-//! Tests of the decoder: what it writes, answers and keeps in mind after each octet, and outs that are full.
+//! Tests of the decoder: what it writes, answers and notes after each octet, and outs that are full.
 #![tactic(auto)]
 
 #[cfg(test)]

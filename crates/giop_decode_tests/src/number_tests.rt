@@ -9,7 +9,7 @@ use giop_sig::{Catalogue, TypeId};
 use std::process::Abort;
 use std::test::Fail;
 
-/// The number of a primitive's type, a value of it with the heaviest octet first, and how its line ends.
+/// The number of a primitive's type, a value of it in big endian, and how its line ends.
 static NUMBERS: &str = r#"0 ff octet 255
 1 41 char "A"
 1 22 char "\x22"
@@ -77,7 +77,7 @@ fn aligns_in(
     Ok(())
 }
 
-/// Whether a number is told at its last octet, behind so much padding.
+/// Checks that the line of a number comes at its last octet, after so much padding.
 fn aligns_behind(
     rt: &(impl Abort + AllocGlobal),
     catalogue: &Catalogue,

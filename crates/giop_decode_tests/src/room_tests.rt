@@ -41,7 +41,7 @@ fn holds_fronts_of(
     Ok(())
 }
 
-/// The lines among what is wanted.
+/// The lines among what is expected.
 fn lines_of(alloc: Global, want: &str) -> Result<String, Fail> {
     let mut lines = String::new(alloc);
     for told in want.split('\n') {
@@ -68,7 +68,7 @@ fn holds_each_front(rt: &impl Abort, catalogue: &Catalogue, row: Row, octets: &[
     }
 }
 
-/// What differs over a sheet with so much room.
+/// Compares what is written on a sheet with so much room.
 fn front_differs(
     catalogue: &Catalogue,
     row: Row,

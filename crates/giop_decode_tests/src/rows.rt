@@ -1,12 +1,12 @@
-//! What a row says of a value.
+//! A row of a table: a value's octets, and what is expected of the decoder.
 
 use giop_cdr::Order;
 use giop_print::Root;
 use giop_sig::TypeId;
 
-/// A value from its first octet to its last, at an offset of message 1, and what comes of it. What is wanted has a
-/// number of octets taken first, and then a line, an answer other than that the value goes on, or what the readers tell
-/// where that has changed.
+/// A value from its first octet to its last, at an offset of message 1, and what is expected. Each line of that has a
+/// number of octets taken first, and then a line, an answer other than that the value goes on, or the notes where these
+/// have changed.
 #[derive(Clone, Copy)]
 pub struct Row<'a> {
     pub name: &'a str,
@@ -19,8 +19,8 @@ pub struct Row<'a> {
     pub want: &'a str,
 }
 
-/// The row that a text spells: a line of its name, one of its type's number, its order, its offset and its root, one of
-/// its octets, and what is wanted.
+/// The row that a text spells: a line with its name, one with its type's number, its byte order, its offset and its
+/// root, one with its octets, and what is expected.
 pub fn row_of(text: &str) -> Row {
     let mut parts = text.splitn(4, '\n');
     let name = parts.next().unwrap_or("");
@@ -36,7 +36,7 @@ pub fn row_of(text: &str) -> Row {
     }
 }
 
-/// The order of a word.
+/// The byte order that a word names.
 pub fn order_of(word: &str) -> Order {
     if word == "little" {
         Order::Little
@@ -45,7 +45,7 @@ pub fn order_of(word: &str) -> Order {
     }
 }
 
-/// The root of a word.
+/// The root that a word names.
 pub fn root_of(word: &str) -> Root {
     if word == "header" {
         Root::Header

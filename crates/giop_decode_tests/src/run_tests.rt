@@ -1,4 +1,4 @@
-//! The decoder by runs of octets: what the rows of the tables want comes of their octets however these are cut.
+//! The decoder by runs of octets: the rows of the tables have the expected results however their octets are cut.
 ghost use Rattle.std.specs.Prelude.{◌≤◌, length, IfOk, IsTrue};
 ghost use Rattle.giop_decode.specs.DecoderState.{Fits, GoesOn};
 
@@ -15,7 +15,7 @@ use std::fmt::Write;
 use std::process::Abort;
 use std::test::Fail;
 
-/// Takes a run, adds what is written and answered behind so many octets, and answers how many octets it took and whether
+/// Takes a run after so many octets, adds what is written and answered, and answers how many octets it took and whether
 /// the value goes on.
 fn take_run(
     catalogue: &Catalogue,
@@ -88,7 +88,7 @@ fn take_runs(
     Ok(true)
 }
 
-/// Takes octets that are cut behind so many of them each.
+/// Takes octets in runs of so many each.
 fn take_cut(
     catalogue: &Catalogue,
     decoder: &mut Decoder,
@@ -111,7 +111,7 @@ fn take_cut(
     Ok(())
 }
 
-/// What comes of a row's octets, cut so.
+/// Adds what is written and answered for a row's octets, cut so.
 fn add_trace(
     catalogue: &Catalogue,
     row: Row,
@@ -129,7 +129,7 @@ fn add_trace(
     take_cut(catalogue, &mut decoder, octets, cuts, trace)
 }
 
-/// Of what a row wants the lines, and the answers with the octets that were taken.
+/// The lines that a row expects, and the answers with the octets that were taken.
 fn wanted_of(alloc: Global, want: &str) -> Result<String, Fail> {
     let mut wanted = String::new(alloc);
     for told in want.split('\n') {
@@ -161,7 +161,7 @@ fn is_cut(
     Ok(())
 }
 
-/// A row whole, and cut in two at each octet.
+/// Compares the results of a row whole, and cut in two at each octet.
 fn is_cut_anywhere(
     rt: &(impl Abort + AllocGlobal),
     catalogue: &Catalogue,
@@ -208,7 +208,7 @@ fn encapsulations_may_be_cut_anywhere(rt: HostRuntime) -> Result<(), Fail> {
     Ok(())
 }
 
-/// The content of a sequence of octets, which stands at 52 of its message.
+/// The content of a sequence of octets, which begins at the offset 52 of its message.
 static RAW: &str = r#"64 octets
 12 big 48 body
 00000040 00*64

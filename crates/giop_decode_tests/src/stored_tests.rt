@@ -12,8 +12,8 @@ use std::alloc::Global;
 use std::process::Abort;
 use std::test::Fail;
 
-/// A sequence of structs whose one member is an array: its parameters' type is numbered 44, the sequence 43, the struct 42,
-/// the array 41, and the built-in short 3.
+/// A sequence of structs whose one member is an array: its parameters' type is numbered 44, the sequence 43, the struct
+/// 42, the array 41, and the built-in short 3.
 const DOTS: &[u8] =
     b"signatures 1; struct Dot { short spot[2]; }; operation void add(in sequence<Dot> dots);";
 
@@ -28,21 +28,22 @@ const DOTS_STORED: &str =
 /// A repository id of 34 octets, with one octet of its second piece.
 const NAMED: &str = "00000023 61*33";
 
-/// The decoder of these: big endian, a repository id of message 1, offset 85, a content of 34 octets whose piece begins at
-/// 32 and has one octet, and a name that has begun with 32; the string is the built-in type 11.
+/// The decoder of these: big endian, a repository id of message 1, offset 85, a content of 34 octets whose piece begins
+/// at 32 and has one octet, and a name that has begun with 32; the string is the built-in type 11.
 const NAMED_STORED: &str =
     "00 01 0000000000000001 05 01 0000000b 00000022 00000020 00 00*8 01 61 00*31 00*5 00*5 00 20 61*32 00*96 00*2 0000000b 00*20";
 
-/// A struct in an encapsulation: the parameters' type is numbered 43, the encapsulation 42, the struct 41, and the built-in
-/// ulonglong 8.
+/// A struct in an encapsulation: the parameters' type is numbered 43, the encapsulation 42, the struct 41, and the
+/// built-in ulonglong 8.
 const HELD: &[u8] =
     b"signatures 2; struct P { octet a; ulonglong b; }; operation void enc(in encapsulation<P> e);";
 
 /// An encapsulation of 16 octets, in little endian, but for the last octet of its ulonglong.
 const HELD_TAKEN: &str = "00000010 01 07 ee*6 05 00*6";
 
-/// The decoder of these: big endian, a body of message 1, offset 67, and seven octets of a ulonglong; then the parameters, the
-/// encapsulation, in little endian with 15 of its 16 octets taken, the struct with its second member, and the ulonglong.
+/// The decoder of these: big endian, a body of message 1, offset 67, and seven octets of a ulonglong; then the
+/// parameters, the encapsulation, in little endian with 15 of its 16 octets taken, the struct with its second member,
+/// and the ulonglong.
 const HELD_STORED: &str =
     "00 02 0000000000000001 03 00 00000008 00000000 00000000 07 05 00*7 00 00*32 00*5 00*5 00 00 00*128 00*2 0000002b 00000000 00000001 00*12 0000002a 0000000f 00000010 02 00*11 00000029 00000001 00000002 00*12 00000008 00*20";
 
@@ -65,7 +66,7 @@ fn taken(catalogue: &Catalogue, of: TypeId, root: Root, octets: &[u8]) -> Result
     }
 }
 
-/// Takes an octet behind which the value goes on.
+/// Takes an octet after which the value goes on.
 fn take(catalogue: &Catalogue, decoder: &mut Decoder, octet: u8) -> Result<(), Fail>
     requires { Fits catalogue.now decoder.old }
     ensures { OnOk result (Fits catalogue.now decoder.new) }
@@ -101,7 +102,7 @@ fn restored(catalogue: &Catalogue, stored: &[u8]) -> Result<Option<Decoder>, Fai
     Ok(Decoder::restore(catalogue, &fixed, &stored[208..]))
 }
 
-/// Compares what is stored behind octets with what is wanted, and goes on from there by one octet more.
+/// Compares what is stored after octets with what is expected, and goes on from there by one octet more.
 fn goes_on(
     rt: &(impl Abort + AllocGlobal),
     catalogue: &Catalogue,
@@ -180,7 +181,7 @@ fn a_decoder_in_a_piece_is_restored(rt: HostRuntime) -> Result<(), Fail> {
     Ok(())
 }
 
-/// An octet that no decoder stores there, in place of that of the decoder in an array.
+/// An octet that no decoder stores at that index, instead of the one of the decoder in an array.
 static REFUSED: [(&str, usize, u8); 29] = [
     ("a byte order", 0, 2),
     ("a root", 1, 3),
@@ -242,7 +243,7 @@ fn octets_that_no_decoder_in_an_encapsulation_stores_are_refused(
     Ok(())
 }
 
-/// Compares what comes of stored octets with another in place of one of them.
+/// Checks that stored octets with another instead of one of them are refused.
 fn is_refused(
     rt: &(impl Abort + AllocGlobal),
     catalogue: &Catalogue,

@@ -9,7 +9,7 @@ use giop_sig::Catalogue;
 use std::process::Abort;
 use std::test::Fail;
 
-/// Compares what comes of each row of a table.
+/// Compares the decoder's results with those expected, for each row of a table.
 fn are_told(
     rt: &(impl Abort + AllocGlobal),
     catalogue: &Catalogue,

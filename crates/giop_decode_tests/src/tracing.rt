@@ -1,5 +1,5 @@
-//! What comes of a value's octets, each told behind the number of octets taken: its lines, the answers other than that the
-//! value goes on, and what the readers tell where that has changed.
+//! The trace of a value's octets, each entry after the number of octets taken: its lines, the answers other than that
+//! the value goes on, and the notes where these have changed.
 ghost use Rattle.std.specs.Prelude.{IfOk, IsTrue};
 ghost use Rattle.giop_decode.specs.DecoderState.{Fits};
 
@@ -12,10 +12,10 @@ use std::fmt::Write;
 use std::process::Abort;
 use std::test::Fail;
 
-/// What the readers tell of a value before its first octet.
+/// The notes before a value's first octet.
 const NOTHING: &str = "request_id None, status None, name None";
 
-/// Compares what comes of octets, in the place of a row's, with what the row wants.
+/// Compares the trace of octets, instead of the row's own, with what the row expects.
 pub fn is_told(
     rt: &(impl Abort + AllocGlobal),
     catalogue: &Catalogue,
@@ -123,7 +123,7 @@ fn take(
     }
 }
 
-/// Adds what the readers tell, where that isn't what they told last.
+/// Adds the notes, if they aren't those of the last time.
 fn hear(
     alloc: Global,
     decoder: &Decoder,

@@ -1,4 +1,4 @@
--- What a message writes and answers of octets, and at its close, is what its reading says.
+-- What a message writes and answers at an octet, and at its close, are the lines of its reading.
 use Rattle.std.proofs.Common.{◌≡◌, ℕ, suc, ◌+◌, ◌-◌, ◌≤◌, Bool, true, false, List, [], ◌∷◌, ◌++◌, length, map, drop, refl, sym, ap, ◌∙◌, arith, flat_map}
 use Rattle.std.specs.Prelude.{◌||◌, ◌==◌, if◌then◌else◌}
 use Rattle.std.specs.List.{filter, list_any, AllByRecursion as Each}
@@ -17,7 +17,7 @@ use Rattle.giop_message.proofs.Causal.{ToldAt, map_both, stands, one_more, order
 use Rattle.giop_message.proofs.Faults.{over_where_faulted}
 use Rattle.std.proofs.lemmas.List.{drop-map, length-map}
 
--- ---- what is told of an octet, and what is said at it
+-- ---- the lines that a message has of an octet, and those of its reading
 
 none_before : (n : ℕ) (emitted : List LineAt) → Each (λ t. t.at ≤ 12 + n) emitted →
     filter (λ r. r.at == suc n) (map timed_line_of emitted) ≡ []
@@ -31,7 +31,7 @@ all_here n (t ∷ ts) h =
     let e : t.at - 12 ≡ suc n = omega (arith, h.0) in
     rw (eq-eqb (t.at - 12) (suc n) e) (ap (λ (rs : List TimedLine). timed_line_of t ∷ rs) (all_here n ts h.1))
 
--- What is told of one octet more: where it stands, and that the reading says it.
+-- the lines of one octet more: they are at that octet, and the reading has them
 record One (S : Signatures) (header xs : List ℕ) (x : ℕ) : Type 0 where
   emitted : message_lines (message S header (xs ++ x ∷ []))
       ≡ message_lines (message S header xs) ++ due S header xs (x ∷ [])
@@ -58,7 +58,7 @@ one_octet S header xs x =
       said = said_is ∙ ap (map timed_line_of) (sym due_is);
     }
 
--- what is said of one octet more
+-- the lines of one octet more in the reading
 pub due_said_is : (S : Signatures) (header xs : List ℕ) (x : ℕ) →
     said.due (reader_by S) header xs x ≡ map timed_line_of (due S header xs (x ∷ []))
 due_said_is S header xs x = (one_octet S header xs x).said
@@ -71,7 +71,7 @@ told_here number place offset (t ∷ ts) h =
     let e : place + (t.at - offset) ≡ suc place = omega (arith, h.0) in
     rw e (ap (λ (z : List ℕ). line_class_text (suc place) number (line_class_of t.message_line) (text_of t.message_line) ++ z) (told_here number place offset ts h.1))
 
--- The text of an octet is that of what is said at it.
+-- The text of an octet is that of its lines in the reading.
 pub octet_text : (S : Signatures) (number place : ℕ) (header xs : List ℕ) (x : ℕ) →
     due_text S number place header xs (x ∷ [])
     ≡ said_text (suc place) number (said.due (reader_by S) header xs x)
@@ -124,7 +124,7 @@ over_more S header xs x =
     ∙ (any_both old (due S header xs (x ∷ []))
     ∙ rw (over_where_faulted S header xs, one.said, wrongs_are (due S header xs (x ∷ []))) refl))
 
--- A message that isn't over is so behind an octet exactly where a fault is said at it.
+-- A message that isn't over is over after an octet exactly if the octet has the line of a fault.
 pub octet_over : (S : Signatures) (header xs : List ℕ) (x : ℕ) →
     is_over (stage_of (message S header xs)) ≡ false →
     is_over (stage_of (message S header (xs ++ x ∷ [])))
@@ -133,7 +133,7 @@ octet_over S header xs x h = over_more S header xs x ∙ rw h refl
 
 -- ---- a close
 
--- A close says a fault where it is short.
+-- A close has the line of a fault exactly if it is short.
 pub close_short : (S : Signatures) (header xs : List ℕ) →
     is_short (close (stage_of (message S header xs)))
     ≡ list_any (λ l. is_fault l.0) ((reader_by S).closes header xs)
@@ -154,21 +154,21 @@ close_short S header xs = go (stage_of (message S header xs))
     go (In_rest offset (x ∷ held)) = refl
     go Over = refl
 
-each_remark : (number place n : ℕ) (emitted : List LineAt) →
+each_timed_line : (number place n : ℕ) (emitted : List LineAt) →
     flat_map (λ t. message_line_text number (place + (t.at - (12 + n))) t.message_line) emitted
     ≡ timed_lines_text number place n (map timed_line_of emitted)
 unfolding message_line_text timed_lines_text
-each_remark number place n [] = refl
-each_remark number place n (t ∷ ts) =
+each_timed_line number place n [] = refl
+each_timed_line number place n (t ∷ ts) =
     let e : t.at - (12 + n) ≡ (t.at - 12) - n = omega arith in
-    rw e (ap (λ z. line_class_text (place + ((t.at - 12) - n)) number (line_class_of t.message_line) (text_of t.message_line) ++ z) (each_remark number place n ts))
+    rw e (ap (λ z. line_class_text (place + ((t.at - 12) - n)) number (line_class_of t.message_line) (text_of t.message_line) ++ z) (each_timed_line number place n ts))
 
 pub text_is : (S : Signatures) (number place : ℕ) (header s more : List ℕ) →
     due_text S number place header s more ≡ timed_lines_text number place (length s)
     (drop (length ((reader_by S).reads header s)) ((reader_by S).reads header (s ++ more)))
 unfolding due_text message_lines_text due reader_by
 text_is S number place header s more =
-    each_remark number place (length s) (drop (length (message_lines (message S header s))) (message_lines (message S header (s ++ more))))
+    each_timed_line number place (length s) (drop (length (message_lines (message S header s))) (message_lines (message S header (s ++ more))))
     ∙ ap (timed_lines_text number place (length s))
     (sym (ap (λ n. drop n (map timed_line_of (message_lines (message S header (s ++ more))))) (length-map (message_lines (message S header s)) timed_line_of)
     ∙ drop-map timed_line_of (length (message_lines (message S header s))) (message_lines (message S header (s ++ more)))))

@@ -1,4 +1,5 @@
--- The lines of a message that goes on begin with its lines, and those that come stand behind its octets.
+-- The lines of a message with more octets begin with its lines so far, and the others come after its octets; and the
+-- order of the lines of one octet.
 use Rattle.std.proofs.Common.{◌≡◌, ◌≢◌, ℕ, ◌+◌, ◌-◌, ◌<◌, ◌≤◌, Bool, true, false, List, [], ◌∷◌, ◌++◌, length, map, drop, Option, Some, None, refl, sym, ap, subst, ◌∙◌, append_assoc, append-nil, arith, add_assoc, add-zero, ◌⊎◌, inl, inr}
 use Rattle.std.specs.Prelude.{◌==◌, nat_lt, if◌then◌else◌}
 use Rattle.std.specs.List.{filter, AllByRecursion as Each}
@@ -28,15 +29,15 @@ use Rattle.giop_message.proofs.Going.{front_none, body_has, after_has, message_h
 abbrev pub ToldAt : ℕ → List LineAt → Type 0
 ToldAt n emitted = Each (λ t. t.at ≡ n) emitted
 
--- what no octets come to
+-- a message read from no octets has no line
 abbrev pub Silent : ℕ → Message → Type 0
 Silent n (ReadTo emitted at stage) = (emitted ≡ []) × (at ≡ n)
 
--- lines of one octet
+-- the lines of one octet, in their order
 abbrev pub Turn : ℕ → List LineAt → Type 0
 Turn n emitted = ToldAt n emitted × AreInLineOrder (map (λ t. line_class_of t.message_line) emitted)
 
--- what an octet comes to, up to this offset
+-- a message after an octet, up to this offset
 abbrev pub Prompt : ℕ → Message → Type 0
 Prompt n (ReadTo emitted at stage) = Turn n emitted × ((at ≡ n) ⊎ (stage ≡ Over))
 
@@ -77,15 +78,15 @@ unfolding line_at line_class_of
 value_turn n root path v more (inl e) = rw e ((refl, tt), inr (inl refl))
 value_turn n root path v more (inr f) = rw f.2 ((refl, (refl, tt)), inr (inr (inl refl)))
 
-tells_turn : (root : Root) (is : Bool) (n : ℕ) (h : Noted) (lines : List Line) → OneAt n lines →
+section_lines_turn : (root : Root) (is : Bool) (n : ℕ) (h : Noted) (lines : List Line) → OneAt n lines →
     Turn n (section_lines root is h lines)
 unfolding section_lines
-tells_turn root is n h [] e = (tt, inl refl)
-tells_turn root is n h (l ∷ []) e =
+section_lines_turn root is n h [] e = (tt, inl refl)
+section_lines_turn root is n h (l ∷ []) e =
     let now = note (is_header_root root) h l in
     subst (λ m. Turn m ((line_at l.at (ValueLine root l.path l.value) ∷ calls is l now) ++ [])) e
     (value_turn l.at root l.path l.value (calls is l now) (calls_is is l now))
-tells_turn root is n h (l ∷ l' ∷ ls) e = absurd e
+section_lines_turn root is n h (l ∷ l' ∷ ls) e = absurd e
 
 module _ (section : Section) (is : Bool) (next : Noted → ℕ → List ℕ → Message) (n : ℕ)
     (silent : (k : Noted) → Silent n (next k n [])) where
@@ -112,15 +113,15 @@ module _ (section : Section) (is : Bool) (next : Noted → ℕ → List ℕ → 
   unfolding section_then line_at section_lines line_class_of
   passes_prompt k (Done lines at s) h none =
       let now = noted (is_header_root R) k lines in
-      rw (h.1, h.2) (prompt_front n (section_lines R is k lines) (next now n []) (tells_turn R is n k lines h.0) (silent now))
-  passes_prompt k (Short lines at outer leaf) h none = (tells_turn R is n k lines h.0, inl h.1)
+      rw (h.1, h.2) (prompt_front n (section_lines R is k lines) (next now n []) (section_lines_turn R is n k lines h.0) (silent now))
+  passes_prompt k (Short lines at outer leaf) h none = (section_lines_turn R is n k lines h.0, inl h.1)
   passes_prompt k (Fault lines at why T) h none = (faulted_turn k lines at why h.1 (one_faulted n why lines h.0) none, inr refl)
 
 pub rest_silent : (n : ℕ) → Silent n (rest n [])
 unfolding rest rest_in
 rest_silent n = (refl, add-zero n)
 
--- a reader of no octets is silent
+-- a reader has no line of no octets
 abbrev IsSilent : (ℕ → List ℕ → Message) → Type 0
 IsSilent reader = (n : ℕ) → Silent n (reader n [])
 
@@ -176,7 +177,7 @@ step_prompt S header at (In_padding t) b = go (nat_lt 1 (padding at 8))
 step_prompt S header at (In_rest offset held) b = rest_by offset (held ++ b ∷ []) (at + 1) (length (held ++ b ∷ []) == 32)
 step_prompt S header at Over b = ((tt, inl refl), inr refl)
 
--- where a message stands after so many octets, unless it is over
+-- a message after so many octets is at that offset, unless it is over
 abbrev pub Stands : ℕ → Message → Type 0
 Stands n (ReadTo emitted at stage) = (at ≡ n) ⊎ (stage ≡ Over)
 
@@ -205,7 +206,7 @@ stands S header xs = grown (λ xs. Stands (12 + length xs) (message S header xs)
         Stands (12 + length (xs ++ b ∷ [])) (message S header (xs ++ b ∷ []))
     more xs b h = rw (message_goes S header xs b, length_one_more xs b, ← add_assoc) (stands_more S header (12 + length xs) (message S header xs) b h)
 
--- lines behind so many octets
+-- lines after so many octets
 abbrev pub Behind : ℕ → List LineAt → Type 0
 Behind n emitted = Each (λ t. n < t.at) emitted
 
@@ -250,7 +251,7 @@ later_none : (n k : ℕ) (emitted : List LineAt) → Behind (12 + n) emitted →
 later_none n k [] h below = refl
 later_none n k (t ∷ ts) h below = rw (ne_eqb (t.at - 12) k (λ e. omega (arith, h.0))) (later_none n k ts h.1 below)
 
--- More octets change nothing that was said of those before them.
+-- More octets change no lines of those before them.
 pub is_causal : (S : Signatures) → IsCausal (reader_by S)
 unfolding reader_by
 is_causal S = record {
@@ -270,27 +271,27 @@ module _ (k : ℕ) where
   abbrev At_k : TimedLine → Bool
   At_k r = r.at == k
 
-  abbrev Sayings : List LineAt → List LineClass
-  Sayings ts = map (λ r. r.line_class) (filter At_k (map timed_line_of ts))
+  abbrev LineClasses : List LineAt → List LineClass
+  LineClasses ts = map (λ r. r.line_class) (filter At_k (map timed_line_of ts))
 
-  sayings_append : (xs ys : List LineAt) → Sayings (xs ++ ys) ≡ Sayings xs ++ Sayings ys
-  sayings_append xs ys =
+  line_classes_append : (xs ys : List LineAt) → LineClasses (xs ++ ys) ≡ LineClasses xs ++ LineClasses ys
+  line_classes_append xs ys =
       ap (λ ls. map (λ r. r.line_class) (filter At_k ls)) (map_both timed_line_of xs ys)
       ∙ (ap (map (λ r. r.line_class)) (filter-append At_k (map timed_line_of xs) (map timed_line_of ys))
       ∙ map_both (λ r. r.line_class) (filter At_k (map timed_line_of xs)) (filter At_k (map timed_line_of ys)))
 
-  sayings_here : (n : ℕ) (ts : List LineAt) → ToldAt n ts → n - 12 ≡ k →
-      Sayings ts ≡ map (λ t. line_class_of t.message_line) ts
-  sayings_here n [] h e = refl
-  sayings_here n (t ∷ ts) h e = rw (h.0, eq-eqb (n - 12) k e) (ap (λ cs. line_class_of t.message_line ∷ cs) (sayings_here n ts h.1 e))
+  line_classes_here : (n : ℕ) (ts : List LineAt) → ToldAt n ts → n - 12 ≡ k →
+      LineClasses ts ≡ map (λ t. line_class_of t.message_line) ts
+  line_classes_here n [] h e = refl
+  line_classes_here n (t ∷ ts) h e = rw (h.0, eq-eqb (n - 12) k e) (ap (λ cs. line_class_of t.message_line ∷ cs) (line_classes_here n ts h.1 e))
 
-  sayings_elsewhere : (n : ℕ) (ts : List LineAt) → ToldAt n ts → n - 12 ≢ k → Sayings ts ≡ []
-  sayings_elsewhere n [] h e = refl
-  sayings_elsewhere n (t ∷ ts) h e = rw (h.0, ne_eqb (n - 12) k e) (sayings_elsewhere n ts h.1 e)
+  line_classes_elsewhere : (n : ℕ) (ts : List LineAt) → ToldAt n ts → n - 12 ≢ k → LineClasses ts ≡ []
+  line_classes_elsewhere n [] h e = refl
+  line_classes_elsewhere n (t ∷ ts) h e = rw (h.0, ne_eqb (n - 12) k e) (line_classes_elsewhere n ts h.1 e)
 
-  sayings_before : (n : ℕ) (ts : List LineAt) → Each (λ t. t.at ≤ n) ts → n - 12 < k → Sayings ts ≡ []
-  sayings_before n [] h e = refl
-  sayings_before n (t ∷ ts) h e = rw (ne_eqb (t.at - 12) k (λ f. omega (arith, h.0))) (sayings_before n ts h.1 e)
+  line_classes_before : (n : ℕ) (ts : List LineAt) → Each (λ t. t.at ≤ n) ts → n - 12 < k → LineClasses ts ≡ []
+  line_classes_before n [] h e = refl
+  line_classes_before n (t ∷ ts) h e = rw (ne_eqb (t.at - 12) k (λ f. omega (arith, h.0))) (line_classes_before n ts h.1 e)
 
   up_to : (n m : ℕ) (ts : List LineAt) → n ≤ m → Each (λ t. t.at ≤ n) ts → Each (λ t. t.at ≤ m) ts
   up_to n m [] h j = tt
@@ -300,27 +301,27 @@ module _ (k : ℕ) where
   here_up_to n [] h = tt
   here_up_to n (t ∷ ts) h = (omega (arith, h.0), here_up_to n ts h.1)
 
-  turn_of : (n : ℕ) (old more : List LineAt) → Each (λ t. t.at ≤ 12 + n) old → AreInLineOrder (Sayings old) →
-      Turn ((12 + n) + 1) more → AreInLineOrder (Sayings (old ++ more))
+  turn_of : (n : ℕ) (old more : List LineAt) → Each (λ t. t.at ≤ 12 + n) old → AreInLineOrder (LineClasses old) →
+      Turn ((12 + n) + 1) more → AreInLineOrder (LineClasses (old ++ more))
   turn_of n old more bound old_turn turn = same (cases_lt (n + 1) k) (cases_lt k (n + 1))
     where
-      go : (n + 1 ≡ k) ⊎ (n + 1 ≢ k) → AreInLineOrder (Sayings (old ++ more))
-      go (inl e) = rw (sayings_append old more, sayings_before (12 + n) old bound (omega arith), sayings_here ((12 + n) + 1) more turn.0 (omega arith)) turn.1
+      go : (n + 1 ≡ k) ⊎ (n + 1 ≢ k) → AreInLineOrder (LineClasses (old ++ more))
+      go (inl e) = rw (line_classes_append old more, line_classes_before (12 + n) old bound (omega arith), line_classes_here ((12 + n) + 1) more turn.0 (omega arith)) turn.1
       go (inr e) =
           let far : ((12 + n) + 1) - 12 ≢ k = λ f. e (omega (arith, f)) in
-          rw (sayings_append old more, sayings_elsewhere ((12 + n) + 1) more turn.0 far, append-nil (Sayings old)) old_turn
+          rw (line_classes_append old more, line_classes_elsewhere ((12 + n) + 1) more turn.0 far, append-nil (LineClasses old)) old_turn
 
-      same : (n + 1 < k) ⊎ (k ≤ n + 1) → (k < n + 1) ⊎ (n + 1 ≤ k) → AreInLineOrder (Sayings (old ++ more))
+      same : (n + 1 < k) ⊎ (k ≤ n + 1) → (k < n + 1) ⊎ (n + 1 ≤ k) → AreInLineOrder (LineClasses (old ++ more))
       same (inl h) j = go (inr (λ e. omega arith))
       same (inr h) (inl j) = go (inr (λ e. omega arith))
       same (inr h) (inr j) = go (inl (omega arith))
 
   module _ (S : Signatures) (header : List ℕ) where
     abbrev Ordered : List ℕ → Type 0
-    Ordered xs = Each (λ t. t.at ≤ 12 + length xs) (message_lines (message S header xs)) × AreInLineOrder (Sayings (message_lines (message S header xs)))
+    Ordered xs = Each (λ t. t.at ≤ 12 + length xs) (message_lines (message S header xs)) × AreInLineOrder (LineClasses (message_lines (message S header xs)))
 
     ordered_none : (m : Message) → Silent 12 m →
-        Each (λ t. t.at ≤ 12) (message_lines m) × AreInLineOrder (Sayings (message_lines m))
+        Each (λ t. t.at ≤ 12) (message_lines m) × AreInLineOrder (LineClasses (message_lines m))
     unfolding message_lines
     ordered_none (ReadTo emitted at stage) h = rw h.0 (tt, inl refl)
 
@@ -338,7 +339,7 @@ module _ (k : ℕ) where
     pub ordered : (xs : List ℕ) → Ordered xs
     ordered xs = grown Ordered ordered_more [] xs (ordered_none (message S header []) (message_silent S header))
 
--- The lines of one octet come in their order, and no two say the same.
+-- The lines of one octet come in their order, and no two are of one class.
 pub is_ordered : (S : Signatures) → IsOrdered (reader_by S)
 unfolding reader_by
 is_ordered S = record { ordered = λ header xs k. (ordered k S header xs).1 }

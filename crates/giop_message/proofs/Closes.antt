@@ -1,5 +1,5 @@
--- What a close says: it ends the message, and no line of it is of a kind that the last octet has, since a message that is
--- faulted there, or ends a part of its rest there, has no rest left.
+-- The lines of a close: it ends the message, and none of its lines is of a class that the last octet has, since a
+-- message that is faulted there, or ends a part of its rest there, has no rest left.
 use Rattle.std.proofs.Common.{◌≡◌, Bool, true, false, List, [], ◌∷◌, ◌++◌, map, inl, inr, refl, ap, ◌≢◌, ℕ, suc, length, ◌⊎◌}
 use Rattle.std.specs.Prelude.{if◌then◌else◌}
 use Rattle.giop_message.specs.MessageReader.{LineClass, Rest, End, AtClose, IsClosing, Value, Call, Fault, AreInLineOrder, is_fault}
@@ -12,37 +12,37 @@ use Rattle.giop_message.specs.Apart.{AreApart, IsApart}
 use Rattle.giop_message.specs.MessageReader as said
 use Rattle.giop_message.proofs.Causal.{is_ordered}
 
-abbrev Sayings : List MessageLine → List LineClass
-Sayings speeches = map (λ l. l.0) (map closing_of speeches)
+abbrev LineClasses : List MessageLine → List LineClass
+LineClasses speeches = map (λ l. l.0) (map closing_of speeches)
 
-lack_says : (test : Bool) → AtClose (Sayings (if test then EndLine ∷ [] else ShortLine ∷ []))
+lack_says : (test : Bool) → AtClose (LineClasses (if test then EndLine ∷ [] else ShortLine ∷ []))
 unfolding line_class_of
 lack_says true = inr (inl refl)
 lack_says false = inl refl
 
-closes_say : (stage : Stage) → AtClose (Sayings (close stage))
+closes_say : (stage : Stage) → AtClose (LineClasses (close stage))
 unfolding line_class_of close
 closes_say (In_typed section h outer leaf) = inl refl
 closes_say (In_padding b) = lack_says (body_may_be_missing b)
 closes_say (In_rest offset (x ∷ held)) = inr (inr refl)
 closes_say _ = inr (inl refl)
 
--- a close that ends has no more of the rest
-ends_only : (stage : Stage) → Sayings (close stage) ≡ End ∷ [] →
-    Sayings (close stage) ≡ Rest ∷ End ∷ [] → ⊥
+-- a close of the end alone has no part of the rest
+ends_only : (stage : Stage) → LineClasses (close stage) ≡ End ∷ [] →
+    LineClasses (close stage) ≡ Rest ∷ End ∷ [] → ⊥
 ends_only stage e f = absurd cc
 
 pub is_closing : (S : Signatures) → IsClosing (reader_by S)
 unfolding reader_by line_class_of close
 is_closing S = record {
   closed = λ header xs. closes_say (stage_of (message S header xs));
-  over = λ header xs x faulted. ap (λ stage. Sayings (close stage)) ((octet_leaves S header xs x).1 faulted);
+  over = λ header xs x faulted. ap (λ stage. LineClasses (close stage)) ((octet_leaves S header xs x).1 faulted);
   one_rest = λ header xs x rested.
-      ends_only (stage_of (message S header (xs ++ x ∷ []))) (ap (λ stage. Sayings (close stage)) ((octet_leaves S header xs x).0 rested).1);
+      ends_only (stage_of (message S header (xs ++ x ∷ []))) (ap (λ stage. LineClasses (close stage)) ((octet_leaves S header xs x).0 rested).1);
 }
 
 leaves_end : (line_classes : List LineClass) (stage : Stage) → Leaves line_classes stage →
-    (line_classes ≡ Rest ∷ []) ⊎ (list_any is_fault line_classes ≡ true) → Sayings (close stage) ≡ End ∷ []
+    (line_classes ≡ Rest ∷ []) ⊎ (list_any is_fault line_classes ≡ true) → LineClasses (close stage) ≡ End ∷ []
 unfolding close line_class_of
 leaves_end line_classes stage h (inl e) = let left = h.0 e in rw left.1 refl
 leaves_end line_classes stage h (inr e) = rw (h.1 e) refl
@@ -50,7 +50,7 @@ leaves_end line_classes stage h (inr e) = rw (h.1 e) refl
 other : (a b : LineClass) → a ≢ b → AreApart (a ∷ b ∷ [])
 other a b h = ((h, tt), (tt, tt))
 
--- one line and those of a close, which are of other kinds
+-- one line and those of a close, which are of other classes
 one_apart : (a : LineClass) (line_classes : List LineClass) → AtClose line_classes → a ≢ Fault → a ≢ End →
     a ≢ Rest → AreApart (a ∷ line_classes)
 one_apart a line_classes (inl e) f g h = rw e (other a Fault f)
@@ -69,11 +69,11 @@ call_apart line_classes (inr (inr e)) =
     rw e (((λ k. cc), ((λ k. cc), ((λ k. cc), tt))), one_apart Call (Rest ∷ End ∷ []) (inr (inr refl)) (λ k. cc) (λ k. cc) (λ k. cc))
 
 turn_apart : (line_classes : List LineClass) (stage : Stage) → AreInLineOrder line_classes → Leaves line_classes stage →
-    AtClose (Sayings (close stage)) → AreApart (line_classes ++ Sayings (close stage))
-turn_apart line_classes stage (inl e) h closed = rw e (close_apart (Sayings (close stage)) closed)
+    AtClose (LineClasses (close stage)) → AreApart (line_classes ++ LineClasses (close stage))
+turn_apart line_classes stage (inl e) h closed = rw e (close_apart (LineClasses (close stage)) closed)
 turn_apart line_classes stage (inr (inl e)) h closed =
-    rw e (one_apart Value (Sayings (close stage)) closed (λ k. cc) (λ k. cc) (λ k. cc))
-turn_apart line_classes stage (inr (inr (inl e))) h closed = rw e (call_apart (Sayings (close stage)) closed)
+    rw e (one_apart Value (LineClasses (close stage)) closed (λ k. cc) (λ k. cc) (λ k. cc))
+turn_apart line_classes stage (inr (inr (inl e))) h closed = rw e (call_apart (LineClasses (close stage)) closed)
 turn_apart line_classes stage (inr (inr (inr (inl e)))) h closed =
     rw (leaves_end line_classes stage h (inl e), e) (other Rest End (λ k. cc))
 turn_apart line_classes stage (inr (inr (inr (inr (inl e))))) h closed =
@@ -90,6 +90,6 @@ octet_apart S header xs x =
     ((is_ordered S).ordered header (xs ++ x ∷ []) (suc (length xs))) (octet_leaves S header xs x)
     ((is_closing S).closed header (xs ++ x ∷ []))
 
--- No octet has two lines of one kind, with those of a close at it.
+-- No octet has two lines of one class, with those of a close at it.
 pub is_apart : (S : Signatures) → IsApart (reader_by S)
 is_apart S = record { apart = octet_apart S }

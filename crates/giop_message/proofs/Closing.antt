@@ -1,4 +1,4 @@
--- The close of a message that follows a list.
+-- The close of a message that follows a list: its lines by the message's part, and its text.
 use Rattle.std.proofs.Common.{◌≡◌, ℕ, zero, suc, ◌+◌, Bool, true, false, List, [], ◌∷◌, ◌++◌, length, refl, sym, ap, subst, ◌∙◌, append-nil, arith}
 use Rattle.std.specs.Prelude.{◌==◌, codes, if◌then◌else◌, not}
 use Rattle.std.proofs.lemmas.Bool.{false≢true, ne_eqb}
@@ -56,7 +56,7 @@ unfolding body_may_be_missing
 lacks_none (Struct count names parts) other = absurd (other count refl)
 lacks_none T other = refl
 
--- ---- where it stands
+-- ---- the part that it is in
 
 short_stage : (S : Signatures) (header : List ℕ) (section : Section) (h : Noted) (lines : List Line)
     (at : ℕ) (outer : List OpenPart) (leaf : Leaf) →

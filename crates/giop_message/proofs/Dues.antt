@@ -1,4 +1,4 @@
--- What is told of octets, taken in two parts, and its text.
+-- The lines of more octets and their text, where the octets are taken in two parts.
 use Rattle.std.proofs.Common.{◌≡◌, ℕ, ◌+◌, ◌-◌, ◌≤◌, true, false, List, [], ◌∷◌, ◌++◌, length, take, drop, flat_map, refl, sym, ap, subst, ◌∙◌, append_assoc, append-nil, arith, length-append, length-drop, take-add}
 use Rattle.std.proofs.Math.Seq.{drop-append_seam}
 use Rattle.std.proofs.lemmas.List.{length-take-le, take-append-drop}
@@ -23,7 +23,7 @@ due_both S header s xs ys =
     ∙ (ap (λ emitted. emitted ++ due S header (s ++ xs) ys) (told_more S header s xs) ∙ append_assoc front (due S header s xs) (due S header (s ++ xs) ys))) in
     ap (drop (length front)) e ∙ drop-append_seam front (due S header s xs ++ due S header (s ++ xs) ys)
 
--- the places of lines that come behind an offset
+-- lines after an offset have the same places, counted from a later one
 moved : (number place offset more : ℕ) (emitted : List LineAt) → Behind (offset + more) emitted →
     message_lines_text number place offset emitted ≡ message_lines_text number (place + more) (offset + more) emitted
 unfolding message_lines_text
@@ -61,7 +61,7 @@ text_none S number place header s =
     drop_all_of : (emitted : List LineAt) → drop (length emitted) emitted ≡ []
     drop_all_of emitted = ap (drop (length emitted)) (sym (append-nil emitted)) ∙ drop-append_seam emitted []
 
--- behind a fault nothing is told
+-- after a fault there are no lines
 over_goes : (S : Signatures) (header : List ℕ) (emitted : List LineAt) (at : ℕ) (t : List ℕ) →
     goes_on S header (ReadTo emitted at Over) t ≡ ReadTo emitted at Over
 over_goes S header emitted at [] = refl
@@ -100,7 +100,7 @@ text_ended S number place header s octets n e =
     ∙ (ap (λ z. due_text S number place header s (take n octets) ++ z)
     (text_over S number (place + length (take n octets)) header (s ++ take n octets) (drop n octets) e) ∙ append-nil _))
 
--- ---- a fault behind octets that have none
+-- ---- a fault after octets that have none
 
 pub faulted_behind : (S : Signatures) (header s octets : List ℕ) (i n : ℕ) → i ≤ length octets →
     FaultedAt S header (s ++ take i octets) (drop i octets) n → FaultedAt S header s octets (i + n)

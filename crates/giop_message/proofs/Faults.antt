@@ -1,4 +1,4 @@
--- A message is over exactly where its lines have a fault.
+-- A message is over exactly if its lines have a fault.
 use Rattle.std.proofs.Common.{◌≡◌, ℕ, zero, suc, ◌+◌, Bool, true, false, List, [], ◌∷◌, ◌++◌, length, take, drop, refl, sym, ◌∙◌, inl, inr}
 use Rattle.std.specs.Prelude.{◌||◌, nat_lt, if◌then◌else◌}
 use Rattle.std.specs.List.{list_any}
@@ -67,7 +67,7 @@ rest_tallies (suc full) offset at s =
     front_tallies (line_at (at + 32) (RestLine offset (take 32 s)) ∷ []) (rest_in full (offset + 32) (at + 32) (drop 32 s)) refl
     (rest_tallies full (offset + 32) (at + 32) (drop 32 s))
 
--- what a reader comes to tallies
+-- a reader's messages are all so
 abbrev AllTally : (ℕ → List ℕ → Message) → Type 0
 AllTally reader = (at : ℕ) (s : List ℕ) → Tallies (reader at s)
 

@@ -1,4 +1,4 @@
--- A message that follows a list isn't over, and its request id is what was said.
+-- A message that follows a list isn't over, and its request id is the first that its lines have.
 use Rattle.std.proofs.Common.{◌≡◌, ℕ, ◌+◌, Bool, true, false, List, [], ◌∷◌, ◌++◌, length, drop, Option, Some, None, refl, sym, ap, subst, ◌∙◌, append-nil, arith, inl, inr, length-append}
 use Rattle.std.specs.Prelude.{cond}
 use Rattle.std.proofs.Math.Seq.{drop-append_seam}
@@ -36,7 +36,7 @@ none_over n (ReadTo emitted at stage) silent tallies = rw silent.0 at tallies
 
 module _ (S : Signatures) (header : List ℕ) (section : Section) (C : Table) (d : Decoder)
     (lines : List Line) (at : ℕ) where
-  -- a section that a decoder stands in isn't over, and has told its lines
+  -- a section whose decoder goes on isn't over, and the message has its lines
   standing_over : (leaf : Option Innermost) →
       is_over (stage_of (section_and_rest S header section nothing_noted (decoders.read_by_leaf C d leaf lines at)))
       ≡ false
@@ -112,7 +112,7 @@ unfolding first_id
 first_none (Some a) = refl
 first_none None = refl
 
--- more lines that say none leave it
+-- it stays where more lines have no request id
 pub id_stays : (S : Signatures) (header s more : List ℕ) → first_request_id (due S header s more) ≡ None →
     first_request_id (message_lines (message S header (s ++ more))) ≡ first_request_id (message_lines (message S header s))
 id_stays S header s more e =
@@ -142,7 +142,7 @@ line_id section is h l ls =
     ∙ ap (λ id. first_id id (first_request_id (section_lines R is now ls)))
     (rw (call_no_id l.at (calls is l now) (calls_is is l now), first_none) refl)
 
--- outside of the header none is said
+-- outside of the header no line has one
 others_none : (section : Section) → is_header section ≡ false → (path : List PathSegment) (v : Value) →
     id_in (ValueLine (root_of section) path v) ≡ None
 unfolding id_in
@@ -169,7 +169,7 @@ unfolding first_id
 first_same (Some n) b = refl
 first_same None b = refl
 
--- in the header it is what is heard
+-- in the header it is what is noted
 hear_id : (h : Noted) (at : ℕ) (path : List PathSegment) (v : Value) →
     (note true h (record { at = at; path = path; value = v })).request_id
     ≡ first_id h.request_id (id_in (ValueLine roots.Header path v))
@@ -179,30 +179,30 @@ hear_id h at path (Piece (Text bound) offset octets true) = sym (first_none h.re
 hear_id h at path (Piece (Text bound) offset octets false) = sym (first_none h.request_id)
 hear_id h at path v = sym (first_none h.request_id)
 
-lines_heard : (is : Bool) (h : Noted) (lines : List Line) → (noted true h lines).request_id
+lines_noted : (is : Bool) (h : Noted) (lines : List Line) → (noted true h lines).request_id
     ≡ first_id h.request_id (first_request_id (section_lines roots.Header is h lines))
 unfolding section_lines first_request_id
-lines_heard is h [] = sym (first_none h.request_id)
-lines_heard is h (l ∷ ls) =
+lines_noted is h [] = sym (first_none h.request_id)
+lines_noted is h (l ∷ ls) =
     let now = note true h l in
     let id = id_in (ValueLine roots.Header l.path l.value) in
     let later = first_request_id (section_lines roots.Header is now ls) in
-    lines_heard is now ls ∙ (ap (λ id. first_id id later) (hear_id h l.at l.path l.value)
+    lines_noted is now ls ∙ (ap (λ id. first_id id later) (hear_id h l.at l.path l.value)
     ∙ (sym (first_all h.request_id id later) ∙ ap (first_id h.request_id) (sym (line_id sections.Header is h l ls))))
 
-hushed_id : (quiet : Bool) (h : Noted) → (without_name_if quiet h).request_id ≡ h.request_id
-hushed_id true h = refl
-hushed_id false h = refl
+without_name_id : (quiet : Bool) (h : Noted) → (without_name_if quiet h).request_id ≡ h.request_id
+without_name_id true h = refl
+without_name_id false h = refl
 
 pub header_only : (section : Section) → is_header section ≡ true → section ≡ sections.Header
 header_only sections.Header e = refl
 header_only section e = absurd (false≢true e)
 
--- what a header's decoder has in mind is the id that the message has said
+-- the id that a header's decoder has noted is that of the message's lines
 module _ {C : Table} {S : Signatures} {number : ℕ} {header s : List ℕ} {section : Section}
     {d : Decoder}
     (e : Decodes C S number header s section d) where
-  -- the reading that the decoder has in mind
+  -- the reading whose notes the decoder has
   abbrev pub in_mind : Read
   in_mind = read (plain (order header)) [] e.T (12 + length e.front) e.octets
 
@@ -214,17 +214,17 @@ module _ {C : Table} {S : Signatures} {number : ℕ} {header s : List ℕ} {sect
       ∙ (ap (λ ts. ts ++ message_lines (section_and_rest S header section nothing_noted in_mind)) first.1
       ∙ (ap (λ r. message_lines (section_and_rest S header section nothing_noted r)) e.reads.is ∙ standing_told S header section C d e.reads.lines _ d.leaf)))
 
-  pub id_heard : section ≡ sections.Header →
+  pub id_noted : section ≡ sections.Header →
       (noted_of true in_mind).request_id ≡ first_request_id (message_lines (message S header s))
   unfolding first_id
-  id_heard in_it =
+  id_noted in_it =
       let lines : lines_of in_mind ≡ e.reads.lines = ap lines_of e.reads.is ∙ lines_standing S header section C d e.reads.lines _ d.leaf in
       let emitted = subst (λ x. message_lines (message S header s) ≡ section_lines (root_of x) (may_call header x) nothing_noted e.reads.lines) in_it (header_told in_it) in
-      hushed_id (ends_in_string in_mind) (noted true nothing_noted (lines_of in_mind))
+      without_name_id (ends_in_string in_mind) (noted true nothing_noted (lines_of in_mind))
       ∙ (ap (λ ls. (noted true nothing_noted ls).request_id) lines
-      ∙ (lines_heard (may_call header sections.Header) nothing_noted e.reads.lines ∙ ap first_request_id (sym emitted)))
+      ∙ (lines_noted (may_call header sections.Header) nothing_noted e.reads.lines ∙ ap first_request_id (sym emitted)))
 
--- what a message answers inside a section
+-- the request id that a message answers inside a section
 pub id_read : {C : Table} {request_table : RequestTable} {number : ℕ} {header : List ℕ} {m : Struct_of}
     {s : List ℕ} {section : Section}
     {d : Decoder} → Follows C request_table number header m s → m.part ≡ parts.Typed section d →
@@ -239,12 +239,12 @@ id_read {C} {request_table} {number} {header} {m} {s} {section} {d} f is = (in_m
     go : (inside : Bool) → is_header section ≡ inside →
         cond inside (noted_of true (in_mind stands)).request_id m.id
         ≡ first_request_id (message_lines (message (signatures_of C request_table) header s))
-    go true e = id_heard stands (header_only section e)
+    go true e = id_noted stands (header_only section e)
     go false e = f.id ∙ rw (is, e) refl
 
 -- ---- octets more
 
--- A message that has taken so many octets more stands behind them.
+-- a message after so many octets more: its number, header and offset
 pub record Moved (m n : Struct_of) (count : ℕ) : Type 0 where
   pub number : n.number ≡ m.number
   pub header : n.header ≡ m.header
@@ -271,7 +271,7 @@ module _ {C : Table} {request_table : RequestTable} {number : ℕ} {header : Lis
       let is = is_at move in
       record { same_number = is.same_number; same_header = is.same_header; id = id; at = is.at; stands = stands }
 
-  -- where nothing of an id is said the message keeps what it has
+  -- where no line has a request id the message keeps the one that it has
   pub id_kept : first_request_id (due (signatures_of C request_table) header s more) ≡ None → in_header m.part ≡ false →
       m.id ≡ first_request_id (message_lines (message (signatures_of C request_table) header (s ++ more)))
   id_kept none past = f.id ∙ rw past (sym (id_stays (signatures_of C request_table) header s more none))

@@ -1,4 +1,4 @@
--- Reading a message with one octet more is one step on where the message stands.
+-- Reading a message with one octet more is one step from where the message is.
 use Rattle.std.proofs.Common.{◌≡◌, ℕ, zero, suc, ◌+◌, ◌-◌, ◌/◌, ◌<◌, ◌≤◌, Bool, true, false, List, [], ◌∷◌, ◌++◌, length, take, drop, Option, Some, None, refl, sym, ap, ◌∙◌, append_assoc, append-nil, arith, length-drop, le_of_eq, add-zero, add_assoc, ◌⊎◌, inl, inr}
 use Rattle.std.specs.Prelude.{◌==◌, if◌then◌else◌}
 use Rattle.std.proofs.Math.Seq.{take-length, drop-length}
@@ -20,7 +20,7 @@ use Rattle.giop_message.specs.Signatures.{Signatures}
 use Rattle.giop_message.specs.Messages.{ValueLine, RestLine, FaultLine, LineAt, line_at, calls, section_lines, BodyType, Untyped, Typed, UserException, In_padding, In_rest, Over, Message, ReadTo, with_front, section_then, rest_in, rest, typed, option_typed, members_of, after_exception, body, body_of, has_body, padded, after_header, of_header, message, root_of, may_call, after, section_and_rest}
 use Rattle.giop_message.specs.StageSteps.{rest_step, message_step, advance, goes_on}
 
--- a reader that goes on as the step does
+-- a reader for which one octet more is one step
 abbrev pub Goes : Signatures → List ℕ → (ℕ → List ℕ → Message) → Type 0
 Goes S header reader = (at : ℕ) (s : List ℕ) (b : ℕ) → reader at (s ++ b ∷ []) ≡ advance S header (reader at s) b
 
@@ -43,17 +43,17 @@ pub stays : (S : Signatures) (header : List ℕ) (emitted : List LineAt) (at b :
 unfolding with_front advance message_step
 stays S header emitted at b = ap (λ ls. ReadTo ls at Over) (sym (append-nil emitted))
 
--- ---- telling in two parts
+-- ---- lines in two parts
 
-pub tells_append : (root : Root) (is : Bool) (h : Noted) (xs ys : List Line) →
+pub section_lines_append : (root : Root) (is : Bool) (h : Noted) (xs ys : List Line) →
     section_lines root is h (xs ++ ys) ≡ section_lines root is h xs
     ++ section_lines root is (noted (is_header_root root) h xs) ys
 unfolding section_lines
-tells_append root is h [] ys = refl
-tells_append root is h (x ∷ xs) ys =
+section_lines_append root is h [] ys = refl
+section_lines_append root is h (x ∷ xs) ys =
     let now = note (is_header_root root) h x in
     let first = line_at x.at (ValueLine root x.path x.value) ∷ calls is x now in
-    ap (λ ls. first ++ ls) (tells_append root is now xs ys)
+    ap (λ ls. first ++ ls) (section_lines_append root is now xs ys)
     ∙ sym (append_assoc first (section_lines root is now xs) (section_lines root is (noted (is_header_root root) now xs) ys))
 
 module _ (section : Section) (is : Bool) (next : Noted → ℕ → List ℕ → Message) where
@@ -66,12 +66,12 @@ module _ (section : Section) (is : Bool) (next : Noted → ℕ → List ℕ → 
   unfolding section_then with_front
   passes_front h front (Done lines at s) =
       let now = noted (is_header_root R) h front in
-      rw (tells_append R is h front lines, noted-append (is_header_root R) h front lines)
+      rw (section_lines_append R is h front lines, noted-append (is_header_root R) h front lines)
       (sym (front_twice (section_lines R is h front) (section_lines R is now lines) (next (noted (is_header_root R) now lines) at s)))
   passes_front h front (Short lines at outer leaf) =
-      rw (tells_append R is h front lines, noted-append (is_header_root R) h front lines) refl
+      rw (section_lines_append R is h front lines, noted-append (is_header_root R) h front lines) refl
   passes_front h front (Fault lines at why T) =
-      rw (tells_append R is h front lines)
+      rw (section_lines_append R is h front lines)
       (ap (λ ls. ReadTo ls at Over)
       (append_assoc (section_lines R is h front) (section_lines R is (noted (is_header_root R) h front) lines) (line_at at (FaultLine why) ∷ [])))
 
@@ -183,8 +183,8 @@ padded_goes S header t goes at s b = go (cases_lt (length s) (padding at 8)) (ca
 
 -- ---- a message
 
--- What holds of each part of a message and of what follows it: of the rest, of a section where it holds behind that, and
--- of a body behind padding where it holds of the body.
+-- What holds of each part of a message and of what follows it: of the rest, of a section where it holds after that, and
+-- of a body after padding where it holds of the body.
 module _ (S : Signatures) (header : List ℕ) (P : (ℕ → List ℕ → Message) → Type 0) (rests : P rest)
     (reads : (section : Section) (T : Ty) → ((h : Noted) → P (after S header section h)) →
     P (λ at s. section_and_rest S header section nothing_noted (read (plain (order header)) [] T at s)))

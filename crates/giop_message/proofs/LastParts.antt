@@ -1,5 +1,5 @@
--- What ends no operation: the last part of a Request's header, which is none, so a header never ends with one; and what is said
--- at the octet of a fault.
+-- Lines that end no operation: that of the last part of a Request's header, so a header never ends together with its
+-- operation; and those at the octet of a fault.
 use Rattle.std.proofs.Common.{◌≡◌, ℕ, zero, suc, ◌+◌, ◌-◌, ◌<◌, ◌≤◌, ◌⊎◌, inl, inr, Bool, true, false, List, [], ◌∷◌, ◌++◌, length, Option, Some, None, refl, sym, ap, subst, ◌∙◌, append-nil, arith}
 use Rattle.std.specs.Prelude.{◌&&◌, codes, IfSome}
 use Rattle.std.specs.List.{AllByRecursion as Each}
@@ -95,7 +95,7 @@ short_front : (front : List Line) (r : Read) (at : ℕ) (outer : List OpenPart) 
 short_front front (Done lines at rest) at' outer leaf e = absurd (false≢true (sym (ap done_test e)))
 short_front front r at' outer' leaf' e = refl
 
--- a struct goes on behind a part that isn't its last
+-- a struct goes on after a part that isn't its last
 goes_on : (coding : Coding) (d n : ℕ) (names : ℕ → List ℕ) (parts : ℕ → Ty) (i at : ℕ)
     (inner : Read) → IsFit (suc d) (Struct (suc n) names parts) → suc i < suc n → IsOctetResult at inner →
     done_test (resumed coding [] (Part (Struct (suc n) names parts) i (suc n)) inner) ≡ false
@@ -143,7 +143,7 @@ module _ (coding : Coding) (is : Bool) (n : ℕ) (names : ℕ → List ℕ) (par
       no_ends is (path_in (segment_of U i ∷ segment_in place ∷ []) outer) _ (step_of coding [] (Part U i count ∷ place ∷ outer) leaf at b)
       (deep_member (codes "operation") (segment_of U i) (segment_in place) [] outer)
 
--- What ends a header that ends otherwise calls nothing.
+-- the octet that ends a header of such a type has no call
 pub last_no_call : (coding : Coding) (is : Bool) (T : Ty) (outer : List OpenPart) (leaf : Leaf)
     (at b : ℕ) → EndsOtherwise T → IsFit 24 T → FitsIn T outer leaf →
     done_test (step coding [] outer leaf at b) ≡ true →
@@ -156,7 +156,7 @@ abbrev pub CallsNone : Bool → Read → Type 0
 CallsNone is (Fault lines at why T) = Each (λ l. ends_operation is l ≡ false) lines
 CallsNone is _ = Unit {0}
 
--- where no line does, whatever has come of it
+-- it is so where no line of the reading ends an operation
 each_none : (is : Bool) (r : Read) → Each (λ l. ends_operation is l ≡ false) (lines_of r) →
     CallsNone is r
 each_none is (Fault lines at why T) h = h
@@ -178,7 +178,7 @@ firm_none is (Short lines at outer leaf) h = tt
 firm_none is (Fault lines at why T) (inl h) = ends_none is lines h
 firm_none is (Fault lines at why T) (inr h) = absurd (false≢true (sym h.1))
 
--- ---- what stands around it
+-- ---- the parts around it
 
 followed_none : (is : Bool) (n : ℕ) (r : Read) (next : ℕ → List ℕ → Read) → IsOctetResult n r →
     IsEmptyResult n (next n []) → CallsNone is r → CallsNone is (followed r next)
@@ -196,7 +196,7 @@ within_none : (is : Bool) (place : OpenPart) (r : Read) → CallsNone is r →
 within_none is place (Done lines at rest) h = h
 within_none is place r h = h
 
--- what stands in an encapsulation is no member of the root
+-- what is in an encapsulation is no member of the root
 held_member : (name : List ℕ) (path : List PathSegment) (outer : List OpenPart) →
     is_member name (path_in (path ++ Held ∷ []) outer) ≡ false
 held_member name [] [] = refl
@@ -204,7 +204,7 @@ held_member name [] (place ∷ outer) = deep_member name Held (segment_in place)
 held_member name (a ∷ []) outer = deep_member name a Held [] outer
 held_member name (a ∷ b ∷ path) outer = deep_member name a b (path ++ Held ∷ []) outer
 
--- An octet that ends an encapsulation too soon may say what it completes, which is no operation.
+-- An octet that ends an encapsulation too soon may have the line of what it completes, which is no operation.
 pub step_none : (is : Bool) (coding : Coding) (path : List PathSegment) (outer : List OpenPart) (leaf : Leaf)
     (at b : ℕ) → CallsNone is (step coding path outer leaf at b)
 step_none is coding path [] leaf at b = firm_none is (leaf_step coding path leaf at b) (leaf_says coding path leaf at b).firm

@@ -1,4 +1,4 @@
--- What an octet leaves: behind a part of the rest nothing is held, and behind a fault the message is over.
+-- A message after an octet: after a part of the rest no octet is held, and after a fault the message is over.
 use Rattle.std.proofs.Common.{◌≡◌, ℕ, ◌+◌, Bool, true, false, List, [], ◌∷◌, ◌++◌, length, map, drop, refl, sym, ap, ◌∙◌, append-nil, inl, inr}
 use Rattle.std.specs.List.{list_any}
 use Rattle.std.proofs.lemmas.Bool.{false≢true}
@@ -24,43 +24,43 @@ use Rattle.giop_message.proofs.AtOctet.{due_said_is}
 use Rattle.giop_message.proofs.Causal.{Silent, MayCall, calls_is, body_silent, after_silent}
 use Rattle.giop_message.proofs.Going.{message_goes}
 
-abbrev pub Sayings : List LineAt → List LineClass
-Sayings emitted = map (λ t. line_class_of t.message_line) emitted
+abbrev pub LineClasses : List LineAt → List LineClass
+LineClasses emitted = map (λ t. line_class_of t.message_line) emitted
 
--- what one octet comes to: behind a part of the rest nothing is held, and behind a fault the message is over
+-- after lines of these classes: no octet is held after a part of the rest, and the message is over after a fault
 abbrev pub Leaves : List LineClass → Stage → Type 0
 Leaves line_classes stage = (line_classes ≡ Rest ∷ [] → (offset : ℕ) × (stage ≡ In_rest offset [])) × (list_any is_fault line_classes ≡ true → stage ≡ Over)
 
 abbrev Settles : Message → Type 0
-Settles (ReadTo emitted at stage) = Leaves (Sayings emitted) stage
+Settles (ReadTo emitted at stage) = Leaves (LineClasses emitted) stage
 
 silent_settles : (n : ℕ) (m : Message) → Silent n m → Settles m
 silent_settles n (ReadTo emitted at stage) h = rw h.0 (λ e. absurd cc, λ e. absurd (false≢true e))
 
 -- lines of a typed part are no faults
-tells_faultless : (root : Root) (is : Bool) (h : Noted) (lines : List Line) →
-    list_any is_fault (Sayings (section_lines root is h lines)) ≡ false
+section_lines_faultless : (root : Root) (is : Bool) (h : Noted) (lines : List Line) →
+    list_any is_fault (LineClasses (section_lines root is h lines)) ≡ false
 unfolding section_lines line_at line_class_of
-tells_faultless root is h [] = refl
-tells_faultless root is h (l ∷ ls) =
+section_lines_faultless root is h [] = refl
+section_lines_faultless root is h (l ∷ ls) =
     let now = note (is_header_root root) h l in
-    behind (calls is l now) (section_lines root is now ls) (calls_is is l now) (tells_faultless root is now ls)
+    behind (calls is l now) (section_lines root is now ls) (calls_is is l now) (section_lines_faultless root is now ls)
   where
     behind : (called emitted : List LineAt) → MayCall l.at called →
-        list_any is_fault (Sayings emitted) ≡ false →
-        list_any is_fault (Sayings (called ++ emitted)) ≡ false
+        list_any is_fault (LineClasses emitted) ≡ false →
+        list_any is_fault (LineClasses (called ++ emitted)) ≡ false
     behind called emitted (inl e) h = rw e h
     behind called emitted (inr f) h = rw f.2 h
 
 -- lines of a typed part are of values first
-tells_leave : (root : Root) (is : Bool) (h : Noted) (lines : List Line) (stage : Stage) →
-    Leaves (Sayings (section_lines root is h lines)) stage
+section_lines_leave : (root : Root) (is : Bool) (h : Noted) (lines : List Line) (stage : Stage) →
+    Leaves (LineClasses (section_lines root is h lines)) stage
 unfolding section_lines line_at line_class_of
-tells_leave root is h [] stage = (λ e. absurd cc, λ e. absurd (false≢true e))
-tells_leave root is h (l ∷ ls) stage = (λ e. absurd cc, λ e. absurd (false≢true (sym (tells_faultless root is h (l ∷ ls)) ∙ e)))
+section_lines_leave root is h [] stage = (λ e. absurd cc, λ e. absurd (false≢true e))
+section_lines_leave root is h (l ∷ ls) stage = (λ e. absurd cc, λ e. absurd (false≢true (sym (section_lines_faultless root is h (l ∷ ls)) ∙ e)))
 
 front_settles : (n : ℕ) (front : List LineAt) (m : Message) →
-    ((stage : Stage) → Leaves (Sayings front) stage) → Silent n m → Settles (with_front front m)
+    ((stage : Stage) → Leaves (LineClasses front) stage) → Silent n m → Settles (with_front front m)
 unfolding with_front
 front_settles n front (ReadTo emitted at stage) h k = rw (k.0, append-nil front) (h stage)
 
@@ -73,8 +73,8 @@ module _ (section : Section) (is : Bool) (next : Noted → ℕ → List ℕ → 
   unfolding section_then line_at line_class_of section_lines
   passes_settles k (Done lines at s) h =
       let now = noted (is_header_root R) k lines in
-      rw (h.1, h.2) (front_settles n (section_lines R is k lines) (next now n []) (tells_leave R is k lines) (silent now))
-  passes_settles k (Short lines at outer leaf) h = tells_leave R is k lines (In_typed section (noted (is_header_root R) k lines) outer leaf)
+      rw (h.1, h.2) (front_settles n (section_lines R is k lines) (next now n []) (section_lines_leave R is k lines) (silent now))
+  passes_settles k (Short lines at outer leaf) h = section_lines_leave R is k lines (In_typed section (noted (is_header_root R) k lines) outer leaf)
   passes_settles k (Faulted [] at why T) h = (λ e. absurd cc, λ e. refl)
   passes_settles k (Faulted (l ∷ ls) at why T) h = (λ e. absurd cc, λ e. refl)
 
@@ -100,25 +100,25 @@ step_settles S header at (In_padding t) b = go (nat_lt 1 (padding at 8))
 step_settles S header at (In_rest offset held) b = rest_settles offset (held ++ b ∷ []) (at + 1) (length (held ++ b ∷ []) == 32)
 step_settles S header at Over b = (λ e. absurd cc, λ e. absurd (false≢true e))
 
--- what an octet says, and where it leaves the message
+-- the lines of an octet, and where the message is after it
 advance_settles : (S : Signatures) (header : List ℕ) (m : Message) (b : ℕ) →
-    Leaves (Sayings (drop (length (message_lines m)) (message_lines (advance S header m b))))
+    Leaves (LineClasses (drop (length (message_lines m)) (message_lines (advance S header m b))))
     (stage_of (advance S header m b))
 unfolding advance with_front message_lines stage_of
 advance_settles S header (ReadTo emitted at stage) b = go (message_step S header at stage b) (step_settles S header at stage b)
   where
     go : (m : Message) → Settles m →
-        Leaves (Sayings (drop (length emitted) (message_lines (with_front emitted m))))
+        Leaves (LineClasses (drop (length emitted) (message_lines (with_front emitted m))))
         (stage_of (with_front emitted m))
     go (ReadTo more at' stage') h = rw (drop-append_seam emitted more) h
 
-speaks : (emitted : List LineAt) → map (λ r. r.line_class) (map timed_line_of emitted) ≡ Sayings emitted
-speaks [] = refl
-speaks (t ∷ ts) = ap (λ ss. line_class_of t.message_line ∷ ss) (speaks ts)
+classes_of_lines : (emitted : List LineAt) → map (λ r. r.line_class) (map timed_line_of emitted) ≡ LineClasses emitted
+classes_of_lines [] = refl
+classes_of_lines (t ∷ ts) = ap (λ ss. line_class_of t.message_line ∷ ss) (classes_of_lines ts)
 
 pub octet_leaves : (S : Signatures) (header xs : List ℕ) (x : ℕ) →
     Leaves (map (λ r. r.line_class) (said.due (reader_by S) header xs x))
     (stage_of (message S header (xs ++ x ∷ [])))
 unfolding due
 octet_leaves S header xs x =
-    rw (due_said_is S header xs x, speaks (due S header xs (x ∷ [])), message_goes S header xs x) (advance_settles S header (message S header xs) x)
+    rw (due_said_is S header xs x, classes_of_lines (due S header xs (x ∷ [])), message_goes S header xs x) (advance_settles S header (message S header xs) x)

@@ -10,22 +10,23 @@ use Rattle.giop_message.specs.ReaderOfTable.{message_reader, is_over}
 use Rattle.giop_message.specs.MessageState.{Follows}
 use Rattle.giop_message.proofs.Named as named
 use Rattle.giop_message.proofs.Followings as followings
--- what the stream asks of a reading (`message_laws`)
+-- what the stream needs of a reading (`message_laws`)
 pub use Rattle.giop_message.proofs.Causal.{is_causal, is_ordered}
 pub use Rattle.giop_message.proofs.Closes.{is_closing}
 pub use Rattle.giop_message.proofs.Named.{is_ending}
--- a message that goes by its request id begins with it, and its first four octets say it
+-- the header of a message that the stream finds by its request id begins with it, which is the number of the first four
+-- octets
 pub use Rattle.giop_message.proofs.Named.{begins_with_id, id_is_said}
--- what is told of more octets, and where a message is over
+-- the lines of more octets, and where a message is over
 pub use Rattle.giop_message.proofs.Followings.{told_more}
 pub use Rattle.giop_message.proofs.Faults.{over_where_faulted}
--- the text of octets: of two lists one after the other, of none, and behind a fault
+-- the text of octets: of two lists one after the other, of none, and after a fault
 pub use Rattle.giop_message.proofs.Dues.{text_both, text_none, text_over}
--- one octet, and the close, told by the reading alone (`message_reader_laws`)
+-- one octet, and the close, by the reading alone (`message_reader_laws`)
 pub use Rattle.giop_message.proofs.AtOctet.{octet_text, octet_over, close_short}
 pub use Rattle.giop_message.proofs.AtOctet.{close_is}
 
--- and by a catalogue's table and what is kept of a request list
+-- and by a catalogue's table and a request table
 
 pub is_named : (C : Table) (request_table : RequestTable) → HasOnlyValuesInId (message_reader C request_table)
 is_named C request_table = named.is_named (signatures_of C request_table) (named.has_ids C request_table)

@@ -1,4 +1,5 @@
--- The close ends a message, and a message that begins with its request id says that alone in its first four octets.
+-- The close ends a message, and in a message that begins with its request id the first four octets have no line but
+-- that of the id.
 use Rattle.std.proofs.Common.{◌≡◌, ℕ, suc, ◌<◌, ◌≤◌, ◌⊎◌, inl, inr, Bool, true, false, List, [], ◌∷◌, ◌++◌, length, map, Option, Some, None, refl, ap, ◌∙◌, append-nil, arith}
 use Rattle.std.specs.Prelude.{◌&&◌, ◌||◌, ◌==◌, if◌then◌else◌, IfSome, codes}
 use Rattle.std.proofs.lemmas.Bool.{eqb-true}
@@ -63,11 +64,11 @@ number_no_operation : (is : Bool) (path : List PathSegment) (n : ℕ) →
     ends_operation is (line 16 path (Number (Plain prims.ULong) n)) ≡ false
 number_no_operation is path n = no_operation is (is_member (codes "operation") path)
 
-tells_id : (is : Bool) (path : List PathSegment) (n : ℕ) →
+section_lines_id : (is : Bool) (path : List PathSegment) (n : ℕ) →
     section_lines roots.Header is nothing_noted (line 16 path (Number (Plain prims.ULong) n) ∷ [])
     ≡ line_at 16 (ValueLine roots.Header path (Number (Plain prims.ULong) n)) ∷ []
 unfolding section_lines calls
-tells_id is path n = rw (number_no_operation is path n) refl
+section_lines_id is path n = rw (number_no_operation is path n) refl
 
 module _ (o : Order) (path : List PathSegment) where
   read_four : (a b c d : ℕ) →
@@ -125,7 +126,7 @@ module _ (o : Order) (n : ℕ) (of : ℕ → List ℕ) (parts : ℕ → Ty)
         ∙ (ap (λ ts. section_lines roots.Header is_req nothing_noted (l ∷ []) ++ ts)
         (told_silent 16 (section_then sections.Header is_req onward (noted true nothing_noted (l ∷ [])) (next 16 []))
         (passes_silent sections.Header is_req onward 16 silent (noted true nothing_noted (l ∷ [])) (next 16 []) next_quiet))
-        ∙ (append-nil (section_lines roots.Header is_req nothing_noted (l ∷ [])) ∙ tells_id is_req (Name (of 0) ∷ []) (num o (a ∷ b ∷ c ∷ d ∷ []))))))
+        ∙ (append-nil (section_lines roots.Header is_req nothing_noted (l ∷ [])) ∙ section_lines_id is_req (Name (of 0) ∷ []) (num o (a ∷ b ∷ c ∷ d ∷ []))))))
 
 -- of a header that begins with its request id
 module _ (S : Signatures) (header : List ℕ) where
@@ -177,7 +178,7 @@ pub is_named : (S : Signatures) → HasIds S → HasOnlyValuesInId (reader_by S)
 unfolding reader_by message are_values
 is_named S ids = record { named = λ header xs by few. named_by S header (S.header (minor header) (kind header)) (ids.begins header by) xs few }
 
--- The id that the header says is the number of the first four octets.
+-- The request id of the header is the number of the first four octets.
 pub id_is_said : (S : Signatures) (header : List ℕ) (T : Ty) →
     S.header (minor header) (kind header) ≡ Some T → BeginsWithId T → (a b c d : ℕ) (xs : List ℕ) →
     first_request_id (message_lines (message S header (a ∷ b ∷ c ∷ d ∷ xs)))

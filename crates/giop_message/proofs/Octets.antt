@@ -1,4 +1,4 @@
--- What is told at one octet of a section, and its text.
+-- The lines of one octet of a section, and their text.
 use Rattle.std.proofs.Common.{◌≡◌, ℕ, ◌+◌, ◌-◌, Bool, false, List, [], ◌∷◌, ◌++◌, refl, sym, ap, ◌∙◌, append_assoc, append-nil, arith}
 use Rattle.std.specs.List.{AllByRecursion as Each}
 use Rattle.std.proofs.Math.Seq.{drop-append_seam}
@@ -31,7 +31,7 @@ pub told_silent : (n : ℕ) (m : Message) → Silent n m → message_lines m ≡
 unfolding message_lines
 told_silent n (ReadTo emitted at stage) h = h.0
 
--- what is due is what comes behind
+-- the lines of more octets are those after the lines so far
 pub due_is : (S : Signatures) (header s more : List ℕ) (before : List LineAt) (m n : Message) →
     message S header s ≡ m →
     message S header (s ++ more) ≡ with_front before n → message_lines m ≡ before →
@@ -40,7 +40,7 @@ unfolding due
 due_is S header s more before m n is now same =
     rw (is, same, now, told_front before n) (drop-append_seam before (message_lines n))
 
--- a fault, behind the lines
+-- the line of a fault, after the others
 abbrev pub wrongs : Read → List LineAt
 wrongs (Fault lines at why T) = line_at at (FaultLine why) ∷ []
 wrongs _ = []
@@ -63,17 +63,17 @@ said_text : (number place offset at : ℕ) (root : Root) (l : Line) →
 unfolding message_lines_text message_line_text line_class_of line_at
 said_text number place offset at root l = append-nil _ ∙ said_is_line number l.at root l.path l.value
 
-tells_text : (number place offset n : ℕ) (root : Root) (is : Bool) (h : Noted) (lines : List Line) →
+section_lines_text : (number place offset n : ℕ) (root : Root) (is : Bool) (h : Noted) (lines : List Line) →
     OneAt n lines → message_lines_text number place offset (section_lines root is h lines)
     ≡ lines_text number root lines ++ message_lines_text number place offset (first_call root is h lines)
 unfolding section_lines lines_text
-tells_text number place offset n root is h [] one = refl
-tells_text number place offset n root is h (l ∷ []) one =
+section_lines_text number place offset n root is h [] one = refl
+section_lines_text number place offset n root is h (l ∷ []) one =
     let called = calls is l (note (is_header_root root) h l) in
     ap (message_lines_text number place offset) (append-nil (line_at l.at (ValueLine root l.path l.value) ∷ called))
     ∙ (text_both number place offset (line_at l.at (ValueLine root l.path l.value) ∷ []) called
     ∙ ap (λ z. z ++ message_lines_text number place offset called) (said_text number place offset l.at root l ∙ sym (append-nil (line_text number root l))))
-tells_text number place offset n root is h (l ∷ l' ∷ ls) one = absurd one
+section_lines_text number place offset n root is h (l ∷ l' ∷ ls) one = absurd one
 
 wrongs_text : (number place n : ℕ) (st : Read) → IsOctetResult (n + 1) st →
     message_lines_text number place n (wrongs st) ≡ fault_text number (place + 1) st
@@ -83,14 +83,14 @@ wrongs_text number place n (Fault lines at why T) now =
     rw e (append-nil _)
 wrongs_text number place n _ now = refl
 
--- where no line ends an operation none is called
+-- where no line ends an operation there is no call
 pub no_first : (root : Root) (is : Bool) (h : Noted) (lines : List Line) →
     Each (λ l. ends_operation is l ≡ false) lines → first_call root is h lines ≡ []
 unfolding calls
 no_first root is h [] each = refl
 no_first root is h (l ∷ ls) each = rw each.0 refl
 
--- A fault stands where nothing is called, so its text may come before that of a call.
+-- A fault has no call, so its text may come before that of a call.
 swapped : (number place n : ℕ) (root : Root) (is : Bool) (h : Noted) (st : Read) → IsOctetResult (n + 1) st →
     CallsNone is st → lines_text number root (lines_of st)
     ++ (message_lines_text number place n (first_call root is h (lines_of st))
@@ -111,6 +111,6 @@ pub step_text : (number place n : ℕ) (root : Root) (is : Bool) (h : Noted) (st
     ++ message_lines_text number place n (first_call root is h (lines_of st))
 step_text number place n root is h st now none =
     text_both number place n (section_lines root is h (lines_of st)) (wrongs st)
-    ∙ (rw (wrongs_text number place n st now, tells_text number place n (n + 1) root is h (lines_of st) (one_of (n + 1) st now))
+    ∙ (rw (wrongs_text number place n st now, section_lines_text number place n (n + 1) root is h (lines_of st) (one_of (n + 1) st now))
     (append_assoc (lines_text number root (lines_of st)) (message_lines_text number place n (first_call root is h (lines_of st))) (fault_text number (place + 1) st)
     ∙ swapped number place n root is h st now none))

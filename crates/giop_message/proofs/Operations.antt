@@ -1,4 +1,4 @@
--- Where an operation ends: behind it no string has begun, and it isn't the last part of a Request's header.
+-- Where a line ends a string, as that of an operation does, no other string has begun.
 use Rattle.std.proofs.Common.{◌≡◌, ℕ, zero, suc, ◌+◌, ◌-◌, ◌⊎◌, inl, inr, Bool, true, false, List, [], ◌∷◌, ◌++◌, refl, sym, subst, ◌∙◌, arith, lit<}
 use Rattle.std.specs.Prelude.{cond, ltb}
 use Rattle.std.specs.List.{AllByRecursion as Each}
@@ -57,7 +57,7 @@ closed_firm : (r : Read) → Firm r → Closed r
 closed_firm r (inl h) = inl h
 closed_firm r (inr h) = inr h.0
 
--- ---- what stands around it
+-- ---- the parts around it
 
 closed_within : (place : OpenPart) (r : Read) → Closed r → Closed (within place r)
 closed_within place (Done lines at rest) h = h

@@ -1,4 +1,4 @@
--- One octet of a section, where a message stands in that: what it comes to, its lines and its text.
+-- One octet of a section that a message is in: the message after it, its lines and its text.
 use Rattle.std.proofs.Common.{◌≡◌, ℕ, ◌+◌, Bool, List, [], ◌∷◌, ◌++◌, length, refl, sym, ap, subst, ◌∙◌, append_assoc, append-nil, arith, length-append}
 use Rattle.std.proofs.Math.Seq.{drop-append_seam}
 use Rattle.giop_print.specs.declared.path.Root.{Root}
@@ -48,15 +48,15 @@ module _ (w : Begun) where
   abbrev pub reading : List ℕ → Read
   reading octets = read (plain (order header)) [] T start octets
 
-  -- whether an octet behind some ends an operation
+  -- whether an octet after these ends an operation
   abbrev pub is_named : List ℕ → ℕ → Bool
   is_named octets b = names_operation (is_header_root (root_of section)) (decoders.added_lines (order header) T start octets b)
 
-  -- what a message comes to, by that
+  -- the message, by that reading
   abbrev pub comes : Read → Message
   comes r = with_front before (section_and_rest S header section nothing_noted r)
 
-  -- Where a message stands in it behind its first octets, and it goes on: what their reading has begun and not ended.
+  -- A message that is in the section after these octets of it: what their reading has begun and not ended.
   pub record Inside (s octets : List ℕ) : Type 0 where
     pub since : s ≡ front ++ octets
     pub is : message S header s ≡ comes (reading octets)
@@ -66,7 +66,7 @@ module _ (w : Begun) where
     pub leaf : Leaf
     pub was_short : reading octets ≡ Short lines (start + length octets) outer leaf
 
--- ---- a section that has come to something
+-- ---- a section, by the reading of its octets
 
 -- a reading that is done has read all
 abbrev pub ReadsAll : Read → Type 0
@@ -77,19 +77,19 @@ pub now_all : (n : ℕ) (st : Read) → IsOctetResult n st → ReadsAll st
 now_all n (Done lines at rest) now = now.2
 now_all n r now = tt
 
--- what is told of a section, of which nothing follows without an octet
-pub passed_tells : (S : Signatures) (header : List ℕ) (section : Section) (h : Noted) (r : Read) →
+-- the lines of a section are all, since what follows it has none without an octet
+pub passed_section_lines : (S : Signatures) (header : List ℕ) (section : Section) (h : Noted) (r : Read) →
     ReadsAll r → message_lines (section_and_rest S header section h r)
     ≡ section_lines (root_of section) (may_call header section) h (lines_of r) ++ wrongs r
 unfolding section_then message_lines
-passed_tells S header section h (Done lines at rest) all =
+passed_section_lines S header section h (Done lines at rest) all =
     let R = root_of section in
     let emitted = section_lines R (may_call header section) h lines in
     let next = after S header section (noted (is_header_root R) h lines) in
     rw (all)
     (told_front emitted (next at []) ∙ ap (λ ts. emitted ++ ts) (told_silent at (next at []) (after_silent S header section (noted (is_header_root R) h lines) at)))
-passed_tells S header section h (Short lines at outer leaf) all = sym (append-nil (section_lines (root_of section) (may_call header section) h lines))
-passed_tells S header section h (Fault lines at why T) all = refl
+passed_section_lines S header section h (Short lines at outer leaf) all = sym (append-nil (section_lines (root_of section) (may_call header section) h lines))
+passed_section_lines S header section h (Fault lines at why T) all = refl
 
 short_told : (S : Signatures) (header : List ℕ) (section : Section) (before : List LineAt)
     (lines : List Line) (at : ℕ) (outer : List OpenPart) (leaf : Leaf) →
@@ -147,7 +147,7 @@ module _ (w : Begun) (s octets : List ℕ) (i : Inside w s octets) (b : ℕ) whe
   abbrev coding : Coding
   coding = plain (order header)
 
-  -- where the section stands
+  -- the offset of the section's next octet
   abbrev Here : ℕ
   Here = start w + length octets
 
@@ -157,8 +157,8 @@ module _ (w : Begun) (s octets : List ℕ) (i : Inside w s octets) (b : ℕ) whe
   abbrev pub Added : Read
   Added = decoder.step coding [] i.outer i.leaf Here b
 
-  abbrev pub heard_before : Noted
-  heard_before = noted (is_header_root R) nothing_noted i.lines
+  abbrev pub noted_before : Noted
+  noted_before = noted (is_header_root R) nothing_noted i.lines
 
   pub next_is : Next ≡ ReadResult.with_front i.lines Added
   next_is = read_goes coding [] T (start w) octets b ∙ ap (λ r. decoder.advance coding [] r b) i.was_short
@@ -175,16 +175,16 @@ module _ (w : Begun) (s octets : List ℕ) (i : Inside w s octets) (b : ℕ) whe
   pub goes_more : message S header (s ++ b ∷ []) ≡ comes w Next
   goes_more = goes_one w s octets i.is b
 
-  due_here : due S header s (b ∷ []) ≡ section_lines R Is heard_before (lines_of Added) ++ wrongs Added
+  due_here : due S header s (b ∷ []) ≡ section_lines R Is noted_before (lines_of Added) ++ wrongs Added
   due_here =
       let emitted = section_lines R Is nothing_noted i.lines in
-      let more = section_and_rest S header section heard_before Added in
+      let more = section_and_rest S header section noted_before Added in
       due_is S header s (b ∷ []) (before ++ emitted) (comes w (Short i.lines Here i.outer i.leaf)) more
       (i.is ∙ ap (comes w) i.was_short)
       (goes_more ∙ (ap (comes w) next_is
       ∙ (ap (with_front before) (passes_front section Is (after S header section) nothing_noted i.lines Added) ∙ front_twice before emitted more)))
       (short_told S header section before i.lines Here i.outer i.leaf)
-      ∙ passed_tells S header section heard_before Added (now_all (Here + 1) Added added_now)
+      ∙ passed_section_lines S header section noted_before Added (now_all (Here + 1) Added added_now)
 
   here_is : Here ≡ 12 + length s
   here_is = omega (arith, ap length i.since, length-append front octets)
@@ -193,12 +193,12 @@ module _ (w : Begun) (s octets : List ℕ) (i : Inside w s octets) (b : ℕ) whe
   pub text_here : (place : ℕ) → due_text S number place header s (b ∷ []) ≡
       (lines_text number R (decoders.added_lines (order header) T (start w) octets b)
       ++ fault_text number (place + 1) Next)
-      ++ message_lines_text number place (12 + length s) (first_call R Is heard_before (lines_of Added))
+      ++ message_lines_text number place (12 + length s) (first_call R Is noted_before (lines_of Added))
   unfolding due_text
   text_here place =
       let now = subst (λ n. IsOctetResult (n + 1) Added) here_is added_now in
       ap (message_lines_text number place (12 + length s)) due_here
-      ∙ (step_text number place (12 + length s) R Is heard_before Added now added_none
+      ∙ (step_text number place (12 + length s) R Is noted_before Added now added_none
       ∙ rw (lines_due, next_is, fault_front number (place + 1) i.lines Added) refl)
 
   -- where it goes on

@@ -23,7 +23,7 @@ use Rattle.giop_message.proofs.Octets.{due_is, told_silent}
 use Rattle.giop_message.proofs.Spelling.{rest_said}
 use Rattle.giop_message.proofs.Followings.{Moved, is_at, id_kept, follows_on}
 
--- from where a message comes to
+-- the lines of one octet more, by the step from where the message is
 pub comes_more : (S : Signatures) (header s : List ℕ) (b : ℕ) (emitted : List LineAt) (at : ℕ)
     (stage : Stage) → message S header s ≡ ReadTo emitted at stage →
     message S header (s ++ b ∷ []) ≡ with_front emitted (message_step S header at stage b)
@@ -123,7 +123,7 @@ module _ {C : Table} {request_table : RequestTable} {number : ℕ} {header : Lis
 
 -- ---- in the rest
 
--- what a step in the rest comes to, and that it says no id
+-- a message after a step in the rest, none of whose lines has a request id
 pub record Rested (m : Message) (at : ℕ) : Type 0 where
   pub comes : m ≡ ReadTo (message_lines m) at (stage_of m)
   pub no_id : first_request_id (message_lines m) ≡ None

@@ -1,4 +1,4 @@
--- The definitions at messages worked by hand.
+-- The lines of given messages, as the definitions compute them.
 use Rattle.std.proofs.Common.{◌≡◌, ℕ, zero, suc, ◌+◌, Bool, true, false, List, [], ◌∷◌, ◌++◌, replicate, length, Some, None, refl}
 use Rattle.std.specs.Prelude.{codes, IfSome, nat_lt, ◌&&◌, ◌||◌}
 use Rattle.std.specs.Fmt.{digits}
@@ -20,7 +20,7 @@ use Rattle.giop_message.specs.Signatures.{RequestTable, signatures_of}
 use Rattle.giop_message.specs.Messages.{line_at, is_shown, call_of, calls, section_lines, with_front, section_then, rest_in, rest, typed, option_typed, members_of, after_exception, body, type_if, request_body, result_body, reply_body, is_request, body_of, has_body, padded, after_header, of_header, message, body_may_be_missing, close, message_lines, stage_of}
 use Rattle.giop_message.specs.ReaderOfTable.{line_class_of, text_of, reader_by, message_reader}
 
--- an operation by its structs, counted from the first type behind the built-in ones
+-- an operation by its structs, counted from the first type after the built-in ones
 called : List ℕ → ℕ → ℕ → Operation
 called name request reply = record {
   name = name;
@@ -65,7 +65,7 @@ r = message_reader table request_table
 says : ℕ → List ℕ → TimedLine
 says at text = record { at = at; line_class = Value; text = text }
 
--- names what the rows compute with
+-- it names the definitions that the rows unfold
 rows : ℕ
 unfolding digits num twos_complement padding block number path_text hex hex_number escaped type_in trees_after builtin_types minor kind order value_said call_text rest_text signatures_of line_at is_shown call_of calls section_lines with_front section_then rest_in rest typed option_typed members_of after_exception body type_if request_body result_body reply_body is_request body_of has_body padded after_header of_header message body_may_be_missing close message_lines stage_of line_class_of text_of reader_by called late table request_table r says
 rows = 0
@@ -111,7 +111,7 @@ ended = (End, codes "end") ∷ []
 short : List (LineClass × List ℕ)
 short = (Fault, codes "short") ∷ []
 
--- what the octets of a message say, and what its close adds
+-- the lines of a message's octets, and those of its close
 abbrev Row : List ℕ → List ℕ → List TimedLine → List (LineClass × List ℕ) → Type 0
 Row header s reads closes = (r.reads header s ≡ reads) × (r.closes header s ≡ closes)
 
@@ -144,13 +144,13 @@ cut_string : Row (head 2 0)
 unfolding rows head h t_nop t_say t_raw ended short
 cut_string = (refl, refl)
 
--- a string's wrong end, behind which nothing is read
+-- a string's wrong end, after which nothing is read
 wrong_end : Row (head 2 0) (h (codes "say") ++ 0 ∷ 0 ∷ 0 ∷ 0 ∷ 0 ∷ 0 ∷ 0 ∷ 2 ∷ 97 ∷ 98 ∷ 9 ∷ 9 ∷ [])
     (t_say ++ record { at = 42; line_class = Fault; text = codes "string-end" } ∷ []) ended
 unfolding rows head h t_nop t_say t_raw ended short
 wrong_end = (refl, refl)
 
--- a rest of 32 octets behind an empty octet sequence
+-- a rest of 32 octets after an empty octet sequence
 rest_of_32 : Row (head 2 0) (h (codes "raw") ++ 0 ∷ 0 ∷ 0 ∷ 0 ∷ 0 ∷ 0 ∷ 0 ∷ 0 ∷ replicate 32 17)
     (t_raw ++ says 40 (codes "body.o octets @0") ∷ record
     { at = 72; line_class = Rest; text = codes "rest @0 1111111111111111111111111111111111111111111111111111111111111111" } ∷ []) ended
@@ -171,7 +171,7 @@ body_of_1_0 : Row (head 0 0)
 unfolding rows head h t_nop t_say t_raw ended short
 body_of_1_0 = (refl, refl)
 
--- In 1.2 it begins at the next multiple of 8, here of a Request of little order.
+-- In 1.2 it begins at the next multiple of 8, here of a little-endian Request.
 body_of_1_2 : Row (71 ∷ 73 ∷ 79 ∷ 80 ∷ 1 ∷ 2 ∷ 1 ∷ 0 ∷ 44 ∷ 0 ∷ 0 ∷ 0 ∷ [])
     (1 ∷ 0 ∷ 0 ∷ 0 ∷ 3 ∷ 0 ∷ 0 ∷ 0 ∷ 0 ∷ 0 ∷ 0 ∷ 0 ∷ 1 ∷ 0 ∷ 0 ∷ 0 ∷ 65 ∷ 0 ∷ 0 ∷ 0 ∷ 4 ∷ 0 ∷ 0 ∷ 0
     ∷ 112 ∷ 117 ∷ 116 ∷ 0 ∷ 0 ∷ 0 ∷ 0 ∷ 0 ∷ 0 ∷ 0 ∷ 0 ∷ 0 ∷ 0 ∷ 0 ∷ 0 ∷ 0 ∷ 0 ∷ 0 ∷ 248 ∷ 63 ∷ [])
@@ -203,7 +203,7 @@ reply_of_two : Row (head 0 1)
 unfolding rows head h t_nop t_say t_raw ended short
 reply_of_two = (refl, refl)
 
--- An exception has its members behind its repository id, at their alignment,
+-- An exception has its members after its repository id, at their alignment,
 raised : Row (head 0 1)
     (0 ∷ 0 ∷ 0 ∷ 0 ∷ 0 ∷ 0 ∷ 0 ∷ 1 ∷ 0 ∷ 0 ∷ 0 ∷ 1 ∷ 0 ∷ 0 ∷ 0 ∷ 13 ∷ 73 ∷ 68 ∷ 76 ∷ 58 ∷ 76 ∷ 97
     ∷ 116 ∷ 101 ∷ 58 ∷ 49 ∷ 46 ∷ 48 ∷ 0 ∷ 0 ∷ 0 ∷ 3 ∷ [])
@@ -279,7 +279,7 @@ any_below : ℕ → (ℕ → Bool) → Bool
 any_below zero test = false
 any_below (suc n) test = any_below n test || test n
 
--- a type in which such a type stands
+-- whether such a type is in a type
 has_type : (Ty → Bool) → Ty → Bool
 unfolding any_below
 has_type test (Struct count names parts) = any_below count (λ i. has_type test (parts i))
@@ -293,13 +293,13 @@ is_enum : Ty → Bool
 is_enum (Single (Enum count names)) = true
 is_enum T = false
 
--- of a struct: whether such a type stands in a part behind that place
+-- of a struct: whether such a type is in a part after that index
 behind : (Ty → Bool) → ℕ → Ty → Bool
 unfolding any_below has_type
 behind test k (Struct count names parts) = any_below count (λ i. nat_lt k i && has_type test (parts i))
 behind test k T = true
 
--- the part in this place has this name and is of such a type, and none behind it has one in it
+-- the part of this index has this name and is of such a type, and no part after it has one in it
 record IsLast (test : Ty → Bool) (name : List ℕ) (k : ℕ) (T : Ty) : Type 0 where
   named : name_in T k ≡ name
   such : test (part_of T k) ≡ true

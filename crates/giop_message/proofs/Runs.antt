@@ -1,4 +1,4 @@
--- Octets of a section, taken as a run: their text, and where the message stands behind them.
+-- Octets of a section, taken as a run: their text, and where the message is after them.
 use Rattle.std.proofs.Common.{◌≡◌, ℕ, ◌+◌, ◌-◌, ◌<◌, ◌≤◌, Bool, true, false, List, [], ◌∷◌, ◌++◌, length, take, drop, refl, sym, ap, subst, ◌∙◌, append_assoc, append-nil, arith, length-append}
 use Rattle.std.proofs.Math.Seq.{take-append_seam}
 use Rattle.std.proofs.lemmas.List.{length-take-le, take-append-drop}
@@ -31,13 +31,13 @@ use Rattle.giop_message.specs.MessageSteps.{request_call}
 use Rattle.giop_message.proofs.Going.{front_twice}
 use Rattle.giop_message.proofs.Dues as whole
 use Rattle.giop_message.proofs.Octets.{told_front, stage_front}
-use Rattle.giop_message.proofs.Parts.{Begun, start, reading, is_named, comes, Inside, ReadsAll, EndsAt, passed_tells, goes_one, inside_on, ends_here}
+use Rattle.giop_message.proofs.Parts.{Begun, start, reading, is_named, comes, Inside, ReadsAll, EndsAt, passed_section_lines, goes_one, inside_on, ends_here}
 use Rattle.giop_message.proofs.Sections.{any_text, more_text, done_text, wrong_text, named_in, named_text}
 use Rattle.giop_message.proofs.Followings.{id_both, first_none, section_no_id}
 
 -- ---- the last of them
 
--- The octets are some behind which the value goes on, and a last one.
+-- The octets are some after which the value goes on, and a last one.
 pub record LastOne (o : Order) (T : Ty) (at : ℕ) (root : Root) (s xs : List ℕ)
     (p : Progress) : Type 0 where
   pub front : List ℕ
@@ -67,7 +67,7 @@ last_one o T at root s (b ∷ b' ∷ xs) p some h =
       answer = subst (λ z. Answers o T at root z l.octet p) (append_assoc s (b ∷ []) l.front) l.answer;
     }
 
--- ---- a section behind them
+-- ---- a section after them
 
 module _ (w : Begun) where
   open w use {S, number, header, section, T}
@@ -81,7 +81,7 @@ module _ (w : Begun) where
   abbrev Answered : List ℕ → List ℕ → Type 0
   Answered octets xs = AreAnswered O T (start w) R octets xs progress.More
 
-  -- the lines of octets behind some, and that the last of them comes to this
+  -- the lines of octets after others, and the answer to the last of them
   abbrev pub LinesOf : List ℕ → List ℕ → List ℕ
   LinesOf octets xs = lines_text number R (added_lines_of_run O T (start w) octets xs)
 
@@ -103,7 +103,7 @@ module _ (w : Begun) where
       rw (← append_assoc s (b ∷ []) (b' ∷ xs), ← append_assoc octets (b ∷ []) (b' ∷ xs))
       (inside_run (s ++ b ∷ []) (octets ++ b ∷ []) (inside_on w s octets i b h.0) (b' ∷ xs) h.1)
 
-  -- octets behind which it goes on have their lines alone
+  -- octets after which it goes on have only their lines
   text_run : (s octets : List ℕ) → Inside w s octets → (xs : List ℕ) → Answered octets xs →
       (place : ℕ) → due_text S number place header s xs ≡ LinesOf octets xs
   text_run s octets i [] h place =
@@ -115,7 +115,7 @@ module _ (w : Begun) where
       ∙ (rw (more_text w s octets i b h.0 place, text_run (s ++ b ∷ []) (octets ++ b ∷ []) on (b' ∷ xs) h.1 (place + length (b ∷ [])))
       (sym (readings.text_both number R O T (start w) octets (b ∷ []) (b' ∷ xs))))
 
--- ---- what is told outside of the header
+-- ---- lines outside of the header
 
 told_before : (w : Begun) (s : List ℕ) (r : Read) → is_header w.section ≡ false →
     message w.S w.header s ≡ comes w r → ReadsAll r →
@@ -123,7 +123,7 @@ told_before : (w : Begun) (s : List ℕ) (r : Read) → is_header w.section ≡ 
 told_before w s r other is all =
     let more = section_and_rest S header section nothing_noted r in
     ap (λ m. first_request_id (message_lines m)) is ∙ (ap first_request_id (told_front before more) ∙ (id_both before (message_lines more)
-    ∙ rw (passed_tells S header section nothing_noted r all, section_no_id section other (may_call header section) nothing_noted r) (first_none (first_request_id before))))
+    ∙ rw (passed_section_lines S header section nothing_noted r all, section_no_id section other (may_call header section) nothing_noted r) (first_none (first_request_id before))))
   where
     open w use {S, header, section, before}
 
@@ -181,7 +181,7 @@ module _ (w : Begun) (s octets : List ℕ) (i : Inside w s octets) where
   abbrev Lines : List ℕ → List ℕ
   Lines xs = LinesOf w octets xs
 
-  -- the lines of an octet behind some of them
+  -- the lines of an octet after some of them
   abbrev DueAt : List ℕ → ℕ → List ℕ
   DueAt fr b = lines_text number (R w) (decoders.added_lines (O w) T (start w) (octets ++ fr) b)
 
@@ -195,7 +195,7 @@ module _ (w : Begun) (s octets : List ℕ) (i : Inside w s octets) where
   abbrev at_last : (fr : List ℕ) → Answered w octets fr → Inside w (s ++ fr) (octets ++ fr)
   at_last fr h = inside_run w s octets i fr h
 
-  -- what is written behind the lines of the last octet is written behind those of all
+  -- what is written after the lines of the last octet is written after those of all
   ends_in : (xs fr : List ℕ) (b place : ℕ) (more : List ℕ) → xs ≡ fr ++ b ∷ [] →
       Answered w octets fr →
       due_text S number (place + length fr) header (s ++ fr) (b ∷ []) ≡ DueAt fr b ++ more →
@@ -255,7 +255,7 @@ module _ (w : Begun) (s octets : List ℕ) (i : Inside w s octets) where
       (front-append a b (due_text S number place header s fr) (due_text S number (place + length fr) header (s ++ fr) broke.rest)
       (rw text (front-append a b (Lines fr) _ broke.wrote)))
 
-  -- ---- where the message stands behind them
+  -- ---- where the message is after them
 
   last_answer : (xs : List ℕ) (p : Progress) → Last w octets xs p →
       (end : ℕ) × (named : Bool) × decoders.IsAnswer end named p (With xs)
@@ -282,7 +282,7 @@ module _ (w : Begun) (s octets : List ℕ) (i : Inside w s octets) where
     reads = reads;
   }
 
-  -- outside of the header they say no request id
+  -- outside of the header their lines have no request id
   pub same_id : (xs : List ℕ) (p : Progress) → Last w octets xs p → is_header section ≡ false →
       first_request_id (message_lines (message S header (s ++ xs))) ≡ first_request_id (message_lines (message S header s))
   same_id xs p l other =

@@ -1,5 +1,5 @@
 -- A message that follows a list, in a section whose decoder took a run of octets: what it wrote, and where the message
--- stands behind them.
+-- is after them.
 use Rattle.std.proofs.Common.{◌≡◌, Result, Ok, Err, IsErr, ℕ, ◌+◌, ◌<◌, ◌≤◌, Bool, true, false, List, [], ◌∷◌, ◌++◌, length, take, drop, get_or, Option, None, refl, sym, ap, subst, ◌∙◌, arith}
 use Rattle.std.specs.Prelude.{cond}
 use Rattle.std.proofs.lemmas.List.{length-take-le, take-append-drop}
@@ -32,10 +32,10 @@ use Rattle.giop_message.specs.MessageState.{due_text, Decodes, Stands, FitsPart,
 use Rattle.giop_message.specs.MessageSteps.{request_call, Arrives, WritesRun}
 use Rattle.giop_message.proofs.Dues.{text_both}
 use Rattle.giop_message.proofs.Parts.{Begun, start, reading, Inside}
-use Rattle.giop_message.proofs.Followings.{header_only, id_heard, Moved, is_at, follows_on}
+use Rattle.giop_message.proofs.Followings.{header_only, id_noted, Moved, is_at, follows_on}
 use Rattle.giop_message.proofs.Runs.{Last, LinesOf, last_one, run_more, run_done, run_named_in, run_named, run_wrong, run_broken, decodes, same_id, done_comes, fault_comes}
 
--- ---- what a go over a run wrote
+-- ---- what one call over a run wrote
 
 -- a put failed at octets of it
 pub run_front : (S : Signatures) (number place : ℕ) (header s octets : List ℕ) (n : ℕ)
@@ -61,7 +61,7 @@ first_alone (x ∷ xs) some = refl
 
 -- ---- a message that follows a list
 
--- It stands in this section, which its decoder reads.
+-- the message is in this section, which its decoder reads
 pub record Standing : Type 0 where
   pub C : Table
   pub request_table : RequestTable
@@ -141,7 +141,7 @@ module _ (t : Standing) where
       id ≡ first_request_id (message_lines (message S header (s ++ xs)))
   ended_id xs l d' reads id false e id_is = id_is ∙ kept_id xs progress.Done l false e
   ended_id xs l d' reads id true e id_is =
-      id_is ∙ id_heard (decodes begun s octets_of inside C xs d' reads) (header_only section e)
+      id_is ∙ id_noted (decodes begun s octets_of inside C xs d' reads) (header_only section e)
 
   -- what holds of each reading of its decoder holds of this one
   pub by_reads : {P : Ty → Order → ℕ → ℕ → Root → List ℕ → Type 0} →
@@ -156,7 +156,7 @@ module _ (t : Standing) where
       WroteFront a b (due_text S number place header s xs)
   text_broken xs place a b broke = run_broken begun s octets_of inside xs place a b broke
 
-  -- What its decoder took of octets: so many, at the last of which it came to this.
+  -- What its decoder took of octets: so many, and its answer to the last of them.
   pub record Took (octets : List ℕ) (n : ℕ) (d' : Decoder) (p : Progress) : Type 0 where
     pub within : n ≤ length octets
     pub some : 0 < n
@@ -218,7 +218,7 @@ module _ {t : Standing} {octets : List ℕ} {n : ℕ} {d' : Decoder} where
       run_wrong (begun t) s (octets_of t) (inside t) xs place (place + n) why end (last (progress.Fault why) k)
       ∙ ap (λ x. ValueLine t octets n ++ fault_line x (fault_word why) (place + n)) (sym follows.same_number)
 
-  -- a put failed behind those lines
+  -- a put failed after those lines
   pub failed_behind : {p : Progress} {E : Type 0} (r : Result (ℕ × Bool) E) (place : ℕ)
       {a b c : OutLog} {x y : List ℕ} → IsErr r →
       Took t octets n d' p → Text t octets n place ≡ x ++ y → Wrote a b x → WroteFront b c y →
@@ -227,12 +227,12 @@ module _ {t : Standing} {octets : List ℕ} {n : ℕ} {d' : Decoder} where
       run_failed r (S t) number place header s octets a c failed
       (run_front (S t) number place header s octets n a c (rw text (wrote-front a b c x y wrote front)))
 
-  -- ---- where the message stands behind them
+  -- ---- where the message is after them
 
   -- where it ends an operation it is a header's
-  pub minds_header : Took t octets n d' progress.Named →
+  pub keeps_noted_header : Took t octets n d' progress.Named →
       decoders.KeepsNoted roots.Header d' (ReadWith t (take n octets))
-  minds_header k =
+  keeps_noted_header k =
       let in_it = run_named_in (begun t) s (octets_of t) (inside t) (take n octets) (last progress.Named k) in
       subst (λ x. decoders.KeepsNoted (root_of x) d' (ReadWith t (take n octets))) in_it k.takes.keeps_noted
 

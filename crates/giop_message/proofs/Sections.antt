@@ -32,7 +32,7 @@ use Rattle.giop_message.proofs.LastParts.{CallsNone, request_ends, header_fit, E
 use Rattle.giop_message.proofs.Operations.{AllHold, fits_hold, step_closed}
 use Rattle.giop_message.proofs.Octets.{first_call, no_first}
 use Rattle.giop_message.proofs.StepLines.{NoEnds, one_of}
-use Rattle.giop_message.proofs.Parts.{Begun, start, is_named, Inside, Next, Added, heard_before, next_is, added_none, added_now, lines_due, text_here}
+use Rattle.giop_message.proofs.Parts.{Begun, start, is_named, Inside, Next, Added, noted_before, next_is, added_none, added_now, lines_due, text_here}
 use Rattle.giop_decode.specs.DecoderState.{IsAnswer, IsFault}
 
 pub fault_is : (number place end : ℕ) (named : Bool) (kind : Kind) (r : Read) →
@@ -109,7 +109,7 @@ and_last : (a b : Bool) → (a && b) ≡ true → b ≡ true
 and_last true b e = e
 and_last false b e = absurd (false≢true e)
 
--- where a line ends an operation, what is heard is what it leaves
+-- where a line ends an operation, the notes after it are those of the whole step
 muted : (lines : List Line) (st : Read) (l : Line) → NoEnds st ⊎ (ends_in_string st ≡ false) →
     lines_of st ≡ l ∷ [] → ends_operation true l ≡ true →
     noted_of true (ReadResult.with_front lines st) ≡ note true (noted true nothing_noted lines) l
@@ -136,7 +136,7 @@ request_kind : (header : List ℕ) → is_request header ≡ true → kind heade
 unfolding is_request
 request_kind header e = eqb-true (kind header) 0 e
 
--- A line that names an operation, or none, stands below a header.
+-- A line that ends an operation is below a header's root; in other sections none does.
 unnamed_by : (header : List ℕ) (section : Section) (lines : List Line) →
     names_operation (is_header_root (root_of section)) lines ≡ false →
     Each (λ l. ends_operation (may_call header section) l ≡ false) lines
@@ -185,14 +185,14 @@ named_is : (end : ℕ) (named : Bool) (r : Read) → decoders.IsAnswer end named
 named_is end named (Short lines at outer leaf) answer = answer
 named_is end named r answer = absurd answer
 
--- what a header that stands in this part has begun is of its types
+-- what a header has begun and not ended fits its type
 sound_by : (w : Begun) (s octets : List ℕ) (i : Inside w s octets) →
     header_type (minor w.header) (kind w.header) ≡ Some w.T → FitsIn w.T i.outer i.leaf
 sound_by w s octets i found =
     let reads = read_keeps 24 (plain (order w.header)) [] w.T (header_fit (minor w.header) (kind w.header) w.T found) (start w) octets in
     (subst (Sound w.T (start w + length octets)) i.was_short reads).1
 
--- the encapsulations that it stands in are of their types
+-- the encapsulations that are begun are of types of encapsulations
 holds_by : (w : Begun) (s octets : List ℕ) (i : Inside w s octets) → w.section ≡ sections.Header →
     AllHold i.outer
 holds_by w s octets i e = fits_hold i.outer w.T i.leaf (sound_by w s octets i (subst (λ x. IsFirst w.header x w.T w.before) e i.first).0)
@@ -220,7 +220,7 @@ module _ (w : Begun) (s octets : List ℕ) (i : Inside w s octets) (b : ℕ) whe
 
   abbrev Call : ℕ → List ℕ
   Call place =
-      message_lines_text number place (12 + length s) (first_call R (may_call header section) (heard_before w s octets i b) (lines_of St))
+      message_lines_text number place (12 + length s) (first_call R (may_call header section) (noted_before w s octets i b) (lines_of St))
 
   abbrev Due : ℕ → List ℕ
   Due place = due_text S number place header s (b ∷ [])
@@ -265,13 +265,13 @@ module _ (w : Begun) (s octets : List ℕ) (i : Inside w s octets) (b : ℕ) whe
   uncalled : (place : ℕ) → Silences → Call place ≡ []
   unfolding message_lines_text
   uncalled place each =
-      ap (message_lines_text number place (12 + length s)) (no_first R (may_call header section) (heard_before w s octets i b) (lines_of St) each)
+      ap (message_lines_text number place (12 + length s)) (no_first R (may_call header section) (noted_before w s octets i b) (lines_of St) each)
 
   -- any octet
   pub any_text : (place : ℕ) → Due place ≡ Lines ++ (Wrongs place ++ Call place)
   any_text place = joined_text place (Wrongs place) (Call place) refl refl
 
-  -- one behind which the section goes on
+  -- one after which the section goes on
   pub more_text : Is progress.More → (place : ℕ) → Due place ≡ Lines
   more_text answer place =
       let none = subst (λ ls. names_operation (is_header_root R) ls ≡ false) (lines_due w s octets i b) (more_unnamed End Names Behind answer) in

@@ -1,4 +1,4 @@
--- What is said of a message, with its number, is a line as the writers of lines have it.
+-- The lines of a reading, with the message's number, are the lines that the printing functions write.
 use Rattle.std.proofs.Common.{◌≡◌, ℕ, List, [], ◌∷◌, ◌++◌, refl, sym, ap, ◌∙◌, append_assoc}
 use Rattle.std.specs.Prelude.{codes, decimal}
 use Rattle.giop_print.specs.Text.{joined, hex}

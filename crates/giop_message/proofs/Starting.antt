@@ -1,4 +1,4 @@
--- A message whose header has come, and what begins behind a part of it.
+-- A message whose header has come, and what begins after a part of it.
 use Rattle.std.proofs.Common.{◌≡◌, ℕ, zero, suc, ◌<◌, Bool, true, false, List, [], Option, Some, None, refl, sym, ap, ◌∙◌, append-nil, add-zero, arith}
 use Rattle.std.specs.Prelude.{◌&&◌, ◌||◌, ◌==◌, nat_lt, if◌then◌else◌}
 use Rattle.std.proofs.lemmas.Bool.{ltb-false, ne_eqb, false≢true}
@@ -29,7 +29,7 @@ fit_some T fit empty = absurd empty
 pub none_told : (S : Signatures) (header : List ℕ) → message_lines (message S header []) ≡ []
 none_told S header = told_silent 12 (message S header []) (message_silent S header)
 
--- and without a header type it stands in the rest
+-- and without a header type it is in the rest
 pub none_rests : (S : Signatures) (header : List ℕ) → S.header (minor header) (kind header) ≡ None →
     message S header [] ≡ ReadTo [] 12 (In_rest 0 [])
 unfolding message of_header rest rest_in
@@ -42,7 +42,7 @@ pub header_first : (S : Signatures) (header : List ℕ) (T : Ty) →
 unfolding message of_header
 header_first S header T e = rw (e, front_none) refl
 
--- ---- behind a part that has ended, with no octet
+-- ---- after a part that has ended, with no octet
 
 pub rest_is : (n : ℕ) → rest n [] ≡ ReadTo [] n (In_rest 0 [])
 unfolding rest rest_in
@@ -61,7 +61,7 @@ pub front_pads : (before : List LineAt) (n : ℕ) (b : BodyType) →
     with_front before (ReadTo [] n (In_padding b)) ≡ ReadTo before n (In_padding b)
 front_pads before n b = front_comes before n (In_padding b)
 
--- a section that ends with no octet behind it: in front of what follows there is padding, or there is none
+-- a section that ends with no octet after it: in front of what follows there is padding, or there is none
 by_tests : (S : Signatures) (header : List ℕ) (h : Noted) (n : ℕ) (has two some : Bool) →
     nat_lt 0 (padding n 8) ≡ some → (if has then
     (if two then padded S header (body_of S header h) n []

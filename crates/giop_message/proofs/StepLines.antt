@@ -1,4 +1,4 @@
--- The lines of a step: whose paths they have, and where one ends a string.
+-- The lines of a step: they have the path of the innermost part, and where one ends a string.
 use Rattle.std.proofs.Common.{◌≡◌, ℕ, zero, suc, ◌+◌, ◌-◌, ◌⊎◌, inl, inr, Bool, true, false, List, [], ◌∷◌, ◌++◌, take, get_or, Option, Some, None, refl, sym, ap, subst, ◌∙◌, append-nil}
 use Rattle.giop_cdr.specs.declared.order.Order.{Order}
 use Rattle.std.specs.Prelude.{cond, ltb}
@@ -35,7 +35,7 @@ is_faulted r = false
 abbrev pub Firm : Read → Type 0
 Firm r = NoEnds r ⊎ ((ends_in_string r ≡ false) × (is_faulted r ≡ false))
 
--- what is said with a fault is one line at most
+-- a fault has one line at most in front of it
 pub one_faulted : (n : ℕ) (why : Kind) (lines : List Line) → Faulted n why lines → OneAt n lines
 one_faulted n kinds.EncapShort lines h = h
 one_faulted n why lines h = rw h tt
@@ -69,7 +69,7 @@ module _ (n : ℕ) (path : List PathSegment) where
       OneSays (Done (line at path v ∷ []) at rest)
   done_says v at rest one = record { are = (at_path path at v, tt); firm = inr (refl, refl) }
 
-  -- a line that ends no string, and what comes behind it
+  -- a line that ends no string, and what comes after it
   front_says : (l : Line) (r : Read) → IsOf path l → ends_text l.value ≡ false →
       OneSays (with_front (l ∷ []) r)
   front_says l r of no_end one =
@@ -157,7 +157,7 @@ pub leaf_says : (coding : Coding) (path : List PathSegment) (leaf : Leaf) (at b 
 leaf_says coding path leaf at b =
     leaf_one (at + 1) path coding leaf at b (one_of (at + 1) (leaf_step coding path leaf at b) (step_now coding path [] leaf at b))
 
--- ---- what stands around it says nothing
+-- ---- the parts around it have no line
 
 quiet_bare : (n : ℕ) (r : Read) → IsEmptyResult n r → lines_of r ≡ []
 quiet_bare n (Fault lines at why S) k = absurd k

@@ -1,4 +1,4 @@
--- What was stored of a message is read.
+-- What was stored of a message is read as it was written.
 use Rattle.std.proofs.Common.{◌≡◌, ◌≢◌, Bool, true, false, cond, IsTrue, Option, Some, None, ℕ, ◌^◌, ◌<◌, List, ◌∷◌, ◌++◌, length, take, drop, get_or, replicate, refl, sym, ap, ◌∙◌, append_assoc, length-append, length-drop, arith}
 use Rattle.std.specs.Option.{IsSomeAnd}
 use Rattle.std.proofs.lemmas.List.{take-append-drop, length-take-le}
@@ -84,7 +84,7 @@ of_own fixed long = length-take-le 16 fixed (omega arith)
 pub both : (fixed : List ℕ) → drop 0 fixed ≡ take 16 fixed ++ drop 16 fixed
 both fixed = sym (take-append-drop 16 fixed)
 
--- where its fields stand
+-- the offsets of its fields
 pub record OwnFields (m : Message) (fixed : List ℕ) : Type 0 where
   pub rest : List ℕ
   pub part : drop 0 fixed
@@ -130,9 +130,9 @@ pub same_own : (e m : Message) → e.at ≡ m.at → part_octet e.part ≡ part_
 unfolding own_octets
 same_own e m at octet id = rw (octet, at, id) refl
 
--- ---- a part in the place of another
+-- ---- a part that goes on for another
 
--- the part that stands in what is read of the octets
+-- the part that is read of the octets goes on for the one that was stored
 pub goes_on : (C : Table) (m : Message) (fixed frames octets : List ℕ) (at octet : ℕ)
     (r : Option Part) → Fits C m → Stored m fixed frames
     → ((n : ℕ) (rest : List ℕ) → n < 2 ^ 64 → drop 1 fixed ≡ eight n ++ rest → at ≡ n)
@@ -155,7 +155,7 @@ cond_again : {A : Type 0} (b : Bool) (x y : A) → cond b x (cond b x y) ≡ con
 cond_again true x y = refl
 cond_again false x y = refl
 
--- What is kept of the request id is kept again.
+-- What is stored of the request id is stored again.
 pub kept_again : (C : Table) (p q : Part) (id : Option ℕ) → GoesOn C p q
     → kept_id q (kept_id p id) ≡ kept_id p id
 kept_again C p q id on = rw (same_place C p q on) (cond_again (in_header p) None id)

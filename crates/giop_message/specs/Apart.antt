@@ -1,14 +1,14 @@
--- That no octet of a message has two lines of one kind (meaning).
+-- No octet of a message has two lines of one class (meaning).
 use Rattle.std.specs.Prelude.{◌≢◌, ℕ, List, [], ◌∷◌, ◌++◌, map}
 use Rattle.std.specs.List.{AllByRecursion as Each}
 use Rattle.giop_message.specs.MessageReader.{LineClass, MessageReader, due}
 
--- each is of another kind than those behind it
+-- each is of another class than those behind it
 abbrev pub AreApart : List LineClass → Type 0
 AreApart [] = Unit {0}
 AreApart (s ∷ ss) = Each (λ t. s ≢ t) ss × AreApart ss
 
--- No octet has two lines of one kind, with those of a close at it.
+-- no octet has two lines of one class, with those of a close at it
 pub record IsApart (R : MessageReader) : Type 0 where
   pub apart : (header xs : List ℕ) (x : ℕ) →
       AreApart (map (λ r. r.line_class) (due R header xs x)

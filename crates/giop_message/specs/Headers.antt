@@ -15,7 +15,7 @@ kind header = get_or header 7 0
 unfoldable pub order : List ℕ → Order
 order header = if get_or header 6 0 % 2 == 1 then Little else Big
 
--- Bit 1 of the flags says that more fragments follow; 1.0 has no flags.
+-- Bit 1 of the flags is set if more fragments follow; 1.0 has no flags.
 unfoldable pub has_more : List ℕ → Bool
 has_more header = nat_lt 0 (minor header) && (get_or header 6 0 / 2 % 2 == 1)
 
@@ -29,7 +29,7 @@ size header = num (order header) (drop 8 header)
 unfoldable pub may_be_fragmented : List ℕ → Bool
 may_be_fragmented header = (kind header == 0) || (kind header == 1) || (kind header == 3) || (kind header == 4)
 
--- A 1.2 message of these types with the more bit is an opener.
+-- A 1.2 message of these types that more fragments follow is an opener.
 unfoldable pub is_opener : List ℕ → Bool
 is_opener header = (minor header == 2) && has_more header && may_be_fragmented header
 
@@ -40,6 +40,6 @@ is_fragment header = (minor header == 2) && (kind header == 7)
 unfoldable pub is_cancel : List ℕ → Bool
 is_cancel header = kind header == 2
 
--- the messages that begin with their request id, by which the stream goes
+-- the messages that begin with their request id, by which the stream finds an open message
 abbrev pub has_name : List ℕ → Bool
 has_name header = is_opener header || is_fragment header || is_cancel header

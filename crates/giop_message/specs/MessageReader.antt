@@ -1,10 +1,10 @@
--- The reading of one message, as the stream takes it: what its octets say so far, and what its close adds (meaning). Octets of a
--- message count from 1 behind its header.
+-- The reading of one message, as the stream takes it: the lines of its octets so far, and those of its close (meaning).
+-- Octets of a message count from 1 after its header.
 use Rattle.std.specs.Prelude.{◌≡◌, ℕ, suc, ◌≤◌, ◌==◌, ◌⊎◌, Bool, true, false, List, [], ◌∷◌, ◌++◌, length, map}
 use Rattle.std.specs.List.{filter, list_any, AllByRecursion as Each}
 use Rattle.giop_message.specs.Headers.{has_name}
 
--- what a line of a message says, in the order in which the lines of one octet stand
+-- what a line of a message shows, in the order of the lines of one octet
 pub data LineClass : Type 0 where
   Value Call Rest Fault End : LineClass
 
@@ -19,7 +19,7 @@ pub record MessageReader : Type 0 where
   pub reads : List ℕ → List ℕ → List TimedLine
   pub closes : List ℕ → List ℕ → List (LineClass × List ℕ)
 
--- A message has no line behind its fault or its end.
+-- A message has no line after its fault or its end.
 abbrev pub is_last : LineClass → Bool
 is_last Value = false
 is_last Call = false
@@ -27,7 +27,7 @@ is_last Rest = false
 is_last Fault = true
 is_last End = true
 
--- More octets change nothing that was said of those before them.
+-- More octets change no lines of those before them.
 pub record IsCausal (R : MessageReader) : Type 0 where
   pub earlier : (header xs more : List ℕ) (k : ℕ) → k ≤ length xs →
       filter (λ r. r.at == k) (R.reads header (xs ++ more)) ≡ filter (λ r. r.at == k) (R.reads header xs)
@@ -36,14 +36,14 @@ pub record IsCausal (R : MessageReader) : Type 0 where
 pub record IsEnding (R : MessageReader) : Type 0 where
   pub ends : (header xs : List ℕ) → list_any (λ l. is_last l.0) (R.closes header xs) ≡ true
 
--- ---- What else the stream takes a reading for, where it goes by the request ids of messages.
+-- ---- What else the stream needs of a reading, where it finds messages by their request ids.
 
--- Of the first four octets of a message that begins with its request id, nothing but values is said.
+-- The first four octets of a message that begins with its request id have no lines but those of values.
 pub record HasOnlyValuesInId (R : MessageReader) : Type 0 where
   pub named : (header xs : List ℕ) → has_name header ≡ true → length xs ≤ 4 →
       Each (λ r. r.line_class ≡ Value) (R.reads header xs)
 
--- what is said at one octet: nothing, a value, a value and its call, a part of the rest, a fault, or a value and a fault
+-- the lines of one octet: none, a value, a value and its call, a part of the rest, a fault, or a value and a fault
 abbrev pub AreInLineOrder : List LineClass → Type 0
 AreInLineOrder line_classes =
     (line_classes ≡ []) ⊎ (line_classes ≡ Value ∷ []) ⊎ (line_classes ≡ Value ∷ Call ∷ []) ⊎ (line_classes ≡ Rest ∷ [])
@@ -53,7 +53,7 @@ pub record IsOrdered (R : MessageReader) : Type 0 where
   pub ordered : (header xs : List ℕ) (k : ℕ) →
       AreInLineOrder (map (λ r. r.line_class) (filter (λ r. r.at == k) (R.reads header xs)))
 
--- what one octet more lets be said
+-- the lines of one octet more
 abbrev pub due : MessageReader → List ℕ → List ℕ → ℕ → List TimedLine
 due R header xs x = filter (λ r. r.at == suc (length xs)) (R.reads header (xs ++ x ∷ []))
 
@@ -65,12 +65,12 @@ is_fault Rest = false
 is_fault Fault = true
 is_fault End = false
 
--- what a close says: a fault, the end, or the last part of the rest and the end
+-- the lines of a close: a fault, the end, or the last part of the rest and the end
 abbrev pub AtClose : List LineClass → Type 0
 AtClose line_classes = (line_classes ≡ Fault ∷ []) ⊎ (line_classes ≡ End ∷ []) ⊎ (line_classes ≡ Rest ∷ End ∷ [])
 
--- A close ends the message, once. A message that is faulted at its last octet has its end alone left, and one whose last
--- octet ends a part of its rest has no rest left.
+-- A close ends the message, once. After a fault at its last octet a message has only the line of its end, and if its
+-- last octet ends a part of its rest, no rest is left.
 pub record IsClosing (R : MessageReader) : Type 0 where
   pub closed : (header xs : List ℕ) → AtClose (map (λ l. l.0) (R.closes header xs))
   pub over : (header xs : List ℕ) (x : ℕ) →
@@ -79,7 +79,7 @@ pub record IsClosing (R : MessageReader) : Type 0 where
   pub one_rest : (header xs : List ℕ) (x : ℕ) → map (λ r. r.line_class) (due R header xs x) ≡ Rest ∷ [] →
       map (λ l. l.0) (R.closes header (xs ++ x ∷ [])) ≡ Rest ∷ End ∷ [] → ⊥
 
--- what is asked of a reading whose lines are written as they come
+-- what a reading needs so that its lines can be written as they come
 pub record IsStreamable (R : MessageReader) : Type 0 where
   pub named : HasOnlyValuesInId R
   pub ordered : IsOrdered R

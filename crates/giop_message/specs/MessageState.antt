@@ -1,4 +1,5 @@
--- What a message holds of the octets that it has taken behind its header, one field a clause; and what its calls write (state).
+-- What a message holds of the octets that it has taken after its header, one field a clause; and what its calls write
+-- (state).
 use Rattle.std.specs.Prelude.{◌≡◌, ℕ, ◌+◌, ◌-◌, ◌<◌, ◌≤◌, Bool, true, false, cond, List, [], ◌∷◌, ◌++◌, length, take, drop, flat_map, Option, Some, None}
 use Rattle.giop_sig.specs.Types.{Ty}
 use Rattle.giop_sig.specs.Table.{Table, operation_number}
@@ -26,27 +27,27 @@ use Rattle.giop_message.specs.ReaderOfTable.{line_class_of, text_of, first_reque
 
 -- ---- what is written
 
--- the line of what is said at a place of the stream
+-- the text of a line at a place of the stream
 unfoldable pub message_line_text : ℕ → ℕ → MessageLine → List ℕ
 message_line_text number place s = line_class_text place number (line_class_of s) (text_of s)
 
--- The lines of what is told behind an offset, to which as many octets of the stream came as that place says.
+-- The text of lines after an offset of the message; up to that offset `place` octets of the stream came.
 unfoldable pub message_lines_text : ℕ → ℕ → ℕ → List LineAt → List ℕ
 message_lines_text number place offset emitted = flat_map (λ t. message_line_text number (place + (t.at - offset)) t.message_line) emitted
 
--- what is told of more octets
+-- the lines of more octets
 unfoldable pub due : Signatures → List ℕ → List ℕ → List ℕ → List LineAt
 due S header s more = drop (length (message_lines (message S header s))) (message_lines (message S header (s ++ more)))
 
--- and its lines, where the first of these octets comes behind so many octets of the stream
+-- and their text, where the first of these octets comes after so many octets of the stream
 unfoldable pub due_text : Signatures → ℕ → ℕ → List ℕ → List ℕ → List ℕ → List ℕ
 due_text S number place header s more = message_lines_text number place (12 + length s) (due S header s more)
 
 unfoldable pub closing_text : ℕ → ℕ → List MessageLine → List ℕ
 closing_text number place speeches = flat_map (message_line_text number place) speeches
 
--- the same by remarks of a reading, whose octets count from 1 behind the header: those of which so many came before, and the
--- octets of the stream up to there
+-- the same of timed lines, whose octets count from 1 after the header: `before` octets of the message came before, and
+-- `place` octets of the stream
 unfoldable pub timed_lines_text : ℕ → ℕ → ℕ → List TimedLine → List ℕ
 timed_lines_text number place before timed_lines = flat_map (λ r. line_class_text (place + (r.at - before)) number r.line_class r.text) timed_lines
 
@@ -59,7 +60,7 @@ is_short speeches = false
 
 -- ---- a message and its catalogue
 
--- what is kept of a list of requests for the operations of this table
+-- this is the table of a list of requests, with the operations of this catalogue's table
 abbrev pub AreOf : Table → RequestTable → Type 0
 AreOf C request_table = (entries : List Entry) × IsOf (operation_number C) entries request_table
 
@@ -74,7 +75,7 @@ IsKnown C body_type_ids.Nothing = Unit {0}
 IsKnown C (body_type_ids.Type of) = of.0 < length C.types
 IsKnown C body_type_ids.Exception = Unit {0}
 
--- a part of a message that has taken so many octets
+-- the part fits a message that has taken so many octets
 abbrev pub FitsPart : Table → ℕ → Part → Type 0
 FitsPart C at (parts.Typed section d) = decoder.Fits C d
 FitsPart C at (parts.Padding body_type_id) = IsKnown C body_type_id
@@ -96,7 +97,7 @@ IsFirst header sections.Header T before = (header_type (minor header) (kind head
 IsFirst header sections.Exception T before = Unit {0}
 IsFirst header sections.Body T before = Unit {0}
 
--- Lines, and then a section that begins there: a decoder reads its octets as a value of a type.
+-- Lines, and then a section that begins after them: a decoder reads its octets as a value of a type.
 pub record Decodes (C : Table) (S : Signatures) (number : ℕ) (header s : List ℕ) (section : Section) (d : Decoder)
     : Type 0 where
   pub T : Ty
@@ -109,7 +110,7 @@ pub record Decodes (C : Table) (S : Signatures) (number : ℕ) (header s : List 
   pub first : IsFirst header section T before
   pub reads : decoder.Reads C T (order header) (12 + length front) number (root_of section) d octets
 
--- where a message of this number and header stands behind these octets, by the part that the next octet belongs to
+-- where a message of this number and header is after these octets, by the part that the next octet belongs to
 abbrev pub Stands : Table → RequestTable → ℕ → List ℕ → List ℕ → Part → Type 0
 Stands C request_table number header s (parts.Typed section d) = Decodes C (signatures_of C request_table) number header s section d
 Stands C request_table number header s (parts.Padding body_type_id) =
@@ -129,8 +130,8 @@ in_header (parts.Typed section d) = is_header section
 in_header (parts.Padding body_type_id) = false
 in_header (parts.Rest r) = false
 
--- The message's fields are what its header and these octets behind it come to. While the header is read its decoder
--- has the request id.
+-- The message's fields are those of a reading of its header and these octets after it. While the header is read its
+-- decoder has the request id.
 pub record Follows (C : Table) (request_table : RequestTable) (number : ℕ) (header : List ℕ) (m : Message) (s : List ℕ) : Type 0 where
   pub same_number : m.number ≡ number
   pub same_header : m.header ≡ header

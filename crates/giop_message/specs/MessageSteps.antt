@@ -1,5 +1,5 @@
--- What the parts of a message's code do: the text of an octet, and where a message stands behind a part that has ended (steps). Private
--- contracts alone cite it.
+-- What the parts of a message's code do: the text of an octet, and where a message is after a part that has ended
+-- (steps). Only private contracts cite it.
 use Rattle.std.specs.Prelude.{◌≡◌, ℕ, ◌+◌, Bool, true, false, List, [], ◌∷◌, ◌++◌, length, take, Option, Some, Result, MatchResult, ◌&&◌, ◌==◌, nat_lt, if◌then◌else◌}
 use Rattle.giop_cdr.specs.Alignment.{padding}
 use Rattle.giop_print.specs.Lines.{call_line, fault_line, rest_line}
@@ -22,7 +22,7 @@ use Rattle.giop_message.specs.Messages
 use Rattle.giop_message.specs.Messages.{LineAt, BodyType, Untyped, is_shown, is_request, has_body, body_of, members_of, type_if, with_front, section_and_rest, root_of, message}
 use Rattle.giop_message.specs.MessageState.{due_text, IsFirst, Stands, Follows, FaultedAt}
 
--- the line of a reading's fault, whose octet has this place
+-- the line of a reading's fault, whose octet has this place in the stream
 abbrev pub fault_text : ℕ → ℕ → Read → List ℕ
 fault_text number place (Done lines at rest) = []
 fault_text number place (Short lines at outer leaf) = []
@@ -37,7 +37,7 @@ called_text number id operation = []
 unfoldable pub request_call : ℕ → List ℕ → Noted → List ℕ
 request_call number header h = if is_request header then called_text number h.request_id h.name else []
 
--- the type of what follows a section, by what is heard of it
+-- the type of what follows a section, by what is noted of it
 abbrev pub body_type_after : Signatures → List ℕ → Section → Noted → BodyType
 body_type_after S header sections.Header h = if has_body header then body_of S header h else Untyped
 body_type_after S header sections.Exception h = type_if (members_of S h.name)
@@ -47,7 +47,7 @@ body_type_after S header sections.Body h = Untyped
 unfoldable pub is_unaligned : List ℕ → ℕ → Bool
 is_unaligned header at = (minor header == 2) && nat_lt 0 (padding at 8)
 
--- which stands between a header and the body
+-- whether there is such padding between a section and what follows it
 abbrev pub is_padded : List ℕ → Section → ℕ → Bool
 is_padded header sections.Header at = has_body header && is_unaligned header at
 is_padded header sections.Exception at = false
@@ -59,13 +59,14 @@ pub record IsAt (number : ℕ) (header : List ℕ) (m : Message) (s : List ℕ) 
   pub same_header : m.header ≡ header
   pub at : m.at ≡ 12 + length s
 
--- a message that comes to these lines and then this stands where that does
+-- a message that is read to these lines and then as `m` has the part that fits `m`
 abbrev pub Arrives : Table → RequestTable → ℕ → List ℕ → Message → Message → List ℕ → Messages.Message → Type 0
 Arrives C request_table number header old new s m =
     IsAt number header old s → (before : List LineAt) → message (signatures_of C request_table) header s ≡ with_front before m →
     Stands C request_table number header s new.part
 
--- A message that comes to these lines, and then to a section of this type of which nothing has come, stands in that.
+-- A message that is read to these lines, and then to a section of this type of which no octet has come, is in that
+-- section.
 abbrev pub Enters : Table → RequestTable → ℕ → List ℕ → Message → Message → List ℕ → Section → Ty → Type 0
 Enters C request_table number header old new s section T =
     IsAt number header old s → (before : List LineAt) → IsFirst header section T before →
@@ -78,7 +79,7 @@ abbrev pub IsTyped : Part → Type 0
 IsTyped (parts.Typed section d) = Unit {0}
 IsTyped part = ⊥
 
--- a part that is this section, and whose decoder has this reading of it in mind
+-- a part that is this section, and whose decoder has the notes of this reading
 abbrev pub Ended : Part → Section → Read → Type 0
 Ended (parts.Typed held d) section r = (held ≡ section) × KeepsNoted (root_of section) d r
 Ended part section r = ⊥
@@ -93,14 +94,14 @@ last_rest_text number (parts.Typed section d) = []
 last_rest_text number (parts.Padding body_type_id) = []
 last_rest_text number (parts.Rest r) = held_text number r.offset r.held.items
 
--- ---- one go over a run of octets
+-- ---- one call over a run of octets
 
--- of which it took so many: the message is over, at the last of them, or follows the longer list
+-- it took so many of them: the message is over at the last, or follows the longer list
 abbrev pub TookSome : Table → RequestTable → ℕ → List ℕ → Message → List ℕ → List ℕ → ℕ → Bool → Type 0
 TookSome C request_table number header m s octets n false = Follows C request_table number header m (s ++ take n octets)
 TookSome C request_table number header m s octets n true = FaultedAt (signatures_of C request_table) header s octets n
 
--- the lines of the octets that it took; or a front of those of the run, and then a put failed
+-- the lines of the octets that it took; or a front of those of the run, after which a put failed
 abbrev pub WritesRun : {E : Type 0} → Result (ℕ × Bool) E → Signatures → ℕ → ℕ → List ℕ → List ℕ → List ℕ →
     OutLog → OutLog → Type 0
 WritesRun result S number place header s octets before after =

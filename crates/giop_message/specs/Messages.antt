@@ -1,5 +1,5 @@
--- One joined message: the reading of all its octets, in one piece (GIOP Message Formats; docs/FORMATS.md; meaning). Offsets count from
--- the first octet of the message, so its octets behind the header begin at 12.
+-- One joined message: the reading of all its octets, in one piece (GIOP Message Formats; docs/FORMATS.md; meaning).
+-- Offsets count from the first octet of the message, so its octets after the header begin at 12.
 use Rattle.std.specs.Prelude.{ℕ, zero, suc, ◌+◌, ◌/◌, Bool, true, false, ◌&&◌, ◌||◌, List, [], ◌∷◌, ◌++◌, length, take, drop, Option, Some, None, ◌==◌, nat_lt, nat_le, if◌then◌else◌}
 use Rattle.std.specs.List.{list_all}
 use Rattle.giop_cdr.specs.Alignment.{padding}
@@ -16,14 +16,14 @@ use Rattle.giop_message.specs.declared.part.Section.TheVariants as sections
 use Rattle.giop_message.specs.Headers.{minor, kind, order}
 use Rattle.giop_message.specs.Signatures.{Signatures}
 
--- ---- what is said
+-- ---- lines
 
 pub data MessageLine : Type 0 where
   -- a value below a root
   ValueLine : Root → List PathSegment → Value → MessageLine
   -- a Request's id and operation
   CallLine : ℕ → List ℕ → MessageLine
-  -- octets of the rest, and where they stand there
+  -- octets of the rest, and their offset in it
   RestLine : ℕ → List ℕ → MessageLine
   -- a value's fault
   FaultLine : Kind → MessageLine
@@ -31,7 +31,7 @@ pub data MessageLine : Type 0 where
   ShortLine : MessageLine
   EndLine : MessageLine
 
--- what is said, and the offset just past the octet that completes it
+-- a line, and the offset just past the octet that completes it
 pub record LineAt : Type 0 where
   pub at : ℕ
   pub message_line : MessageLine
@@ -39,11 +39,11 @@ pub record LineAt : Type 0 where
 unfoldable pub line_at : ℕ → MessageLine → LineAt
 line_at at message_line = record { at = at; message_line = message_line }
 
--- a printed octet of ASCII, and no space
+-- a printable octet of ASCII other than the space
 abbrev pub is_graphic : ℕ → Bool
 is_graphic octet = nat_le 33 octet && nat_le octet 126
 
--- an operation that a call line can show; what is heard as a name has 128 octets at most
+-- an operation that a call line can show; what is noted as a name has 128 octets at most
 unfoldable pub is_shown : List ℕ → Bool
 is_shown name = nat_lt 0 (length name) && list_all is_graphic name
 
@@ -51,18 +51,18 @@ unfoldable pub call_of : ℕ → Option ℕ → Option (List ℕ) → List LineA
 call_of at (Some id) (Some name) = if is_shown name then line_at at (CallLine id name) ∷ [] else []
 call_of at id name = []
 
--- The call line stands behind the line that ends the operation of a Request.
+-- The call line comes after the line that ends the operation of a Request.
 unfoldable pub calls : Bool → Line → Noted → List LineAt
 calls is_request l h = if ends_operation is_request l then call_of l.at h.request_id h.name else []
 
--- The lines of a reading below a root, of a Request's header or not, with what was heard before them.
+-- The lines of a reading below a root, of a Request's header or not, with what was noted before them.
 unfoldable pub section_lines : Root → Bool → Noted → List Line → List LineAt
 section_lines root is_request h [] = []
 section_lines root is_request h (l ∷ ls) =
     let now = note (is_header_root root) h l in
     (line_at l.at (ValueLine root l.path l.value) ∷ calls is_request l now) ++ section_lines root is_request now ls
 
--- ---- where a message stands
+-- ---- where a message is
 
 -- The type of a body: none, this one, or that of the exception whose repository id comes first.
 pub data BodyType : Type 0 where
@@ -77,23 +77,23 @@ root_of sections.Exception = roots.Exception
 root_of sections.Body = roots.Body
 
 pub data Stage : Type 0 where
-  -- in a part that is read as a value: what is heard of it, and what is begun and not ended
+  -- in a part that is read as a value: what is noted of it, and what is begun and not ended
   In_typed : Section → Noted → List OpenPart → Leaf → Stage
   In_padding : BodyType → Stage
   -- in the rest: where its last part begins, and the octets of that
   In_rest : ℕ → List ℕ → Stage
-  -- behind a fault
+  -- after a fault
   Over : Stage
 
--- What a message comes to: its lines, the offset at its end, and where it stands there.
+-- The result of reading a message: its lines, the offset at its end, and where it is there.
 pub data Message : Type 0 where
   ReadTo : List LineAt → ℕ → Stage → Message
 
 unfoldable pub with_front : List LineAt → Message → Message
 with_front front (ReadTo emitted at stage) = ReadTo (front ++ emitted) at stage
 
--- A section, of a Request's header or not, and what follows it by what is heard of it. A fault takes the place of the
--- value's line, and ends the message.
+-- A section, of a Request's header or not, and what follows it by what is noted of it. A fault has its line instead of
+-- the value's, and ends the message.
 unfoldable pub section_then : Section → Bool → (Noted → ℕ → List ℕ → Message) → Noted → Read → Message
 section_then section is_request next h (Done lines at s) =
     let root = root_of section in
@@ -106,7 +106,7 @@ section_then section is_request next h (Fault lines at why T) =
 
 -- ---- the rest
 
--- in parts of 32 octets, of which so many are full
+-- the rest in parts of 32 octets, of which so many are full
 unfoldable pub rest_in : ℕ → ℕ → ℕ → List ℕ → Message
 rest_in zero offset at s = ReadTo [] (at + length s) (In_rest offset s)
 rest_in (suc full) offset at s = with_front (line_at (at + 32) (RestLine offset (take 32 s)) ∷ []) (rest_in full (offset + 32) (at + 32) (drop 32 s))
@@ -165,7 +165,7 @@ reply_body S id (Some status) =
 unfoldable pub is_request : List ℕ → Bool
 is_request header = kind header == 0
 
--- by what is heard of the header
+-- by what is noted of the header
 unfoldable pub body_of : Signatures → List ℕ → Noted → BodyType
 body_of S header h = if is_request header then request_body S h.name else reply_body S h.request_id h.status
 
@@ -195,19 +195,19 @@ of_header S header (Some T) at s =
 unfoldable pub message : Signatures → List ℕ → List ℕ → Message
 message S header s = of_header S header (S.header (minor header) (kind header)) 12 s
 
--- whether a section's lines may have a call behind them
+-- whether a section's lines may be followed by a call
 abbrev pub may_call : List ℕ → Section → Bool
 may_call header sections.Header = is_request header
 may_call header sections.Exception = false
 may_call header sections.Body = false
 
--- what follows a section, by what is heard of it
+-- what follows a section, by what is noted of it
 abbrev pub after : Signatures → List ℕ → Section → Noted → ℕ → List ℕ → Message
 after S header sections.Header = after_header S header
 after S header sections.Exception = after_exception S header
 after S header sections.Body = λ h. rest
 
--- a section that goes on from what was heard of it
+-- a section that goes on from what was noted of it, and what follows it
 abbrev pub section_and_rest : Signatures → List ℕ → Section → Noted → Read → Message
 section_and_rest S header section = section_then section (may_call header section) (after S header section)
 

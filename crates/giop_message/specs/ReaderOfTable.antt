@@ -1,4 +1,5 @@
--- The reading of one message as the stream takes it, by a catalogue's table and what is kept of a request list; and its request id (meaning).
+-- The reading of one message as the stream takes it, by a catalogue's table and a request table; and the message's
+-- request id (meaning).
 use Rattle.std.specs.Prelude.{◌≡◌, ℕ, ◌-◌, Bool, true, false, cond, List, [], ◌∷◌, map, Option, Some, None, codes, IfSome}
 use Rattle.giop_cdr.specs.declared.prim.Primitive.TheVariants as prims
 use Rattle.giop_print.specs.declared.path.Root.TheVariants as roots
@@ -31,7 +32,7 @@ text_of (FaultLine why) = fault_word why
 text_of ShortLine = codes "short"
 text_of EndLine = codes "end"
 
--- Offsets count from the front of the message, and a reading counts octets behind the header.
+-- Offsets count from the front of the message; a reader counts octets from 1 after the header.
 abbrev pub timed_line_of : LineAt → TimedLine
 timed_line_of t = record { at = t.at - 12; line_class = line_class_of t.message_line; text = text_of t.message_line }
 
@@ -48,12 +49,12 @@ reader_by S = record {
 abbrev pub message_reader : Table → RequestTable → MessageReader
 message_reader C request_table = reader_by (signatures_of C request_table)
 
--- The headers of the messages that the stream knows by their request ids begin with them.
+-- The headers of the messages that the stream finds by their request ids begin with them.
 pub record HasIds (S : Signatures) : Type 0 where
   pub begins : (header : List ℕ) → has_name header ≡ true →
       IfSome (S.header (minor header) (kind header)) BeginsWithId
 
--- the request id that is said
+-- the request id that a line shows
 unfoldable pub id_in : MessageLine → Option ℕ
 id_in (ValueLine roots.Header path (Number (Plain prims.ULong) n)) = cond (is_member (codes "request_id") path) (Some n) None
 id_in message_line = None

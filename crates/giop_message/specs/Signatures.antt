@@ -1,4 +1,5 @@
--- What a catalogue and a request list say of messages: the types of headers, and the types that bodies can have (meaning).
+-- The types of a message's parts, by a catalogue and a request list: those of headers, and those that bodies can have
+-- (meaning).
 use Rattle.std.specs.Prelude.{ℕ, List, Option}
 use Rattle.std.specs.Option.{option_map}
 use Rattle.giop_sig.specs.declared.types.OpId.{OpId}
@@ -23,7 +24,7 @@ pub record Signatures : Type 0 where
   pub forward : Ty
   pub addressing : Ty
 
--- what is kept of a request list: the ids, each once, with their operations
+-- the table of a request list: the ids, each once, with their operations
 abbrev pub RequestTable : Type 0
 RequestTable = List (ℕ × Option OpId)
 

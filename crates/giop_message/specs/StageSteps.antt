@@ -1,4 +1,4 @@
--- One octet more, on where a message stands (steps).
+-- One octet more, by where a message is (steps).
 use Rattle.std.specs.Prelude.{ℕ, ◌+◌, List, [], ◌∷◌, ◌++◌, length, ◌==◌, nat_lt, if◌then◌else◌}
 use Rattle.giop_cdr.specs.Alignment.{padding}
 use Rattle.giop_decode.specs.ReadResult.{plain}
@@ -11,7 +11,7 @@ unfoldable pub rest_step : ℕ → List ℕ → ℕ → Message
 rest_step offset held at =
     if length held == 32 then ReadTo (line_at at (RestLine offset held) ∷ []) at (In_rest (offset + 32) []) else ReadTo [] at (In_rest offset held)
 
--- The octet comes at that offset. A part that ends hands over to the reading of no octets of what follows it.
+-- The octet is at that offset. After a part that ends, what follows it is read with no octets.
 unfoldable pub message_step : Signatures → List ℕ → ℕ → Stage → ℕ → Message
 message_step S header at (In_typed section h outer leaf) b =
     section_and_rest S header section h (decoder.step (plain (order header)) [] outer leaf at b)

@@ -2,24 +2,24 @@
 -- apart. Of these 16 are its own:
 --
 --     at  octets
---      0       1  what it stands in: 0 header, 1 repository id, 2 body, 3 padding, 4 rest
+--      0       1  the part that it is in: 0 header, 1 repository id, 2 body, 3 padding, 4 rest
 --      1       8  offset of its next octet, at least 12
---      9       5  whether its request id was said, 0 or 1, and the id; zero in the header, whose decoder keeps it
+--      9       5  whether its request id was read, 0 or 1, and the id; zero in the header, whose decoder has it
 --     14       2  zero
 --
 -- and 208 are those of the decoder of a header, a repository id or a body, or of padding:
 --
---      0       1  the body behind it: 0 none, 1 of a type, 2 an exception
+--      0       1  the body after it: 0 none, 1 of a type, 2 an exception
 --      1       4  the type; else 0
 --      5     203  zero
 --
 -- or of a rest:
 --
---      0       8  how many octets stand before its last part
+--      0       8  how many octets are before its last part
 --      8      33  its last part: how many octets, and room for 32
 --     41     167  zero
 --
--- A decoder has its frames besides. Numbers have the heaviest octet first; what is held is followed by zeros.
+-- A decoder has its frames besides. Numbers are big-endian; held octets are followed by zeros.
 use Rattle.std.specs.Prelude.{◌≡◌, ℕ, ◌^◌, ◌<◌, cond, List, [], ◌∷◌, ◌++◌, take, drop, replicate, Option, None, IfSome}
 use Rattle.giop_octets.specs.Fields.{four, eight, optional, held}
 use Rattle.giop_cdr.specs.declared.order.Order.{Order}
@@ -41,19 +41,19 @@ use Rattle.giop_message.specs.MessageState.{in_header}
 
 -- ---- the octets
 
--- the octet that says the section
+-- the octet of a section
 abbrev pub section_octet : Section → ℕ
 section_octet sections.Header = 0
 section_octet sections.Exception = 1
 section_octet sections.Body = 2
 
--- the octet that says the part
+-- the octet of a part
 abbrev pub part_octet : Part → ℕ
 part_octet (parts.Typed section d) = section_octet section
 part_octet (parts.Padding body_type_id) = 3
 part_octet (parts.Rest r) = 4
 
--- The request id has a place of its own once the header has ended: until then it stands in the decoder.
+-- The request id has a field of its own once the header has ended: until then the decoder has it.
 abbrev pub kept_id : Part → Option ℕ → Option ℕ
 kept_id part id = cond (in_header part) None id
 
@@ -61,7 +61,7 @@ kept_id part id = cond (in_header part) None id
 unfoldable pub own_octets : Message → List ℕ
 own_octets m = part_octet m.part ∷ eight m.at ++ optional (kept_id m.part m.id) ++ replicate 2 0
 
--- what type a body has, and its number
+-- the octets of a body's type: its kind, and its number
 abbrev pub body_type_octets : BodyTypeId → List ℕ
 body_type_octets body_type_ids.Nothing = 0 ∷ four 0
 body_type_octets (body_type_ids.Type of) = 1 ∷ four of.0
@@ -99,7 +99,7 @@ pub record IsOwnOf (octets : List ℕ) (m : Message) : Type 0 where
   pub at : m.at < 2 ^ 64
   pub id : IfSome (kept_id m.part m.id) (λ n. n < 2 ^ 32)
 
--- A part stands in these 208 octets and these frames. Only a decoder has frames.
+-- a part is stored in these 208 octets and these frames, which only a decoder has
 abbrev pub PartStored : Part → List ℕ → List ℕ → Type 0
 PartStored (parts.Typed section d) octets frames = decoders.Stored d octets frames
 PartStored (parts.Padding body_type_id) octets frames = IsPaddingOf octets body_type_id × (frames ≡ [])
@@ -110,7 +110,7 @@ pub record Stored (m : Message) (fixed frames : List ℕ) : Type 0 where
   pub own : IsOwnOf (take 16 fixed) m
   pub part : PartStored m.part (drop 16 fixed) frames
 
--- ---- a part in the place of another
+-- ---- a part that goes on for another
 
 pub record IsSameRest (q r : Rest) : Type 0 where
   pub offset : q.offset ≡ r.offset
@@ -121,7 +121,7 @@ pub record ReadsOn (C : Table) (d e : Decoder) : Type 0 where
   pub reads : (T : Ty) (order : Order) (at message : ℕ) (root : Root) (s : List ℕ) →
       decoder.Reads C T order at message root d s → decoder.Reads C T order at message root e s
 
--- The other part goes on where this one stands.
+-- the other part goes on where this one is
 abbrev pub GoesOn : Table → Part → Part → Type 0
 GoesOn C (parts.Typed section d) (parts.Typed other e) = (other ≡ section) × ReadsOn C d e
 GoesOn C (parts.Padding body_type_id) (parts.Padding other) = other ≡ body_type_id

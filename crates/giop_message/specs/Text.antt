@@ -1,4 +1,4 @@
--- The text of what a reading says of a message, without the message's number, and of its lines (docs/FORMATS.md, Lines; meaning).
+-- The text of a message's lines, without the message's number and with it (docs/FORMATS.md, Lines; meaning).
 use Rattle.std.specs.Prelude.{ℕ, List, [], ◌∷◌, codes, decimal, flat_map}
 use Rattle.giop_print.specs.Text.{joined, hex}
 use Rattle.giop_print.specs.Lines.{fault_line}
@@ -8,7 +8,7 @@ use Rattle.giop_decode.specs.declared.progress.Kind.{Kind}
 use Rattle.giop_decode.specs.declared.progress.Kind.TheVariants as kinds
 use Rattle.giop_message.specs.MessageReader.{LineClass, Value, Call, Rest, Fault, End, TimedLine}
 
--- ---- what is said
+-- ---- lines without the number
 
 -- the value at a path
 unfoldable pub value_said : List ℕ → spine.Value → List ℕ
@@ -30,13 +30,13 @@ fault_word kinds.Disposition = codes "disposition"
 fault_word kinds.EncapShort = codes "encap-short"
 fault_word kinds.EncapOrder = codes "encap-order"
 
--- ---- lines
+-- ---- whole lines
 
--- what a reading says of the message
+-- a line of the message
 unfoldable pub said_line : ℕ → List ℕ → List ℕ
 said_line number text = joined (codes "m" ∷ decimal number ∷ codes " " ∷ text ∷ codes "\n" ∷ [])
 
--- at a place of the stream, which a fault's line names
+-- a line of this class; a fault's names its place in the stream
 abbrev pub line_class_text : ℕ → ℕ → LineClass → List ℕ → List ℕ
 line_class_text place number Value text = said_line number text
 line_class_text place number Call text = said_line number text
@@ -44,6 +44,6 @@ line_class_text place number Rest text = said_line number text
 line_class_text place number Fault text = fault_line number text place
 line_class_text place number End text = said_line number text
 
--- what is said at one place
+-- the lines at one place
 unfoldable pub said_text : ℕ → ℕ → List TimedLine → List ℕ
 said_text place number timed_lines = flat_map (λ r. line_class_text place number r.line_class r.text) timed_lines

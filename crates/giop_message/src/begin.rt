@@ -1,4 +1,4 @@
-//! What begins behind a part of a message that has ended.
+//! What begins after a part of a message that has ended.
 
 ghost use Rattle.std.specs.Prelude.{◌≡◌, ℕ, ◌+◌, ◌<◌, List, [], length, true, false, cond};
 ghost use Rattle.giop_sig.specs.Trees.{tree};
@@ -17,7 +17,7 @@ use giop_cdr::pad;
 use giop_decode::Decoder;
 use giop_sig::{Catalogue, Fixed, Requests, TypeId};
 
-/// The request id behind what has come of a section: a header's own, or the one from before.
+/// The request id after what has come of a section: a header's own, or the one from before.
 pub(crate) fn id_behind(section: Section, decoder: &Decoder, before: Option<u32>) -> Option<u32>
     ensures { (r : MessageReader) → KeepsNoted (root_of section) decoder.now r →
         result ≡ cond (is_header section) (noted_of true r).request_id before }
@@ -116,7 +116,7 @@ impl Message {
         }
     }
 
-    /// Goes on behind its section, which has ended.
+    /// Goes on after its section, which has ended.
     #[inline(never)]
     pub(crate) fn leave(&mut self, catalogue: &Catalogue, requests: &Requests)
         requires typed { IsTyped self.old.part }

@@ -25,7 +25,7 @@ pub enum BodyTypeId {
     Exception,
 }
 
-/// Of what follows a section, by what its decoder has in mind.
+/// The type of what follows a section, by what its decoder has noted.
 pub fn body_type_after(
     catalogue: &Catalogue,
     requests: &Requests,
@@ -47,7 +47,7 @@ pub fn body_type_after(
     }
 }
 
-/// Of a message, by its type and by what the decoder of its header has in mind.
+/// The type of a message's body, by the message type and by what the decoder of its header has noted.
 fn header_body(
     catalogue: &Catalogue,
     requests: &Requests,
@@ -70,7 +70,7 @@ fn header_body(
     BodyTypeId::Nothing
 }
 
-/// Of an exception, by its repository id.
+/// The type of an exception's members, by its repository id.
 #[tactic(auto, unfolding(crate::specs::Messages::members_of, crate::specs::Messages::type_if, crate::specs::Signatures::signatures_of))]
 fn members_body(catalogue: &Catalogue, repository: Option<&[u8]>) -> BodyTypeId
     ensures is { (request_table : RequestTable) → body_type catalogue.now result ≡ type_if (members_of
@@ -86,7 +86,7 @@ fn members_body(catalogue: &Catalogue, repository: Option<&[u8]>) -> BodyTypeId
     }
 }
 
-/// Of a Request, by its operation.
+/// The type of a Request's body, by its operation.
 #[tactic(auto, unfolding(crate::specs::Messages::request_body, crate::specs::Messages::type_if, crate::specs::Signatures::signatures_of))]
 fn request_body(catalogue: &Catalogue, name: Option<&[u8]>) -> BodyTypeId
     ensures is { (request_table : RequestTable) → body_type catalogue.now result ≡ request_body
@@ -102,7 +102,7 @@ fn request_body(catalogue: &Catalogue, name: Option<&[u8]>) -> BodyTypeId
     }
 }
 
-/// Of a Reply that has results, by the id of its request.
+/// The type of a Reply's results, by its request id.
 #[tactic(auto, unfolding(crate::specs::Messages::result_body, crate::specs::Messages::type_if, crate::specs::Signatures::signatures_of))]
 fn result_body(catalogue: &Catalogue, requests: &Requests, id: Option<u32>) -> BodyTypeId
     requires { AreOf catalogue.now requests.now }
@@ -119,7 +119,7 @@ fn result_body(catalogue: &Catalogue, requests: &Requests, id: Option<u32>) -> B
     }
 }
 
-/// Of a Reply, by its status and the id of its request.
+/// The type of a Reply's body, by its status and its request id.
 #[tactic(auto, unfolding(crate::specs::Messages::reply_body, crate::specs::Signatures::signatures_of))]
 fn reply_body(
     catalogue: &Catalogue,

@@ -1,11 +1,11 @@
-//! The fields of a message header that its reading goes by (GIOP Message Formats, GIOP Message Header).
+//! The fields of a message header by which the message is read (GIOP Message Formats, GIOP Message Header).
 
 ghost use Rattle.std.specs.Prelude.{◌≡◌, length};
 ghost use Rattle.giop_message.specs.Headers.{minor, kind, order};
 
 use giop_cdr::Order;
 
-/// The order of a message's numbers.
+/// The byte order of a message's numbers.
 #[tactic(auto, unfolding(crate::specs::Headers::order))]
 pub fn order_of(header: &[u8]) -> Order
     requires { length header.now ≡ 12 }

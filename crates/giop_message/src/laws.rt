@@ -1,4 +1,4 @@
-//! The laws of the reading of a message: what one octet more, or many, do to it, and what the stream asks of it.
+//! The laws of the reading of a message: what one octet more, or many, do to it, and what the stream needs of it.
 
 ghost use Rattle.std.specs.Prelude.{◌≡◌, ℕ, List, [], ◌∷◌, ◌++◌, length, drop, Some};
 ghost use Rattle.std.specs.List.{list_any};
@@ -18,7 +18,7 @@ ghost use Rattle.giop_message.specs.ReaderOfTable.{message_reader, first_request
 /// A message of any header, by any table and any requests, is read as its octets come. It has no body, and is called
 /// for its contract.
 pub fn message_laws()
-    // One octet more is one step on where the message stands.
+    // One octet more is one step from where the message is.
     ensures step { (C : Table) (request_table : RequestTable) (header s : List ℕ) (b : ℕ) →
         message (signatures_of C request_table) header (s ++ b ∷ [])
         ≡ advance (signatures_of C request_table) header (message (signatures_of C request_table) header s) b }
@@ -26,15 +26,15 @@ pub fn message_laws()
     ensures many { (C : Table) (request_table : RequestTable) (header s t : List ℕ) →
         message (signatures_of C request_table) header (s ++ t)
         ≡ goes_on (signatures_of C request_table) header (message (signatures_of C request_table) header s) t }
-    // A message is over exactly where its lines have a fault.
+    // A message is over exactly if its lines have a fault.
     ensures over { (C : Table) (request_table : RequestTable) (header s : List ℕ) →
         is_over (stage_of (message (signatures_of C request_table) header s))
         ≡ list_any is_wrong (message_lines (message (signatures_of C request_table) header s)) }
-    // What the stream asks of a reading: more octets change nothing that was said of those before them,
+    // What the stream needs of a reading: more octets change no lines of those before them,
     ensures causal { (C : Table) (request_table : RequestTable) → IsCausal (message_reader C request_table) }
     // a close ends a message,
     ensures ending { (C : Table) (request_table : RequestTable) → IsEnding (message_reader C request_table) }
-    // the first four octets of a message that goes by its request id say values alone,
+    // the first four octets of a message that begins with its request id have only lines of values,
     ensures named { (C : Table) (request_table : RequestTable) → HasOnlyValuesInId (message_reader C request_table) }
     // the lines of one octet come in their order, and a message that is faulted at its last octet has no rest left.
     ensures ordered { (C : Table) (request_table : RequestTable) → IsOrdered (message_reader C request_table) }
@@ -45,8 +45,8 @@ pub fn message_laws()
         (a b c d : ℕ) (xs : List ℕ) →
         first_request_id (message_lines (message (signatures_of C request_table) header (a ∷ b ∷ c ∷ d ∷ xs)))
         ≡ Some (num (order header) (a ∷ b ∷ c ∷ d ∷ [])) }
-    // What a message writes of more octets, and at its close, is what the reading says: its lines with the number, and of a
-    // fault with its place.
+    // What a message writes of more octets, and at its close, are the lines of the reading: with the number, and of a
+    // fault with its place in the stream.
     ensures writes { (C : Table) (request_table : RequestTable) (number place : ℕ) (header s more : List ℕ) →
         due_text (signatures_of C request_table) number place header s more
         ≡ timed_lines_text number place (length s)
@@ -57,7 +57,7 @@ pub fn message_laws()
         ≡ closes_text number place ((message_reader C request_table).closes header s) }
 {}
 
-/// No octet of a message has two lines of one kind, with those of a close at it. It has no body, and is called for its
+/// No octet of a message has two lines of one class, with those of a close at it. It has no body, and is called for its
 /// contract.
 pub fn apart_laws()
     ensures { (C : Table) (request_table : RequestTable) → IsApart (message_reader C request_table) }

@@ -1,4 +1,4 @@
-//! One joined message: what it has begun and not ended, and what its octets say.
+//! One joined message: what it has begun and not ended, and the calls that take its octets and close it.
 
 ghost use Rattle.std.specs.Prelude.{◌≡◌, ℕ, ◌+◌, ◌^◌, ◌<◌, ◌≤◌, true, false, List, [], length, IfOk, IfSome, Some, None};
 ghost use Rattle.giop_print.specs.Output.{Writes};
@@ -15,7 +15,7 @@ use giop_sig::{Catalogue, Requests};
 pub struct Message {
     pub(crate) number: u64,
     pub(crate) header: [u8; 12],
-    // The request id, once the header that says it has ended.
+    // The request id, once the header that has it has ended.
     pub(crate) id: Option<u32>,
     // The offset of the next octet.
     pub(crate) at: u64,
@@ -51,8 +51,8 @@ impl Message {
         message
     }
 
-    /// Takes octets, behind so many octets of the stream. Some(n) says that the n-th of these octets, from 1, is faulted:
-    /// then its fault is written, and the message takes no more.
+    /// Takes octets, after so many octets of the stream. Some(n) means that the n-th of these octets, from 1, is
+    /// faulted: then its fault is written, and the message takes no more.
     pub fn take<O: Out>(
         &mut self,
         catalogue: &Catalogue,
@@ -96,8 +96,8 @@ impl Message {
         Ok(None)
     }
 
-    /// Closes the message at a place: writes what is left of its rest, and its end or that it is short. True says that it
-    /// was short.
+    /// Closes the message at a place of the stream: writes what is left of its rest, and its end, or that it is short.
+    /// Answers whether it was short.
     pub fn close<O: Out>(
         self,
         catalogue: &Catalogue,
@@ -122,7 +122,7 @@ impl Message {
         Ok(false)
     }
 
-    /// Whether it would close inside its header, a repository id or its body, or without a body that it needs.
+    /// Whether a close would be inside its header, a repository id or its body, or without a body that it needs.
     fn is_short(&self, catalogue: &Catalogue) -> bool
         requires { Fits catalogue.now self.now }
         ensures { (request_table : RequestTable) (number : ℕ) (header s : List ℕ) →

@@ -1,4 +1,4 @@
-//! The parts of a message, each with what it needs of the octets that have come of it.
+//! The parts of a message, each with what it keeps of the octets that have come of it.
 
 ghost use Rattle.std.specs.Prelude.{◌≡◌, ℕ, ◌+◌, ◌-◌, ◌^◌, ◌<◌, ◌≤◌, List, [], ◌++◌, length, OnOk};
 ghost use Rattle.arrayvec.specs.ArrayVec.{array_vec_len};
@@ -33,7 +33,7 @@ impl Section {
     }
 }
 
-/// What the next octet belongs to.
+/// The part of a message that the next octet belongs to.
 #[derive(Debug, Drop)]
 pub enum Part {
     /// A value that has begun and not ended.
@@ -43,10 +43,10 @@ pub enum Part {
     Rest(Rest),
 }
 
-/// The octets behind the body, or behind a header without one.
+/// The octets after the body, or after a header without one.
 #[derive(Debug, Drop)]
 pub struct Rest {
-    // How many of them stand before their last part: a multiple of 32.
+    // How many of them are before their last part: a multiple of 32.
     pub(crate) offset: u64,
     // Their last part.
     pub(crate) held: ArrayVec<u8, 32>,
@@ -59,7 +59,7 @@ impl Rest {
     ghost use Rattle.giop_message.specs.MessageState.{message_lines_text};
     ghost use Rattle.giop_message.specs.MessageSteps.{held_text};
 
-    /// Of no octets.
+    /// A rest of no octets.
     pub(crate) fn new() -> Rest
         ensures offset { result.offset ≡ 0 }
         ensures held { result.held.items ≡ [] }
@@ -77,8 +77,8 @@ impl Rest {
         32 - self.held.len()
     }
 
-    /// Takes octets of its last part, and writes that where it is full: what came before from where it is held, and these
-    /// from where they are.
+    /// Takes octets of its last part, and writes that part if it is full: the octets that are held, and these, which
+    /// are not copied.
     pub(crate) fn take<O: Out>(
         &mut self,
         number: u64,

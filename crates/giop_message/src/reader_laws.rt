@@ -1,4 +1,4 @@
-//! What the stream takes from a message: its calls write and answer what its reading says, an octet at a time.
+//! What the stream uses of a message: its calls write and answer what its reading has, an octet at a time.
 
 ghost use Rattle.std.specs.Prelude.{◌≡◌, ℕ, suc, false, List, [], ◌∷◌, ◌++◌};
 ghost use Rattle.std.specs.List.{list_any};
@@ -11,23 +11,23 @@ ghost use Rattle.giop_message.specs.Messages.{message, stage_of, close};
 ghost use Rattle.giop_message.specs.ReaderOfTable.{message_reader, is_over};
 ghost use Rattle.giop_message.specs.MessageState.{Follows, due_text, is_short};
 
-/// The text of an octet and of a close, and where they fault a message, are told by the reading alone. It has no body, and
-/// is called for its contract.
+/// The text of an octet and of a close, and where they fault a message, follow from the reading alone. It has no body,
+/// and is called for its contract.
 pub fn message_reader_laws()
-    // The text of an octet is that of what is said at it;
+    // The text of an octet is that of its lines in the reading;
     ensures text { (C : Table) (request_table : RequestTable) (number place : ℕ) (header s : List ℕ) (x : ℕ) →
         due_text (signatures_of C request_table) number place header s (x ∷ [])
         ≡ said_text (suc place) number (due (message_reader C request_table) header s x) }
-    // a message that isn't over is so behind the octet exactly where a fault is said at it.
+    // a message that isn't over is over after the octet exactly if the octet has the line of a fault.
     ensures over { (C : Table) (request_table : RequestTable) (header s : List ℕ) (x : ℕ) →
         is_over (stage_of (message (signatures_of C request_table) header s)) ≡ false →
         is_over (stage_of (message (signatures_of C request_table) header (s ++ x ∷ [])))
         ≡ list_any (λ r. is_fault r.line_class) (due (message_reader C request_table) header s x) }
-    // What a message follows isn't over.
+    // A message that follows a list isn't over.
     ensures going { (C : Table) (request_table : RequestTable) (number : ℕ) (header : List ℕ) (m : Message)
         (s : List ℕ) → Follows C request_table number header m s →
         is_over (stage_of (message (signatures_of C request_table) header s)) ≡ false }
-    // A close is short exactly where it says a fault.
+    // A close is short exactly if it has the line of a fault.
     ensures short { (C : Table) (request_table : RequestTable) (header s : List ℕ) →
         is_short (close (stage_of (message (signatures_of C request_table) header s)))
         ≡ list_any (λ l. is_fault l.0) ((message_reader C request_table).closes header s) }

@@ -1,5 +1,5 @@
-//! A message from the octets that were stored of one. Octets that no message stores are read as any; what was read is
-//! stored anew and compared.
+//! A message from the octets that were stored of one. They are read without a check of each; the message is then stored
+//! anew, and the octets are compared.
 
 ghost use Rattle.std.specs.Prelude.{◌≡◌, ℕ, ◌+◌, ◌<◌, ◌≤◌, ◌↔◌, List, length, IfSome, IsSome, IsTrue, Some};
 ghost use Rattle.std.specs.Option.{IsSomeAnd};
@@ -20,7 +20,7 @@ fn same(octets: &[u8], others: &[u8]) -> bool
     octets == others
 }
 
-/// Whether an octet behind a message's header has this offset.
+/// Whether this is an offset after a message's header.
 fn is_after_header(at: u64) -> bool
     ensures { IsTrue result ↔ (12 ≤ at) }
 {
@@ -39,8 +39,8 @@ impl BodyTypeId {
     ghost use Rattle.giop_message.specs.MessageState.{IsKnown};
     ghost use Rattle.giop_message.specs.Stored.{IsPaddingOf};
 
-    /// The body behind the padding that was stored in these octets: None where no padding of a body of the catalogue is
-    /// stored so.
+    /// The type of the body after the padding that was stored in these octets: None where no padding of a body of the
+    /// catalogue is stored so.
     fn restore(catalogue: &Catalogue, octets: &[u8; 208]) -> Option<BodyTypeId>
         ensures known { IfSome result (λ w. IsKnown catalogue.now w) }
         ensures stored { IfSome result (λ w. IsPaddingOf octets.now w) }
@@ -57,7 +57,7 @@ impl BodyTypeId {
         Some(body_type_id)
     }
 
-    /// What octets say of a body.
+    /// The type of a body that octets stand for, unchecked.
     fn parsed(octets: &[u8; 208]) -> BodyTypeId
         ensures { (w : BodyType) → IsPaddingOf octets.now w → result ≡ w }
     {
@@ -84,8 +84,8 @@ impl Rest {
     ghost use Rattle.giop_message.specs.declared.part.Rest.{Rest as StoredRest};
     ghost use Rattle.giop_message.specs.Stored.{IsRestOf, IsSameRest};
 
-    /// The rest that was stored in these octets, of a message that has taken so many: None where no rest of such a message
-    /// is stored so.
+    /// The rest that was stored in these octets, of a message that has taken so many: None where no rest of such a
+    /// message is stored so.
     fn restore(octets: &[u8; 208], at: u64) -> Option<Rest>
         ensures within { IfSome result (λ r. r.offset + length r.held.items ≤ at) }
         ensures stored { IfSome result (λ r. IsRestOf octets.now r) }
@@ -110,8 +110,8 @@ impl Part {
     ghost use Rattle.giop_message.specs.MessageState.{FitsPart};
     ghost use Rattle.giop_message.specs.Stored.{section_octet, part_octet, PartStored, GoesOn};
 
-    /// The part that was stored in these octets and frames, of a message that has taken so many octets and has this octet
-    /// for the part: None where no part of such a message is stored so.
+    /// The part that was stored in these octets and frames, of a message that has taken so many octets and has this
+    /// octet for the part: None where no part of such a message is stored so.
     fn restore(
         catalogue: &Catalogue,
         octet: u8,
@@ -199,8 +199,8 @@ impl Message {
     ghost use Rattle.giop_message.specs.MessageState.{Fits, Follows};
     ghost use Rattle.giop_message.specs.Stored.{Stored};
 
-    /// The message of this number and header that was stored in these octets and frames: None where no message that fits
-    /// the catalogue is stored so.
+    /// The message of this number and header that was stored in these octets and frames: None where no message that
+    /// fits the catalogue is stored so.
     pub fn restore(
         catalogue: &Catalogue,
         number: u64,

@@ -1,4 +1,5 @@
-//! What a checkpoint keeps of a message, as octets (docs/FORMATS.md): 16 of its own, and 208 of the part that it stands in.
+//! What a checkpoint keeps of a message, written as octets (docs/FORMATS.md): 16 of its own, and 208 of the part that
+//! it is in.
 
 ghost use Rattle.std.specs.Prelude.{◌≡◌, ℕ, ◌*◌, ◌≤◌, take};
 ghost use Rattle.giop_sig.specs.Table.{Table};
@@ -14,7 +15,7 @@ use giop_octets::{put_eight, put_four, put_held, put_octets, put_optional, put_z
 impl Section {
     ghost use Rattle.giop_message.specs.Stored.{section_octet};
 
-    /// The octet that says it.
+    /// Its octet in a checkpoint.
     pub(crate) fn octet(self) -> u8
         ensures { result ≡ section_octet self }
     {
@@ -71,7 +72,7 @@ impl Part {
     ghost use Rattle.giop_message.specs.MessageState.{FitsPart};
     ghost use Rattle.giop_message.specs.Stored.{part_octet, PartStored};
 
-    /// The octet that says it.
+    /// Its octet in a checkpoint.
     fn octet(&self) -> u8
         ensures { result ≡ part_octet self.now }
     {
@@ -114,8 +115,8 @@ impl Message {
         self.at
     }
 
-    /// Writes what is kept of it, its number and its header apart: its octets, and the frames of its decoder, of which it
-    /// answers the number.
+    /// Writes what is kept of it, its number and its header apart: its octets, and the frames of its decoder, of which
+    /// it answers the number.
     pub fn store(&self, fixed: &mut [u8; 224], frames: &mut [u8; 576]) -> u8
         ensures few { result ≤ 24 }
         ensures depth { (C : Table) → Fits C self.now → result ≤ depth_of C.types }
@@ -147,7 +148,7 @@ impl Message {
         octets
     }
 
-    /// The request id, where its decoder doesn't keep that.
+    /// The request id, unless the header's decoder has it.
     fn kept_id(&self) -> Option<u32>
         ensures { result ≡ kept_id self.now.part self.now.id }
     {

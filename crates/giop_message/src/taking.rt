@@ -1,4 +1,4 @@
-//! What octets do to a message, by the part that they belong to.
+//! Takes octets of a message, by the part that they belong to.
 
 ghost use Rattle.std.specs.Prelude.{◌≡◌, ℕ, ◌+◌, ◌^◌, ◌<◌, ◌≤◌, true, false, List, [], ◌∷◌, ◌++◌, length, IfOk};
 ghost use Rattle.giop_print.specs.Output.{Writes};
@@ -67,9 +67,9 @@ impl Message {
         }
     }
 
-    /// Takes some of the octets, of which there is one, behind so many octets of the stream: of a section all, or as many
-    /// as there are up to one that ends an operation or the section, or breaks a rule; of padding one; of the rest those
-    /// of one part. Answers how many it took, and whether the last of them is faulted.
+    /// Takes some of the octets, of which there is at least one, after so many octets of the stream: of a section all,
+    /// or as many as there are up to one that ends an operation or the section, or breaks a rule; of padding one; of
+    /// the rest those of one part. Answers how many it took, and whether the last of them is faulted.
     #[inline]
     pub(crate) fn take_some<O: Out>(
         &mut self,

@@ -40,7 +40,7 @@ fn add_octets(digits: &str, octets: &mut Vec<u8>) -> Result<(), Fail> {
         let digit = digit.to_digit(16).ok_or("a hexadecimal digit")?;
         match high.take() {
             None => high = Some(digit),
-            // A digit is below 16: the remainders tell that to the check.
+            // A digit is below 16: with the remainders that is provable.
             Some(first) => octets.push((first % 16 * 16 + digit % 16) as u8)?,
         }
     }

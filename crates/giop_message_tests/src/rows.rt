@@ -7,11 +7,12 @@ use std::str::Split;
 pub enum Closing {
     Ends,
     Short,
-    /// At a place, the number of octets up to and with the octet that has the fault.
+    /// With a fault: the number of octets up to and with the one that has it.
     Fault(usize),
 }
 
-/// A message: its octets in hexadecimal digits, where `xx*n` is n times, the first 12 of them its header, and its lines.
+/// A message: its octets in hexadecimal digits, where `xx*n` is n times, the first 12 of them its header, and its
+/// lines.
 #[derive(Clone, Copy)]
 pub struct Row<'a> {
     pub name: &'a str,

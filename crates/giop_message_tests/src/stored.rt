@@ -1,4 +1,4 @@
-//! Messages that are stored and restored on their way, and the octets that are stored of them.
+//! Messages that are stored and restored between two octets, and the octets that are stored of them.
 ghost use Rattle.std.specs.Prelude.{◌≡◌, ◌≤◌, length, IfSome};
 ghost use Rattle.giop_message.specs.MessageState.{AreOf, Fits};
 
@@ -22,8 +22,8 @@ fn again(catalogue: &Catalogue, message: &Message) -> Option<Message>
     Message::restore(catalogue, number, header, &fixed, &frames[..24 * count])
 }
 
-/// Takes the octets behind a header in two pieces, as message 1 of a stream, and closes the message, which is stored and
-/// restored between the pieces: None where it can't be restored.
+/// Takes the octets behind a header in two pieces, as message 1 of a stream, and closes the message, which is stored
+/// and restored between the pieces: None where it can't be restored.
 fn takes_restored(
     catalogue: &Catalogue,
     requests: &Requests,
@@ -98,7 +98,7 @@ fn is_restored_anywhere(
     }
 }
 
-/// What differs where the message is stored and restored behind so many of its octets.
+/// What differs where the message is stored and restored after so many of its octets.
 fn restored_differs(
     catalogue: &Catalogue,
     requests: &Requests,
@@ -129,8 +129,8 @@ fn restored_differs(
     }
 }
 
-/// The first octets of a message, the first 12 of them its header; the octets that are stored of it behind them, as message 1
-/// of a stream; and those of its frames.
+/// The first octets of a message, the first 12 of them its header; the octets that are stored of it behind them, as
+/// message 1 of a stream; and those of its frames.
 #[derive(Clone, Copy)]
 struct Case {
     name: &'static str,
@@ -227,7 +227,8 @@ fn stored_differs(
     ""
 }
 
-/// One octet of a case that is another, so that no message is stored so: the case, where the octet stands, and what it is.
+/// One octet of a case that is changed, so that no message is stored so: its name, the case, the octet's index, and its
+/// value.
 #[derive(Clone, Copy)]
 struct Wrong(&'static str, usize, usize, u8);
 

@@ -58,7 +58,7 @@ fn is_cut_anywhere(
     }
 }
 
-/// What differs where the octets are taken in two pieces, cut behind so many of them.
+/// What differs where the octets are taken in two pieces, cut after so many of them.
 fn cut_differs(
     catalogue: &Catalogue,
     requests: &Requests,
@@ -222,7 +222,7 @@ fn has(header: &[u8; 12], minor: u8, order: Order, kind: u8) -> bool {
 
 #[test]
 fn a_header_has_its_fields(rt: HostRuntime) {
-    // The second flag says that more fragments follow.
+    // The second flag is set if more fragments follow.
     let little = b"GIOP\x01\x02\x03\x01\x14\x00\x00\x00";
     assert!(rt; has(little, 2, Order::Little, 1));
     let big = b"GIOP\x01\x01\x02\x07\x00\x00\x00\x14";

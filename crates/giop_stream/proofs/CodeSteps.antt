@@ -1,4 +1,4 @@
--- What an engine holds of a stream, and what an octet, a run and the finish make of it.
+-- The fields of an engine against the stream: what an octet, a run of octets and the finish do to them.
 pub mod OneOctet
 pub mod NextOctet
 pub mod EngineStep

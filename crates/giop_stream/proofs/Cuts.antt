@@ -1,4 +1,4 @@
--- How a stream falls into messages, octet by octet.
+-- How a stream is cut into messages, octet by octet.
 pub mod Cutting
 pub mod CutFrom
 pub mod Start

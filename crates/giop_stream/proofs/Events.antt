@@ -1,4 +1,4 @@
--- What the octets of a stream do to its messages.
+-- The events of a stream's octets, and the open messages and the faults that follow from them.
 pub mod EventInduction
 pub mod EventsOfOctet
 pub mod EventsKeep

@@ -21,7 +21,7 @@ fronts_push {A} (y ∷ ys) x =
     ap (λ (fs : List (List A)). [] ∷ map (λ front. y ∷ front) fs) (fronts_push ys x)
     ∙ ap (λ (fs : List (List A)). [] ∷ fs) (map_push (λ front. y ∷ front) (fronts ys) (ys ++ x ∷ []))
 
--- the fault of a front's last octet
+-- the fault of the last octet of a header's front
 unfoldable pub wrong_last : List ℕ → Option (ℕ × StreamFault)
 wrong_last front = wrong_or (wrong front) (length front) None
 
@@ -52,7 +52,7 @@ pub offence_comes : (xs : List ℕ) (x : ℕ) → first_wrong_octet xs ≡ None 
 unfolding first_wrong_octet
 offence_comes xs x e = rw (fronts_push xs x) (first_none (fronts xs) (xs ++ x ∷ []) e)
 
--- A filter that keeps all, or nothing; two filters in either order.
+-- A filter that keeps all, or none; two filters in either order.
 pub filter_keeps : {A : Type 0} (test : A → Bool) (xs : List A) → Each (λ x. test x ≡ true) xs → filter test xs ≡ xs
 filter_keeps test [] h = refl
 filter_keeps {A} test (x ∷ xs) h = rw h.0 (ap (λ (ys : List A). x ∷ ys) (filter_keeps test xs h.1))

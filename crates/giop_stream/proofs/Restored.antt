@@ -1,4 +1,4 @@
--- What is saved of a stream, and what is loaded.
+-- Checkpoints: what `save` writes of an engine, and what `load` makes of it.
 pub mod Saved
 pub mod SavedSizes
 pub mod Loaded

@@ -1,4 +1,4 @@
--- What the code keeps of the messages, and what its calls make of them.
+-- The slots of the code against what is tracked of the messages: what its calls do to them at each event.
 pub mod OneSlotChanges
 pub mod EventsInSlots
 pub mod Performing

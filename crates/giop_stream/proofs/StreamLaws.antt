@@ -1,4 +1,4 @@
--- What the program may use of a stream, beside the contracts. No other file of this crate's proofs can be cited from outside.
+-- What other crates may use of a stream, beside the contracts. No other file of this crate's proofs can be cited from outside.
 use Rattle.std.proofs.Common.{◌≡◌, ℕ, List, ◌++◌}
 use Rattle.giop_sig.specs.Table.{Table}
 use Rattle.giop_message.specs.Signatures.{RequestTable, signatures_of}
@@ -8,7 +8,7 @@ use Rattle.giop_stream.specs.EngineHolds.{added}
 use Rattle.giop_stream.proofs.SlotSteps.Parts.{in_turn}
 use Rattle.giop_stream.proofs.StreamLines.MoreOctets as further
 
--- what octets add to the text of a stream, and then others
+-- what q and then r add to the text of the stream p
 pub added_both : (C : Table) (kept : RequestTable) (most : ℕ) (p q r : List ℕ) →
     added (rules C kept most) p (q ++ r) ≡ added (rules C kept most) p q ++ added (rules C kept most) (p ++ q) r
 added_both C kept most p q r = further.added_both (rules C kept most) (is_causal (signatures_of C kept)) (in_turn C kept) p q r

@@ -1,3 +1,3 @@
--- Worked streams, by computation.
+-- Example streams, computed.
 pub mod Rows
 pub mod EngineRows

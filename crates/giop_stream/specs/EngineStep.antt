@@ -33,11 +33,11 @@ octet_at s x = octet_in s.stop s.held s.totals.messages s.totals.octets (size s.
 abbrev pub own_octets : State → Now → Option (List ℕ)
 own_octets s now = if now.payload_count == 0 then Some [] else option_map (λ o. o.octets) s.own
 
-unfoldable pub live_of : State → List Open
-live_of s = map (λ slot. slot.open_as) s.slots
+unfoldable pub still_open_of : State → List Open
+still_open_of s = map (λ slot. slot.open_as) s.slots
 
 unfoldable pub tracked_of : State → Now → Tracked
-tracked_of s now = record { still_open = live_of s; known = kept s.slots now.subject.number (own_octets s now) }
+tracked_of s now = record { still_open = still_open_of s; known = kept s.slots now.subject.number (own_octets s now) }
 
 -- its request id, where the octet is the last of that
 abbrev pub id_by : Now → Option (List ℕ) → ℕ
@@ -53,10 +53,10 @@ numbered still_open None = None
 numbered still_open (Some number) = find (λ o. o.opener.number == number) still_open
 
 unfoldable pub other_of : State → Now → Option Open
-other_of s now = if now.payload_count == 4 then find (λ o. o.id == id_of s now) (live_of s) else numbered (live_of s) s.owner
+other_of s now = if now.payload_count == 4 then find (λ o. o.id == id_of s now) (still_open_of s) else numbered (still_open_of s) s.owner
 
 unfoldable pub events_at : ℕ → State → Now → List Event
-events_at most s now = events_with_id most (live_of s) now (id_of s now) (other_of s now)
+events_at most s now = events_with_id most (still_open_of s) now (id_of s now) (other_of s now)
 
 unfoldable pub stepped : State → Now → Effect → Step
 stepped s now effect =

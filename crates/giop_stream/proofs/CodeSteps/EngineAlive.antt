@@ -1,5 +1,5 @@
--- What is so of every stream, octet for octet: what `Soundness` says, and that a message which begins with its request id is not
--- over before that is complete.
+-- The invariants of every stream, by induction on its octets: those of `Soundness`, and that a message which begins with its
+-- request id is not over before that is complete.
 use Rattle.std.proofs.Common.{inl, inr, ◌⊎◌, ◌≡◌, ℕ, suc, ◌-◌, ◌<◌, ◌≤◌, true, List, [], ◌∷◌, ◌++◌, length, get_or, refl, sym, ap, ◌∙◌, Some, None, arith, append-nil}
 use Rattle.std.specs.List.{AllByRecursion as Each}
 use Rattle.std.proofs.lemmas.List.{length_push, get_or_push}
@@ -27,7 +27,7 @@ unfolding tracked_after
 known_is R p i = refl
 
 module _ (R : Rules) (laws : IsStreamable R.reading) (p : List ℕ) (x : ℕ) (sound : IsSound R p) (alive : IsAlive R p) where
-  -- what is kept of the message then
+  -- what is kept of m after the octet
   kept_now : (m : Message) → (cut p).stop ≡ None → length m.payload ≤ size m.header → length m.payload < size m.header → m.number ≡ suc (length (cut p).whole) → has_name m.header ≡ true → length m.payload < 4
       → (((cut p).current ≡ None) × (m.payload ≡ [])) ⊎ ((was : Message) × ((cut p).current ≡ Some was) × (m ≡ with_octet was x)) → (effects R.reading (tracked_after R p) (events_of_octet R.most (open_after R.most p) m)).tracked.known m.number ≡ Some m.payload
   unfolding messages
@@ -66,7 +66,7 @@ module _ (R : Rules) (laws : IsStreamable R.reading) (p : List ℕ) (x : ℕ) (s
       ∙ (ap (λ (c : Tracked). c.known m.number) adds.tracked_after
       ∙ (ap (λ (n : Message). (effects R.reading (tracked_after R p) (events_of_octet R.most (open_after R.most p) one.m)).tracked.known n.number) same ∙ (kept_now one.m h.0 one.fits s.lacks one.number_is name' few' one.from ∙ ap (λ (n : Message). Some n.payload) (sym same))))
 
--- ---- What is kept throughout.
+-- ---- The invariants, for every stream.
 
 sound_by : (R : Rules) (p : List ℕ) (x : ℕ) (o : Octet) → Then R p x o → IsSound R (p ++ x ∷ [])
 sound_by R p x (Ends fault) h = h.1.sound
@@ -88,7 +88,7 @@ sound R causal laws p = (kept R causal laws p).sound
 pub alive : (R : Rules) → IsCausal R.reading → IsStreamable R.reading → (p : List ℕ) → IsAlive R p
 alive R causal laws p = (kept R causal laws p).alive
 
--- ---- What depends on no reading.
+-- ---- What does not depend on the reader of messages, shown with one that gives no lines but an end.
 
 mute : MessageReader
 mute = record { reads = λ header xs. []; closes = λ header xs. (End, []) ∷ [] }

@@ -1,4 +1,4 @@
--- What an engine holds of a stream goes by its step, octet for octet, and what closes a stream is said by it.
+-- The state of a stream is the fresh state stepped by each octet, and gives what is written at the finish.
 use Rattle.std.proofs.Common.{◌≡◌, ℕ, Bool, true, List, [], ◌∷◌, ◌++◌, length, refl, sym, ap, append_assoc, Option, Some, None, arith}
 use Rattle.std.specs.Prelude.{◌&&◌, nat_lt, is_none, IfSome}
 use Rattle.std.proofs.lemmas.Bool.{lt-ltb}
@@ -26,7 +26,7 @@ use Rattle.giop_stream.proofs.CodeSteps.NextOctet.{Steps}
 stepped : (R : Rules) → IsCausal R.reading → IsStreamable R.reading → (p : List ℕ) (x : ℕ) → Steps R p (p ++ x ∷ []) (step R (state_of R p) x)
 stepped R causal laws p x = steps R causal laws p x (sound R causal laws p) (alive R causal laws p)
 
--- ---- The step is the definitions' next octet.
+-- ---- The states and the lines, octet by octet.
 
 pub start_is : (R : Rules) → state_of R [] ≡ fresh
 unfolding state_of fresh tally of_parts slots_of read_of start_count fault_count

@@ -1,5 +1,5 @@
--- The step is the definitions' next octet: from what an engine holds of a stream, the lines that the octet adds, and what an
--- engine holds of the longer stream.
+-- The step agrees with the definitions: from the state of a stream it gives the lines that the octet adds, and the state of the
+-- longer stream.
 use Rattle.std.proofs.Common.{inl, inr, ◌≡◌, ℕ, suc, ◌+◌, ◌-◌, ◌<◌, ◌≤◌, Bool, true, false, List, [], ◌∷◌, ◌++◌, length, refl, sym, ap, subst, ◌∙◌, Option, Some, None, arith}
 use Rattle.std.specs.Prelude.{nat_lt, nat_le, ◌||◌, if◌then◌else◌, option_map, is_some}
 use Rattle.std.specs.List.{AllByRecursion as Each}
@@ -17,25 +17,25 @@ use Rattle.giop_stream.specs.OpenSlots.{OctetsByNumber, octets_of, is_open, slot
 use Rattle.giop_stream.specs.Effects.{Tracked, Effect, tracked_at, effects, tracked_after}
 use Rattle.giop_stream.specs.Octet.{Octet, AfterStop, Ends, Held, Of, octet_of}
 use Rattle.giop_stream.specs.EngineState.{State, Own, is_named, own_for, owner_for, state_of}
-use Rattle.giop_stream.specs.EngineStep.{own_octets, live_of, tracked_of, id_of, other_of, events_at, stepped, step_by, step}
+use Rattle.giop_stream.specs.EngineStep.{own_octets, still_open_of, tracked_of, id_of, other_of, events_at, stepped, step_by, step}
 use Rattle.giop_stream.proofs.Lists.{each_weaker}
 use Rattle.giop_stream.proofs.Cuts.Cutting.{settled_messages, settle_stop}
 use Rattle.giop_stream.proofs.Cuts.CutFrom.{end_message}
-use Rattle.giop_stream.proofs.Events.EventsOfOctet.{happens_agree, opened_each, not_past, quiet_one}
+use Rattle.giop_stream.proofs.Events.EventsOfOctet.{events_of_octet_agree, opened_each, not_past, quiet_one}
 use Rattle.giop_stream.proofs.Events.KeptSlots.{opens_back, kept_own, kept_all, slots_agree}
 use Rattle.giop_stream.proofs.Events.AfterMoreEvents.{count_append}
 use Rattle.giop_stream.proofs.Events.Soundness.{IsSound}
 use Rattle.giop_stream.proofs.StreamLines.IdBeforeEnd.{IsAlive}
-use Rattle.giop_stream.proofs.Events.EventsByEngine.{acts_agree, AgreeOn, effects_agree}
+use Rattle.giop_stream.proofs.Events.EventsByEngine.{events_with_id_agree, AgreeOn, effects_agree}
 use Rattle.giop_stream.proofs.CodeSteps.OneOctet.{Adds, IsOf, Then, then_is}
 use Rattle.giop_stream.proofs.CodeSteps.NextOctet.{shape, state_is, tally_by, octet_is, Steps, behind_steps, ends_steps, held_steps, Shows, shows, fragment_named}
 
--- ---- What the octet does then.
+-- ---- The state after an octet of a message.
 
-pub effects_live : (R : MessageReader) (c : Tracked) (es : List Event) → (effects R c es).tracked.still_open ≡ opened c.still_open es
+pub effects_still_open : (R : MessageReader) (c : Tracked) (es : List Event) → (effects R c es).tracked.still_open ≡ opened c.still_open es
 unfolding effects opened
-effects_live R c [] = refl
-effects_live R c (e ∷ es) = effects_live R (tracked_at R c e) es ∙ unfold tracked_at in refl
+effects_still_open R c [] = refl
+effects_still_open R c (e ∷ es) = effects_still_open R (tracked_at R c e) es ∙ unfold tracked_at in refl
 
 own_agree : (f g : OctetsByNumber) (still_open still_open' : List Open) (now : Now) → still_open ≡ still_open'
     → (is_named now ≡ false → f now.subject.number ≡ g now.subject.number) → own_for f still_open now ≡ own_for g still_open' now
@@ -71,17 +71,17 @@ module _ (R : Rules) (p : List ℕ) (m : Message) (fits : length m.payload ≤ s
   now : Now
   now = now_of m
 
-  live_same : live_of s ≡ open_after R.most p
-  live_same = unfold live_of s state_of in opens_back (octets_of R p) (open_after R.most p)
+  still_open_same : still_open_of s ≡ open_after R.most p
+  still_open_same = unfold still_open_of s state_of in opens_back (octets_of R p) (open_after R.most p)
 
   same_name : length m.payload ≡ 4 → has_name m.header ≡ true → other_of s now ≡ opener_of (open_after R.most p) m
   unfolding s now other_of opener_of
-  same_name four name = rw (eq-eqb (length m.payload) 4 four, live_same, shows.name_is four name) refl
+  same_name four name = rw (eq-eqb (length m.payload) 4 four, still_open_same, shows.name_is four name) refl
 
   events_same : events_at R.most s now ≡ events_of_octet R.most (open_after R.most p) m
   unfolding s now events_at events_of_octet
   events_same =
-      rw live_same (acts_agree R.most (open_after R.most p) (now_of m) (id_of s now) (id m) (other_of s now) (opener_of (open_after R.most p) m)
+      rw still_open_same (events_with_id_agree R.most (open_after R.most p) (now_of m) (id_of s now) (id m) (other_of s now) (opener_of (open_after R.most p) m)
       (λ four name. (shows.name_is four name, same_name four name)) shows.past_is)
 
   Same : ℕ → Type 0
@@ -97,14 +97,14 @@ module _ (R : Rules) (p : List ℕ) (m : Message) (fits : length m.payload ≤ s
 
   each_same : Each (λ e. Same e.subject.number) (events_of_octet R.most (open_after R.most p) m)
   each_same =
-      happens_agree R.most (λ e. Same e.subject.number) (open_after R.most p) m fits (λ past what. mine past)
+      events_of_octet_agree R.most (λ e. Same e.subject.number) (open_after R.most p) m fits (λ past what. mine past)
       (each_weaker (λ o. Same o.opener.number) (λ o. (what : EventKind) → Same o.opener.number) (λ o k what. k)
       (open_after R.most p) theirs)
 
   agree : AgreeOn Same (effects R.reading (tracked_of s now) (events_at R.most s now)) (effects R.reading (tracked_after R p) (events_of_octet R.most (open_after R.most p) m))
   unfolding Same tracked_of tracked_after
   agree =
-      rw events_same (effects_agree R.reading Same (tracked_of s now) (tracked_after R p) (events_of_octet R.most (open_after R.most p) m) live_same (λ i h. h) each_same)
+      rw events_same (effects_agree R.reading Same (tracked_of s now) (tracked_after R p) (events_of_octet R.most (open_after R.most p) m) still_open_same (λ i h. h) each_same)
 
   slots_same : (let a = effects R.reading (tracked_after R p) (events_of_octet R.most (open_after R.most p) m) in let b = effects R.reading (tracked_of s now)
       (events_at R.most s now) in slots_of a.tracked.known a.tracked.still_open ≡ slots_of b.tracked.known b.tracked.still_open)
@@ -113,7 +113,7 @@ module _ (R : Rules) (p : List ℕ) (m : Message) (fits : length m.payload ≤ s
       let a = effects R.reading (tracked_after R p) (events_of_octet R.most (open_after R.most p) m) in
       let b = effects R.reading (tracked_of s now) (events_at R.most s now) in
       let same : Each (λ o. Same o.opener.number) a.tracked.still_open =
-      subst (Each (λ o. Same o.opener.number)) (sym (effects_live R.reading (tracked_after R p) (events_of_octet R.most (open_after R.most p) m))) (then_same) in
+      subst (Each (λ o. Same o.opener.number)) (sym (effects_still_open R.reading (tracked_after R p) (events_of_octet R.most (open_after R.most p) m))) (then_same) in
       slots_agree a.tracked.known b.tracked.known a.tracked.still_open
       (each_weaker (λ o. Same o.opener.number) (λ o. a.tracked.known o.opener.number ≡ b.tracked.known o.opener.number)
       (λ o k. sym (agree.known o.opener.number k)) a.tracked.still_open same)
@@ -128,7 +128,7 @@ module _ (R : Rules) (p : List ℕ) (m : Message) (fits : length m.payload ≤ s
       let both = and_parts (is_fragment m.header) (nat_le 4 (length m.payload)) named in
       let four : 4 ≤ length m.payload = leb-true 4 (length m.payload) both.1 in
       let payload_run : (effects R.reading (tracked_after R p) (events_of_octet R.most (open_after R.most p) m)).tracked.still_open ≡ open_after R.most p =
-      effects_live R.reading (tracked_after R p) (events_of_octet R.most (open_after R.most p) m) ∙ quiet_one R.most (open_after R.most p) m less (inr both.0) in
+      effects_still_open R.reading (tracked_after R p) (events_of_octet R.most (open_after R.most p) m) ∙ quiet_one R.most (open_after R.most p) m less (inr both.0) in
       ap (λ (still_open : List Open). opener_of still_open m) payload_run ∙ sym (elim (cases_eq (length m.payload) 4) [
         | inl e ↦ same_name e (fragment_named m.header both.0)
         | inr e ↦ shows.past_is (omega (arith, four, e)) both.0
@@ -209,7 +209,7 @@ counts_by R p m ls = refl
 counted : (whole : List Message) (m : Message) → m.number ≡ suc (length whole) → length (messages (end_message whole m)) ≡ m.number
 counted whole m number = ap length (settled_messages whole m) ∙ (omega (arith, length_push whole m) ∙ sym number)
 
--- the totals once the octet of m is done with
+-- the totals after the octet of m
 pub tally_settled : (R : Rules) (p : List ℕ) (x : ℕ) (m : Message) → m.number ≡ suc (length (cut p).whole)
     → (let effect = effects R.reading (tracked_after R p) (events_of_octet R.most (open_after R.most p) m) in Adds R p (p ++ x ∷ [])
     (end_message (cut p).whole m) effect.lines effect.tracked)

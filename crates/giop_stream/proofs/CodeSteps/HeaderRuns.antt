@@ -1,4 +1,4 @@
--- Octets that only add to a header, all at once: the code does their steps, and writes nothing.
+-- A run of header octets before the last one, taken at once: the code does their steps, and writes nothing.
 use Rattle.std.proofs.Common.{◌≡◌, ℕ, suc, ◌+◌, ◌^◌, ◌<◌, ◌≤◌, List, [], ◌∷◌, ◌++◌, length, take, refl, sym, ap, subst, ◌∙◌, append_assoc, append-nil, None, arith}
 use Rattle.std.proofs.lemmas.List.{length_push}
 use Rattle.giop_sig.specs.Table.{Table}
@@ -12,7 +12,7 @@ use Rattle.giop_stream.specs.FramingSteps as steps
 use Rattle.giop_stream.specs.ViewOfState.{Shows}
 use Rattle.giop_stream.proofs.CodeSteps.OutsideMessages.{held_step, held_shows}
 
--- None of these octets is wrong, behind these of a header.
+-- None of these octets is wrong after this front of a header.
 abbrev pub AreRight : List ℕ → List ℕ → Type 0
 AreRight front octets = (k : ℕ) → k < length octets → wrong (front ++ take (k + 1) octets) ≡ None
 
@@ -29,7 +29,7 @@ right_more front x xs h =
     λ k less. ap wrong (append_assoc front (x ∷ []) (take (k + 1) xs) ∙ ap (λ (z : List ℕ). front ++ z) (sym (take_more (k + 1) x xs)))
     ∙ h (k + 1) (omega (arith, less))
 
--- what is remembered with them
+-- the fields with these octets added
 abbrev pub held_all : FramingView → List ℕ → FramingView
 held_all m xs = record m { totals = record m.totals { octets = m.totals.octets + length xs }; header = m.header ++ xs }
 
@@ -45,7 +45,7 @@ held_more m x xs =
     let count : suc m.totals.octets + length xs ≡ m.totals.octets + length (x ∷ xs) = omega arith in
     λ j. record m { totals = record m.totals { octets = count j }; header = append_assoc m.header (x ∷ []) xs j }
 
--- there is room for them in a header and in the stream, behind what is held
+-- they fit into the header that is held, and into the stream's limit
 pub record Fit (m : FramingView) (xs : List ℕ) : Type 0 where
   pub free : m.stopped ≡ None
   pub few : length m.header + length xs < 12

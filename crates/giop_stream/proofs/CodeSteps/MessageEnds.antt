@@ -1,4 +1,4 @@
--- A call does a step, by what it makes of a stream; and what is remembered behind a message's last octet.
+-- How to show that a call does a step; and the fields after a message's last octet.
 use Rattle.std.proofs.Common.{inl, inr, ◌≡◌, ℕ, ◌+◌, ◌<◌, ◌≤◌, Bool, true, false, List, [], ◌∷◌, ◌++◌, length, refl, sym, subst, ◌∙◌, Option, Some, None, Result, Ok, Err, IsErr, arith}
 use Rattle.std.specs.Prelude.{◌==◌, if◌then◌else◌, OnOk}
 use Rattle.std.proofs.lemmas.Bool.{cases_lt, lt-ltb, le-ltb, eq-eqb, ne_eqb, false≢true}
@@ -23,7 +23,7 @@ use Rattle.giop_stream.specs.ViewOfState.{Shows, Does}
 use Rattle.giop_stream.proofs.Cuts.Cutting.{of_parts}
 use Rattle.giop_stream.proofs.Cuts.CutFrom.{end_message}
 
--- ---- A call does a step, by what it makes of a stream.
+-- ---- A call does a step: by the lines and the state of the longer stream.
 
 pub does_by : {A E : Type 0} (C : Table) (l : RequestTable) (most : ℕ) (p q : List ℕ) (one : Step) (ls : List Line) (result : Result A E) (before after : OutLog) (f : FramingView)
     → (let R = rules C l most in state_of R q ≡ one.state → lines R q ≡ lines R p ++ one.lines
@@ -34,12 +34,12 @@ does_by C l most p q one ls result before after f state more grows text shows =
     let same : one.lines ≡ ls = append_cancel_left (lines R p) one.lines ls (sym more ∙ grows) in
     record { text = rw same text; shows = subst (λ (s : State). OnOk result (Shows C l f s)) state shows }
 
--- where a put failed nothing is said of the fields
+-- where a put failed nothing is claimed of the fields
 pub on_err : {A E : Type 0} (P : Type 0) (r : Result A E) → IsErr r → OnOk r P
 on_err P (Ok x) h = absurd (false≢true h)
 on_err P (Err e) h = tt
 
--- ---- Behind a message's last octet, and within it.
+-- ---- After a message's last octet, and before it.
 
 pub settled_on : (m : FramingView) (n : ℕ) → (m.payload_count ≡ n → ⊥) → settled m n ≡ m
 unfolding settled
@@ -57,15 +57,15 @@ pub goes_off : (whole : List Message) (m : Message) → size m.header ≤ length
 unfolding end_message of_parts
 goes_off whole m more = rw (le-ltb (length m.payload) (size m.header) more) refl
 
-pub whose_settled : (still_open : List Open) (whole : List Message) (m : Message) → length m.payload ≤ size m.header
+pub owner_settled : (still_open : List Open) (whole : List Message) (m : Message) → length m.payload ≤ size m.header
     → owner_of_next_in still_open (end_message whole m).current ≡ owner_after still_open m
 unfolding end_message owner_after
-whose_settled still_open whole m fits = elim (cases_lt (length m.payload) (size m.header)) [
+owner_settled still_open whole m fits = elim (cases_lt (length m.payload) (size m.header)) [
   | inl less ↦ rw (lt-ltb (length m.payload) (size m.header) less, ne_eqb (length m.payload) (size m.header) (λ e. omega (arith, less, e))) refl
   | inr more ↦ rw (le-ltb (length m.payload) (size m.header) more, eq-eqb (length m.payload) (size m.header) (omega (arith, more, fits))) refl
 ]
 
--- what can take the next octet can behind a message's last octet
+-- the slots stay ready after a message's last octet
 pub ready_settled : (C : Table) (m m' : FramingView) (n place : ℕ) → m' ≡ settled m n → place ≡ m.totals.octets
     → AreReady C (place + 1) m.slots → AreReady C (m'.totals.octets + 1) m'.slots
 unfolding settled

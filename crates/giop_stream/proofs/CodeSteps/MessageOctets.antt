@@ -1,4 +1,4 @@
--- What the code does at an octet of a message, over what its fields show of a stream: the step.
+-- An octet of a message: where the fields show the state of a stream, the code does the step.
 use Rattle.std.proofs.Common.{inl, inr, ◌≡◌, ℕ, suc, ◌+◌, ◌^◌, ◌<◌, ◌≤◌, List, [], ◌∷◌, ◌++◌, length, refl, sym, ap, subst, ◌∙◌, append-nil, Option, Some, None, Result, arith}
 use Rattle.std.specs.Prelude.{OnOk}
 use Rattle.std.proofs.lemmas.Bool.{cases_lt}
@@ -46,11 +46,11 @@ use Rattle.giop_stream.proofs.CodeSteps.EngineAlive.{sound, alive}
 use Rattle.giop_stream.proofs.CodeSteps.EngineLaws.{step_state, step_lines, run_holds, run_lines}
 use Rattle.giop_stream.proofs.CodeSteps.SlotsToState.{come_state, shows_by, knows_it}
 use Rattle.giop_stream.proofs.CodeSteps.OutsideMessages.{within_limit}
-use Rattle.giop_stream.proofs.CodeSteps.MessageEnds.{does_by, settled_on, settled_off, goes_on, goes_off, whose_settled, none_stops}
+use Rattle.giop_stream.proofs.CodeSteps.MessageEnds.{does_by, settled_on, settled_off, goes_on, goes_off, owner_settled, none_stops}
 
--- ---- A state of a stream.
+-- ---- States that a stream reaches.
 
--- and of more of it
+-- with more octets
 pub reached_on : (C : Table) (l : RequestTable) (most : ℕ) (s : State) (q : List ℕ) → AreOctets q → IsReached C l most s → IsReached C l most (run_state (rules C l most) s q)
 reached_on C l most s q octets r =
     let R = rules C l most in
@@ -60,7 +60,7 @@ reached_on C l most s q octets r =
       held = ap (λ (t : State). run_state R t q) r.held ∙ sym (run_holds R (is_causal (signatures_of C l)) (in_turn C l) r.stream q);
     }
 
--- where as many messages may be open
+-- with an equal limit of open messages
 pub reached_at : (C : Table) (l : RequestTable) (n most : ℕ) (s : State) → n ≡ most → IsReached C l n s → IsReached C l most s
 reached_at C l n most s same r = subst (λ (k : ℕ). IsReached C l k s) same r
 
@@ -80,7 +80,7 @@ module _ (C : Table) (l : RequestTable) (most : ℕ) (s : State) (reached : IsRe
   at_p : Shows C l m (state_of R p)
   at_p = subst (Shows C l m) reached.held h
 
-  -- a call that adds this to the stream does the step,
+  -- a call that writes the lines of the octet and leaves its state does the step,
   pub does_step : {A E : Type 0} (x : ℕ) (ls : List Line) (result : Result A E) (before after : OutLog) (f : FramingView)
       → lines R (p ++ x ∷ []) ≡ lines R p ++ ls → Writes result before after (lines_text ls)
       → OnOk result (Shows C l f (state_of R (p ++ x ∷ []))) → Does C l result before after f (step R s x)
@@ -89,7 +89,7 @@ module _ (C : Table) (l : RequestTable) (most : ℕ) (s : State) (reached : IsRe
       (does_by C l most p (p ++ x ∷ []) (step R (state_of R p) x) ls result before after f
       (step_state R causal (in_turn C l) p x) (step_lines R causal (in_turn C l) p x) grows text shows)
 
-  -- and a run
+  -- and so for a run
   pub does_run : {A E : Type 0} (q : List ℕ) (ls : List Line) (result : Result A E) (before after : OutLog) (f : FramingView)
       → lines R (p ++ q) ≡ lines R p ++ ls → Writes result before after (lines_text ls)
       → OnOk result (Shows C l f (state_of R (p ++ q))) → Does C l result before after f (runs R s q)
@@ -98,7 +98,7 @@ module _ (C : Table) (l : RequestTable) (most : ℕ) (s : State) (reached : IsRe
       (does_by C l most p (p ++ q) (runs R (state_of R p) q) ls result before after f (run_holds R causal (in_turn C l) p q)
       (run_lines R causal (in_turn C l) p q) grows text shows)
 
-  -- ---- What the fields say of the stream, where the reading goes on.
+  -- ---- What follows from the fields for the stream, where the reading goes on.
 
   module _ (free : m.stopped ≡ None) where
     pub runs_on : (cut p).stop ≡ None
@@ -122,7 +122,7 @@ module _ (C : Table) (l : RequestTable) (most : ℕ) (s : State) (reached : IsRe
     pub knows_at : SlotsRepresentStream C l most m.slots p
     knows_at = knows_it C l most p m runs_on at_p
 
-    -- a header that isn't whole is that of no message yet
+    -- while the header is incomplete there is no current message
     no_current : length m.header < 12 → (cut p).current ≡ None
     no_current few = go (cut p).current refl
       where
@@ -134,7 +134,7 @@ module _ (C : Table) (l : RequestTable) (most : ℕ) (s : State) (reached : IsRe
             let whole : length m.header ≡ 12 = ap length same ∙ fit.twelve in
             absurd (omega (arith, few, whole))
 
-    -- and one that is, is the current message's
+    -- a complete header is the current message's
     pub has_current : length m.header ≡ 12 → (c : Message) × ((cut p).current ≡ Some c)
     has_current full = go (cut p).current refl
       where
@@ -152,7 +152,7 @@ module _ (C : Table) (l : RequestTable) (most : ℕ) (s : State) (reached : IsRe
   unfolding state_of tally
   faults_at = ap (λ (t : Totals). t.faults) at_p.totals
 
-  -- ---- What they show once the octet of this message is done with.
+  -- ---- What the fields show after the octet of this message.
 
   abbrev pub effect_of : Message → Effect
   effect_of n = effects R.reading (tracked_after R p) (events_of_octet most (tracked_after R p).still_open n)
@@ -165,7 +165,7 @@ module _ (C : Table) (l : RequestTable) (most : ℕ) (s : State) (reached : IsRe
         let p' = p ++ x ∷ [] in
         let who : owner_after (tracked_after R p').still_open n ≡ owner_of_next_in (open_after most p') (cut p').current =
         sym (ap (λ (d : Cut). owner_of_next_in (open_after most p') d.current) adds.cut_is
-        ∙ whose_settled (open_after most p') (cut p).whole n fits) in
+        ∙ owner_settled (open_after most p') (cut p).whole n fits) in
         subst (SlotsRepresent C l slots (tracked_after R p')) who (subst (λ (d : Tracked). SlotsRepresent C l slots d (owner_after d.still_open n)) (sym adds.tracked_after) keeps)
 
     settled_shows : (b f : FramingView) (k : ℕ) → f ≡ settled b k → b.totals.messages ≡ n.number
@@ -306,7 +306,7 @@ module _ (C : Table) (l : RequestTable) (most : ℕ) (s : State) (reached : IsRe
     right : AreOctets c.header × (first_wrong_octet c.header ≡ None)
     right = if_some (λ c. AreOctets c.header × (first_wrong_octet c.header ≡ None)) (cut p).current c cur (header_octets p reached.octets)
 
-    -- there is room to count its octets
+    -- the number of its octets fits the counter
     pub size_few : size m.header < 2 ^ 32
     size_few = omega (arith, ap size header_is, size_fits c.header right.0 at_hand.twelve)
 

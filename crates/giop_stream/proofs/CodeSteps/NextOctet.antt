@@ -1,4 +1,4 @@
--- What an engine holds of a stream, part by part, and what of it tells the next octet.
+-- The state of a stream, part by part; from it follows what the next octet is, and what events that octet has.
 use Rattle.std.proofs.Common.{inl, inr, ◌⊎◌, ◌≡◌, ℕ, suc, ◌-◌, ◌<◌, ◌≤◌, Bool, true, false, List, [], ◌∷◌, ◌++◌, length, get_or, take, refl, sym, ap, subst, ◌∙◌, Option, Some, None, arith}
 use Rattle.std.specs.Prelude.{◌==◌, ◌||◌, IfSome, option_map}
 use Rattle.std.proofs.lemmas.Bool.{lt-ltb, ne_eqb, le-leb}
@@ -16,7 +16,7 @@ use Rattle.giop_stream.specs.OpenSlots.{octets_of, is_open, slots_of}
 use Rattle.giop_stream.specs.Effects.{Tracked, with_octet, tracked_after}
 use Rattle.giop_stream.specs.Octet.{octet_in, octet_of, header_of, come_of}
 use Rattle.giop_stream.specs.EngineState.{State, Own, unless, left_of, own_for, owner_for, own_in, owner_in, state_of}
-use Rattle.giop_stream.specs.EngineStep.{Step, octet_at, own_octets, live_of, id_by, id_of, other_of, ended, held_on}
+use Rattle.giop_stream.specs.EngineStep.{Step, octet_at, own_octets, still_open_of, id_by, id_of, other_of, ended, held_on}
 use Rattle.giop_stream.proofs.Cuts.Cutting.{stopped_at, of_parts}
 use Rattle.giop_stream.proofs.Events.EventsOfOctet.{not_named}
 use Rattle.giop_stream.proofs.Events.EventsKeep.{Below}
@@ -65,7 +65,7 @@ stop_faults : (found : ℕ × StreamFault) → fault_count (stop_line (Some foun
 unfolding fault_count stop_line
 stop_faults found = refl
 
--- ---- The octet that comes, by what is held.
+-- ---- What the next octet is, from the state.
 
 octet_short : (held : List ℕ) (number read a b x : ℕ) → length held < 12 → octet_in None held number read a x ≡ octet_in None held number read b x
 unfolding octet_in
@@ -98,7 +98,7 @@ octet_is R p x sound =
     (λ free. weaker (CurrentFits (length p) (cut p)) (λ m. length m.payload < size m.header) (λ m k. k.lacks)
     (cut p).current (sound.fits free).current) (λ free. (sound.fits free).short)
 
--- ---- The steps of no message.
+-- ---- The steps outside of messages.
 
 pub record Steps (R : Rules) (p p' : List ℕ) (one : Step) : Type 0 where
   pub state : state_of R p' ≡ one.state
@@ -156,7 +156,7 @@ module _ (R : Rules) (p : List ℕ) (x : ℕ) where
       (suc (read_of p (cut p).stop)) adds.cut_is (ap start_count ln) (ap fault_count ln) rd in
       record { state = state_is R p' _ (of_parts (cut p).whole None front None) (tracked_after R p) t adds.cut_is adds.tracked_after ∙ rw (st, cur) refl; lines = adds.lines }
 
--- ---- An octet of a message: what is held of that tells what it does.
+-- ---- An octet of a message: its events, from the state.
 
 unmapped : (w : Now) (o : Option (List ℕ)) → option_map (λ (own : Own). own.octets) (option_map (λ xs. record { message_key = w.subject; octets = xs }) o) ≡ o
 unmapped w None = refl
@@ -167,7 +167,7 @@ unfolding is_open
 below_open n [] h = refl
 below_open n (o ∷ still_open) h = let less = h.0 in rw (ne_eqb o.opener.number n (λ e. omega (arith, less, e))) (below_open n still_open h.1)
 
--- what the state shows of the message m, at its octet
+-- what the state gives of the message m, at its octet
 pub record Shows (R : Rules) (p : List ℕ) (m : Message) : Type 0 where
   pub own_is : goes_past m ≡ false → is_open (open_after R.most p) m.number ≡ false → own_octets (state_of R p) (now_of m) ≡ octets_of R p m.number
   pub name_is : length m.payload ≡ 4 → has_name m.header ≡ true → id_of (state_of R p) (now_of m) ≡ id m
@@ -181,9 +181,9 @@ module _ (R : Rules) (p : List ℕ) (x : ℕ) (sound : IsSound R p) (alive : IsA
     past_is = λ past. absurd (let no : 4 < 0 = rw none at past in omega (arith, no));
   }
 
-  live_is : live_of (state_of R p) ≡ open_after R.most p
-  unfolding live_of state_of
-  live_is = opens_back (octets_of R p) (open_after R.most p)
+  still_open_is : still_open_of (state_of R p) ≡ open_after R.most p
+  unfolding still_open_of state_of
+  still_open_is = opens_back (octets_of R p) (open_after R.most p)
 
   own_held : (was : Message) → (cut p).current ≡ Some was → goes_past (with_octet was x) ≡ false
       → is_open (open_after R.most p) was.number ≡ false
@@ -221,7 +221,7 @@ module _ (R : Rules) (p : List ℕ) (x : ℕ) (sound : IsSound R p) (alive : IsA
       let more : 4 ≤ length was.payload = omega (arith, long, length_push was.payload x) in
       rw (
         ne_eqb (length (was.payload ++ x ∷ [])) 4 (λ e. omega (arith, long, e)),
-        live_is,
+        still_open_is,
         cur,
         f,
         le-leb 4

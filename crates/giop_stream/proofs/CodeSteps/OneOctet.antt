@@ -1,5 +1,5 @@
--- What one octet more makes of a stream, in each case: of its cut, its lines, what there is to know of its messages, and what
--- is kept of it throughout.
+-- A stream with one more octet, in each case: its cut, its lines, what is tracked of its messages, and that the invariants
+-- stay.
 use native.Mathlib.Nat.{le_of_eq}
 use Rattle.std.proofs.Common.{inl, inr, ◌⊎◌, ◌≡◌, ℕ, suc, ◌+◌, ◌-◌, ◌<◌, ◌≤◌, Bool, true, false, List, [], ◌∷◌, ◌++◌, length, get_or, refl, sym, ap, subst, ◌∙◌, Option, Some, None, arith}
 use Rattle.std.specs.Prelude.{nat_lt, ◌==◌}
@@ -23,11 +23,11 @@ use Rattle.giop_stream.specs.Octet.{Octet, AfterStop, Ends, Held, Of, front_is, 
 use Rattle.giop_stream.proofs.Lists.{all_by, each_weaker}
 use Rattle.giop_stream.proofs.Cuts.Cutting.{next, stopped_at, of_parts, parts_by, cut_grows, settle_stop, settled_messages, next_limit, next_payload, next_front, next_stopped}
 use Rattle.giop_stream.proofs.Cuts.CutFrom.{end_message, header_case}
-use Rattle.giop_stream.proofs.Events.EventsOfOctet.{happens_each}
+use Rattle.giop_stream.proofs.Events.EventsOfOctet.{events_of_octet_each}
 use Rattle.giop_stream.proofs.StreamLines.LinesOfOctet.{standing_each, all_lines_places}
 use Rattle.giop_stream.proofs.Events.EventsKeep.{Below}
 use Rattle.giop_stream.proofs.StreamLines.Ordering.{Ordered, Rises, Fine, ordered_stays, are_effects}
-use Rattle.giop_stream.proofs.StreamLines.LineOrder.{happens_fine, not_past}
+use Rattle.giop_stream.proofs.StreamLines.LineOrder.{events_of_octet_fine, not_past}
 use Rattle.giop_stream.proofs.Events.Sharing.{header_joined, own_joined}
 use Rattle.giop_stream.proofs.StreamLines.StartLines.{start_append, none_later, one_first}
 use Rattle.giop_stream.proofs.Events.AfterMoreEvents.{said_grows, said_idle, octets_grow, octets_idle, open_grows, open_idle, lines_free, lines_stopped}
@@ -55,7 +55,7 @@ pub record IsOf (R : Rules) (p : List ℕ) (x : ℕ) (now : Now) : Type 0 where
   pub adds : Adds R p (p ++ x ∷ []) (end_message (cut p).whole m) (effects R.reading (tracked_after R p) (events_of_octet R.most (open_after R.most p) m)).lines
       (effects R.reading (tracked_after R p) (events_of_octet R.most (open_after R.most p) m)).tracked
 
--- the message that begins with this header, behind these messages
+-- the message that begins with this header, after these messages
 abbrev pub beginner : List Message → ℕ → List ℕ → Message
 beginner whole at header = record { number = suc (length whole); before = at - 12; header = header; payload = [] }
 
@@ -66,7 +66,7 @@ Then R p x (Ends fault) =
 Then R p x (Held front) = ((cut p).stop ≡ None) × ((cut p).current ≡ None) × Adds R p (p ++ x ∷ []) (of_parts (cut p).whole None front None) [] (tracked_after R p)
 Then R p x (Of now) = ((cut p).stop ≡ None) × IsOf R p x now
 
--- ---- The octet that comes, by the parts of the cut.
+-- ---- What the next octet is, by the parts of the cut.
 
 pub octet_limit : (held : List ℕ) (number n payload_count x : ℕ) → nat_lt limit (suc n) ≡ true → octet_in None held number n payload_count x ≡ Ends StreamLimit
 unfolding octet_in
@@ -109,7 +109,7 @@ module _ (R : Rules) (causal : IsCausal R.reading) (laws : IsStreamable R.readin
   len : length (p ++ x ∷ []) ≡ suc (length p)
   len = omega (arith, length_push p x)
 
-  -- where it is of no message
+  -- where the octet is of no message
   idle : (c : Cut) (ls : List Line) → cut (p ++ x ∷ []) ≡ c → messages c ≡ messages (cut p)
       → lines_of_messages R p ++ stop_line c.stop ≡ lines R p ++ ls → start_count ls ≡ 0 → Each (λ l. l.place ≡ suc (length p)) ls → Rises ls
       → (c.stop ≡ None → (c.current ≡ None) × Fits (suc (length p)) c) → Adds R p (p ++ x ∷ []) c ls (tracked_after R p)
@@ -147,10 +147,10 @@ module _ (R : Rules) (causal : IsCausal R.reading) (laws : IsStreamable R.readin
       let K = octets_of R p in
       let es = events_of_octet R.most still_open m in
       let here : Each (λ e. e.place ≡ suc (length p)) es =
-      happens_each R.most (λ e. e.place ≡ suc (length p)) still_open m (λ what. pl)
+      events_of_octet_each R.most (λ e. e.place ≡ suc (length p)) still_open m (λ what. pl)
       (all_by (λ (o : Open). (what : EventKind) → place m ≡ suc (length p)) (λ o what. pl) still_open) in
       let sd = said_grows R causal p p' es len ev sound.places here in
-      let fine = happens_fine R laws K still_open m fits begun in
+      let fine = events_of_octet_fine R laws K still_open m fits begun in
       let p1 = are_effects R.reading (record { still_open = still_open; known = K }) es fine.ordered in
       let st' : (cut p').stop ≡ None = ap (λ (c : Cut). c.stop) ec ∙ settle_stop whole m in
       record {

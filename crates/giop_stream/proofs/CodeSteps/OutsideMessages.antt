@@ -1,4 +1,4 @@
--- What the code does at an octet that neither begins a message nor is of one, over what its fields show: the step.
+-- An octet outside of messages (of an incomplete header, past the limit, or after a stream fault): the code does the step.
 use Rattle.std.proofs.Common.{inl, inr, ◌≡◌, ℕ, suc, ◌+◌, ◌-◌, ◌^◌, ◌<◌, ◌≤◌, true, false, List, [], ◌∷◌, ◌++◌, length, refl, sym, ap, subst, ◌∙◌, append-nil, Option, Some, None, arith}
 use Rattle.std.specs.Prelude.{nat_lt, is_some}
 use Rattle.std.proofs.lemmas.Bool.{cases_eq, lt-ltb, le-ltb, lt-leb, ne_eqb, false≢true}
@@ -40,13 +40,13 @@ pub none_by : (o : Option StreamFault) → is_some o ≡ false → o ≡ None
 none_by None e = refl
 none_by (Some fault) e = absurd cc
 
--- what can take the next octet can where the reading ends
+-- the slots stay ready where the reading ends
 pub ready_stopped : (C : Table) (m m' : FramingView) (fault : StreamFault) (place : ℕ) → m' ≡ steps.stop m fault place
     → AreReady C (place + 1) m.slots → AreReady C (m'.totals.octets + 1) m'.slots
 unfolding steps.stop
 ready_stopped C m m' fault place e h = rw e h
 
--- a header octet, held
+-- the fields with one more header octet held
 pub pushed_is : (m : FramingView) (x : ℕ) (header : List ℕ) → header ≡ m.header ++ x ∷ []
     → record m { totals = record m.totals { octets = m.totals.octets + 1 }; header = header } ≡ steps.held_on m x
 unfolding steps.held_on
@@ -54,7 +54,7 @@ pushed_is m x header e =
     let one : m.totals.octets + 1 ≡ suc m.totals.octets = omega arith in
     λ j. record m { totals = record { messages = m.totals.messages; faults = m.totals.faults; octets = one j }; header = e j }
 
--- ---- Whose the octets are, between messages.
+-- ---- The owner of the next octets, between messages.
 
 turn_short : (of : Payload) (s t : State) → comes_itself s ≡ false → comes_itself t ≡ false → IsTurn of s → IsTurn of t
 turn_short payload.Own s t e f h = absurd (false≢true (sym e ∙ h))
@@ -89,7 +89,7 @@ module _ (C : Table) (l : RequestTable) (most : ℕ) (m : FramingView) (s : Stat
   octets_are : m.totals.octets ≡ s.totals.octets
   octets_are = ap (λ (t : Totals). t.octets) h.totals
 
-  -- behind the stream's fault
+  -- after the stream fault
   pub behind_step : (x : ℕ) → is_some m.stopped ≡ true → step R s x ≡ record { state = s; lines = [] }
   unfolding step octet_at octet_in
   behind_step x over = go s.stop refl
@@ -115,7 +115,7 @@ module _ (C : Table) (l : RequestTable) (most : ℕ) (m : FramingView) (s : Stat
       let one : m.totals.octets + 1 ≡ suc s.totals.octets = omega (arith, octets_are) in
       ap (stop_text fault) one ∙ sym (append-nil (stop_text fault (suc s.totals.octets)))
 
-  -- whatever octets are held
+  -- whatever header octets were held
   pub ended_shows : (fault : StreamFault) (b : FramingView) → b.totals.messages ≡ m.totals.messages
       → b.totals.faults ≡ m.totals.faults → b.slots ≡ m.slots
       → Shows C l (steps.stop b fault (m.totals.octets + 1)) (ended s fault).state

@@ -1,4 +1,4 @@
--- Octets that are of a message's contents alone, all at once: what is known of the stream with them, and that the code does
+-- A run of payload octets that end no request id and no message, taken at once: the stream with them, and that the code does
 -- their steps.
 use Rattle.std.proofs.Common.{◌≡◌, ◌≢◌, ℕ, suc, ◌+◌, ◌-◌, ◌^◌, ◌<◌, ◌≤◌, Bool, true, false, List, [], ◌∷◌, ◌++◌, length, get_or, refl, sym, ap, subst, ◌∙◌, append_assoc, append-nil, length-append, Option, Some, None, Result, Ok, Err, arith}
 use mir.Val.{bool_byte}
@@ -36,8 +36,8 @@ use Rattle.giop_stream.proofs.Events.AfterMoreEvents.{count_append}
 use Rattle.giop_stream.proofs.Events.Soundness.{CurrentFits}
 use Rattle.giop_stream.proofs.Events.StepCases.{place_more}
 use Rattle.giop_stream.proofs.Events.StepCases.{if_some}
-use Rattle.giop_stream.proofs.SlotSteps.AfterOctet.{whose_elsewhere}
-use Rattle.giop_stream.proofs.SlotSteps.Parts.{in_turn, octet_does, whose_next}
+use Rattle.giop_stream.proofs.SlotSteps.AfterOctet.{owner_elsewhere}
+use Rattle.giop_stream.proofs.SlotSteps.Parts.{in_turn, octet_does, owner_next}
 use Rattle.giop_stream.proofs.CodeSteps.OneOctet.{Adds, paid_is}
 use Rattle.giop_stream.proofs.CodeSteps.NextOctet.{read_all}
 use Rattle.giop_stream.proofs.CodeSteps.EngineAlive.{sound}
@@ -47,7 +47,7 @@ use Rattle.giop_stream.proofs.CodeSteps.MessageEnds.{goes_on}
 
 -- ---- One of them.
 
--- So many octets more are of the contents of this message alone: none of them is the last of its request id, or its last.
+-- The next n octets are payload of m, the current message: none of them is the last of its request id or of the message.
 pub record Within (p : List ℕ) (m : Message) (n : ℕ) : Type 0 where
   pub free : (cut p).stop ≡ None
   pub current : (cut p).current ≡ Some m
@@ -81,7 +81,7 @@ within_on p m x n h =
       room = omega (arith, h.room, length_push p x);
     }
 
--- it does nothing but come to the message whose it is,
+-- its only event is that a message takes it: the one that it belongs to,
 comes_alone : (most : ℕ) (still_open : List Open) (m : Message) → 0 < length m.payload →
     length m.payload ≢ 4 → length m.payload < size m.header →
     events_of_octet most still_open m ≡ events_at_octet still_open m
@@ -94,17 +94,17 @@ comes_alone most still_open m some other less =
     )
     (append-nil (events_at_octet still_open m))
 
--- whose the next one is too
-whose_on : (still_open : List Open) (m : Message) (x : ℕ) → length (m.payload ++ x ∷ []) ≢ 4 →
+-- and the next octet belongs to the same one
+owner_on : (still_open : List Open) (m : Message) (x : ℕ) → length (m.payload ++ x ∷ []) ≢ 4 →
     owner_of_next still_open (with_octet m x) ≡ owner_of_next still_open m
-whose_on still_open m x other =
-    whose_elsewhere still_open (with_octet m x) (ne_eqb (length (m.payload ++ x ∷ [])) 4 other) ∙ whose_next still_open m x
+owner_on still_open m x other =
+    owner_elsewhere still_open (with_octet m x) (ne_eqb (length (m.payload ++ x ∷ [])) 4 other) ∙ owner_next still_open m x
 
 module _ (C : Table) (l : RequestTable) where
-  takes_live : (at : ℕ) (c : Tracked) (w : Option MessageKey) (x : ℕ) → (effect_to C l at c w (Takes x)).tracked.still_open ≡ c.still_open
+  takes_still_open : (at : ℕ) (c : Tracked) (w : Option MessageKey) (x : ℕ) → (effect_to C l at c w (Takes x)).tracked.still_open ≡ c.still_open
   unfolding tracked_at changed
-  takes_live at c None x = refl
-  takes_live at c (Some w) x = refl
+  takes_still_open at c None x = refl
+  takes_still_open at c (Some w) x = refl
 
   module _ (most : ℕ) (p : List ℕ) (m : Message) (x n : ℕ) (h : Within p m (suc n)) where
     at_hand : CurrentFits (length p) (cut p) m
@@ -112,7 +112,7 @@ module _ (C : Table) (l : RequestTable) where
         if_some (CurrentFits (length p) (cut p)) (cut p).current m h.current
         ((sound (rules C l most) (is_causal (signatures_of C l)) (in_turn C l) p).fits h.free).current
 
-    -- what the octet does to the message whose it is
+    -- the octet's effect on the message that it belongs to
     abbrev taken : Effect
     taken = effect_to C l (suc (length p)) (tracked_after (rules C l most) p) (owner_of_next (open_after most p) m) (Takes x)
 
@@ -124,7 +124,7 @@ module _ (C : Table) (l : RequestTable) where
         let alone =
         comes_alone most (open_after most p) (with_octet m x) (omega (arith, length_push m.payload x)) (not_named p m x n h)
         (omega (arith, h.before_last, length_push m.payload x)) in
-        rw (alone, ← whose_next (open_after most p) m x)
+        rw (alone, ← owner_next (open_after most p) m x)
         (octet_does C l (tracked_after (rules C l most) p) (with_octet m x) x (suc (length p)) last
         (place_more m x (length p) at_hand.place_is))
 
@@ -134,17 +134,17 @@ module _ (C : Table) (l : RequestTable) where
         let room = le-ltb limit (suc (length p)) (omega (arith, h.room)) in
         rw octet_takes at (paid_is (rules C l most) (is_causal (signatures_of C l)) (in_turn C l) p x so m h.free h.current room)
 
-    octet_whose : owner_of_next (open_after most (p ++ x ∷ [])) (with_octet m x) ≡ owner_of_next (open_after most p) m
+    octet_owner : owner_of_next (open_after most (p ++ x ∷ [])) (with_octet m x) ≡ owner_of_next (open_after most p) m
     unfolding tracked_after
-    octet_whose =
+    octet_owner =
         let still_open : open_after most (p ++ x ∷ []) ≡ open_after most p =
         ap (λ (c : Tracked). c.still_open) octet_adds.tracked_after
-        ∙ takes_live (suc (length p)) (tracked_after (rules C l most) p) (owner_of_next (open_after most p) m) x in
-        ap (λ (open' : List Open). owner_of_next open' (with_octet m x)) still_open ∙ whose_on (open_after most p) m x (not_named p m x n h)
+        ∙ takes_still_open (suc (length p)) (tracked_after (rules C l most) p) (owner_of_next (open_after most p) m) x in
+        ap (λ (open' : List Open). owner_of_next open' (with_octet m x)) still_open ∙ owner_on (open_after most p) m x (not_named p m x n h)
 
 -- ---- All of them.
 
--- what they make of the stream p, in which this message is the current one
+-- the stream p with these octets, where m is its current message
 pub record IsRun (C : Table) (l : RequestTable) (most : ℕ) (p : List ℕ) (m : Message) (q : List ℕ) : Type 0 where
   pub within : Within (p ++ q) (with_payload m (m.payload ++ q)) 0
   pub lines : lines (rules C l most) (p ++ q) ≡ lines
@@ -173,7 +173,7 @@ module _ (C : Table) (l : RequestTable) where
       let payload : (m.payload ++ x ∷ []) ++ q ≡ m.payload ++ x ∷ q = append_assoc m.payload (x ∷ []) q in
       let at : length p' ≡ suc (length p) = omega (arith, length_push p x) in
       let one = octet_adds C l most p m x (length q) h in
-      let who = octet_whose C l most p m x (length q) h in
+      let who = octet_owner C l most p m x (length q) h in
       record {
         within = subst (λ (z : List ℕ). Within (p ++ x ∷ q) (with_payload m z) 0) payload
             (subst (λ (r : List ℕ). Within r (with_payload m ((m.payload ++ x ∷ []) ++ q)) 0) all more.within);
@@ -185,17 +185,17 @@ module _ (C : Table) (l : RequestTable) where
 
 -- ---- What the fields show with them.
 
--- a fault, as the code counts it
+-- a fault as a number, as the code counts it
 pub one_byte : (b : Bool) → bool_byte b ≡ one_if b
 one_byte true = refl
 one_byte false = refl
 
--- so many octets as a size counts fit a number of 32 bits
+-- a number below 2 ^ 32 is converted as it is
 pub number_fits : {E : Type 0} (r : Result ℕ E) (n other : ℕ) → n < 2 ^ 32 → OkIff r (n < 2 ^ 32) n → result_unwrap_or r other ≡ n
 number_fits (Ok k) n other less h = h.1
 number_fits (Err e) n other less h = absurd (h less)
 
--- the current message is the one that started last
+-- the current message has the number of start lines for its number
 started_last : (R : Rules) → IsCausal R.reading → IsStreamable R.reading → (p : List ℕ) (m : Message) → (cut p).stop ≡ None
     → (cut p).current ≡ Some m → start_count (lines R p) ≡ m.number
 unfolding messages
@@ -230,7 +230,7 @@ module _ (C : Table) (l : RequestTable) (most : ℕ) (s : State) (reached : IsRe
         room = omega (arith, room, all);
       }
 
-  -- there is room to count them
+  -- their number fits the counter
   pub run_fits : m.payload_count + length q < 2 ^ 32
   run_fits = omega (arith, before_last, size_few C l most s reached m h free c current)
 
@@ -244,7 +244,7 @@ module _ (C : Table) (l : RequestTable) (most : ℕ) (s : State) (reached : IsRe
   grows_by_run : lines R (p ++ q) ≡ lines R p ++ ran.lines
   grows_by_run = rw all run.lines
 
-  -- what the slots keep before them
+  -- the slots before them
   pub run_keeps : SlotsRepresent C l m.slots (tracked_after R p) (owner_of_next (open_after most p) c)
   run_keeps = subst (λ (o : Option Message). SlotsRepresent C l m.slots (tracked_after R p) (owner_of_next_in (open_after most p) o)) current (knows_at C l most s reached m h free)
 

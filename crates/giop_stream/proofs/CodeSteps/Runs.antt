@@ -1,4 +1,4 @@
--- What octets of a message's contents make of it, taken in one go.
+-- A message that takes a run of octets at once: the same lines and the same rest as octet by octet.
 use Rattle.std.proofs.Common.{◌≡◌, ℕ, suc, ◌+◌, Bool, true, false, List, [], ◌∷◌, ◌++◌, take, drop, refl, sym, ap, subst, ◌∙◌, append_assoc, append-nil, add-one, Option, Some, None, Result, Ok, arith}
 use Rattle.std.specs.Prelude.{◌||◌, if◌then◌else◌, is_some, slice_get, option_map}
 use Rattle.std.specs.List.{list_any}
@@ -62,7 +62,7 @@ module _ (C : Table) (l : RequestTable) where
       rw (over_lines (message_reader C l) e, over_then (message_reader C l) e) (none_run w None (suc before) xs tt)
   none_run w (Some s) before xs k = absurd k
 
-  -- ---- One that isn't.
+  -- ---- A message that isn't over.
 
   run_text : (w : MessageKey) (xs : List ℕ) (before : ℕ) (s : List ℕ) → Over w s ≡ false
       → lines_text (run_part C l before w (Some s) xs).lines ≡ due_text (signatures_of C l) w.number before w.header s xs
@@ -90,7 +90,7 @@ module _ (C : Table) (l : RequestTable) where
           (sym (text_over (signatures_of C l) w.number (suc before) w.header (s ++ x ∷ []) xs o))
       rest ih false o = rw (then_is (suc before) w s x e, o) (ih o)
 
-  -- it is over where it is with all of them
+  -- a message that is over after one octet is over after all of them
   over_with : (w : MessageKey) (s xs : List ℕ) (x : ℕ) → Over w (s ++ x ∷ []) ≡ true → Over w (s ++ x ∷ xs) ≡ true
   over_with w s xs x o = subst (λ (z : List ℕ). Over w z ≡ true) (append_assoc s (x ∷ []) xs) (over_stays (signatures_of C l) w.header (s ++ x ∷ []) xs o)
 
@@ -130,13 +130,13 @@ module _ (C : Table) (l : RequestTable) where
       go ih true o = rw (then_is (suc before) w s x e, o, none_run w None (suc before) xs tt, over_with w s xs x o) (unfold fault_count in refl)
       go ih false o = rw (then_is (suc before) w s x e, o) (omega (arith, ih o ∙ ap (λ (z : List ℕ). if Over w z then 1 else 0) (append_assoc s (x ∷ []) xs)))
 
-  -- ---- A message that is kept.
+  -- ---- A message of which the code keeps a value.
 
-  -- what a message took of these octets
+  -- what a message took of these octets, whatever it follows
   abbrev pub TellsAll : Message → Message → List ℕ → Option ℕ → Type 0
   TellsAll m m' octets found = (number : ℕ) (header s : List ℕ) → Follows C l number header m s → TookAll C l number header m' s octets found
 
-  -- what it writes of them
+  -- P holds of the text that these octets add
   abbrev pub DueOf : (List ℕ → Type 0) → Message → ℕ → List ℕ → Type 0
   DueOf P m before xs = (number : ℕ) (header s : List ℕ) → Follows C l number header m s → P (due_text (signatures_of C l) number before header s xs)
 
@@ -186,7 +186,7 @@ module _ (C : Table) (l : RequestTable) where
   given_over m m' w (Some s) before xs None a b e k writes took = absurd cc
   given_over m m' w None before xs found a b e k writes took = absurd k
 
-  -- ---- What is tracked, of whose messages one has these octets.
+  -- ---- A run's effect on what is tracked: it changes one message alone.
 
   run_alters : (w : MessageKey) (xs : List ℕ) (before : ℕ) (c : Tracked) → Alters c w (run_effect C l before c (Some w) xs) (run_part C l before w (c.known w.number) xs)
   unfolding run_effect run_part part_of
@@ -211,7 +211,7 @@ module _ (C : Table) (l : RequestTable) where
 
   module _ {E : Type 0} (r : Result Bool E) (a b : OutLog) (s : Slots) (c : Tracked) (owner_of_next : Option MessageKey) (before : ℕ)
       (xs : List ℕ) (h : SlotsRepresent C l s c owner_of_next) where
-    -- what is made of the message whose they are
+    -- what the run does to the message that the octets belong to
     abbrev Makes : Option Message → MessageKey → Type 0
     Makes message w = DoesPart C l one_if r a b message w (run_part C l before w (c.known w.number) xs)
 

@@ -1,4 +1,4 @@
--- What the slots keep of a stream's messages is what the fields show of its state.
+-- Two forms of one relation: the slots represent the messages of a stream, and the fields show its state.
 use Rattle.std.proofs.Common.{◌≡◌, ℕ, zero, suc, ◌-◌, ◌<◌, Bool, true, false, not, List, [], ◌∷◌, length, refl, sym, ap, ◌∙◌, Option, Some, None, arith}
 use Rattle.std.specs.Prelude.{◌==◌, ◌&&◌, ◌||◌, nat_lt, nat_le, slice_get, is_some, option_map, IfSome, if◌then◌else◌}
 use Rattle.std.specs.List.{AllByRecursion as Each}
@@ -30,9 +30,9 @@ use Rattle.giop_stream.proofs.Events.Soundness.{CurrentFits, IsSound}
 use Rattle.giop_stream.proofs.Events.EventsByEngine.{found_in}
 use Rattle.giop_stream.proofs.SlotSteps.StateToSlots.{own_open, own_named, own_else, owner_named, owner_open, Tells, own_known, owner_known}
 use Rattle.giop_stream.proofs.CodeSteps.EngineAlive.{sound}
-use Rattle.giop_stream.proofs.Events.CurrentIsOpen.{IsTitled, title_is}
+use Rattle.giop_stream.proofs.Events.CurrentIsOpen.{IsCurrentOpen, message_key_is}
 
--- ---- The octets that have come, and whether the next are the current message's own.
+-- ---- How many payload octets have come, and whether the next belong to the current message itself.
 
 come_by : (stop : Option (ℕ × StreamFault)) (current : Option Message) (held : List ℕ)
     → (stop ≡ None → IfSome current (λ m. (length m.header ≡ 12) × (length m.payload < size m.header)))
@@ -47,7 +47,7 @@ fits_of : (n : ℕ) (c : Cut) (o : Option Message) → IfSome o (CurrentFits n c
 fits_of n c None h = tt
 fits_of n c (Some m) h = (h.twelve, h.lacks)
 
--- the current message's own, by the message
+-- whether the next octets belong to the current message itself, from that message
 itself : Option Message → Bool
 itself None = false
 itself (Some m) = not (has_named m)
@@ -75,7 +75,7 @@ module _ (R : Rules) (p : List ℕ) (so : IsSound R p) where
       itself_by (cut p).stop st (cut p).current (cut p).held (come_in (state_of R p)) payload_count
       (fits_of (length p) (cut p) (cut p).current (so.fits st).current) (so.fits st).short
 
--- ---- Whose the next octets are, by number.
+-- ---- The owner of the next octets, by number.
 
 owner_number : (K : OctetsByNumber) (still_open : List Open) (now : Now) (other : Option Open) (n : ℕ) → is_named now ≡ false
     → owner_for K still_open now other ≡ Some n → n ≡ now.subject.number
@@ -86,9 +86,9 @@ owner_number K still_open now other n e h = go (is_open still_open now.subject.n
     go true h = cc
     go false h = absurd cc
 
--- ---- An open message in its place.
+-- ---- An open message and its index.
 
--- numbers that rise are told apart
+-- numbers that rise are distinct
 unique_at : (still_open : List Open) (k : ℕ) (a : Open) → Rising still_open → slice_get still_open k ≡ Some a → Each (λ b. a.opener.number ≡ b.opener.number → a ≡ b) still_open
 unique_at [] k a h e = absurd cc
 unique_at (b ∷ still_open) zero a h e =
@@ -138,10 +138,10 @@ kept_own C l None w (Some xs) h = absurd h
 kept_own C l (Some m) w None h = absurd h
 kept_own C l (Some m) w (Some xs) h = h
 
--- ---- Whose the octets of the payload are, by message.
+-- ---- The owner of the payload, by message.
 
 module _ (C : Table) (l : RequestTable) (s : State) (c : Tracked) (own : Option CodeMessage) where
-  -- of no message
+  -- no current message
   none_turn : (of : Payload) → comes_itself s ≡ false → PayloadBelongs C l of own c None → IsTurn of s
   none_turn payload.Nobody t h = t
   none_turn _ t h = absurd h
@@ -151,7 +151,7 @@ module _ (C : Table) (l : RequestTable) (s : State) (c : Tracked) (own : Option 
   none_back (payload.Open i) e t k h u = absurd (let no : None ≡ Some h.1.0.open_as.opener.number = sym e.owner ∙ h.1.2 in cc)
   none_back payload.Nobody e t k h u = none_own C l own s.own e.own k
 
-  -- of a Fragment whose request id is complete
+  -- a Fragment whose request id is complete
   module _ (m : Message) (e : Tells s c (Some m)) (named : has_named m ≡ true) (t : comes_itself s ≡ false) where
     other_own : s.own ≡ None
     unfolding has_named
@@ -186,7 +186,7 @@ module _ (C : Table) (l : RequestTable) (s : State) (c : Tracked) (own : Option 
     other_back rising payload.Nobody (Some o) f k h u =
         absurd (let no : Some o.opener.number ≡ None = sym (other_number ∙ ap (option_map (λ (o : Open). o.opener.number)) f) ∙ h in cc)
 
-  -- of the current message itself
+  -- the current message itself
   module _ (m : Message) (e : Tells s c (Some m)) (unnamed : has_named m ≡ false) (t : comes_itself s ≡ true) where
     unnamed_too : is_named (now_of m) ≡ false
     unfolding has_named
@@ -197,7 +197,7 @@ module _ (C : Table) (l : RequestTable) (s : State) (c : Tracked) (own : Option 
     own_turn (payload.Open k) h = tt
     own_turn payload.Nobody h = absurd h
 
-    own_back : IsTitled m c.still_open → (of : Payload) → IsOwn C l own s.own → IsOwner of s → IsTurn of s → PayloadBelongs C l of own c (Some (message_key m))
+    own_back : IsCurrentOpen m c.still_open → (of : Payload) → IsOwn C l own s.own → IsOwner of s → IsTurn of s → PayloadBelongs C l of own c (Some (message_key m))
     own_back titled payload.Own k h u = go (is_open c.still_open m.number) refl
       where
         go : (b : Bool) → is_open c.still_open m.number ≡ b → Each (λ o. o.opener.number ≡ m.number → ⊥) c.still_open × RepresentsMessage C l own (message_key m) (c.known m.number)
@@ -237,7 +237,7 @@ module _ (C : Table) (l : RequestTable) (s : State) (c : Tracked) (own : Option 
       go false f = own_turn m e f (t ∙ rw f refl) of (rw f at h)
 
   back : (of : Payload) (current : Option Message) → Tells s c current → comes_itself s ≡ itself current → Rising c.still_open
-      → ((m : Message) → current ≡ Some m → IsTitled m c.still_open) → IsOwn C l own s.own → IsOwner of s → IsTurn of s
+      → ((m : Message) → current ≡ Some m → IsCurrentOpen m c.still_open) → IsOwn C l own s.own → IsOwner of s → IsTurn of s
       → PayloadBelongs C l of own c (owner_of_next_in c.still_open current)
   unfolding owner_of_next itself
   back of None e t rising titled k h u = none_back of e t k h u
@@ -260,7 +260,7 @@ module _ (C : Table) (l : RequestTable) (most : ℕ) (p : List ℕ) where
   unfolding state_of tracked_after
   lines_of_event = record { slots = refl; own = refl; owner = refl }
 
-  -- by the stream's cut, where the reading goes on
+  -- from the slots to the state, by the stream's cut, where the reading goes on
   pub shows_by : (m : FramingView) (c : Cut) → cut p ≡ c → c.stop ≡ None → m.totals ≡ tally R p → m.stopped ≡ None
       → m.header ≡ header_of c.current c.held → m.payload_count ≡ come_of c.current → SlotsRepresentStream C l most m.slots p → Shows C l m (state_of R p)
   unfolding state_of tracked_after
@@ -279,12 +279,12 @@ module _ (C : Table) (l : RequestTable) (most : ℕ) (p : List ℕ) where
         turn = λ free. turns C l (state_of R p) (tracked_after R p) m.slots.own m.slots.payload (cut p).current lines_of_event (itself_state R p so goes_on) knows.payload;
       }
 
-  -- and what the slots keep then
+  -- and from the state to the slots
   pub knows_it : (m : FramingView) → (cut p).stop ≡ None → Shows C l m (state_of R p) → SlotsRepresentStream C l most m.slots p
   unfolding state_of tracked_after
   knows_it m st h = record {
     slots = h.slots;
     payload = back C l (state_of R p) (tracked_after R p) m.slots.own m.slots.payload (cut p).current lines_of_event
-        (itself_state R p so st) so.rising (λ c cur. title_is R (is_causal (signatures_of C l))
+        (itself_state R p so st) so.rising (λ c cur. message_key_is R (is_causal (signatures_of C l))
         (in_turn C l) p st c cur) h.own h.owner (h.turn (ap fault_of st));
   }

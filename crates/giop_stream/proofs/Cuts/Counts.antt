@@ -16,7 +16,7 @@ use Rattle.giop_stream.proofs.Cuts.Cutting.{of_parts, next, cut_grows, next_limi
 use Rattle.giop_stream.proofs.Cuts.CutFrom.{end_message, header_case}
 use Rattle.giop_stream.proofs.CodeSteps.EngineAlive.{sound}
 
--- of so many octets, so many messages and so many octets of the next header
+-- bounds for a stream of n octets with `count` messages and `held` octets of the next header
 abbrev Within : ℕ → ℕ → ℕ → Option (ℕ × StreamFault) → Type 0
 Within n count held (Some found) = (found.0 ≤ suc limit) × (12 * count ≤ found.0)
 Within n count held None = (n ≤ limit) × (12 * count + held ≤ n)

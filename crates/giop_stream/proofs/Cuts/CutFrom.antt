@@ -1,4 +1,4 @@
--- What is left of a stream, cut, with one more octet and with more fuel.
+-- `cut_from`, which cuts the rest of a stream: with one more octet, and with more fuel.
 use Rattle.std.proofs.Common.{inl, inr, ◌≡◌, ℕ, zero, suc, ◌+◌, ◌-◌, ◌<◌, ◌≤◌, Bool, true, false, List, [], ◌∷◌, ◌++◌, length, take, drop, refl, sym, ap, ◌∙◌, Option, Some, None, arith, length-drop}
 use Rattle.std.specs.Prelude.{nat_lt, ◌==◌, if◌then◌else◌}
 use Rattle.std.proofs.lemmas.Bool.{lt-ltb, le-ltb, cases_lt, eq-eqb, ne_eqb}
@@ -9,7 +9,7 @@ use Rattle.giop_message.specs.Headers.{size}
 use Rattle.giop_stream.specs.Framing.{Message, with_payload, Cut, with_first, cut_from}
 use Rattle.giop_stream.proofs.Lists.{wrong_last, offence_stays, offence_comes}
 
--- a message whose last octet has come joins the others
+-- the last message: among the whole ones if it has all its octets, else the current one
 unfoldable pub end_message : List Message → Message → Cut
 end_message whole m =
     if nat_lt (length m.payload) (size m.header)
@@ -35,7 +35,7 @@ grow first n x c = grow_by first n x c c.stop c.current
 nothing : Cut
 nothing = record { whole = []; current = None; held = []; stop = None }
 
--- The cases of the definition.
+-- The cases of the definition of `cut_from`.
 pub cut_wrong : (fuel number before : ℕ) (xs : List ℕ) (found : ℕ × StreamFault) → first_wrong_octet (take 12 xs) ≡ Some found
     → cut_from (suc fuel) number before xs ≡ record {
       whole = [];
@@ -76,7 +76,7 @@ unfolding cut_from nothing first_wrong_octet fronts first_wrong wrong
 cut_none zero number before = refl
 cut_none (suc fuel) number before = refl
 
--- The front of the longer stream.
+-- The header at the front of the longer stream.
 front_same : (xs : List ℕ) (x : ℕ) → 12 ≤ length xs → take 12 (xs ++ x ∷ []) ≡ take 12 xs
 front_same xs x h = take-append-le 12 xs (x ∷ []) h
 
@@ -102,13 +102,13 @@ settle_done : (whole : List Message) (m : Message) → size m.header ≤ length 
 unfolding end_message
 settle_done whole m h = rw (le-ltb (length m.payload) (size m.header) h) refl
 
--- a message that is complete, and nothing after it
+-- a message that is complete, with no octets after it
 done_is : (fuel number before : ℕ) (m : Message) (c : Cut) → c ≡ end_message [] m → size m.header ≤ length m.payload
     → c ≡ with_first m (cut_from fuel number before [])
 unfolding with_first nothing
 done_is fuel number before m c e h = e ∙ (settle_done [] m h ∙ rw (cut_none fuel number before) refl)
 
--- one message, and nothing after it
+-- one message, with no octets after it
 cut_is : (fuel number before : ℕ) (ys header payload : List ℕ) → take 12 ys ≡ header → drop 12 ys ≡ payload
     → first_wrong_octet header ≡ None → 12 ≤ length ys → length payload ≤ size header
     → cut_from (suc fuel) number before ys ≡ end_message [] (record { number = number; before = before; header = header; payload = payload })
@@ -136,7 +136,7 @@ unfolding Grows grow
 grows_wrong fuel number before xs x found e =
     rw (cut_wrong fuel number before xs found e) (cut_wrong fuel number before (xs ++ x ∷ []) found (wrong_kept xs x found e))
 
--- in a header
+-- inside a header
 header_is : (fuel number before : ℕ) (xs : List ℕ) (x : ℕ) → length xs < 12 → first_wrong_octet (take 12 xs) ≡ None
     → (w : Option StreamFault) → wrong (xs ++ x ∷ []) ≡ w
     → cut_from (suc fuel) number before (xs ++ x ∷ []) ≡ header_grows number (suc (before + length xs)) [] (xs ++ x ∷ [])
@@ -171,7 +171,7 @@ grows_open fuel number before xs x e h k =
     (cut_is fuel number before (xs ++ x ∷ []) (take 12 xs) (drop 12 xs ++ x ∷ []) (front_same xs x h)
     (drop-append-le 12 xs (x ∷ []) h) e (omega (arith, length_push xs x)) (omega (arith, length_push (drop 12 xs) x)))
 
--- a message before all others
+-- with one more message in front
 first_settles : (m : Message) (whole : List Message) (last : Message) → with_first m (end_message whole last) ≡ end_message (m ∷ whole) last
 unfolding with_first end_message
 first_settles m whole last = go (nat_lt (length last.payload) (size last.header))

@@ -1,4 +1,4 @@
--- The cut of a stream with one more octet.
+-- The cut of a stream with one more octet, from the cut of the stream.
 use Rattle.std.proofs.Common.{inl, inr, ◌≡◌, ℕ, suc, ◌+◌, ◌<◌, ◌≤◌, Bool, true, false, List, [], ◌∷◌, ◌++◌, length, take, refl, sym, ◌∙◌, Option, Some, None, arith, length-take}
 use Rattle.std.specs.Prelude.{nat_lt, ◌==◌, if◌then◌else◌, option_to_list}
 use Rattle.std.proofs.lemmas.Bool.{lt-ltb, le-ltb, cases_lt}
@@ -10,7 +10,7 @@ use Rattle.giop_message.specs.Headers.{size}
 use Rattle.giop_stream.specs.Framing.{Message, with_payload, Cut, cut_from, limit, limited, cut, messages}
 use Rattle.giop_stream.proofs.Cuts.CutFrom.{end_message, header_case, header_grows, grow, cut_from_grows, more_fuel}
 
--- The whole stream.
+-- The cut of the whole stream, with its limit.
 unfoldable pub stopped_at : ℕ → StreamFault → Cut → Cut
 stopped_at n word c = record c { held = []; stop = Some (n, word) }
 
@@ -111,7 +111,7 @@ cut_grows p x = elim (cases_lt (length p) limit) [
       ]))
 ]
 
--- ---- A message that an octet settles.
+-- ---- A message that may be complete with this octet.
 
 pub settle_stop : (whole : List Message) (m : Message) → (end_message whole m).stop ≡ None
 unfolding end_message
@@ -147,7 +147,7 @@ settled_messages whole m = go (nat_lt (length m.payload) (size m.header))
     go true = refl
     go false = append-nil (whole ++ m ∷ [])
 
--- ---- The next octet, by the parts of the cut.
+-- ---- The next octet, from the parts of the cut.
 
 pub next_limit : (c : List Message) (current : Option Message) (held : List ℕ) (n x : ℕ) → nat_lt limit (suc n) ≡ true
     → next n x (of_parts c current held None) ≡ of_parts c current [] (Some (suc n, StreamLimit))

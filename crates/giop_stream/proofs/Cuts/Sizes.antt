@@ -1,4 +1,4 @@
--- The last four octets of a header, which spell its size.
+-- The last four octets of a header, which give the size of its payload.
 use Rattle.std.proofs.Common.{◌≡◌, ℕ, List, [], ◌∷◌, length, drop, refl, ap, ◌∙◌, arith}
 use Rattle.std.specs.Prelude.{get_or}
 use Rattle.std.proofs.Math.Seq.{drop-cons}

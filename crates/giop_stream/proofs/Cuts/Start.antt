@@ -1,4 +1,4 @@
--- What there is to know of a stream before its first octet.
+-- The empty stream: its cut, events, lines and open messages, and that the invariants hold of it.
 use Rattle.std.proofs.Common.{◌≡◌, ℕ, [], refl, ◌∙◌, Some, None, arith}
 use Rattle.giop_stream.specs.HeaderOctets.{fronts, wrong, first_wrong, first_wrong_octet}
 use Rattle.giop_stream.specs.Rules.{Rules}
@@ -36,9 +36,9 @@ pub open_nothing : (most : ℕ) → open_after most [] ≡ []
 unfolding open_after opened
 open_nothing most = rw (events_nothing most) refl
 
-live_nothing : (most : ℕ) → AreSound most []
+still_open_nothing : (most : ℕ) → AreSound most []
 unfolding IsFew AreOpeners
-live_nothing most = record { few = omega arith; differ = tt; openers = tt }
+still_open_nothing most = record { few = omega arith; differ = tt; openers = tt }
 
 pub sound_start : (R : Rules) → IsSound R []
 unfolding of_parts messages start_count
@@ -50,6 +50,6 @@ sound_start R = record {
   fits = λ st. rw cut_nothing (record { current = tt; held = omega arith; short = omega arith });
   rising = rw (open_nothing R.most) tt;
   early = λ st. rw cut_nothing tt;
-  still_open = rw (open_nothing R.most) (live_nothing R.most);
+  still_open = rw (open_nothing R.most) (still_open_nothing R.most);
   begun = λ st. rw cut_nothing tt;
 }

@@ -1,4 +1,4 @@
--- What the definitions say of a stream after some events more, from what they say before.
+-- The lines of a stream, the messages that are over and the octets kept of the others, after some more events.
 use Rattle.std.proofs.Common.{◌≡◌, ℕ, suc, ◌+◌, ◌≤◌, Bool, true, false, List, [], ◌++◌, length, refl, ap, Option, Some, None, length-append}
 use Rattle.std.specs.Prelude.{if◌then◌else◌, ◌||◌, option_map}
 use Rattle.std.specs.List.{filter, list_any, AllByRecursion as Each}
@@ -16,11 +16,11 @@ use Rattle.giop_stream.specs.Effects.{kept_with, kept_after}
 use Rattle.giop_stream.proofs.StreamLines.EventsTogether.{sorted_lines}
 use Rattle.giop_stream.proofs.Lists.{any_append}
 use Rattle.giop_stream.proofs.Events.EventsOfOctet.{opened_append}
-use Rattle.giop_stream.proofs.StreamLines.LinesOfOctet.{joined_append, heard, heard_each, told_heard, told_grows, in_order_grows, in_order_idle, standing_append, keeping, standing_all_lines}
+use Rattle.giop_stream.proofs.StreamLines.LinesOfOctet.{joined_append, heard, noted_each, told_heard, told_grows, in_order_grows, in_order_idle, standing_append, keeping, standing_all_lines}
 
--- What the definitions say after these events, from what they say before.
+-- After these events, from what holds before them.
 told_places : (R : MessageReader) → IsCausal R → (es : List Event) (n : ℕ) → Each (λ e. e.place ≤ n) es → Each (λ l. l.place ≤ n) (lines_of_events R es [] es)
-told_places R causal es n h = rw (told_heard R causal es [] es refl) (heard_each R (λ k. k ≤ n) [] es h)
+told_places R causal es n h = rw (told_heard R causal es [] es refl) (noted_each R (λ k. k ≤ n) [] es h)
 
 pub said_grows : (R : Rules) → IsCausal R.reading → (p p' : List ℕ) (es : List Event) → length p' ≡ suc (length p)
     → events R.most p' ≡ events R.most p ++ es → Each (λ e. e.place ≤ length p) (events R.most p) → Each (λ e. e.place ≡ suc (length p)) es
@@ -36,7 +36,7 @@ said_grows R causal p p' es len ev old new =
       told_grows R.reading causal (events R.most p) es,
       in_order_grows (length p) before more
           (told_places R.reading causal (events R.most p) (length p) old)
-          (heard_each R.reading (λ k. k ≡ suc (length p)) (events R.most p) es new),
+          (noted_each R.reading (λ k. k ≡ suc (length p)) (events R.most p) es new),
       standing_append none (in_order (length p) before)
           (by_class more),
     )

@@ -1,4 +1,5 @@
--- What holds of no event, of each event of an octet and of events joined holds of all that the octet does behind its first part.
+-- Induction over the events of an octet after those of its first part: what holds of no events, of each single event and of
+-- lists joined holds of all of them.
 use Rattle.std.proofs.Common.{ℕ, Bool, true, false, List, [], ◌++◌, length, Option, Some, None}
 use Rattle.std.specs.Prelude.{nat_lt, nat_le, ◌==◌, if◌then◌else◌, ◌&&◌, ◌||◌}
 use Rattle.giop_stream.specs.declared.fault.FramingFault.{FramingFault}
@@ -7,13 +8,13 @@ use Rattle.giop_message.specs.Headers.{order, has_more, size, is_fragment, is_op
 use Rattle.giop_stream.specs.Kinds.{may_be_cancelled, refused}
 use Rattle.giop_stream.specs.Events.{EventKind, Begins, Takes, Opens, Continues, Cancelled, Faults, Closes, Event, Open, Now, own, event_of_open, fault_events, header_events, opens, same_order, continues, cancels, request_id_events, message_end_events}
 
--- what an octet may do behind its first part
+-- the events that may come after those of an octet's first part
 abbrev pub IsLater : EventKind → Type 0
 IsLater Begins = ⊥
 IsLater (Takes x) = ⊥
 IsLater _ = Unit {0}
 
--- what holds of no event and of events joined
+-- Q holds of no events, and of two lists joined
 pub record IsJoined (Q : List Event → Type 0) : Type 0 where
   pub none : Q []
   pub both : (es more : List Event) → Q es → Q more → Q (es ++ more)
@@ -31,7 +32,7 @@ of_header Q j now begins h = j.both (own now Begins) _ begins (go (refused now.s
     go None = j.none
     go (Some fault) = h fault
 
--- it holds of what befalls the message itself, and of what befalls the open message
+-- Q holds of an event of the message itself, and of one of the open message
 pub record HoldsOf (Q : List Event → Type 0) (now : Now) (other : Option Open) : Type 0 where
   pub mine : (what : EventKind) → IsLater what → Q (own now what)
   pub theirs : (what : EventKind) → IsLater what → Q (event_of_open now other what)

@@ -1,4 +1,4 @@
--- What an octet of a message does, by what an engine knows of it: the same as by the message.
+-- The events of an octet from the fields of an engine: the same as those from the message.
 use Rattle.std.proofs.Common.{inl, inr, ◌≡◌, ℕ, ◌<◌, Bool, true, false, List, [], ◌∷◌, ◌++◌, refl, sym, ap, subst, ◌∙◌, Option, Some, None, arith}
 use Rattle.std.specs.Prelude.{◌==◌, if◌then◌else◌, ◌||◌, option_map}
 use Rattle.std.specs.List.{find, list_any, AllByRecursion as Each}
@@ -11,7 +11,7 @@ use Rattle.giop_stream.specs.Effects.{Tracked, Effect, lines_at, tracked_at, eff
 use Rattle.giop_stream.specs.EngineStep.{numbered}
 use Rattle.giop_stream.proofs.StreamLines.LineOrder.{unnamed}
 
--- ---- The request id and the message that has it count at the id's last octet, and in a Fragment behind that.
+-- ---- The request id and its open message matter only at the id's last octet, and in a Fragment after it.
 
 or_true : (b : Bool) → (b || true) ≡ true
 or_true true = refl
@@ -47,14 +47,14 @@ module _ (most : ℕ) (still_open : List Open) (now : Now) (i j : ℕ) (o q : Op
         rw (ne_eqb now.payload_count 4 other) (λ k. (if now.payload_count == 0 then header_events now else oct k) ++ ([] ++ end k))
   ]
 
-  pub acts_agree : (now.payload_count ≡ 4 → has_name now.subject.header ≡ true → (i ≡ j) × (o ≡ q))
+  pub events_with_id_agree : (now.payload_count ≡ 4 → has_name now.subject.header ≡ true → (i ≡ j) × (o ≡ q))
       → (4 < now.payload_count → is_fragment now.subject.header ≡ true → o ≡ q) → events_with_id most still_open now i o ≡ events_with_id most still_open now j q
-  acts_agree h k = elim (cases_eq now.payload_count 4) [
+  events_with_id_agree h k = elim (cases_eq now.payload_count 4) [
     | inl four ↦ at_four four (has_name now.subject.header) refl (λ named. h four named)
     | inr other ↦ elsewhere other (is_fragment now.subject.header) refl (λ f past. k past f)
   ]
 
--- ---- An effect goes by what is known of the messages of its events.
+-- ---- An effect depends only on what is known of its events' subjects.
 
 pub record AgreeOn (P : ℕ → Type 0) (a b : Effect) : Type 0 where
   pub lines : a.lines ≡ b.lines
@@ -68,17 +68,17 @@ effects_agree R P c d [] l h k = record { lines = refl; still_open = l; known = 
 effects_agree R P c d (e ∷ es) l h k =
     let now : lines_at R c.known e ≡ lines_at R d.known e = unfold lines_at in
     ap (λ (o : Option (List ℕ)). up_to_last_line (λ i. false) (lines_for R e o)) (h e.subject.number k.0) in
-    let more = effects_agree R P (tracked_at R c e) (tracked_at R d e) es (live_then l) (known_then now) k.1 in
+    let more = effects_agree R P (tracked_at R c e) (tracked_at R d e) es (still_open_then l) (known_then now) k.1 in
     record { lines = λ j. now j ++ more.lines j; still_open = more.still_open; known = more.known }
   where
-    live_then : c.still_open ≡ d.still_open → (tracked_at R c e).still_open ≡ (tracked_at R d e).still_open
-    live_then l = unfold tracked_at in ap (λ (still_open : List Open). changed still_open e.subject e.what) l
+    still_open_then : c.still_open ≡ d.still_open → (tracked_at R c e).still_open ≡ (tracked_at R d e).still_open
+    still_open_then l = unfold tracked_at in ap (λ (still_open : List Open). changed still_open e.subject e.what) l
 
     known_then : lines_at R c.known e ≡ lines_at R d.known e → (i : ℕ) → P i → (tracked_at R c e).known i ≡ (tracked_at R d e).known i
     known_then now i p =
         unfold tracked_at kept_after kept_with in λ j. if list_any (is_last_of i) (now j) then None else option_map (λ xs. xs ++ joined i (e ∷ [])) (h i p j)
 
--- ---- Among open messages, whose numbers rise, one is found by its number.
+-- ---- An open message is found by its number, as the numbers rise.
 
 pub found_in : (Q : Open → Type 0) (test : Open → Bool) (still_open : List Open) (o : Open) → Each Q still_open → find test still_open ≡ Some o → Q o
 found_in Q test [] o h e = absurd cc

@@ -1,4 +1,4 @@
--- What is kept through the events of an octet.
+-- Properties of the open messages that the events of an octet keep.
 use Rattle.std.proofs.Common.{◌≡◌, ℕ, suc, ◌<◌, ◌≤◌, Bool, true, false, cond, not, List, [], ◌∷◌, ◌++◌, length, refl, sym, subst, Option, Some, None, arith}
 use Rattle.std.specs.List.{filter, find, AllByRecursion as Each}
 use Rattle.std.specs.Prelude.{nat_lt, nat_le, ◌==◌, if◌then◌else◌, ◌&&◌, ◌||◌}
@@ -13,8 +13,8 @@ use Rattle.giop_stream.specs.Events.{EventKind, Opens, Cancelled, Faults, Closes
 use Rattle.giop_stream.proofs.Lists.{each_append, each_filter}
 use Rattle.giop_stream.proofs.Events.EventsOfOctet.{opened_append, quiet_if, quiet_header, quiet_octet, quiet_continues, four}
 
--- ---- What is kept through the events of an octet: what holds of fewer open messages, and of those with one more where an
--- opener becomes open.
+-- ---- A property is kept that passes to fewer open messages, and to those with one more where an opener becomes
+-- open.
 
 unfoldable pub opened_by : Message → Open
 opened_by m = record { id = id m; opener = message_key m }
@@ -31,7 +31,7 @@ pub record IsKept (most : ℕ) (Q : List Open → Type 0) (still_open : List Ope
   pub more : CanOpen most still_open m → Q still_open → Q (still_open ++ opened_by m ∷ [])
 
 module _ (most : ℕ) (Q : List Open → Type 0) (now : List Open) (m : Message) (k : IsKept most Q now m) where
-  -- what opens nothing
+  -- an event that opens no message keeps Q
   abbrev Plain : EventKind → Type 0
   Plain what = (still_open : List Open) (subject : MessageKey) → Q still_open → Q (changed still_open subject what)
 
@@ -52,9 +52,9 @@ module _ (most : ℕ) (Q : List Open → Type 0) (now : List Open) (m : Message)
   unfolding changed
   plain_cancelled j still_open subject q = k.fewer (λ o. not (o.opener.number == subject.number)) still_open q
 
-  plain_imposed : (fault : FramingFault) → Plain (Faults fault)
+  plain_faulted : (fault : FramingFault) → Plain (Faults fault)
   unfolding changed
-  plain_imposed fault still_open subject q = q
+  plain_faulted fault still_open subject q = q
 
   kept_if : (still_open : List Open) (b : Bool) (es more : List Event) → (b ≡ true → Q (opened still_open es))
       → (b ≡ false → Q (opened still_open more)) → Q (opened still_open (if b then es else more))
@@ -69,7 +69,7 @@ module _ (most : ℕ) (Q : List Open → Type 0) (now : List Open) (m : Message)
   unfolding message_end_events
   kept_end before still_open q =
       kept_if still_open (nat_lt (size m.header) 4 && (is_opener m.header || is_fragment m.header)) (own (now_of m) (Faults Short)) _
-      (λ e. plain_own still_open (Faults Short) (plain_imposed Short) q)
+      (λ e. plain_own still_open (Faults Short) (plain_faulted Short) q)
       (λ e. kept_if still_open (is_opener m.header) [] _ (λ e. kept_none still_open q)
       (λ e. kept_if still_open (is_fragment m.header) _ (own (now_of m) Closes)
       (λ e. kept_if still_open (has_more m.header) [] (event_of_open (now_of m) (opener_of before m) Closes) (λ e. kept_none still_open q)
@@ -82,10 +82,10 @@ module _ (most : ℕ) (Q : List Open → Type 0) (now : List Open) (m : Message)
 
   kept_opens : length m.payload ≡ 4 → is_opener m.header ≡ true → Q now → (w : Option Open) → opener_of now m ≡ w
       → Q (opened now (opens most now (now_of m) (id m) w))
-  kept_opens four o q (Some other) e = plain_own now (Faults IdOpen) (plain_imposed IdOpen) q
+  kept_opens four o q (Some other) e = plain_own now (Faults IdOpen) (plain_faulted IdOpen) q
   kept_opens four o q None e =
       kept_if now (nat_le most (length now)) (own (now_of m) (Faults TooManyOpen)) (own (now_of m) (Opens (id m)))
-      (λ full. plain_own now (Faults TooManyOpen) (plain_imposed TooManyOpen) q)
+      (λ full. plain_own now (Faults TooManyOpen) (plain_faulted TooManyOpen) q)
       (λ room. now_open (record { named = four; opener = o; none = e; room = leb-false most (length now) room }) q)
 
   kept_cancels : Q now → (o : Option Open) → Q (opened now (cancels (now_of m) o))
@@ -119,8 +119,8 @@ module _ (most : ℕ) (Q : List Open → Type 0) (now : List Open) (m : Message)
       (kept_if (opened now second) (length m.payload == size m.header) (events_at_end now m) []
       (λ e. kept_end now (opened now second) mid) (λ e. kept_none (opened now second) mid))
 
-pub kept_happens : (most : ℕ) (Q : List Open → Type 0) (still_open : List Open) (m : Message) → IsKept most Q still_open m → Q still_open → Q (opened still_open (events_of_octet most still_open m))
-kept_happens most Q still_open m k q = kept_parts most Q still_open m k q
+pub kept_events : (most : ℕ) (Q : List Open → Type 0) (still_open : List Open) (m : Message) → IsKept most Q still_open m → Q still_open → Q (opened still_open (events_of_octet most still_open m))
+kept_events most Q still_open m k q = kept_parts most Q still_open m k q
 
 -- ---- The numbers of the open messages rise.
 
@@ -141,9 +141,9 @@ pub rising_push : (still_open : List Open) (o : Open) → Rising still_open → 
 rising_push [] o h k = (tt, tt)
 rising_push (a ∷ still_open) o h k = (each_append (λ b. a.opener.number < b.opener.number) still_open (o ∷ []) h.0 (k.0, tt), rising_push still_open o h.1 k.1)
 
-pub rising_happens : (most : ℕ) (still_open : List Open) (m : Message) → Rising still_open → (length m.payload ≡ 4 → Below m.number still_open) → Rising (opened still_open (events_of_octet most still_open m))
-rising_happens most still_open m r h =
-    kept_happens most Rising still_open m (record {
+pub rising_events : (most : ℕ) (still_open : List Open) (m : Message) → Rising still_open → (length m.payload ≡ 4 → Below m.number still_open) → Rising (opened still_open (events_of_octet most still_open m))
+rising_events most still_open m r h =
+    kept_events most Rising still_open m (record {
       fewer = rising_filter;
       more = λ can q. unfold opened_by in rising_push still_open
           (record { id = id m; opener = message_key m }) q (h can.named);
@@ -170,10 +170,10 @@ few_push : (most : ℕ) (still_open : List Open) (o : Open) → length still_ope
 unfolding IsFew
 few_push most still_open o h = omega (arith, length_push still_open o)
 
-pub few_happens : (most : ℕ) (still_open : List Open) (m : Message) → IsFew most still_open → IsFew most (opened still_open (events_of_octet most still_open m))
-few_happens most still_open m h = kept_happens most (IsFew most) still_open m (record { fewer = few_filter most; more = λ can q. few_push most still_open (opened_by m) can.room }) h
+pub few_events : (most : ℕ) (still_open : List Open) (m : Message) → IsFew most still_open → IsFew most (opened still_open (events_of_octet most still_open m))
+few_events most still_open m h = kept_events most (IsFew most) still_open m (record { fewer = few_filter most; more = λ can q. few_push most still_open (opened_by m) can.room }) h
 
--- ---- No two have one request id.
+-- ---- No two have the same request id.
 
 abbrev pub Differ : List Open → Type 0
 Differ [] = Unit {0}
@@ -203,10 +203,10 @@ none_found : (i : ℕ) (still_open : List Open) → find (λ o. o.id == i) still
 none_found i [] h = tt
 none_found i (a ∷ still_open) h = none_by i a still_open (a.id == i) refl (none_found i still_open) h
 
-pub differ_happens : (most : ℕ) (still_open : List Open) (m : Message) → Differ still_open → Differ (opened still_open (events_of_octet most still_open m))
+pub differ_events : (most : ℕ) (still_open : List Open) (m : Message) → Differ still_open → Differ (opened still_open (events_of_octet most still_open m))
 unfolding opener_of opened_by
-differ_happens most still_open m h =
-    kept_happens most Differ still_open m (record {
+differ_events most still_open m h =
+    kept_events most Differ still_open m (record {
       fewer = differ_filter;
       more = λ can q. differ_push still_open
           (record { id = id m; opener = message_key m }) q (none_found (id m) still_open can.none);
@@ -225,9 +225,9 @@ openers_push : (still_open : List Open) (o : Open) → AreOpeners still_open →
 unfolding AreOpeners
 openers_push still_open o h k = each_append (λ o. is_opener o.opener.header ≡ true) still_open (o ∷ []) h (k, tt)
 
-pub openers_happens : (most : ℕ) (still_open : List Open) (m : Message) → AreOpeners still_open → AreOpeners (opened still_open (events_of_octet most still_open m))
-openers_happens most still_open m h =
-    kept_happens most AreOpeners still_open m (record {
+pub openers_events : (most : ℕ) (still_open : List Open) (m : Message) → AreOpeners still_open → AreOpeners (opened still_open (events_of_octet most still_open m))
+openers_events most still_open m h =
+    kept_events most AreOpeners still_open m (record {
       fewer = openers_filter;
       more = λ can q. unfold opened_by in openers_push still_open
           (record { id = id m; opener = message_key m }) q can.opener;

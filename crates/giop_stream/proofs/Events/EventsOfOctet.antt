@@ -55,9 +55,9 @@ still_continues : (i : ℕ) (still_open : List Open) (subject : MessageKey) → 
 unfolding changed
 still_continues i still_open subject = refl
 
-pub still_imposed : (fault : FramingFault) (still_open : List Open) (subject : MessageKey) → changed still_open subject (Faults fault) ≡ still_open
+pub still_faulted : (fault : FramingFault) (still_open : List Open) (subject : MessageKey) → changed still_open subject (Faults fault) ≡ still_open
 unfolding changed
-still_imposed fault still_open subject = refl
+still_faulted fault still_open subject = refl
 
 quiet_about : (still_open : List Open) (now : Now) (o : Option Open) (what : EventKind)
     → ((subject : MessageKey) → changed still_open subject what ≡ still_open) → opened still_open (event_of_open now o what) ≡ still_open
@@ -85,7 +85,7 @@ quiet_none still_open = refl
 pub quiet_header : (still_open : List Open) (now : Now) → opened still_open (header_events now) ≡ still_open
 quiet_header still_open now =
     of_header (λ es. opened still_open es ≡ still_open) (record { none = quiet_none still_open; both = quiet_both still_open }) now
-    (quiet_own still_open now Begins (still_begins still_open)) (λ fault. quiet_own still_open now (Faults fault) (still_imposed fault still_open))
+    (quiet_own still_open now Begins (still_begins still_open)) (λ fault. quiet_own still_open now (Faults fault) (still_faulted fault still_open))
 
 pub quiet_octet : (still_open : List Open) (now : Now) (o : Option Open) → opened still_open (payload_events now o) ≡ still_open
 unfolding payload_events
@@ -95,11 +95,11 @@ quiet_octet still_open now o =
     (λ e. quiet_own still_open now (Takes now.octet) (still_takes now.octet still_open))
 
 pub quiet_continues : (still_open : List Open) (now : Now) (o : Option Open) → opened still_open (continues now o) ≡ still_open
-quiet_continues still_open now None = quiet_own still_open now (Faults NoOpen) (still_imposed NoOpen still_open)
+quiet_continues still_open now None = quiet_own still_open now (Faults NoOpen) (still_faulted NoOpen still_open)
 quiet_continues still_open now (Some o) =
     quiet_both still_open _ _ (quiet_own still_open now (Continues o.opener.number) (still_continues o.opener.number still_open))
     (quiet_if still_open _ _ _ (λ e. quiet_none still_open)
-    (λ e. quiet_about still_open now (Some o) (Faults FragmentOrder) (still_imposed FragmentOrder still_open)))
+    (λ e. quiet_about still_open now (Some o) (Faults FragmentOrder) (still_faulted FragmentOrder still_open)))
 
 -- Before the last octet of a message, and before its id or in a Fragment, nothing changes.
 pub four : (most : ℕ) (still_open : List Open) (m : Message) → (length m.payload == 4) ≡ true
@@ -136,16 +136,16 @@ payload_run most still_open m =
     )
     (quiet_one most still_open (with_payload m (xs ++ x ∷ [])) h k))
 
--- What an octet does is the same by the messages that were open before its message and by those that are open now.
+-- The events of an octet are the same by the messages that were open before its message and by those that are open now.
 free : (most : ℕ) (still_open other : List Open) (m : Message) → 4 < length m.payload → is_fragment m.header ≡ false → events_of_octet most still_open m ≡ events_of_octet most other m
 unfolding events_of_octet payload_events message_end_events goes_past
 free most still_open other m h k =
     rw (events_of_octet, events_with_id, payload_events, goes_past, message_end_events, k, ne_eqb (length m.payload) 0 (λ e. omega arith), ne_eqb (length m.payload) 4 (λ e. omega arith)) refl
 
-pub happens_same : (most : ℕ) (still_open : List Open) (m : Message) (xs : List ℕ) (x : ℕ) → length xs < size m.header
+pub events_of_octet_same : (most : ℕ) (still_open : List Open) (m : Message) (xs : List ℕ) (x : ℕ) → length xs < size m.header
     → events_of_octet most still_open (with_payload m (xs ++ x ∷ [])) ≡ events_of_octet most (opened still_open (events_of most still_open (with_payload m xs)))
     (with_payload m (xs ++ x ∷ []))
-happens_same most still_open m xs x h = go (is_fragment m.header) refl
+events_of_octet_same most still_open m xs x h = go (is_fragment m.header) refl
   where
     m' : Message
     m' = with_payload m (xs ++ x ∷ [])
@@ -159,7 +159,7 @@ happens_same most still_open m xs x h = go (is_fragment m.header) refl
       | inr l ↦ free most still_open (opened still_open (events_of most still_open (with_payload m xs))) (with_payload m (xs ++ x ∷ [])) (omega (arith, length_push xs x)) e
     ]
 
--- What holds of the events about the message itself and about each open message holds of all.
+-- What holds of the events of the message itself and of each open message holds of all events of an octet.
 own_each : (P : Event → Type 0) (now : Now) (what : EventKind)
     → ((what : EventKind) → P (record { place = now.place; subject = now.subject; what = what })) → Each P (own now what)
 unfolding own
@@ -210,13 +210,13 @@ module _ (most : ℕ) (P : Event → Type 0) (still_open : List Open) (now : Now
       (of_later most (Each P) joined still_open now id other
       (record { mine = λ what later. mine what; theirs = λ what later. about_each P now other what k }))
 
-pub happens_each : (most : ℕ) (P : Event → Type 0) (still_open : List Open) (m : Message) → ((what : EventKind) → P (record { place = place m; subject = message_key m; what = what }))
+pub events_of_octet_each : (most : ℕ) (P : Event → Type 0) (still_open : List Open) (m : Message) → ((what : EventKind) → P (record { place = place m; subject = message_key m; what = what }))
     → Each (λ o. (what : EventKind) → P (record { place = place m; subject = o.opener; what = what })) still_open → Each P (events_of_octet most still_open m)
 unfolding events_of_octet opener_of About
-happens_each most P still_open m h k =
+events_of_octet_each most P still_open m h k =
     parts_each most P still_open (now_of m) (id m) (opener_of still_open m) h (found (About P (now_of m)) (λ o. o.id == id m) still_open k)
 
--- In a Fragment past its id no event is about the Fragment.
+-- After a Fragment's request id no event has the Fragment for its subject.
 module _ (most : ℕ) (P : Event → Type 0) (still_open : List Open) (now : Now) (id : ℕ) (other : Option Open)
     (f : is_fragment now.subject.header ≡ true) (past : 4 < now.payload_count) (long : now.payload_count ≤ size now.subject.header)
     (k : ForSome (About P now) other) where
@@ -237,11 +237,11 @@ module _ (most : ℕ) (P : Event → Type 0) (still_open : List Open) (now : Now
       (each_append P (payload_events now other) _ past_octet
       (either (Each P) (now.payload_count == size now.subject.header) (message_end_events now other) [] past_end tt))
 
-pub happens_agree : (most : ℕ) (P : Event → Type 0) (still_open : List Open) (m : Message) → length m.payload ≤ size m.header
+pub events_of_octet_agree : (most : ℕ) (P : Event → Type 0) (still_open : List Open) (m : Message) → length m.payload ≤ size m.header
     → (goes_past m ≡ false → (what : EventKind) → P (record { place = place m; subject = message_key m; what = what }))
     → Each (λ o. (what : EventKind) → P (record { place = place m; subject = o.opener; what = what })) still_open → Each P (events_of_octet most still_open m)
 unfolding events_of_octet opener_of About goes_past
-happens_agree most P still_open m long h k = go (goes_past m) refl
+events_of_octet_agree most P still_open m long h k = go (goes_past m) refl
   where
     one : ForSome (About P (now_of m)) (opener_of still_open m)
     one = found (About P (now_of m)) (λ o. o.id == id m) still_open k
@@ -271,7 +271,7 @@ not_named m x h = go (is_fragment m.header) refl
         let k : length (m.payload ++ x ∷ []) ≤ 4 = ltb-false 4 (length (m.payload ++ x ∷ [])) (rw e at h) in
         rw (e, lt-leb 4 (length m.payload) (omega (arith, length_push m.payload x))) refl
 
--- What holds of the open messages and of the messages of these events holds of the open messages after them.
+-- What holds of the open messages and of the subjects of these events holds of the open messages after them.
 changed_each : (P : MessageKey → Type 0) (still_open : List Open) (subject : MessageKey) (what : EventKind) → Each (λ o. P o.opener) still_open
     → P subject → Each (λ o. P o.opener) (changed still_open subject what)
 unfolding changed

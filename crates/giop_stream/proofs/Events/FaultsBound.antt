@@ -1,4 +1,4 @@
--- How many faults a stream can have: each message one at most, and the stream one, a stream fault or the truncated end.
+-- How many faults a stream can have: each message one at most, and the stream itself one, a stream fault or a truncated end.
 use Rattle.std.proofs.Common.{inl, inr, ◌≡◌, ℕ, zero, suc, ◌+◌, ◌<◌, ◌≤◌, Bool, true, false, List, [], ◌∷◌, ◌++◌, length, take, drop, refl, sym, ap, ◌∙◌, Option, Some, None, arith}
 use Rattle.std.specs.Prelude.{◌==◌, ◌||◌, nat_lt, if◌then◌else◌, flat_map}
 use Rattle.std.specs.List.{filter, AllByRecursion as Each}
@@ -14,7 +14,7 @@ use Rattle.giop_stream.specs.Lines.{Content, Started, Said, ContinuesMessage, Ca
 use Rattle.giop_stream.specs.Stream.{is_fault, fault_count, is_inside, is_truncated, tally, final}
 use Rattle.giop_stream.proofs.Lists.{each_append, each_weaker, each_map, each_filter}
 use Rattle.giop_stream.proofs.Cuts.CutFrom.{cut_wrong, cut_short, cut_open, cut_more}
-use Rattle.giop_stream.proofs.Events.EventsOfOctet.{happens_each, opened_each}
+use Rattle.giop_stream.proofs.Events.EventsOfOctet.{events_of_octet_each, opened_each}
 use Rattle.giop_stream.proofs.StreamLines.LinesOfOctet.{classes_each}
 use Rattle.giop_stream.proofs.Events.AfterMoreEvents.{count_append}
 use Rattle.giop_stream.proofs.CodeSteps.EngineAlive.{sound}
@@ -80,7 +80,7 @@ numbered p = go (nat_lt limit (length p))
     go true = stopped whole.stop
     go false = all
 
--- ---- and so have the events, and the lines.
+-- ---- and so have the subjects of the events, and the lines.
 
 module _ (most : ℕ) (P : ℕ → Type 0) where
   abbrev Named : List Event → Type 0
@@ -95,7 +95,7 @@ module _ (most : ℕ) (P : ℕ → Type 0) where
     where
       here : (front : List ℕ) → Named (events_of_octet most still_open (with_payload m front))
       here front =
-          happens_each most (λ e. P e.subject.number) still_open (with_payload m front) (λ what. h)
+          events_of_octet_each most (λ e. P e.subject.number) still_open (with_payload m front) (λ what. h)
           (each_weaker (λ o. P o.opener.number) (λ o. (what : EventKind) → P o.opener.number) (λ o j what. j) still_open k)
 
       go : (fs : List (List ℕ)) → Named (flat_map (λ front. events_of_octet most still_open (with_payload m front)) fs)
@@ -109,11 +109,11 @@ module _ (most : ℕ) (P : ℕ → Type 0) where
   events_each still_open (m ∷ ms) h k =
       let es = events_of most still_open m in
       let here = events_of_each still_open m k.0 h in
-      let then_live = opened_each (λ subject. P subject.number) still_open es h here in
+      let then_still_open = opened_each (λ subject. P subject.number) still_open es h here in
       each_append (λ e. P e.subject.number) es (events_from most (opened still_open es) ms) here
-      (events_each (opened still_open es) ms then_live k.1)
+      (events_each (opened still_open es) ms then_still_open k.1)
 
--- a line of one of so many messages, which is its last one where it is a fault
+-- a line of one of n messages, which is the message's last line if it is a fault
 record IsOne (n : ℕ) (l : Line) : Type 0 where
   number : IsNumber n l.number
   last : is_fault l.content ≡ true → ends l.content ≡ true
@@ -161,9 +161,9 @@ order_each P (suc n) ls h =
     each_append P (in_order n ls) (by_class here) (order_each P n ls h)
     (classes_each P here classes (each_filter P (λ l. l.place == suc n) ls h))
 
--- ---- Of the messages that are not over, each has one fault at most.
+-- ---- Each message that is not over has one fault more at most.
 
--- how many of the first so many messages are not over
+-- how many of the messages 1 to n are not over
 free : (ℕ → Bool) → ℕ → ℕ
 free over zero = 0
 free over (suc n) = (if over (suc n) then 0 else 1) + free over n
@@ -184,7 +184,7 @@ module _ (f g : ℕ → Bool) (more : (i : ℕ) → f i ≡ true → g i ≡ tru
   fewer_free zero = omega arith
   fewer_free (suc n) = let one = one_fewer (f (suc n)) (g (suc n)) (more (suc n)) in omega (arith, one, fewer_free n)
 
-  -- where one of them is over that wasn't
+  -- fewer, where one of them is over that wasn't
   less_free : (k n : ℕ) → IsNumber n k → f k ≡ false → g k ≡ true → free g n < free f n
   unfolding free
   less_free k zero h e d = absurd (omega (arith, h.0, h.1))
@@ -236,7 +236,7 @@ said_few R p =
     let most = faults_free n (λ i. false) (in_order (length p) all) (order_each (IsOne n) (length p) all ones) in
     omega (arith, most, all_free n)
 
--- the stream's own
+-- the stream's own fault
 unfoldable pub stop_count : Option (ℕ × StreamFault) → ℕ
 stop_count None = 0
 stop_count (Some found) = 1

@@ -1,4 +1,4 @@
--- The slots of the open messages, by what is kept of each.
+-- The slots of the open messages, and what is found in them by number.
 use Rattle.std.proofs.Common.{◌≡◌, ℕ, Bool, true, false, List, [], ◌∷◌, map, refl, ap, ◌∙◌, Option, None}
 use Rattle.std.specs.Prelude.{◌==◌, if◌then◌else◌, ◌||◌}
 use Rattle.std.specs.List.{list_any, AllByRecursion as Each}
@@ -7,7 +7,7 @@ use Rattle.giop_stream.specs.Events.{Open}
 use Rattle.giop_stream.specs.OpenSlots.{OctetsByNumber, is_open, slots_of, kept}
 use Rattle.giop_stream.proofs.Lists.{each_weaker, map_agree}
 
--- The slots of these open messages, by what is kept of each, and what the machine finds there.
+-- From the slots the open messages come back, and what is kept of each.
 pub opens_back : (K : OctetsByNumber) (still_open : List Open) → map (λ slot. slot.open_as) (slots_of K still_open) ≡ still_open
 unfolding slots_of
 opens_back K [] = refl
@@ -37,7 +37,7 @@ kept_missed K (o ∷ still_open) number own i h = go (o.opener.number == i) (lis
     go true c h k = absurd cc
     go false c h k = k h
 
--- the slot of an open message, and of the current one
+-- what is kept of an open message, and of the current one
 pub kept_own : (K : OctetsByNumber) (still_open : List Open) (i : ℕ) (own : Option (List ℕ)) → (is_open still_open i ≡ false → own ≡ K i) → kept (slots_of K still_open) i own i ≡ K i
 kept_own K still_open i own h = go (is_open still_open i) refl
   where

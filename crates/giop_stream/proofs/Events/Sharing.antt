@@ -1,4 +1,4 @@
--- What is joined by events is what the messages share.
+-- The joined octets of a message, taken from the events, are its shares of the messages.
 use Rattle.std.proofs.Common.{inl, inr, ◌≡◌, ℕ, ◌-◌, ◌≤◌, Bool, true, false, List, [], ◌∷◌, ◌++◌, length, get_or, take, drop, refl, sym, ap, ◌∙◌, append_assoc, Option, Some, None, arith}
 use Rattle.std.specs.Prelude.{◌==◌, if◌then◌else◌}
 use Rattle.std.proofs.lemmas.Bool.{lt-ltb, le-ltb, cases_lt, ne_eqb, eq-eqb}
@@ -12,7 +12,7 @@ use Rattle.giop_stream.proofs.Events.EventsOfOctet.{events_of_push, events_of_no
 use Rattle.giop_stream.proofs.StreamLines.LinesOfOctet.{joined_append}
 use Rattle.giop_stream.proofs.Events.EventInduction.{IsLater, IsJoined, of_header, of_later}
 
--- Events that join no octet.
+-- Events that give no octet to message i.
 IsSilent : ℕ → List Event → Type 0
 IsSilent i es = joined i es ≡ []
 
@@ -53,11 +53,11 @@ unfolding IsSilent octet
 silent_header i now =
     of_header (IsSilent i) (silent_both i) now (silent_own i now Begins refl) (λ fault. silent_own i now (Faults fault) refl)
 
--- The octets of a message, one more at a time.
-happens_is : (most : ℕ) (i : ℕ) (still_open : List Open) (m : Message) (first : List Event)
+-- One more octet of a message: what it gives to message i.
+events_of_octet_is : (most : ℕ) (i : ℕ) (still_open : List Open) (m : Message) (first : List Event)
     → (if length m.payload == 0 then events_at_header m else events_at_octet still_open m) ≡ first → joined i (events_of_octet most still_open m) ≡ joined i first
 unfolding events_of_octet IsSilent
-happens_is most i still_open m first h =
+events_of_octet_is most i still_open m first h =
     joined_append i (if length m.payload == 0 then events_at_header m else events_at_octet still_open m) _
     ∙ rw (
       h,
@@ -68,9 +68,9 @@ happens_is most i still_open m first h =
     ) (append-nil (joined i first))
 
 pub header_joined : (most : ℕ) (i : ℕ) (still_open : List Open) (m : Message) → m.payload ≡ [] → joined i (events_of_octet most still_open m) ≡ []
-header_joined most i still_open m h = happens_is most i still_open m (events_at_header m) (rw h refl) ∙ silent_header i (now_of m)
+header_joined most i still_open m h = events_of_octet_is most i still_open m (events_at_header m) (rw h refl) ∙ silent_header i (now_of m)
 
--- the share of a message with one more octet
+-- what one more octet of m adds to the share of i
 more_of : ℕ → List Open → Message → ℕ → List ℕ
 more_of i still_open m x = if goes_past m then continued i (opener_of still_open m) (x ∷ []) else (if m.number == i then x ∷ [] else [])
 
@@ -89,10 +89,10 @@ octet_joined most i still_open m xs x =
     let first : (if length m'.payload == 0 then events_at_header m' else events_at_octet still_open m') ≡ events_at_octet still_open m' =
     rw (ne_eqb (length (xs ++ x ∷ [])) 0 (λ e. omega (arith, length_push xs x))) refl in
     let same : get_or (xs ++ x ∷ []) (length (xs ++ x ∷ []) - 1) 0 ≡ x = get_or_push xs x 0 (length (xs ++ x ∷ []) - 1) (omega (arith, length_push xs x)) in
-    happens_is most i still_open m' (events_at_octet still_open m') first
+    events_of_octet_is most i still_open m' (events_at_octet still_open m') first
     ∙ (takes_if i (now_of m') (opener_of still_open m') (now_of m').octet (goes_past m') ∙ rw same refl)
 
--- an octet that is not behind a Fragment's request id
+-- an octet that does not come after a Fragment's request id
 pub own_joined : (most : ℕ) (still_open : List Open) (m : Message) (xs : List ℕ) (x : ℕ) → goes_past (with_payload m (xs ++ x ∷ [])) ≡ false
     → joined m.number (events_of_octet most still_open (with_payload m (xs ++ x ∷ []))) ≡ x ∷ []
 unfolding more_of
@@ -185,7 +185,7 @@ share_none i still_open m = none_of (is_fragment m.header)
 one_joined : (most : ℕ) (i : ℕ) (still_open : List Open) (m : Message) → joined i (events_of most still_open m) ≡ share i still_open m
 one_joined most i still_open m = by_growth (λ xs. joined i (events_of most still_open (with_payload m xs)) ≡ share i still_open (with_payload m xs))
     (rw (events_of_none most still_open m, share_none i still_open m)
-    (happens_is most i still_open (with_payload m []) (events_at_header (with_payload m [])) refl ∙ silent_header i (now_of (with_payload m []))))
+    (events_of_octet_is most i still_open (with_payload m []) (events_at_header (with_payload m [])) refl ∙ silent_header i (now_of (with_payload m []))))
     (λ xs x ih. rw (
       events_of_push most still_open m xs x,
       joined_append i (events_of most still_open (with_payload m xs))

@@ -1,4 +1,5 @@
--- What is so of every stream, and stays so with an octet of a message.
+-- The invariants of a stream, kept by each octet: where its events are, how its messages are numbered, which may be open, and
+-- what has come of the current one.
 use Rattle.std.proofs.Common.{inl, ◌≡◌, ℕ, suc, ◌+◌, ◌<◌, ◌≤◌, Bool, true, false, List, [], ◌∷◌, ◌++◌, length, refl, sym, ap, subst, ◌∙◌, append_assoc, Some, None, arith}
 use Rattle.std.specs.Prelude.{nat_lt, if◌then◌else◌, IfSome}
 use Rattle.std.specs.List.{list_any, AllByRecursion as Each}
@@ -17,13 +18,13 @@ use Rattle.giop_stream.proofs.StreamLines.EventsTogether.{sorted_lines}
 use Rattle.giop_stream.proofs.Lists.{each_append, each_weaker, all_by}
 use Rattle.giop_stream.proofs.Cuts.Cutting.{settle_stop, settled_messages}
 use Rattle.giop_stream.proofs.Cuts.CutFrom.{end_message}
-use Rattle.giop_stream.proofs.Events.EventsOfOctet.{opened_append, events_from_push, events_of_push, events_of_none, happens_same, happens_each, opened_each, quiet_one}
-use Rattle.giop_stream.proofs.Events.EventsKeep.{Below, rising_happens, IsFew, few_happens, Differ, differ_happens, AreOpeners, openers_happens}
+use Rattle.giop_stream.proofs.Events.EventsOfOctet.{opened_append, events_from_push, events_of_push, events_of_none, events_of_octet_same, events_of_octet_each, opened_each, quiet_one}
+use Rattle.giop_stream.proofs.Events.EventsKeep.{Below, rising_events, IsFew, few_events, Differ, differ_events, AreOpeners, openers_events}
 use Rattle.giop_stream.proofs.StreamLines.LinesOfOctet.{joined_append, written_each, none_last, none_joined}
 use Rattle.giop_stream.proofs.StreamLines.StartLines.{start_append}
 use Rattle.giop_stream.proofs.Events.AfterMoreEvents.{said_grows, octets_grow, open_grows, lines_free}
 
--- What is kept through a run.
+-- ---- The invariants.
 pub record CurrentFits (n : ℕ) (c : Cut) (m : Message) : Type 0 where
   pub place_is : place m ≡ n
   pub lacks : length m.payload < size m.header
@@ -36,7 +37,7 @@ pub record Fits (n : ℕ) (c : Cut) : Type 0 where
   pub held : length c.held ≤ n
   pub short : length c.held < 12
 
--- of the open messages: they are not too many, no two have one id, and each is an opener
+-- of the open messages: they are not too many, no two have the same id, and each is an opener
 pub record AreSound (most : ℕ) (still_open : List Open) : Type 0 where
   pub few : IsFew most still_open
   pub differ : Differ still_open
@@ -148,14 +149,14 @@ dealt_sound R causal p p' whole m len ec ev pl nm twelve st more low starts grow
     let all = suc (length whole) in
     let count : length (messages (cut p')) ≡ all = rw ec (settled_length whole m) in
     let here : Each (λ e. e.place ≡ suc (length p)) es =
-    happens_each R.most (λ e. e.place ≡ suc (length p)) still_open m (λ what. pl)
+    events_of_octet_each R.most (λ e. e.place ≡ suc (length p)) still_open m (λ what. pl)
     (all_by (λ (o : Open). (what : EventKind) → place m ≡ suc (length p)) (λ o what. pl) still_open) in
     let old : Each (λ o. o.opener.number ≤ all) still_open =
     each_weaker (λ o. o.opener.number ≤ length (messages (cut p))) (λ o. o.opener.number ≤ all)
     (λ o h. omega arith) still_open sound.numbers in
     let mine : m.number ≤ all = omega arith in
     let owner_of_next : Each (λ e. e.subject.number ≤ all) es =
-    happens_each R.most (λ e. e.subject.number ≤ all) still_open m (λ what. mine)
+    events_of_octet_each R.most (λ e. e.subject.number ≤ all) still_open m (λ what. mine)
     (each_weaker (λ o. o.opener.number ≤ all) _ (λ o h what. h) still_open old) in
     let sd = said_grows R causal p p' es len ev sound.places here in
     let now_free : (cut p').stop ≡ None = rw ec (settle_stop whole m) in
@@ -173,16 +174,16 @@ dealt_sound R causal p p' whole m len ec ev pl nm twelve st more low starts grow
           ∙ still_unknown K es ls i (sound.unknown i (omega arith)) (none_joined i es below) (none_last i ls (now_each R.reading (λ k. k < i) K es below));
       starts = sc ∙ (rw (sound.starts) starts ∙ sym count);
       fits = λ st. rw (ec, len) (settled_fits (suc (length p)) whole m pl nm twelve);
-      rising = rw (open_grows R.most p p' es ev) (rising_happens R.most still_open m sound.rising (λ four. low (omega arith)));
+      rising = rw (open_grows R.most p p' es ev) (rising_events R.most still_open m sound.rising (λ four. low (omega arith)));
       early = λ st.
           let grows = open_grows R.most p p' es ev in
           rw ec (settled_current whole m (λ m. length m.payload < 4 → Below m.number (opened still_open (events_of_octet R.most still_open m)))
           (λ m. length m.payload < 4 → Below m.number (open_after R.most p'))
           (λ k short. subst (Below m.number) (sym grows) (k short)) (settled_early R.most whole m still_open low));
       still_open = rw opens (record {
-        few = few_happens R.most still_open m sound.still_open.few;
-        differ = differ_happens R.most still_open m sound.still_open.differ;
-        openers = openers_happens R.most still_open m sound.still_open.openers;
+        few = few_events R.most still_open m sound.still_open.few;
+        differ = differ_events R.most still_open m sound.still_open.differ;
+        openers = openers_events R.most still_open m sound.still_open.openers;
       });
       begun = λ st. rw (ec, ev) (settled_if whole m
           (λ m. length m.payload ≤ 4 → joined m.number (events R.most p ++ es) ≡ m.payload)
@@ -193,7 +194,7 @@ dealt_sound R causal p p' whole m len ec ev pl nm twelve st more low starts grow
         → Each (λ l. P l.number) (sorted_lines R known es)
     now_each R P known es h = unfold sorted_lines in written_each R P known es h
 
--- The octets of a message, as the definitions see one more of them.
+-- The events and the open messages, where a message has one more octet.
 pub events_on : (most : ℕ) (whole : List Message) (m : Message) (x : ℕ) → length m.payload < size m.header
     → (let es = events_from most [] (whole ++ m ∷ []) in let m' = with_payload m (m.payload ++ x ∷ []) in events_from most []
     (whole ++ m' ∷ []) ≡ es ++ events_of_octet most (opened [] es) m')
@@ -203,7 +204,7 @@ events_on most whole m x h =
     let still_open = opened [] first in
     let es : events_from most [] (whole ++ m ∷ []) ≡ first ++ events_of most still_open m = events_from_push most [] whole m in
     rw (es, opened_append [] first (events_of most still_open m))
-    (events_from_push most [] whole m' ∙ (rw (events_of_push most still_open m m.payload x, happens_same most still_open m m.payload x h)
+    (events_from_push most [] whole m' ∙ (rw (events_of_push most still_open m m.payload x, events_of_octet_same most still_open m m.payload x h)
     (sym (append_assoc first (events_of most still_open m) (events_of_octet most (opened still_open (events_of most still_open m)) m')))))
 
 pub events_begin : (most : ℕ) (whole : List Message) (m : Message) → m.payload ≡ []

@@ -1,4 +1,4 @@
--- What is known of a stream in each of the cases of its next octet.
+-- What holds of a stream in each case of its next octet.
 use Rattle.std.proofs.Common.{inl, inr, ◌≡◌, ℕ, suc, ◌-◌, ◌<◌, ◌≤◌, Bool, true, false, List, [], ◌∷◌, ◌++◌, length, refl, sym, ap, ◌∙◌, Option, Some, None, arith}
 use Rattle.std.specs.Prelude.{◌==◌, if◌then◌else◌, IfSome}
 use Rattle.std.proofs.lemmas.Bool.{eq-eqb, cases_eq}
@@ -44,7 +44,7 @@ pub place_more : (m : Message) (x n : ℕ) → place m ≡ n → place (with_pay
 unfolding place
 place_more m x n h = omega (arith, length_push m.payload x)
 
--- nothing has come to a message of which nothing is known
+-- a message of which the empty list is kept has no joined octets
 pub none_known : (R : Rules) (p : List ℕ) (i : ℕ) → octets_of R p i ≡ Some [] → joined i (events R.most p) ≡ []
 unfolding octets_of
 none_known R p i h = go (is_over R p i) h

@@ -1,4 +1,4 @@
--- The heads that are not over are the open messages and the current one that are not over.
+-- The first messages (all but 1.2 Fragments) that are not over are the open ones and the current one that are not over.
 use Rattle.std.proofs.Common.{inl, inr, ◌⊎◌, ◌≡◌, ℕ, suc, ◌<◌, ◌≤◌, Bool, true, false, cond, not, List, [], ◌∷◌, ◌++◌, length, map, refl, sym, ap, subst, ◌∙◌, Option, Some, None, arith}
 use Rattle.std.specs.Prelude.{nat_lt, if◌then◌else◌, ◌||◌, IfSome}
 use Rattle.std.specs.List.{filter, list_any, AllByRecursion as Each}
@@ -19,7 +19,7 @@ use Rattle.giop_stream.proofs.StreamLines.EventsTogether.{sorted_lines}
 use Rattle.giop_stream.proofs.Lists.{by_growth, each_weaker, all_by}
 use Rattle.giop_stream.proofs.Cuts.Cutting.{stopped_at, of_parts, settled_messages}
 use Rattle.giop_stream.proofs.Cuts.CutFrom.{end_message}
-use Rattle.giop_stream.proofs.Events.EventsOfOctet.{happens_each}
+use Rattle.giop_stream.proofs.Events.EventsOfOctet.{events_of_octet_each}
 use Rattle.giop_stream.proofs.Events.EventsKeep.{Below}
 use Rattle.giop_stream.proofs.Events.AfterMoreEvents.{said_grows, said_idle, open_grows, open_idle}
 use Rattle.giop_stream.proofs.Events.Soundness.{settled_if, IsSound}
@@ -29,9 +29,9 @@ use Rattle.giop_stream.proofs.CodeSteps.OneOctet.{Then, then_is}
 use Rattle.giop_stream.proofs.CodeSteps.EngineAlive.{sound}
 use Rattle.giop_stream.proofs.StreamLines.LastLines.{is_over_grows, Dead, dead}
 use Rattle.giop_stream.proofs.StreamLines.FirstMessages.{numbers_of, tail_of, base, alive, dead_tail}
-use Rattle.giop_stream.proofs.Events.UnfinishedKept.{Stays, not_open, stays_happens, Known, opener_known, done_known}
+use Rattle.giop_stream.proofs.Events.UnfinishedKept.{Stays, not_open, stays_events, Known, opener_known, done_known}
 
--- What is left at the finish: the heads that are not over are the open messages and the current one that are not over.
+-- What is left at the finish.
 unfoldable pub tail_now : List Open → Option Message → List ℕ
 tail_now still_open None = []
 tail_now still_open (Some m) = tail_of still_open m
@@ -145,7 +145,7 @@ complete_deal R causal ending p p' whole m len ec ev old pl fits low start known
     let es = events_of_octet R.most still_open m in
     let ls = sorted_lines R.reading (octets_of R p) es in
     let here : Each (λ e. e.place ≡ suc (length p)) es =
-    happens_each R.most (λ e. e.place ≡ suc (length p)) still_open m (λ what. pl)
+    events_of_octet_each R.most (λ e. e.place ≡ suc (length p)) still_open m (λ what. pl)
     (all_by (λ (o : Open). (what : EventKind) → place m ≡ suc (length p)) (λ o what. pl) still_open) in
     let sd = said_grows R causal p p' es len ev old here in
     let over = is_over R p' in
@@ -156,7 +156,7 @@ complete_deal R causal ending p p' whole m len ec ev old pl fits low start known
     let ms : first_messages (messages (cut p')) ≡ first_messages whole ++ head_of m = rw (ec, settled_messages whole m) (heads_push whole m) in
     let one : alive over (first_messages whole ++ head_of m) ≡ alive over (base still_open m) =
     alive_same (is_over R p) over (λ i. list_any (is_last_of i) ls) (first_messages whole ++ head_of m) (base still_open m) mix start in
-    let two = stays_happens R.most over m still_open low d in
+    let two = stays_events R.most over m still_open low d in
     let three = settled_kept over whole m (opened still_open es) (λ full f. done_known R.most over m still_open f (omega arith) after d) in
     let named' : IfSome (end_message whole m).current (λ m. is_opener m.header ≡ true → 4 ≤ length m.payload → Known over (opened still_open es) m) =
     settled_if whole m (λ m. is_opener m.header ≡ true → 4 ≤ length m.payload → Known over (opened still_open es) m)
@@ -179,7 +179,7 @@ first_base over still_open hs m low h = rw (not_open still_open m.number low) (g
     go true = alive_append over hs [] ∙ rw h (sym (alive_append over (numbers_of still_open) []))
     go false = alive_append over hs (m.number ∷ []) ∙ rw h (sym (alive_append over (numbers_of still_open) (m.number ∷ [])))
 
--- what is asked of the message m, of which the octet is
+-- what is needed of the message m that the octet belongs to
 record Ready (R : Rules) (p : List ℕ) (m : Message) : Type 0 where
   start : alive (is_over R p) (first_messages (cut p).whole ++ head_of m) ≡ alive (is_over R p) (base (open_after R.most p) m)
   low : length m.payload ≡ 4 → Below m.number (open_after R.most p)

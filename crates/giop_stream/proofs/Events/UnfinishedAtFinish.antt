@@ -17,7 +17,7 @@ use Rattle.giop_stream.proofs.StreamLines.LastLines.{octets_known}
 use Rattle.giop_stream.proofs.StreamLines.FirstMessages.{numbers_of, tail_of, alive}
 use Rattle.giop_stream.proofs.Events.UnfinishedAreOpen.{tail_now, alive_append, complete}
 
--- The finish.
+-- The numbers that an engine has at the finish are those of the unfinished messages.
 one_left : (over : ℕ → Bool) (xs : OctetsByNumber) (i : ℕ) (rest : List ℕ) → ((i : ℕ) → over i ≡ true → xs i ≡ None)
     → ((i : ℕ) → over i ≡ false → (ys : List ℕ) × (xs i ≡ Some ys)) → (b : Bool) → over i ≡ b
     → left_by i (xs i) ++ rest ≡ cond (not (over i)) (i ∷ rest) rest

@@ -1,4 +1,5 @@
--- Through the events of an octet the numbers of the heads stay, but for those of messages that are over after it.
+-- Through the events of an octet the numbers of the open messages and the current one stay, but for those that are over
+-- after it.
 use Rattle.std.proofs.Common.{inl, inr, ◌⊎◌, ◌≡◌, ℕ, ◌<◌, ◌≤◌, Bool, true, false, List, [], ◌∷◌, ◌++◌, length, map, refl, ap, ◌∙◌, Option, Some, None, arith}
 use Rattle.std.specs.Prelude.{nat_lt, nat_le, ◌==◌, if◌then◌else◌, ◌||◌, ◌&&◌}
 use Rattle.std.specs.List.{AllByRecursion as Each}
@@ -11,12 +12,12 @@ use Rattle.giop_stream.specs.Framing.{Message}
 use Rattle.giop_stream.specs.Kinds.{may_be_cancelled}
 use Rattle.giop_stream.specs.Events.{EventKind, Opens, Cancelled, Faults, Closes, MessageKey, Event, Open, id, own, event_of_open, opener_of, events_at_header, events_at_octet, opens, continues, cancels, events_at_request_id, events_at_end, events_of_octet, changed, opened, now_of, request_id_events, message_end_events}
 use Rattle.giop_stream.specs.OpenSlots.{is_open}
-use Rattle.giop_stream.proofs.Events.EventsOfOctet.{opened_append, quiet_header, quiet_octet, quiet_continues, quiet_if, quiet_own, quiet_none, still_imposed}
+use Rattle.giop_stream.proofs.Events.EventsOfOctet.{opened_append, quiet_header, quiet_octet, quiet_continues, quiet_if, quiet_own, quiet_none, still_faulted}
 use Rattle.giop_stream.proofs.Events.EventsKeep.{Below}
 use Rattle.giop_stream.proofs.StreamLines.LastLines.{any_right, is_final, Dead}
 use Rattle.giop_stream.proofs.StreamLines.FirstMessages.{numbers_of, tail_of, base, alive, without, removed}
 
--- Through the events of an octet these numbers stay, but for those of messages that are over after it.
+-- The numbers that are not over stay through these events.
 unfoldable pub Stays : (ℕ → Bool) → Message → List Open → List Event → Type 0
 Stays over m still_open es = alive over (base (opened still_open es) m) ≡ alive over (base still_open m)
 
@@ -62,7 +63,7 @@ unfolding message_end_events
 stays_end over before still_open m =
     stays_if over m still_open (nat_lt (size m.header) 4 && (is_opener m.header || is_fragment m.header))
     (own (now_of m) (Faults Short)) _
-    (λ e d. stays_quiet over m still_open _ (quiet_own still_open (now_of m) (Faults Short) (still_imposed Short still_open)))
+    (λ e d. stays_quiet over m still_open _ (quiet_own still_open (now_of m) (Faults Short) (still_faulted Short still_open)))
     (λ e. stays_if over m still_open (is_opener m.header) [] _ (λ k d. stays_quiet over m still_open [] (quiet_none still_open))
     (λ k. stays_if over m still_open (is_fragment m.header) _ (own (now_of m) Closes)
     (λ j. stays_if over m still_open (has_more m.header) [] (event_of_open (now_of m) (opener_of before m) Closes)
@@ -90,11 +91,11 @@ stays_opens over m still_open f low =
 stays_opening : (most : ℕ) (over : ℕ → Bool) (m : Message) (still_open : List Open) → Below m.number still_open → is_fragment m.header ≡ false
     → (o : Option Open) → Stays over m still_open (opens most still_open (now_of m) (id m) o)
 stays_opening most over m still_open low f (Some other) =
-    stays_quiet over m still_open _ (quiet_own still_open (now_of m) (Faults IdOpen) (still_imposed IdOpen still_open))
+    stays_quiet over m still_open _ (quiet_own still_open (now_of m) (Faults IdOpen) (still_faulted IdOpen still_open))
 stays_opening most over m still_open low f None = pick (nat_le most (length still_open))
   where
     pick : (b : Bool) → Stays over m still_open (if b then own (now_of m) (Faults TooManyOpen) else own (now_of m) (Opens (id m)))
-    pick true = stays_quiet over m still_open _ (quiet_own still_open (now_of m) (Faults TooManyOpen) (still_imposed TooManyOpen still_open))
+    pick true = stays_quiet over m still_open _ (quiet_own still_open (now_of m) (Faults TooManyOpen) (still_faulted TooManyOpen still_open))
     pick false = stays_opens over m still_open f low
 
 stays_cancels : (over : ℕ → Bool) (m : Message) (still_open : List Open) (o : Option Open)
@@ -129,10 +130,10 @@ stays_both : (over : ℕ → Bool) (m : Message) (still_open : List Open) (es mo
 unfolding Stays
 stays_both over m still_open es more h k = rw (opened_append still_open es more) (k ∙ h)
 
-pub stays_happens : (most : ℕ) (over : ℕ → Bool) (m : Message) (still_open : List Open) → (length m.payload ≡ 4 → Below m.number still_open)
+pub stays_events : (most : ℕ) (over : ℕ → Bool) (m : Message) (still_open : List Open) → (length m.payload ≡ 4 → Below m.number still_open)
     → Each (Dead over) (events_of_octet most still_open m) → Stays over m still_open (events_of_octet most still_open m)
 unfolding events_of_octet
-stays_happens most over m still_open low d =
+stays_events most over m still_open low d =
     let first = if length m.payload == 0 then events_at_header m else events_at_octet still_open m in
     let second = if length m.payload == 4 then events_at_request_id most still_open m else [] in
     let third = if length m.payload == size m.header then events_at_end still_open m else [] in
@@ -151,7 +152,7 @@ stays_happens most over m still_open low d =
     (each_right (Dead over) second third rest) in
     stays_both over m still_open first (second ++ third) (stays_quiet over m still_open first still) (rw still (stays_both over m still_open second third two three))
 
--- A head whose last octet has come is open or over.
+-- A first message (no 1.2 Fragment) is open or over once it has its last octet.
 opener_kind : (h : List ℕ) → may_be_fragmented h ≡ true → (kind h == 7) ≡ false
 unfolding may_be_fragmented
 opener_kind h e = ne_eqb (kind h) 7 (λ seven. absurd (let no : may_be_fragmented h ≡ false = rw (may_be_fragmented, seven) refl in cc))
@@ -169,9 +170,9 @@ dead_own : (over : ℕ → Bool) (m : Message) (what : EventKind) → is_final w
 unfolding own Dead
 dead_own over m what f d = d.0 f
 
-final_imposed : (fault : FramingFault) → is_final (Faults fault) ≡ true
+final_faulted : (fault : FramingFault) → is_final (Faults fault) ≡ true
 unfolding is_final
-final_imposed fault = refl
+final_faulted fault = refl
 
 opens_known : (over : ℕ → Bool) (m : Message) (still_open : List Open) → Known over (opened still_open (own (now_of m) (Opens (id m)))) m
 unfolding Known opened own changed
@@ -183,12 +184,12 @@ known_opens most over m still_open = go (opener_of still_open m)
   where
     go : (o : Option Open) → Each (Dead over) (opens most still_open (now_of m) (id m) o)
         → Known over (opened still_open (opens most still_open (now_of m) (id m) o)) m
-    go (Some other) d = inr (dead_own over m (Faults IdOpen) (final_imposed IdOpen) d)
+    go (Some other) d = inr (dead_own over m (Faults IdOpen) (final_faulted IdOpen) d)
     go None d = pick (nat_le most (length still_open)) d
       where
         pick : (b : Bool) → Each (Dead over) (if b then own (now_of m) (Faults TooManyOpen) else own (now_of m) (Opens (id m)))
             → Known over (opened still_open (if b then own (now_of m) (Faults TooManyOpen) else own (now_of m) (Opens (id m)))) m
-        pick true d = inr (dead_own over m (Faults TooManyOpen) (final_imposed TooManyOpen) d)
+        pick true d = inr (dead_own over m (Faults TooManyOpen) (final_faulted TooManyOpen) d)
         pick false d = opens_known over m still_open
 
 opener_end : (still_open : List Open) (m : Message) → is_opener m.header ≡ true → 4 ≤ size m.header → events_at_end still_open m ≡ []
@@ -218,7 +219,7 @@ third_none still_open m o h = go (length m.payload == size m.header)
 first_quiet : (still_open : List Open) (m : Message) → opened still_open (if length m.payload == 0 then events_at_header m else events_at_octet still_open m) ≡ still_open
 first_quiet still_open m = quiet_if still_open (length m.payload == 0) (events_at_header m) (events_at_octet still_open m) (λ e. quiet_header still_open (now_of m)) (λ e. quiet_octet still_open (now_of m) (opener_of still_open m))
 
--- the open messages after the three parts of what an octet does
+-- the open messages after the three parts of an octet's events
 after_parts : (most : ℕ) (still_open : List Open) (m : Message) (second third : List Event)
     → (if length m.payload == 4 then events_at_request_id most still_open m else []) ≡ second
     → (if length m.payload == size m.header then events_at_end still_open m else []) ≡ third
@@ -271,6 +272,6 @@ done_known most over m still_open f full before d = go (is_opener m.header) refl
     go : (b : Bool) → is_opener m.header ≡ b → Known over (opened still_open (events_of_octet most still_open m)) m
     go false o = inr (dead_own over m Closes final_closes (last (own (now_of m) Closes) (head_end still_open m o f)))
     go true o = elim (cases_lt (size m.header) 4) [
-      | inl short ↦ inr (dead_own over m (Faults Short) (final_imposed Short) (last (own (now_of m) (Faults Short)) (short_end still_open m o short)))
+      | inl short ↦ inr (dead_own over m (Faults Short) (final_faulted Short) (last (own (now_of m) (Faults Short)) (short_end still_open m o short)))
       | inr long ↦ opener_known most over m still_open o (omega arith) (omega arith) (before o) d
     ]

@@ -1,4 +1,4 @@
--- What is remembered of a stream lies in the ranges of a checkpoint's fixed part, and is what an engine may remember.
+-- The fields of any stream's engine are in the ranges of a checkpoint's fixed part, so that a load takes them.
 use Rattle.std.proofs.Common.{◌≡◌, ℕ, ◌+◌, ◌*◌, ◌-◌, ◌^◌, ◌<◌, ◌≤◌, Bool, true, false, List, [], ◌∷◌, ◌++◌, length, refl, sym, ◌∙◌, Option, Some, None, arith}
 use Rattle.std.specs.Prelude.{nat_lt, if◌then◌else◌, IfSome}
 use Rattle.std.proofs.lemmas.Bool.{ltb-true, ltb-false}
@@ -37,7 +37,7 @@ use Rattle.giop_stream.proofs.SlotSteps.SlotLists.{slots_many, are_as_many}
 use Rattle.giop_stream.proofs.Cuts.Counts.{octets_few, octets_free, messages_few}
 use Rattle.giop_stream.proofs.Events.FaultsBound.{stop_count, one_stop, tally_faults}
 
--- ---- The place and the owner are in their ranges.
+-- ---- The ranges of the place and the owner.
 
 among : (b : Bool) (k many more : ℕ) → nat_lt k many ≡ b → IsAmong (many + more) (if b then Some k else None)
 among true k many more e = omega (arith, ltb-true k many e)
@@ -49,7 +49,7 @@ owner_among payload.Own many (Some m) = omega arith
 owner_among (payload.Open k) many own = among (nat_lt k many) k many (count_own own) refl
 owner_among payload.Nobody many own = tt
 
--- a header of 12 octets at most, whose size has 32 bits where it is whole
+-- a header has 12 octets at most, and a size of 32 bits if it is complete
 record IsHeader (header : List ℕ) : Type 0 where
   most : length header ≤ 12
   small : length header ≡ 12 → size header < 2 ^ 32
@@ -70,7 +70,7 @@ one_own : (own : Option CodeMessage) → count_own own ≤ 1
 one_own None = omega arith
 one_own (Some m) = omega arith
 
--- ---- A stream fault is at an octet of the stream.
+-- ---- A stream fault is at one of the stream's octets.
 
 abbrev Late : Option (ℕ × StreamFault) → Type 0
 Late None = Unit {0}
@@ -81,7 +81,7 @@ unfolding read_of stop_count
 read_late p None h = omega arith
 read_late p (Some found) h = omega (arith, h)
 
--- ---- The header that is held of a stream.
+-- ---- The header octets that are held of a stream.
 
 IsWithin : ℕ → List ℕ → Type 0
 IsWithin n header = IsHeader header × (length header ≤ n)
@@ -129,13 +129,13 @@ module _ (R : Rules) (causal : IsCausal R.reading) (laws : IsStreamable R.readin
   few_faults : (p : List ℕ) → (tally R p).faults ≤ 3 * (tally R p).octets
   few_faults p = omega (arith, tally_faults R causal laws p, messages_few R causal laws p, late_octets p)
 
--- ---- What a checkpoint spells.
+-- ---- The stream that a checkpoint spells.
 
 free_stop : (stop : Option (ℕ × StreamFault)) → fault_of stop ≡ None → stop ≡ None
 free_stop None e = refl
 free_stop (Some found) e = absurd cc
 
--- what a stream's engine remembers, of any stream
+-- bounds for the totals of any stream's engine
 pub record AreTotals (m : FramingView) : Type 0 where
   pub running : m.stopped ≡ None → m.totals.octets ≤ 2 ^ 48
   pub messages : m.totals.messages ≤ m.totals.octets

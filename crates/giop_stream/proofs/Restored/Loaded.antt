@@ -1,4 +1,4 @@
--- What is read of a checkpoint's records is what was written.
+-- The slots that are read from a checkpoint's records are those that were written.
 use Rattle.std.proofs.Common.{◌≡◌, ℕ, suc, ◌+◌, ◌-◌, ◌<◌, ◌≤◌, Bool, true, List, [], ◌∷◌, ◌++◌, length, flat_map, replicate, arith, Option, Some, None, inl, inr, ◌⊎◌, refl, sym, ap, ◌∙◌, subst, append_assoc, append-nil}
 use Rattle.std.specs.Prelude.{is_some, IsSomeAnd}
 use Rattle.std.specs.List.{AllByRecursion as Each}
@@ -24,7 +24,7 @@ use Rattle.giop_stream.specs.Reloading.{IsEntry, pushed, IsOpenEntry, IsCurrentE
 use Rattle.giop_stream.proofs.SlotSteps.SlotLists.{are_as_many}
 use Rattle.giop_stream.proofs.Restored.SavedSizes.{entries_range}
 
--- ---- what a record says
+-- ---- the fields of a record
 
 number_in : (first : FirstRecord) (e : Entry) → IsEntry first e → first.«record».number ≡ e.record_is.number
 number_in first e entry = ap (λ (r : Record). r.number) entry.own
@@ -61,7 +61,7 @@ current_none (Some m) id e = cc
 
 -- ---- a message
 
--- a message of this record's octets is restored, and follows what the stored one follows
+-- a message is restored from this record's octets, and follows every stream that the stored one follows
 abbrev pub Restores : Table → ℕ → FirstRecord → Option Message → Type 0
 Restores C octets first found =
     (m : Message) (l : RequestTable) (n : ℕ) (h xs : List ℕ) → IsReady C (octets + 1) (Some m) →
@@ -70,7 +70,7 @@ Restores C octets first found =
     IsSomeAnd found (λ e. Follows C l n h e xs)
 
 module _ (C : Table) (l : RequestTable) (first : FirstRecord) where
-  -- what is known of the entry of an open message, and of the octets that have come of that
+  -- the record is this entry of an open message, which represents these octets
   record IsOf (e : Entry) (w : MessageKey) (message : Option Message) (payload_count : Option (List ℕ)) (id : ℕ) : Type 0 where
     entry : IsEntry first e
     record_kind : first.«record».record_kind ≡ standing_of message id
@@ -79,7 +79,7 @@ module _ (C : Table) (l : RequestTable) (first : FirstRecord) where
     number : w.number ≡ first.«record».number
     header : w.header ≡ first.«record».header
 
-  -- and of such a message, restored
+  -- such a message is restored
   abbrev IsAgain : MessageKey → Option Message → Option (List ℕ) → Type 0
   IsAgain w found payload_count = (is_some found ≡ true) × RepresentsMessage C l found w payload_count
 
@@ -88,7 +88,7 @@ module _ (C : Table) (l : RequestTable) (first : FirstRecord) where
   is_again w xs None h = absurd h
   is_again w xs (Some m) h = (refl, h)
 
-  -- nothing is stored of a message that is over
+  -- a message that is over: no frames, and zeros for its octets
   abbrev IsNothing : MessageKey → Option (List ℕ) → Type 0
   IsNothing w payload_count = (first.frames.now ≡ []) × (first.message ≡ replicate 224 0) × RepresentsMessage C l None w payload_count
 
@@ -137,7 +137,7 @@ module _ (C : Table) (l : RequestTable) (at : ℕ) (first : FirstRecord) (held :
     header = sym is.slot_is.header ∙ sym is.entry_is.header ∙ sym (header_in first is.entry is.read);
   }
 
-  -- the slot of a record, where its message is right
+  -- the slot made from a record, where its message represents the same octets
   slot_again : (id : ℕ) (found : Option Message) (is : IsOpenEntry C l at first held) → is.kept.key ≡ id →
       RepresentsMessage C l found held.open_as.opener held.octets → IsSlot C l (pushed first id found) held
   slot_again id found is same kept = record {
@@ -153,7 +153,7 @@ module _ (C : Table) (l : RequestTable) (at : ℕ) (first : FirstRecord) (held :
       let made = over_by C l first is.entry held.open_as.opener is.kept.value.message held.octets is.kept.key id (of_slot is) over in
       (made.1.0, made.1.1, slot_again id None is made.0 made.1.2)
 
-  -- ---- which of them a record is of
+  -- ---- which message a record is of: an open one or the current one
 
   pub open_not_current : IsOpenEntry C l at first held → first.«record».record_kind ≡ standings.Current → ⊥
   open_not_current is e =
@@ -222,7 +222,7 @@ abbrev pub IsRead : FirstRecord → Entry → List ℕ → Type 0
 IsRead first e rest =
     (first.«record» ≡ e.record_is) × (first.message ≡ e.message) × (first.frames.now ≡ e.frames) × (first.rest.now ≡ rest)
 
--- an open message's
+-- it is the entry of an open message
 pub record FrontOpen (C : Table) (l : RequestTable) (at count : ℕ) (first : FirstRecord) (held : List Held) (own : Option Own)
     : Type 0 where
   pub here : Held
@@ -231,7 +231,7 @@ pub record FrontOpen (C : Table) (l : RequestTable) (at count : ℕ) (first : Fi
   pub is : IsOpenEntry C l at first here
   pub left : AreLeft C l at (count - 1) first.rest.now others own
 
--- or the current one's
+-- or of the current one
 pub record FrontOwn (C : Table) (l : RequestTable) (at count : ℕ) (first : FirstRecord) (held : List Held) (own : Option Own)
     : Type 0 where
   pub here : Own

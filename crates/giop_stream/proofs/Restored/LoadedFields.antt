@@ -1,4 +1,4 @@
--- An engine's fields, read of a checkpoint's fixed part, show what those show that were written.
+-- The fields of an engine that are read from a checkpoint's fixed part show the same state as those that were written.
 use Rattle.std.proofs.Common.{◌≡◌, ℕ, ◌+◌, ◌-◌, ◌*◌, ◌^◌, ◌<◌, ◌≤◌, Bool, true, false, not, List, [], ◌++◌, length, flat_map, arith, Option, Some, None, refl, sym, ap, ◌∙◌, subst}
 use Rattle.std.specs.Prelude.{◌&&◌, nat_lt, nat_le, option_map, if◌then◌else◌}
 use Rattle.std.proofs.lemmas.Bool.{lt-ltb, le-ltb, lt-leb, le-leb, ltb-true, ltb-false}
@@ -32,7 +32,7 @@ use Rattle.giop_stream.proofs.SlotSteps.SlotLists.{slots_many, are_as_many}
 use Rattle.giop_stream.proofs.Restored.LoadRanges.{AreTotals, may_be_again}
 use Rattle.giop_stream.proofs.Restored.SavedSizes.{entries_count}
 
--- ---- the records of a checkpoint are left, and there is room for them
+-- ---- after the fixed part the records are left to read, and there is room for them
 
 pub spells_left : (octets p : List ℕ) (C : Table) (l : RequestTable) (most : ℕ) (s : Spells octets C l most p) (fixed : Fixed) (records : List ℕ) →
     fixed ≡ fixed_of C l s.memory → records ≡ flat_map entry_octets s.entries →
@@ -63,13 +63,13 @@ pub room_for : (R : Rules) (p : List ℕ) (bare : Slots) → bare.slots.entries 
 unfolding state_of
 room_for R p bare none = omega (arith, ap length none, slots_many (octets_of R p) (open_after R.most p), few_open R.most p)
 
--- it allows as many open messages as its stream is read with
+-- the fixed part has the limit of open messages that the stream was read with
 pub limit_is : (octets p : List ℕ) (C : Table) (l : RequestTable) (most : ℕ) (s : Spells octets C l most p) (fixed : Fixed) →
     fixed ≡ fixed_of C l s.memory → fixed.most_open ≡ most
 unfolding fixed_of
 limit_is octets p C l most s fixed is = ap (λ (f : Fixed). f.most_open) is ∙ s.limit
 
--- ---- the place
+-- ---- where the stream stands: in a header, in a payload or stopped
 
 behind_none : (found : Option (ℕ × StreamFault)) (held : List ℕ) (fault : StreamFault) → fault_of found ≡ Some fault →
     unless found [] held ≡ []
@@ -80,7 +80,7 @@ held_behind : (R : Rules) (p : List ℕ) (fault : StreamFault) → (state_of R p
 unfolding state_of
 held_behind R p fault e = behind_none (cut p).stop _ fault e
 
--- the place of a header that isn't whole, or of a payload
+-- in a header that is incomplete, or in a payload
 abbrev running_place : Bool → List ℕ → ℕ → Place
 running_place b header payload_count = if b then Header (record { items = header }) else Payload header (size header - payload_count)
 
@@ -97,7 +97,7 @@ header_by : (b : Bool) (header : List ℕ) (payload_count : ℕ) → fields.head
 header_by true header payload_count = refl
 header_by false header payload_count = refl
 
--- behind a stream fault no header is held
+-- after a stream fault no header is held
 abbrev IsBehind : Option StreamFault → List ℕ → Type 0
 IsBehind stopped header = (fault : StreamFault) → stopped ≡ Some fault → header ≡ []
 
@@ -106,7 +106,7 @@ header_again : (stopped : Option StreamFault) (header : List ℕ) (payload_count
 header_again (Some fault) header payload_count behind = sym (behind fault refl)
 header_again None header payload_count behind = header_by (nat_lt (length header) 12) header payload_count
 
--- how many payload octets have come, where so many are still to come
+-- how many payload octets have come, from how many are still to come
 abbrev come_of : Bool → List ℕ → ℕ → ℕ
 come_of b header left = if b then 0 else size header - left
 
@@ -124,7 +124,7 @@ come_again (Some fault) header left payload_count behind e =
     sym (e ∙ ap (λ (xs : List ℕ). come_of (nat_lt (length xs) 12) xs left) (behind fault refl))
 come_again None header left payload_count behind e = come_by (nat_lt (length header) 12) header left payload_count e
 
--- whether the next octets are the current message's own
+-- whether the next octets belong to the current message itself
 abbrev own_comes : List ℕ → ℕ → Bool
 own_comes header payload_count = nat_le 12 (length header) && not (is_fragment header && nat_le 4 payload_count)
 
@@ -138,9 +138,9 @@ itself_again : (header : List ℕ) (left payload_count : ℕ) → payload_count 
     fields.comes_in (place_of None header payload_count) ≡ own_comes header payload_count
 itself_again header left payload_count e = itself_by (nat_lt (length header) 12) header left payload_count refl e
 
--- ---- whose the payload is
+-- ---- the owner of the payload
 
--- whether the next octets are the current message's own, by a place and by the state
+-- `itself` is whether the next octets belong to the current message itself, by the state
 pub record IsItself (itself : Bool) (s : State) : Type 0 where
   pub running : s.stop ≡ None → itself ≡ comes_itself s
   pub behind : (fault : StreamFault) → s.stop ≡ Some fault → itself ≡ false
@@ -153,7 +153,7 @@ no_own : (C : Table) (l : RequestTable) (s : State) (own : Option Own) → s.own
 no_own C l s None none is owner = owner ∙ ap (λ (o : Option Own). option_map (λ o. o.message_key.number) o) none
 no_own C l s (Some o) none is owner = absurd is
 
--- nobody's, or those of a current message that is over
+-- the payload belongs to nobody, or to a current message that is over
 own_turn : (itself : Bool) (s : State) → IsItself itself s → s.owner ≡ option_map (λ o. o.message_key.number) s.own →
     s.owner ≡ None → IsPayload (fields.by_turn itself) s
 own_turn true s is owner none = (owner, λ running. sym (is.running running))
@@ -178,7 +178,7 @@ payload_again C l payload.Nobody own many s itself long owner_of_next of is =
 
 -- ---- the fields
 
--- what the fields are read as
+-- the fields as they are read from the fixed part
 pub record IsReadAs (m : FramingView) (fixed : Fixed) (made : Slots) : Type 0 where
   pub totals : m.totals ≡ record { messages = fixed.messages; faults = fixed.faults; octets = fixed.octets }
   pub stopped : m.stopped ≡ fields.stop_in fixed.place
@@ -188,7 +188,7 @@ pub record IsReadAs (m : FramingView) (fixed : Fixed) (made : Slots) : Type 0 wh
   pub slots : m.slots.slots ≡ made.slots
   pub own : m.slots.own ≡ made.own
 
--- what is asked of the totals, of a stream that stopped so and holds so much of a header
+-- bounds for the totals of a stream that stopped so and holds so many header octets
 pub record MayBe (fixed : Fixed) (stop : Option StreamFault) (long : ℕ) : Type 0 where
   pub running : stop ≡ None → fixed.octets ≤ 2 ^ 48
   pub messages : fixed.messages ≤ fixed.octets
@@ -215,7 +215,7 @@ module _ (octets p : List ℕ) (C : Table) (l : RequestTable) (most : ℕ) (s : 
       s.shows.payload_count
       ∙ ap (λ (xs : List ℕ). come_of (nat_lt (length xs) 12) xs (state_of (rules C l most) p).left) (sym s.shows.header)
 
-  -- whether the next octets are the current message's own, by the place that was written
+  -- whether the next octets belong to the current message itself, by the place that was written
   itself_now : Option StreamFault → Bool
   itself_now stopped = fields.comes_in (place_of stopped s.memory.header s.memory.payload_count)
 

@@ -1,4 +1,4 @@
--- What is written of the messages is their entries.
+-- What `save` writes: the fixed part, then an entry for each open message and the current one.
 use Rattle.std.proofs.Common.{◌≡◌, ℕ, zero, suc, ◌+◌, ◌<◌, ◌≤◌, get_or, List, [], ◌∷◌, ◌++◌, length, take, flat_map, replicate, Option, Some, None, Result, Ok, Err, IsErr, refl, sym, ap, subst, ◌∙◌, append_assoc, append-nil, arith}
 use Rattle.std.specs.List.{AllByRecursion as Each}
 use Rattle.std.proofs.lemmas.List.{take_all}
@@ -35,7 +35,7 @@ flat_append (x ∷ xs) ys =
 pub flat_one : (e : Entry) → flat_map entry_octets (e ∷ []) ≡ entry_octets e
 flat_one e = append-nil (entry_octets e)
 
--- an open message more
+-- the entries with one open message more
 pub entries_push : (slots : List OpenEntry) (slot : OpenEntry) (es : List Entry) (e : Entry) → AreOpen slots es → IsOpen slot e
     → AreOpen (slots ++ slot ∷ []) (es ++ e ∷ [])
 entries_push [] slot [] e are is = (is, tt)
@@ -43,7 +43,7 @@ entries_push [] slot (f ∷ es) e are is = absurd are
 entries_push (s ∷ slots) slot [] e are is = absurd are
 entries_push (s ∷ slots) slot (f ∷ es) e are is = (are.0, entries_push slots slot es e are.1 is)
 
--- and then the current one
+-- and with the current one at the end
 pub entries_own : (slots : List OpenEntry) (m : Message) (es : List Entry) (e : Entry) → AreOpen slots es → IsCurrent m e → AreEntries slots (Some m) (es ++ e ∷ [])
 entries_own [] m [] e are is = (is, refl)
 entries_own [] m (f ∷ es) e are is = absurd are
@@ -64,7 +64,7 @@ put_more slots slot before between after some one = record {
       ∙ ap (λ (xs : List ℕ). flat_map entry_octets some.entries ++ xs) (flat_one one.entry)));
 }
 
--- over is written as zeros, behind its own octets
+-- a message that is over is written as zeros, after the record's own octets
 pub over_is : (slot : OpenEntry) (r : Record) (before between after : List ℕ) → slot.value.message ≡ None → RecordHasRange r
     → r.frames ≡ 0 → r.record_kind ≡ standings.Over slot.key → r.number ≡ slot.value.number → r.header ≡ slot.value.header
     → between ≡ before ++ own_octets r → after ≡ between ++ replicate 224 0 → IsPutOne before after (IsOpen slot)
@@ -85,7 +85,7 @@ over_is slot r before between after none range few record_kind number header put
     stored_over None e = (refl, refl)
     stored_over (Some m) e = absurd (let no : Some m ≡ None = e in cc)
 
--- one that is kept
+-- a message that isn't over
 pub open_is : (slot : OpenEntry) (m : Message) (before after : List ℕ) → slot.value.message ≡ Some m
     → IsPutOne before after (IsMessageRecord (standings.Open slot.key) slot.value.number slot.value.header m)
     → IsPutOne before after (IsOpen slot)
@@ -108,7 +108,7 @@ open_is slot m before after some put = record {
     stored_kept None e = absurd (let no : None ≡ Some m = e in cc)
     stored_kept (Some n) e = subst (λ x. IsHeld x put.entry) (sym (some_is n m e)) put.is.message
 
--- three parts, written in turn
+-- an entry's three parts, written one after the other
 pub kept_put : (before a b after : List ℕ) (e : Entry) → a ≡ before ++ own_octets e.record_is → b ≡ a ++ e.message
     → after ≡ b ++ e.frames → after ≡ before ++ entry_octets e
 kept_put before a b after e first second third =
@@ -121,7 +121,7 @@ ready_fits C at (Some n) m e ready = let P : Message → Type 0 = λ x. Fits C x
     same : (x y : Message) → Some x ≡ Some y → x ≡ y
     same x y e = cc
 
--- ---- the whole
+-- ---- the whole checkpoint
 
 pub whole_is : (C : Table) (l : RequestTable) (m : FramingView) (fixed after : List ℕ) → m.slots.own ≡ None → fixed ≡ fixed_octets Third (fixed_of C l m)
     → IsPut fixed after (AreOpen m.slots.slots.entries) → IsPutWhole Third C l m after
@@ -193,12 +193,12 @@ current_is m number header before after n h put = record {
   put = put.put;
 }
 
--- ---- what is put
+-- ---- what calls put
 
 pub put_none_yet : (a : OutLog) → Puts (Ok 0) a a []
 put_none_yet a = record { written = wrote-nil a; count = refl }
 
--- a record that was composed by itself, behind others
+-- a record that was composed by itself, after others
 pub put_behind : (none front octets items : List ℕ) (Is : Entry → Type 0) → none ≡ [] → octets ≡ items → IsPutOne none items Is
     → IsPutOne front (front ++ octets) Is
 put_behind none front octets items Is e value one = record {
@@ -233,7 +233,7 @@ puts_failed (Ok n) r before after front octets f e is puts = absurd (let no : Ok
 puts_failed (Err h) (Ok n) before after front octets f e is puts = absurd (false≢true is)
 puts_failed (Err h) (Err i) before after front octets f e is puts = record { written = front-append before after front octets puts.written; count = tt }
 
--- and one fails in it
+-- a put fails in the call
 pub puts_stopped : (w r : Result ℕ OutFault) (before between after : OutLog) (front octets : List ℕ) (n : ℕ) → w ≡ Ok n
     → IsErr r → Puts w before between front → WroteFront between after octets → Puts r before after (front ++ octets)
 puts_stopped (Err h) r before between after front octets n e is puts front_is = absurd (let no : Err h ≡ Ok n = e in cc)

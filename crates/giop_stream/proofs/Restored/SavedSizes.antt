@@ -46,7 +46,7 @@ entries_within d [] h = omega arith
 entries_within d (e ∷ es) h =
     more_within (256 + FRAME_SIZE * d) (length es) (256 + FRAME_SIZE * e.record_is.frames) (entries_size es) (omega (arith, h.0)) (entries_within d es h.1)
 
--- ---- those of the messages
+-- ---- the records of the messages
 
 pub entries_count : (slots : List OpenEntry) (own : Option Message) (es : List Entry) → AreEntries slots own es → length es ≡ length slots + count_own own
 entries_count [] None [] are = refl
@@ -88,7 +88,7 @@ one_own (Some m) = omega arith
 
 -- ---- a checkpoint
 
--- what the code has of its fields: so long a fixed part, a limit that the layout can say, and messages that fit the table
+-- the code's fields have a fixed part of 96 octets, a limit that the layout can hold, and messages that fit the table
 pub record HasRoom (layout : Layout) (C : Table) (l : RequestTable) (m : FramingView) : Type 0 where
   pub fixed : length (fixed_octets layout (fixed_of C l m)) ≡ 96
   pub allows : OpenHasRange layout m.slots.slots.most

@@ -1,4 +1,4 @@
--- The octets of a checkpoint are whole records behind a fixed part, and what refuses them.
+-- A checkpoint is a fixed part and whole records after it; and why other octets are refused.
 use Rattle.std.proofs.Common.{◌≤◌, ◌≡◌, ℕ, ◌+◌, ◌*◌, get_or, List, [], ◌∷◌, ◌++◌, length, flat_map, arith, inl, inr, refl, sym, ap, ◌∙◌, subst}
 use Rattle.std.specs.List.{AllByRecursion as Each}
 use Rattle.std.proofs.lemmas.List.{drop_at, length-append}
@@ -59,7 +59,7 @@ module _ (octets p : List ℕ) (C : Table) (l : RequestTable) (most : ℕ) (s : 
   unfolding checkpoint_octets
   fixed_front = s.octets_are
 
-  -- what is said of any fixed part and records that were written is so of these
+  -- what holds of every fixed part and records in their ranges holds of these
   pub parts_read : (P : Fixed → List ℕ → Type 0) (counts : Counts) → counts ≡ counts_of C l →
       ((layout : Layout) (f : Fixed) (records : List ℕ) → f.counts ≡ counts → HasRange layout f → AreRecords f.records records →
       octets ≡ fixed_octets layout f ++ records → P f records) →
@@ -68,7 +68,7 @@ module _ (octets p : List ℕ) (C : Table) (l : RequestTable) (most : ℕ) (s : 
       again s.layout (fixed_of C l s.memory) (flat_map entry_octets s.entries) (fixed_counts C l s.memory ∙ sym same)
       (fixed_range octets p C l most s) fixed_records fixed_front
 
--- ---- what is no checkpoint
+-- ---- octets that are no checkpoint
 
 pub refused_is : (c : Counts) (s : List ℕ) (why : LoadFault) → Refused c s why → IsRefused c s why
 refused_is c s refusals.Magic (inl never) = never

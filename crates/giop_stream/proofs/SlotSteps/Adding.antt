@@ -1,4 +1,4 @@
--- What octets add to the text of a stream.
+-- The text that octets add to that of a stream.
 use Rattle.std.proofs.Common.{◌≡◌, ℕ, List, [], ◌++◌, length, drop, refl, ap, ◌∙◌, append-nil}
 use Rattle.std.proofs.Math.Seq.{drop-append_seam}
 use Rattle.giop_message.specs.MessageReader.{IsCausal, IsStreamable}
@@ -12,7 +12,7 @@ use Rattle.giop_stream.specs.EngineHolds.{added}
 use Rattle.giop_stream.proofs.CodeSteps.EngineLaws.{run_lines}
 use Rattle.giop_stream.proofs.SlotSteps.Performing.{text_append}
 
--- the text of the lines by which the stream's grow
+-- the text of the lines that are added
 added_by : (R : Rules) (p q : List ℕ) (ls : List Line) → lines R (p ++ q) ≡ lines R p ++ ls → added R p q ≡ lines_text ls
 unfolding added text
 added_by R p q ls e =
@@ -20,7 +20,7 @@ added_by R p q ls e =
     ∙ (ap (drop (length (lines_text (lines R p)))) (text_append (lines R p) ls)
     ∙ drop-append_seam (lines_text (lines R p)) (lines_text ls))
 
--- those of a run
+-- and those are the lines of a run
 pub added_run : (R : Rules) → IsCausal R.reading → IsStreamable R.reading → (p q : List ℕ) → added R p q ≡ lines_text (run R (state_of R p) q)
 added_run R causal laws p q = added_by R p q (run R (state_of R p) q) (run_lines R causal laws p q)
 

@@ -1,4 +1,4 @@
--- What the code does at an octet once the message whose it is has it: at the request id, and at the end.
+-- A payload octet, as the code does it after the octet's owner has taken it: at the request id, and at the end.
 use Rattle.std.proofs.Common.{inl, inr, ◌≡◌, ℕ, ◌<◌, ◌≤◌, Bool, true, false, List, length, refl, sym, ap, subst, ◌∙◌, Option, Some, None, arith}
 use Rattle.std.specs.Prelude.{◌==◌, ◌&&◌, nat_lt, nat_le, if◌then◌else◌}
 use Rattle.std.proofs.lemmas.Bool.{eq-eqb, eqb-true, lt-leb, le-leb, lt-ltb, le-ltb, cases_lt, false≢true}
@@ -22,14 +22,14 @@ use Rattle.giop_stream.proofs.SlotSteps.OneSlotChanges.{at_index}
 use Rattle.giop_stream.proofs.StreamLines.LineOrder.{not_past}
 use Rattle.giop_stream.proofs.SlotSteps.Cases.{effects_none}
 
--- ---- Whose the octets are, where the request id isn't complete at this one.
+-- ---- The owner of the octets, where the request id isn't complete at this one.
 
 both_by : (f a b : Bool) (x y : Option MessageKey) → a ≡ b → (if f && a then x else y) ≡ (if f && b then x else y)
 both_by f a b x y e = rw e refl
 
-pub whose_elsewhere : (still_open : List Open) (m : Message) → (length m.payload == 4) ≡ false → owner_of_next still_open m ≡ owner_of_octet still_open m
+pub owner_elsewhere : (still_open : List Open) (m : Message) → (length m.payload == 4) ≡ false → owner_of_next still_open m ≡ owner_of_octet still_open m
 unfolding owner_of_next owner_of_octet has_named goes_past
-whose_elsewhere still_open m other =
+owner_elsewhere still_open m other =
     both_by (is_fragment m.header) (nat_le 4 (length m.payload)) (nat_lt 4 (length m.payload))
     (opener_key (opener_of still_open m)) (Some (message_key m)) (same (length m.payload) other)
   where
@@ -44,19 +44,19 @@ whose_elsewhere still_open m other =
         below : (n : ℕ) → n ≤ 4 → (n == 4) ≡ false → n < 4
         below n few other = elim (cases_lt n 4) [ inl less ↦ less | inr more ↦ absurd (false≢true (sym other ∙ eq-eqb n 4 (omega arith))) ]
 
-pub whose_at_id : (still_open : List Open) (m : Message) → length m.payload ≡ 4 → owner_of_next still_open m ≡ owner_after_id still_open m
+pub owner_at_id : (still_open : List Open) (m : Message) → length m.payload ≡ 4 → owner_of_next still_open m ≡ owner_after_id still_open m
 unfolding owner_of_next owner_after_id has_named
-whose_at_id still_open m four = rw (le-leb 4 (length m.payload) (omega arith)) (go (is_fragment m.header))
+owner_at_id still_open m four = rw (le-leb 4 (length m.payload) (omega arith)) (go (is_fragment m.header))
   where
     go : (b : Bool) → (if b && true then opener_key (opener_of still_open m) else Some (message_key m)) ≡ (if b then opener_key (opener_of still_open m) else Some (message_key m))
     go true = refl
     go false = refl
 
-pub whose_own : (still_open : List Open) (m : Message) → length m.payload ≤ 4 → owner_of_octet still_open m ≡ Some (message_key m)
+pub owner_own : (still_open : List Open) (m : Message) → length m.payload ≤ 4 → owner_of_octet still_open m ≡ Some (message_key m)
 unfolding owner_of_octet
-whose_own still_open m few = rw (not_past m few) refl
+owner_own still_open m few = rw (not_past m few) refl
 
--- ---- A message that is newer than the open ones has its own octets.
+-- ---- A message that is newer than the open ones takes its octets itself.
 
 module _ (C : Table) (l : RequestTable) where
   pub own_by : (s : Slots) (c : Tracked) (w : MessageKey) → IsNewest w.number c.still_open → SlotsRepresent C l s c (Some w) → s.payload ≡ payload.Own
@@ -83,14 +83,14 @@ module _ (C : Table) (l : RequestTable) (s : Slots) (c : Tracked) (m : Message) 
   unfolding id_events
   no_id e = rw (h.payload_count, e) (effects_none (message_reader C l) c)
 
-  -- the request id that the message's own octets say
+  -- the request id that is read from the message's own octets
   pub named_here : (i : ℕ) → ((w : MessageKey) (xs : List ℕ) (j : ℕ) → RepresentsMessage C l s.own w (Some xs)
       → first_request_id (message_lines (message (signatures_of C l) w.header xs)) ≡ Some j → i ≡ j) → (now.payload_count == 4) ≡ true
       → IsAtRequestId C l s c m now i
   named_here i f e =
       let four = four_is e in
       let few : length m.payload ≤ 4 = omega (arith, four) in
-      let keeps : SlotsRepresent C l s c (Some (message_key m)) = rw (whose_own c.still_open m few) at h.keeps in
+      let keeps : SlotsRepresent C l s c (Some (message_key m)) = rw (owner_own c.still_open m few) at h.keeps in
       record {
         keeps = keeps;
         rising = h.rising;
@@ -109,11 +109,11 @@ module _ (C : Table) (l : RequestTable) (s : Slots) (c : Tracked) (m : Message) 
               → Each (λ o. o.opener.number ≡ m.number → ⊥) c.still_open × RepresentsMessage C l s.own (message_key m) (c.known m.number)
           whole keeps own = rw own at keeps.payload
 
-  pub whose_then : (now.payload_count == 4) ≡ true → owner_of_next c.still_open m ≡ owner_after_id c.still_open m
-  whose_then e = whose_at_id c.still_open m (four_is e)
+  pub owner_then : (now.payload_count == 4) ≡ true → owner_of_next c.still_open m ≡ owner_after_id c.still_open m
+  owner_then e = owner_at_id c.still_open m (four_is e)
 
-  pub whose_still : (now.payload_count == 4) ≡ false → owner_of_next c.still_open m ≡ owner_of_octet c.still_open m
-  whose_still e = whose_elsewhere c.still_open m (ap (λ (n : ℕ). n == 4) h.payload_count ∙ e)
+  pub owner_still : (now.payload_count == 4) ≡ false → owner_of_next c.still_open m ≡ owner_of_octet c.still_open m
+  owner_still e = owner_elsewhere c.still_open m (ap (λ (n : ℕ). n == 4) h.payload_count ∙ e)
 
 module _ (C : Table) (l : RequestTable) (s : Slots) (c : Tracked) (m : Message) (now : Current) (h : IsAtOctet C l s c m now) (payload_count : length m.payload ≡ now.payload_count) where
   last_is : (now.payload_count == size now.header) ≡ true → length m.payload ≡ size m.header

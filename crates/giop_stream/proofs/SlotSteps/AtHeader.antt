@@ -1,4 +1,4 @@
--- What the code does at a header's last octet: the message begins, and ends there where it has no payload.
+-- A header's last octet, as the code does it: the message begins, and ends there if it has no payload.
 use Rattle.std.proofs.Common.{◌≡◌, ℕ, ◌<◌, ◌≤◌, Bool, true, false, List, [], ◌∷◌, ◌++◌, length, refl, sym, ap, ◌∙◌, Option, Some, None, arith}
 use Rattle.std.specs.Prelude.{◌==◌, if◌then◌else◌}
 use Rattle.std.proofs.lemmas.Bool.{eq-eqb, ne_eqb}
@@ -24,10 +24,10 @@ use Rattle.giop_stream.proofs.Events.EventsOfOctet.{quiet_header}
 use Rattle.giop_stream.proofs.SlotSteps.SlotLists.{later_ready, all_later}
 use Rattle.giop_stream.proofs.SlotSteps.Cases.{effects_append, header_begins, header_refused}
 use Rattle.giop_stream.proofs.SlotSteps.Performing.{BeginsSo}
-use Rattle.giop_stream.proofs.SlotSteps.Ending.{whose_early}
-use Rattle.giop_stream.proofs.SlotSteps.Parts.{effects_live}
+use Rattle.giop_stream.proofs.SlotSteps.Ending.{owner_early}
+use Rattle.giop_stream.proofs.SlotSteps.Parts.{effects_still_open}
 
--- what is ready for an octet is ready for a later one
+-- slots that are ready for an octet are ready for a later one
 pub ready_later : (C : Table) (n n' : ℕ) (s : Slots) → n ≤ n' → AreReady C n s → AreReady C n' s
 ready_later C n n' s less h = record { own_ready = later_ready C n n' s.own less h.own_ready; each_ready = all_later C n n' s.slots.entries less h.each_ready }
 
@@ -44,8 +44,8 @@ module _ (R : Rules) (c : Tracked) (m : Message) where
   abbrev pub ended : Effect
   ended = effects R.reading begun.tracked (end_events begun.tracked.still_open m)
 
-  pub begun_live : begun.tracked.still_open ≡ c.still_open
-  begun_live = effects_live R.reading c (events_at_header m) ∙ quiet_header c.still_open (now_of m)
+  pub begun_still_open : begun.tracked.still_open ≡ c.still_open
+  begun_still_open = effects_still_open R.reading c (events_at_header m) ∙ quiet_header c.still_open (now_of m)
 
   parts : length m.payload ≡ 0 → events_of_octet R.most c.still_open m ≡ events_at_header m ++ end_events c.still_open m
   unfolding events_of_octet end_events
@@ -53,17 +53,17 @@ module _ (R : Rules) (c : Tracked) (m : Message) where
 
   pub in_two : length m.payload ≡ 0 → effects R.reading c (events_of_octet R.most c.still_open m) ≡ then_effect begun ended
   in_two none =
-      let ends : end_events c.still_open m ≡ end_events begun.tracked.still_open m = ap (λ (still_open : List Open). end_events still_open m) (sym begun_live) in
+      let ends : end_events c.still_open m ≡ end_events begun.tracked.still_open m = ap (λ (still_open : List Open). end_events still_open m) (sym begun_still_open) in
       ap (effects R.reading c) (parts none ∙ ap (λ (es : List Event). events_at_header m ++ es) ends) ∙ effects_append R.reading c (events_at_header m) (end_events begun.tracked.still_open m)
 
-  pub ended_whose : owner_after begun.tracked.still_open m ≡ owner_after ended.tracked.still_open m
+  pub ended_owner : owner_after begun.tracked.still_open m ≡ owner_after ended.tracked.still_open m
   unfolding owner_after end_events opened
-  ended_whose = go (length m.payload == size m.header) refl
+  ended_owner = go (length m.payload == size m.header) refl
     where
       go : (b : Bool) → (length m.payload == size m.header) ≡ b
           → (if b then None else owner_of_next begun.tracked.still_open m) ≡ (if b then None else owner_of_next ended.tracked.still_open m)
       go true e = refl
-      go false e = ap (λ (still_open : List Open). owner_of_next still_open m) (sym (effects_live R.reading begun.tracked (end_events begun.tracked.still_open m) ∙ rw e refl))
+      go false e = ap (λ (still_open : List Open). owner_of_next still_open m) (sym (effects_still_open R.reading begun.tracked (end_events begun.tracked.still_open m) ∙ rw e refl))
 
 module _ (C : Table) (l : RequestTable) (s : Slots) (c : Tracked) (who : Option MessageKey) (m : Message) (now : Current) (h : IsBeforeMessage C l s c who m now) where
   pub apart : IsNotOpen m.number c.still_open
@@ -93,11 +93,11 @@ module _ (C : Table) (l : RequestTable) (s : Slots) (c : Tracked) (who : Option 
   pub begun_at : (s' : Slots) → SlotsRepresent C l s' (begun (rules C l s.slots.most) c m).tracked (Some (message_key m))
       → IsAtOctet C l s' (begun (rules C l s.slots.most) c m).tracked m now
   begun_at s' k =
-      let still_open = begun_live (rules C l s.slots.most) c m in
+      let still_open = begun_still_open (rules C l s.slots.most) c m in
       let none = none_come in
       let few : length m.payload < 4 = omega (arith, none) in
       record {
-        keeps = rw (whose_early (begun (rules C l s.slots.most) c m).tracked.still_open m few) k;
+        keeps = rw (owner_early (begun (rules C l s.slots.most) c m).tracked.still_open m few) k;
         rising = rw still_open h.rising;
         current = h.current;
       }

@@ -1,4 +1,4 @@
--- What the code does at a request id, by the slots that it finds.
+-- The last octet of a request id, as the code does it, by the slot that it finds.
 use Rattle.std.proofs.Common.{◌≡◌, ℕ, ◌<◌, ◌≤◌, Bool, true, false, List, [], ◌∷◌, length, refl, sym, ap, ◌∙◌, Option, Some, None, arith}
 use Rattle.std.specs.Prelude.{◌==◌, ◌||◌, slice_get, option_map, is_some}
 use Rattle.std.specs.List.{find, position_from}
@@ -29,13 +29,13 @@ use Rattle.giop_stream.proofs.SlotSteps.SlotLists.{are_as_many, entry_there, slo
 use Rattle.giop_stream.proofs.SlotSteps.FindingOpen.{none_open, one_open}
 use Rattle.giop_stream.proofs.SlotSteps.Cases.{opener_twice, opener_no_room, opener_opens, fragment_unknown, fragment_in_order, fragment_out_of_order, cancel_misses, cancel_spares, cancel_closes, other_id}
 
--- the open message that is found, and where
+-- the open message with this request id, and its index
 pub record IsFound (c : Tracked) (m : Message) (k : ℕ) : Type 0 where
   pub o : Open
   pub here : slice_get c.still_open k ≡ Some o
   pub is : opener_of c.still_open m ≡ Some o
 
--- ---- What a header says by its kind.
+-- ---- The kinds of headers.
 
 pub fragment_named : (header : List ℕ) → is_fragment header ≡ true → has_name header ≡ true
 fragment_named header f = rw f (go (is_opener header) (is_cancel header))
@@ -55,7 +55,7 @@ cancel_named header f = rw f (go (is_opener header) (is_fragment header))
     go false true = refl
     go false false = refl
 
--- ---- A message that becomes open says nothing.
+-- ---- A message that becomes open has no line.
 
 module _ (C : Table) (l : RequestTable) where
   pub opens_lines : (c : Tracked) (m : Message) (at i : ℕ) → (one_effect (message_reader C l) c at (message_key m) (Opens i)).lines ≡ []
@@ -70,15 +70,15 @@ pub goes_faults : (m : Message) (o : Open) (ls : List Line) → fault_count (goe
 unfolding fault_count
 goes_faults m o ls = refl
 
--- ---- Whose the octets are then.
+-- ---- The owner of the octets after the request id.
 
-pub whose_fragment : (still_open : List Open) (m : Message) → is_fragment m.header ≡ true → owner_after_id still_open m ≡ opener_key (opener_of still_open m)
+pub owner_fragment : (still_open : List Open) (m : Message) → is_fragment m.header ≡ true → owner_after_id still_open m ≡ opener_key (opener_of still_open m)
 unfolding owner_after_id
-whose_fragment still_open m f = rw f refl
+owner_fragment still_open m f = rw f refl
 
-pub whose_other : (still_open : List Open) (m : Message) → is_fragment m.header ≡ false → owner_after_id still_open m ≡ Some (message_key m)
+pub owner_other : (still_open : List Open) (m : Message) → is_fragment m.header ≡ false → owner_after_id still_open m ≡ Some (message_key m)
 unfolding owner_after_id
-whose_other still_open m f = rw f refl
+owner_other still_open m f = rw f refl
 
 module _ (C : Table) (l : RequestTable) (s : Slots) (c : Tracked) (m : Message) (now : Current) (i : ℕ) (h : IsAtRequestId C l s c m now i) where
   -- ---- The search.
@@ -149,7 +149,7 @@ module _ (C : Table) (l : RequestTable) (s : Slots) (c : Tracked) (m : Message) 
   pub goes_text : (o : Open) (number : ℕ) → o.opener.number ≡ number → line_text (goes_on m o) ≡ continues_line now.number number
   goes_text o number e = rw (h.current.number, e) refl
 
-  -- which begins all that is written
+  -- which is the first of its lines
   pub goes_first : (o : Open) → is_fragment m.header ≡ true → opener_of c.still_open m ≡ Some o
       → BeginsSo (goes_on m o) (effects (message_reader C l) c (events_at_request_id s.slots.most c.still_open m)).lines
   goes_first o f e = go (same_order (order m.header) (order o.opener.header)) refl
@@ -178,7 +178,7 @@ module _ (C : Table) (l : RequestTable) (s : Slots) (c : Tracked) (m : Message) 
       → effects (message_reader C l) c (events_at_request_id s.slots.most c.still_open m) ≡ no_effect c
   misses_all r e n f g b = cancel_misses (rules C l s.slots.most) c c.still_open m f g b (misses (cancel_named m.header b) r e n)
 
-  -- the header of the open message that is found
+  -- whether the open message that is found may be cancelled
   pub header_may : (o : Open) (v : Contents) (k : ℕ) (r : Bool) → slice_get c.still_open k ≡ Some o
       → option_map (λ e. e.value) (slice_get s.slots.entries k) ≡ Some v → may_be_cancelled v.header ≡ r
       → may_be_cancelled o.opener.header ≡ r

@@ -1,4 +1,4 @@
--- What the octets of a message do, case by case, as code does it.
+-- The effect of an octet of a message in each case that the code distinguishes.
 use Rattle.std.proofs.Common.{◌≡◌, ℕ, ◌-◌, ◌<◌, ◌≤◌, true, false, List, [], ◌∷◌, ◌++◌, length, get_or, refl, sym, ◌∙◌, Some, None, append-nil, append_assoc}
 use Rattle.std.proofs.lemmas.Bool.{lt-leb, le-leb}
 use Rattle.giop_stream.specs.declared.fault.FramingFault.{FramingFault}

@@ -1,4 +1,4 @@
--- What the code does at a message's last octet.
+-- A message's last octet, as the code does it.
 use Rattle.std.proofs.Common.{◌≡◌, ℕ, ◌<◌, ◌≤◌, Bool, true, false, List, [], length, refl, sym, ap, ◌∙◌, Option, Some, None, arith}
 use Rattle.std.specs.Prelude.{◌&&◌, ◌||◌, nat_lt, if◌then◌else◌}
 use Rattle.std.proofs.lemmas.Bool.{and_parts, ltb-true, ltb-false, lt-leb, le-leb}
@@ -17,25 +17,25 @@ use Rattle.giop_stream.specs.SlotsRepresent.{effect_to}
 use Rattle.giop_stream.specs.PayloadOwner.{IsAtOctet, opener_key, owner_of_next}
 use Rattle.giop_stream.proofs.SlotSteps.Cases.{effects_none, effects_own, effects_about, effects_nobody}
 
--- ---- Whose the octets are.
+-- ---- The owner of the octets.
 
-pub whose_early : (still_open : List Open) (m : Message) → length m.payload < 4 → owner_of_next still_open m ≡ Some (message_key m)
+pub owner_early : (still_open : List Open) (m : Message) → length m.payload < 4 → owner_of_next still_open m ≡ Some (message_key m)
 unfolding owner_of_next has_named
-whose_early still_open m few = rw (lt-leb 4 (length m.payload) few) (go (is_fragment m.header))
+owner_early still_open m few = rw (lt-leb 4 (length m.payload) few) (go (is_fragment m.header))
   where
     go : (b : Bool) → (if b && false then opener_key (opener_of still_open m) else Some (message_key m)) ≡ Some (message_key m)
     go true = refl
     go false = refl
 
-pub whose_plain : (still_open : List Open) (m : Message) → is_fragment m.header ≡ false → owner_of_next still_open m ≡ Some (message_key m)
+pub owner_plain : (still_open : List Open) (m : Message) → is_fragment m.header ≡ false → owner_of_next still_open m ≡ Some (message_key m)
 unfolding owner_of_next has_named
-whose_plain still_open m f = rw f refl
+owner_plain still_open m f = rw f refl
 
-pub whose_passed : (still_open : List Open) (m : Message) → is_fragment m.header ≡ true → 4 ≤ length m.payload → owner_of_next still_open m ≡ opener_key (opener_of still_open m)
+pub owner_passed : (still_open : List Open) (m : Message) → is_fragment m.header ≡ true → 4 ≤ length m.payload → owner_of_next still_open m ≡ opener_key (opener_of still_open m)
 unfolding owner_of_next has_named
-whose_passed still_open m f many = rw (f, le-leb 4 (length m.payload) many) refl
+owner_passed still_open m f many = rw (f, le-leb 4 (length m.payload) many) refl
 
--- ---- Which of the cases of the last octet it is.
+-- ---- The cases of the last octet.
 
 followed_by : (o f more : Bool) (xs ys : List Event) → (o || (f && more)) ≡ true → (if o then [] else if f then (if more then [] else xs) else ys) ≡ []
 followed_by true f more xs ys e = refl
@@ -73,7 +73,7 @@ module _ (C : Table) (l : RequestTable) (s : Slots) (c : Tracked) (m : Message) 
       let b = and_parts _ _ (header_at is_short true e) in
       let few : size m.header < 4 = ltb-true (size m.header) 4 b.0 in
       let less : length m.payload < 4 = omega (arith, few, last) in
-      whose_early c.still_open m less
+      owner_early c.still_open m less
 
   pub ends_followed : false ≡ is_short now.header → true ≡ is_followed now.header → effects (message_reader C l) c (events_at_end c.still_open m) ≡ no_effect c
   unfolding message_end_events is_short is_followed
@@ -110,5 +110,5 @@ module _ (C : Table) (l : RequestTable) (s : Slots) (c : Tracked) (m : Message) 
   ends_closed e k last = go (is_fragment m.header) refl
     where
       go : (f : Bool) → is_fragment m.header ≡ f → effects (message_reader C l) c (events_at_end c.still_open m) ≡ effect_to C l now.place c (owner_of_next c.still_open m) Closes
-      go true f = rw (ends_last e k, whose_passed c.still_open m f (long_enough e f last), f) (about_does (opener_of c.still_open m))
-      go false f = rw (ends_last e k, whose_plain c.still_open m f, f) (effects_own (message_reader C l) c m Closes ∙ rw h.current.place refl)
+      go true f = rw (ends_last e k, owner_passed c.still_open m f (long_enough e f last), f) (about_does (opener_of c.still_open m))
+      go false f = rw (ends_last e k, owner_plain c.still_open m f, f) (effects_own (message_reader C l) c m Closes ∙ rw h.current.place refl)

@@ -1,4 +1,4 @@
--- What the code keeps of the messages, event by event.
+-- Calls of the code that do an event or a run: what the slots represent then.
 use Rattle.std.proofs.Common.{◌≡◌, ℕ, ◌<◌, true, false, not, List, [], ◌∷◌, ◌++◌, length, refl, sym, ap, subst, ◌∙◌, Option, Some, None, Result, Ok, append-nil}
 use Rattle.std.specs.Prelude.{◌==◌, slice_get, slice_set, option_map}
 use Rattle.std.specs.List.{filter, remove, AllByRecursion as Each}
@@ -35,25 +35,25 @@ pub still_takes : (x : ℕ) → IsStill (Takes x)
 unfolding changed
 still_takes x still_open subject = refl
 
-pub still_imposed : (fault : FramingFault) → IsStill (Faults fault)
+pub still_faulted : (fault : FramingFault) → IsStill (Faults fault)
 unfolding changed
-still_imposed fault still_open subject = refl
+still_faulted fault still_open subject = refl
 
--- of an open message, in its slot
+-- the message w is open, at index k of the slots
 record Place (s : Slots) (c : Tracked) (w : MessageKey) (k : ℕ) : Type 0 where
   own : s.own ≡ None
   slot : Open
   here : slice_get c.still_open k ≡ Some slot
   is : slot.opener ≡ w
 
--- An effect, from what is tracked, that does to one message what this part does, and nothing else.
+-- The effect changes one message, as this part says, and no other.
 pub record Alters (c : Tracked) (w : MessageKey) (effect : Effect) (part : Part) : Type 0 where
   pub lines : effect.lines ≡ part.lines
   pub still_open : effect.tracked.still_open ≡ c.still_open
   pub own : effect.tracked.known w.number ≡ part.octets
   pub others : (i : ℕ) → (i ≡ w.number → ⊥) → effect.tracked.known i ≡ c.known i
 
--- ---- An open message goes.
+-- ---- An open message is removed.
 
 abbrev pub IsGone : EventKind → Type 0
 IsGone what = (still_open : List Open) (subject : MessageKey) → changed still_open subject what ≡ filter (λ o. not (o.opener.number == subject.number)) still_open
@@ -72,7 +72,7 @@ none_there still_open n h =
     (each_weaker {A = Open} (λ o. o.opener.number ≡ n → ⊥) (λ o. not (o.opener.number == n) ≡ true)
     (λ o j. rw (ne_eqb o.opener.number n j) refl) still_open h)
 
--- ---- A cancel, of an open message by one whose payload comes.
+-- ---- An open message is cancelled by the current one.
 
 module _ (C : Table) (l : RequestTable) where
   pub still_alters : (at : ℕ) (c : Tracked) (w : MessageKey) (what : EventKind) → IsStill what
@@ -83,7 +83,7 @@ module _ (C : Table) (l : RequestTable) where
       let e = event at w what in
       record { lines = refl; still_open = still c.still_open w; own = own_then R c e; others = λ i h. others_then R c e i h }
 
-  -- of the message whose payload comes, which isn't open
+  -- the current message isn't open, and this is kept of it
   own_parts : (s : Slots) (c : Tracked) (w : MessageKey) → s.payload ≡ payload.Own → SlotsRepresent C l s c (Some w)
       → IsNotOpen w.number c.still_open × RepresentsMessage C l s.own w (c.known w.number)
   own_parts s c w e k = rw e at k.payload
@@ -132,9 +132,9 @@ module _ (C : Table) (l : RequestTable) where
         payload = (p.own, (p.slot, rw alters.still_open p.here, p.is));
       }
 
-  -- ---- A call that does a part of a message's, which is the one whose the octets are.
+  -- ---- A call that does a part of an effect, on the owner of the octets.
 
-  -- that message has the octets
+  -- the owner is the current message
   pub own_has : (Q : Option MessageKey → Type 0) (s : Slots) (c : Tracked) (owner_of_next : Option MessageKey) → s.payload ≡ payload.Own
       → SlotsRepresent C l s c owner_of_next → ((w : MessageKey) → SlotsRepresent C l s c (Some w) → Q (Some w)) → Q owner_of_next
   own_has Q s c None e h f = absurd (rw e at h.payload)
@@ -150,7 +150,7 @@ module _ (C : Table) (l : RequestTable) where
   nobody_has Q s c None e h f = f h
   nobody_has Q s c (Some w) e h f = absurd (rw e at h.payload)
 
-  -- what is kept in the slot of an open message
+  -- the owner is the open message of this slot
   in_slot : (s : Slots) (x : OpenEntry) (c : Tracked) (w : MessageKey) (k : ℕ) → s.payload ≡ payload.Open k
       → slice_get s.slots.entries k ≡ Some x → SlotsRepresent C l s c (Some w)
       → (w.number ≡ x.value.number) × RepresentsMessage C l x.value.message w (c.known w.number)
@@ -169,7 +169,7 @@ module _ (C : Table) (l : RequestTable) where
         let now = own_parts s c w e h in
         performs_on r a b alters.lines (λ k. rw e (own_now s own' c w effect part alters h.slots now.0 k)) (f now.1)
 
-    -- of an open message
+    -- the owner is an open message
     pub slot_effects : (s : Slots) (v : Contents) (message : Option Message) (c : Tracked) (w : MessageKey) (effect : Effect)
         (part : Part) (k : ℕ) → s.payload ≡ payload.Open k → option_map (λ e. e.value) (slice_get s.slots.entries k) ≡ Some v
         → Rising c.still_open → SlotsRepresent C l s c (Some w) → Alters c w effect part
@@ -188,7 +188,7 @@ module _ (C : Table) (l : RequestTable) where
         (slot_now s x message c w effect part k alters rising h e there.1 kept))
         (f (rw there.2 at was.0) (rw there.2 at was.1))
 
-  -- there is a slot where an open message is
+  -- an open owner has a slot
   pub no_slot_says : {A : Type 0} (s : Slots) (c : Tracked) (owner_of_next : Option MessageKey) (k : ℕ) → s.payload ≡ payload.Open k
       → (k < length s.slots.entries → ⊥) → SlotsRepresent C l s c owner_of_next → A
   no_slot_says s c None k e n h = absurd (rw e at h.payload)
@@ -206,16 +206,16 @@ module _ (C : Table) (l : RequestTable) where
       kept : RepresentsMessage C l (Some m) w (Some [])
       kept = rw (n, f) e
 
-  -- an event that says nothing and takes nothing
+  -- an event without a line and without an octet
   opens_then : (at : ℕ) (w : MessageKey) (i : ℕ) (o : Option (List ℕ)) → octets_then (message_reader C l) (event at w (Opens i)) o ≡ o
   unfolding octets_then lines_of lines_for lines_of_event up_to_last_line octet
   opens_then at w i None = refl
   opens_then at w i (Some xs) = ap Some (append-nil xs)
 
-  opened_live : (at : ℕ) (c : Tracked) (w : MessageKey) (i : ℕ)
+  opened_still_open : (at : ℕ) (c : Tracked) (w : MessageKey) (i : ℕ)
       → (tracked_at (message_reader C l) c (event at w (Opens i))).still_open ≡ c.still_open ++ record { id = i; opener = w } ∷ []
   unfolding tracked_at changed
-  opened_live at c w i = refl
+  opened_still_open at c w i = refl
 
   open_keeps : (s : Slots) (c : Tracked) (w : MessageKey) (at number : ℕ) (header : List ℕ) (i : ℕ) → s.payload ≡ payload.Own
       → SlotsRepresent C l s c (Some w) → w.number ≡ number → w.header ≡ header
@@ -240,34 +240,34 @@ module _ (C : Table) (l : RequestTable) where
       (λ a j. others_then (message_reader C l) c ev a.opener.number j) c.still_open own.0 in
       let many : length s.slots.entries ≡ length c.still_open = are_as_many C l s.slots.entries (slots_of c.known c.still_open) h.slots ∙ slots_many c.known c.still_open in
       record {
-        slots = rw (opened_live at c w i, slot_comes (tracked_at (message_reader C l) c ev).known c.known c.still_open o same, known)
+        slots = rw (opened_still_open at c w i, slot_comes (tracked_at (message_reader C l) c ev).known c.known c.still_open o same, known)
             (push_slot C l s.slots.entries (slots_of c.known c.still_open)
             (open_entry i number header s.own)
             (record { open_as = o; octets = c.known w.number }) h.slots
             (record { number = sym n; header = sym f; id = refl; message = own.1 }));
-        payload = (refl, (o, rw (opened_live at c w i, many) (get_last c.still_open o), refl));
+        payload = (refl, (o, rw (opened_still_open at c w i, many) (get_last c.still_open o), refl));
       }
 
-  gone_live : (at : ℕ) (c : Tracked) (w : MessageKey) (what : EventKind) → IsGone what
+  gone_still_open : (at : ℕ) (c : Tracked) (w : MessageKey) (what : EventKind) → IsGone what
       → (tracked_at (message_reader C l) c (event at w what)).still_open ≡ filter (λ o. not (o.opener.number == w.number)) c.still_open
   unfolding tracked_at
-  gone_live at c w what h = h c.still_open w
+  gone_still_open at c w what h = h c.still_open w
 
-  -- the slots, where a message that isn't open closes
+  -- the slots stay where a message that isn't open closes
   own_gone : (c : Tracked) (w : MessageKey) (at : ℕ) (what : EventKind) (ks : List OpenEntry) → IsGone what
       → Each (λ o. o.opener.number ≡ w.number → ⊥) c.still_open → AreSlots C l ks (slots_of c.known c.still_open)
       → AreSlots C l ks (slots_of (tracked_at (message_reader C l) c (event at w what)).known (tracked_at (message_reader C l) c (event at w what)).still_open)
   own_gone c w at what ks gone apart h =
       let e = event at w what in
       rw (
-        gone_live at c w what gone,
+        gone_still_open at c w what gone,
         none_there c.still_open w.number apart,
         no_slot
             (tracked_at (message_reader C l) c e).known c.known c.still_open w.number apart
             (λ i j. others_then (message_reader C l) c e i j),
       ) h
 
-  -- and where the one in this slot does
+  -- and lose this one where its message closes
   pub slot_goes : (c : Tracked) (k : ℕ) (o : Open) (at : ℕ) (what : EventKind) (ks : List OpenEntry) → IsGone what
       → Rising c.still_open → slice_get c.still_open k ≡ Some o → AreSlots C l ks (slots_of c.known c.still_open)
       → AreSlots C l (remove ks k) (slots_of (tracked_at (message_reader C l) c (event at o.opener what)).known
@@ -275,7 +275,7 @@ module _ (C : Table) (l : RequestTable) where
   slot_goes c k o at what ks gone rising here h =
       let e = event at o.opener what in
       rw (
-        gone_live at c o.opener what gone,
+        gone_still_open at c o.opener what gone,
         slot_gone
             (tracked_at (message_reader C l) c e).known c.known c.still_open k o rising here
             (λ i j. others_then (message_reader C l) c e i j),
@@ -311,7 +311,7 @@ module _ (C : Table) (l : RequestTable) where
   nobody_closes log at s c None e h = does_nothing false log refl (record { slots = h.slots; payload = rw e at h.payload })
   nobody_closes log at s c (Some w) e h = absurd (rw e at h.payload)
 
-  -- as the code does it
+  -- a message becomes open, as the code does it
   pub open_with : (s : Slots) (slots' : Entries Contents) (c : Tracked) (w : MessageKey) (at number : ℕ) (header : List ℕ)
       (i : ℕ) (message own' : Option Message) (k : ℕ)
       → slots'.entries ≡ s.slots.entries ++ open_entry i number header message ∷ []
@@ -345,7 +345,7 @@ module _ (C : Table) (l : RequestTable) where
       rw e (record {
         slots = rw items (slot_goes c k o at (Cancelled j) s.slots.entries (gone_cancelled j) rising here h.slots);
         payload = (
-          rw (gone_live at c o.opener (Cancelled j) (gone_cancelled j))
+          rw (gone_still_open at c o.opener (Cancelled j) (gone_cancelled j))
               (each_filter (λ a. a.opener.number ≡ w.number → ⊥) (λ a. not (a.opener.number == o.opener.number)) c.still_open p.0),
           rw
               (others_then (message_reader C l) c ev w.number (λ same. apart (sym same))) p.1,

@@ -1,4 +1,4 @@
--- What an event changes of the slots: that of its message alone, in its place.
+-- An event changes one slot at most: that of its message.
 use Rattle.std.proofs.Common.{◌≡◌, ℕ, zero, suc, ◌<◌, true, false, not, List, [], ◌∷◌, ◌++◌, refl, sym, ap, subst, ◌∙◌, Option, Some, None, arith}
 use Rattle.std.specs.Prelude.{◌==◌, option_map, slice_get, slice_set}
 use Rattle.std.specs.List.{filter, list_any, remove, AllByRecursion as Each}
@@ -10,7 +10,7 @@ use Rattle.giop_stream.specs.Lines.{Line, is_last_of, up_to_last_line}
 use Rattle.giop_stream.specs.OpenSlots.{Slot, OctetsByNumber, slots_of}
 use Rattle.giop_stream.specs.Effects.{Tracked, lines_at, tracked_at, lines_of, octets_then, lines_for, kept_with, kept_after}
 use Rattle.giop_stream.proofs.Lists.{each_weaker, filter_keeps}
-use Rattle.giop_stream.proofs.StreamLines.LinesOfOctet.{tells_number, standing_each}
+use Rattle.giop_stream.proofs.StreamLines.LinesOfOctet.{event_lines_number, standing_each}
 use Rattle.giop_stream.specs.Events.{Rising}
 use Rattle.giop_stream.proofs.Events.KeptSlots.{slots_agree}
 
@@ -42,12 +42,12 @@ unfolding tracked_at kept_after kept_with lines_at
 others_then R c e i h =
     let mine : Each (λ l. l.number ≡ e.subject.number) (up_to_last_line (λ i. false) (lines_for R e (c.known e.subject.number))) =
     standing_each (λ l. l.number ≡ e.subject.number) (λ i. false) (lines_for R e (c.known e.subject.number))
-    (tells_number R (λ n. n ≡ e.subject.number) e (c.known e.subject.number) refl) in
+    (event_lines_number R (λ n. n ≡ e.subject.number) e (c.known e.subject.number) refl) in
     rw (other_last i e.subject.number _ h mine, other_joined i e h) (same_octets (c.known i))
 
 -- ---- The slots.
 
--- what holds of each holds of the one at a place
+-- what holds of each element holds of the one at an index
 pub at_index : {A : Type 0} (P : A → Type 0) (xs : List A) (k : ℕ) (x : A) → slice_get xs k ≡ Some x → Each P xs → P x
 at_index P [] k x e h = absurd cc
 at_index {A} P (a ∷ xs) zero x e h = let same : a ≡ x = cc in subst P same h.0
@@ -56,7 +56,7 @@ at_index P (a ∷ xs) (suc k) x e h = at_index P xs k x e h.1
 apart : (o : Open) (still_open : List Open) → Each (λ a. o.opener.number < a.opener.number) still_open → Each (λ a. a.opener.number ≡ o.opener.number → ⊥) still_open
 apart o still_open h = each_weaker (λ a. o.opener.number < a.opener.number) (λ a. a.opener.number ≡ o.opener.number → ⊥) (λ a less same. omega arith) still_open h
 
--- Where what is kept changes for one open message alone, its slot alone changes.
+-- If what is kept changes for one open message alone, its slot alone changes.
 pub slot_at : (f g : OctetsByNumber) (still_open : List Open) (k : ℕ) (o : Open) → Rising still_open → slice_get still_open k ≡ Some o
     → ((i : ℕ) → (i ≡ o.opener.number → ⊥) → f i ≡ g i)
     → slots_of f still_open ≡ slice_set (slots_of g still_open) k (record { open_as = o; octets = f o.opener.number })
@@ -76,7 +76,7 @@ slot_at f g (a ∷ still_open) (suc k) o r e h =
     let first : f a.opener.number ≡ g a.opener.number = h a.opener.number (λ same. omega arith) in
     rw first (ap (λ (slots : List Slot). record { open_as = a; octets = g a.opener.number } ∷ slots) (slot_at f g still_open k o r.1 e h))
 
--- where it changes for none of them, none
+-- and none, if it changes for no open message
 pub no_slot : (f g : OctetsByNumber) (still_open : List Open) (n : ℕ) → Each (λ o. o.opener.number ≡ n → ⊥) still_open
     → ((i : ℕ) → (i ≡ n → ⊥) → f i ≡ g i) → slots_of f still_open ≡ slots_of g still_open
 no_slot f g still_open n h k =
@@ -117,12 +117,12 @@ not_removed (a ∷ still_open) (suc k) o r e =
     let less : a.opener.number < o.opener.number = at_index (λ b. a.opener.number < b.opener.number) still_open k o e r.0 in
     (λ n. omega arith, not_removed still_open k o r.1 e)
 
--- where an open message closes, its slot goes
+-- where an open message closes, its slot is removed
 pub slot_gone : (f g : OctetsByNumber) (still_open : List Open) (k : ℕ) (o : Open) → Rising still_open → slice_get still_open k ≡ Some o → ((i : ℕ) → (i ≡ o.opener.number → ⊥) → f i ≡ g i)
     → slots_of f (filter (λ a. not (a.opener.number == o.opener.number)) still_open) ≡ remove (slots_of g still_open) k
 slot_gone f g still_open k o r e h = rw (others_open still_open k o r e) (no_slot f g (remove still_open k) o.opener.number (not_removed still_open k o r e) h ∙ slots_remove g still_open k)
 
--- where one becomes open, a slot comes
+-- where one becomes open, a slot is added at the end
 pub slot_comes : (f g : OctetsByNumber) (still_open : List Open) (o : Open) → Each (λ a. f a.opener.number ≡ g a.opener.number) still_open
     → slots_of f (still_open ++ o ∷ []) ≡ slots_of g still_open ++ record { open_as = o; octets = f o.opener.number } ∷ []
 unfolding slots_of

@@ -1,4 +1,4 @@
--- An octet of a payload part by part, as the code does it: the message whose it is takes it, then the request id, then the end.
+-- A payload octet in three parts, as the code does it: its owner takes it, then the request id's events, then the end's.
 use Rattle.std.proofs.Common.{inl, inr, append-nil, suc, ◌≡◌, ℕ, ◌-◌, ◌<◌, ◌≤◌, Bool, true, false, List, [], ◌∷◌, ◌++◌, length, get_or, refl, sym, ap, ◌∙◌, Option, Some, None, arith}
 use Rattle.std.specs.Prelude.{◌==◌, if◌then◌else◌}
 use Rattle.std.proofs.lemmas.Bool.{ne_eqb, eqb-true, le-leb, lt-ltb, cases_lt}
@@ -23,15 +23,15 @@ use Rattle.giop_stream.proofs.Events.EventsKeep.{rising_push, rising_filter, ope
 use Rattle.giop_stream.proofs.SlotSteps.OneSlotChanges.{own_then}
 use Rattle.giop_stream.proofs.StreamLines.IdBeforeEnd.{named_then}
 use Rattle.giop_stream.proofs.SlotSteps.Cases.{effects_append, octet_own, octet_passed, octet_lost}
-use Rattle.giop_stream.proofs.SlotSteps.Ending.{whose_early, whose_plain}
-use Rattle.giop_stream.proofs.SlotSteps.AfterOctet.{whose_own}
+use Rattle.giop_stream.proofs.SlotSteps.Ending.{owner_early, owner_plain}
+use Rattle.giop_stream.proofs.SlotSteps.AfterOctet.{owner_own}
 
 -- ---- The open messages between the parts.
 
-pub effects_live : (R : MessageReader) (c : Tracked) (es : List Event) → (effects R c es).tracked.still_open ≡ opened c.still_open es
+pub effects_still_open : (R : MessageReader) (c : Tracked) (es : List Event) → (effects R c es).tracked.still_open ≡ opened c.still_open es
 unfolding effects opened tracked_at
-effects_live R c [] = refl
-effects_live R c (e ∷ es) = effects_live R (tracked_at R c e) es
+effects_still_open R c [] = refl
+effects_still_open R c (e ∷ es) = effects_still_open R (tracked_at R c e) es
 
 -- a Fragment's request id opens and closes nothing
 fragment_still : (most : ℕ) (still_open : List Open) (m : Message) → is_fragment m.header ≡ true → opened still_open (id_events most still_open m) ≡ still_open
@@ -42,7 +42,7 @@ fragment_still most still_open m f = go (length m.payload == 4)
     go true = rw f (quiet_continues still_open (now_of m) (opener_of still_open m))
     go false = refl
 
--- so that the end does the same after it
+-- so that the end has the same events after it
 plain_end : (still_open still_open' : List Open) (m : Message) → is_fragment m.header ≡ false → end_events still_open' m ≡ end_events still_open m
 unfolding end_events message_end_events
 plain_end still_open still_open' m f = rw f refl
@@ -54,13 +54,13 @@ end_same most still_open m = go (is_fragment m.header) refl
     go true f = ap (λ (open' : List Open). end_events open' m) (fragment_still most still_open m f)
     go false f = plain_end still_open (opened still_open (id_events most still_open m)) m f
 
--- and the octets are the same message's
-whose_same : (most : ℕ) (still_open : List Open) (m : Message) → owner_of_next (opened still_open (id_events most still_open m)) m ≡ owner_of_next still_open m
-whose_same most still_open m = go (is_fragment m.header) refl
+-- and the next octets have the same owner
+owner_same : (most : ℕ) (still_open : List Open) (m : Message) → owner_of_next (opened still_open (id_events most still_open m)) m ≡ owner_of_next still_open m
+owner_same most still_open m = go (is_fragment m.header) refl
   where
     go : (f : Bool) → is_fragment m.header ≡ f → owner_of_next (opened still_open (id_events most still_open m)) m ≡ owner_of_next still_open m
     go true f = ap (λ (open' : List Open). owner_of_next open' m) (fragment_still most still_open m f)
-    go false f = whose_plain (opened still_open (id_events most still_open m)) m f ∙ sym (whose_plain still_open m f)
+    go false f = owner_plain (opened still_open (id_events most still_open m)) m f ∙ sym (owner_plain still_open m f)
 
 rising_id : (most : ℕ) (still_open : List Open) (m : Message) → Rising still_open → (length m.payload ≡ 4 → IsNewest m.number still_open) → Rising (opened still_open (id_events most still_open m))
 unfolding id_events opened opened_by
@@ -87,11 +87,11 @@ module _ (R : Rules) (c : Tracked) (m : Message) where
   abbrev pub third : Effect
   third = effects R.reading second.tracked (end_events second.tracked.still_open m)
 
-  pub first_live : first.tracked.still_open ≡ c.still_open
-  first_live = effects_live R.reading c (events_at_octet c.still_open m) ∙ quiet_octet c.still_open (now_of m) (opener_of c.still_open m)
+  pub first_still_open : first.tracked.still_open ≡ c.still_open
+  first_still_open = effects_still_open R.reading c (events_at_octet c.still_open m) ∙ quiet_octet c.still_open (now_of m) (opener_of c.still_open m)
 
-  second_live : second.tracked.still_open ≡ opened c.still_open (id_events R.most c.still_open m)
-  second_live = effects_live R.reading first.tracked (id_events R.most first.tracked.still_open m) ∙ ap (λ (still_open : List Open). opened still_open (id_events R.most still_open m)) first_live
+  second_still_open : second.tracked.still_open ≡ opened c.still_open (id_events R.most c.still_open m)
+  second_still_open = effects_still_open R.reading first.tracked (id_events R.most first.tracked.still_open m) ∙ ap (λ (still_open : List Open). opened still_open (id_events R.most still_open m)) first_still_open
 
   parts : (length m.payload ≡ 0 → ⊥) → events_of_octet R.most c.still_open m ≡ events_at_octet c.still_open m ++ (id_events R.most c.still_open m ++ end_events c.still_open m)
   unfolding events_of_octet id_events end_events
@@ -99,39 +99,39 @@ module _ (R : Rules) (c : Tracked) (m : Message) where
 
   pub in_parts : (length m.payload ≡ 0 → ⊥) → effects R.reading c (events_of_octet R.most c.still_open m) ≡ then_effect first (then_effect second third)
   in_parts some =
-      let ids : id_events R.most c.still_open m ≡ id_events R.most first.tracked.still_open m = ap (λ (still_open : List Open). id_events R.most still_open m) (sym first_live) in
-      let ends : end_events c.still_open m ≡ end_events second.tracked.still_open m = sym (ap (λ (still_open : List Open). end_events still_open m) second_live ∙ end_same R.most c.still_open m) in
+      let ids : id_events R.most c.still_open m ≡ id_events R.most first.tracked.still_open m = ap (λ (still_open : List Open). id_events R.most still_open m) (sym first_still_open) in
+      let ends : end_events c.still_open m ≡ end_events second.tracked.still_open m = sym (ap (λ (still_open : List Open). end_events still_open m) second_still_open ∙ end_same R.most c.still_open m) in
       ap (effects R.reading c) (parts some ∙ (ap (λ (es : List Event). events_at_octet c.still_open m ++ (es ++ end_events c.still_open m)) ids
       ∙ ap (λ (es : List Event). events_at_octet c.still_open m ++ (id_events R.most first.tracked.still_open m ++ es)) ends))
       ∙ (effects_append R.reading c (events_at_octet c.still_open m) (id_events R.most first.tracked.still_open m ++ end_events second.tracked.still_open m)
       ∙ rw (effects_append R.reading first.tracked (id_events R.most first.tracked.still_open m) (end_events second.tracked.still_open m)) refl)
 
-  pub second_whose : owner_of_next first.tracked.still_open m ≡ owner_of_next second.tracked.still_open m
-  second_whose = ap (λ (still_open : List Open). owner_of_next still_open m) first_live ∙ (sym (whose_same R.most c.still_open m) ∙ ap (λ (still_open : List Open). owner_of_next still_open m) (sym second_live))
+  pub second_owner : owner_of_next first.tracked.still_open m ≡ owner_of_next second.tracked.still_open m
+  second_owner = ap (λ (still_open : List Open). owner_of_next still_open m) first_still_open ∙ (sym (owner_same R.most c.still_open m) ∙ ap (λ (still_open : List Open). owner_of_next still_open m) (sym second_still_open))
 
   pub second_rising : Rising c.still_open → (length m.payload ≡ 4 → IsNewest m.number c.still_open) → Rising second.tracked.still_open
-  second_rising r newest = rw second_live (rising_id R.most c.still_open m r newest)
+  second_rising r newest = rw second_still_open (rising_id R.most c.still_open m r newest)
 
-  -- whose the octets are after the message's last one is nobody's, whatever is open
-  pub third_whose : owner_after second.tracked.still_open m ≡ owner_after third.tracked.still_open m
+  -- the owner after the message's last octet is nobody, whatever is open
+  pub third_owner : owner_after second.tracked.still_open m ≡ owner_after third.tracked.still_open m
   unfolding owner_after end_events opened
-  third_whose = go (length m.payload == size m.header) refl
+  third_owner = go (length m.payload == size m.header) refl
     where
       go : (b : Bool) → (length m.payload == size m.header) ≡ b
           → (if b then None else owner_of_next second.tracked.still_open m) ≡ (if b then None else owner_of_next third.tracked.still_open m)
       go true e = refl
-      go false e = ap (λ (still_open : List Open). owner_of_next still_open m) (sym (effects_live R.reading second.tracked (end_events second.tracked.still_open m) ∙ rw e refl))
+      go false e = ap (λ (still_open : List Open). owner_of_next still_open m) (sym (effects_still_open R.reading second.tracked (end_events second.tracked.still_open m) ∙ rw e refl))
 
--- ---- Whose an octet is that comes.
+-- ---- The owner of the octet that comes.
 
 same_opener : (still_open : List Open) (m : Message) (x : ℕ) → 4 ≤ length m.payload → opener_of still_open (with_octet m x) ≡ opener_of still_open m
 unfolding opener_of id
 same_opener still_open m x many = rw (take-append-le 4 m.payload (x ∷ []) many) refl
 
-pub whose_next : (still_open : List Open) (m : Message) (x : ℕ) → owner_of_octet still_open (with_octet m x) ≡ owner_of_next still_open m
+pub owner_next : (still_open : List Open) (m : Message) (x : ℕ) → owner_of_octet still_open (with_octet m x) ≡ owner_of_next still_open m
 unfolding owner_of_octet owner_of_next has_named goes_past
-whose_next still_open m x = elim (cases_lt (length m.payload) 4) [
-  | inl few ↦ unfold owner_of_next owner_of_octet in whose_own still_open (with_octet m x) (omega (arith, length_push m.payload x)) ∙ sym (whose_early still_open m few)
+owner_next still_open m x = elim (cases_lt (length m.payload) 4) [
+  | inl few ↦ unfold owner_of_next owner_of_octet in owner_own still_open (with_octet m x) (omega (arith, length_push m.payload x)) ∙ sym (owner_early still_open m few)
   | inr many ↦
       let past : 4 < length (m.payload ++ x ∷ []) = omega (arith, length_push m.payload x) in
       rw (lt-ltb 4 (length (m.payload ++ x ∷ [])) past, le-leb 4 (length m.payload) (omega arith), same_opener still_open m x (omega arith)) refl
@@ -169,7 +169,7 @@ module _ (C : Table) (l : RequestTable) (s : Slots) (c : Tracked) (m : Message) 
   some_place = omega (arith, h.current.place)
 
   takes_at : first (rules C l s.slots.most) c (with_octet m x) ≡ effect_to C l now.place c (owner_of_next c.still_open m) (Takes x)
-  takes_at = rw (← whose_next c.still_open m x) (octet_does C l c (with_octet m x) x now.place last_is h.current.place)
+  takes_at = rw (← owner_next c.still_open m x) (octet_does C l c (with_octet m x) x now.place last_is h.current.place)
 
   -- which is a run of one octet
   pub takes_effect : first (rules C l s.slots.most) c (with_octet m x) ≡ run_effect C l (now.place - 1) c (owner_of_next c.still_open m) (x ∷ [])
@@ -181,7 +181,7 @@ module _ (C : Table) (l : RequestTable) (s : Slots) (c : Tracked) (m : Message) 
   known_is : length m.payload < 4 → has_name m.header ≡ true
       → (first (rules C l s.slots.most) c (with_octet m x)).tracked.known m.number ≡ Some (m.payload ++ x ∷ [])
   known_is few name =
-      let w : owner_of_octet c.still_open (with_octet m x) ≡ Some (message_key m) = whose_own c.still_open (with_octet m x) (omega (arith, length_push m.payload x)) in
+      let w : owner_of_octet c.still_open (with_octet m x) ≡ Some (message_key m) = owner_own c.still_open (with_octet m x) (omega (arith, length_push m.payload x)) in
       let tracked : (first (rules C l s.slots.most) c (with_octet m x)).tracked ≡ tracked_at (message_reader C l) c (event now.place (message_key m) (Takes x)) =
       ap (λ (p : Effect). p.tracked) (octet_does C l c (with_octet m x) x now.place last_is h.current.place)
       ∙ ap (λ (v : Option MessageKey). (effect_to C l now.place c v (Takes x)).tracked) w in
@@ -194,8 +194,8 @@ module _ (C : Table) (l : RequestTable) (s : Slots) (c : Tracked) (m : Message) 
   taken_here s' k =
       let R = rules C l s.slots.most in
       let m' = with_octet m x in
-      let still_open : (first R c m').tracked.still_open ≡ c.still_open = first_live R c m' in
-      let w : owner_of_octet (first R c m').tracked.still_open m' ≡ owner_of_next c.still_open m = ap (λ (open' : List Open). owner_of_octet open' m') still_open ∙ whose_next c.still_open m x in
+      let still_open : (first R c m').tracked.still_open ≡ c.still_open = first_still_open R c m' in
+      let w : owner_of_octet (first R c m').tracked.still_open m' ≡ owner_of_next c.still_open m = ap (λ (open' : List Open). owner_of_octet open' m') still_open ∙ owner_next c.still_open m x in
       record {
         keeps = rw (w, takes_effect) k;
         rising = rw still_open h.rising;
@@ -216,7 +216,7 @@ module _ (C : Table) (l : RequestTable) (s : Slots) (c : Tracked) (m : Message) 
       let R = rules C l s.slots.most in
       let m' = with_octet m x in
       record {
-        keeps = rw (← second_whose R c m') k;
+        keeps = rw (← second_owner R c m') k;
         rising = second_rising R c m' h.rising (λ four. h.newest (omega (arith, length_push m.payload x, four)));
         current = h.current;
       }

@@ -1,4 +1,4 @@
--- What calls do of whose events each has its effect, one after the other.
+-- The lines that calls write, one call after the other, and the faults that they count.
 use Rattle.std.proofs.Common.{◌≡◌, ℕ, ◌+◌, List, [], ◌∷◌, ◌++◌, refl, ◌∙◌, append-nil, Result, Ok, Err, IsErr}
 use Rattle.std.specs.Prelude.{OnOk, IfOk}
 use Rattle.std.proofs.lemmas.Bool.{false≢true}
@@ -24,7 +24,7 @@ pub no_faults : fault_count [] ≡ 0
 unfolding fault_count
 no_faults = refl
 
--- A line that begins some, none of which is a fault.
+-- This line, no fault, is the first of these lines.
 pub record BeginsSo (line : Line) (ls : List Line) : Type 0 where
   pub more : List Line
   pub is : ls ≡ line ∷ more
@@ -34,12 +34,12 @@ all_ok (Ok x) p = p
 all_ok (Err e) p = tt
 
 module _ {A E : Type 0} {n : A → ℕ} where
-  -- nothing is written, and nothing is faulted
+  -- nothing is written, and no fault is counted
   pub does_nothing : {P : Type 0} (x : A) (log : OutLog) → 0 ≡ n x → P → WritesAndLeaves {E = E} n (Ok x) log log [] P
   unfolding lines_text fault_count
   does_nothing x log e p = record { text = wrote-nil log; faults = e; kept = p }
 
-  -- the same lines, and what follows from what is left
+  -- the same lines, and a consequence of what the call leaves
   pub performs_on : {P Q : Type 0} {xs ys : List Line} (r : Result A E) (a b : OutLog) → xs ≡ ys → (P → Q) → WritesAndLeaves n r a b ys P → WritesAndLeaves n r a b xs Q
   performs_on r a b e f p = rw e (record { text = p.text; faults = p.faults; kept = on_ok_weaker r f p.kept })
 
@@ -70,7 +70,7 @@ module _ {A E : Type 0} {n : A → ℕ} where
   failed (Ok x) a b h w = absurd (false≢true h)
   failed (Err e) a b h w = record { text = w; faults = tt; kept = tt }
 
-  -- in the line that begins them
+  -- in the first line
   pub line_failed : {P : Type 0} {line : Line} {ls : List Line} (r : Result A E) (a b : OutLog) (text : List ℕ)
       → BeginsSo line ls → line_text line ≡ text → IsErr r → WroteFront a b text → WritesAndLeaves n r a b ls P
   unfolding lines_text
@@ -78,26 +78,26 @@ module _ {A E : Type 0} {n : A → ℕ} where
   line_failed (Err f) a b text begins e h w = record { text = rw (begins.is, e) (front-append a b text (lines_text begins.more) w); faults = tt; kept = tt }
 
 module _ {A B E F : Type 0} {n : A → ℕ} {m : B → ℕ} where
-  -- in a call whose lines come first
+  -- in a call that writes the first lines
   pub first_failed : {P Q : Type 0} {xs : List Line} (ys : List Line) (e : E) (r : Result B F) (a b : OutLog) → IsErr r
       → WritesAndLeaves n (Err e) a b xs P → WritesAndLeaves m r a b (xs ++ ys) Q
   first_failed ys e (Ok x) a b h p = absurd (false≢true h)
   first_failed {xs} ys e (Err f) a b h p =
       record { text = rw (text_append xs ys) (front-append a b (lines_text xs) (lines_text ys) p.text); faults = tt; kept = tt }
 
-  -- in a call whose lines are all
+  -- in a call that writes all lines
   pub call_failed : {P Q : Type 0} {ls : List Line} (e : E) (r : Result B F) (a b : OutLog) → IsErr r → WritesAndLeaves n (Err e) a b ls P → WritesAndLeaves m r a b ls Q
   call_failed e (Ok x) a b h p = absurd (false≢true h)
   call_failed e (Err f) a b h p = record { text = p.text; faults = tt; kept = tt }
 
-  -- in a call behind one that was done
+  -- in a call after one that succeeded
   pub then_failed : {P Q : Type 0} {xs ys : List Line} (x : A) (r : Result B F) (a b d : OutLog) → IsErr r
       → WritesAndLeaves {E = E} n (Ok x) a b xs P → WritesAndLeaves m r b d ys Q → WritesAndLeaves m r a d (xs ++ ys) Q
   then_failed x (Ok y) a b d h p q = absurd (false≢true h)
   then_failed {xs} {ys} x (Err e) a b d h p q =
       record { text = rw (text_append xs ys) (wrote-front a b d (lines_text xs) (lines_text ys) p.text q.text); faults = tt; kept = tt }
 
-  -- ---- A call that was done, and one behind it.
+  -- ---- A call that succeeded, and one after it.
 
   pub done_then : {P Q : Type 0} {xs ys : List Line} (x : A) (r : Result B F) (a b d : OutLog)
       → WritesAndLeaves {E = E} n (Ok x) a b xs P → WritesAndLeaves m r b d ys Q → WritesAndLeaves (λ y. n x + m y) r a d (xs ++ ys) Q
@@ -108,7 +108,7 @@ module _ {A B E F : Type 0} {n : A → ℕ} {m : B → ℕ} where
       go (Ok y) f = count_append xs ys ∙ (λ j. p.faults j + f j)
       go (Err e) f = tt
 
--- the same done, and its faults counted otherwise
+-- the same, with its faults counted otherwise
 pub counts_as : {A B E F P : Type 0} {n : A → ℕ} {m : B → ℕ} {ls : List Line} (x : A) (y : B) (a b : OutLog) → n x ≡ m y
     → WritesAndLeaves {E = E} n (Ok x) a b ls P → WritesAndLeaves {E = F} m (Ok y) a b ls P
 counts_as x y a b e p = record { text = p.text; faults = p.faults ∙ e; kept = p.kept }

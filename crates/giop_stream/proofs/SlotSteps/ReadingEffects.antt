@@ -1,4 +1,4 @@
--- What the reading of a message by a table makes of its events, and what a message's calls do of it.
+-- The lines of a message's events when it is read by a table, and that the calls of a message write them.
 use Rattle.std.proofs.Common.{inl, inr, ◌⊎◌, ◌≡◌, ℕ, suc, Bool, true, false, List, [], ◌∷◌, ◌++◌, length, map, refl, sym, ap, subst, ◌∙◌, Option, Some, None, Result, Ok, Err}
 use Rattle.std.specs.Prelude.{◌||◌, if◌then◌else◌, is_some, IfOk}
 use Rattle.std.specs.List.{list_any}
@@ -23,7 +23,7 @@ use Rattle.giop_stream.specs.Effects.{lines_of, octets_then, part_of, no_part, l
 use Rattle.giop_stream.specs.SlotsRepresent.{RepresentsMessage, event}
 use Rattle.giop_stream.specs.DoesEffect.{WritesLines, one_if}
 
--- ---- Lines that a reading says.
+-- ---- Lines that a reader gives.
 
 abbrev said_lines : ℕ → ℕ → List TimedLine → List Line
 said_lines at number rs = map (λ r. record { place = at; number = number; content = Said r.line_class r.text }) rs
@@ -66,7 +66,7 @@ no_end (inr (inr (inr (inl e)))) = absurd cc
 no_end (inr (inr (inr (inr (inl e))))) = absurd cc
 no_end (inr (inr (inr (inr (inr e))))) = absurd cc
 
--- two lines of a close are a part of the rest and the end
+-- two lines of a close are those of the rest and the end
 two_closes : (s t : LineClass) → AtClose (s ∷ t ∷ []) → (s ≡ Rest) × (t ≡ End)
 two_closes s t (inl e) = absurd cc
 two_closes s t (inr (inl e)) = absurd cc
@@ -135,7 +135,7 @@ pub no_message : (message : Option Message) → is_some message ≡ false → me
 no_message None h = refl
 no_message (Some m) h = absurd cc
 
--- ---- The lines of an event, and what is kept then.
+-- ---- The lines of an event, and what is kept after it.
 
 module _ (R : MessageReader) where
   pub over_lines : (e : Event) → lines_of R e None ≡ []
@@ -146,14 +146,14 @@ module _ (R : MessageReader) where
   unfolding octets_then
   over_then e = rw (over_lines e) refl
 
-  imposed_lines : (at : ℕ) (w : MessageKey) (fault : FramingFault) (xs : List ℕ) → lines_of R (event at w (Faults fault)) (Some xs) ≡ record { place = at; number = w.number; content = Faulted fault } ∷ []
+  faulted_lines : (at : ℕ) (w : MessageKey) (fault : FramingFault) (xs : List ℕ) → lines_of R (event at w (Faults fault)) (Some xs) ≡ record { place = at; number = w.number; content = Faulted fault } ∷ []
   unfolding lines_of lines_for lines_of_event line up_to_last_line
-  imposed_lines at w fault xs = refl
+  faulted_lines at w fault xs = refl
 
-  imposed_then : (w : MessageKey) (o : Option (List ℕ)) (at : ℕ) (fault : FramingFault) → octets_then R (event at w (Faults fault)) o ≡ None
+  faulted_then : (w : MessageKey) (o : Option (List ℕ)) (at : ℕ) (fault : FramingFault) → octets_then R (event at w (Faults fault)) o ≡ None
   unfolding octets_then is_last_of
-  imposed_then w (Some xs) at fault = rw (imposed_lines at w fault xs, eq-eqb w.number w.number refl) refl
-  imposed_then w None at fault = over_then (event at w (Faults fault))
+  faulted_then w (Some xs) at fault = rw (faulted_lines at w fault xs, eq-eqb w.number w.number refl) refl
+  faulted_then w None at fault = over_then (event at w (Faults fault))
 
   cancelled_lines : (at : ℕ) (w : MessageKey) (j : ℕ) (xs : List ℕ) → lines_of R (event at w (Cancelled j)) (Some xs) ≡ record { place = at; number = w.number; content = CancelledBy j } ∷ []
   unfolding lines_of lines_for lines_of_event line up_to_last_line
@@ -217,7 +217,7 @@ module _ (C : Table) (l : RequestTable) where
     kept = tt;
   }
 
-  -- ---- An imposed fault, a cancel, and what happens to a message that is over.
+  -- ---- A framing fault, a cancel, and events of a message that is over.
 
   pub no_lines : (w : MessageKey) (o : Option (List ℕ)) (e : Event) → RepresentsMessage C l None w o → lines_of R_of e o ≡ []
   no_lines w None e k = over_lines R_of e
@@ -228,12 +228,12 @@ module _ (C : Table) (l : RequestTable) where
   over_part w None e k = λ j. record { octets = over_then R_of e j; lines = over_lines R_of e j }
   over_part w (Some xs) e k = absurd k
 
-  pub imposed_part : (message : Option Message) (w : MessageKey) (o : Option (List ℕ)) (at : ℕ) (fault : FramingFault) → is_some message ≡ true → RepresentsMessage C l message w o
+  pub faulted_part : (message : Option Message) (w : MessageKey) (o : Option (List ℕ)) (at : ℕ) (fault : FramingFault) → is_some message ≡ true → RepresentsMessage C l message w o
       → part_of R_of (event at w (Faults fault)) o ≡ record { octets = None; lines = record { place = at; number = w.number; content = Faulted fault } ∷ [] }
   unfolding part_of
-  imposed_part (Some m) w (Some xs) at fault h k = λ j. record { octets = imposed_then R_of w (Some xs) at fault j; lines = imposed_lines R_of at w fault xs j }
-  imposed_part (Some m) w None at fault h k = absurd k
-  imposed_part None w o at fault h k = absurd cc
+  faulted_part (Some m) w (Some xs) at fault h k = λ j. record { octets = faulted_then R_of w (Some xs) at fault j; lines = faulted_lines R_of at w fault xs j }
+  faulted_part (Some m) w None at fault h k = absurd k
+  faulted_part None w o at fault h k = absurd cc
 
   pub cancel_says : (message : Option Message) (w : MessageKey) (o : Option (List ℕ)) (at j : ℕ) → is_some message ≡ true → RepresentsMessage C l message w o
       → lines_of R_of (event at w (Cancelled j)) o ≡ record { place = at; number = w.number; content = CancelledBy j } ∷ []

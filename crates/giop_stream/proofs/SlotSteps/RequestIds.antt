@@ -1,4 +1,4 @@
--- The header of a message that goes by its request id begins with it, so that its first four octets say it.
+-- The GIOP header of a message that is known by its request id begins with it: its first four octets are the id.
 use Rattle.std.proofs.Common.{inl, inr, ◌≡◌, ℕ, zero, suc, ◌<◌, Bool, true, false, List, [], ◌∷◌, length, take, refl, sym, subst, ◌∙◌, Option, Some, None, arith}
 use Rattle.std.specs.Prelude.{◌==◌, ◌&&◌, ◌||◌, IfSome, nat_lt}
 use Rattle.std.proofs.lemmas.Bool.{and_parts, cases_lt, eqb-true, ltb-true, ne_eqb, false≢true}
@@ -18,7 +18,7 @@ use Rattle.giop_stream.specs.Framing.{Message}
 use Rattle.giop_stream.specs.Events.{id}
 use Rattle.giop_stream.specs.PayloadOwner.{SaysId}
 
--- ---- A right header has one of three minor versions.
+-- ---- A header with no wrong octet has one of three minor versions.
 
 behind : (x : List ℕ) (fs : List (List ℕ)) → first_wrong (x ∷ fs) ≡ None → first_wrong fs ≡ None
 unfolding first_wrong
@@ -124,7 +124,7 @@ says_id header twelve right name =
     let type = has_type header (minor_few header twelve right) name in
     (type.0, type.1, id_first (header_type (minor header) (kind header)) type.0 type.1 (begins_with_id header name))
 
--- ---- What its first four octets say.
+-- ---- The request id that is read from its first four octets.
 
 pub id_is_id : (C : Table) (l : RequestTable) (m : Message) → length m.payload ≡ 4 → SaysId m.header
     → first_request_id (message_lines (message (signatures_of C l) m.header m.payload)) ≡ Some (id m)

@@ -1,4 +1,4 @@
--- The slots of the code beside those that are known, one by one; and what of them can take an octet.
+-- Lists of slots: those of the code against those of the specs, one by one; and which are ready for an octet.
 use Rattle.std.proofs.Common.{◌≡◌, ℕ, zero, suc, ◌<◌, ◌≤◌, List, [], ◌∷◌, ◌++◌, length, get_or, refl, sym, ap, Option, Some, None, arith}
 use Rattle.std.specs.Prelude.{slice_get, slice_set, slice_index_or, option_map}
 use Rattle.std.specs.List.{remove, AllByRecursion as Each}
@@ -37,9 +37,9 @@ unfolding slots_of
 slots_many K [] = refl
 slots_many K (o ∷ still_open) = ap suc (slots_many K still_open)
 
--- ---- A value among the entries of a roster.
+-- ---- A value among the entries of the table of open messages.
 
--- the entry that it stands in
+-- the entry that holds it
 pub entry_there : (ks : List OpenEntry) (k : ℕ) (v : Contents) → option_map (λ e. e.value) (slice_get ks k) ≡ Some v
     → (x : OpenEntry) × (slice_get ks k ≡ Some x) × (x.value ≡ v)
 entry_there [] k v e = absurd cc
@@ -68,7 +68,7 @@ none_behind [] k e l = omega (arith, l)
 none_behind (y ∷ ks) zero e l = let no : None ≡ Some y.value = e in cc
 none_behind (y ∷ ks) (suc k) e l = none_behind ks k e (omega (arith, l))
 
--- with another message kept of it
+-- that entry with another message in it
 pub revalued_set : (ks : List OpenEntry) (k : ℕ) (x : OpenEntry) (message : Option Message) → slice_get ks k ≡ Some x
     → revalued ks k (with_message x message).value ≡ slice_set ks k (with_message x message)
 revalued_set [] k x message e = refl
@@ -119,7 +119,7 @@ module _ (C : Table) (l : RequestTable) where
   remove_slot (x ∷ ks) (s ∷ ss) zero h = h.1
   remove_slot (x ∷ ks) (s ∷ ss) (suc k) h = (h.0, remove_slot ks ss k h.1)
 
--- ---- What can take an octet.
+-- ---- Slots that are ready for an octet.
 
 pub later_ready : (C : Table) (n n' : ℕ) (message : Option Message) → n ≤ n' → IsReady C n message → IsReady C n' message
 later_ready C n n' None less h = tt

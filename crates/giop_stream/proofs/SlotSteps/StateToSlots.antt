@@ -1,4 +1,4 @@
--- What is kept of the current message, and whose the next octets are by number, by whose the octets of the payload are.
+-- From what the slots represent to the state: what is kept of the current message, and the number of the next octets' owner.
 use Rattle.std.proofs.Common.{◌≡◌, ℕ, zero, suc, Bool, true, false, List, [], ◌∷◌, refl, sym, ap, ◌∙◌, Option, Some, None}
 use Rattle.std.specs.Prelude.{◌==◌, ◌||◌, slice_get, is_some, option_map, if◌then◌else◌}
 use Rattle.std.specs.List.{find, AllByRecursion as Each}
@@ -63,7 +63,7 @@ module _ (C : Table) (l : RequestTable) where
   own_by (Some m) w (Some xs) k = k
 
   module _ (c : Tracked) (own : Option CodeMessage) where
-    -- no own octets come to another message's Fragment
+    -- nothing is kept of a Fragment whose octets belong to another message
     of_other : (of : Payload) (test : Open → Bool) (o : Option Open) → find test c.still_open ≡ o → PayloadBelongs C l of own c (opener_key o) → own ≡ None
     of_other payload.Own test None e h = absurd h
     of_other (payload.Open k) test None e h = absurd h
@@ -89,7 +89,7 @@ module _ (C : Table) (l : RequestTable) where
         rw (own_named c.known c.still_open (now_of m) (unfold has_named in e), none) tt
     by_name of m false e h = of_itself of m e (rw e at h)
 
-    -- of no message,
+    -- nor where the octets belong to no message
     of_none : (of : Payload) → PayloadBelongs C l of own c None → own ≡ None
     of_none payload.Nobody h = h
     of_none _ h = absurd h
@@ -98,7 +98,7 @@ module _ (C : Table) (l : RequestTable) where
     own_known of None h = rw (of_none of h) tt
     own_known of (Some m) h = by_name of m (has_named m) refl h
 
--- ---- Whose the next octets are, by number.
+-- ---- The owner of the next octets, by number.
 
 pub owner_named : (K : OctetsByNumber) (still_open : List Open) (now : Now) (other : Option Open) → is_named now ≡ true
     → owner_for K still_open now other ≡ option_map (λ o. o.opener.number) other
@@ -122,7 +122,7 @@ owner_kept K still_open now other e f = rw (e, f) (go (K now.subject.number))
     go None = refl
     go (Some xs) = refl
 
--- what a state tells of these messages
+-- the parts of a state that belong to what is tracked
 pub record Tells (s : State) (c : Tracked) (current : Option Message) : Type 0 where
   pub slots : s.slots ≡ slots_of c.known c.still_open
   pub own : s.own ≡ own_in c.known c.still_open current
@@ -177,7 +177,7 @@ module _ (C : Table) (l : RequestTable) (s : State) (c : Tracked) (own : Option 
       go true f = owns_other m e f of (opener_of c.still_open m) refl (rw f at h)
       go false f = owns_itself m e f of (rw f at h)
 
--- whose they are stays, where the messages and what is kept of them do
+-- the owner stays the same where the slots, the own message and its number do
 pub owner_stays : (of : Payload) (s t : State) → t.slots ≡ s.slots → t.own ≡ s.own → t.owner ≡ s.owner → IsOwner of s → IsOwner of t
 owner_stays payload.Own s t e f g h = rw (f, g) h
 owner_stays (payload.Open k) s t e f g h = rw (e, f, g) h

@@ -1,4 +1,4 @@
--- A message that begins with its request id is refused for nothing that its header says alone.
+-- A message that begins with its request id is never refused for its header alone.
 use Rattle.std.proofs.Common.{inl, inr, ◌≡◌, ℕ, true, false, List, None, refl, arith}
 use Rattle.std.specs.Prelude.{nat_lt, ◌==◌, ◌&&◌, ◌||◌}
 use Rattle.std.proofs.lemmas.Bool.{ne_eqb, and_parts, and_right, eqb-true, or_cases}

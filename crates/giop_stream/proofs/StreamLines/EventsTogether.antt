@@ -1,5 +1,4 @@
--- The lines of several events that one octet makes, taken together: their effects are those of one event after the other
--- (Ordering).
+-- The lines of all events of one octet together; Ordering shows that they are those of one event after the other.
 use Rattle.std.specs.Prelude.{false, List, [], ◌∷◌, ◌++◌}
 use Rattle.giop_message.specs.MessageReader.{MessageReader}
 use Rattle.giop_stream.specs.Events.{Event}
@@ -11,6 +10,6 @@ unfoldable pub all_lines : MessageReader → OctetsByNumber → List Event → L
 all_lines R known [] = []
 all_lines R known (e ∷ es) = lines_for R e (known e.subject.number) ++ all_lines R (kept_with known (e ∷ [])) es
 
--- those that stand, in the order of their classes
+-- those that are written, in the order of their classes
 unfoldable pub sorted_lines : MessageReader → OctetsByNumber → List Event → List Line
 sorted_lines R known es = up_to_last_line (λ i. false) (by_class (all_lines R known es))

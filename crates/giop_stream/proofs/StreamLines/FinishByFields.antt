@@ -1,4 +1,4 @@
--- The finish, by the fields that show a state.
+-- What is written at the finish, from the fields of the code.
 use Rattle.std.proofs.Common.{◌≡◌, ℕ, ◌+◌, true, false, List, [], ◌∷◌, ◌++◌, get_or, flat_map, refl, sym, ap, ◌∙◌, Option, Some, None, arith, append-nil}
 use Rattle.std.specs.Prelude.{is_some, option_map, slice_get, if◌then◌else◌}
 use Rattle.std.proofs.lemmas.List.Concat.{flat_map-append}
@@ -57,7 +57,7 @@ module _ (C : Table) (l : RequestTable) where
   slots_left (k ∷ ks) [] h = absurd h
   slots_left (k ∷ ks) (s ∷ ss) h = flat_map-append unfinished_line (left_open s) (flat_map left_open ss) ∙ rw (slot_left k s h.0, slots_left ks ss h.1) refl
 
-  -- ---- The message whose own octets are kept.
+  -- ---- The line of the current message.
 
   pub nothing_left : (own : Option CodeMessage) (o : Option Own) → own ≡ None → IsOwn C l own o → flat_map unfinished_line (left_own o) ≡ []
   nothing_left None None e k = refl

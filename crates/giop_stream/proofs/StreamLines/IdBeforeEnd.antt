@@ -1,4 +1,4 @@
--- A message that begins with its request id is not over before that is complete: what has come of it is kept.
+-- A message that begins with its request id is not over before that is complete: its octets are kept until then.
 use Rattle.std.proofs.Common.{◌≡◌, ℕ, suc, ◌<◌, ◌≤◌, Bool, true, false, List, [], ◌∷◌, ◌++◌, length, refl, sym, ap, ◌∙◌, append-nil, Some, None, arith}
 use Rattle.std.specs.Prelude.{nat_lt, ◌==◌, ◌&&◌, ◌||◌, if◌then◌else◌, map}
 use Rattle.std.specs.List.{list_any, AllByRecursion as Each}
@@ -97,7 +97,7 @@ first_octet most still_open m none some =
           (size m.header) (λ e. omega arith),
     ) (append-nil (events_at_header m))
 
--- what is kept of a message whose request id comes
+-- the octets of the current message are kept while its request id is incomplete
 abbrev pub IsAlive : Rules → List ℕ → Type 0
 IsAlive R p =
     (cut p).stop ≡ None → (m : Message) → (cut p).current ≡ Some m → has_name m.header ≡ true → length m.payload < 4 → octets_of R p m.number ≡ Some m.payload

@@ -1,4 +1,4 @@
--- Between which classes the lines of a happening stand, those of events, and those of each part of an octet.
+-- Within which classes the lines of each kind of event are, those of lists of events, and those of each part of an octet.
 use Rattle.std.proofs.Common.{◌≡◌, ℕ, suc, ◌<◌, ◌≤◌, Bool, true, false, List, [], ◌∷◌, ◌++◌, length, refl, sym, subst, append_assoc, Option, Some, None, arith}
 use Rattle.std.specs.Prelude.{nat_lt, nat_le, ◌==◌, if◌then◌else◌, ◌&&◌, ◌||◌}
 use Rattle.std.specs.List.{filter}
@@ -18,39 +18,39 @@ use Rattle.giop_stream.specs.Effects.{lines_for, kept_with}
 use Rattle.giop_stream.proofs.StreamLines.EventsTogether.{all_lines}
 use Rattle.giop_stream.proofs.StreamLines.Spans.{Spans, spans_none, spans_wider, spans_join, spans_one, said_spans, turn_spans, close_spans}
 
--- ---- The lines of one happening.
+-- ---- The lines of one event.
 
 unfoldable pub Tells : MessageReader → ℕ → ℕ → EventKind → Type 0
 Tells R lo hi what = (e : Event) (so_far all : List ℕ) → Spans lo hi (lines_of_event R e so_far all what)
 
-pub tells_begins : (R : MessageReader) → Tells R 0 0 Begins
+pub event_lines_begins : (R : MessageReader) → Tells R 0 0 Begins
 unfolding Tells lines_of_event line
-tells_begins R e so_far all = spans_one 0 _ refl
+event_lines_begins R e so_far all = spans_one 0 _ refl
 
-tells_opens : (R : MessageReader) (id lo hi : ℕ) → Tells R lo hi (Opens id)
+event_lines_opens : (R : MessageReader) (id lo hi : ℕ) → Tells R lo hi (Opens id)
 unfolding Tells lines_of_event
-tells_opens R id lo hi e so_far all = spans_none lo hi
+event_lines_opens R id lo hi e so_far all = spans_none lo hi
 
-tells_continues : (R : MessageReader) (i : ℕ) → Tells R 3 3 (Continues i)
+event_lines_continues : (R : MessageReader) (i : ℕ) → Tells R 3 3 (Continues i)
 unfolding Tells lines_of_event line
-tells_continues R i e so_far all = spans_one 3 _ refl
+event_lines_continues R i e so_far all = spans_one 3 _ refl
 
-tells_cancelled : (R : MessageReader) (j : ℕ) → Tells R 4 4 (Cancelled j)
+event_lines_cancelled : (R : MessageReader) (j : ℕ) → Tells R 4 4 (Cancelled j)
 unfolding Tells lines_of_event line
-tells_cancelled R j e so_far all = spans_one 4 _ refl
+event_lines_cancelled R j e so_far all = spans_one 4 _ refl
 
-tells_imposed : (R : MessageReader) (fault : FramingFault) → Tells R 5 5 (Faults fault)
+event_lines_faulted : (R : MessageReader) (fault : FramingFault) → Tells R 5 5 (Faults fault)
 unfolding Tells lines_of_event line
-tells_imposed R fault e so_far all = spans_one 5 _ refl
+event_lines_faulted R fault e so_far all = spans_one 5 _ refl
 
-pub tells_takes : (R : MessageReader) → IsOrdered R → (x : ℕ) → Tells R 1 7 (Takes x)
+pub event_lines_takes : (R : MessageReader) → IsOrdered R → (x : ℕ) → Tells R 1 7 (Takes x)
 unfolding Tells lines_of_event
-tells_takes R ordered x e so_far all =
+event_lines_takes R ordered x e so_far all =
     said_spans 1 7 e (λ r. r.line_class) (λ r. r.text) (filter (λ r. r.at == suc (length so_far)) (R.reads e.subject.header all)) (turn_spans _ (ordered.ordered e.subject.header all (suc (length so_far))))
 
-tells_closes : (R : MessageReader) → IsClosing R → Tells R 6 8 Closes
+event_lines_closes : (R : MessageReader) → IsClosing R → Tells R 6 8 Closes
 unfolding Tells lines_of_event
-tells_closes R closing e so_far all = said_spans 6 8 e (λ l. l.0) (λ l. l.1) (R.closes e.subject.header so_far) (close_spans _ (closing.closed e.subject.header so_far))
+event_lines_closes R closing e so_far all = said_spans 6 8 e (λ l. l.0) (λ l. l.1) (R.closes e.subject.header so_far) (close_spans _ (closing.closed e.subject.header so_far))
 
 -- ---- The lines of events, whatever is kept.
 
@@ -64,7 +64,7 @@ all_lines_join R K (e ∷ es) fs =
     let more = all_lines_join R (kept_with K (e ∷ [])) es fs in
     (more.0, rw more.1 (sym (append_assoc (lines_for R e (K e.subject.number)) (all_lines R (kept_with K (e ∷ [])) es) (all_lines R more.0 fs))))
 
--- events of lines whose classes rise, before others of such
+-- two lists of events whose lines rise, one after the other
 pub join_spans : (R : MessageReader) (K : OctetsByNumber) (a b c d : ℕ) (es fs : List Event) → b < c → a ≤ c → b ≤ d → Spans a b (all_lines R K es) → Always R c d fs → Spans a d (all_lines R K (es ++ fs))
 unfolding Always
 join_spans R K a b c d es fs h k i s t = let both = all_lines_join R K es fs in rw both.1 (spans_join a b c d (all_lines R K es) (all_lines R both.0 fs) h k i s (t both.0))
@@ -105,37 +105,37 @@ always_about R lo hi now (Some o) what h = always_one R lo hi (record { place = 
 
 -- ---- The parts of an octet.
 
-always_imposed : (R : MessageReader) (now : Now) (fault : FramingFault) → Always R 5 5 (own now (Faults fault))
-always_imposed R now fault = always_own R 5 5 now (Faults fault) (tells_imposed R fault)
+always_faulted : (R : MessageReader) (now : Now) (fault : FramingFault) → Always R 5 5 (own now (Faults fault))
+always_faulted R now fault = always_own R 5 5 now (Faults fault) (event_lines_faulted R fault)
 
 pub always_header : (R : MessageReader) (now : Now) → Always R 0 5 (header_events now)
 unfolding header_events
 always_header R now =
     always_join R 0 0 5 5 (own now Begins) (fault_events now (refused now.subject.header)) (omega arith) (omega arith) (omega arith)
-    (always_own R 0 0 now Begins (tells_begins R)) (go (refused now.subject.header))
+    (always_own R 0 0 now Begins (event_lines_begins R)) (go (refused now.subject.header))
   where
     go : (w : Option FramingFault) → Always R 5 5 (fault_events now w)
     go None = always_none R 5 5
-    go (Some fault) = always_imposed R now fault
+    go (Some fault) = always_faulted R now fault
 
 -- ---- The request id.
 
 module _ (R : Rules) (now : Now) where
   faulted : (fault : FramingFault) → Always R.reading 3 5 (own now (Faults fault))
-  faulted fault = always_wider R.reading 3 5 5 5 (own now (Faults fault)) (omega arith) (omega arith) (always_imposed R.reading now fault)
+  faulted fault = always_wider R.reading 3 5 5 5 (own now (Faults fault)) (omega arith) (omega arith) (always_faulted R.reading now fault)
 
   always_opens : (still_open : List Open) (id : ℕ) (o : Option Open) → Always R.reading 3 5 (opens R.most still_open now id o)
   always_opens still_open id (Some other) = faulted IdOpen
   always_opens still_open id None =
-      always_if R.reading 3 5 (nat_le R.most (length still_open)) _ _ (faulted TooManyOpen) (always_own R.reading 3 5 now (Opens id) (tells_opens R.reading id 3 5))
+      always_if R.reading 3 5 (nat_le R.most (length still_open)) _ _ (faulted TooManyOpen) (always_own R.reading 3 5 now (Opens id) (event_lines_opens R.reading id 3 5))
 
   always_continues : (o : Option Open) → Always R.reading 3 5 (continues now o)
   always_continues None = faulted NoOpen
   always_continues (Some o) =
       always_join R.reading 3 3 5 5 (own now (Continues o.opener.number)) _ (omega arith) (omega arith) (omega arith)
-      (always_own R.reading 3 3 now (Continues o.opener.number) (tells_continues R.reading o.opener.number))
+      (always_own R.reading 3 3 now (Continues o.opener.number) (event_lines_continues R.reading o.opener.number))
       (always_if R.reading 5 5 (same_order (order now.subject.header) (order o.opener.header)) [] _ (always_none R.reading 5 5)
-      (always_about R.reading 5 5 now (Some o) (Faults FragmentOrder) (tells_imposed R.reading FragmentOrder)))
+      (always_about R.reading 5 5 now (Some o) (Faults FragmentOrder) (event_lines_faulted R.reading FragmentOrder)))
 
   always_cancels : (o : Option Open) → Always R.reading 3 5 (cancels now o)
   always_cancels None = always_none R.reading 3 5
@@ -143,7 +143,7 @@ module _ (R : Rules) (now : Now) where
       let gone : List Event = event_of_open now (Some o) (Cancelled now.subject.number) in
       always_if R.reading 3 5 (may_be_cancelled o.opener.header) gone []
       (always_wider R.reading 3 5 4 4 gone (omega arith) (omega arith)
-      (always_about R.reading 4 4 now (Some o) (Cancelled now.subject.number) (tells_cancelled R.reading now.subject.number)))
+      (always_about R.reading 4 4 now (Some o) (Cancelled now.subject.number) (event_lines_cancelled R.reading now.subject.number)))
       (always_none R.reading 3 5)
 
   always_id : (still_open : List Open) (id : ℕ) (o : Option Open) → Always R.reading 3 5 (request_id_events R.most still_open now id o)
@@ -153,11 +153,11 @@ module _ (R : Rules) (now : Now) where
       (always_if R.reading 3 5 (is_opener now.subject.header) _ _ (always_opens still_open id o)
       (always_if R.reading 3 5 (is_cancel now.subject.header) _ [] (always_cancels o) (always_none R.reading 3 5)))
 
--- a message that ends before its request id, which it needs
+-- a message that ends before the request id that it needs
 abbrev pub ends_short : Message → Bool
 ends_short m = nat_lt (size m.header) 4 && (is_opener m.header || is_fragment m.header)
 
--- where it isn't, the joined message may close
+-- where it doesn't, the joined message may close
 pub always_close : (R : MessageReader) → IsClosing R → (still_open : List Open) (m : Message) → ends_short m ≡ false → Always R 6 8 (events_at_end still_open m)
 unfolding message_end_events
 always_close R closing still_open m long =
@@ -166,12 +166,12 @@ always_close R closing still_open m long =
     (always_if R 6 8 (is_opener m.header) [] _ (always_none R 6 8)
     (always_if R 6 8 (is_fragment m.header) _ (own (now_of m) Closes)
     (always_if R 6 8 (has_more m.header) [] (event_of_open (now_of m) other Closes) (always_none R 6 8)
-    (always_about R 6 8 (now_of m) other Closes (tells_closes R closing)))
-    (always_own R 6 8 (now_of m) Closes (tells_closes R closing))))
+    (always_about R 6 8 (now_of m) other Closes (event_lines_closes R closing)))
+    (always_own R 6 8 (now_of m) Closes (event_lines_closes R closing))))
 
 always_short : (R : MessageReader) (still_open : List Open) (m : Message) → ends_short m ≡ true → Always R 5 5 (events_at_end still_open m)
 unfolding message_end_events
-always_short R still_open m short = rw short (always_imposed R (now_of m) Short)
+always_short R still_open m short = rw short (always_faulted R (now_of m) Short)
 
 pub always_end : (R : MessageReader) → IsClosing R → (still_open : List Open) (m : Message) → Always R 5 8 (events_at_end still_open m)
 always_end R closing still_open m = go (ends_short m) refl
@@ -183,7 +183,7 @@ always_end R closing still_open m = go (ends_short m) refl
 long_enough : (m : Message) → 4 ≤ size m.header → ends_short m ≡ false
 long_enough m h = rw (le-ltb (size m.header) 4 h) refl
 
--- behind the first part
+-- the parts after the first one
 pub always_later : (R : Rules) → IsClosing R.reading → (still_open : List Open) (m : Message) → length m.payload ≤ size m.header
     → Always R.reading 3 8 ((if length m.payload == 4 then events_at_request_id R.most still_open m else []) ++ (if length m.payload == size m.header then events_at_end still_open m else []))
 always_later R closing still_open m fits = go (length m.payload == 4) refl

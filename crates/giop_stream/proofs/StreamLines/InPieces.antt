@@ -1,4 +1,4 @@
--- However a stream is cut into pieces, the same is written of it.
+-- However a stream is cut into pieces, the same text is written.
 use Rattle.std.proofs.Common.{◌≡◌, ℕ, List, [], ◌∷◌, ◌++◌, sym, ap, ◌∙◌}
 use Rattle.std.specs.List.{concat}
 use Rattle.giop_message.specs.MessageReader.{IsCausal, IsStreamable}

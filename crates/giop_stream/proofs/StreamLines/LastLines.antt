@@ -13,7 +13,7 @@ use Rattle.giop_stream.specs.Effects.{kept_with, lines_for}
 use Rattle.giop_stream.proofs.StreamLines.EventsTogether.{all_lines, sorted_lines}
 use Rattle.giop_stream.proofs.Lists.{each_weaker, any_append}
 
--- A line stays in the order by class.
+-- No line is lost by ordering them by class.
 of_rank : List Line → ℕ → List Line
 of_rank ls n = filter (λ l. rank (class_of l.content) == n) ls
 
@@ -77,7 +77,7 @@ any_by_class : (t : Line → Bool) (ls : List Line) → list_any t ls ≡ true �
 unfolding by_class of_rank
 any_by_class t ls h = let r = ranked t ls h in any_class t (λ n. filter (λ l. rank (class_of l.content) == n) ls) r.at classes r.known r.found
 
--- It stands, where its message is not over before.
+-- It is written, where its message was not over before.
 stand_by : (i : ℕ) (f : ℕ → Bool) (l : Line) (ls : List Line) (b c : Bool) → f i ≡ false → f l.number ≡ b
     → is_last_of i l ≡ c → (c || list_any (is_last_of i) ls) ≡ true
     → ((g : ℕ → Bool) → g i ≡ false → list_any (is_last_of i) ls ≡ true → list_any (is_last_of i) (up_to_last_line g ls) ≡ true)
@@ -94,7 +94,7 @@ unfolding up_to_last_line
 last_stands i f [] free h = absurd cc
 last_stands i f (l ∷ ls) free h = stand_by i f l ls (f l.number) (is_last_of i l) free refl refl h (λ g k j. last_stands i g ls k j)
 
--- A fault that is imposed, a cancel and a close each write such a line, unless the message is over.
+-- A framing fault, a cancel and a close each write such a line, unless the message is over.
 unfoldable pub is_final : EventKind → Bool
 is_final Closes = true
 is_final (Cancelled j) = true
@@ -114,22 +114,22 @@ said_last : (e : Event) (s : LineClass) (text : List ℕ) → is_last s ≡ true
 unfolding is_last_of line
 said_last e s text h = rw (eq-eqb e.subject.number e.subject.number refl) h
 
-tells_final : (R : MessageReader) → IsEnding R → (e : Event) (so_far all : List ℕ) (what : EventKind) → is_final what ≡ true
+event_lines_final : (R : MessageReader) → IsEnding R → (e : Event) (so_far all : List ℕ) (what : EventKind) → is_final what ≡ true
     → list_any (is_last_of e.subject.number) (lines_of_event R e so_far all what) ≡ true
 unfolding lines_of_event is_final is_last_of line
-tells_final R ending e so_far all Closes h =
+event_lines_final R ending e so_far all Closes h =
     rw (← any_map (is_last_of e.subject.number) (λ l. line e (Said l.0 l.1)) (R.closes e.subject.header so_far))
     (any_weaker (λ l. is_last l.0) (λ l. is_last_of e.subject.number (line e (Said l.0 l.1))) (λ l. said_last e l.0 l.1)
     (R.closes e.subject.header so_far) (ending.ends e.subject.header so_far))
-tells_final R ending e so_far all (Cancelled j) h = rw (eq-eqb e.subject.number e.subject.number refl) refl
-tells_final R ending e so_far all (Faults fault) h = rw (eq-eqb e.subject.number e.subject.number refl) refl
-tells_final R ending e so_far all _ h = absurd cc
+event_lines_final R ending e so_far all (Cancelled j) h = rw (eq-eqb e.subject.number e.subject.number refl) refl
+event_lines_final R ending e so_far all (Faults fault) h = rw (eq-eqb e.subject.number e.subject.number refl) refl
+event_lines_final R ending e so_far all _ h = absurd cc
 
 kept_final : (R : MessageReader) → IsEnding R → (e : Event) (o : Option (List ℕ)) (xs : List ℕ) → o ≡ Some xs
     → is_final e.what ≡ true → list_any (is_last_of e.subject.number) (lines_for R e o) ≡ true
 unfolding lines_for
 kept_final R ending e None xs k h = absurd cc
-kept_final R ending e (Some ys) xs k h = tells_final R ending e ys (ys ++ joined e.subject.number (e ∷ [])) e.what h
+kept_final R ending e (Some ys) xs k h = event_lines_final R ending e ys (ys ++ joined e.subject.number (e ∷ [])) e.what h
 
 Ends : MessageReader → OctetsByNumber → List Event → Event → Type 0
 Ends R K es e = is_final e.what ≡ true → (xs : List ℕ) → K e.subject.number ≡ Some xs → list_any (is_last_of e.subject.number) (all_lines R K es) ≡ true

@@ -1,4 +1,4 @@
--- The lines of an octet come in the order of their classes: those of its reading, then what the request id does, then
+-- The lines of an octet are in the order of their classes: those that the message's reader gives, those of the request id,
 -- those of the close.
 use Rattle.std.proofs.Common.{inl, inr, ◌⊎◌, ◌≡◌, ℕ, suc, ◌<◌, ◌≤◌, Bool, true, false, List, [], ◌∷◌, ◌++◌, length, map, refl, sym, subst, Option, Some, None, arith}
 use Rattle.std.specs.Prelude.{nat_lt, ◌==◌, if◌then◌else◌, ◌||◌, option_map}
@@ -16,41 +16,41 @@ use Rattle.giop_stream.specs.OpenSlots.{OctetsByNumber}
 use Rattle.giop_stream.proofs.StreamLines.EventsTogether.{all_lines}
 use Rattle.giop_stream.proofs.Lists.{each_filter}
 use Rattle.giop_stream.proofs.StreamLines.Ordering.{rank_of, Rises, Fine, fine_of}
-use Rattle.giop_stream.proofs.StreamLines.Spans.{Spans, spans_none, said_rank, SayingsRise, rank_said, said_each, said_rises, said_spans, both_say, value_spans}
+use Rattle.giop_stream.proofs.StreamLines.Spans.{Spans, spans_none, said_rank, LineClassesRise, rank_said, said_each, said_rises, said_spans, both_say, value_spans}
 use Rattle.giop_stream.proofs.StreamLines.Accepted.{named_accepted}
-use Rattle.giop_stream.proofs.StreamLines.InClasses.{tells_begins, tells_takes, Always, join_spans, always_join, always_none, always_if, always_one, always_own, always_header, ends_short, always_close, always_end, always_later}
+use Rattle.giop_stream.proofs.StreamLines.InClasses.{event_lines_begins, event_lines_takes, Always, join_spans, always_join, always_none, always_if, always_one, always_own, always_header, ends_short, always_close, always_end, always_later}
 
--- ---- An octet, and the close behind it.
+-- ---- An octet, and the close after it.
 
 one_octet : (e : Event) (x : ℕ) → e.what ≡ Takes x → joined e.subject.number (e ∷ []) ≡ x ∷ []
 unfolding joined octet
 one_octet e x h = rw (eq-eqb e.subject.number e.subject.number refl, h) refl
 
--- Of two faults of one message the second falls away.
+-- Of two faults of one message the second is not written.
 two_faults : (d e : Event) (t u : List ℕ) → d.subject.number ≡ e.subject.number → Fine (line d (Said Fault t) ∷ line e (Said Fault u) ∷ [])
 unfolding line up_to_last_line is_last_of
 two_faults d e t u same = record { ordered = omega arith; rises = rw (eq-eqb d.subject.number e.subject.number same) (tt, tt) }
 
--- What two events tell, each of its own list.
+-- The lines of two events d and e, each from its own list.
 module _ {A B : Type 0} (d e : Event) (f : A → LineClass) (g : A → List ℕ) (f' : B → LineClass) (g' : B → List ℕ) where
-  abbrev both_tell : List A → List B → List Line
-  both_tell xs ys = map (λ a. line d (Said (f a) (g a))) xs ++ map (λ b. line e (Said (f' b) (g' b))) ys
+  abbrev both_give_lines : List A → List B → List Line
+  both_give_lines xs ys = map (λ a. line d (Said (f a) (g a))) xs ++ map (λ b. line e (Said (f' b) (g' b))) ys
 
   abbrev sayings : List A → List B → List LineClass
   sayings xs ys = map f xs ++ map f' ys
 
   pair_each : (P : ℕ → Type 0) (xs : List A) (ys : List B) → Each (λ s. P (said_rank s)) (sayings xs ys)
-      → Each (λ l. P (rank_of l)) (both_tell xs ys)
+      → Each (λ l. P (rank_of l)) (both_give_lines xs ys)
   pair_each P [] ys h = said_each P e f' g' ys h
   pair_each P (x ∷ xs) ys h = (subst P (sym (rank_said d (f x) (g x))) h.0, pair_each P xs ys h.1)
 
-  pair_rises : (xs : List A) (ys : List B) → SayingsRise (sayings xs ys) → Rises (both_tell xs ys)
+  pair_rises : (xs : List A) (ys : List B) → LineClassesRise (sayings xs ys) → Rises (both_give_lines xs ys)
   pair_rises [] ys h = said_rises e f' g' ys h
   pair_rises (x ∷ xs) ys h =
       (rw (rank_said d (f x) (g x)) (pair_each (λ n. said_rank (f x) < n) xs ys h.0), pair_rises xs ys h.1)
 
   faults_fine : (xs : List A) (ys : List B) → d.subject.number ≡ e.subject.number → map f xs ≡ Fault ∷ [] → map f' ys ≡ Fault ∷ []
-      → Fine (both_tell xs ys)
+      → Fine (both_give_lines xs ys)
   faults_fine [] ys same h k = absurd cc
   faults_fine (x ∷ []) [] same h k = absurd cc
   faults_fine (x ∷ []) (y ∷ []) same h k =
@@ -61,7 +61,7 @@ module _ {A B : Type 0} (d e : Event) (f : A → LineClass) (g : A → List ℕ)
   faults_fine (x ∷ x' ∷ xs) ys same h k = absurd cc
 
   pair_fine : (xs : List A) (ys : List B) → d.subject.number ≡ e.subject.number
-      → SayingsRise (sayings xs ys) ⊎ ((map f xs ≡ Fault ∷ []) × (map f' ys ≡ Fault ∷ [])) → Fine (both_tell xs ys)
+      → LineClassesRise (sayings xs ys) ⊎ ((map f xs ≡ Fault ∷ []) × (map f' ys ≡ Fault ∷ [])) → Fine (both_give_lines xs ys)
   pair_fine xs ys same (inl h) = fine_of _ (pair_rises xs ys h)
   pair_fine xs ys same (inr h) = faults_fine xs ys same h.0 h.1
 
@@ -92,7 +92,7 @@ module _ (R : MessageReader) (laws : IsStreamable R) where
 
   takes_alone : (K : OctetsByNumber) (at : ℕ) (subject : MessageKey) (x : ℕ) → Fine (all_lines R K (event at subject (Takes x) ∷ []))
   unfolding Always
-  takes_alone K at subject x = fine_of _ (always_one R 1 7 (event at subject (Takes x)) (tells_takes R laws.ordered x) K).rises
+  takes_alone K at subject x = fine_of _ (always_one R 1 7 (event at subject (Takes x)) (event_lines_takes R laws.ordered x) K).rises
 
   -- the octet of a message, and perhaps its close
   takes_then : (K : OctetsByNumber) (now : Now) (x : ℕ) (b : Bool) (es : List Event) → (es ≡ []) ⊎ (es ≡ own now Closes)
@@ -127,12 +127,12 @@ module _ (R : MessageReader) (laws : IsStreamable R) where
       (each_filter (λ r. r.line_class ≡ Value) (λ r. r.at == suc (length xs)) (R.reads header all)
       (laws.named.named header all k (omega (arith, length_push xs x))))))
 
--- ---- All of an octet.
+-- ---- All events of an octet.
 
-at_end_whose : (still_open : List Open) (m : Message) → ends_short m ≡ false → is_fragment m.header ≡ false
+at_end_owner : (still_open : List Open) (m : Message) → ends_short m ≡ false → is_fragment m.header ≡ false
     → (events_at_end still_open m ≡ []) ⊎ (events_at_end still_open m ≡ own (now_of m) Closes)
 unfolding message_end_events
-at_end_whose still_open m short f = go (is_opener m.header) refl
+at_end_owner still_open m short f = go (is_opener m.header) refl
   where
     go : (b : Bool) → is_opener m.header ≡ b → (events_at_end still_open m ≡ []) ⊎ (events_at_end still_open m ≡ own (now_of m) Closes)
     go true e = inl (rw (message_end_events, short, e) refl)
@@ -165,7 +165,7 @@ unnamed_id : (most : ℕ) (still_open : List Open) (m : Message) → has_name m.
 unfolding request_id_events
 unnamed_id most still_open m h = let parts = unnamed m.header h in rw (request_id_events, parts.0, parts.1, parts.2) refl
 
--- no message with an octet behind its request id is too short for one
+-- a message without a request id, or with at least 4 octets, is not too short
 not_short : (m : Message) → (has_name m.header ≡ false) ⊎ (4 ≤ size m.header) → ends_short m ≡ false
 not_short m (inl h) = let parts = unnamed m.header h in rw (parts.0, parts.1) (and_right (nat_lt (size m.header) 4) false refl)
 not_short m (inr h) = rw (le-ltb (size m.header) 4 h) refl
@@ -175,13 +175,13 @@ short_begins : (R : MessageReader) (m : Message) → ends_short m ≡ true → A
 unfolding header_events own
 short_begins R m short =
     let named : has_name m.header ≡ true = rw ((and_parts (nat_lt (size m.header) 4) (is_opener m.header || is_fragment m.header) short).1) refl in
-    rw (named_accepted m.header named) (always_own R 0 0 (now_of m) Begins (tells_begins R))
+    rw (named_accepted m.header named) (always_own R 0 0 (now_of m) Begins (event_lines_begins R))
 
 module _ (R : Rules) (laws : IsStreamable R.reading) (K : OctetsByNumber) (still_open : List Open) (m : Message) where
   abbrev x : ℕ
   x = (now_of m).octet
 
-  -- what the message's end does, if this is it
+  -- the events at the message's end, if this is its last octet
   abbrev close : List Event
   close = if length m.payload == size m.header then events_at_end still_open m else []
 
@@ -195,7 +195,7 @@ module _ (R : Rules) (laws : IsStreamable R.reading) (K : OctetsByNumber) (still
       subst (Spans 1 1) (sym (append-nil (lines_for R.reading (event (place m) (message_key m) (Takes x)) (K m.number))))
       (named_takes R.reading laws (place m) (message_key m) x (K m.number) k (λ xs e. let less = begun some short xs e in omega arith))
 
-  -- an octet of a message that does not begin with its request id, or one behind it
+  -- an octet of a message that does not begin with its request id, or one after the request id
   plain_octet : 0 < length m.payload → (has_name m.header ≡ false) ⊎ (4 < length m.payload) → length m.payload ≤ size m.header → IsFine
   unfolding events_of_octet
   plain_octet some h fits =
@@ -216,7 +216,7 @@ module _ (R : Rules) (laws : IsStreamable R.reading) (K : OctetsByNumber) (still
 
       go : (b : Bool) → is_fragment m.header ≡ b → Fine (all_lines R.reading K (events_at_octet still_open m ++ close))
       go false f = unfold payload_events goes_past in
-          rw (f) (takes_then R.reading laws K (now_of m) x (length m.payload == size m.header) (events_at_end still_open m) (at_end_whose still_open m long f))
+          rw (f) (takes_then R.reading laws K (now_of m) x (length m.payload == size m.header) (events_at_end still_open m) (at_end_owner still_open m long f))
       go true f = unfold payload_events goes_past in
           let past : 4 < length m.payload = elim h [ inl k ↦ absurd (let no = (unnamed m.header k).1 in cc) | inr k ↦ k ] in
           rw (f, lt-ltb 4 (length m.payload) past)
@@ -247,9 +247,9 @@ module _ (R : Rules) (laws : IsStreamable R.reading) (K : OctetsByNumber) (still
       rw (events_of_octet, events_with_id, eq-eqb (length m.payload) 0 none, ne_eqb (length m.payload) 4 (λ e. omega arith))
       (fine_of _ (first_rises (ends_short m) refl))
 
-  -- The lines of an octet are in order, and those that stand have no two of one class.
-  pub happens_fine : length m.payload ≤ size m.header → (has_name m.header ≡ true → IsBegun K m) → Fine (all_lines R.reading K (events_of_octet R.most still_open m))
-  happens_fine fits begun = elim (cases_eq (length m.payload) 0) [
+  -- The lines of an octet are in order, and no two of those that are written have one class.
+  pub events_of_octet_fine : length m.payload ≤ size m.header → (has_name m.header ≡ true → IsBegun K m) → Fine (all_lines R.reading K (events_of_octet R.most still_open m))
+  events_of_octet_fine fits begun = elim (cases_eq (length m.payload) 0) [
     | inl none ↦ first_octet none
     | inr some ↦ elim (cases_lt 4 (length m.payload)) [
       | inl past ↦ plain_octet (omega arith) (inr past) fits

@@ -23,16 +23,16 @@ joined_own : (e : Event) → joined e.subject.number (e ∷ []) ≡ octet e.what
 unfolding joined
 joined_own e = rw (eq-eqb e.subject.number e.subject.number refl) (append-nil (octet e.what))
 
--- The lines of an event are settled by the octets up to it.
-tells_early : (R : MessageReader) → IsCausal R → (e : Event) (so_far more : List ℕ) (what : EventKind)
+-- The lines of an event depend only on the octets up to it.
+event_lines_early : (R : MessageReader) → IsCausal R → (e : Event) (so_far more : List ℕ) (what : EventKind)
     → lines_of_event R e so_far ((so_far ++ octet what) ++ more) what ≡ lines_of_event R e so_far (so_far ++ octet what) what
 unfolding lines_of_event octet
-tells_early R causal e so_far more (Takes x) =
+event_lines_early R causal e so_far more (Takes x) =
     ap (map (λ r. line e (Said r.line_class r.text)))
     (causal.earlier e.subject.header (so_far ++ x ∷ []) more (suc (length so_far)) (omega (arith, length_push so_far x)))
-tells_early R causal e so_far more _ = refl
+event_lines_early R causal e so_far more _ = refl
 
--- Telling by the octets so far.
+-- The lines of events, each by the octets up to it.
 unfoldable pub heard : MessageReader → List Event → List Event → List Line
 heard R past [] = []
 heard R past (e ∷ es) = lines_of_event R e (joined e.subject.number past) (joined e.subject.number past ++ octet e.what) e.what ++ heard R (past ++ e ∷ []) es
@@ -48,20 +48,20 @@ told_heard R causal all past (e ∷ es) h =
     ∙ rw (joined_append i past (e ∷ []), joined_own e) refl) in
     let first : lines_of_event R e (joined i past) (joined i all) e.what ≡ lines_of_event R e (joined i past)
     (joined i past ++ octet e.what) e.what =
-    rw octets (tells_early R causal e (joined i past) (joined i es) e.what) in
+    rw octets (event_lines_early R causal e (joined i past) (joined i es) e.what) in
     rw (first, told_heard R causal all (past ++ e ∷ []) es split) refl
 
-heard_append : (R : MessageReader) (past es fs : List Event) → heard R past (es ++ fs) ≡ heard R past es ++ heard R (past ++ es) fs
+noted_append : (R : MessageReader) (past es fs : List Event) → heard R past (es ++ fs) ≡ heard R past es ++ heard R (past ++ es) fs
 unfolding heard
-heard_append R past [] fs = rw append-nil refl
-heard_append R past (e ∷ es) fs =
+noted_append R past [] fs = rw append-nil refl
+noted_append R past (e ∷ es) fs =
     let first = lines_of_event R e (joined e.subject.number past) (joined e.subject.number past ++ octet e.what) e.what in
-    rw (heard_append R (past ++ e ∷ []) es fs, append_assoc past (e ∷ []) es)
+    rw (noted_append R (past ++ e ∷ []) es fs, append_assoc past (e ∷ []) es)
     (sym (append_assoc first (heard R (past ++ e ∷ []) es) (heard R (past ++ e ∷ es) fs)))
 
--- More events at the end tell more lines at the end.
+-- More events at the end add lines at the end.
 pub told_grows : (R : MessageReader) → IsCausal R → (es fs : List Event) → lines_of_events R (es ++ fs) [] (es ++ fs) ≡ lines_of_events R es [] es ++ heard R es fs
-told_grows R causal es fs = told_heard R causal (es ++ fs) [] (es ++ fs) refl ∙ (heard_append R [] es fs ∙ rw (told_heard R causal es [] es refl) refl)
+told_grows R causal es fs = told_heard R causal (es ++ fs) [] (es ++ fs) refl ∙ (noted_append R [] es fs ∙ rw (told_heard R causal es [] es refl) refl)
 
 -- Each line of an event has its place and its message.
 IsOf : Event → Line → Type 0
@@ -71,29 +71,29 @@ line_of : (e : Event) (content : Content) → IsOf e (line e content)
 unfolding IsOf line
 line_of e content = (refl, refl)
 
-tells_of : (R : MessageReader) (e : Event) (so_far all : List ℕ) (what : EventKind) → Each (IsOf e) (lines_of_event R e so_far all what)
+event_lines_of : (R : MessageReader) (e : Event) (so_far all : List ℕ) (what : EventKind) → Each (IsOf e) (lines_of_event R e so_far all what)
 unfolding lines_of_event
-tells_of R e so_far all Begins = (line_of e (Started e.subject.header), tt)
-tells_of R e so_far all (Takes x) =
+event_lines_of R e so_far all Begins = (line_of e (Started e.subject.header), tt)
+event_lines_of R e so_far all (Takes x) =
     each_map (IsOf e) (λ r. line e (Said r.line_class r.text)) (λ r. line_of e (Said r.line_class r.text))
     (filter (λ r. r.at == suc (length so_far)) (R.reads e.subject.header all))
-tells_of R e so_far all (Opens id) = tt
-tells_of R e so_far all (Continues i) = (line_of e (ContinuesMessage i), tt)
-tells_of R e so_far all (Cancelled j) = (line_of e (CancelledBy j), tt)
-tells_of R e so_far all (Faults fault) = (line_of e (Faulted fault), tt)
-tells_of R e so_far all Closes = each_map (IsOf e) (λ l. line e (Said l.0 l.1)) (λ l. line_of e (Said l.0 l.1)) (R.closes e.subject.header so_far)
+event_lines_of R e so_far all (Opens id) = tt
+event_lines_of R e so_far all (Continues i) = (line_of e (ContinuesMessage i), tt)
+event_lines_of R e so_far all (Cancelled j) = (line_of e (CancelledBy j), tt)
+event_lines_of R e so_far all (Faults fault) = (line_of e (Faulted fault), tt)
+event_lines_of R e so_far all Closes = each_map (IsOf e) (λ l. line e (Said l.0 l.1)) (λ l. line_of e (Said l.0 l.1)) (R.closes e.subject.header so_far)
 
-pub heard_each : (R : MessageReader) (P : ℕ → Type 0) (past es : List Event) → Each (λ e. P e.place) es → Each (λ l. P l.place) (heard R past es)
+pub noted_each : (R : MessageReader) (P : ℕ → Type 0) (past es : List Event) → Each (λ e. P e.place) es → Each (λ l. P l.place) (heard R past es)
 unfolding heard IsOf
-heard_each R P past [] h = tt
-heard_each R P past (e ∷ es) h =
+noted_each R P past [] h = tt
+noted_each R P past (e ∷ es) h =
     let first = lines_of_event R e (joined e.subject.number past) (joined e.subject.number past ++ octet e.what) e.what in
     each_append (λ l. P l.place) first (heard R (past ++ e ∷ []) es)
     (each_weaker (IsOf e) (λ l. P l.place) (λ l k. subst P (sym k.0) h.0) first
-    (tells_of R e (joined e.subject.number past) (joined e.subject.number past ++ octet e.what) e.what))
-    (heard_each R P (past ++ e ∷ []) es h.1)
+    (event_lines_of R e (joined e.subject.number past) (joined e.subject.number past ++ octet e.what) e.what))
+    (noted_each R P (past ++ e ∷ []) es h.1)
 
--- In order.
+-- The order of the lines.
 pub by_class_none : by_class [] ≡ []
 unfolding by_class classes
 by_class_none = refl
@@ -148,7 +148,7 @@ by_class_filter : (q : Line → Bool) (ls : List Line) → filter q (by_class ls
 unfolding by_class
 by_class_filter q ls = filter_classes q ls classes
 
--- What stands.
+-- The lines that are written: up to each message's last one.
 or_false : (b : Bool) → (b || false) ≡ b
 or_false true = refl
 or_false false = refl
@@ -198,7 +198,7 @@ drops_by over orig f l ls h ih false false e k =
     ∙ (ap (λ (zs : List Line). l ∷ zs) (ih (λ i. over i || is_last_of i l) (λ i. f i || is_last_of i l) (λ i. rw (h i) (or_or (orig i) (f i) (is_last_of i l))))
     ∙ sym (standing_keeps f l (filter (λ l. not (orig l.number)) ls) k)))
 
--- The lines of messages that are over before never stand.
+-- Lines of messages that were over before are never written.
 pub standing_drops : (over orig f : ℕ → Bool) (ls : List Line) → ((i : ℕ) → over i ≡ (orig i || f i))
     → up_to_last_line over ls ≡ up_to_last_line f (filter (λ l. not (orig l.number)) ls)
 unfolding up_to_last_line
@@ -229,22 +229,22 @@ one_by R over past e true k =
     let ls = lines_of_event R e (joined e.subject.number past) (joined e.subject.number past ++ octet e.what) e.what in
     filter_drops (λ l. not (over l.number)) ls
     (each_weaker (IsOf e) (λ l. not (over l.number) ≡ false) (λ l h. rw (h.1, k) refl) ls
-    (tells_of R e (joined e.subject.number past) (joined e.subject.number past ++ octet e.what) e.what))
+    (event_lines_of R e (joined e.subject.number past) (joined e.subject.number past ++ octet e.what) e.what))
     ∙ rw (keeping, k) refl
 one_by R over past e false k =
     let ls = lines_of_event R e (joined e.subject.number past) (joined e.subject.number past ++ octet e.what) e.what in
     filter_keeps (λ l. not (over l.number)) ls
     (each_weaker (IsOf e) (λ l. not (over l.number) ≡ true) (λ l h. rw (h.1, k) refl) ls
-    (tells_of R e (joined e.subject.number past) (joined e.subject.number past ++ octet e.what) e.what))
+    (event_lines_of R e (joined e.subject.number past) (joined e.subject.number past ++ octet e.what) e.what))
     ∙ rw (keeping, k, lines_for, joined_own e) refl
 
-pub heard_all_lines : (R : MessageReader) (over : ℕ → Bool) (past es : List Event)
+pub noted_all_lines : (R : MessageReader) (over : ℕ → Bool) (past es : List Event)
     → filter (λ l. not (over l.number)) (heard R past es) ≡ all_lines R (keeping over past) es
 unfolding heard all_lines
-heard_all_lines R over past [] = refl
-heard_all_lines R over past (e ∷ es) =
+noted_all_lines R over past [] = refl
+noted_all_lines R over past (e ∷ es) =
     filter_append_at R over past e es
-    ∙ rw (one_by R over past e (over e.subject.number) refl, heard_all_lines R over (past ++ e ∷ []) es)
+    ∙ rw (one_by R over past e (over e.subject.number) refl, noted_all_lines R over (past ++ e ∷ []) es)
     (ap (λ (ls : List Line). lines_for R e (keeping over past e.subject.number) ++ ls)
     (all_lines_same R (keeping over (past ++ e ∷ [])) (kept_with (keeping over past) (e ∷ [])) es
     (λ i. sym (with_one over past e i))))
@@ -258,7 +258,7 @@ heard_all_lines R over past (e ∷ es) =
         (lines_of_event R e (joined e.subject.number past) (joined e.subject.number past ++ octet e.what) e.what)
         (heard R (past ++ e ∷ []) es)
 
--- It is enough that what is kept agrees at the messages that the events are about.
+-- The lines depend only on what is kept of the events' subjects.
 pub all_lines_agree : (R : MessageReader) (f g : OctetsByNumber) (es : List Event) → Each (λ e. f e.subject.number ≡ g e.subject.number) es → all_lines R f es ≡ all_lines R g es
 unfolding all_lines kept_with
 all_lines_agree R f g [] h = refl
@@ -268,44 +268,44 @@ all_lines_agree R f g (e ∷ es) h =
     (each_weaker (λ d. f d.subject.number ≡ g d.subject.number) (λ d. kept_with f (e ∷ []) d.subject.number ≡ kept_with g (e ∷ []) d.subject.number)
     (λ d k. ap (option_map (λ xs. xs ++ joined d.subject.number (e ∷ []))) k) es h.1)))
 
--- The new lines that stand are those that the machine writes.
+-- The new lines that are written are those of the effects.
 pub standing_all_lines : (R : MessageReader) (over : ℕ → Bool) (past es : List Event)
     → up_to_last_line over (by_class (heard R past es)) ≡ up_to_last_line (λ i. false) (by_class (all_lines R (keeping over past) es))
 standing_all_lines R over past es =
     standing_drops over over (λ i. false) (by_class (heard R past es)) (λ i. sym (or_false (over i)))
-    ∙ rw (by_class_filter (λ l. not (over l.number)) (heard R past es), heard_all_lines R over past es) refl
+    ∙ rw (by_class_filter (λ l. not (over l.number)) (heard R past es), noted_all_lines R over past es) refl
 
--- What holds of the messages of the events holds of the lines' messages.
-pub tells_number : (R : MessageReader) (P : ℕ → Type 0) (e : Event) (o : Option (List ℕ)) → P e.subject.number → Each (λ l. P l.number) (lines_for R e o)
+-- What holds of the events' subjects holds of the lines' messages,
+pub event_lines_number : (R : MessageReader) (P : ℕ → Type 0) (e : Event) (o : Option (List ℕ)) → P e.subject.number → Each (λ l. P l.number) (lines_for R e o)
 unfolding lines_for IsOf
-tells_number R P e None h = tt
-tells_number R P e (Some xs) h =
+event_lines_number R P e None h = tt
+event_lines_number R P e (Some xs) h =
     each_weaker (IsOf e) (λ l. P l.number) (λ l k. subst P (sym k.1) h)
     (lines_of_event R e xs (xs ++ joined e.subject.number (e ∷ [])) e.what)
-    (tells_of R e xs (xs ++ joined e.subject.number (e ∷ [])) e.what)
+    (event_lines_of R e xs (xs ++ joined e.subject.number (e ∷ [])) e.what)
 
--- and what holds of their places
-tells_place : (R : MessageReader) (P : ℕ → Type 0) (e : Event) (o : Option (List ℕ)) → P e.place → Each (λ l. P l.place) (lines_for R e o)
+-- and what holds of the events' places of the lines' places.
+event_lines_place : (R : MessageReader) (P : ℕ → Type 0) (e : Event) (o : Option (List ℕ)) → P e.place → Each (λ l. P l.place) (lines_for R e o)
 unfolding lines_for IsOf
-tells_place R P e None h = tt
-tells_place R P e (Some xs) h =
+event_lines_place R P e None h = tt
+event_lines_place R P e (Some xs) h =
     each_weaker (IsOf e) (λ l. P l.place) (λ l k. subst P (sym k.0) h)
     (lines_of_event R e xs (xs ++ joined e.subject.number (e ∷ [])) e.what)
-    (tells_of R e xs (xs ++ joined e.subject.number (e ∷ [])) e.what)
+    (event_lines_of R e xs (xs ++ joined e.subject.number (e ∷ [])) e.what)
 
 pub all_lines_places : (R : MessageReader) (P : ℕ → Type 0) (known : OctetsByNumber) (es : List Event) → Each (λ e. P e.place) es → Each (λ l. P l.place) (all_lines R known es)
 unfolding all_lines
 all_lines_places R P known [] h = tt
 all_lines_places R P known (e ∷ es) h =
     each_append (λ l. P l.place) (lines_for R e (known e.subject.number)) (all_lines R (kept_with known (e ∷ [])) es)
-    (tells_place R P e (known e.subject.number) h.0) (all_lines_places R P (kept_with known (e ∷ [])) es h.1)
+    (event_lines_place R P e (known e.subject.number) h.0) (all_lines_places R P (kept_with known (e ∷ [])) es h.1)
 
 all_lines_each : (R : MessageReader) (P : ℕ → Type 0) (known : OctetsByNumber) (es : List Event) → Each (λ e. P e.subject.number) es → Each (λ l. P l.number) (all_lines R known es)
 unfolding all_lines
 all_lines_each R P known [] h = tt
 all_lines_each R P known (e ∷ es) h =
     each_append (λ l. P l.number) (lines_for R e (known e.subject.number)) (all_lines R (kept_with known (e ∷ [])) es)
-    (tells_number R P e (known e.subject.number) h.0) (all_lines_each R P (kept_with known (e ∷ [])) es h.1)
+    (event_lines_number R P e (known e.subject.number) h.0) (all_lines_each R P (kept_with known (e ∷ [])) es h.1)
 
 pub classes_each : (P : Line → Type 0) (ls : List Line) (cs : List Class) → Each P ls → Each P (flat_map (λ c. filter (has_class c) ls) cs)
 classes_each P ls [] h = tt

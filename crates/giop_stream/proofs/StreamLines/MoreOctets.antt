@@ -1,4 +1,4 @@
--- What more and more octets add to the text of a stream, and what a run of them does.
+-- What runs of octets add to the text of a stream, and the state after them.
 use Rattle.std.proofs.Common.{◌≡◌, ℕ, ◌<◌, List, [], ◌∷◌, ◌++◌, length, take, drop, refl, sym, ap, subst, ◌∙◌, append_assoc, append-nil, take_all, Some, arith}
 use Rattle.std.specs.Prelude.{slice_get}
 use Rattle.std.proofs.Math.Seq.{drop-append_seam}
@@ -20,11 +20,11 @@ added_from : (R : Rules) (p q z : List ℕ) → text R (p ++ q) ≡ text R p ++ 
 unfolding added
 added_from R p q z e = ap (drop (length (text R p))) e ∙ drop-append_seam (text R p) z
 
--- the text of a stream, and then what more octets add to it
+-- the text of a stream, then what more octets add
 pub text_adds : (R : Rules) → IsCausal R.reading → IsStreamable R.reading → (p q : List ℕ) → text R (p ++ q) ≡ text R p ++ added R p q
 text_adds R causal laws p q = run_text R causal laws p q ∙ ap (λ (z : List ℕ). text R p ++ z) (sym (added_run R causal laws p q))
 
--- what octets add, and then others
+-- what q and then r add
 pub added_both : (R : Rules) → IsCausal R.reading → IsStreamable R.reading → (p q r : List ℕ) → added R p (q ++ r) ≡ added R p q ++ added R (p ++ q) r
 added_both R causal laws p q r =
     added_from R p (q ++ r) (added R p q ++ added R (p ++ q) r)
@@ -52,17 +52,17 @@ pub one_run : (R : Rules) (s : State) (x : ℕ) → runs R s (x ∷ []) ≡ step
 unfolding run run_state
 one_run R s x = λ j. record { state = (step R s x).state; lines = append-nil (step R s x).lines j }
 
--- ---- A piece, as it comes.
+-- ---- A piece that is taken run by run.
 
 pub first_of : (xs : List ℕ) (x : ℕ) → Some x ≡ slice_get xs 0 → xs ≡ x ∷ drop 1 xs
 first_of [] x e = absurd cc
 first_of (y ∷ xs) x e = let same : y ≡ x = cc in ap (λ (z : ℕ). z ∷ xs) same
 
--- what came of it, and more of it that comes
+-- the octets taken so far, with one more run of them
 pub further : (payload_count rest q left piece : List ℕ) → piece ≡ payload_count ++ rest → rest ≡ q ++ left → piece ≡ (payload_count ++ q) ++ left
 further payload_count rest q left piece e f = e ∙ (ap (λ (z : List ℕ). payload_count ++ z) f ∙ sym (append_assoc payload_count q left))
 
--- is of octets
+-- they are octets
 pub octets_come : (payload_count left piece : List ℕ) → piece ≡ payload_count ++ left → AreOctets piece → AreOctets payload_count
 octets_come payload_count left piece e h =
     let front : take (length payload_count) piece ≡ payload_count =
@@ -70,7 +70,7 @@ octets_come payload_count left piece e h =
     ∙ take_all (length payload_count) payload_count (omega arith)) in
     subst AreOctets front (All-take (λ x. x < 256) (length payload_count) piece h)
 
--- and what it has written so far
+-- the text so far is a front of the piece's text
 pub run_within : (R : Rules) (s : State) (payload_count q left piece : List ℕ) → piece ≡ (payload_count ++ q) ++ left
     → (more : List ℕ) × (lines_text (run R s piece)
     ≡ (lines_text (run R s payload_count) ++ lines_text (run R (run_state R s payload_count) q)) ++ more)

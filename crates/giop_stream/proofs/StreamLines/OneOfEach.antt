@@ -17,7 +17,7 @@ use Rattle.giop_stream.proofs.Cuts.Start.{lines_nothing}
 use Rattle.giop_stream.proofs.CodeSteps.OneOctet.{Adds, Then, then_is}
 use Rattle.giop_stream.proofs.CodeSteps.EngineAlive.{sound}
 
--- ---- Of lines whose classes rise one is of a class at most.
+-- ---- Among lines whose classes rise, each class has one line at most.
 
 passed : (test : Line → Bool) (n : ℕ) → ((l : Line) → test l ≡ true → rank_of l ≡ n) → (k : Line) → n < rank_of k → test k ≡ false
 passed test n h k less = go (test k) refl

@@ -12,7 +12,7 @@ use Rattle.giop_stream.specs.OpenSlots.{OctetsByNumber}
 use Rattle.giop_stream.proofs.StreamLines.EventsTogether.{all_lines, sorted_lines}
 use Rattle.giop_stream.specs.Effects.{Tracked, lines_at, tracked_at, effects, lines_for, kept_with, kept_after}
 use Rattle.giop_stream.proofs.Lists.{filter_drops, filter_keeps, each_weaker, each_filter, any_append}
-use Rattle.giop_stream.proofs.StreamLines.LinesOfOctet.{joined_append, standing_append, standing_drops, standing_each, tells_number}
+use Rattle.giop_stream.proofs.StreamLines.LinesOfOctet.{joined_append, standing_append, standing_drops, standing_each, event_lines_number}
 
 -- ---- Lines in the order of their classes.
 
@@ -44,7 +44,7 @@ rises_standing over (l ∷ ls) h =
     rises_if (over l.number) l (up_to_last_line over ls) (up_to_last_line later ls)
     (standing_each (λ k. rank_of l < rank_of k) later ls h.0) (rises_standing over ls h.1) (rises_standing later ls h.1)
 
--- in order, and with no two of one class up to the last line of each message
+-- in order, and no two of one class among those that are written
 pub record Fine (ls : List Line) : Type 0 where
   pub ordered : Ordered ls
   pub rises : Rises (up_to_last_line (λ i. false) ls)
@@ -135,9 +135,9 @@ ordered_filter : (q : Line → Bool) (ls : List Line) → Ordered ls → Ordered
 ordered_filter q [] h = tt
 ordered_filter q (l ∷ ls) h = filtered_by q l ls (q l) h.0 (ordered_filter q ls h.1)
 
--- ---- What is kept, with events taken off the front.
+-- ---- The lines of events, and what is kept after the first ones.
 
--- of messages that are over nothing is kept
+-- nothing is kept of messages that are over
 restricted : (ℕ → Bool) → OctetsByNumber → OctetsByNumber
 restricted over K i = if over i then None else K i
 
@@ -147,11 +147,11 @@ unfolding lines_for
 kept_filter R over e o true h =
     filter_drops (λ l. not (over l.number)) (lines_for R e o)
     (each_weaker (λ l. over l.number ≡ true) (λ l. not (over l.number) ≡ false) (λ l k. rw k refl) (lines_for R e o)
-    (tells_number R (λ n. over n ≡ true) e o h))
+    (event_lines_number R (λ n. over n ≡ true) e o h))
 kept_filter R over e o false h =
     filter_keeps (λ l. not (over l.number)) (lines_for R e o)
     (each_weaker (λ l. over l.number ≡ false) (λ l. not (over l.number) ≡ true) (λ l k. rw k refl) (lines_for R e o)
-    (tells_number R (λ n. over n ≡ false) e o h))
+    (event_lines_number R (λ n. over n ≡ false) e o h))
 
 restricted_with : (over : ℕ → Bool) (K : OctetsByNumber) (es : List Event) (i : ℕ) → restricted over (kept_with K es) i ≡ kept_with (restricted over K) es i
 unfolding restricted kept_with
@@ -175,7 +175,7 @@ all_lines_filter R over K (e ∷ es) =
     (same_all_lines R (λ i. if over i then None else kept_with K (e ∷ []) i)
     (kept_with (λ i. if over i then None else K i) (e ∷ [])) es (λ i. restricted_with over K (e ∷ []) i)))
 
--- ---- The effects.
+-- ---- The effects, one event after the other.
 
 pub record AreEffects (R : MessageReader) (c : Tracked) (es : List Event) : Type 0 where
   pub lines : sorted_lines R c.known es ≡ (effects R c es).lines
@@ -199,7 +199,7 @@ or_none : (b : Bool) → b ≡ (b || false)
 or_none true = refl
 or_none false = refl
 
--- the lines of the first event, then those of the others by what is kept behind it
+-- the lines of the first event, then those of the others by what is kept after it
 split_lines : (R : MessageReader) (K : OctetsByNumber) (e : Event) (es : List Event) → Ordered (all_lines R K (e ∷ es))
     → sorted_lines R K (e ∷ es) ≡ lines_at R K e ++ sorted_lines R (kept_after (kept_with K (e ∷ [])) (lines_at R K e)) es
 unfolding sorted_lines lines_at all_lines kept_after restricted

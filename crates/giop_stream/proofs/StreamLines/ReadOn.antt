@@ -1,4 +1,5 @@
--- What is written from a checkpoint on is what its stream's text lacks; and how many octets a checkpoint has at most.
+-- What is written from a checkpoint on, together with what was written before, is the whole text; and how many octets a
+-- checkpoint has at most.
 use Rattle.std.proofs.Common.{◌≡◌, ℕ, ◌≤◌, List, [], ◌++◌, length, refl, sym, ap, ◌∙◌, append_assoc, append-nil, length-drop, arith}
 use Rattle.giop_sig.specs.Table.{Table}
 use Rattle.giop_sig.specs.Trees.{depth_of}

@@ -1,4 +1,4 @@
--- Lines whose classes rise, from one rank to another; and the same of what is said.
+-- Lines whose classes rise, within two ranks; and the same of the line classes that a reader of messages gives.
 use Rattle.std.proofs.Common.{inl, inr, ◌⊎◌, ◌≡◌, ℕ, ◌<◌, ◌≤◌, true, List, [], ◌∷◌, ◌++◌, map, refl, sym, ap, subst, arith}
 use Rattle.std.specs.List.{list_any, AllByRecursion as Each}
 use Rattle.giop_message.specs.MessageReader.{LineClass, Value, Call, Rest, Fault, End, AreInLineOrder, AtClose, is_fault}
@@ -7,7 +7,7 @@ use Rattle.giop_stream.specs.Lines.{Said, Line, line}
 use Rattle.giop_stream.proofs.Lists.{each_append, each_weaker}
 use Rattle.giop_stream.proofs.StreamLines.Ordering.{rank_of, Rises}
 
--- ---- Lines whose classes rise, from one rank to another.
+-- ---- Lines whose classes rise, within two ranks.
 
 abbrev pub Between : ℕ → ℕ → Line → Type 0
 Between lo hi l = (lo ≤ rank_of l) × (rank_of l ≤ hi)
@@ -37,7 +37,7 @@ spans_join a b c d xs ys h k i s t = record {
 pub spans_one : (n : ℕ) (l : Line) → rank_of l ≡ n → Spans n n (l ∷ [])
 spans_one n l h = record { within = ((omega arith, omega arith), tt); rises = (tt, tt) }
 
--- ---- The same of what is said.
+-- ---- The same of a reader's line classes.
 
 abbrev pub said_rank : LineClass → ℕ
 said_rank Value = 1
@@ -46,13 +46,13 @@ said_rank Rest = 6
 said_rank Fault = 7
 said_rank End = 8
 
-abbrev pub SayingsRise : List LineClass → Type 0
-SayingsRise [] = Unit {0}
-SayingsRise (s ∷ ss) = Each (λ t. said_rank s < said_rank t) ss × SayingsRise ss
+abbrev pub LineClassesRise : List LineClass → Type 0
+LineClassesRise [] = Unit {0}
+LineClassesRise (s ∷ ss) = Each (λ t. said_rank s < said_rank t) ss × LineClassesRise ss
 
 pub record SaySpans (lo hi : ℕ) (ss : List LineClass) : Type 0 where
   pub within : Each (λ s. (lo ≤ said_rank s) × (said_rank s ≤ hi)) ss
-  pub rises : SayingsRise ss
+  pub rises : LineClassesRise ss
 
 pub rank_said : (e : Event) (s : LineClass) (text : List ℕ) → rank_of (line e (Said s text)) ≡ said_rank s
 unfolding line
@@ -63,7 +63,7 @@ pub said_each : {A : Type 0} (P : ℕ → Type 0) (e : Event) (f : A → LineCla
 said_each P e f g [] h = tt
 said_each P e f g (x ∷ xs) h = (subst P (sym (rank_said e (f x) (g x))) h.0, said_each P e f g xs h.1)
 
-pub said_rises : {A : Type 0} (e : Event) (f : A → LineClass) (g : A → List ℕ) (xs : List A) → SayingsRise (map f xs) → Rises (map (λ a. line e (Said (f a) (g a))) xs)
+pub said_rises : {A : Type 0} (e : Event) (f : A → LineClass) (g : A → List ℕ) (xs : List A) → LineClassesRise (map f xs) → Rises (map (λ a. line e (Said (f a) (g a))) xs)
 said_rises e f g [] h = tt
 said_rises {A} e f g (x ∷ xs) h = (rw (rank_said e (f x) (g x)) (said_each (λ n. said_rank (f x) < n) e f g xs h.0), said_rises e f g xs h.1)
 
@@ -83,9 +83,9 @@ close_spans ss (inl e) = rw e (record { within = omega arith; rises = omega arit
 close_spans ss (inr (inl e)) = rw e (record { within = omega arith; rises = omega arith })
 close_spans ss (inr (inr e)) = rw e (record { within = omega arith; rises = omega arith })
 
--- at one octet and at the close behind it, where only a fault can be said twice
+-- at one octet and at the close after it, where only a fault can come twice
 pub both_say : (ds cs : List LineClass) → AreInLineOrder ds → AtClose cs → (list_any is_fault ds ≡ true → cs ≡ End ∷ []) → (ds ≡ Rest ∷ [] → cs ≡ Rest ∷ End ∷ [] → ⊥)
-    → SayingsRise (ds ++ cs) ⊎ ((ds ≡ Fault ∷ []) × (cs ≡ Fault ∷ []))
+    → LineClassesRise (ds ++ cs) ⊎ ((ds ≡ Fault ∷ []) × (cs ≡ Fault ∷ []))
 both_say ds cs (inl e) c h k = rw e (inl (close_spans cs c).rises)
 both_say ds cs (inr (inl e)) (inl f) h k = rw (e, f) (inl (omega arith))
 both_say ds cs (inr (inl e)) (inr (inl f)) h k = rw (e, f) (inl (omega arith))
@@ -103,7 +103,7 @@ values_each : {A : Type 0} (f : A → LineClass) (xs : List A) → Each (λ a. f
 values_each f [] h = tt
 values_each f (x ∷ xs) h = let one : said_rank (f x) ≡ 1 = ap said_rank h.0 in ((omega arith, omega arith), values_each f xs h.1)
 
-values_rise : (ss : List LineClass) → AreInLineOrder ss → Each (λ s. (1 ≤ said_rank s) × (said_rank s ≤ 1)) ss → SayingsRise ss
+values_rise : (ss : List LineClass) → AreInLineOrder ss → Each (λ s. (1 ≤ said_rank s) × (said_rank s ≤ 1)) ss → LineClassesRise ss
 values_rise ss (inl e) h = rw e tt
 values_rise ss (inr (inl e)) h = rw e (tt, tt)
 values_rise ss (inr (inr (inl e))) h = absurd (let each = rw e at h in let two = each.1.0.1 in omega arith)

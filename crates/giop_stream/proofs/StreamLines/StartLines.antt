@@ -32,7 +32,7 @@ unfolding start_count
 start_append xs ys =
     rw (filter-append (λ l. is_start l.content) xs ys) (length-append (filter (λ l. is_start l.content) xs) (filter (λ l. is_start l.content) ys))
 
--- what a reading says is no start
+-- a line that a reader gives is no start line
 said_none : (e : Event) (s : LineClass) (text : List ℕ) → NoStart (line e (Said s text))
 unfolding NoStart line
 said_none e s text = refl
@@ -62,9 +62,9 @@ all_lines_none R K (e ∷ es) h =
     each_append NoStart (lines_for R e (K e.subject.number)) (all_lines R (kept_with K (e ∷ [])) es)
     (kept_none R e (K e.subject.number) h.0) (all_lines_none R (kept_with K (e ∷ [])) es h.1)
 
--- ---- What tells no start, and so what each part of an octet does but the first.
+-- ---- Events without a start line: all but those at a header's last octet.
 
--- a happening that tells no start, whatever the message
+-- an event of this kind has no start line, whatever the message
 Calm : EventKind → Type 0
 Calm what = (R : MessageReader) (e : Event) (so_far all : List ℕ) → Each NoStart (lines_of_event R e so_far all what)
 
@@ -89,9 +89,9 @@ calm (Opens i) h = λ R e so_far all. tt
 calm Closes h = λ R e so_far all. closes_none R e so_far all
 calm _ h = λ R e so_far all. (refl, tt)
 
-quiet_imposed : (now : Now) (w : Option FramingFault) → Each Quiet (fault_events now w)
-quiet_imposed now None = tt
-quiet_imposed now (Some fault) = quiet_own now (Faults fault) (calm (Faults fault) tt)
+quiet_faulted : (now : Now) (w : Option FramingFault) → Each Quiet (fault_events now w)
+quiet_faulted now None = tt
+quiet_faulted now (Some fault) = quiet_own now (Faults fault) (calm (Faults fault) tt)
 
 quiet_octet : (now : Now) (other : Option Open) → Each Quiet (payload_events now other)
 unfolding payload_events
@@ -99,7 +99,7 @@ quiet_octet now other =
     either (Each Quiet) (is_fragment now.subject.header && nat_lt 4 now.payload_count) _ _
     (quiet_about now other (Takes now.octet) (calm_takes now.octet)) (quiet_own now (Takes now.octet) (calm_takes now.octet))
 
--- what an octet does behind its first part
+-- the events of an octet after its first part
 later_part : (most : ℕ) → List Open → Message → List Event
 later_part most still_open m = (if length m.payload == 4 then events_at_request_id most still_open m else []) ++ (if length m.payload == size m.header then events_at_end still_open m else [])
 
@@ -176,7 +176,7 @@ one_first R K still_open m xs payload_octet known =
     let more : List Line = all_lines R.reading (kept_with K (e ∷ [])) rest in
     let none : Each NoStart more =
     all_lines_none R.reading (kept_with K (e ∷ [])) rest (each_append Quiet (fault_events (now_of m) (refused m.header)) (later_part R.most still_open m)
-    (quiet_imposed (now_of m) (refused m.header)) (quiet_later R.most still_open m)) in
+    (quiet_faulted (now_of m) (refused m.header)) (quiet_later R.most still_open m)) in
     let empty : length m.payload ≡ 0 = rw payload_octet refl in
     let lines_of_messages : all_lines R.reading K (e ∷ rest) ≡ line e (Started m.header) ∷ more = begun R.reading K m e xs rest refl refl known in
     let calm : Each NoStart (up_to_last_line (λ i. false || is_last_of i (line e (Started m.header))) (by_class more)) =

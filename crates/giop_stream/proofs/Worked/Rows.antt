@@ -1,6 +1,6 @@
--- The definitions run: what is written of streams with fragments, and at their end. Each row holds by computation, over a
--- small reading that only says the request id, and at the close the octets behind it. `giop_stream_rows` has streams over
--- the reading of messages itself.
+-- The definitions on example streams with fragments: the text, and what is written at the end. Each row holds by computation,
+-- with a small reader that gives a line for the request id, and at the close one for the octets after it. `giop_stream_rows`
+-- has streams with the reader of messages itself.
 use Rattle.std.proofs.Common.{◌≡◌, ℕ, ◌+◌, ◌-◌, ◌*◌, List, [], ◌∷◌, ◌++◌, length, take, drop, refl, codes}
 use Rattle.std.specs.Prelude.{nat_le, nat_lt, ◌==◌, if◌then◌else◌, ◌&&◌}
 use Rattle.std.specs.Fmt.{decimal, digits}
@@ -23,13 +23,13 @@ use Rattle.giop_stream.specs.Lines.{classes, line, lines_of_event, lines_of_even
 use Rattle.giop_stream.specs.Text.{lines_text}
 use Rattle.giop_stream.specs.Stream.{text, start_count, fault_count, tally, is_over, first_messages, unfinished, final, closing}
 
--- ---- The reading, and streams in hexadecimal digits with spaces.
+-- ---- The small reader, and streams in hexadecimal digits with spaces.
 
--- a request id, as it is said
+-- the text of a request id's line
 unfoldable pub id_text : ℕ → List ℕ
 id_text id = print_text.joined (codes "header.request_id ulong " ∷ decimal id ∷ [])
 
--- A message that begins with its request id; one of fewer octets than these is short.
+-- A message that begins with its request id; one of fewer than `least` octets is short.
 unfoldable pub named_reads : List ℕ → List ℕ → List TimedLine
 named_reads header xs = if has_name header && nat_le 4 (length xs) then record { at = 4; line_class = Value; text = id_text (num (order header) (take 4 xs)) } ∷ [] else []
 
@@ -43,7 +43,7 @@ named_closes least header xs = if nat_lt (length xs) least then (Fault, codes "s
 unfoldable pub small_reading : ℕ → MessageReader
 small_reading least = record { reads = named_reads; closes = named_closes least }
 
--- where as many messages may be open as in an engine that is made
+-- with as many open messages allowed as in a new engine
 unfoldable pub small : ℕ → Rules
 small least = record { reading = small_reading least; most = 16 }
 
@@ -58,14 +58,14 @@ record Writes (R : Rules) (p lines end : List ℕ) : Type 0 where
   text : text R p ≡ lines
   closing : closing R p ≡ end
 
--- names what the rows compute with
+-- lists the definitions that the rows unfold
 unfoldable pub rows : ℕ
 unfolding named_reads behind named_closes small_reading small digit octets digits num hex type_word print.start_line continues_line cancelled_line fault_line stream_fault_line unfinished_line total_line fronts wrong first_wrong first_wrong_octet minor kind order has_more size with_first cut_from limit limited cut messages read_of start_line said_line id_text rest_text is_inside is_truncated may_be_fragmented is_opener is_fragment is_cancel may_be_cancelled refused place own event_of_open id opener_of has_named goes_past header_events payload_events request_id_events message_end_events events_of_octet events_of changed opened events_from events open_after octet joined classes line lines_of_event lines_of_events by_class in_order is_last_of up_to_last_line lines_of_messages stop_line lines lines_text text start_count fault_count tally is_over first_messages unfinished final closing
 rows = 0
 
 -- ---- The rows.
 
--- two messages in fragments, which come by turns
+-- two messages in fragments, interleaved
 unfoldable pub interleaved : List ℕ
 interleaved = octets (codes "47494f50 0102 02 00 00000028 00000005 03 000000 0000 0000 00000001 41 000000 00000004 626967 00 00000000 00000000 01020304 47494f50 0102 02 00 00000024 00000006 03 000000 0000 0000 00000001 41 000000 00000004 6e6f70 00 00000000 00000000 47494f50 0102 02 07 00000006 00000005 0506 47494f50 0102 00 07 00000004 00000006 47494f50 0102 00 07 00000006 00000005 0708")
 
@@ -75,7 +75,7 @@ interleaved_row : Writes (small 0) interleaved
 unfolding rows interleaved
 interleaved_row = record { text = refl; closing = refl }
 
--- a message of which the first part has its request id alone
+-- a message whose first part has its request id alone
 unfoldable pub id_alone : List ℕ
 id_alone = octets (codes "47494f50 0102 02 00 00000004 00000008 47494f50 0102 00 07 00000020 00000008 03 000000 0000 0000 00000001 41 000000 00000004 6e6f70 00 00000000")
 
@@ -85,7 +85,7 @@ id_alone_row : Writes (small 0) id_alone
 unfolding rows id_alone
 id_alone_row = record { text = refl; closing = refl }
 
--- the end of a joined message comes too early, in a Fragment without an octet for it
+-- a joined message ends too early, with a Fragment that has no octet for it
 unfoldable pub too_short : List ℕ
 too_short = octets (codes "47494f50 0102 02 00 0000002c 00000009 03 000000 0000 0000 00000001 41 000000 00000004 736179 00 00000000 00000000 00000006 61626364 47494f50 0102 00 07 00000004 00000009")
 
@@ -185,7 +185,7 @@ other_order_row : Writes (small 0) other_order
 unfolding rows other_order
 other_order_row = record { text = refl; closing = refl }
 
--- where the byte order is wrong at the close, the rest and the end fall away
+-- where the byte order is wrong at the close, the lines of the rest and the end are not written
 unfoldable pub order_at_close : List ℕ
 order_at_close = octets (codes "47494f50 0102 02 00 00000006 00000001 00ab 47494f50 0102 01 07 04000000 01000000")
 
@@ -195,7 +195,7 @@ order_at_close_row : Writes (small 0) order_at_close
 unfolding rows order_at_close
 order_at_close_row = record { text = refl; closing = refl }
 
--- a last Fragment of the wrong byte order closes all the same
+-- a last Fragment of the wrong byte order closes its message all the same
 unfoldable pub order_then_close : List ℕ
 order_then_close = octets (codes "47494f5001020200000000040000000147494f50010201070600000001000000abcd47494f50010200070000000400000001")
 
@@ -205,7 +205,7 @@ order_then_close_row : Writes (small 0) order_then_close
 unfolding rows order_then_close
 order_then_close_row = record { text = refl; closing = refl }
 
--- a CancelRequest closes at its request id, not at its own end
+-- a CancelRequest closes a message at its request id, not at its own end
 unfoldable pub cancelled_early : List ℕ
 cancelled_early = octets (codes "47494f5001020200000000040000000147494f50010200020000000600000001")
 

@@ -8,7 +8,7 @@ use Rattle.giop_sig.specs.Trees.{tree}
 use Rattle.giop_decode.proofs.Around.{fit_part}
 use Rattle.giop_decode.proofs.Beginning.{all_push, map_push}
 use Rattle.giop_decode.proofs.Going.{part_popped, held_popped, next_in, length_places, goes_next, goes_out, goes_rest, goes_past, part_is, held_is}
-use Rattle.giop_decode.proofs.Surrounding.{around_gone, around_shut, ended_push, inside_push, outside_pop, shut, stand_pop, stand_push}
+use Rattle.giop_decode.proofs.Surrounding.{around_gone, around_unless_ended, ended_push, inside_push, outside_pop, unless_ended, stand_pop, stand_push}
 use Rattle.giop_decode.proofs.Noting.{rest_silent}
 use Rattle.giop_decode.proofs.Linking.{link_push, link_pop}
 use Rattle.giop_decode.proofs.frame.go_on.Goals as goal
@@ -148,16 +148,16 @@ returns-then-frame-last-clause-gone c coding path at =
     let part = part_of T (suc f.index) in
     let ended : has_ended c.push.new.self.items ≡ has_ended rest = rw c.push.ensures.items (ended_push rest _ (rw c.in-None.is refl)) in
     let new = c.begin.new.outer.items in
-    let same : shut (has_ended rest) [] at (open_parts t at rest ++ (next ∷ start_outer part)) (start_leaf part)
-    ≡ shut (has_ended new) [] at (open_parts t at new) (start_leaf part) =
+    let same : unless_ended (has_ended rest) [] at (open_parts t at rest ++ (next ∷ start_outer part)) (start_leaf part)
+    ≡ unless_ended (has_ended new) [] at (open_parts t at new) (start_leaf part) =
     rw (c.begin.ensures.ended, c.begin.ensures.open_parts at, ended, c.push.ensures.items, map_push)
     (rw (c.part-part.ensures.tree, add-one f.index, c.in-None.is, append_assoc) refl) in
     v.same coding path at
     ∙ (ap (λ ps. around coding path ps (Done [] at [])) (ap (open_parts t at) c.in-Some.ensures.items ∙ map_push (open_part t at) rest f)
     ∙ (ap (λ q. around coding path (open_parts t at rest ++ q ∷ []) (Done [] at [])) (part_is t at f c.in-None.is)
     ∙ (goes_next coding path (open_parts t at rest) T f.index f.count at p.left n below
-    ∙ (around_shut t coding path at rest [] (next ∷ start_outer part) (start_leaf part) p.known_rest
-    ∙ (same ∙ ap (λ l. shut (has_ended new) [] at (open_parts t at new) l) (rw (c.part-part.ensures.tree, add-one) at c.begin.ensures.leaf))))))
+    ∙ (around_unless_ended t coding path at rest [] (next ∷ start_outer part) (start_leaf part) p.known_rest
+    ∙ (same ∙ ap (λ l. unless_ended (has_ended new) [] at (open_parts t at new) l) (rw (c.part-part.ensures.tree, add-one) at c.begin.ensures.leaf))))))
 
 pub returns-then-frame-last-clause-linked : goal.returns-then-frame-last-clause-linked
 returns-then-frame-last-clause-linked c root inner h =

@@ -1,7 +1,7 @@
 use Rattle.std.proofs.Common.{arith}
 use Rattle.giop_stream.specs.Rules.{rules}
 use Rattle.giop_stream.proofs.SlotSteps.Performing.{first_failed, call_failed, then_failed, done_then, counts_as}
-use Rattle.giop_stream.proofs.SlotSteps.AtHeader.{in_two, ended_whose, none_come, come_is, begun_at}
+use Rattle.giop_stream.proofs.SlotSteps.AtHeader.{in_two, ended_owner, none_come, come_is, begun_at}
 use Rattle.giop_stream.proofs.dispatch.header.Goals as goal
 
 pub returns-in_err-refused-clause-does : goal.returns-in_err-refused-clause-does
@@ -28,4 +28,4 @@ returns-clause-does g c =
     let begun = c.in_ok-refused.ensures.does l c' who m h in
     let at = begun_at c.args.catalogue.now l c.args.slots.now c' who m c.args.now h c.starts.new.slots begun.kept in
     let ended = c.in_ok-ended.ensures.does l _ m at (come_is c.args.catalogue.now l c.args.slots.now c' who m c.args.now h) in
-    rw (two, ← ended_whose R c' m) (counts_as _ _ _ _ (omega (arith, c.count.ensures.value)) (done_then _ _ _ _ _ begun ended))
+    rw (two, ← ended_owner R c' m) (counts_as _ _ _ _ (omega (arith, c.count.ensures.value)) (done_then _ _ _ _ _ begun ended))

@@ -1,7 +1,7 @@
 use Rattle.std.proofs.Common.{sym, ap, arith}
 use Rattle.giop_stream.specs.Rules.{rules}
 use Rattle.giop_stream.specs.Effects.{Effect, with_octet}
-use Rattle.giop_stream.proofs.SlotSteps.Parts.{in_parts, some_come, come_is, takes_effect, taken_here, named_at, third_whose}
+use Rattle.giop_stream.proofs.SlotSteps.Parts.{in_parts, some_come, come_is, takes_effect, taken_here, named_at, third_owner}
 use Rattle.giop_stream.proofs.SlotSteps.Performing.{performs_on, first_failed, call_failed, then_failed, done_then, counts_as}
 use Rattle.giop_stream.proofs.SlotSteps.AtHeader.{ready_later}
 use Rattle.giop_stream.proofs.dispatch.octet.Goals as goal
@@ -76,4 +76,4 @@ returns-clause-does g c =
     let at = named_at C l c.args.slots.now c' m c.args.now x h c.at_fourth_octet.new.slots named.kept in
     let payload_count = come_is C l c.args.slots.now c' m c.args.now x h in
     let all = done_then _ _ _ _ _ took (done_then _ _ _ _ _ named (c.in_ok-ended.ensures.does l _ _ at payload_count)) in
-    rw (parts, ← third_whose (rules C l c.args.slots.now.slots.most) c' (with_octet m x)) (counts_as _ _ _ _ (sym c.count.ensures.value) all)
+    rw (parts, ← third_owner (rules C l c.args.slots.now.slots.most) c' (with_octet m x)) (counts_as _ _ _ _ (sym c.count.ensures.value) all)

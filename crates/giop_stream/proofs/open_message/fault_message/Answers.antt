@@ -1,7 +1,7 @@
 use Rattle.std.proofs.Common.{refl, sym, ap, ◌∙◌}
 use Rattle.std.specs.Prelude.{is_some}
 use Rattle.giop_stream.proofs.SlotSteps.Performing.{does_nothing, wrote_line, line_failed}
-use Rattle.giop_stream.proofs.SlotSteps.ReadingEffects.{over_part, imposed_part, faulted_text, faulted_one, no_message}
+use Rattle.giop_stream.proofs.SlotSteps.ReadingEffects.{over_part, faulted_part, faulted_text, faulted_one, no_message}
 use Rattle.giop_stream.proofs.open_message.fault_message.Goals as goal
 
 pub returns-then-is_none-clause-does : goal.returns-then-is_none-clause-does
@@ -13,13 +13,13 @@ returns-then-is_none-clause-does g c =
 pub returns-in_err-framing_fault_line-clause-does : goal.returns-in_err-framing_fault_line-clause-does
 returns-in_err-framing_fault_line-clause-does g c =
     λ C l w o k n.
-    let part = imposed_part C l c.args.message.now w o c.args.place c.args.fault (ap is_some (sym c.take.ensures.value) ∙ c.if-is_none.ensures) k in
+    let part = faulted_part C l c.args.message.now w o c.args.place c.args.fault (ap is_some (sym c.take.ensures.value) ∙ c.if-is_none.ensures) k in
     rw part (line_failed c.from_residual.result _ _ _ (record { more = _; is = refl })
     (faulted_text c.args.place c.args.number c.args.fault w n) c.from_residual.ensures.0 c.in_err-framing_fault_line.ensures)
 
 pub returns-clause-does : goal.returns-clause-does
 returns-clause-does g c =
     λ C l w o k n.
-    let part = imposed_part C l c.args.message.now w o c.args.place c.args.fault (ap is_some (sym c.take.ensures.value) ∙ c.if-is_none.ensures) k in
+    let part = faulted_part C l c.args.message.now w o c.args.place c.args.fault (ap is_some (sym c.take.ensures.value) ∙ c.if-is_none.ensures) k in
     rw (c.take.ensures.after, part) (wrote_line _ _ _ _ (faulted_text c.args.place c.args.number c.args.fault w n)
     (faulted_one c.args.place w.number c.args.fault) c.in_ok-framing_fault_line.ensures tt)

@@ -2,7 +2,7 @@ use Rattle.std.proofs.Common.{◌+◌, [], ap, append-nil, subst, sym, ◌∙◌
 use Rattle.giop_decode.proofs.Advancing.{stands_at, same_some, goes, step_fits, lines_turned}
 use Rattle.giop_decode.proofs.Surrounding.{IsCoded, coded_in}
 use Rattle.giop_print.proofs.Writing.{writes_failed}
-use Rattle.giop_decode.proofs.Noting.{heard_on, leaf_inside}
+use Rattle.giop_decode.proofs.Noting.{noted_on, leaf_inside}
 use Rattle.giop_decode.specs.Noted.{noted, without_name_if, ends_in_string, is_header_root, nothing_noted}
 use Rattle.giop_decode.specs.DecoderState.{HoldsNoted}
 use Rattle.giop_decode.specs.NotingSteps.{leaf_in_string}
@@ -100,7 +100,7 @@ returns-clause-fits g c goes_on =
     (λ other. let was = rw c.in_ok-progress.ensures.root at other in c.in_ok-progress.ensures.id was ∙ f.heeds was)
 
 pub returns-clause-keeps_noted : goal.returns-clause-keeps_noted
-returns-clause-keeps_noted g c here front h old_minds =
+returns-clause-keeps_noted g c here front h old_keeps_noted =
     let C = c.args.catalogue.now in
     let d = c.args.self.now in
     let f = c.requires.fits in
@@ -120,9 +120,9 @@ returns-clause-keeps_noted g c here front h old_minds =
     let i = rw c.of-of.ensures at (c.in_ok-progress.ensures.inside here t.lines) in
     let before : HoldsNoted d.notes (without_name_if (leaf_in_string T leaf) (noted header nothing_noted front)) =
     subst (λ b. HoldsNoted d.notes (without_name_if b (noted header nothing_noted front))) (leaf_inside C leaf d.carry d.piece.items)
-    (rw c.in-Some.is at old_minds) in
-    let now = rw (c.of-of.ensures, append-nil piece) at (c.in_ok-progress.ensures.hears (without_name_if (leaf_in_string T leaf)
+    (rw c.in-Some.is at old_keeps_noted) in
+    let now = rw (c.of-of.ensures, append-nil piece) at (c.in_ok-progress.ensures.notes (without_name_if (leaf_in_string T leaf)
     (noted header nothing_noted front)) here (here + 1) t.lines before) in
-    let on = heard_on header C leaf transition output (path_in [] ps) (here + 1) piece front t.lines (decoder_step C d here c.args.octet)
+    let on = noted_on header C leaf transition output (path_in [] ps) (here + 1) piece front t.lines (decoder_step C d here c.args.octet)
     c.take_octet-step.ensures.output_fits_string t.says (ap ends_in_string e ∙ i) ls in
     subst (HoldsNoted c.emit.new.self.notes) on (now t.says)

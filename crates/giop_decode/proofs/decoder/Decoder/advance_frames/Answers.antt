@@ -7,8 +7,8 @@ use Rattle.giop_decode.proofs.Beginning.{all_push, map_push}
 use Rattle.giop_decode.proofs.Around.{around-append, around-fault, fit_room}
 use Rattle.giop_decode.proofs.Going.{place_part, place_case}
 use Rattle.giop_decode.proofs.TransitionsInFrames.{fit_first, fit_selected, fit_inside, around_done}
-use Rattle.giop_decode.proofs.Surrounding.{front_gone, behind_stopped, around_gone, around_shut, ended_push, inside_frame, inside_push, or_false, or_true, shut, stand_push}
-use Rattle.giop_decode.proofs.Noting.{leaf_inside, shut_inside, stopped_silent}
+use Rattle.giop_decode.proofs.Surrounding.{front_gone, behind_stopped, around_gone, around_unless_ended, ended_push, inside_frame, inside_push, or_false, or_true, unless_ended, stand_push}
+use Rattle.giop_decode.proofs.Noting.{leaf_inside, unless_ended_inside, stopped_silent}
 use Rattle.giop_decode.proofs.Linking.{link_number, link_push}
 use Rattle.giop_decode.proofs.decoder.Decoder.advance_frames.Goals as goal
 use Rattle.giop_sig.specs.Types.{part_of}
@@ -44,18 +44,18 @@ begin-requires-in-Entered-clause-fit c =
     let e : pred (24 - length c.args.self.now.outer.items) ≡ 24 - length c.push-in-Entered.new.self.items = omega (arith, c.push-in-Entered.ensures.len) in
     rw (← e, c.part-part-in-Entered.ensures.tree) (fit_inside (24 - length c.args.self.now.outer.items) T c.requires.fit opens.0)
 
-pub returns-in-More-clause-settles : goal.returns-in-More-clause-settles
-returns-in-More-clause-settles c coding path at lines =
+pub returns-in-More-clause-advances : goal.returns-in-More-clause-advances
+returns-in-More-clause-advances c coding path at lines =
     let C = c.args.catalogue.now in
     rw c.in-More.is (around_gone C coding path at c.args.self.now.outer.items lines (leaf_of C c.in-More.leaf c.args.self.now.carry c.args.self.now.piece.items) c.requires.known_outer)
 
-pub returns-in-Refused-clause-settles : goal.returns-in-Refused-clause-settles
-returns-in-Refused-clause-settles c coding path at lines =
+pub returns-in-Refused-clause-advances : goal.returns-in-Refused-clause-advances
+returns-in-Refused-clause-advances c coding path at lines =
     let C = c.args.catalogue.now in
     rw c.in-Refused.is (around-fault coding path (open_parts C at c.args.self.now.outer.items) lines at _ (tree C c.args.of.0))
 
-pub returns-in-Opened-clause-settles : goal.returns-in-Opened-clause-settles
-returns-in-Opened-clause-settles c coding path at lines =
+pub returns-in-Opened-clause-advances : goal.returns-in-Opened-clause-advances
+returns-in-Opened-clause-advances c coding path at lines =
     let C = c.args.catalogue.now in
     let T = tree C c.args.of.0 in
     let old = c.args.self.now.outer.items in
@@ -63,14 +63,14 @@ returns-in-Opened-clause-settles c coding path at lines =
     let transitions = rw c.in-Opened.is at c.requires.transition_fits in
     let ended : has_ended c.push.new.self.items ≡ has_ended old = rw c.push.ensures.items (ended_push old _ refl) in
     let inner = Part T 0 c.in-Opened.count ∷ start_outer (part_of T 0) in
-    let same : shut (has_ended old) lines at (open_parts C at old ++ inner) (start_leaf (part_of T 0)) ≡ shut (has_ended new) lines at (open_parts C at new) (start_leaf (part_of T 0)) =
+    let same : unless_ended (has_ended old) lines at (open_parts C at old ++ inner) (start_leaf (part_of T 0)) ≡ unless_ended (has_ended new) lines at (open_parts C at new) (start_leaf (part_of T 0)) =
     rw (c.begin.ensures.ended, c.begin.ensures.open_parts at, ended, c.push.ensures.items, map_push, c.part-part.ensures.tree, place_part T 0 c.in-Opened.count transitions.0, append_assoc) refl in
     rw (c.in-Opened.is, c.clear.ensures)
-    (around_shut C coding path at old lines inner (start_leaf (part_of T 0)) c.requires.known_outer
-    ∙ (same ∙ ap (λ l. shut (has_ended new) lines at (open_parts C at new) l) (rw c.part-part.ensures.tree at c.begin.ensures.leaf)))
+    (around_unless_ended C coding path at old lines inner (start_leaf (part_of T 0)) c.requires.known_outer
+    ∙ (same ∙ ap (λ l. unless_ended (has_ended new) lines at (open_parts C at new) l) (rw c.part-part.ensures.tree at c.begin.ensures.leaf)))
 
-pub returns-in-Selected-clause-settles : goal.returns-in-Selected-clause-settles
-returns-in-Selected-clause-settles c coding path at lines =
+pub returns-in-Selected-clause-advances : goal.returns-in-Selected-clause-advances
+returns-in-Selected-clause-advances c coding path at lines =
     let C = c.args.catalogue.now in
     let T = tree C c.args.of.0 in
     let old = c.args.self.now.outer.items in
@@ -78,14 +78,14 @@ returns-in-Selected-clause-settles c coding path at lines =
     let transitions = rw c.in-Selected.is at c.requires.transition_fits in
     let ended : has_ended c.push-in-Selected.new.self.items ≡ has_ended old = rw c.push-in-Selected.ensures.items (ended_push old _ refl) in
     let inner = Member T c.in-Selected.index ∷ start_outer (part_of T c.in-Selected.index) in
-    let same : shut (has_ended old) lines at (open_parts C at old ++ inner) (start_leaf (part_of T c.in-Selected.index)) ≡ shut (has_ended new) lines at (open_parts C at new) (start_leaf (part_of T c.in-Selected.index)) =
+    let same : unless_ended (has_ended old) lines at (open_parts C at old ++ inner) (start_leaf (part_of T c.in-Selected.index)) ≡ unless_ended (has_ended new) lines at (open_parts C at new) (start_leaf (part_of T c.in-Selected.index)) =
     rw (c.begin-in-Selected.ensures.ended, c.begin-in-Selected.ensures.open_parts at, ended, c.push-in-Selected.ensures.items, map_push, c.part-part-in-Selected.ensures.tree, place_case T c.in-Selected.index 0 transitions, append_assoc) refl in
     rw (c.in-Selected.is, c.clear-in-Selected.ensures)
-    (around_shut C coding path at old lines inner (start_leaf (part_of T c.in-Selected.index)) c.requires.known_outer
-    ∙ (same ∙ ap (λ l. shut (has_ended new) lines at (open_parts C at new) l) (rw c.part-part-in-Selected.ensures.tree at c.begin-in-Selected.ensures.leaf)))
+    (around_unless_ended C coding path at old lines inner (start_leaf (part_of T c.in-Selected.index)) c.requires.known_outer
+    ∙ (same ∙ ap (λ l. unless_ended (has_ended new) lines at (open_parts C at new) l) (rw c.part-part-in-Selected.ensures.tree at c.begin-in-Selected.ensures.leaf)))
 
-pub returns-in-Entered-clause-settles : goal.returns-in-Entered-clause-settles
-returns-in-Entered-clause-settles c coding path at lines =
+pub returns-in-Entered-clause-advances : goal.returns-in-Entered-clause-advances
+returns-in-Entered-clause-advances c coding path at lines =
     let C = c.args.catalogue.now in
     let T = tree C c.args.of.0 in
     let old = c.args.self.now.outer.items in
@@ -95,13 +95,13 @@ returns-in-Entered-clause-settles c coding path at lines =
     let transitions = rw c.in-Entered.is at c.requires.transition_fits in
     let f = inside_frame c.args.of c.in-Entered.order c.in-Entered.count in
     let all : AreKnown C pushed = rw c.push-in-Entered.ensures.items (all_push (IsKnown C) old f c.requires.known_outer (record { known = c.requires.known; within = (transitions.0, omega arith, omega (arith, transitions.1)) })) in
-    let same : shut (has_ended pushed) lines at (open_parts C at pushed ++ start_outer part) (start_leaf part) ≡ shut (has_ended new) lines at (open_parts C at new) (start_leaf part) =
+    let same : unless_ended (has_ended pushed) lines at (open_parts C at pushed ++ start_outer part) (start_leaf part) ≡ unless_ended (has_ended new) lines at (open_parts C at new) (start_leaf part) =
     rw (c.begin-in-Entered.ensures.ended, c.begin-in-Entered.ensures.open_parts at, c.part-part-in-Entered.ensures.tree) refl in
     rw (c.in-Entered.is, c.clear-in-Entered.ensures)
     (sym (ap (λ ps. around coding path ps (Short lines at (start_outer part) (start_leaf part))) (ap (open_parts C at) c.push-in-Entered.ensures.items ∙ map_push (open_part C at) old f)
     ∙ around-append coding path (open_parts C at old) (open_part C at f) (Short lines at (start_outer part) (start_leaf part)))
-    ∙ (around_shut C coding path at pushed lines (start_outer part) (start_leaf part) all
-    ∙ (same ∙ ap (λ l. shut (has_ended new) lines at (open_parts C at new) l) (rw c.part-part-in-Entered.ensures.tree at c.begin-in-Entered.ensures.leaf))))
+    ∙ (around_unless_ended C coding path at pushed lines (start_outer part) (start_leaf part) all
+    ∙ (same ∙ ap (λ l. unless_ended (has_ended new) lines at (open_parts C at new) l) (rw c.part-part-in-Entered.ensures.tree at c.begin-in-Entered.ensures.leaf))))
 
 pub returns-in-Opened-clause-stand : goal.returns-in-Opened-clause-stand
 returns-in-Opened-clause-stand c at pos h = c.begin.ensures.stand at (rw c.push.ensures.items (stand_push at c.args.self.now.outer.items _ h tt))
@@ -122,8 +122,8 @@ returns-in-Entered-clause-link c root leaf moved h e =
 pub returns-in-Ended-clause-stand : goal.returns-in-Ended-clause-stand
 returns-in-Ended-clause-stand c at pos h = c.go_on-self.ensures.stand at h
 
-pub returns-in-Ended-clause-settles : goal.returns-in-Ended-clause-settles
-returns-in-Ended-clause-settles c coding path at lines =
+pub returns-in-Ended-clause-advances : goal.returns-in-Ended-clause-advances
+returns-in-Ended-clause-advances c coding path at lines =
     let C = c.args.catalogue.now in
     rw c.in-Ended.is
     (around_done coding path (open_parts C at c.args.self.now.outer.items) lines at
@@ -150,7 +150,7 @@ returns-in-More-clause-inside c at lines =
     let leaf = c.in-More.leaf in
     let transitions = rw c.in-More.is at c.requires.transition_fits in
     rw (c.in-More.is, ← transitions.0)
-    (shut_inside (has_ended d.outer.items) lines at (open_parts C at d.outer.items) (leaf_of C leaf d.carry d.piece.items) ∙ leaf_inside C leaf d.carry d.piece.items)
+    (unless_ended_inside (has_ended d.outer.items) lines at (open_parts C at d.outer.items) (leaf_of C leaf d.carry d.piece.items) ∙ leaf_inside C leaf d.carry d.piece.items)
 
 pub returns-in-Ended-clause-inside : goal.returns-in-Ended-clause-inside
 returns-in-Ended-clause-inside c at lines =

@@ -70,7 +70,7 @@ returns-clause-steps g c here lines says =
     let held = still_held c.args.step.output d.piece.items in
     let pt : open_parts C here d.outer.items ≡ open_parts C (here + 1) c.tick.new.outer.items =
     sym (places_ticked C here d.outer.items c.requires.around.ahead) ∙ ap (open_parts C (here + 1)) (sym c.tick.ensures.ticked) in
-    let s = rw c.let_go.ensures at (c.advance_frames.ensures.settles (plain d.order) [] (here + 1) lines) in
+    let s = rw c.let_go.ensures at (c.advance_frames.ensures.advances (plain d.order) [] (here + 1) lines) in
     let come = ap (λ qs. around (plain d.order) [] qs (after_transition C T transition d.carry held lines (here + 1))) pt ∙ s in
     let n = rw (c.as_slice-2.ensures.value, c.deref-2.ensures.0) at (c.note-named.ensures.named here (here + 1) lines) in
     let ended : c.has_ended-ended.result ≡ has_ended c.advance_frames.new.self.outer.items = rw (← c.as_slice-3.ensures.value) c.has_ended-ended.ensures in
@@ -85,11 +85,11 @@ returns-clause-inside g c here lines =
     let held = still_held c.args.step.output d.piece.items in
     let pt : open_parts C here d.outer.items ≡ open_parts C (here + 1) c.tick.new.outer.items =
     sym (places_ticked C here d.outer.items c.requires.around.ahead) ∙ ap (open_parts C (here + 1)) (sym c.tick.ensures.ticked) in
-    let s = rw c.let_go.ensures at (c.advance_frames.ensures.settles (plain d.order) [] (here + 1) lines) in
+    let s = rw c.let_go.ensures at (c.advance_frames.ensures.advances (plain d.order) [] (here + 1) lines) in
     let come = ap (λ qs. around (plain d.order) [] qs (after_transition C T c.args.step.transition d.carry held lines (here + 1))) pt ∙ s in
     ap ends_in_string come ∙ c.advance_frames.ensures.inside (here + 1) lines
 
-pub returns-clause-hears : goal.returns-clause-hears
-returns-clause-hears g c h here at lines before says =
-    let now = rw (c.as_slice-2.ensures.value, c.deref-2.ensures.0) at (c.note-named.ensures.hears h here at lines before) in
+pub returns-clause-notes : goal.returns-clause-notes
+returns-clause-notes g c h here at lines before says =
+    let now = rw (c.as_slice-2.ensures.value, c.deref-2.ensures.0) at (c.note-named.ensures.notes h here at lines before) in
     rw c.advance_frames.ensures.notes (now says)

@@ -3,7 +3,7 @@ use Rattle.giop_decode.proofs.Advancing.{goes, same_some, step_fits}
 use Rattle.giop_decode.proofs.Runs.{text_more, takes_more, breaks_off, writes_broken}
 use Rattle.giop_decode.proofs.Segments.{said_none}
 use Rattle.giop_decode.proofs.Taking.{takes_to, due_is, done}
-use Rattle.giop_decode.proofs.Whole.{around_whole, before_last, gathered_whole, lines_at, lines_whole, minds_whole, says_at, told_whole}
+use Rattle.giop_decode.proofs.Whole.{around_whole, before_last, gathered_whole, lines_at, lines_whole, keeps_noted_whole, says_at, told_whole}
 use Rattle.giop_decode.specs.DecoderSteps.{decoder_step}
 use Rattle.giop_decode.specs.Runs.{added_lines_of_run, TakesRun}
 use Rattle.giop_decode.specs.Spelling.{lines_text}
@@ -95,8 +95,8 @@ returns-clause-takes g c T order at message root s r =
     (takes_more C T order at message root new s octets i p below held.takes.answers
     (takes_to C T order at message root before new (s ++ take i octets) b p whole.0 e.order e.root e.message e.here
     (λ here stands. rw (told_whole C d octets a.of a.count a.step a.rest.now f h there here step stands) (e.steps here (lines here) (says here)))
-    (λ here front stands old. minds_whole C d octets a.of a.count a.step a.rest.now f h new there here front step stands (e.inside here (lines here))
-    (λ o recalls. e.hears o here (here + 1) (lines here) recalls (says here)) old)
+    (λ here front stands old. keeps_noted_whole C d octets a.of a.count a.step a.rest.now f h new there here front step stands (e.inside here (lines here))
+    (λ o recalls. e.notes o here (here + 1) (lines here) recalls (says here)) old)
     (held.takes.reads (λ fault. fault))))
 
 pub returns-clause-fits : goal.returns-clause-fits

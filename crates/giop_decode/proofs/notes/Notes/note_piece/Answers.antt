@@ -27,29 +27,29 @@ module _ (h : Noted) (held rest : List ℕ) (m new : Notes)
   without before same recalls none = subst (HoldsNoted new) (all_rest h held rest none)
       (adds (without_name_if true h) (subst (λ n. HoldsNoted n (without_name_if true h)) (sym same) recalls))
 
-pub returns-then-not-more-clause-hears : goal.returns-then-not-more-clause-hears
-returns-then-not-more-clause-hears c h recalls =
+pub returns-then-not-more-clause-notes : goal.returns-then-not-more-clause-notes
+returns-then-not-more-clause-notes c h recalls =
     let held = c.args.held.now in
     let rest = c.args.rest.now in
-    let quiet = c.forget.ensures.hears h recalls in
+    let quiet = c.forget.ensures.notes h recalls in
     let both : HoldsNoted c.extend-2.new.self (with_piece h (held ++ rest)) = elim c.if-not-is_empty.branch [
-      | then-not-is_empty w ↦ with_held h held rest c.if-not-is_empty.self c.extend-2.new.self c.extend-2.ensures.hears w.extend.new.self w.self-is
-          (w.extend.ensures.hears (without_name_if true h) quiet)
-      | else-not-is_empty w ↦ without h held rest c.if-not-is_empty.self c.extend-2.new.self c.extend-2.ensures.hears c.forget.new.self w.self-is quiet
+      | then-not-is_empty w ↦ with_held h held rest c.if-not-is_empty.self c.extend-2.new.self c.extend-2.ensures.notes w.extend.new.self w.self-is
+          (w.extend.ensures.notes (without_name_if true h) quiet)
+      | else-not-is_empty w ↦ without h held rest c.if-not-is_empty.self c.extend-2.new.self c.extend-2.ensures.notes c.forget.new.self w.self-is quiet
           w.if-not-is_empty.ensures
     ] in
     subst (HoldsNoted c.end.new.self) (piece_last h (held ++ rest) c.args.more c.if-not-more.true)
-    (c.end.ensures.hears (with_piece h (held ++ rest)) both)
+    (c.end.ensures.notes (with_piece h (held ++ rest)) both)
 
-pub returns-else-not-more-clause-hears : goal.returns-else-not-more-clause-hears
-returns-else-not-more-clause-hears c h recalls =
+pub returns-else-not-more-clause-notes : goal.returns-else-not-more-clause-notes
+returns-else-not-more-clause-notes c h recalls =
     let held = c.args.held.now in
     let rest = c.args.rest.now in
-    let quiet = c.forget.ensures.hears h recalls in
+    let quiet = c.forget.ensures.notes h recalls in
     let both : HoldsNoted c.extend-2.new.self (with_piece h (held ++ rest)) = elim c.if-not-is_empty.branch [
-      | then-not-is_empty w ↦ with_held h held rest c.if-not-is_empty.self c.extend-2.new.self c.extend-2.ensures.hears w.extend.new.self w.self-is
-          (w.extend.ensures.hears (without_name_if true h) quiet)
-      | else-not-is_empty w ↦ without h held rest c.if-not-is_empty.self c.extend-2.new.self c.extend-2.ensures.hears c.forget.new.self w.self-is quiet
+      | then-not-is_empty w ↦ with_held h held rest c.if-not-is_empty.self c.extend-2.new.self c.extend-2.ensures.notes w.extend.new.self w.self-is
+          (w.extend.ensures.notes (without_name_if true h) quiet)
+      | else-not-is_empty w ↦ without h held rest c.if-not-is_empty.self c.extend-2.new.self c.extend-2.ensures.notes c.forget.new.self w.self-is quiet
           w.if-not-is_empty.ensures
     ] in
     subst (HoldsNoted c.extend-2.new.self) (piece_more h (held ++ rest) c.args.more c.if-not-more.false) both

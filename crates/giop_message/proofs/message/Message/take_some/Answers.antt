@@ -5,7 +5,7 @@ use Rattle.giop_message.specs.Signatures.{signatures_of}
 use Rattle.giop_message.specs.MessageState.{Follows}
 use Rattle.giop_message.proofs.Followings.{same_fields}
 use Rattle.giop_message.proofs.Rests.{no_text, rest_text, rest_follows}
-use Rattle.giop_message.proofs.SectionRuns.{run_front, run_failed, first_alone, standing, took, by_reads, ReadWith, text_broken, failed_behind, text_more, text_done, text_named, text_wrong, minds_header, went_on, went_done, went_wrong}
+use Rattle.giop_message.proofs.SectionRuns.{run_front, run_failed, first_alone, standing, took, by_reads, ReadWith, text_broken, failed_behind, text_more, text_done, text_named, text_wrong, keeps_noted_header, went_on, went_done, went_wrong}
 use Rattle.giop_message.proofs.message.Message.take_some.Goals as goal
 
 pub returns-in_err-taken-in-Typed-clause-writes : goal.returns-in_err-taken-in-Typed-clause-writes
@@ -33,7 +33,7 @@ returns-in_err-call-in-Named-clause-writes g c number header s f =
     let t = standing f c.in-Typed.is c.requires.fits in
     let ran = c.in_ok-taken-in-Typed.ensures in
     let k = took t c.args.octets.now c.in_ok-taken-in-Typed.taken ran.within (ran.some c.requires.some) (by_reads t ran.takes) c.in-Named.is in
-    let called = c.in_err-call-in-Named.ensures (ReadWith t (take c.in_ok-taken-in-Typed.taken c.args.octets.now)) (minds_header k) in
+    let called = c.in_err-call-in-Named.ensures (ReadWith t (take c.in_ok-taken-in-Typed.taken c.args.octets.now)) (keeps_noted_header k) in
     failed_behind c.from_residual-in_err-call-in-Named.result c.args.place c.from_residual-in_err-call-in-Named.ensures.0 k (text_named k c.args.place)
     (by_reads t ran.writes) called
 
@@ -42,7 +42,7 @@ returns-in_ok-call-in-Named-clause-writes g c number header s f =
     let t = standing f c.in-Typed.is c.requires.fits in
     let ran = c.in_ok-taken-in-Typed.ensures in
     let k = took t c.args.octets.now c.in_ok-taken-in-Typed.taken ran.within (ran.some c.requires.some) (by_reads t ran.takes) c.in-Named.is in
-    let called = c.in_ok-call-in-Named.ensures (ReadWith t (take c.in_ok-taken-in-Typed.taken c.args.octets.now)) (minds_header k) in
+    let called = c.in_ok-call-in-Named.ensures (ReadWith t (take c.in_ok-taken-in-Typed.taken c.args.octets.now)) (keeps_noted_header k) in
     rw (text_named k c.args.place) (wrote-append _ _ _ _ _ (by_reads t ran.writes) called)
 
 pub returns-in_ok-call-in-Named-clause-went : goal.returns-in_ok-call-in-Named-clause-went

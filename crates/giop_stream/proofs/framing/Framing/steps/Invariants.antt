@@ -9,7 +9,7 @@ use Rattle.giop_stream.specs.FramingView.{framing_view}
 use Rattle.giop_stream.specs.ViewOfState.{IsReached, Shows}
 use Rattle.giop_stream.proofs.framing.Framing.steps.Given as goal
 
--- the octets before the rest have come
+-- the octets before `rest` were taken
 abbrev pub invariant-loop-octet : goal.invariant-loop-octet
 invariant-loop-octet g l =
     record {
