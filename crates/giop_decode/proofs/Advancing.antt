@@ -23,7 +23,7 @@ use Rattle.giop_decode.specs.Fits.{FitsIn, OpenFrom, Sound, leaf_ty}
 use Rattle.giop_decode.specs.Transitions.{open_parts, has_ended, is_inside, leaf_of, leaf_type, ticked, after_transition, AreKnown, HaveOctetsLeft, Link, IsClean}
 use Rattle.giop_decode.specs.Noted.{is_header_root, names_operation}
 use Rattle.giop_decode.specs.DecoderState.{Fits, GoesOn, CanStandAt, read_by_fields, read_by_leaf}
-use Rattle.giop_decode.specs.DecoderSteps.{transition_result, decoder_step, stopped, leaf_in, Comes, IsGoing, IsProgress, IsMoved}
+use Rattle.giop_decode.specs.DecoderSteps.{transition_result, decoder_step, stopped, leaf_in, Comes, IsGoing, IsProgress, IsNotRefused}
 use Rattle.giop_decode.proofs.Around.{fit_room, around-fault}
 use Rattle.giop_decode.proofs.Going.{length_places}
 use Rattle.giop_decode.proofs.Leaving.{leaf_at, step_keeps}
@@ -85,7 +85,7 @@ goes C d progress.Done at r c h = absurd h
 goes C d (progress.Fault kind) at r c h = absurd h
 goes C d _ at r c h = record { lines = c.0; is = c.1.0; leaf = c.1.1.0; goes_on = c.1.1.1 }
 
-pub moved : (named ended : Bool) (transition : Transition) (leaf : Option Innermost) (p : Progress) → IsProgress named ended transition leaf p → GoesOn p → IsMoved transition
+pub moved : (named ended : Bool) (transition : Transition) (leaf : Option Innermost) (p : Progress) → IsProgress named ended transition leaf p → GoesOn p → IsNotRefused transition
 moved named ended (transitions.Refused kind) leaf p h g = rw h at g
 moved named ended _ leaf p h g = tt
 
@@ -107,7 +107,7 @@ fits_in T end at C d lines leaf r sound is goes_on = (subst (Sound T end) (is �
 pub step_fits : (C : Table) (d new : Decoder) (f : Fits C d) (octet : ℕ) (g : Goes C new (f.here + 1) (decoder_step C d f.here octet)) → CanStandAt new (f.here + 1) → HaveOctetsLeft new.outer.items →
     new.inside ≡ is_inside new.outer.items → Link C f.root new.outer.items (leaf_type g.leaf) → AreKnown C new.outer.items → leaf_type g.leaf < length C.types → IsClean g.leaf new.carry new.piece.items →
     (is_header_root new.root ≡ false → new.notes.request_id ≡ None) → Fits C new
-step_fits C d new f octet g here ahead inside link known_outer known clean heeds =
+step_fits C d new f octet g here ahead inside link known_outer known clean id_in_header_only =
     let sound : Sound (tree C f.root) (f.here + 1) (decoder_step C d f.here octet) =
     subst (λ l. Sound (tree C f.root) (f.here + 1) (step (plain d.order) [] (open_parts C f.here d.outer.items) (leaf_in C d l) f.here octet)) (sym f.goes_on)
     (step_keeps 24 (plain d.order) [] (tree C f.root) (open_parts C f.here d.outer.items) (leaf_of C f.leaf d.carry d.piece.items) f.here octet f.fit f.fits
@@ -128,7 +128,7 @@ step_fits C d new f octet g here ahead inside link known_outer known clean heeds
       known = known;
       clean = clean;
       at = omega (arith, here.0);
-      heeds = heeds;
+      id_in_header_only = id_in_header_only;
     }
 
 lines_entered : (C : Table) (coding : Coding) (path : List PathSegment) (frames : List Frame) (test : Bool) (inner : List OpenPart) (leaf : Leaf) (lines : List Line) (at : ℕ) → AreKnown C frames →
@@ -157,8 +157,8 @@ lines_turned_at C coding path frames T transitions.Ended carry piece lines at k 
     ap lines_of (around_done coding path ps lines at) ∙ (lines_front lines inner ∙ (ap (λ ls. lines ++ ls) none ∙ append-nil lines))
 
 -- no lines but those of the innermost part
-pub lines_turned : (C : Table) (here : ℕ) (coding : Coding) (path : List PathSegment) (frames : List Frame) (T : Ty) (transition : Transition) (carry piece : List ℕ) (lines : List Line) → HaveOctetsLeft frames → AreKnown C frames →
+pub lines_after_transition : (C : Table) (here : ℕ) (coding : Coding) (path : List PathSegment) (frames : List Frame) (T : Ty) (transition : Transition) (carry piece : List ℕ) (lines : List Line) → HaveOctetsLeft frames → AreKnown C frames →
     lines_of (around coding path (open_parts C here frames) (after_transition C T transition carry piece lines (here + 1))) ≡ lines
-lines_turned C here coding path frames T transition carry piece lines ahead known =
+lines_after_transition C here coding path frames T transition carry piece lines ahead known =
     ap (λ qs. lines_of (around coding path qs (after_transition C T transition carry piece lines (here + 1)))) (sym (places_ticked C here frames ahead))
     ∙ lines_turned_at C coding path (ticked frames) T transition carry piece lines (here + 1) (known_ticked C frames ahead known)

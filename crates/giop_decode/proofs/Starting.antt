@@ -66,7 +66,7 @@ first_fits C of d first known_root fit goes_on empty none are stand ahead inside
       known = known;
       clean = none;
       at = at;
-      heeds = λ other. none_said;
+      id_in_header_only = λ other. none_said;
     }
 
 -- what can stand at the root, and isn't the empty struct, fits

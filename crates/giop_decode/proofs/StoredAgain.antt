@@ -32,7 +32,7 @@ restored_fits C d e r h = record {
   known = h.known;
   clean = rw (r.carry, r.piece) h.clean;
   at = rw r.at h.at;
-  heeds = rw (r.root, r.notes.request_id) h.heeds;
+  id_in_header_only = rw (r.root, r.notes.request_id) h.id_in_header_only;
 }
 
 -- ---- readings

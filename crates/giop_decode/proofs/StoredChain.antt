@@ -223,7 +223,7 @@ chains_fits C d laws h =
       known = h.known_leaf;
       clean = h.fits.1;
       at = h.at;
-      heeds = h.heeds;
+      id_in_header_only = h.id_in_header_only;
     }
 
 pub fits_chains : (C : Table) (d : Decoder) → IsTable C → Fits C d → Chains C d
@@ -240,7 +240,7 @@ fits_chains C d laws h =
       inside = h.inside;
       fits = (c.inner, h.clean);
       at = h.at;
-      heeds = h.heeds;
+      id_in_header_only = h.id_in_header_only;
     }
 
 -- ---- how many

@@ -127,11 +127,11 @@ member_case (Octets bound) i u h = absurd u
 
 -- a union after a discriminator that is a value
 module _ (C : Table) (coding : Coding) (path : List PathSegment) (at : ℕ) (number : Taken) where
-  pub turns_case : (d : ℕ) (T : Ty) (i : ℕ) (is : IsNumberOf (switch_of T) number) → IsFit d T → IsUnion (shape_in T) → select_in T is.n ≡ Case i → HasCase T i →
+  pub case_transition : (d : ℕ) (T : Ty) (i : ℕ) (is : IsNumberOf (switch_of T) number) → IsFit d T → IsUnion (shape_in T) → select_in T is.n ≡ Case i → HasCase T i →
       TransitionGives C T (transitions.Selected i) (outputs.Switch number) [] [] path at (after coding path T is.n at [])
   unfolding IsFit
-  turns_case zero T i is fit u e h = absurd fit
-  turns_case (suc d) (Union choice scalar select names cases) i is fit u e h =
+  case_transition zero T i is fit u e h = absurd fit
+  case_transition (suc d) (Union choice scalar select names cases) i is fit u e h =
       let s : scalar ≡ is.scalar = same_scalar scalar is.scalar is.is in
       let w : wrong scalar is.n ≡ None = rw s is.right in
       record {
@@ -140,14 +140,14 @@ module _ (C : Table) (coding : Coding) (path : List PathSegment) (at : ℕ) (num
             (Member (Union choice scalar select names cases) i ∷ start_outer (cases i)) (start_leaf (cases i))) s);
         says = (is, refl);
       }
-  turns_case (suc d) (Struct n names parts) i is fit u e h = absurd u
-  turns_case (suc d) (Array n T) i is fit u e h = absurd u
-  turns_case (suc d) (Sequence bound T) i is fit u e h = absurd u
-  turns_case (suc d) (Single (Plain p)) i is fit u e h = absurd u
-  turns_case (suc d) (Single (Enum n names)) i is fit u e h = absurd u
-  turns_case (suc d) (Text bound) i is fit u e h = absurd u
-  turns_case (suc d) (Octets bound) i is fit u e h = absurd u
-  turns_case (suc d) (Encapsulation T) i is fit u e h = absurd u
+  case_transition (suc d) (Struct n names parts) i is fit u e h = absurd u
+  case_transition (suc d) (Array n T) i is fit u e h = absurd u
+  case_transition (suc d) (Sequence bound T) i is fit u e h = absurd u
+  case_transition (suc d) (Single (Plain p)) i is fit u e h = absurd u
+  case_transition (suc d) (Single (Enum n names)) i is fit u e h = absurd u
+  case_transition (suc d) (Text bound) i is fit u e h = absurd u
+  case_transition (suc d) (Octets bound) i is fit u e h = absurd u
+  case_transition (suc d) (Encapsulation T) i is fit u e h = absurd u
 
   pub turns_nothing : (T : Ty) (is : IsNumberOf (switch_of T) number) → IsUnion (shape_in T) → select_in T is.n ≡ Nothing →
       TransitionGives C T transitions.Ended (outputs.Switch number) [] [] path at (after coding path T is.n at [])
@@ -208,11 +208,11 @@ module _ (C : Table) (coding : Coding) (path : List PathSegment) (T : Ty) (count
   order_bad e = rw (block_step_got 1 here [] b (omega arith), e) refl
 
   -- what follows the octet that gives a byte order
-  pub order_turns : (d : ℕ) (order : Order) → IsFit d T → IsEncapsulation T → order_of b ≡ Some order →
+  pub order_transition : (d : ℕ) (order : Order) → IsFit d T → IsEncapsulation T → order_of b ≡ Some order →
       TransitionGives C T (transitions.Entered order count) (outputs.Ordered order) [] [] path (here + 1) (leaf_step coding path (Opening T (count - 1)) here b)
   unfolding IsFit
-  order_turns zero order fit kind e = absurd fit
-  order_turns (suc d) order fit kind e =
+  order_transition zero order fit kind e = absurd fit
+  order_transition (suc d) order fit kind e =
       let c = coded order here in
       let o : (here + 1) - 1 ≡ here = omega arith in
       let front : List Line = line (here + 1) path (Ordered order) ∷ [] in

@@ -24,11 +24,11 @@ use Rattle.giop_decode.specs.DecoderSteps.{IsAround, leaf_in, decoder_step, emit
 use Rattle.giop_decode.specs.Pieces.{tail}
 use Rattle.giop_decode.specs.Reading.{after_leading_number}
 use Rattle.giop_decode.specs.NotingSteps.{OutputFitsString, clears_name, leaf_in_string, transition_in_string}
-use Rattle.giop_decode.specs.Runs.{Adds, AllGathered, ComesWhole}
+use Rattle.giop_decode.specs.Runs.{Adds, AllGathered, TakenTogether}
 use Rattle.giop_decode.specs.ReadResult.{plain, line, Coding, Line, PathSegment, Piece, lines_of, with_front}
 use Rattle.giop_decode.specs.ReadingSteps.{AreHeld, after, around, leading_width, leaf_step, path_in, step}
 use Rattle.giop_decode.specs.Transitions.{HasOutput, IsClean, IsOutput, IsWholeNumber, StandsWhole, TransitionGives, TransitionFits, is_inside, leaf_of, leaf_type, open_parts, still_held}
-use Rattle.giop_decode.proofs.Advancing.{lines_turned, same_some, stands_at}
+use Rattle.giop_decode.proofs.Advancing.{lines_after_transition, same_some, stands_at}
 use Rattle.giop_decode.proofs.Gathering.{IsFurther, counted_free, number_gathered, waits_gathered}
 use Rattle.giop_decode.proofs.Noting.{noted_on, leaf_inside}
 use Rattle.giop_decode.proofs.PieceLaws.{full_whole, octets_last, text_last}
@@ -113,7 +113,7 @@ module _ (C : Table) (d : Decoder) (of : TypeId) (octets : List ℕ) (count : �
       OutputFitsString (tree C of.0) false s.transition s.output →
       ((coding : Coding) (path : List PathSegment) (at : ℕ) → TransitionGives C (tree C of.0) s.transition s.output [] [] path at
       (after coding path (tree C of.0) (num d.order all) at [])) →
-      ComesWhole C d octets of count s []
+      TakenTogether C d octets of count s []
   comes_head all s stands transition_fits has_output output_fits_string transitions =
       let T = tree C of.0 in
       let nothing_held : still_held s.output d.piece.items ≡ [] = ap (still_held s.output) no_piece ∙ still_nothing s.output in
@@ -142,7 +142,7 @@ module _ (C : Table) (d : Decoder) (of : TypeId) (octets : List ℕ) (count : �
 
   pub comes_number : (number : Taken) →
       IsWholeNumber (tree C of.0) d.order d.at octets count number →
-      ComesWhole C d octets of count (record { transition = transitions.Ended; output = outputs.Number number }) []
+      TakenTogether C d octets of count (record { transition = transitions.Ended; output = outputs.Number number }) []
   comes_number number h =
       comes_head h.all (record { transition = transitions.Ended; output = outputs.Number number }) h.stands tt h.is (refl, refl)
       (λ coding path at. subst (λ n. TransitionGives C (tree C of.0) transitions.Ended (outputs.Number number) [] [] path at (after coding path (tree C of.0) n at []))
@@ -175,7 +175,7 @@ module _ (C : Table) (d : Decoder) (of : TypeId) (total offset : ℕ) (octets : 
   held_size n within = length-append d.piece.items (take n octets) ∙ ap (λ k. length d.piece.items + k) (length-take-le n octets within)
 
   pub comes_full : 32 < total - offset → count ≡ 32 - length d.piece.items → count ≤ length octets →
-      ComesWhole C d octets of count
+      TakenTogether C d octets of count
       (record { transition = transitions.More (innermost.Content of total (offset + 32)); output = outputs.Piece offset true })
       (take count octets)
   comes_full large counted within =
@@ -207,7 +207,7 @@ module _ (C : Table) (d : Decoder) (of : TypeId) (total offset : ℕ) (octets : 
   pub comes_bare : IsBare (tree C of.0) → total - offset ≤ 32 →
       count ≡ total - offset - length d.piece.items →
       count ≤ length octets →
-      ComesWhole C d octets of count (record { transition = transitions.Ended; output = outputs.Piece offset false }) (take count octets)
+      TakenTogether C d octets of count (record { transition = transitions.Ended; output = outputs.Piece offset false }) (take count octets)
   comes_bare bare small counted within =
       let T = tree C of.0 in
       let none = bare_tail T bare in
@@ -243,7 +243,7 @@ module _ (C : Table) (d : Decoder) (of : TypeId) (total offset : ℕ) (octets : 
   pub comes_text : (bound : _) (size : ℕ) → tree C of.0 ≡ Text bound → total - offset ≤ 32 →
       size ≡ total - offset - length d.piece.items → count ≡ size + 1 → count ≤ length octets →
       get_or octets size 0 ≡ 0 →
-      ComesWhole C d octets of count (record { transition = transitions.Ended; output = outputs.Piece offset false }) (take size octets)
+      TakenTogether C d octets of count (record { transition = transitions.Ended; output = outputs.Piece offset false }) (take size octets)
   comes_text bound size is small sized counted within zero_end =
       let T = tree C of.0 in
       let one : tail T ≡ 1 = ap tail is in
@@ -287,7 +287,7 @@ adds_gathered C d new (innermost.Content of total offset) octets free on f e h =
 -- a decoder before octets that it takes together
 module _ (C : Table) (d : Decoder) (octets : List ℕ) (of : TypeId) (count : ℕ) (s : Step)
     (rest : List ℕ) (f : Fits C d)
-    (h : ComesWhole C d octets of count s rest) where
+    (h : TakenTogether C d octets of count s rest) where
   free : is_inside d.outer.items ≡ false
   free = sym f.inside ∙ h.outside
 
@@ -340,7 +340,7 @@ module _ (C : Table) (d : Decoder) (octets : List ℕ) (of : TypeId) (count : �
   pub lines_whole : (at here : ℕ) → at ≡ (d.at + (count - 1)) % 8 → CanStandAt (before_last at) here → lines_of (decoder_step C (before_last at) here (get_or octets (count - 1) 0)) ≡ lines_at here
   lines_whole at here e stands =
       ap lines_of (told_whole at here e stands)
-      ∙ lines_turned C here (plain d.order) [] d.outer.items (tree C of.0) s.transition d.carry (still_held s.output d.piece.items)
+      ∙ lines_after_transition C here (plain d.order) [] d.outer.items (tree C of.0) s.transition d.carry (still_held s.output d.piece.items)
       (lines_at here) f.ahead f.known_outer
 
   pub keeps_noted_whole : (new : Decoder) (at here : ℕ) (front : List Line) → at ≡ (d.at + (count - 1)) % 8 → CanStandAt (before_last at) here →

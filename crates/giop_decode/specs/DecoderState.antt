@@ -46,7 +46,7 @@ pub record Fits (C : Table) (d : Decoder) : Type 0 where
   pub clean : IsClean leaf d.carry d.piece.items
   pub at : d.at < 8
   -- none but a header has a request id
-  pub heeds : is_header_root d.root ≡ false → d.notes.request_id ≡ None
+  pub id_in_header_only : is_header_root d.root ≡ false → d.notes.request_id ≡ None
 
 -- the value has ended
 abbrev pub IsDone : Decoder → Type 0

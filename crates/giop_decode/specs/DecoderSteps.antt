@@ -74,9 +74,9 @@ Comes C d p at r =
     × progressed C d (names_operation (is_header_root d.root) lines) p lines at r
 
 -- a transition at which no rule is broken
-abbrev pub IsMoved : Transition → Type 0
-IsMoved (transitions.Refused kind) = ⊥
-IsMoved transition = Unit {0}
+abbrev pub IsNotRefused : Transition → Type 0
+IsNotRefused (transitions.Refused kind) = ⊥
+IsNotRefused transition = Unit {0}
 
 -- the parts around an innermost part of this type, whatever is held of it
 pub record IsAround (C : Table) (d : Decoder) (of : ℕ) : Type 0 where

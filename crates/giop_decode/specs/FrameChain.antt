@@ -49,4 +49,4 @@ pub record Chains (C : Table) (d : Decoder) : Type 0 where
   pub inside : d.inside ≡ is_inside d.outer.items
   pub fits : LeafFits C leaf d.carry d.piece.items
   pub at : d.at < 8
-  pub heeds : is_header_root d.root ≡ false → d.notes.request_id ≡ None
+  pub id_in_header_only : is_header_root d.root ≡ false → d.notes.request_id ≡ None

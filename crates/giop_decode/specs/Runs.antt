@@ -100,7 +100,7 @@ Adds C d (innermost.Content of total offset) octets carry piece =
 
 -- So many octets stand at the head of these, in no encapsulation, of which all but the last only add to what is held,
 -- and the last does this step: a piece that it gives are the octets that are held, and the rest.
-pub record ComesWhole (C : Table) (d : Decoder) (octets : List ℕ) (of : TypeId) (count : ℕ)
+pub record TakenTogether (C : Table) (d : Decoder) (octets : List ℕ) (of : TypeId) (count : ℕ)
     (step : Step) (rest : List ℕ) : Type 0 where
   pub leaf : Innermost
   pub goes_on : d.leaf ≡ Some leaf

@@ -14,7 +14,7 @@ ghost use Rattle.giop_decode.specs.Transitions.{open_parts, AreKnown, Link, Tran
 ghost use Rattle.giop_decode.specs.Noted.{Noted, noted, noted_of, without_name_if, ends_in_string, is_header_root};
 ghost use Rattle.giop_decode.specs.NotingSteps.{IsPlain, clears_name, transition_in_string};
 ghost use Rattle.giop_decode.specs.DecoderState.{Fits, IsDone, CanStandAt, Reads, HoldsNoted, Takes, KeepsNoted, GoesOn, read_by_fields, added_lines};
-ghost use Rattle.giop_decode.specs.DecoderSteps.{transition_result, decoder_step, emitted, Comes, IsAround, IsNext, IsMoved};
+ghost use Rattle.giop_decode.specs.DecoderSteps.{transition_result, decoder_step, emitted, Comes, IsAround, IsNext, IsNotRefused};
 ghost use Rattle.giop_sig.specs.Types.{Ty};
 ghost use Rattle.giop_sig.specs.Fits.{IsFit, IsEmptyStruct};
 ghost use Rattle.giop_sig.specs.Trees.{tree};
@@ -152,11 +152,11 @@ impl Decoder {
             self.old.carry self.old.piece.items }
         ensures known_outer { AreKnown catalogue.now self.new.outer.items }
         ensures encloses { self.new.inside ≡ is_inside self.new.outer.items }
-        ensures known { (leaf : Innermost) → IsMoved transition → self.new.leaf ≡ Some leaf →
+        ensures known { (leaf : Innermost) → IsNotRefused transition → self.new.leaf ≡ Some leaf →
             leaf_type leaf < length catalogue.now.types }
-        ensures clean { (leaf : Innermost) → IsMoved transition → self.new.leaf ≡ Some leaf →
+        ensures clean { (leaf : Innermost) → IsNotRefused transition → self.new.leaf ≡ Some leaf →
             IsClean leaf self.new.carry self.new.piece.items }
-        ensures link { (root : ℕ) (leaf : Innermost) → IsMoved transition →
+        ensures link { (root : ℕ) (leaf : Innermost) → IsNotRefused transition →
             Link catalogue.now root self.old.outer.items of.0 → self.new.leaf ≡ Some leaf →
             Link catalogue.now root self.new.outer.items (leaf_type leaf) }
         ensures order { self.new.order ≡ self.old.order }

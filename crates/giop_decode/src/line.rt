@@ -2,7 +2,7 @@
 
 ghost use Rattle.std.specs.Prelude.{ℕ, ◌+◌, ◌<◌, ◌≤◌, List, [], ◌++◌, length};
 ghost use Rattle.giop_decode.specs.ReadResult.{Line};
-ghost use Rattle.giop_decode.specs.ReadResult as spines;
+ghost use Rattle.giop_decode.specs.ReadResult as results;
 ghost use Rattle.giop_decode.specs.Fits.{HasContent};
 ghost use Rattle.giop_decode.specs.Spelling.{value_text, lines_text};
 ghost use Rattle.giop_decode.specs.ReadingSteps.{path_in};
@@ -35,7 +35,7 @@ fn number_line<O: Out>(
     requires number { IsNumberOf (tree catalogue.now t.0) number }
     ensures { (is : IsNumberOf (tree catalogue.now t.0) number) →
         Writes result (O.log out.old) (O.log out.new)
-        (value_text message (current_path_text path.now) (spines.Number is.scalar is.n)) }
+        (value_text message (current_path_text path.now) (results.Number is.scalar is.n)) }
 {
     match catalogue.shape(t) {
         Shape::Prim(prim) => value_line(out, message, path, Value::Primitive(prim, number)),
@@ -68,7 +68,7 @@ fn octets_line<O: Out>(
     requires short { length held.now + length rest.now ≤ 32 }
     ensures { Writes result (O.log out.old) (O.log out.new)
         (value_text message (current_path_text path.now)
-        (spines.Piece (tree catalogue.now t.0) offset (held.now ++ rest.now) more)) }
+        (results.Piece (tree catalogue.now t.0) offset (held.now ++ rest.now) more)) }
 {
     match catalogue.shape(t) {
         Shape::Text(_) => split_piece_line(

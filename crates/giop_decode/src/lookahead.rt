@@ -6,7 +6,7 @@ ghost use Rattle.giop_cdr.specs.Primitives.{size_of};
 ghost use Rattle.giop_decode.specs.Fits.{IsBare};
 ghost use Rattle.giop_decode.specs.DecoderState.{Fits};
 ghost use Rattle.giop_decode.specs.NotingSteps.{IsPlain, IsPrim};
-ghost use Rattle.giop_decode.specs.Runs.{ComesWhole};
+ghost use Rattle.giop_decode.specs.Runs.{TakenTogether};
 ghost use Rattle.giop_decode.specs.Transitions.{IsWholeNumber, StandsWhole};
 ghost use Rattle.giop_sig.specs.Types.{Single, Plain};
 ghost use Rattle.giop_sig.specs.Trees.{tree};
@@ -40,7 +40,7 @@ impl Decoder {
         octets: &'a [u8],
     ) -> Option<Lookahead<'a>>
         requires { Fits catalogue.now self.now }
-        ensures ahead { IfSome result (λ ahead. ComesWhole catalogue.now self.now octets.now ahead.of
+        ensures ahead { IfSome result (λ ahead. TakenTogether catalogue.now self.now octets.now ahead.of
             ahead.count ahead.step ahead.rest.now) }
         ensures plain { IfSome result (λ ahead.
             IsPlain (tree catalogue.now ahead.of.0) ahead.step.output) }
@@ -69,13 +69,13 @@ impl Decoder {
 
     /// The number that begins the next part, of any kind, under the same conditions.
     #[inline(always)]
-    pub(crate) fn head_ahead<'a>(
+    pub(crate) fn leading_number_ahead<'a>(
         &self,
         catalogue: &Catalogue,
         octets: &'a [u8],
     ) -> Option<Lookahead<'a>>
         requires { Fits catalogue.now self.now }
-        ensures { IfSome result (λ ahead. ComesWhole catalogue.now self.now octets.now ahead.of
+        ensures { IfSome result (λ ahead. TakenTogether catalogue.now self.now octets.now ahead.of
             ahead.count ahead.step ahead.rest.now) }
     {
         if self.inside || !self.carry.is_empty() {
@@ -104,7 +104,7 @@ impl Decoder {
         octets: &'a [u8],
     ) -> Option<Lookahead<'a>>
         requires { Fits catalogue.now self.now }
-        ensures { IfSome result (λ ahead. ComesWhole catalogue.now self.now octets.now ahead.of
+        ensures { IfSome result (λ ahead. TakenTogether catalogue.now self.now octets.now ahead.of
             ahead.count ahead.step ahead.rest.now) }
     {
         if self.inside {
@@ -136,7 +136,7 @@ impl Decoder {
         requires leaf { self.now.leaf ≡ Some (Leaf.Content of total offset) }
         requires outside { self.now.inside ≡ false }
         requires more { 32 < total - offset }
-        ensures { IfSome result (λ ahead. ComesWhole catalogue.now self.now octets.now ahead.of
+        ensures { IfSome result (λ ahead. TakenTogether catalogue.now self.now octets.now ahead.of
             ahead.count ahead.step ahead.rest.now) }
     {
         let _types = catalogue;
@@ -173,7 +173,7 @@ impl Decoder {
         requires leaf { self.now.leaf ≡ Some (Leaf.Content of total offset) }
         requires outside { self.now.inside ≡ false }
         requires last { total - offset ≤ 32 }
-        ensures { IfSome result (λ ahead. ComesWhole catalogue.now self.now octets.now ahead.of
+        ensures { IfSome result (λ ahead. TakenTogether catalogue.now self.now octets.now ahead.of
             ahead.count ahead.step ahead.rest.now) }
     {
         match catalogue.shape(of) {
@@ -205,7 +205,7 @@ impl Decoder {
         requires bare { IsBare (tree catalogue.now of.0) }
         requires outside { self.now.inside ≡ false }
         requires last { total - offset ≤ 32 }
-        ensures { IfSome result (λ ahead. ComesWhole catalogue.now self.now octets.now ahead.of
+        ensures { IfSome result (λ ahead. TakenTogether catalogue.now self.now octets.now ahead.of
             ahead.count ahead.step ahead.rest.now) }
     {
         let _types = catalogue;

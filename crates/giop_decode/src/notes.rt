@@ -6,7 +6,7 @@ ghost use Rattle.giop_decode.specs.Noted.{Noted, nothing_noted, with_piece, ende
 ghost use Rattle.giop_decode.specs.DecoderState.{HoldsNoted};
 ghost use Rattle.giop_decode.specs.NotingSteps.{IsPlain, clears_name};
 ghost use Rattle.giop_decode.specs.ReadResult.{Line};
-ghost use Rattle.giop_decode.specs.ReadResult as spines;
+ghost use Rattle.giop_decode.specs.ReadResult as results;
 ghost use Rattle.giop_decode.specs.ReadingSteps.{path_in};
 ghost use Rattle.giop_decode.specs.Transitions.{open_parts, AreKnown, IsNumberOf, IsOutput, HasOutput};
 ghost use Rattle.giop_sig.specs.Trees.{tree};
@@ -154,7 +154,7 @@ impl Notes {
         requires number { IsNumberOf (tree catalogue.now t.0) number }
         ensures notes { (h : Noted) (is : IsNumberOf (tree catalogue.now t.0) number) →
             HoldsNoted self.old h →
-            HoldsNoted self.new (note_value is_id h (spines.Number is.scalar is.n)) }
+            HoldsNoted self.new (note_value is_id h (results.Number is.scalar is.n)) }
         ensures id { is_id ≡ false → self.new.request_id ≡ self.old.request_id }
     {
         let Number::Unsigned(n) = number else {

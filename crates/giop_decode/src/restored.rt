@@ -8,7 +8,7 @@ ghost use Rattle.giop_decode.specs.declared.decoder.Decoder.{Decoder as State};
 ghost use Rattle.giop_decode.specs.declared.frame.Frame.{Frame as FrameState};
 ghost use Rattle.giop_decode.specs.declared.leaf.Leaf.{Leaf as Innermost};
 ghost use Rattle.giop_decode.specs.declared.notes.Buffer.{Buffer as BufferState};
-ghost use Rattle.giop_decode.specs.declared.notes.Notes.{Notes as MemoryState};
+ghost use Rattle.giop_decode.specs.declared.notes.Notes.{Notes as NotesState};
 ghost use Rattle.giop_decode.specs.DecoderState.{Fits, Reads};
 ghost use Rattle.giop_decode.specs.Stored.{order_octet, root_octet, leaf_octets, buffer_octet, notes_octets, inside_octet, frame_octets, frames_octets, frame_size, FrameHasRange, LeafHasRange, NotesHaveRange, Stored, IsKept, IsRestored};
 ghost use Rattle.giop_print.specs.declared.path.Root.{Root as PathRoot};
@@ -160,7 +160,7 @@ fn carried(octets: &[u8]) -> Carry
 /// The notes that are stored at this index.
 fn notes_at(octets: &[u8], at: usize) -> Notes
     requires room { at + 140 ≤ length octets.now }
-    ensures { (notes : MemoryState) (rest : List ℕ) → NotesHaveRange notes →
+    ensures { (notes : NotesState) (rest : List ℕ) → NotesHaveRange notes →
         drop at octets.now ≡ notes_octets notes ++ rest → IsKept notes result }
 {
     Notes {

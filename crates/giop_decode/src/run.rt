@@ -4,7 +4,7 @@ ghost use Rattle.std.specs.Prelude.{◌≡◌, ℕ, ◌+◌, ◌%◌, ◌^◌, �
 ghost use Rattle.giop_cdr.specs.declared.order.Order.{Order as ByteOrder};
 ghost use Rattle.giop_decode.specs.DecoderState.{Fits, GoesOn, IsDone, Reads};
 ghost use Rattle.giop_decode.specs.NotingSteps.{IsPlain};
-ghost use Rattle.giop_decode.specs.Runs.{TakesRun, WritesRun, AllGathered, ComesWhole};
+ghost use Rattle.giop_decode.specs.Runs.{TakesRun, WritesRun, AllGathered, TakenTogether};
 ghost use Rattle.giop_print.specs.declared.path.Root.{Root as PathRoot};
 ghost use Rattle.giop_sig.specs.Trees.{tree};
 ghost use Rattle.giop_sig.specs.Types.{Ty};
@@ -88,7 +88,7 @@ impl Decoder {
         if let Some(ahead) = self.piece_ahead(catalogue, octets) {
             return self.take_ahead(catalogue, octets, ahead, false, out);
         }
-        if let Some(ahead) = self.head_ahead(catalogue, octets) {
+        if let Some(ahead) = self.leading_number_ahead(catalogue, octets) {
             return self.take_ahead(catalogue, octets, ahead, false, out);
         }
         let gathered = self.gather(catalogue, octets);
@@ -110,7 +110,7 @@ impl Decoder {
         out: &mut O,
     ) -> Result<(usize, Progress), OutFault>
         requires fits { Fits catalogue.now self.old }
-        requires ahead { ComesWhole catalogue.now self.old octets.now ahead.of ahead.count
+        requires ahead { TakenTogether catalogue.now self.old octets.now ahead.of ahead.count
             ahead.step ahead.rest.now }
         requires plain { IsTrue is_plain →
             IsPlain (tree catalogue.now ahead.of.0) ahead.step.output }

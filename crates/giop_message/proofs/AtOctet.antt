@@ -7,7 +7,7 @@ use Rattle.std.proofs.lemmas.Bool.{eq-eqb, ne_eqb}
 use Rattle.std.proofs.lemmas.List.Elements.{filter-append}
 use Rattle.giop_message.specs.MessageReader as said
 use Rattle.giop_message.specs.MessageReader.{TimedLine, is_fault}
-use Rattle.giop_message.specs.Text.{line_class_text, said_text}
+use Rattle.giop_message.specs.Text.{line_class_text, numbered_lines}
 use Rattle.giop_message.specs.Signatures.{Signatures}
 use Rattle.giop_message.specs.Messages.{MessageLine, ValueLine, CallLine, RestLine, FaultLine, ShortLine, EndLine, LineAt, body_may_be_missing, Stage, In_typed, In_padding, In_rest, Over, message, message_lines, stage_of, close}
 use Rattle.giop_message.specs.ReaderOfTable.{line_class_of, text_of, timed_line_of, closing_of, reader_by, is_over, is_wrong}
@@ -64,8 +64,8 @@ pub due_said_is : (S : Signatures) (header xs : List ℕ) (x : ℕ) →
 due_said_is S header xs x = (one_octet S header xs x).said
 
 told_here : (number place offset : ℕ) (emitted : List LineAt) → ToldAt (offset + 1) emitted →
-    message_lines_text number place offset emitted ≡ said_text (suc place) number (map timed_line_of emitted)
-unfolding message_lines_text said_text message_line_text
+    message_lines_text number place offset emitted ≡ numbered_lines (suc place) number (map timed_line_of emitted)
+unfolding message_lines_text numbered_lines message_line_text
 told_here number place offset [] h = refl
 told_here number place offset (t ∷ ts) h =
     let e : place + (t.at - offset) ≡ suc place = omega (arith, h.0) in
@@ -74,11 +74,11 @@ told_here number place offset (t ∷ ts) h =
 -- The text of an octet is that of its lines in the reading.
 pub octet_text : (S : Signatures) (number place : ℕ) (header xs : List ℕ) (x : ℕ) →
     due_text S number place header xs (x ∷ [])
-    ≡ said_text (suc place) number (said.due (reader_by S) header xs x)
+    ≡ numbered_lines (suc place) number (said.due (reader_by S) header xs x)
 unfolding due_text
 octet_text S number place header xs x =
     let one = one_octet S header xs x in
-    told_here number place (12 + length xs) (due S header xs (x ∷ [])) one.here ∙ ap (said_text (suc place) number) (sym one.said)
+    told_here number place (12 + length xs) (due S header xs (x ∷ [])) one.here ∙ ap (numbered_lines (suc place) number) (sym one.said)
 
 -- ---- faults
 

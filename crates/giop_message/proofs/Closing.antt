@@ -19,7 +19,7 @@ use Rattle.giop_message.specs.declared.part.Part.TheVariants as parts
 use Rattle.giop_message.specs.declared.part.Rest.{Rest}
 use Rattle.giop_message.specs.declared.body_type.BodyTypeId.{BodyTypeId}
 use Rattle.giop_message.specs.Headers.{order}
-use Rattle.giop_message.specs.Text.{said_line}
+use Rattle.giop_message.specs.Text.{numbered_line}
 use Rattle.giop_message.specs.Signatures.{Signatures, RequestTable, signatures_of}
 use Rattle.giop_message.specs.Messages.{MessageLine, RestLine, ShortLine, EndLine, BodyType, Typed, body_may_be_missing, Stage, In_typed, In_padding, In_rest, Over, section_then, message, stage_of, close, section_and_rest}
 use Rattle.giop_message.specs.ReaderOfTable.{line_class_of, text_of}
@@ -141,7 +141,7 @@ last_then : (number place offset : ℕ) (held : List ℕ) →
     ≡ rest_line number offset held ++ end_line number
 unfolding closing_text message_line_text line_class_of text_of
 last_then number place offset held =
-    rw (rest_said number offset held) (ap (λ z. rest_line number offset held ++ z) (append-nil (said_line number (codes "end")) ∙ end_said number))
+    rw (rest_said number offset held) (ap (λ z. rest_line number offset held ++ z) (append-nil (numbered_line number (codes "end")) ∙ end_said number))
 
 rest_ends : (number place offset : ℕ) (held : List ℕ) →
     closing_text number place (close (In_rest offset held))

@@ -170,14 +170,14 @@ first_same (Some n) b = refl
 first_same None b = refl
 
 -- in the header it is what is noted
-hear_id : (h : Noted) (at : ℕ) (path : List PathSegment) (v : Value) →
+note_id : (h : Noted) (at : ℕ) (path : List PathSegment) (v : Value) →
     (note true h (record { at = at; path = path; value = v })).request_id
     ≡ first_id h.request_id (id_in (ValueLine roots.Header path v))
 unfolding id_in
-hear_id h at path (Number (Plain prims.ULong) n) = first_same h.request_id _
-hear_id h at path (Piece (Text bound) offset octets true) = sym (first_none h.request_id)
-hear_id h at path (Piece (Text bound) offset octets false) = sym (first_none h.request_id)
-hear_id h at path v = sym (first_none h.request_id)
+note_id h at path (Number (Plain prims.ULong) n) = first_same h.request_id _
+note_id h at path (Piece (Text bound) offset octets true) = sym (first_none h.request_id)
+note_id h at path (Piece (Text bound) offset octets false) = sym (first_none h.request_id)
+note_id h at path v = sym (first_none h.request_id)
 
 lines_noted : (is : Bool) (h : Noted) (lines : List Line) → (noted true h lines).request_id
     ≡ first_id h.request_id (first_request_id (section_lines roots.Header is h lines))
@@ -187,7 +187,7 @@ lines_noted is h (l ∷ ls) =
     let now = note true h l in
     let id = id_in (ValueLine roots.Header l.path l.value) in
     let later = first_request_id (section_lines roots.Header is now ls) in
-    lines_noted is now ls ∙ (ap (λ id. first_id id later) (hear_id h l.at l.path l.value)
+    lines_noted is now ls ∙ (ap (λ id. first_id id later) (note_id h l.at l.path l.value)
     ∙ (sym (first_all h.request_id id later) ∙ ap (first_id h.request_id) (sym (line_id sections.Header is h l ls))))
 
 without_name_id : (quiet : Bool) (h : Noted) → (without_name_if quiet h).request_id ≡ h.request_id
@@ -203,24 +203,24 @@ module _ {C : Table} {S : Signatures} {number : ℕ} {header s : List ℕ} {sect
     {d : Decoder}
     (e : Decodes C S number header s section d) where
   -- the reading whose notes the decoder has
-  abbrev pub in_mind : Read
-  in_mind = read (plain (order header)) [] e.T (12 + length e.front) e.octets
+  abbrev pub noted_reading : Read
+  noted_reading = read (plain (order header)) [] e.T (12 + length e.front) e.octets
 
   header_told : section ≡ sections.Header → message_lines (message S header s)
       ≡ section_lines (root_of section) (may_call header section) nothing_noted e.reads.lines
   header_told in_it =
       let first = subst (λ x. IsFirst header x e.T e.before) in_it e.first in
-      ap message_lines e.is ∙ (told_front e.before (section_and_rest S header section nothing_noted in_mind)
-      ∙ (ap (λ ts. ts ++ message_lines (section_and_rest S header section nothing_noted in_mind)) first.1
+      ap message_lines e.is ∙ (told_front e.before (section_and_rest S header section nothing_noted noted_reading)
+      ∙ (ap (λ ts. ts ++ message_lines (section_and_rest S header section nothing_noted noted_reading)) first.1
       ∙ (ap (λ r. message_lines (section_and_rest S header section nothing_noted r)) e.reads.is ∙ standing_told S header section C d e.reads.lines _ d.leaf)))
 
   pub id_noted : section ≡ sections.Header →
-      (noted_of true in_mind).request_id ≡ first_request_id (message_lines (message S header s))
+      (noted_of true noted_reading).request_id ≡ first_request_id (message_lines (message S header s))
   unfolding first_id
   id_noted in_it =
-      let lines : lines_of in_mind ≡ e.reads.lines = ap lines_of e.reads.is ∙ lines_standing S header section C d e.reads.lines _ d.leaf in
+      let lines : lines_of noted_reading ≡ e.reads.lines = ap lines_of e.reads.is ∙ lines_standing S header section C d e.reads.lines _ d.leaf in
       let emitted = subst (λ x. message_lines (message S header s) ≡ section_lines (root_of x) (may_call header x) nothing_noted e.reads.lines) in_it (header_told in_it) in
-      without_name_id (ends_in_string in_mind) (noted true nothing_noted (lines_of in_mind))
+      without_name_id (ends_in_string noted_reading) (noted true nothing_noted (lines_of noted_reading))
       ∙ (ap (λ ls. (noted true nothing_noted ls).request_id) lines
       ∙ (lines_noted (may_call header sections.Header) nothing_noted e.reads.lines ∙ ap first_request_id (sym emitted)))
 
@@ -231,13 +231,13 @@ pub id_read : {C : Table} {request_table : RequestTable} {number : ℕ} {header 
     (r : Read) × decoders.KeepsNoted (root_of section) d r
     × (cond (is_header section) (noted_of true r).request_id m.id
     ≡ first_request_id (message_lines (message (signatures_of C request_table) header s)))
-id_read {C} {request_table} {number} {header} {m} {s} {section} {d} f is = (in_mind stands, stands.reads.keeps_noted, go (is_header section) refl)
+id_read {C} {request_table} {number} {header} {m} {s} {section} {d} f is = (noted_reading stands, stands.reads.keeps_noted, go (is_header section) refl)
   where
     stands : Decodes C (signatures_of C request_table) number header s section d
     stands = subst (Stands C request_table number header s) is f.stands
 
     go : (inside : Bool) → is_header section ≡ inside →
-        cond inside (noted_of true (in_mind stands)).request_id m.id
+        cond inside (noted_of true (noted_reading stands)).request_id m.id
         ≡ first_request_id (message_lines (message (signatures_of C request_table) header s))
     go true e = id_noted stands (header_only section e)
     go false e = f.id ∙ rw (is, e) refl

@@ -57,11 +57,11 @@ abbrev pub first_call : Root → Bool → Noted → List Line → List LineAt
 first_call root is h [] = []
 first_call root is h (l ∷ ls) = calls is l (note (is_header_root root) h l)
 
-said_text : (number place offset at : ℕ) (root : Root) (l : Line) →
+numbered_lines : (number place offset at : ℕ) (root : Root) (l : Line) →
     message_lines_text number place offset (line_at at (ValueLine root l.path l.value) ∷ [])
     ≡ line_text number root l
 unfolding message_lines_text message_line_text line_class_of line_at
-said_text number place offset at root l = append-nil _ ∙ said_is_line number l.at root l.path l.value
+numbered_lines number place offset at root l = append-nil _ ∙ said_is_line number l.at root l.path l.value
 
 section_lines_text : (number place offset n : ℕ) (root : Root) (is : Bool) (h : Noted) (lines : List Line) →
     OneAt n lines → message_lines_text number place offset (section_lines root is h lines)
@@ -72,7 +72,7 @@ section_lines_text number place offset n root is h (l ∷ []) one =
     let called = calls is l (note (is_header_root root) h l) in
     ap (message_lines_text number place offset) (append-nil (line_at l.at (ValueLine root l.path l.value) ∷ called))
     ∙ (text_both number place offset (line_at l.at (ValueLine root l.path l.value) ∷ []) called
-    ∙ ap (λ z. z ++ message_lines_text number place offset called) (said_text number place offset l.at root l ∙ sym (append-nil (line_text number root l))))
+    ∙ ap (λ z. z ++ message_lines_text number place offset called) (numbered_lines number place offset l.at root l ∙ sym (append-nil (line_text number root l))))
 section_lines_text number place offset n root is h (l ∷ l' ∷ ls) one = absurd one
 
 wrongs_text : (number place n : ℕ) (st : Read) → IsOctetResult (n + 1) st →

@@ -15,7 +15,7 @@ use Rattle.giop_decode.specs.Pieces.{block, number}
 use Rattle.giop_decode.specs.Spelling.{path_text}
 use Rattle.giop_message.specs.Headers.{minor, kind, order}
 use Rattle.giop_message.specs.MessageReader.{LineClass, Value, Call, Rest, Fault, End, TimedLine, MessageReader}
-use Rattle.giop_message.specs.Text.{value_said, call_text, rest_text}
+use Rattle.giop_message.specs.Text.{value_line_text, call_text, rest_text}
 use Rattle.giop_message.specs.Signatures.{RequestTable, signatures_of}
 use Rattle.giop_message.specs.Messages.{line_at, is_shown, call_of, calls, section_lines, with_front, section_then, rest_in, rest, typed, option_typed, members_of, after_exception, body, type_if, request_body, result_body, reply_body, is_request, body_of, has_body, padded, after_header, of_header, message, body_may_be_missing, close, message_lines, stage_of}
 use Rattle.giop_message.specs.ReaderOfTable.{line_class_of, text_of, reader_by, message_reader}
@@ -67,7 +67,7 @@ says at text = record { at = at; line_class = Value; text = text }
 
 -- it names the definitions that the rows unfold
 rows : ℕ
-unfolding digits num twos_complement padding block number path_text hex hex_number escaped type_in trees_after builtin_types minor kind order value_said call_text rest_text signatures_of line_at is_shown call_of calls section_lines with_front section_then rest_in rest typed option_typed members_of after_exception body type_if request_body result_body reply_body is_request body_of has_body padded after_header of_header message body_may_be_missing close message_lines stage_of line_class_of text_of reader_by called late table request_table r says
+unfolding digits num twos_complement padding block number path_text hex hex_number escaped type_in trees_after builtin_types minor kind order value_line_text call_text rest_text signatures_of line_at is_shown call_of calls section_lines with_front section_then rest_in rest typed option_typed members_of after_exception body type_if request_body result_body reply_body is_request body_of has_body padded after_header of_header message body_may_be_missing close message_lines stage_of line_class_of text_of reader_by called late table request_table r says
 rows = 0
 
 -- minor version and type

@@ -6,7 +6,7 @@ use Rattle.giop_print.specs.Lines.{call_line, rest_line, end_line}
 use Rattle.giop_print.specs.declared.path.Root.{Root}
 use Rattle.giop_decode.specs.ReadResult.{PathSegment, Value, line}
 use Rattle.giop_decode.specs.Spelling.{path_text, value_words, line_text}
-use Rattle.giop_message.specs.Text.{value_said, call_text, rest_text, said_line}
+use Rattle.giop_message.specs.Text.{value_line_text, call_text, rest_text, numbered_line}
 use Rattle.giop_message.specs.Messages.{ValueLine}
 use Rattle.giop_message.specs.ReaderOfTable.{text_of}
 
@@ -16,26 +16,26 @@ joined_both [] ys = refl
 joined_both (x ∷ xs) ys = ap (λ z. x ++ z) (joined_both xs ys) ∙ sym (append_assoc x (joined xs) (joined ys))
 
 -- a text of these pieces, as a line
-said_joined : (number : ℕ) (xs : List (List ℕ)) → said_line number (joined xs)
+said_joined : (number : ℕ) (xs : List (List ℕ)) → numbered_line number (joined xs)
     ≡ joined (codes "m" ∷ decimal number ∷ codes " " ∷ (xs ++ codes "\n" ∷ []))
-unfolding said_line
+unfolding numbered_line
 said_joined number xs = ap (λ z. codes "m" ++ (decimal number ++ (codes " " ++ z))) (sym (joined_both xs (codes "\n" ∷ [])))
 
 pub said_is_line : (number at : ℕ) (root : Root) (path : List PathSegment) (v : Value) →
-    said_line number (text_of (ValueLine root path v)) ≡ line_text number root (line at path v)
-unfolding text_of value_said
+    numbered_line number (text_of (ValueLine root path v)) ≡ line_text number root (line at path v)
+unfolding text_of value_line_text
 said_is_line number at root path v = said_joined number (path_text root path ∷ value_words v)
 
 pub call_said : (number id : ℕ) (operation : List ℕ) →
-    said_line number (call_text id operation) ≡ call_line number id operation
+    numbered_line number (call_text id operation) ≡ call_line number id operation
 unfolding call_text call_line
 call_said number id operation = said_joined number (codes "call " ∷ decimal id ∷ codes " " ∷ operation ∷ [])
 
 pub rest_said : (number offset : ℕ) (octets : List ℕ) →
-    said_line number (rest_text offset octets) ≡ rest_line number offset octets
+    numbered_line number (rest_text offset octets) ≡ rest_line number offset octets
 unfolding rest_text rest_line
 rest_said number offset octets = said_joined number (codes "rest @" ∷ decimal offset ∷ codes " " ∷ hex octets ∷ [])
 
-pub end_said : (number : ℕ) → said_line number (codes "end") ≡ end_line number
-unfolding end_line said_line
+pub end_said : (number : ℕ) → numbered_line number (codes "end") ≡ end_line number
+unfolding end_line numbered_line
 end_said number = refl

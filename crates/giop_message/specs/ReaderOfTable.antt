@@ -11,7 +11,7 @@ use Rattle.giop_sig.specs.Table.{Table}
 use Rattle.giop_sig.specs.HeaderTypes.{BeginsWithId}
 use Rattle.giop_message.specs.Headers.{minor, kind, has_name}
 use Rattle.giop_message.specs.MessageReader.{LineClass, Value, Call, Rest, Fault, End, TimedLine, MessageReader}
-use Rattle.giop_message.specs.Text.{value_said, call_text, rest_text, fault_word}
+use Rattle.giop_message.specs.Text.{value_line_text, call_text, rest_text, fault_word}
 use Rattle.giop_message.specs.Signatures.{Signatures, RequestTable, signatures_of}
 use Rattle.giop_message.specs.Messages.{MessageLine, ValueLine, CallLine, RestLine, FaultLine, ShortLine, EndLine, LineAt, Stage, Over, message, message_lines, stage_of, close}
 
@@ -25,7 +25,7 @@ line_class_of EndLine = End
 
 -- the text, without the message's number; of a fault its word
 unfoldable pub text_of : MessageLine → List ℕ
-text_of (ValueLine root path v) = value_said (path_text root path) v
+text_of (ValueLine root path v) = value_line_text (path_text root path) v
 text_of (CallLine id operation) = call_text id operation
 text_of (RestLine offset octets) = rest_text offset octets
 text_of (FaultLine why) = fault_word why

@@ -11,8 +11,8 @@ use Rattle.giop_message.specs.MessageReader.{LineClass, Value, Call, Rest, Fault
 -- ---- lines without the number
 
 -- the value at a path
-unfoldable pub value_said : List ℕ → spine.Value → List ℕ
-value_said path value = joined (path ∷ value_words value)
+unfoldable pub value_line_text : List ℕ → spine.Value → List ℕ
+value_line_text path value = joined (path ∷ value_words value)
 
 unfoldable pub call_text : ℕ → List ℕ → List ℕ
 call_text id operation = joined (codes "call " ∷ decimal id ∷ codes " " ∷ operation ∷ [])
@@ -33,17 +33,17 @@ fault_word kinds.EncapOrder = codes "encap-order"
 -- ---- whole lines
 
 -- a line of the message
-unfoldable pub said_line : ℕ → List ℕ → List ℕ
-said_line number text = joined (codes "m" ∷ decimal number ∷ codes " " ∷ text ∷ codes "\n" ∷ [])
+unfoldable pub numbered_line : ℕ → List ℕ → List ℕ
+numbered_line number text = joined (codes "m" ∷ decimal number ∷ codes " " ∷ text ∷ codes "\n" ∷ [])
 
 -- a line of this class; a fault's names its place in the stream
 abbrev pub line_class_text : ℕ → ℕ → LineClass → List ℕ → List ℕ
-line_class_text place number Value text = said_line number text
-line_class_text place number Call text = said_line number text
-line_class_text place number Rest text = said_line number text
+line_class_text place number Value text = numbered_line number text
+line_class_text place number Call text = numbered_line number text
+line_class_text place number Rest text = numbered_line number text
 line_class_text place number Fault text = fault_line number text place
-line_class_text place number End text = said_line number text
+line_class_text place number End text = numbered_line number text
 
 -- the lines at one place
-unfoldable pub said_text : ℕ → ℕ → List TimedLine → List ℕ
-said_text place number timed_lines = flat_map (λ r. line_class_text place number r.line_class r.text) timed_lines
+unfoldable pub numbered_lines : ℕ → ℕ → List TimedLine → List ℕ
+numbered_lines place number timed_lines = flat_map (λ r. line_class_text place number r.line_class r.text) timed_lines

@@ -5,7 +5,7 @@ ghost use Rattle.std.specs.List.{list_any};
 ghost use Rattle.giop_sig.specs.Table.{Table};
 ghost use Rattle.giop_message.specs.declared.message.Message.{Message};
 ghost use Rattle.giop_message.specs.MessageReader.{due, is_fault};
-ghost use Rattle.giop_message.specs.Text.{said_text};
+ghost use Rattle.giop_message.specs.Text.{numbered_lines};
 ghost use Rattle.giop_message.specs.Signatures.{RequestTable, signatures_of};
 ghost use Rattle.giop_message.specs.Messages.{message, stage_of, close};
 ghost use Rattle.giop_message.specs.ReaderOfTable.{message_reader, is_over};
@@ -17,7 +17,7 @@ pub fn message_reader_laws()
     // The text of an octet is that of its lines in the reading;
     ensures text { (C : Table) (request_table : RequestTable) (number place : ℕ) (header s : List ℕ) (x : ℕ) →
         due_text (signatures_of C request_table) number place header s (x ∷ [])
-        ≡ said_text (suc place) number (due (message_reader C request_table) header s x) }
+        ≡ numbered_lines (suc place) number (due (message_reader C request_table) header s x) }
     // a message that isn't over is over after the octet exactly if the octet has the line of a fault.
     ensures over { (C : Table) (request_table : RequestTable) (header s : List ℕ) (x : ℕ) →
         is_over (stage_of (message (signatures_of C request_table) header s)) ≡ false →

@@ -15,7 +15,7 @@ use Rattle.giop_sig.specs.Builtin.{builtin_types}
 use Rattle.giop_decode.specs.Pieces.{block, number}
 use Rattle.giop_decode.specs.Spelling.{path_text}
 use Rattle.giop_message.specs.Headers.{minor, kind, order, has_more, size, may_be_fragmented, is_opener, is_fragment, is_cancel}
-use Rattle.giop_message.specs.Text.{said_line, value_said, call_text, rest_text}
+use Rattle.giop_message.specs.Text.{numbered_line, value_line_text, call_text, rest_text}
 use Rattle.giop_message.specs.Signatures.{signatures_of}
 use Rattle.giop_message.specs.Messages as one
 use Rattle.giop_message.specs.Messages.{line_at, is_shown, call_of, calls, with_front, section_then, rest_in, rest, typed, option_typed, members_of, after_exception, body, type_if, request_body, result_body, reply_body, is_request, body_of, has_body, padded, after_header, of_header, message, body_may_be_missing, close, message_lines, stage_of}
@@ -43,12 +43,12 @@ use Rattle.giop_stream_rows.specs.Checkpoints.{five_octets, one_in_payload, bad_
 
 -- what one message is read with
 unfoldable pub one_message : ℕ
-unfolding digits num twos_complement padding block number path_text hex hex_number escaped type_in trees_after builtin_types minor kind order value_said call_text rest_text signatures_of line_at is_shown call_of calls one.section_lines with_front section_then rest_in rest typed option_typed members_of after_exception body type_if request_body result_body reply_body is_request body_of has_body padded after_header of_header message body_may_be_missing close message_lines stage_of line_class_of text_of reader_by
+unfolding digits num twos_complement padding block number path_text hex hex_number escaped type_in trees_after builtin_types minor kind order value_line_text call_text rest_text signatures_of line_at is_shown call_of calls one.section_lines with_front section_then rest_in rest typed option_typed members_of after_exception body type_if request_body result_body reply_body is_request body_of has_body padded after_header of_header message body_may_be_missing close message_lines stage_of line_class_of text_of reader_by
 one_message = 0
 
 -- what a stream is cut and written with
 unfoldable pub a_stream : ℕ
-unfolding type_word print.start_line continues_line cancelled_line fault_line stream_fault_line unfinished_line total_line fronts wrong first_wrong first_wrong_octet has_more size with_first cut_from limit limited cut messages read_of start_line said_line is_inside is_truncated may_be_fragmented is_opener is_fragment is_cancel may_be_cancelled refused place own event_of_open id opener_of has_named goes_past header_events payload_events request_id_events message_end_events events_of_octet events_of changed opened events_from events open_after octet joined classes line lines_of_event lines_of_events by_class in_order is_last_of up_to_last_line lines_of_messages stop_line lines lines_text text start_count fault_count tally is_over first_messages unfinished final closing
+unfolding type_word print.start_line continues_line cancelled_line fault_line stream_fault_line unfinished_line total_line fronts wrong first_wrong first_wrong_octet has_more size with_first cut_from limit limited cut messages read_of start_line numbered_line is_inside is_truncated may_be_fragmented is_opener is_fragment is_cancel may_be_cancelled refused place own event_of_open id opener_of has_named goes_past header_events payload_events request_id_events message_end_events events_of_octet events_of changed opened events_from events open_after octet joined classes line lines_of_event lines_of_events by_class in_order is_last_of up_to_last_line lines_of_messages stop_line lines lines_text text start_count fault_count tally is_over first_messages unfinished final closing
 a_stream = 0
 
 -- what the rows are told with

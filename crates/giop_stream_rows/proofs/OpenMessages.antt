@@ -345,7 +345,7 @@ first_fits = record {
   known = below_all;
   clean = refl;
   at = omega arith;
-  heeds = λ other. refl;
+  id_in_header_only = λ other. refl;
 }
 
 -- ---- The checkpoint.

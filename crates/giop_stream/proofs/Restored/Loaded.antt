@@ -217,7 +217,7 @@ module _ (C : Table) (l : RequestTable) where
 
 -- ---- the first of the records that are left
 
--- the record that was read first is this entry's, and these are the octets behind it
+-- the record that was read first is this entry's, and these are the octets after it
 abbrev pub IsRead : FirstRecord → Entry → List ℕ → Type 0
 IsRead first e rest =
     (first.«record» ≡ e.record_is) × (first.message ≡ e.message) × (first.frames.now ≡ e.frames) × (first.rest.now ≡ rest)
@@ -240,7 +240,7 @@ pub record FrontOwn (C : Table) (l : RequestTable) (at count : ℕ) (first : Fir
   pub is : IsCurrentEntry C l at first here
   pub last : count - 1 ≡ 0
 
--- what is left, by its parts
+-- what is left to read, by its parts
 record Parts (C : Table) (l : RequestTable) (at count : ℕ) (octets : List ℕ) (kept : List OpenEntry) (held : List Held)
     (current : Option Message) (own : Option Own) (entries : List Entry) : Type 0 where
   entries_are : AreEntries kept current entries

@@ -8,7 +8,7 @@ use Rattle.giop_print.specs.Output.{OutLog, Wrote, WroteFront, Writes}
 use Rattle.giop_sig.specs.Table.{Table}
 use Rattle.giop_message.specs.declared.message.Message.{Message}
 use Rattle.giop_message.specs.MessageReader.{LineClass, Value, Call, Rest, Fault, End, TimedLine, MessageReader, AreInLineOrder, AtClose, due, is_fault, is_last}
-use Rattle.giop_message.specs.Text.{line_class_text, said_text}
+use Rattle.giop_message.specs.Text.{line_class_text, numbered_lines}
 use Rattle.giop_message.specs.Signatures.{RequestTable, signatures_of}
 use Rattle.giop_message.specs.Messages.{message, stage_of, close}
 use Rattle.giop_message.specs.ReaderOfTable.{message_reader}
@@ -31,8 +31,8 @@ said_lines at number rs = map (λ r. record { place = at; number = number; conte
 abbrev close_lines : ℕ → ℕ → List (LineClass × List ℕ) → List Line
 close_lines at number cs = map (λ c. record { place = at; number = number; content = Said c.0 c.1 }) cs
 
-said_is : (at number : ℕ) (rs : List TimedLine) → lines_text (said_lines at number rs) ≡ said_text at number rs
-unfolding lines_text said_text
+said_is : (at number : ℕ) (rs : List TimedLine) → lines_text (said_lines at number rs) ≡ numbered_lines at number rs
+unfolding lines_text numbered_lines
 said_is at number [] = refl
 said_is at number (r ∷ rs) = ap (λ (t : List ℕ). line_class_text at number r.line_class r.text ++ t) (said_is at number rs)
 

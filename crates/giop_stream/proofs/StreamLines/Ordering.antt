@@ -135,7 +135,7 @@ ordered_filter : (q : Line → Bool) (ls : List Line) → Ordered ls → Ordered
 ordered_filter q [] h = tt
 ordered_filter q (l ∷ ls) h = filtered_by q l ls (q l) h.0 (ordered_filter q ls h.1)
 
--- ---- The lines of events, and what is kept after the first ones.
+-- ---- The lines of the later events, by what is kept after the first ones.
 
 -- nothing is kept of messages that are over
 restricted : (ℕ → Bool) → OctetsByNumber → OctetsByNumber

@@ -1,7 +1,7 @@
 use Rattle.std.proofs.Common.{refl, sym}
 use Rattle.giop_sig.specs.Trees.{tree}
 use Rattle.giop_sig.specs.Types.{switch_of}
-use Rattle.giop_decode.proofs.TransitionLaws.{member_case, turns_case, turns_nothing, turns_refused, taken_number}
+use Rattle.giop_decode.proofs.TransitionLaws.{member_case, case_transition, turns_nothing, turns_refused, taken_number}
 use Rattle.giop_decode.proofs.leading_numbers.take_selected.Goals as goal
 
 pub returns-in-Case-clause-transition_fits : goal.returns-in-Case-clause-transition_fits
@@ -11,7 +11,7 @@ pub returns-in-Case-clause-transitions : goal.returns-in-Case-clause-transitions
 returns-in-Case-clause-transitions c is coding path at =
     let C = c.args.catalogue.now in
     let T = tree C c.args.of.0 in
-    turns_case C coding path at c.args.number c.requires.fit.0 T c.in-Case.i is c.requires.fit.1 c.requires.union
+    case_transition C coding path at c.args.number c.requires.fit.0 T c.in-Case.i is c.requires.fit.1 c.requires.union
     (sym (c.in-Case.ensures.tree is.n (taken_number (switch_of T) (switch_of T) c.args.number is refl))) (returns-in-Case-clause-transition_fits c)
 
 pub returns-in-Nothing-clause-transitions : goal.returns-in-Nothing-clause-transitions

@@ -1,5 +1,5 @@
 use Rattle.std.proofs.Common.{◌+◌, [], ap, append-nil, subst, sym, ◌∙◌, arith, refl, ◌≡◌}
-use Rattle.giop_decode.proofs.Advancing.{stands_at, same_some, goes, step_fits, lines_turned}
+use Rattle.giop_decode.proofs.Advancing.{stands_at, same_some, goes, step_fits, lines_after_transition}
 use Rattle.giop_decode.proofs.Surrounding.{IsCoded, coded_in}
 use Rattle.giop_print.proofs.Writing.{writes_failed}
 use Rattle.giop_decode.proofs.Noting.{noted_on, leaf_inside}
@@ -63,7 +63,7 @@ returns-in_err-progress-clause-writes g c here h =
     let e = ap (λ l. step (plain d.order) [] ps (leaf_in C d l) here c.args.octet) c.in-Some.is ∙ ap (around (plain d.order) [] ps) t.comes in
     let transition = c.take_octet-step.result.transition in
     let held = still_held c.take_octet-step.result.output c.take_octet-step.new.piece.items in
-    let ls = ap lines_of e ∙ lines_turned C here (plain d.order) [] d.outer.items T transition c.take_octet-step.new.carry held t.lines f.ahead f.known_outer in
+    let ls = ap lines_of e ∙ lines_after_transition C here (plain d.order) [] d.outer.items T transition c.take_octet-step.new.carry held t.lines f.ahead f.known_outer in
     let w = rw (c.of-of.ensures, append-nil c.take_octet-step.new.piece.items) at (c.in_err-progress.ensures.writes here (here + 1) t.lines) in
     rw ls (writes_failed c.from_residual.result _ _ _ c.from_residual.ensures.0 (w t.says))
 
@@ -81,7 +81,7 @@ returns-clause-writes g c here h =
     let e = ap (λ l. step (plain d.order) [] ps (leaf_in C d l) here c.args.octet) c.in-Some.is ∙ ap (around (plain d.order) [] ps) t.comes in
     let transition = c.take_octet-step.result.transition in
     let held = still_held c.take_octet-step.result.output c.take_octet-step.new.piece.items in
-    let ls = ap lines_of e ∙ lines_turned C here (plain d.order) [] d.outer.items T transition c.take_octet-step.new.carry held t.lines f.ahead f.known_outer in
+    let ls = ap lines_of e ∙ lines_after_transition C here (plain d.order) [] d.outer.items T transition c.take_octet-step.new.carry held t.lines f.ahead f.known_outer in
     let w = rw (c.of-of.ensures, append-nil c.take_octet-step.new.piece.items) at (c.in_ok-progress.ensures.writes here (here + 1) t.lines) in
     rw ls (w t.says)
 
@@ -97,7 +97,7 @@ returns-clause-fits g c goes_on =
     let before : Link C f.root d.outer.items c.of-of.result.0 = rw (c.of-of.ensures, ← same) f.link in
     step_fits C d new f c.args.octet k (c.in_ok-progress.ensures.here f.here f.stands) next.ahead next.inside
     (next.link f.root k.leaf before k.goes_on) next.known_outer (next.known k.leaf k.goes_on) (next.clean k.leaf k.goes_on)
-    (λ other. let was = rw c.in_ok-progress.ensures.root at other in c.in_ok-progress.ensures.id was ∙ f.heeds was)
+    (λ other. let was = rw c.in_ok-progress.ensures.root at other in c.in_ok-progress.ensures.id was ∙ f.id_in_header_only was)
 
 pub returns-clause-keeps_noted : goal.returns-clause-keeps_noted
 returns-clause-keeps_noted g c here front h old_keeps_noted =
@@ -115,7 +115,7 @@ returns-clause-keeps_noted g c here front h old_keeps_noted =
     let transition = c.take_octet-step.result.transition in
     let output = c.take_octet-step.result.output in
     let piece = c.take_octet-step.new.piece.items in
-    let ls = ap lines_of e ∙ lines_turned C here (plain d.order) [] d.outer.items T transition c.take_octet-step.new.carry (still_held output piece) t.lines f.ahead f.known_outer in
+    let ls = ap lines_of e ∙ lines_after_transition C here (plain d.order) [] d.outer.items T transition c.take_octet-step.new.carry (still_held output piece) t.lines f.ahead f.known_outer in
     let header = is_header_root d.root in
     let i = rw c.of-of.ensures at (c.in_ok-progress.ensures.inside here t.lines) in
     let before : HoldsNoted d.notes (without_name_if (leaf_in_string T leaf) (noted header nothing_noted front)) =

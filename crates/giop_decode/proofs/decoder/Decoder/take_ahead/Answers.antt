@@ -123,7 +123,7 @@ returns-clause-fits g c goes_on =
     let link : Link C g'.root d.outer.items c.args.ahead.of.0 = subst (Link C g'.root d.outer.items) same g'.link in
     step_fits C before new g' b k (e.here g'.here g'.stands) next.ahead next.inside
     (next.link g'.root k.leaf link k.goes_on) next.known_outer (next.known k.leaf k.goes_on) (next.clean k.leaf k.goes_on)
-    (λ other. let was = rw e.root at other in e.id was ∙ f.heeds was)
+    (λ other. let was = rw e.root at other in e.id was ∙ f.id_in_header_only was)
 
 pub returns-clause-done : goal.returns-clause-done
 returns-clause-done g c is =

@@ -3,7 +3,7 @@ use Rattle.giop_decode.specs.Transitions.{StandsWhole}
 use Rattle.giop_decode.specs.declared.leaf.Leaf.TheVariants as innermost
 use Rattle.giop_decode.proofs.Advancing.{stands_at}
 use Rattle.giop_decode.proofs.Whole.{comes_head}
-use Rattle.giop_decode.proofs.decoder.Decoder.head_ahead.Goals as goal
+use Rattle.giop_decode.proofs.decoder.Decoder.leading_number_ahead.Goals as goal
 
 pub take_value-requires-clause-head : goal.take_value-requires-clause-head
 take_value-requires-clause-head c =
