@@ -1,4 +1,4 @@
--- The laws of the numbers that octets spell.
+-- Laws of the numbers that octets spell: one octet more, and their bounds.
 use Rattle.std.proofs.Common.{◌≡◌, ℕ, suc, ◌+◌, ◌*◌, ◌^◌, ◌<◌, ◌≤◌, List, [], ◌∷◌, ◌++◌, length, reverse, refl, arith, pow-suc}
 use Rattle.std.proofs.lemmas.List.{reverse-append, length-reverse}
 use Rattle.std.proofs.Math.Nat.{mul-le-mul_left}
@@ -16,12 +16,12 @@ little-push : (xs : List ℕ) (x : ℕ) → little (xs ++ x ∷ []) ≡ little x
 little-push [] x = omega arith
 little-push (y ∷ xs) x = rw (little-push xs x, pow-suc) (omega arith)
 
--- one octet more in front, which is the lightest
+-- one octet more in front, which is the least significant
 pub num_little-cons : (x : ℕ) (xs : List ℕ) → num Little (x ∷ xs) ≡ x + 256 * num Little xs
 unfolding num
 num_little-cons x xs = refl
 
--- one octet more in front, which is the heaviest
+-- one octet more in front, which is the most significant
 pub num_big-cons : (x : ℕ) (xs : List ℕ) → num Big (x ∷ xs) ≡ x * 256 ^ length xs + num Big xs
 unfolding num
 num_big-cons x xs =
@@ -34,14 +34,14 @@ first_octet x xs h = h 0 0 (omega arith)
 octets_after : (x : ℕ) (xs : List ℕ) → AreOctets (x ∷ xs) → AreOctets xs
 octets_after x xs h = λ k d below. h (suc k) d (omega arith)
 
--- a heaviest octet in front stays below one power more
+-- one more significant octet in front stays below one power more
 below_power : (x n power : ℕ) → x < 256 → n < power → x * power + n < power * 256
 below_power x n power octet below = omega (arith, mul-le-mul_left power (le_pred x octet))
   where
     le_pred : (x : ℕ) → x < 256 → x ≤ 255
     le_pred x h = omega arith
 
--- octets spell a number below 256 to their count
+-- octets spell a number below 256 to the power of their count
 pub num_bound : (order : Order) (xs : List ℕ) → AreOctets xs → num order xs < 256 ^ length xs
 num_bound Big [] h = rw num-nil (omega arith)
 num_bound Little [] h = rw num-nil (omega arith)

@@ -1,4 +1,5 @@
--- The laws of padding.
+-- Laws of the padding that is computed: its value by the remainder, that it aligns an offset, and that it depends on the
+-- offset modulo 8 only.
 use Rattle.std.proofs.Common.{◌≡◌, ◌≢◌, ℕ, ◌+◌, ◌-◌, ◌%◌, inl, inr, sym, arith}
 use Rattle.giop_cdr.specs.Alignment.{IsAlignment, padding}
 
@@ -25,7 +26,7 @@ pub padding_aligns : (at size : ℕ) → IsAlignment size → (at + padding at s
 unfolding padding
 padding_aligns at size h = by_alignment (λ n. (at + (n - at % n) % n) % n ≡ 0) size h (omega arith) (omega arith) (omega arith) (omega arith)
 
--- padding is told by the offset modulo 8
+-- padding depends on the offset modulo 8 only
 pub padding-modulo : (at place size : ℕ) → IsAlignment size → at % 8 ≡ place % 8 → padding at size ≡ padding place size
 unfolding padding
 padding-modulo at place size h =

@@ -1,10 +1,10 @@
--- How the code spells a number: octet by octet, each time 256 times what it has and one octet.
+-- The code's loop over the octets of a number: at each octet 256 times the number so far, plus the octet.
 use Rattle.std.proofs.Common.{◌≡◌, ℕ, zero, suc, ◌+◌, ◌-◌, ◌*◌, ◌^◌, ◌<◌, ◌≤◌, List, length, take, drop, get_or, reverse, ◌∙◌, ap, arith, add-zero, add-one, pow-suc, add-suc, le_refl}
 use Rattle.std.proofs.lemmas.List.{take_more, take_all, drop_more, reverse-append}
 use Rattle.giop_cdr.specs.declared.order.Order.TheVariants.{Big, Little}
 use Rattle.giop_cdr.specs.Numbers.{little, num}
 
--- from the front, the first heaviest
+-- from the front, the most significant first
 pub big_more : (xs : List ℕ) (i n x : ℕ) → i < length xs → n ≡ little (reverse (take i xs)) → x ≡ get_or xs i 0 → n * 256 + x ≡ little (reverse (take (i + 1) xs))
 big_more xs i n x h e is = rw (take_more xs i 0 h, ← is, reverse-append, e) (omega arith)
 
@@ -12,7 +12,7 @@ pub big_all : (xs : List ℕ) (i n : ℕ) → length xs ≤ i → n ≡ little (
 unfolding num
 big_all xs i n h e = e ∙ ap (λ ys. little (reverse ys)) (take_all i xs h)
 
--- from the back, the first lightest
+-- from the back, the least significant first
 pub little_more : (xs : List ℕ) (i n x : ℕ) → i < length xs → n ≡ little (drop (i + 1) xs) → x ≡ get_or xs i 0 → n * 256 + x ≡ little (drop i xs)
 little_more xs i n x h e is = rw (drop_more xs i 0 h, ← is, e) (omega arith)
 

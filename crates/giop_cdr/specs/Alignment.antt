@@ -10,6 +10,6 @@ pub record IsPadding (at size count : ℕ) : Type 0 where
   pub aligned : (at + count) % size ≡ 0
   pub least : (k : ℕ) → (at + k) % size ≡ 0 → count ≤ k
 
--- that number, as it is computed; `pad` has that it is the least
+-- that number, as it is computed; the contract of `pad` has that it is the least
 unfoldable pub padding : ℕ → ℕ → ℕ
 padding at size = (size - at % size) % size

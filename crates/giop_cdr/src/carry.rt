@@ -1,4 +1,4 @@
-//! A carry: the octets of a number that is on its way.
+//! A carry: the octets so far of a number that comes octet by octet.
 
 ghost use Rattle.std.specs.Prelude.{◌≡◌, ℕ, ◌<◌, ◌≤◌, ◌↔◌, List, [], ◌∷◌, ◌++◌, length, IsTrue, IfOk, IsErr, Some};
 ghost use Rattle.giop_cdr.specs.Numbers.{AreOctets, num, number_of};
@@ -12,7 +12,7 @@ use crate::prim::{Prim, size};
 use arrayvec::ArrayVec;
 use std::marker::Model;
 
-/// The octets of a number, as they come: at most 8. A contract sees the list of the octets held.
+/// The octets of a number that have come so far, at most 8. A contract sees the list of the octets held.
 #[derive(Clone, Debug, Default, Drop, PartialEq, Eq)]
 pub struct Carry {
     octets: ArrayVec<u8, 8>,
@@ -65,7 +65,7 @@ impl Carry {
         &self.octets
     }
 
-    /// Lets go of all that is held.
+    /// Drops all octets that are held.
     pub fn clear(&mut self)
         ensures { self.new ≡ [] }
     {

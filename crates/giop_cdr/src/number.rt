@@ -1,4 +1,4 @@
-//! The number that octets spell, and what it is as a primitive.
+//! The number that octets spell, and its value as a primitive.
 
 ghost use Rattle.std.specs.Prelude.{◌≡◌, ◌^◌, ◌<◌, ◌≤◌, ◌↔◌, length, IfOk, IsErr, Some};
 ghost use Rattle.giop_cdr.specs.declared.order.Order.TheVariants as orders;
@@ -50,7 +50,7 @@ fn spelled(order: Order, octets: &[u8]) -> u64
     }
 }
 
-/// What a number of a primitive's size is as that primitive.
+/// The value of that primitive which a number of its size spells.
 #[inline(always)]
 #[tactic(auto, unfolding(crate::specs::Numbers::twos_complement))]
 fn interpreted(prim: Prim, n: u64) -> Result<Number, CdrFault>
@@ -73,7 +73,7 @@ fn interpreted(prim: Prim, n: u64) -> Result<Number, CdrFault>
     })
 }
 
-/// The number that octets spell, the first heaviest.
+/// The number that octets spell, the most significant first.
 #[inline(always)]
 #[tactic(auto, using(crate::proofs::Spelling::spelling_steps))]
 fn heaviest_first(octets: &[u8]) -> u64
@@ -88,7 +88,7 @@ fn heaviest_first(octets: &[u8]) -> u64
     n
 }
 
-/// The number that octets spell, the first lightest.
+/// The number that octets spell, the least significant first.
 #[inline(always)]
 #[tactic(auto, using(crate::proofs::Spelling::spelling_steps))]
 fn lightest_first(octets: &[u8]) -> u64

@@ -1,10 +1,10 @@
-//! The two orders of a number's octets.
+//! The byte order: the two orders of a number's octets.
 
-/// In which order the octets of a number stand (CDR Transfer Syntax, Primitive Types).
+/// The byte order of a number (CDR Transfer Syntax, Primitive Types).
 #[derive(Clone, Copy, Debug, PartialEq, Eq, Hash)]
 pub enum Order {
-    /// The heaviest octet first.
+    /// Big-endian: the most significant octet first.
     Big,
-    /// The lightest octet first.
+    /// Little-endian: the least significant octet first.
     Little,
 }

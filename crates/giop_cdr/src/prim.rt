@@ -10,7 +10,7 @@ pub enum Primitive {
     Octet,
     /// A character of one octet.
     Char,
-    /// A truth: 1 or 0 in one octet.
+    /// A boolean: 1 or 0 in one octet.
     Boolean,
     /// A signed number of 16 bits.
     Short,
@@ -30,7 +30,7 @@ pub enum Primitive {
     Double,
 }
 
-/// The name that the calls use for it.
+/// The name by which the functions use it.
 pub type Prim = Primitive;
 
 /// How many octets a primitive takes, which is also what it is aligned to.

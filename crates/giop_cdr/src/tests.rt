@@ -14,7 +14,7 @@ fn carried(rt: &impl Abort, text: &str) -> Result<Carry, Fail> {
     Ok(carry)
 }
 
-/// A primitive, its octets with the heaviest first and with the lightest first, and the number.
+/// A primitive, its octets in big-endian and in little-endian order, and the number.
 static ENDS: [(Prim, &str, &str, Number); 29] = [
     (Prim::Octet, "00", "00", Number::Unsigned(0)),
     (Prim::Octet, "ff", "ff", Number::Unsigned(255)),

@@ -51,9 +51,6 @@ is_ending S = record { ends = λ header xs. go (stage_of (message S header xs)) 
 
 -- ---- an unsigned long at the front
 
-ulong : Ty
-ulong = Single (Plain prims.ULong)
-
 -- a number ends no operation
 no_operation : (is path_is : Bool) → (is && (path_is && false)) ≡ false
 no_operation true true = refl

@@ -1,4 +1,4 @@
--- Gathering parts.
+-- Gathering parts for one put: each call of the code does what the specs say of it.
 use Rattle.std.proofs.Common.{◌≡◌, Result, Ok, Err, ℕ, suc, get_or, flat_map, ◌+◌, ◌<◌, List, [], ◌∷◌, ◌++◌, length, take, drop, false, refl, sym, ap, subst, ◌∙◌, append-nil, append_assoc}
 use Rattle.std.proofs.Math.Seq.{take-suc}
 use Rattle.std.proofs.lemmas.List.Concat.{flat_map-append}
@@ -8,18 +8,6 @@ use Rattle.std.specs.Result.{is_ok, OnErr}
 use Rattle.giop_print.specs.Output.{OutLog, Wrote, WroteFront, Writes}
 use Rattle.giop_print.specs.Gathering.{WroteBut, Gathers}
 use Rattle.giop_print.proofs.Writing.{wrote-nil, wrote-append, wrote-front, front-append, flat_map-take}
-
--- where nothing is written yet
-pub but-nil : (a : OutLog) → WroteBut a a [] []
-but-nil a = record { front = []; wrote = wrote-nil a; both = refl }
-
--- a part is gathered
-pub but-gathered : (a : OutLog) (gathered part : List ℕ) → WroteBut a a (gathered ++ part) (gathered ++ part)
-but-gathered a gathered part = record { front = []; wrote = wrote-nil a; both = refl }
-
--- what was gathered is written, and the part is gathered
-pub but-part : (a b : OutLog) (gathered part : List ℕ) → Wrote a b gathered → WroteBut a b part (gathered ++ part)
-but-part a b gathered part w = record { front = gathered; wrote = w; both = refl }
 
 -- what was gathered is written, and so is the part
 pub but-none : (a b c : OutLog) (gathered part : List ℕ) → Wrote a b gathered → Wrote b c part → WroteBut a c [] (gathered ++ part)

@@ -1,4 +1,4 @@
--- Writing in parts.
+-- Writing a text in parts, one call after the other: all of it, or a front of it before a put failed.
 use Rattle.std.proofs.Common.{◌≡◌, Result, Ok, Err, IsOk, IsErr, ℕ, suc, get_or, flat_map, ◌+◌, ◌-◌, ◌≤◌, List, [], ◌∷◌, ◌++◌, length, take, drop, take-add, ◌<◌, length-take, length-drop, Option, Some, None, refl, sym, ap, subst, ◌∙◌, arith, append-nil, append_assoc, add-one, length-append, min, inl, inr}
 use Rattle.std.proofs.Math.Seq.{take-append-add, take-append_seam, take-suc}
 use Rattle.std.proofs.lemmas.List.Concat.{flat_map-append}
@@ -85,9 +85,6 @@ front-failed a b c bytes at h p q =
       failures = q.failures ∙ ap counted p.failures;
     }
 
-pub wrote-all : (a b : OutLog) (bytes : List ℕ) (at : ℕ) → length bytes ≤ at → Wrote a b (take at bytes) → Wrote a b bytes
-wrote-all a b bytes at h p = rw (take_all at bytes h) at p
-
 -- the value of `&bytes[at..]`
 pub rest_from : (at : ℕ) (bytes : List ℕ) → take (length bytes - at) (drop at bytes) ≡ drop at bytes
 rest_from at bytes = let l = length-drop at bytes in take_all (length bytes - at) (drop at bytes) (omega arith)
@@ -114,16 +111,7 @@ pub writes_err : {A E : Type 0} (r : Result A E) (a b : OutLog) (x y : List ℕ)
 writes_err (Ok v) a b x y e p = absurd (false≢true e)
 writes_err (Err e) a b x y h p = front-append a b x y p
 
--- nothing to write
-pub writes_nothing : {A E : Type 0} (r : Result A E) (a : OutLog) → IsOk r → Writes r a a []
-writes_nothing (Ok v) a e = wrote-nil a
-writes_nothing (Err v) a e = absurd (false≢true e)
-
 -- a front, where the answer is an error
 pub writes_failed : {A E : Type 0} (r : Result A E) (a b : OutLog) (x : List ℕ) → IsErr r → WroteFront a b x → Writes r a b x
 writes_failed (Ok v) a b x e p = absurd (false≢true e)
 writes_failed (Err v) a b x e p = p
-
--- the parts of a line of a message
-pub writes_headed : {A E : Type 0} (r : Result A E) (a b : OutLog) (message : ℕ) (place kind rest : List ℕ) → Writes r a b (headed message place (kind ++ (rest ++ []))) → Writes r a b (headed message place (kind ++ rest))
-writes_headed r a b message place kind rest w = subst (Writes r a b) (ap (λ z. headed message place (kind ++ z)) (append-nil rest)) w

@@ -1,4 +1,4 @@
--- What gathering parts for a put did (steps).
+-- Gathering parts for one put: what was written, and what is still to write (steps).
 use Rattle.std.specs.Prelude.{◌≡◌, ℕ, List, ◌++◌, Result, MatchResult}
 use Rattle.giop_print.specs.Output.{OutLog, Wrote, WroteFront}
 

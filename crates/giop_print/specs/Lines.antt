@@ -98,7 +98,7 @@ abbrev pub split_text : Piece → List ℕ → List ℕ
 split_text (pieces.Text octets) next = codes " " ++ quoted (octets.now ++ next)
 split_text (pieces.Octets octets) next = spaced_hex (octets.now ++ next)
 
--- a part of a content: where it stands there, its text, and whether more comes
+-- a part of a content: its offset there, its text, and whether more comes
 unfoldable pub content_line : ℕ → List ℕ → List ℕ → ℕ → List ℕ → List ℕ → List ℕ
 content_line message path word offset text more =
     joined (codes "m" ∷ decimal message ∷ codes " " ∷ path ∷ word ∷ decimal offset ∷ text ∷ more
@@ -111,7 +111,7 @@ abbrev pub split_piece_line : ℕ → List ℕ → Piece → List ℕ → ℕ �
 split_piece_line message path held octets offset more =
     content_line message path (piece_word held) offset (split_text held octets) (more_word more)
 
--- an encapsulation: how many octets it has, their order, and what is left of them behind its value
+-- an encapsulation: how many octets it has, their order, and those that are left after its value
 abbrev pub encapsulation_line : ℕ → List ℕ → ℕ → List ℕ
 encapsulation_line message path length = kind_line message path (codes " encapsulation ") (decimal length)
 

@@ -1,8 +1,8 @@
--- What an out tells, and what writing to it did (meaning).
+-- What is known of an `Out`: what was written to it, and what a call of writing did (meaning).
 use Rattle.std.specs.Prelude.{◌≡◌, ℕ, ◌+◌, ◌-◌, ◌^◌, ◌≤◌, ◌<◌, List, length, take, Option, Result, min, MatchResult}
 use Rattle.std.specs.Io.KnownBytes.{Appends, Keeps}
 
--- what was written, where that is told, and how many puts and failures there were
+-- what was written, where that is known, and how many puts and failures there were
 pub record OutLog : Type 0 where
   pub written : Option (List ℕ)
   pub puts : ℕ
@@ -12,7 +12,7 @@ pub record OutLog : Type 0 where
 unfoldable pub counted : ℕ → ℕ
 counted n = min (n + 1) (2 ^ 64 - 1)
 
--- a put took the first n octets of what it was handed, at least one of some
+-- a put took the first n octets of what it was handed, at least one unless there were none
 pub record Took (before after : OutLog) (octets : List ℕ) (n : ℕ) : Type 0 where
   pub some : 0 < length octets → 0 < n
   pub within : n ≤ length octets

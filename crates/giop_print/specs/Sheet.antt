@@ -1,4 +1,4 @@
--- What a sheet tells (state).
+-- What is known of a sheet as an `Out`, and its room (state).
 use Rattle.std.specs.Prelude.{ℕ, ◌-◌, length, take, Some}
 use Rattle.giop_print.specs.declared.sheet.Sheet.{Sheet}
 use Rattle.giop_print.specs.Output.{OutLog}

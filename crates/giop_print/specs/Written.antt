@@ -1,4 +1,4 @@
--- What a writer as an out tells (state).
+-- What is known of a writer as an `Out` (state).
 use Rattle.std.specs.Prelude.{ℕ, List, Option}
 use Rattle.giop_print.specs.declared.written.Written.{Written}
 use Rattle.giop_print.specs.Output.{OutLog}

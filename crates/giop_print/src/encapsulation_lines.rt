@@ -1,5 +1,5 @@
-//! The lines of an encapsulation, over any out (docs/FORMATS.md): how many octets it has, their order, and what is left
-//! of them behind its value. Each answers as the other lines do.
+//! The lines of an encapsulation, written to any `Out` (docs/FORMATS.md): how many octets it has, their order, and
+//! those that are left after its value. Each function returns as those of the other lines do.
 
 ghost use Rattle.std.specs.Prelude.{◌+◌, ◌≤◌, ◌++◌, length};
 ghost use Rattle.giop_print.specs.Output.{Writes};

@@ -1,4 +1,4 @@
-//! The lines of a dump: their text, and where they are written.
+//! The lines of a dump: their text, and the sinks that they are written to.
 #![tactic(auto)]
 
 mod encapsulation_lines;

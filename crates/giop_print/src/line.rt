@@ -1,4 +1,4 @@
-//! A line that is spelled from its end to its front, so that a number is written where it stands.
+//! A line that is spelled from its end to its front, so that the digits of a number go straight to their place.
 
 ghost use Rattle.std.specs.Prelude.{◌≡◌, ◌≤◌, ◌<◌, ◌+◌, ◌-◌, ◌*◌, [], ◌∷◌, ◌++◌, length, drop, decimal};
 ghost use Rattle.std.specs.Fmt.{signed_decimal};
@@ -15,7 +15,7 @@ const ROOM: usize = 256;
 static PAIRS: [u8; 512] =
     *b"000102030405060708090a0b0c0d0e0f101112131415161718191a1b1c1d1e1f202122232425262728292a2b2c2d2e2f303132333435363738393a3b3c3d3e3f404142434445464748494a4b4c4d4e4f505152535455565758595a5b5c5d5e5f606162636465666768696a6b6c6d6e6f707172737475767778797a7b7c7d7e7f808182838485868788898a8b8c8d8e8f909192939495969798999a9b9c9d9e9fa0a1a2a3a4a5a6a7a8a9aaabacadaeafb0b1b2b3b4b5b6b7b8b9babbbcbdbebfc0c1c2c3c4c5c6c7c8c9cacbcccdcecfd0d1d2d3d4d5d6d7d8d9dadbdcdddedfe0e1e2e3e4e5e6e7e8e9eaebecedeeeff0f1f2f3f4f5f6f7f8f9fafbfcfdfeff";
 
-/// The end of a line. It stands last in an array, and what stands before it says nothing.
+/// The end of a line, in the last octets of an array; the octets before them are unused.
 #[derive(Drop)]
 pub struct Line {
     octets: [u8; ROOM],
@@ -55,7 +55,7 @@ impl Line {
         self.at
     }
 
-    /// Lets go of what was spelled last, so that so many octets more fit.
+    /// Drops what was spelled last, so that so many octets more fit.
     #[inline]
     pub(crate) fn cut(&mut self, room: usize)
         requires within { line_room self.old ≤ room }
@@ -199,7 +199,7 @@ impl Line {
         }
     }
 
-    /// Puts what a piece has behind its offset, where `next` follows its octets, before what was spelled: a space and
+    /// Puts what a piece has after its offset, where `next` follows its octets, before what was spelled: a space and
     /// its text between quotes, or a space and its digits where it has octets.
     pub(crate) fn put_piece(&mut self, piece: Piece<'_>, next: &[u8])
         requires size { length (piece_octets piece) + length next.now ≤ 32 }

@@ -1,5 +1,5 @@
-//! The lines of a dump, over any out (docs/FORMATS.md). A writer answers Ok where its whole line was written; else a
-//! put failed, and a front of the line was written. Messages are named by their numbers.
+//! The lines of a dump, written to any `Out` (docs/FORMATS.md). A function returns Ok where its whole line was
+//! written; else a put failed, and a front of the line was written. Messages are named by their numbers.
 
 ghost use Rattle.std.specs.Prelude.{◌+◌, ◌≤◌, ◌++◌, length};
 ghost use Rattle.giop_cdr.specs.Primitives.{size_of};

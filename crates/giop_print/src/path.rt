@@ -136,8 +136,8 @@ fn root_word(root: Root) -> &'static [u8]
     }
 }
 
-/// Puts the word of a root before what was spelled of a line. Each word has a copy of its own, whose length the compiler
-/// knows.
+/// Puts the word of a root before what was spelled of a line. Each word has a copy of its own, whose length the
+/// compiler knows.
 #[inline(always)]
 pub fn put_root(line: &mut Line, root: Root)
     requires { 9 ≤ line_room line.old }

@@ -1,4 +1,4 @@
-//! Something that spells the path of a value: a path, or what it is made of.
+//! A trait for what spells the path of a value: a path, or the parts that a path is made of.
 
 ghost use Rattle.std.specs.Prelude.{◌≡◌, List, ℕ};
 ghost use Rattle.giop_print.specs.Line.{Spells};

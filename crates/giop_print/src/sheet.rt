@@ -1,4 +1,4 @@
-//! An out in memory.
+//! An `Out` in memory.
 
 ghost use Rattle.std.specs.Prelude.{◌≡◌, ◌≤◌, ◌<◌, ◌+◌, ◌-◌, ◌++◌, [], Some, MatchResult, IfOk, OnErr, length, min, take};
 ghost use Rattle.giop_print.specs.Output.{Took, Failed};
@@ -64,7 +64,7 @@ impl<'a> Out for Sheet<'a> {
     }
 }
 
-/// Copies what fits behind the first `used` octets, and says how much that is.
+/// Copies what fits after the first `used` octets, and returns how much that is.
 fn copy_in(into: &mut [u8], used: usize, octets: &[u8]) -> usize
     requires { used ≤ length into.old }
     ensures count { result ≡ min (length octets.now) (length into.old - used) }

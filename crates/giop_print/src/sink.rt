@@ -1,4 +1,4 @@
-//! Where lines go: something that takes octets, and writing all of some octets to it.
+//! The sink of the lines: a trait `Out` for what takes octets, and writing all of some octets to one.
 
 ghost use Rattle.std.specs.Prelude.{◌≡◌, MatchResult, flat_map};
 ghost use Rattle.giop_print.specs.Output.{OutLog, counted, Took, Failed, Writes};
@@ -14,10 +14,10 @@ pub struct OutFault;
 
 /// Something that takes octets.
 pub trait Out {
-    /// What was written, where that is told, and how many puts and failures there were. A count at its greatest stays.
+    /// What was written, where that is known, and how many puts and failures there were. A count at its greatest stays.
     ghost log: { Self → OutLog };
 
-    /// Takes the first octets of what it is handed, at least one of some, and says how many.
+    /// Takes the first octets of what it is handed, at least one unless there are none, and returns how many.
     fn put(&mut self, octets: &[u8]) -> Result<usize, OutFault>
         ensures { MatchResult result
             (λ n. Took (log self.old) (log self.new) octets.now n)

@@ -2,7 +2,7 @@
 
 use giop_cdr::{Number, Prim};
 
-/// What a value line says after its path.
+/// What a value line has after its path.
 #[derive(Clone, Copy, Debug, PartialEq, Eq)]
 pub enum Value<'a> {
     /// The number of a primitive.

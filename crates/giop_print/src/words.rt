@@ -1,4 +1,4 @@
-//! The words of the lines.
+//! The fixed words of the lines: orders, message types, kinds.
 
 ghost use Rattle.std.specs.Prelude.{◌≡◌, ◌≤◌, ◌++◌, length};
 ghost use Rattle.giop_print.specs.Line.{line_text, line_room};
@@ -47,7 +47,7 @@ pub fn more_word(more: bool) -> &'static [u8]
     if more { b" more" } else { b"" }
 }
 
-/// The word of a truth.
+/// The word of a boolean.
 pub fn truth_word(truth: bool) -> &'static [u8]
     ensures value { result.now ≡ truth_word truth }
     ensures short { length result.now ≤ 5 }

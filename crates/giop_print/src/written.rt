@@ -1,11 +1,11 @@
-//! A writer as an out.
+//! A `Write` of the standard library as an `Out`.
 
 ghost use Rattle.std.specs.Prelude.{◌≡◌};
 
 use crate::sink::{Out, OutFault, one_more};
 use std::io::Write;
 
-/// A writer as an out. It fails where its writer does, and where that takes nothing of some octets.
+/// A writer as an `Out`. It fails where its writer does, and where that takes none of the octets that it is handed.
 #[derive(Drop)]
 pub struct Written<W: Write> {
     writer: W,
@@ -16,7 +16,7 @@ pub struct Written<W: Write> {
 impl<W: Write> Written<W> {
     ghost use Rattle.giop_print.specs.Written.{written_log};
 
-    /// An out over a writer.
+    /// An `Out` over a writer.
     pub fn new(writer: W) -> Written<W>
         ensures { written_log W.contents result ≡
             record { written = W.contents writer; puts = 0; failures = 0 } }

@@ -1,4 +1,4 @@
--- What reading gives of a text that begins with an operation, and what one that was read is spelled as.
+-- Operations, both ways: reading the spelling of one gives it or a rule that it breaks, and the text that was read spells it.
 use Rattle.std.proofs.Common.{◌≡◌, inl, ℕ, zero, suc, ◌+◌, ◌<◌, ◌≤◌, Bool, true, false, cond, ltb, leb, List, [], ◌∷◌, ◌++◌, length, Option, Some, None, Result, Ok, Err, append_assoc, refl, sym, ap, subst, ◌∙◌, arith}
 use Rattle.std.specs.Prelude.{codes}
 use Rattle.std.specs.Option.{is_some}

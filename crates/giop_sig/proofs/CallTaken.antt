@@ -1,4 +1,4 @@
--- Parameters that were read are spelled so, and can be members of structs.
+-- Parameters that were read: the text that was read spells them, and they can be members of structs.
 use Rattle.std.proofs.Common.{◌≡◌, ℕ, zero, suc, ◌+◌, ◌<◌, ◌≤◌, Bool, true, false, cond, leb, List, [], ◌∷◌, ◌++◌, length, Option, Some, None, Result, Ok, Err, refl, sym, ap, subst, ◌∙◌, lit≤, arith}
 use Rattle.std.specs.Prelude.{codes}
 use Rattle.std.specs.Option.{is_some}
@@ -14,7 +14,7 @@ use Rattle.giop_tokens.specs.Tokens.{Token, word, mark, AreTokens}
 use Rattle.giop_tokens.specs.Reading.{◌>>=◌}
 use Rattle.giop_tokens.specs.Readers.{word_at, mark_at, mark_if, keyword_if}
 use Rattle.giop_tokens.specs.Names.{operation_name_at}
-use Rattle.giop_tokens.proofs.ReaderLaws.{bind_ok, ok_is, Takes, word_takes, mark_takes, mark_if_takes, keyword_if_takes, operation_name_word, operation_name_takes}
+use Rattle.giop_tokens.proofs.ReaderLaws.{bind_ok, ok_is, Takes, word_takes, mark_takes, mark_if_takes, keyword_if_takes, operation_name_word}
 use Rattle.giop_sig.specs.declared.read_calls.Direction.{Direction}
 use Rattle.giop_sig.specs.declared.read_calls.Direction.TheVariants as directions
 use Rattle.giop_sig.specs.Table.{Node, Part, IsPart, operation_in}
@@ -145,7 +145,7 @@ pub record SoundWays (x : ParamsRead) : Type 0 where
   pub request : AreParts x.0 x.1
   pub reply : AreParts x.0 x.2
 
--- what was taken behind parameters of a way; the first has no comma before it
+-- the parameters that were read after others; the first has no comma before it
 pub record TakenParams (w : ParameterLists) (s : Scope) (text : List ℕ) (x : ParamsRead) : Type 0 where
   pub first : Param
   pub others : List Param
@@ -305,7 +305,7 @@ call_ready a b s text o t m e f is =
     let h = l.sound both.0 both.1 in
     record { request = (l.few_requests, h.request); reply = (l.few_replies k.few, h.reply); grows = l.grows }
 
--- what could be added can be added behind another struct
+-- what could be added can be added after another struct
 pub parts_on : (at : ℕ) (s : Scope) (n : Node) (p : AddedType) (ps : List Part) → added at s n ≡ Ok p
     → (length ps ≤ 256) × AreParts s ps → (length ps ≤ 256) × AreParts p.0 ps
 parts_on at s n p ps e both = (both.0, parts_stay s p.0 ps (added_grows at s n p e) both.1)
@@ -314,7 +314,7 @@ pub calls_grow : (at : ℕ) (s : Scope) (m : ParamsRead) (q p : AddedType) (n : 
     → added at m.0 (nodes.members m.1) ≡ Ok q → added at q.0 n ≡ Ok p → Grows s p.0
 calls_grow at s m q p n ready e f = grows_on s q.0 p.0 (grows_on s m.0 q.0 ready.grows (added_grows at m.0 (nodes.members m.1) q e)) (added_grows at q.0 n p f)
 
--- a type that was there is there behind another
+-- a type that was there is there after another is added
 pub below_on : (at : ℕ) (s : Scope) (n : Node) (p : AddedType) (i : ℕ) → added at s n ≡ Ok p
     → i < length s.table.types → i < length (p.0).table.types
 below_on at s n p i e lt = let g = (added_grows at s n p e).types in omega (arith, ap length g.1, length-append s.table.types g.0)

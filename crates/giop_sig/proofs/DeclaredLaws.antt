@@ -1,4 +1,5 @@
--- What reading gives of a text that begins with a struct or an exception, and what one that was read is spelled as.
+-- Structs and exceptions, both ways: reading the spelling of one gives it or a rule that it breaks, and the text that was read
+-- spells it.
 use Rattle.std.proofs.Common.{◌≡◌, inl, ℕ, ◌<◌, ◌≤◌, Bool, true, false, cond, ltb, List, [], ◌∷◌, length, None, Ok, Err, refl, sym, subst, arith}
 use Rattle.std.specs.Prelude.{codes}
 use Rattle.std.specs.Option.{is_some}
@@ -23,7 +24,7 @@ use Rattle.giop_sig.proofs.TypeLaws.{added_bind}
 use Rattle.giop_sig.proofs.ItemLaws.{declared_reads, members_reads, some_keeps, type_apart, some_none}
 use Rattle.giop_sig.proofs.ItemTaken.{none_of, DeclaredTaken, declared_takes, filled_takes, members_takes, TakenMembers, RepositoryTaken, new_repository_takes}
 
--- of a text that begins with members
+-- reading a text that begins with members
 filled_reads : (types : List Node) (is : List Item) (text : List ℕ) (more : List Token)
     → AreTokens text (spell_items is more)
     → Out {X = List ℕ} (λ rest. rest) (λ k. OfSome k is) types
@@ -78,7 +79,7 @@ structure_reads s w is text more some free t =
 
 -- ---- what was read
 
--- a declaration that was read is spelled so
+-- the text that was read spells the declaration
 pub record TakenDeclaration (s : Scope) (text : List ℕ) (x : Declared) : Type 0 where
   pub declaration : Declaration
   pub took : Took (spell declaration) (OfDeclaration kinds.Syntax s declaration) text x.1

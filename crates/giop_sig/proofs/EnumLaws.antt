@@ -1,4 +1,4 @@
--- Reading enums against their spelling.
+-- Enums, both ways: reading the spelling of one gives it or a rule that it breaks, and the text that was read spells it.
 use Rattle.std.proofs.Common.{◌≡◌, inl, ℕ, zero, suc, ◌+◌, ◌<◌, ◌≤◌, Bool, true, false, cond, ltb, leb, List, [], ◌∷◌, ◌++◌, length, Option, Some, None, Result, Ok, Err, append_assoc, ltb-true, ltb-false, leb-true, leb-false, refl, sym, ap, subst, ◌∙◌, arith}
 use Rattle.std.proofs.lemmas.Bool.{false≢true}
 use Rattle.std.specs.List.{All}
@@ -11,7 +11,7 @@ use Rattle.giop_tokens.specs.Tokens.{Token, word, mark, left_of, AreTokens}
 use Rattle.giop_tokens.specs.Reading.{◌>>=◌}
 use Rattle.giop_tokens.specs.Readers.{mark_at, mark_if}
 use Rattle.giop_tokens.specs.Names.{too_long, identifier_at}
-use Rattle.giop_tokens.proofs.ReaderLaws.{bind_ok, ok_is, Takes, mark_again, mark_if_again, identifier_again, identifier_long, mark_takes, mark_if_takes, identifier_word, identifier_takes}
+use Rattle.giop_tokens.proofs.ReaderLaws.{bind_ok, ok_is, Takes, mark_again, mark_if_again, identifier_again, identifier_long, mark_takes, mark_if_takes, identifier_word}
 use Rattle.giop_sig.specs.Table.{Node}
 use Rattle.giop_sig.specs.Table as nodes
 use Rattle.giop_sig.specs.Grammar.{spell_more_names, spell_names, Enumeration}
@@ -28,7 +28,7 @@ use Rattle.giop_sig.proofs.TypeLaws.{added_bind}
 use Rattle.giop_sig.proofs.ItemTaken.{new_name_takes, declared_takes}
 use Rattle.giop_sig.proofs.ItemLaws.{new_name_reads, declared_reads, some_keeps}
 
--- what is read, told otherwise
+-- what is read, in another form
 pub out_as : {X : Type 0} {made made2 : List ℕ → X} {rule rule2 : Kind → Type 0}
     {types types2 : List Node} {more : List Token} (r : Result X Refusal)
     → Out made rule types more r
@@ -77,7 +77,7 @@ step_on seen w text types ts free h =
 abbrev then_names : ℕ → Bool × NamesRead → Result NamesRead Refusal
 then_names left x = cond x.0 (Ok x.1) (in_steps names_step too_many_names left x.1)
 
--- enumerators behind others, of which there were so few that the steps suffice
+-- enumerators after others, few enough for the steps
 names_reads : (left : ℕ) (names : List (List ℕ)) (seen : List (List ℕ)) (w text : List ℕ)
     (types : List Node) (more : List Token) → left + length seen ≡ 1025
     → OfNames kinds.Syntax seen (w ∷ names) → AreTokens text (word w ∷ spell_more_names names more)
@@ -107,7 +107,7 @@ all_names_reads (n ∷ names) text types more free h =
     (out_as (in_steps names_step too_many_names 1025 ([], text)) (names_reads 1025 names [] n text types more refl free h) (λ rest. refl)
     (λ k keeps. (some_keeps n names k, keeps)) (λ k whole. whole.1) within_same)
 
--- what reading gives of a text that begins with an enum, behind its word
+-- what reading gives of a text that begins with an enum, after its word
 pub enumeration_reads : (n : List ℕ) (names : List (List ℕ)) (s : Scope) (text : List ℕ)
     (more : List Token) → OfDeclaration kinds.Syntax s (Enumeration n names)
     → AreTokens text (word n ∷ mark marks.OpenBrace
@@ -161,7 +161,7 @@ name_taken seen text x e =
     subst (TakenName seen text) (ok_is (seen ++ (a.0).0 ∷ [], (a.0).1) x a.2)
     (record { name = (a.0).0; all = refl; free = k.free; front = k.front; fits = name_fits seen (a.0).0 k.short k.few })
 
--- names that were read behind others
+-- names that were read after others
 record TakenNames (seen : List (List ℕ)) (text : List ℕ) (x : NamesRead) : Type 0 where
   name : List ℕ
   others : List (List ℕ)

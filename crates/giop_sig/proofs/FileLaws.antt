@@ -1,4 +1,4 @@
--- What reading gives of a signature file, and what one that was read is spelled as.
+-- Signature files, both ways: reading the spelling of one gives it or a rule that it breaks, and the text that was read spells it.
 use Rattle.std.proofs.Common.{◌≡◌, ℕ, zero, suc, ◌<◌, ◌≤◌, Bool, true, false, cond, List, [], ◌∷◌, ◌++◌, length, Option, Some, None, Result, Ok, Err, refl, sym, ap, subst, ◌∙◌, lit<, arith}
 use Rattle.std.specs.Prelude.{MatchResult, codes}
 use Rattle.std.specs.Str.{bytes_eq}
@@ -232,7 +232,7 @@ end_from text e =
     let t = bind_ok (next text) (λ t. Ok (is_end t.0)) true e in
     end_none text (t.0).0 (t.0).1 t.1 (ok_is (is_end (t.0).0) true t.2)
 
--- the scope behind a declaration that was read is that of what it spells
+-- the scope after a declaration that was read is that of the declaration which the text spells
 declared_is : UnionReads
     → (s : Scope) (d : Declaration) (text : List ℕ) (more : List Token) (x : Declared) → 0 < size s
     → HasItsWords s d → AreTokens text (spell d more) → declaration_at s text ≡ Ok x

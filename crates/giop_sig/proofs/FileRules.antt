@@ -1,4 +1,4 @@
--- What reading gives of a signature file, in the words of the contract.
+-- What reading gives of a signature file, as the contract states it.
 use Rattle.std.proofs.Common.{◌≡◌, ℕ, ◌+◌, ◌^◌, ◌<◌, ◌≤◌, ◌⊎◌, inl, inr, List, [], ◌∷◌, length, Ok, Err, ap, subst, arith}
 use Rattle.giop_tokens.specs.declared.fault.Refusal.{Refusal}
 use Rattle.giop_tokens.specs.declared.fault.SigFaultKind.TheVariants as kinds

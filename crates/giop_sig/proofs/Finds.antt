@@ -1,4 +1,4 @@
--- Where the elements of a list are found, in a list that is made of them, and what is found by a name.
+-- Looking up by name: the index in a list of keys is that in the table's list; for operations and exceptions.
 use Rattle.std.proofs.Common.{◌≡◌, ℕ, zero, suc, ◌+◌, ◌<◌, ◌≤◌, Bool, cond, not, List, [], ◌∷◌, length, map, get_or, Option, Some, None, refl, sym, ap, subst, ◌∙◌, arith}
 use Rattle.std.specs.Prelude.{slice_get}
 use Rattle.std.specs.List.{position, position_or_len}

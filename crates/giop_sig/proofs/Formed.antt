@@ -1,4 +1,4 @@
--- What a node that is formed says of its parts, and that it stays formed in a table that grows.
+-- A well-formed node: its parts and names, and that it stays well formed in a table that grows.
 use Rattle.std.proofs.Common.{◌≡◌, ℕ, zero, suc, ◌<◌, ◌≤◌, List, [], ◌∷◌, ◌++◌, length, get_or, Option, Some, None, sym, subst, arith}
 use Rattle.std.specs.Prelude.{slice_get, IfSome}
 use Rattle.std.specs.List.{AllByRecursion}
@@ -26,7 +26,7 @@ part_in types n [] i all lt = absurd (omega arith)
 part_in types n (p ∷ ps) zero all lt = record { inner = all.0.inner; short = all.0.short }
 part_in types n (p ∷ ps) (suc i) all lt = part_in types n ps i all.1 (omega arith)
 
--- the part in a place is one that the whole can have
+-- the part at a place is one that the whole can have
 pub part_formed : (types : List Node) (n : ℕ) (node : Node) (i : ℕ) → IsFormed types n node
     → HasPlace (shape_of node) i → IsInner types n (type_of (part_at node i))
 part_formed types n (nodes.members parts) i formed has =
@@ -99,7 +99,7 @@ switch_moved : (types others : List Node) (n i : ℕ) → SameNodes types others
     → IsSwitch types n i → IsSwitch others n i
 switch_moved types others n i same is = record { below = is.below; scalar = subst IsScalarNode (same i is.below) is.scalar }
 
--- what can stand at a number depends on the nodes below it alone
+-- whether a node can have a number depends on the nodes of smaller numbers alone
 pub formed_moved : (types others : List Node) (n : ℕ) (node : Node) → SameNodes types others n
     → IsFormed types n node → IsFormed others n node
 formed_moved types others n (nodes.enumeration names) same formed = formed
@@ -121,7 +121,7 @@ formed_moved types others n (nodes.tagged special tag inner other) same formed =
 )
 formed_moved types others n _ same formed = tt
 
--- what can stand at a number can still stand there once types are added behind
+-- and stays so when types are added after them
 pub formed_stays : (types more : List Node) (n : ℕ) (node : Node) → n ≤ length types
     → IsFormed types n node → IsFormed (types ++ more) n node
 formed_stays types more n node le formed =

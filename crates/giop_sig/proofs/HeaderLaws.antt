@@ -1,4 +1,4 @@
--- The request id stands first in the headers that begin with it.
+-- The request id is the first member of the headers that begin with it.
 use Rattle.std.proofs.Common.{◌≡◌, ℕ, zero, suc, inl, inr, Option, Some, None, refl, sym, subst}
 use Rattle.std.specs.Prelude.{IfSome}
 use Rattle.std.specs.Option.{option_map}

@@ -1,4 +1,4 @@
--- Members that were read are spelled so, and can be those of a struct.
+-- Members that were read: the text that was read spells them, and they can be a struct's.
 use Rattle.std.proofs.Common.{◌≡◌, ℕ, zero, suc, ◌+◌, ◌<◌, ◌≤◌, Bool, true, false, cond, ltb, leb, List, [], ◌∷◌, ◌++◌, length, get_or, Option, Some, None, Result, Ok, Err, refl, sym, ap, subst, ◌∙◌, arith}
 use Rattle.std.specs.List.{All}
 use Rattle.std.specs.Map.{lookup}
@@ -37,7 +37,7 @@ pub record NameTaken (most : ℕ) (seen : List (List ℕ)) (text : List ℕ)
   pub few : length seen < most
   pub front : Takes text (word x.0) x.1
 
--- a word, unless it is known, or as many are known as may be
+-- a word, unless it is in the list, or the list is full
 abbrev pub unused : Bool → Bool → List ℕ → List ℕ × List ℕ → Result (List ℕ × List ℕ) Refusal
 unused known full text n =
     cond known (Err (refused kinds.Duplicate text)) (cond full (Err (refused kinds.Limit text)) (Ok (n.0, n.1)))
@@ -281,7 +281,7 @@ struct_known at s o f m p fill e put =
     subst (λ (q : AddedType). IsKnown (q.0).table.types q.1) (sym (added_is at m.0 (nodes.members m.1) p put))
     (node_known m.0 (nodes.members m.1) (some_octet m.1 ((members_takes at 257 [] [] s f m e).some some)))
 
--- a name that was new is new still
+-- a name that was new is still new
 pub still_new : (s t : Scope) (w : List ℕ) → Grows s t → lookup (bytes_eq w) s.names.known ≡ None
     → lookup (bytes_eq w) t.names.known ≡ None
 still_new s t w g e = ap (λ ns. lookup (bytes_eq w) ns.known) g.names ∙ e
@@ -308,7 +308,7 @@ new_repository_takes s text x e =
     let a = bind_ok _ _ x e in
     repository_by s text a.0 x (ltb 128 (length (a.0).0)) (is_some (exception_in s.table (a.0).0)) refl refl (repository_takes text a.0 a.1) a.2
 
--- an id that was new is new still
+-- an id that was new is still new
 pub still_different : (s t : Scope) (r : List ℕ) → Grows s t → exception_in s.table r ≡ None
     → exception_in t.table r ≡ None
 still_different s t r g e = ap (λ es. exception_in (record s.table { exceptions = es }) r) g.exceptions ∙ e

@@ -1,4 +1,4 @@
--- Entries that are kept with their depths: what one of them says, and one more.
+-- The entries of a catalogue's types with their depths: one entry that is looked up, and one that is added.
 use Rattle.std.proofs.Common.{◌≡◌, ℕ, zero, suc, ◌+◌, ◌^◌, ◌<◌, ◌≤◌, max, List, [], ◌∷◌, ◌++◌, length, get_or, map, refl, sym, ap, subst, ◌∙◌, ◌⊎◌, inl, inr, lit<, lit≤, arith}
 use Rattle.std.proofs.lemmas.List.{length-append, get_or_append_left, length-map, map-append}
 use Rattle.std.proofs.Math.Seq.{get_or-append_seam}

@@ -98,7 +98,7 @@ value_self (Enumerator w) = (bytes_eq-Decides w w).1 refl
 
 -- ---- one value for each number
 
--- what is below zero isn't 0
+-- a number below zero isn't 0
 abbrev pub IsAbove : Value → Type 0
 IsAbove (Below n) = 0 < n
 IsAbove v = Unit {0}
@@ -237,7 +237,7 @@ same_marks node Default (Of w) k l = rw l.1 refl
 same_marks node (Of v) Default k l = rw k.1 refl
 same_marks node (Of v) (Of w) k l = rw (k.1, l.1) (of_marks node v w k.0 l.0 k.2 l.2 k.1 l.1)
 
--- a label stands among others where its number does
+-- a label is among others where its number is
 pub any_marks : (node : Node) (x : Label) (seen : List Label) → IsKept node x
     → AllByRecursion (IsKept node) seen
     → list_any (λ s. same_mark s (mark_of node x)) (map (mark_of node) seen)

@@ -1,4 +1,4 @@
--- What reading gives of a text that begins with the labels of a case.
+-- Reading the spelling of a case's labels gives their numbers, or a rule that they break.
 use Rattle.std.proofs.Common.{◌≡◌, inl, ℕ, zero, suc, ◌+◌, ◌<◌, ◌≤◌, Bool, true, false, cond, ◌||◌, ltb, leb, List, [], ◌∷◌, ◌++◌, map, length, Option, Some, None, Result, Ok, Err, append_assoc, ltb-true, ltb-false, leb-true, leb-false, refl, sym, subst, ◌∙◌, arith}
 use Rattle.std.specs.Prelude.{codes}
 use Rattle.std.specs.List.{list_any, AllByRecursion}
@@ -133,7 +133,7 @@ not_default : (text : List ℕ) (ts : List Token) → AreTokens text (word (code
     → keyword_if (codes "default") text ≡ Ok None
 not_default text ts h = if_other (is_the_word (codes "default")) text (word (codes "case")) ts h refl
 
--- a value of a text is none below zero that is 0
+-- a value below zero that a text spells isn't 0
 value_above : (v : Value) (text : List ℕ) (more : List Token)
     → AreTokens text (spell_value v more) → IsAbove v
 value_above (Below n) text more h = negative_some text h.0 n h.1
@@ -223,7 +223,7 @@ label_begins (Of v) text more h =
 
 -- ---- the labels of a case
 
--- what is kept of labels behind those of the union and of the case
+-- what is kept of labels after those of the union and of the case
 abbrev pub labelled : Node → List Label → List Number → Bool → List Label → List ℕ → LabelsRead
 labelled node seen own default ls rest =
     (marks_of node (seen ++ ls), own ++ label_numbers node ls, default || has_default ls, rest)

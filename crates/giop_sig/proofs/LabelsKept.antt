@@ -1,4 +1,4 @@
--- What is known of the labels of a case behind them.
+-- After the labels of a case: each of them names a number, and is kept by it.
 use Rattle.std.proofs.Common.{ℕ, ◌≤◌, List, [], ◌∷◌, ◌++◌, length, append_assoc, sym, subst, arith}
 use Rattle.std.specs.List.{AllByRecursion}
 use Rattle.std.proofs.lemmas.List.{length-append, append-nil}

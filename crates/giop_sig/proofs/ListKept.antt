@@ -1,4 +1,4 @@
--- What an id is kept with, as the entries come.
+-- The operation that is stored with a request id, entry by entry.
 use Rattle.std.proofs.Common.{◌≡◌, ℕ, Bool, true, false, cond, ◌&&◌, ◌||◌, eqb, nat_eq, List, [], ◌∷◌, ◌++◌, map, Option, Some, None, refl, sym, ap, ◌∙◌}
 use Rattle.std.specs.Prelude.{option_and_then}
 use Rattle.std.specs.List.{list_all, list_any, IsDistinct}
@@ -23,12 +23,12 @@ as_operation k = record { 0 = k }
 abbrev pub finding : (List ℕ → Option ℕ) → List ℕ → Option OpId
 finding find name = option_map as_operation (find name)
 
--- what an id is kept with, by the names that its entries have
+-- what is stored with an id, by the names of its entries
 abbrev pub kept_by : (List ℕ → Option OpId) → List (List ℕ) → Option (Option OpId)
 kept_by find [] = None
 kept_by find (n ∷ ns) = Some (option_and_then find (the_one (n ∷ ns)))
 
--- two names with one operation are one
+-- no two names have one operation
 abbrev FindsOne : (List ℕ → Option OpId) → Type 0
 FindsOne find = (m n : List ℕ) (i : OpId) → find m ≡ Some i → find n ≡ Some i → m ≡ n
 

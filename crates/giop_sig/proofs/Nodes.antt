@@ -1,4 +1,4 @@
--- A node and its tree say the same of a type's form, names, parts and selection.
+-- A node and its tree agree on a type's form, names, parts and selection.
 use Rattle.std.proofs.Common.{◌≡◌, ℕ, zero, suc, ◌<◌, Bool, true, false, cond, nat_lt, List, [], ◌∷◌, length, Some, None, refl, sym, ap, ◌∙◌, arith, lt-ltb, le-ltb}
 use Rattle.std.proofs.lemmas.Bool.{ltb-true, ltb-false}
 use Rattle.std.specs.Prelude.{slice_get}
@@ -33,7 +33,7 @@ case_below [] i lt = absurd (omega arith)
 case_below (c ∷ cs) zero lt = (c.part, refl)
 case_below (c ∷ cs) (suc i) lt = case_below cs i (omega arith)
 
--- the part in a place is there
+-- there is a part at each place of the shape
 pub part_there : (node : Node) (i : ℕ) → HasPlace (shape_of node) i
     → (p : Part) × (part_at node i ≡ Some p)
 part_there (nodes.members parts) i has = read_below parts i has

@@ -1,4 +1,4 @@
--- A text is one list at most, and a list is not refused.
+-- A text is one request list at most, and a text that is a list is not refused.
 use Rattle.std.proofs.Common.{◌≡◌, ℕ, ◌<◌, List, [], ◌∷◌, ◌++◌, map, length, inl, inr, refl, sym, ap, ◌∙◌, arith}
 use Rattle.std.specs.Prelude.{Result, Ok, Err, IfErr}
 use Rattle.std.specs.Fmt.{decimal}

@@ -1,4 +1,4 @@
--- Two names that find one operation are one name.
+-- No two names find the same operation.
 use Rattle.std.proofs.Common.{◌≡◌, ℕ, List, get_or, Option, Some, sym, ◌∙◌}
 use Rattle.std.specs.Str.{bytes_eq}
 use Rattle.std.proofs.lemmas.Slice.Eq.{bytes_eq-Decides}

@@ -1,4 +1,4 @@
--- What a reader of a table may cite of a type's parts, of its depth, and of where it can stand.
+-- What other crates may use of a table's types: their parts, their depth, and that each fits at the root of a message.
 use Rattle.std.proofs.Common.{◌≡◌, ℕ, ◌<◌, ◌≤◌, length, refl}
 use Rattle.giop_sig.specs.Fits.{IsRoot}
 use Rattle.giop_sig.specs.HeaderTypes.{IsTable}

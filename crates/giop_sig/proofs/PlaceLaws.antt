@@ -1,4 +1,4 @@
--- What is placed leaves the names, and only adds types.
+-- Adding the types of a declaration keeps the names of a scope, and only adds types.
 use Rattle.std.proofs.Common.{◌≡◌, ℕ, suc, ◌<◌, ◌≤◌, Bool, true, false, cond, eqb, List, [], ◌∷◌, ◌++◌, length, Option, Some, None, refl, ap, ◌∙◌, arith}
 use Rattle.std.proofs.lemmas.List.{length-append}
 use Rattle.std.proofs.lemmas.Bool.{eqb-true}
@@ -32,7 +32,7 @@ within_on first second = record {
   deeper = let f = first.deeper in let s = second.deeper in omega arith;
 }
 
--- what is placed in a scope leaves its types within those of the other
+-- the second scope has no fewer types than the first, and is no less deep
 abbrev pub Grown : Scope → Scope → Type 0
 Grown s t = Within s.table.types t.table.types
 
@@ -207,7 +207,7 @@ last_within s node =
     let last : length types < length (types ++ node ∷ []) = omega (arith, length-append types (node ∷ [])) in
     depth_within (types ++ node ∷ []) (length types) last
 
--- as many levels as that are in the table
+-- the table is at least that deep
 pub nest_deepest : (s : Scope) (e : TypeExpr) → 0 < size s → 0 < nest e
     → nest e ≤ deepest (place s e).0
 unfolding place

@@ -1,5 +1,5 @@
--- What reading gives of a text that is spelled so, and what a text that was read is spelled as: the forms of the laws,
--- and how two readings after one another go together.
+-- The forms of the laws of reading, from a spelling to what is read and from a text that was read to its spelling; and two
+-- readings one after the other.
 use Rattle.std.proofs.Common.{◌≡◌, ℕ, ◌^◌, ◌<◌, ◌≤◌, ◌⊎◌, inl, inr, false, List, [], ◌∷◌, length, None, Result, Ok, Err, refl, sym, subst, arith}
 use Rattle.std.specs.Prelude.{MatchResult}
 use Rattle.giop_tokens.specs.declared.fault.Refusal.{Refusal}
@@ -16,7 +16,7 @@ use Rattle.giop_sig.proofs.PlaceLaws.{Within, within_same}
 
 -- ---- a text that is spelled so
 
--- a refusal of this kind is right: what the kind asks doesn't hold, or the types become too deep or too many
+-- a refusal of this kind is right: the rule of the kind is broken, or the types become too deep or too many
 abbrev pub Breaks : Kind → (Kind → Type 0) → List Node → Type 0
 Breaks kinds.Depth rule types = 24 < depth_of types
 Breaks kinds.UnknownType rule types = rule kinds.UnknownType → ⊥
@@ -81,7 +81,7 @@ good_more : {X : Type 0} {made : List ℕ → X} {rule whole : Kind → Type 0} 
 good_more (Ok x) o on up = let g = o.out in record { out = record { rest = g.rest; is = g.is; tokens = g.tokens; keeps = λ k. on k (g.keeps k) } }
 good_more {rule = rule} {whole = whole} {types = types} (Err e) o on up = record { out = lift e.kind rule whole types types up within_same o.out }
 
--- the same under rules that say the same
+-- the same under equivalent rules
 pub out_more : {X : Type 0} {made : List ℕ → X} {rule whole : Kind → Type 0} {types : List Node}
     {more : List Token} {r : Result X Refusal} → Out made rule types more r
     → ((k : Kind) → rule k → whole k) → ((k : Kind) → whole k → rule k)

@@ -1,4 +1,4 @@
--- A loop of the reader, against reading in steps.
+-- Any loop of the reader against reading in repeated steps.
 use Rattle.std.proofs.Common.{◌≡◌, ℕ, suc, ◌+◌, ◌-◌, ◌<◌, ◌≤◌, Bool, true, false, Result, Ok, Err, refl, sym, ◌∙◌, arith}
 use Rattle.giop_tokens.specs.declared.fault.Refusal.{Refusal}
 use Rattle.giop_sig.specs.declared.parse_stop.ParseStop.{ParseStop}

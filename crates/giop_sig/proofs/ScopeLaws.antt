@@ -1,4 +1,4 @@
--- What is looked up in a scope, and that a scope stays one when types are added.
+-- Looking up names in a scope; and a scope stays well formed when types and names are added.
 use Rattle.std.proofs.Common.{◌≡◌, ℕ, ◌≤◌, Bool, true, false, cond, ◌||◌, List, [], ◌∷◌, ◌++◌, length, map, Option, Some, None, append_assoc, refl, sym, ap, subst, ◌∙◌, arith, Bor}
 use Rattle.std.specs.List.{AllByRecursion, list_any}
 use Rattle.std.specs.Map.{lookup}

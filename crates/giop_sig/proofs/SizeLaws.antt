@@ -1,4 +1,4 @@
--- What is placed adds no more types than it has tokens.
+-- A declaration adds no more types than it has tokens.
 use Rattle.std.proofs.Common.{ℕ, suc, ◌+◌, ◌<◌, ◌≤◌, List, [], ◌∷◌, ◌++◌, length, Option, Some, None, arith}
 use Rattle.std.proofs.lemmas.List.{length-append}
 use Rattle.giop_tokens.specs.declared.marks.Mark.TheVariants as marks

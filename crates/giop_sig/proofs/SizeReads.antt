@@ -1,4 +1,4 @@
--- What reading gives of a text that begins with a length or a bound.
+-- Reading the spelling of a length or a bound gives it, or a rule that it breaks.
 use Rattle.std.proofs.Common.{◌≡◌, ℕ, ◌^◌, ◌<◌, inl, Bool, true, false, cond, eqb, ltb, List, ◌∷◌, Option, Some, None, Ok, Err, refl, arith}
 use Rattle.std.proofs.lemmas.Bool.{eqb-true, eqb-false, ltb-true, ltb-false}
 use Rattle.giop_tokens.specs.declared.fault.SigFaultKind.TheVariants as kinds

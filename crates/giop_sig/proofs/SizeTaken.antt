@@ -1,4 +1,4 @@
--- A length or a bound that was read is spelled so.
+-- A length or a bound that was read: the text that was read spells it.
 use Rattle.std.proofs.Common.{◌≡◌, ℕ, Bool, true, false, cond, eqb, ltb, List, ◌∷◌, Option, Some, None, Ok, Err, subst}
 use Rattle.giop_tokens.specs.declared.fault.SigFaultKind.TheVariants as kinds
 use Rattle.giop_tokens.specs.declared.marks.Mark.{Mark}
@@ -66,7 +66,7 @@ pub most_takes : (text : List ℕ) (x : Option ℕ × List ℕ) → most_at text
 unfolding most_at
 most_takes text x e = let a = bind_ok (mark_if marks.Comma text) (λ inner. size_after text inner) x e in behind_by text a.0 x a.1 a.2
 
--- of the rule that names are free, sizes ask nothing
+-- the rule that names are not reserved asks nothing of sizes
 pub bound_free : (o : Option ℕ) → OfBound kinds.Syntax o
 bound_free None = tt
 bound_free (Some n) = tt

@@ -1,4 +1,4 @@
--- Types of a table take some octet, but for the empty struct, and a reader has room for them.
+-- Every type of a table but the empty struct takes at least one octet, and a reader has room for it.
 use Rattle.std.proofs.Common.{◌≡◌, ℕ, zero, suc, ◌<◌, ◌≤◌, max, Bool, true, false, cond, List, [], ◌∷◌, length, Option, Some, None, refl, sym, ap, subst, ◌∙◌, ◌⊎◌, inl, inr, arith}
 use Rattle.std.specs.List.{list_any}
 use Rattle.std.proofs.lemmas.List.Quantifiers.{position-Some}
@@ -17,7 +17,7 @@ use Rattle.giop_sig.proofs.Nodes.{part_grown}
 use Rattle.giop_sig.proofs.Formed.{part_formed}
 use Rattle.giop_sig.proofs.Depths.{depth_within}
 
--- ---- what is selected is a case that is there
+-- ---- a case that is selected exists
 
 case_of_below : (count : ℕ) (found : Option ℕ) (otherwise : Selected) (i : ℕ)
     → ((k : ℕ) → found ≡ Some k → k < count) → IsCaseBelow count otherwise
@@ -50,7 +50,7 @@ taken_below types n node (Some number) i formed e = selected_below types n node 
 some_part : (p : Part) (ps : List Part) → 0 < length (p ∷ ps)
 some_part p ps = omega arith
 
--- each type that stands in another is solid
+-- each type that is a part of another is solid
 abbrev InnerSolid : List Node → ℕ → Type 0
 InnerSolid types n = (i : ℕ) → IsInner types n i → IsSolid (type_in types i)
 
@@ -132,7 +132,7 @@ takes_or_empty : (node : Node) → TakesOctet node ⊎ (node ≡ nodes.members [
 takes_or_empty (nodes.members []) = inr refl
 takes_or_empty _ = inl tt
 
--- each type of a table can stand at the root of a message
+-- each type of a table fits at the root of a message
 pub root_at : (types : List Node) (i : ℕ) → AreTypes types → i < length types
     → IsRoot (type_in types i)
 root_at types i are known = by (takes_or_empty (node_in types i))

@@ -1,4 +1,4 @@
--- A spelling stands in front of what follows it.
+-- Lengths of spellings: a spelling is written in front of what follows it, and each declaration has tokens.
 use Rattle.std.proofs.Common.{ℕ, ◌<◌, ◌≤◌, List, [], ◌∷◌, length, Option, Some, None, arith}
 use Rattle.giop_tokens.specs.declared.marks.Mark.{Mark}
 use Rattle.giop_tokens.specs.declared.marks.Mark.TheVariants as marks

@@ -1,4 +1,4 @@
--- What the entry that is read at a type's number says of the table.
+-- The entry at a type's number agrees with the table and its tree.
 use Rattle.std.proofs.Common.{◌≡◌, ℕ, ◌<◌, ◌≤◌, List, length, Some, sym, ap, subst, ◌∙◌, arith}
 use Rattle.std.specs.Prelude.{IfSome}
 use Rattle.giop_cdr.specs.declared.number.Number.{Number}
@@ -57,7 +57,7 @@ pub union_entered : (t : Table) (i : ℕ) (node : Node) → Entered t i node
     → IsUnion (shape_in (tree t i)) → IsUnion (shape_of node)
 union_entered t i node e is = subst IsUnion (sym (shape_entered t i node e)) is
 
--- the part in a place
+-- the part at a place
 pub part_below : (t : Table) (i k p : ℕ) (node : Node) → Entered t i node
     → HasPlace (shape_in (tree t i)) k → p ≡ type_of (part_at node k) → p < i
 part_below t i k p node e has is = let below = (part_formed t.types i node k (formed_at t i node e) (place_entered t i k node e has)).below in omega (arith, is)

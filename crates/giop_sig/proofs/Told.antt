@@ -1,4 +1,4 @@
--- What is told of a refusal: its line, but for want of memory.
+-- The line of a refusal: 0 only where memory was refused.
 use Rattle.std.proofs.Common.{◌≡◌, ◌↔◌, ℕ, List, refl, sym, subst, arith}
 use Rattle.giop_tokens.specs.declared.fault.Refusal.{Refusal}
 use Rattle.giop_tokens.specs.declared.fault.SigFault.{SigFault}
@@ -6,7 +6,7 @@ use Rattle.giop_tokens.specs.declared.fault.SigFaultKind.{SigFaultKind}
 use Rattle.giop_tokens.specs.declared.fault.SigFaultKind.TheVariants as kinds
 use Rattle.giop_tokens.specs.Lines.{fault_of}
 
--- the line is 0 for want of memory alone
+-- the line is 0 only where memory was refused
 abbrev pub HasLine : SigFault → Type 0
 HasLine f = (f.line ≡ 0) ↔ (f.kind ≡ kinds.OutOfMemory)
 

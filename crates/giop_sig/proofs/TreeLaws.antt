@@ -61,7 +61,7 @@ grow_same types n f g (nodes.tagged special tag inner other) same formed =
     (λ i. part_read (IsPart types n) (tag ∷ inner ∷ other ∷ []) i (formed.1, (formed.2, (formed.3, tt))))
 grow_same types n f g _ same formed = refl
 
--- what is done stays
+-- the trees so far stay
 kept : (done : List Ty) (ns : List Node) (i : ℕ) → i < length done
     → tree_in (trees_after done ns) i ≡ tree_in done i
 unfolding trees_after

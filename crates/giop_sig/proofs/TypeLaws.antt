@@ -1,4 +1,4 @@
--- What reading gives of a text that begins with a type.
+-- Reading the spelling of a type gives it, or a rule that it breaks.
 use Rattle.std.proofs.Common.{◌≡◌, ℕ, zero, suc, ◌<◌, ◌≤◌, ◌⊎◌, inl, inr, Bool, true, false, cond, ltb, leb, List, [], ◌∷◌, length, Option, Some, None, Result, Ok, Err, refl, sym, ap, subst, ◌∙◌, arith}
 use Rattle.std.specs.Prelude.{MatchResult, codes}
 use Rattle.std.specs.Str.{bytes_eq}
@@ -65,7 +65,7 @@ added_by {made = made} {rule = rule} {types = types} {more = more} s n (Ok p) h 
 added_by {rule = rule} {types = types} s n (Err e) h o le on =
     broken e (lift e.kind rule rule (with_node s n).0.table.types types (λ k w. w) le o)
 
--- what goes on with a node more
+-- reading goes on with one more node
 pub added_bind : {Y : Type 0} {made : List ℕ → Y} {rule : Kind → Type 0}
     {types : List Node} {more : List Token}
     (at : ℕ) (s : Scope) (n : Node) (h : AddedType → Result Y Refusal)
@@ -212,7 +212,7 @@ name_reads at inner s text w rest more free m =
     )
     (named_reads s text w rest more free m)
 
--- a sequence behind its element
+-- a sequence, after its element
 closed_reads : (at : ℕ) (s : Scope) (e : TypeExpr) (o : Option ℕ) (rest : List ℕ)
     (more : List Token) → AreTokens rest (spell_most o (mark marks.CloseAngle ∷ more))
     → ((k : Kind) → OfType k s.names e) → (apart : Apart marks.Comma (mark marks.CloseAngle ∷ more))
@@ -232,7 +232,7 @@ version_keeps : (names : Names) → has_encapsulations names ≡ true → (k : K
 version_keeps names has kinds.Syntax = has
 version_keeps names has _ = tt
 
--- an encapsulation behind what it holds
+-- an encapsulation, after what it holds
 held_reads : (at : ℕ) (s : Scope) (e : TypeExpr) (rest : List ℕ) (more : List Token)
     → has_encapsulations s.names ≡ true → AreTokens rest (mark marks.CloseAngle ∷ more)
     → ((k : Kind) → OfType k s.names e)

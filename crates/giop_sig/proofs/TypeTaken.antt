@@ -1,4 +1,4 @@
--- A type that was read is spelled so, and others can have it for a part.
+-- A type that was read: the text that was read spells it, and it can be a part of others.
 use Rattle.std.proofs.Common.{◌≡◌, ℕ, zero, suc, ◌<◌, Bool, true, false, cond, eqb, ltb, leb, List, [], ◌∷◌, ◌++◌, length, Option, Some, None, Result, Ok, Err, append_assoc, refl, sym, ap, subst, ◌∙◌, lit<, arith}
 use Rattle.std.specs.Prelude.{codes}
 use Rattle.std.specs.List.{AllByRecursion}
@@ -36,7 +36,7 @@ use Rattle.giop_sig.proofs.ReadingLaws.{Took}
 
 -- ---- what was added
 
--- only types are more
+-- only types were added
 pub record Grows (s t : Scope) : Type 0 where
   pub types : (more : List Node) × (t.table.types ≡ s.table.types ++ more)
   pub names : t.names ≡ s.names
@@ -89,7 +89,7 @@ pub record Sound (p : AddedType) : Type 0 where
   pub scope : IsScope p.0
   pub known : IsKnown (p.0).table.types p.1
 
--- one node more on what is sound
+-- one node more keeps this
 pub sound_node : (s : Scope) (n : Node) → IsScope s → TakesOctet n → Sound (with_node s n)
 sound_node s n is takes = record { scope = scope_grows s n is; known = node_known s n takes }
 

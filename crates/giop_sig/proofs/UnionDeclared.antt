@@ -1,4 +1,4 @@
--- A union that was read: what the code asks of it, and that it is a declaration of the text.
+-- A union that was read: the code may add it to the table, and the text that was read spells its declaration.
 use Rattle.std.proofs.Common.{◌≡◌, ℕ, ◌+◌, Bool, true, false, cond, List, [], ◌∷◌, length, Ok, Err, refl, sym, ap, subst, ◌∙◌, arith}
 use Rattle.std.specs.Prelude.{codes}
 use Rattle.std.proofs.lemmas.List.{length-append}
@@ -62,7 +62,7 @@ discriminator_scalar _ is = is
 abbrev pub union_node : ℕ → CasesRead → Node
 union_node switch x = nodes.union switch (x.1).cases (x.1).otherwise
 
--- a union that was read can stand in the table
+-- a union that was read can be in the table
 pub union_formed : (at : ℕ) (s : Scope) (a b : List ℕ) (t : TypeRead) (x : CasesRead)
     → switch_at at s a ≡ Ok t → cases_at at t.1 t.0 b ≡ Ok x → IsScope s
     → IsFormed (x.0).table.types (length (x.0).table.types) (union_node t.1 x)
@@ -90,7 +90,7 @@ union_known at switch x p put =
 
 -- ---- the declaration
 
--- a union that was read is spelled so
+-- the text that was read spells the union
 pub union_takes : (s : Scope) (whole text : List ℕ) (x : Declared)
     → Takes whole (word (codes "union")) text → union_at s text ≡ Ok x → TakenDeclaration s whole x
 unfolding union_at OfDeclaration

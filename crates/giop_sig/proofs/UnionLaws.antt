@@ -1,4 +1,4 @@
--- What reading gives of a text that begins with the cases of a union.
+-- Reading the spelling of a union's cases gives them, or a rule that they break.
 use Rattle.std.proofs.Common.{◌≡◌, ℕ, zero, suc, ◌+◌, ◌<◌, ◌≤◌, Bool, true, false, cond, List, [], ◌∷◌, ◌++◌, length, Option, Some, None, Result, Ok, refl, sym, ap, subst, ◌∙◌, arith}
 use Rattle.std.specs.List.{AllByRecursion}
 use Rattle.std.proofs.lemmas.List.{length-append, get_or_append_left}
@@ -92,7 +92,7 @@ node_stays s t i g lt = ap (λ types. node_in types i) (g.types).1 ∙ get_or_ap
 
 -- ---- cases, one after the other
 
--- what is kept behind some cases more
+-- what is kept after some more cases
 unfoldable pub made_cases : Node → Scope → List Label → List (List ℕ) → List Case → Selected
     → List UnionCase → Scope × Cases
 made_cases node s labels names cases otherwise [] =

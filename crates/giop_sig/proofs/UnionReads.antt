@@ -1,4 +1,4 @@
--- What reading gives of a text that begins with a union, behind its word.
+-- Reading the spelling of a union, after its word, gives the union or a rule that it breaks.
 use Rattle.std.proofs.Common.{◌≡◌, ℕ, ◌+◌, ◌<◌, Bool, true, false, cond, ltb, List, [], ◌∷◌, ◌++◌, length, Some, None, Ok, Err, append_assoc, ltb-true, ltb-false, refl, sym, ap, subst, ◌∙◌, arith}
 use Rattle.std.specs.Prelude.{codes}
 use Rattle.std.proofs.lemmas.List.{length-append, append-nil, get_or_past}
@@ -137,7 +137,7 @@ switch_keeps : (node : Node) → IsDiscriminator node → (k : Kind) → OfSwitc
 switch_keeps node is kinds.Label = is
 switch_keeps node is _ = tt
 
--- what isn't in the table is no discriminator
+-- a type that isn't in the table is no discriminator
 below_by : (s : Scope) (i : ℕ) (v : Bool) → ltb i (size s) ≡ v
     → IsDiscriminator (node_at s.table i) → i < size s
 below_by s i true e is = ltb-true i (size s) e
@@ -232,7 +232,7 @@ choice_reads n switch cases s text more some free h =
     (λ k w. (w.1, w.2)) made))
     (λ k w. w.0) (within_on (place_more s switch) made)
 
--- what reading gives of a text that begins with a union, behind its word
+-- what reading gives of a text that begins with a union, after its word
 pub union_reads : (s : Scope) (n : List ℕ) (switch : TypeExpr) (cases : List UnionCase)
     (text : List ℕ) (more : List Token) → 0 < size s
     → OfDeclaration kinds.Syntax s (DeclaredUnion n switch cases)

@@ -1,4 +1,4 @@
--- Unions, as the file's laws ask for them.
+-- The two laws of unions, in the form that FileLaws uses.
 use Rattle.giop_sig.proofs.FileLaws.{UnionReads, UnionTakes}
 use Rattle.giop_sig.proofs.UnionReads.{union_reads}
 use Rattle.giop_sig.proofs.UnionDeclared.{union_takes}

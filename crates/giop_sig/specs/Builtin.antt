@@ -17,20 +17,20 @@ labelled label name type = record { labels = Signed (pos label) ∷ []; part = m
 
 -- ---- contexts, profiles and references
 
--- a service context, whose id 1 says that code sets stand in it
+-- a service context: with the id 1 it holds code sets
 abbrev pub service_context : Node
 service_context =
     nodes.tagged 1 (member (codes "context_id") ULONG)
     (member (codes "context_data") CODE_SETS_DATA) (member (codes "context_data") OCTETS)
 
--- the body of an internet profile, but for the components behind the object key
+-- the body of an internet profile, without the components after the object key
 abbrev pub profile_body : Node
 profile_body =
     nodes.members (member (codes "major") OCTET ∷ member (codes "minor") OCTET
     ∷ member (codes "host") STRING ∷ member (codes "port") USHORT
     ∷ member (codes "object_key") OCTETS ∷ [])
 
--- a tagged profile, whose tag 0 says that an internet profile stands in it
+-- a tagged profile: with the tag 0 it holds an internet profile
 abbrev pub tagged_profile : Node
 tagged_profile =
     nodes.tagged 0 (member (codes "tag") ULONG) (member (codes "profile_data") IIOP_DATA)
@@ -46,7 +46,7 @@ abbrev pub reference_address : Node
 reference_address =
     nodes.members (member (codes "selected_profile_index") ULONG ∷ member (codes "ior") IOR ∷ [])
 
--- the target of a request; no other discriminator can stand there
+-- the target of a request; no other discriminator is allowed there
 abbrev pub target : Node
 target =
     nodes.union SHORT (labelled 0 (codes "object_key") OCTETS

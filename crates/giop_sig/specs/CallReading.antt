@@ -34,7 +34,7 @@ return_at at s text = do
   v ← keyword_if (codes "void") text
   return_after at s text v
 
--- the name of an operation, which is new
+-- the name of an operation; it must be new
 unfoldable pub new_operation_at : Scope → List ℕ → Result (List ℕ × List ℕ) Refusal
 new_operation_at s text = do
   n ← operation_name_at text
@@ -78,7 +78,7 @@ pub record Params : Type 0 where
   pub rest : List ℕ
   pub closed : Bool
 
--- where parameters stand
+-- the lists to which a parameter of a direction is added
 pub record ParameterLists : Type 0 where
   pub seen : List (List ℕ)
   pub request : List Part
@@ -110,7 +110,7 @@ param_end w d i None = do
   r ← mark_at marks.CloseParenthesis i.2
   Ok (params_of w d i r true)
 
--- a parameter, and the comma or the closing mark behind it
+-- a parameter, and the comma or the closing mark after it
 unfoldable pub param_step : ℕ → ParameterLists → Scope → List ℕ → Result Params Refusal
 param_step at w s text = do
   d ← direction_at text
@@ -145,7 +145,7 @@ params_at at returned s text = do
   c ← mark_if marks.CloseParenthesis text
   params_after at returned s text c
 
--- an operation, behind its first word
+-- an operation, after its first word
 unfoldable pub operation_at : Scope → List ℕ → Result Declared Refusal
 operation_at s text = do
   t ← return_at (left_of text) s text

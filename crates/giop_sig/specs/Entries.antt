@@ -1,4 +1,4 @@
--- What a caller sees of a catalogue's fields (state).
+-- The fields of a catalogue as contracts see them: its table (state).
 use Rattle.std.specs.Prelude.{ℕ, List, map}
 use Rattle.arrayvec.specs.ArrayVec.{ArrayVec}
 use Rattle.giop_sig.specs.declared.types.TypeId.{TypeId}

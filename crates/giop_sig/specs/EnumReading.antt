@@ -19,20 +19,20 @@ use Rattle.giop_sig.specs.Repeats.{in_steps}
 abbrev pub NamesRead : Type 0
 NamesRead = List (List ℕ) × List ℕ
 
--- an enumerator behind others
+-- an enumerator after others
 unfoldable pub enumerator_at : List (List ℕ) → List ℕ → Result NamesRead Refusal
 enumerator_at seen text = do
   w ← new_name_at 1024 seen text
   Ok (seen ++ w.0 ∷ [], w.1)
 
--- a comma, behind which another enumerator stands, or the closing mark
+-- a comma, after which another enumerator comes, or the closing mark
 abbrev pub names_end : NamesRead → Option (List ℕ) → Result (Bool × NamesRead) Refusal
 names_end names (Some rest) = Ok (false, (names.0, rest))
 names_end names None = do
   rest ← mark_at marks.CloseBrace names.1
   Ok (true, (names.0, rest))
 
--- an enumerator, and the mark behind it
+-- an enumerator, and the mark after it
 unfoldable pub names_step : NamesRead → Result (Bool × NamesRead) Refusal
 names_step seen = do
   names ← enumerator_at seen.0 seen.1
@@ -46,13 +46,13 @@ abbrev pub names_by : List ℕ → Option (List ℕ) → Result NamesRead Refusa
 names_by text (Some rest) = Err (refused kinds.Empty text)
 names_by text None = in_steps names_step too_many_names 1025 ([], text)
 
--- the enumerators of an enum, behind its opening mark
+-- the enumerators of an enum, after its opening mark
 unfoldable pub names_at : List ℕ → Result NamesRead Refusal
 names_at text = do
   closed ← mark_if marks.CloseBrace text
   names_by text closed
 
--- an enum, behind its word
+-- an enum, after its word
 unfoldable pub enumeration_at : Scope → List ℕ → Result Declared Refusal
 enumeration_at s text = do
   n ← declared_at s s.table.declared text

@@ -42,7 +42,7 @@ version_at text = do
   n ← number_at text
   if is_version n.0 then Ok (n.0, n.1) else Err (misplaced text)
 
--- what stands before the declarations
+-- what comes before the declarations
 unfoldable pub head_at : List ℕ → Result (ℕ × List ℕ) Refusal
 head_at text = do
   k ← keyword_at (codes "signatures") text
@@ -59,7 +59,7 @@ file_at text = do
 abbrev pub text_too_long : SigFault
 text_too_long = record { line = 1; kind = kinds.Limit }
 
--- where reading from the front is refused first, and why; memory may be refused at any time
+-- the first refusal of reading from the front, and its place; memory may be refused at any time
 abbrev pub IsFirstRefusal : List ℕ → SigFault → Type 0
 IsFirstRefusal text f =
     (f ≡ no_memory) ⊎ ((r : Refusal) × (file_at text ≡ Err r) × (f ≡ fault_of text r))

@@ -34,6 +34,6 @@ abbrev pub IsEmptyStruct : Ty → Type 0
 IsEmptyStruct (Struct zero names parts) = Unit {0}
 IsEmptyStruct T = ⊥
 
--- what can stand at the root of a message: an empty struct stands nowhere else
+-- a type allowed at the root of a message: the empty struct is allowed nowhere else
 abbrev pub IsRoot : Ty → Type 0
 IsRoot T = IsFit 24 T ⊎ IsEmptyStruct T

@@ -45,7 +45,7 @@ spell_between before close (Some n) more = mark before ∷ number n ∷ mark clo
 abbrev pub spell_bound : Option ℕ → List Token → List Token
 spell_bound bound more = spell_between marks.OpenAngle marks.CloseAngle bound more
 
--- the bound of a sequence, behind its element's type: , N
+-- the bound of a sequence, after its element's type: , N
 abbrev pub spell_most : Option ℕ → List Token → List Token
 spell_most None more = more
 spell_most (Some n) more = mark marks.Comma ∷ number n ∷ more

@@ -19,7 +19,7 @@ use Rattle.giop_sig.specs.TypeReading.{added, enclosed_at, type_at}
 
 -- ---- names
 
--- a name behind those of its list, which may have so many
+-- a name after those of its list, which may have so many
 unfoldable pub new_name_at : ℕ → List (List ℕ) → List ℕ → Result (List ℕ × List ℕ) Refusal
 new_name_at most seen text = do
   n ← identifier_at text
@@ -108,7 +108,7 @@ filled_at text = do
   c ← mark_if marks.CloseBrace text
   unless_closed text c
 
--- ---- declarations of members, each behind its first word
+-- ---- declarations of members, each after its first word
 
 abbrev pub Declared : Type 0
 Declared = Scope × List ℕ

@@ -1,4 +1,4 @@
--- What a caller sees of the labels and cases of a union that is being read (state).
+-- The labels and cases of a union that is being read, as contracts see them (state).
 use Rattle.std.specs.Prelude.{map}
 use Rattle.giop_sig.specs.declared.labels.LabelValue as code
 use Rattle.giop_sig.specs.declared.labels.LabelValue.TheVariants as seen

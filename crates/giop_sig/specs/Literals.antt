@@ -1,4 +1,4 @@
--- What the built-in table as it is written spells (state).
+-- The table that the code's literals of the built-in types stand for (state).
 use Rattle.std.specs.Prelude.{[], ◌∷◌, map, None}
 use Rattle.giop_cdr.specs.declared.number.Number.TheVariants.{Signed}
 use Rattle.giop_sig.specs.declared.types.Selected.TheVariants.{Refused}

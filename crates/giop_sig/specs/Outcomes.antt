@@ -1,4 +1,4 @@
--- What a function of the reader returned, against reading (steps).
+-- The result of a function of the reader against what reading gives (steps).
 use Rattle.std.specs.Prelude.{◌≡◌, ℕ, List, Result, Ok, Err}
 use Rattle.giop_tokens.specs.declared.fault.Refusal.{Refusal}
 use Rattle.giop_tokens.specs.declared.fault.SigFaultKind.{SigFaultKind}
@@ -6,7 +6,7 @@ use Rattle.giop_tokens.specs.Tokens.{left_of}
 use Rattle.giop_sig.specs.declared.parse_stop.ParseStop.{ParseStop}
 use Rattle.giop_sig.specs.declared.parse_stop.ParseStop.TheVariants as stops
 
--- the refusal is that of reading; want of memory says nothing of it
+-- the refusal is that of reading, unless memory was refused
 abbrev pub Stops : {Y : Type 0} → ParseStop → Result Y Refusal → Type 0
 Stops stops.Memory read = Unit {0}
 Stops (stops.Refused r) read = read ≡ Err r

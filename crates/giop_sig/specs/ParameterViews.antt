@@ -1,4 +1,4 @@
--- What a caller sees of parameters that were read (state).
+-- The parameters that were read, as contracts see them (state).
 use Rattle.std.specs.Prelude.{map}
 use Rattle.giop_sig.specs.declared.read_calls.Parameters.{Parameters}
 use Rattle.giop_sig.specs.Views.{part_view}

@@ -1,4 +1,4 @@
--- Request lists: which text is which list of entries, and what the list says of an id (docs/FORMATS.md; meaning).
+-- Request lists: which text is which list of entries, and which operation a list gives for a request id (docs/FORMATS.md; meaning).
 use Rattle.std.specs.Prelude.{◌≡◌, ℕ, ◌+◌, ◌^◌, ◌<◌, ◌≤◌, ◌==◌, ◌⊎◌, List, [], ◌∷◌, ◌++◌, length, map, filter, Option, Some, None, nat_eq, option_and_then, if◌then◌else◌}
 use Rattle.std.specs.List.{All, list_all, onto_first}
 use Rattle.std.specs.Map.{lookup}
@@ -54,7 +54,7 @@ pub record Lists (text : List ℕ) (es : List Entry) : Type 0 where
 
 -- ---- the refusals
 
--- entries stand up to the line, which is the k-th
+-- the lines before this one, the k-th, are entries
 pub record ReachesLine (text : List ℕ) (es : List Entry) (line : List ℕ) (k : ℕ) : Type 0 where
   pub octets : length text ≤ 16777216
   pub entries : All IsEntry es
@@ -73,7 +73,7 @@ IsRefusedAs text k Limit =
     × (length es ≡ 65536) × IsEntryLine line)
 IsRefusedAs text k OutOfMemory = k ≡ 0
 
--- ---- what the list says
+-- ---- the operation of an id
 
 -- the names that the entries of an id have
 abbrev pub names_of : List Entry → ℕ → List (List ℕ)
@@ -89,24 +89,24 @@ the_one (name ∷ names) = if list_all (bytes_eq name) names then Some name else
 abbrev pub operation_of : (List ℕ → Option ℕ) → List Entry → ℕ → Option ℕ
 operation_of find es id = option_and_then find (the_one (names_of es id))
 
--- ---- what is kept of it: the ids, each once, with their operations
+-- ---- what is stored of a list: the ids, each once, with their operations
 
 abbrev pub flat : {A : Type 0} → Option (Option A) → Option A
 flat None = None
 flat (Some x) = x
 
--- the operation that an id is kept with
+-- the operation that is stored with an id
 abbrev pub kept_operation : List (ℕ × Option OpId) → ℕ → Option OpId
 kept_operation kept id = flat (lookup (nat_eq id) kept)
 
--- what is kept answers as the list does, by find
+-- what is stored gives the same operations as the list, by find
 pub record IsOf (find : List ℕ → Option ℕ) (es : List Entry)
     (kept : List (ℕ × Option OpId)) : Type 0 where
   pub operation : (id : ℕ) → option_map (λ o. o.0) (kept_operation kept id)
       ≡ operation_of find es id
   pub count : length kept ≡ distinct_count nat_eq (map (λ e. e.id) es)
 
--- what an id is kept with after one more entry, for whose name this operation was found
+-- what is stored with an id after one more entry, for whose name this operation was found
 abbrev pub joined : Option (Option OpId) → Option OpId → Option OpId
 joined None found = found
 joined (Some kept) found = if option_eq (λ a b. a.0 == b.0) kept found then found else None

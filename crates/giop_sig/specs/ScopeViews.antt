@@ -1,4 +1,4 @@
--- What a caller sees of a draft, and what holds of it (state).
+-- The fields of a draft as contracts see them: its scope, and what holds of that (state).
 use Rattle.std.specs.Prelude.{◌≡◌, ℕ, ◌≤◌, List, ◌++◌, length, map, Option, Some, None}
 use Rattle.std.specs.List.{AllByRecursion}
 use Rattle.std.specs.Option.{option_map}

@@ -18,7 +18,7 @@ use Rattle.giop_sig.specs.Builtin.{builtin_table}
 use Rattle.giop_sig.specs.RequestList.{flat}
 use Rattle.giop_sig.specs.Grammar.{TypeExpr, Base, Text, Reference, Named, SequenceOf, EncapsulationOf, Item, Value, Plain, Below, Truth, Enumerator, Label, Default, Of, UnionCase, Param, Declaration, Enumeration, Structure, DeclaredUnion, DeclaredException, Call, SignatureFile}
 
--- What the words of a file mean as types: the file's version, and the names of enums, structs and
+-- The type names of a file: the file's version, and the names of enums, structs and
 -- unions, each with its type's number, and of exceptions, with none.
 pub record Names : Type 0 where
   pub version : ℕ
@@ -28,7 +28,7 @@ pub record Names : Type 0 where
 abbrev pub has_encapsulations : Names → Bool
 has_encapsulations names = names.version == 2
 
--- what the declarations so far made
+-- what the declarations so far have made
 pub record Scope : Type 0 where
   pub table : Table
   pub names : Names
@@ -70,7 +70,7 @@ base_number prims.ULongLong = 8
 base_number prims.Float = 9
 base_number prims.Double = 10
 
--- a sequence of octets, whose type has the number 0, is of a kind of its own
+-- a sequence of octets (the type with the number 0) is a kind of its own
 abbrev pub sequence_node : Option ℕ → ℕ → Node
 sequence_node bound element =
     if element == 0 then nodes.octets bound else nodes.sequence bound element
@@ -250,7 +250,7 @@ add_struct_type x = with_node x.0 (nodes.members x.1)
 abbrev pub add_union_type : ℕ → List UnionCase → Scope × List Case → AddedType
 add_union_type switch cases x = with_node x.0 (nodes.union switch x.1 (default_from 0 cases))
 
--- the cases of a union whose discriminator was placed
+-- the cases of a union whose discriminator's type was added
 abbrev pub add_choice_type : List UnionCase → AddedType → AddedType
 add_choice_type cases p = add_union_type p.1 cases (add_cases p.0 (node_at (p.0).table p.1) cases)
 

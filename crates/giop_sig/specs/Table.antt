@@ -41,8 +41,8 @@ pub data Node : Type 0 where
   array : ℕ → ℕ → Node
   -- octets with a byte order of their own, that hold a value of a type
   encapsulation : ℕ → Node
-  -- a number that says what stands behind it: the special one; the parts of the number, of what stands behind the special one,
-  -- and of what stands behind each other
+  -- a tag that determines what follows it: the special tag; the part of the tag, the part that follows the special tag, and
+  -- the part that follows every other tag
   tagged : ℕ → Part → Part → Part → Node
 
 -- the node of a type
@@ -71,7 +71,7 @@ case_part (Some c) = Some c.part
 abbrev pub element_part : ℕ → Part
 element_part element = record { name = []; type = element }
 
--- the part at a place; an element, and what an encapsulation holds, stands at any place and has no name
+-- the part at a place; an element, and what an encapsulation holds, is at every place and has no name
 abbrev pub part_at : Node → ℕ → Option Part
 part_at (members parts) i = slice_get parts i
 part_at (union switch cases otherwise) i = case_part (slice_get cases i)
@@ -138,7 +138,7 @@ pub record Exception : Type 0 where
   pub repository : List ℕ
   pub members : ℕ
 
--- the built-in types stand first; declared says how many enums, structs and unions a signature file added
+-- the built-in types come first; declared is how many enums, structs and unions a signature file added
 pub record Table : Type 0 where
   pub types : List Node
   pub operations : List Operation

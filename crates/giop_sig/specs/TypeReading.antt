@@ -51,7 +51,7 @@ size_within close text (Some inner) = do
   r ← mark_at close n.1
   Ok (Some n.0, r)
 
--- a size between two marks, where the first stands
+-- a size between two marks, where the first mark comes next
 unfoldable pub enclosed_at : Mark → Mark → List ℕ → Result (Option ℕ × List ℕ) Refusal
 enclosed_at open_mark close text = do
   inner ← mark_if open_mark text
@@ -63,7 +63,7 @@ size_after text (Some inner) = do
   n ← size_at inner
   Ok (Some n.0, n.1)
 
--- a size behind a comma, where one stands
+-- a size after a comma, where there is a comma
 unfoldable pub most_at : List ℕ → Result (Option ℕ × List ℕ) Refusal
 most_at text = do
   inner ← mark_if marks.Comma text
@@ -71,7 +71,7 @@ most_at text = do
 
 -- ---- types
 
--- what a type that was read is: a scope, its number, what follows
+-- what reading a type gives: a scope, its number, what follows
 abbrev pub TypeRead : Type 0
 TypeRead = Scope × ℕ × List ℕ
 
@@ -93,14 +93,14 @@ abbrev pub text_type : ℕ → Scope → Option ℕ → Result AddedType Refusal
 text_type at s None = Ok (s, STRING)
 text_type at s (Some n) = added at s (nodes.text (Some n))
 
--- a string, behind its word
+-- a string, after its word
 unfoldable pub text_at : ℕ → Scope → List ℕ → Result TypeRead Refusal
 text_at at s rest = do
   b ← enclosed_at marks.OpenAngle marks.CloseAngle rest
   t ← text_type at s b.0
   Ok (t.0, t.1, b.1)
 
--- a sequence, behind the type of its elements: perhaps a bound, and the closing mark
+-- a sequence, after the type of its elements: perhaps a bound, and the closing mark
 abbrev pub after_element : ℕ → TypeRead → Result TypeRead Refusal
 after_element at e = do
   b ← most_at e.2
@@ -108,21 +108,21 @@ after_element at e = do
   t ← added at e.0 (sequence_node b.0 e.1)
   Ok (t.0, t.1, r)
 
--- a sequence, behind its word; element reads the element's type
+-- a sequence, after its word; element reads the element's type
 abbrev pub sequence_at : ℕ → (List ℕ → Result TypeRead Refusal) → List ℕ → Result TypeRead Refusal
 sequence_at at element rest = do
   inner ← mark_at marks.OpenAngle rest
   e ← element inner
   after_element at e
 
--- an encapsulation, behind the type of what it holds: the closing mark
+-- an encapsulation, after the type of what it holds: the closing mark
 abbrev pub after_encapsulated : ℕ → TypeRead → Result TypeRead Refusal
 after_encapsulated at h = do
   r ← mark_at marks.CloseAngle h.2
   t ← added at h.0 (nodes.encapsulation h.1)
   Ok (t.0, t.1, r)
 
--- an encapsulation, behind its word; held reads the type of what it holds
+-- an encapsulation, after its word; held reads the type of what it holds
 abbrev pub held_at : ℕ → (List ℕ → Result TypeRead Refusal) → List ℕ → Result TypeRead Refusal
 held_at at held rest = do
   inner ← mark_at marks.OpenAngle rest

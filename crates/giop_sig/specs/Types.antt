@@ -1,5 +1,5 @@
 -- CDR's types as finite trees (CDR Transfer Syntax, Constructed Types; meaning). The parts of a type are named by their places, from 0.
--- What a union's discriminator selects is told by the whole number that its octets spell: a label of a signed type is compared
+-- What a union's discriminator selects is determined by the whole number that its octets spell: a label of a signed type is compared
 -- with that number taken in two's complement, so that -1 of a short is selected by the octets of 65535.
 use Rattle.std.specs.Prelude.{◌≡◌, ℕ, zero, suc, ◌+◌, ◌<◌, max, cond, nat_lt, List, [], Option, Some, None}
 use Rattle.giop_cdr.specs.declared.prim.Primitive.{Primitive}
@@ -32,7 +32,7 @@ pub data Choice : Type 0 where
   Cases : ℕ → Choice
   Tag : Choice
 
--- how many places it has
+-- how many parts it has
 abbrev pub places_of : Choice → ℕ
 places_of (Cases n) = n
 places_of Tag = 3

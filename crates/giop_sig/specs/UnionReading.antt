@@ -68,7 +68,7 @@ number_of_value node text = do
   v ← value_at text
   fitting text v.1 (label_number node v.0)
 
--- a label behind others of its union
+-- a label after others of its union
 unfoldable pub unseen_label : List Mark → Mark → List ℕ → Result Mark Refusal
 unseen_label seen m text =
     if list_any (λ s. same_mark s m) seen then Err (refused kinds.Duplicate text)
@@ -102,7 +102,7 @@ abbrev pub with_label : LabelsRead → LabelRead → LabelsRead
 with_label ls (None, rest) = (ls.0 ++ None ∷ [], ls.1, true, rest)
 with_label ls (Some n, rest) = (ls.0 ++ Some n ∷ [], ls.1 ++ n ∷ [], ls.2, rest)
 
--- whether a label comes
+-- whether a label comes next
 unfoldable pub begins_label : List ℕ → Result Bool Refusal
 begins_label text = do
   value ← keyword_if (codes "case") text
@@ -211,7 +211,7 @@ switch_at at s text = do
   t ← type_at at 25 s text
   if can_switch (node_at (t.0).table t.1) then Ok t else Err (refused kinds.Label text)
 
--- a union, behind its word
+-- a union, after its word
 unfoldable pub union_at : Scope → List ℕ → Result Declared Refusal
 union_at s text = do
   n ← declared_at s s.table.declared text

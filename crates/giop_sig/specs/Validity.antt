@@ -1,5 +1,5 @@
--- When declarations are valid (docs/FORMATS.md, Signature file): six rules, each the kind of its refusal (meaning). What a kind asks of
--- a declaration is what it asks of the names, sizes, lists and labels in it; of what isn't told it asks nothing.
+-- When declarations are valid (docs/FORMATS.md, Signature file): one rule for each kind of refusal (meaning). The rule of a kind
+-- asks something of the names, sizes, lists and labels of a declaration; where no case below names the kind, it asks nothing.
 use Rattle.std.specs.Prelude.{◌≡◌, ℕ, ◌^◌, ◌<◌, ◌≤◌, ◌==◌, Bool, true, false, List, [], ◌∷◌, ◌++◌, length, map, Option, Some, None}
 use Rattle.std.specs.List.{list_any}
 use Rattle.std.specs.Map.{lookup}
@@ -46,7 +46,7 @@ OfBound k (Some n) = OfSize k n
 abbrev pub is_among : List (List ℕ) → List ℕ → Bool
 is_among seen w = list_any (λ n. bytes_eq n w) seen
 
--- a name behind those of its list, which may have so many
+-- a name after those of its list, which may have so many
 abbrev pub OfNewName : Kind → ℕ → List (List ℕ) → List ℕ → Type 0
 OfNewName kinds.Syntax most seen w = IsFree w
 OfNewName kinds.Limit most seen w = (length w ≤ 64) × (length seen < most)
@@ -60,7 +60,7 @@ OfSome k xs = Unit {0}
 
 -- ---- types and items
 
--- the word of an encapsulation stands in files of its version
+-- the word of an encapsulation is allowed only in files of its version
 abbrev pub OfVersion : Kind → Names → Type 0
 OfVersion kinds.Syntax names = has_encapsulations names ≡ true
 OfVersion k names = Unit {0}
@@ -77,13 +77,13 @@ abbrev pub OfItem : Kind → Names → ℕ → List (List ℕ) → Item → Type
 OfItem k names most seen i =
     OfType k names i.type × OfNewName k most seen i.name × OfBound k i.length
 
--- items behind others of these names
+-- items after others of these names
 unfoldable pub OfItems : Kind → Names → ℕ → List (List ℕ) → List Item → Type 0
 OfItems k names most seen [] = Unit {0}
 OfItems k names most seen (i ∷ is) =
     OfItem k names most seen i × OfItems k names most (seen ++ i.name ∷ []) is
 
--- enumerators behind others
+-- enumerators after others
 unfoldable pub OfNames : Kind → List (List ℕ) → List (List ℕ) → Type 0
 OfNames k seen [] = Unit {0}
 OfNames k seen (n ∷ ns) = OfNewName k 1024 seen n × OfNames k (seen ++ n ∷ []) ns
@@ -136,7 +136,7 @@ same_label Default Default = true
 same_label (Of v) (Of w) = same_value v w
 same_label _ _ = false
 
--- a label behind those of its union
+-- a label after those of its union
 abbrev pub OfNewLabel : Kind → List Label → Label → Type 0
 OfNewLabel kinds.Limit seen l = length seen < 1024
 OfNewLabel kinds.Duplicate seen l = list_any (same_label l) seen ≡ false
@@ -149,7 +149,7 @@ unfoldable pub OfLabels : Kind → Node → List Label → List Label → Type 0
 OfLabels k node seen [] = Unit {0}
 OfLabels k node seen (l ∷ ls) = OfLabel k node seen l × OfLabels k node (seen ++ l ∷ []) ls
 
--- cases behind others of these labels and names
+-- cases after others of these labels and names
 unfoldable pub OfCases : Kind → Names → Node → List Label → List (List ℕ) → List UnionCase → Type 0
 OfCases k names node labels seen [] = Unit {0}
 OfCases k names node labels seen (c ∷ cs) =
@@ -203,13 +203,13 @@ OfDeclaration k s (DeclaredException n r items) =
 OfDeclaration k s (Call returned n params) =
     OfReturn k s.names returned × OfOperation k s n × OfItems k s.names 255 [] (items_of params)
 
--- ---- the rules, of a declaration behind those that made the scope
+-- ---- the rules, of a declaration after those that made the scope
 
 -- each name that is used as a type is that of an enum, struct or union declared before it
 abbrev pub TypesAreKnown : Scope → Declaration → Type 0
 TypesAreKnown s d = OfDeclaration kinds.UnknownType s d
 
--- names, repository ids and labels are new where they stand
+-- names, repository ids and labels are new in their lists
 abbrev pub NamesAreDistinct : Scope → Declaration → Type 0
 NamesAreDistinct s d = OfDeclaration kinds.Duplicate s d
 

@@ -1,4 +1,4 @@
--- What a caller sees of the entries that are kept (state).
+-- The entries of a catalogue's types as contracts see them (state).
 use Rattle.std.specs.Prelude.{◌≡◌, ℕ, ◌≤◌, List, length, map}
 use Rattle.giop_sig.specs.declared.entries.PartEntry.{PartEntry}
 use Rattle.giop_sig.specs.declared.entries.CaseEntry.{CaseEntry}

@@ -20,7 +20,7 @@ use crate::types::{Fixed, Selected, TypeId};
 use giop_cdr::{Number, Prim};
 use std::alloc::{AllocError, Global};
 
-/// A type of the built-in table, as it is written.
+/// A type of the built-in table, as a literal.
 #[derive(Clone, Copy)]
 pub(crate) enum Literal {
     Prim(Prim),
@@ -33,7 +33,7 @@ pub(crate) enum Literal {
     Sequence(u32),
     Array(u32, u32),
     Encapsulation(u32),
-    /// The number behind which the encapsulation stands; the number, the encapsulation, and the octets.
+    /// The tag that an encapsulation follows; the parts: the tag, the encapsulation, and the octets of other tags.
     Tagged(u32, Named, Named, Named),
 }
 

@@ -85,7 +85,7 @@ impl Catalogue {
         self.types.deepest()
     }
 
-    /// How much the signature file has.
+    /// How many types, operations and exceptions the signature file has.
     pub fn counts(&self) -> Counts
         ensures types { result.types ≡ self.now.declared }
         ensures operations { result.operations ≡ length self.now.operations }
@@ -117,8 +117,8 @@ impl Catalogue {
         self.types.entry(t).shape()
     }
 
-    /// The type of the part at a place: of a member, a case or a tagged type's part by its place from 0, of an element and
-    /// of what an encapsulation holds for any place.
+    /// The type of the part at a place: of a member, a case or a tagged type's part by its place from 0; the element of
+    /// a sequence or array and the value in an encapsulation are at every place.
     #[inline(always)]
     pub fn part(&self, t: TypeId, place: u32) -> TypeId
         requires known { t.0 < length self.now.types }
@@ -151,7 +151,7 @@ impl Catalogue {
         self.types.entry(t).enum_name(number)
     }
 
-    /// The type of a union's discriminator, or of a tagged type's number.
+    /// The type of a union's discriminator, or of a tagged type's tag.
     pub fn switch_type(&self, t: TypeId) -> TypeId
         requires known { t.0 < length self.now.types }
         requires union { IsUnion (shape_in (tree self.now t.0)) }
@@ -162,8 +162,8 @@ impl Catalogue {
         self.types.entry(t).switch_type()
     }
 
-    /// What the value of a discriminator selects, or of a tagged type's number; Nothing where the type is neither a union
-    /// nor tagged. Only the built-in target refuses one.
+    /// What the value of a discriminator selects, or of a tagged type's tag; Nothing where the type is neither a union
+    /// nor tagged. Only the built-in target of a request refuses one.
     pub fn select(&self, t: TypeId, number: Number) -> Selected
         requires { t.0 < length self.now.types }
         ensures is { result ≡ selected (node_at self.now t.0) number }
@@ -347,7 +347,7 @@ impl Catalogue {
         Ok(())
     }
 
-    /// What is kept of an operation.
+    /// The entry of an operation.
     fn signature(&self, operation: OpId) -> Signature
         requires { operation.0 < length self.now.operations }
         ensures request { result.request.0 ≡ (operation_at self.now operation.0).request }

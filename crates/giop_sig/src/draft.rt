@@ -1,4 +1,4 @@
-//! What the declarations so far made: a catalogue, and the names that later declarations may use.
+//! A draft, made from the declarations so far: a catalogue, and the names that later declarations may use.
 ghost use Rattle.std.specs.Prelude.{◌≡◌, ◌<◌, ◌≤◌, length, IfOk, IfErr, IfSome, IfNone, OnOk, None};
 ghost use Rattle.std.specs.Option.{option_map, is_some};
 ghost use Rattle.std.specs.Map.{lookup};
@@ -28,8 +28,8 @@ pub(crate) type Key = ArrayVec<u8, 64>;
 /// The version of a file that may have encapsulations.
 const ENCAPSULATIONS_SINCE: u64 = 2;
 
-/// The catalogue of the declarations so far, with the version of their file, the names of enums, structs and unions, each
-/// with its type, and of exceptions. A contract sees the `Scope`.
+/// The catalogue of the declarations so far, with the version of their file, the names of enums, structs and unions,
+/// each with its type, and of exceptions. A contract sees the `Scope`.
 #[derive(Drop)]
 pub(crate) struct Draft {
     version: u64,
@@ -100,8 +100,8 @@ impl Draft {
         names.get(&key).is_some()
     }
 
-    /// Adds a type. One that is too deep, or for which no number is left, is refused in the declaration whose name is at
-    /// this place.
+    /// Adds a type. One that is too deep, or for which no number is left, is refused in the declaration whose name is
+    /// at this place.
     #[tactic(auto, unfolding(crate::specs::TypeReading::added))]
     pub(crate) fn add(&mut self, at: usize, entry: Entry) -> Result<TypeId, ParseStop>
         requires { IsFormed self.old.table.types (length self.old.table.types) (node_view entry) }

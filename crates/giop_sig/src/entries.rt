@@ -26,23 +26,23 @@ pub(crate) struct CaseEntry {
     pub(crate) part: PartEntry,
 }
 
-/// A tagged type: a number, and what stands behind it.
+/// A tagged type, such as a service context or a profile: a tag, then an encapsulation or octets.
 #[derive(Drop)]
 pub(crate) struct TagEntry {
-    /// The number behind which the encapsulation stands.
+    /// The tag that an encapsulation follows.
     pub(crate) special: u32,
-    /// The number.
+    /// The tag, a member.
     pub(crate) tag: PartEntry,
-    /// The encapsulation.
+    /// The encapsulation that follows the tag `special`.
     pub(crate) inner: PartEntry,
-    /// What stands behind each other number.
+    /// The octets that follow every other tag.
     pub(crate) other: PartEntry,
 }
 
 impl TagEntry {
     ghost use Rattle.giop_sig.specs.Views.{tag_view};
 
-    /// The part at a place: the number, the encapsulation, or what stands behind each other number.
+    /// The part at a place: 0 the tag, 1 the encapsulation, 2 the octets of every other tag.
     fn part(&self, place: u32) -> &PartEntry
         requires { place < 3 }
         ensures { part_at (tag_view self.now) place ≡ Some (part_view result.now) }
@@ -55,7 +55,7 @@ impl TagEntry {
         }
     }
 
-    /// What stands behind a number: the encapsulation, or the octets.
+    /// What follows a tag of this number: the encapsulation, or the octets.
     fn select(&self, number: Number) -> Selected
         ensures { result ≡ selected (tag_view self.now) number }
     {
@@ -88,7 +88,7 @@ pub(crate) enum Entry {
     Array(u32, TypeId),
     /// Octets with a byte order of their own that hold a value.
     Encapsulation(TypeId),
-    /// A number, and an encapsulation or octets behind it.
+    /// A tag, and an encapsulation or octets after it.
     Tagged(TagEntry),
 }
 
@@ -115,7 +115,7 @@ impl Entry {
         }
     }
 
-    /// The type of the part at a place, of an element and of what an encapsulation holds for any place.
+    /// The type of the part at a place; an element and the value in an encapsulation are at every place.
     #[inline(always)]
     pub(crate) fn part(&self, place: u32) -> TypeId
         requires { HasPlace (shape_of (node_view self.now)) place }
@@ -158,7 +158,7 @@ impl Entry {
         }
     }
 
-    /// The type of a union's discriminator, or of a tagged type's number.
+    /// The type of a union's discriminator, or of a tagged type's tag.
     pub(crate) fn switch_type(&self) -> TypeId
         requires { IsUnion (shape_of (node_view self.now)) }
         ensures { result.0 ≡ switch_at (node_view self.now) }
@@ -170,7 +170,7 @@ impl Entry {
         }
     }
 
-    /// What the value of a discriminator, or of a tagged type's number, selects.
+    /// What the value of a discriminator, or of a tagged type's tag, selects.
     pub(crate) fn select(&self, number: Number) -> Selected
         requires { IsSized self.now }
         ensures { result ≡ selected (node_view self.now) number }
@@ -214,7 +214,7 @@ pub(crate) struct EntryWithDepth {
     pub(crate) depth: u8,
 }
 
-/// Types, each numbered by its place, every part below its whole.
+/// Types, each numbered by its index. A part has a smaller number than the type that it is part of.
 #[derive(Drop)]
 pub(crate) struct Types {
     placed: Vec<EntryWithDepth>,

@@ -1,4 +1,5 @@
-//! Signatures: the catalogue of the types of operations and exceptions, with the built-in types of GIOP, and request lists.
+//! Signatures: the catalogue of the types of operations and exceptions, with the built-in types of GIOP; and request
+//! lists.
 #![tactic(auto)]
 
 mod builtin;

@@ -1,4 +1,4 @@
-//! The numbers of the built-in types: each stands behind its parts.
+//! The numbers of the built-in types; a type has a greater number than its parts.
 
 /// An octet.
 pub(crate) const OCTET: u32 = 0;

@@ -26,7 +26,7 @@ const FIRST_VERSION: u64 = 1;
 
 const SECOND_VERSION: u64 = 2;
 
-/// A declaration: its first word tells which.
+/// A declaration, of the kind that its first word gives.
 #[tactic(auto, unfolding(crate::specs::FileReading::declaration_at))]
 fn declaration_at<'a>(
     alloc: Global,
@@ -83,7 +83,7 @@ fn version_at(text: &[u8]) -> Result<(u64, &[u8]), ParseStop>
     }
 }
 
-/// What stands before the declarations: it says the version.
+/// What comes before the declarations: the version.
 #[tactic(auto, unfolding(crate::specs::FileReading::head_at))]
 fn head_at(text: &[u8]) -> Result<(u64, &[u8]), ParseStop>
     ensures { Gives (λ x. (x.0, x.1.now)) result (head_at text.now) }
@@ -106,20 +106,20 @@ fn draft_of(alloc: Global, text: &[u8]) -> Result<Draft, ParseStop>
 }
 
 impl Catalogue {
-    /// The catalogue of a signature file: the types, operations and exceptions that its text declares, with the built-in
-    /// types. A refusal tells the first rule that is broken, and its line; nothing is kept after it.
+    /// The catalogue of a signature file: the types, operations and exceptions that its text declares, with the
+    /// built-in types. A refusal has the first rule that is broken, and its line; no catalogue is made then.
     pub fn parse(alloc: Global, text: &[u8]) -> Result<Catalogue, SigFault>
         // The text spells a valid file, and this is its table.
         ensures ok { IfOk result (λ c.
             (file : SignatureFile) × Spells text.now file × IsValid file × (c ≡ table file)) }
         // It adds no more types than the text has octets.
         ensures few { IfOk result (λ c. length c.types ≤ length builtin_types + length text.now) }
-        // Of a text that spells a file, the refusal is that of a rule which one of its declarations breaks, unless memory
-        // was refused.
+        // Of a text that spells a file, the refusal is that of a rule which one of its declarations breaks, unless
+        // memory was refused.
         ensures err { (file : SignatureFile) → Spells text.now file
             → IfErr result (λ f. Refuses f.kind file) }
-        // A text that is too long isn't read. Another is refused where reading it from the front comes to what can't
-        // stand, at the line of that token; want of memory alone has no line.
+        // A text that is too long isn't read. Another is refused at the first token that is wrong, read from the
+        // front, and at its line; a refusal for memory alone has no line.
         ensures long { 1048576 < length text.now → result ≡ Err text_too_long }
         ensures first { length text.now ≤ 1048576 → IfErr result (λ f. IsFirstRefusal text.now f) }
         ensures memory { IfErr result (λ f. (f.line ≡ 0) ↔ (f.kind ≡ SigFaultKind.OutOfMemory)) }

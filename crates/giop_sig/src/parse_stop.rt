@@ -3,7 +3,7 @@
 use giop_tokens::Refusal;
 use std::alloc::{AllocError, AllocFailed};
 
-/// Memory was refused, or the text is.
+/// Memory was refused, or the text is refused.
 #[derive(Clone, Copy, Debug, Drop)]
 pub(crate) enum ParseStop {
     Memory,

@@ -21,7 +21,7 @@ use std::alloc::Global;
 /// The most parameters of an operation.
 const PARAMS_MAX: usize = 255;
 
-/// Which way a parameter goes.
+/// The direction of a parameter: in, out or inout.
 #[derive(Clone, Copy, Debug, Drop)]
 pub(crate) enum Direction {
     In,
@@ -49,7 +49,7 @@ fn return_at<'a>(
     Ok((returned, rest))
 }
 
-/// The name of an operation, which is new.
+/// The name of an operation; it must be new.
 #[tactic(auto, unfolding(crate::specs::CallReading::new_operation_at))]
 fn new_operation_at<'a>(draft: &Draft, text: &'a [u8]) -> Result<(&'a [u8], &'a [u8]), ParseStop>
     ensures { Gives (λ x. (x.0.now, x.1.now)) result (new_operation_at draft.now text.now) }
@@ -64,7 +64,7 @@ fn new_operation_at<'a>(draft: &Draft, text: &'a [u8]) -> Result<(&'a [u8], &'a 
     Ok((name, rest))
 }
 
-/// The direction of a word.
+/// The direction that a word names.
 fn direction_of(name: &[u8]) -> Option<Direction>
     ensures { result ≡ direction_of name.now }
 {
@@ -153,7 +153,7 @@ fn keep_param<'a>(
     add_to_reply(alloc, &mut parameters.reply, direction, name, t)
 }
 
-/// Reads a parameter and the mark behind it: whether it was the closing one, and what follows.
+/// Reads a parameter and the mark after it: whether that was the closing one, and what follows.
 #[tactic(auto, unfolding(crate::specs::CallReading::param_step))]
 fn param_step<'a>(
     alloc: Global,
@@ -184,7 +184,7 @@ fn param_step<'a>(
     Ok((true, rest))
 }
 
-/// Parameters up to the closing mark, behind what the operation returns.
+/// Parameters up to the closing mark, added after what the operation returns.
 #[tactic(auto, unfolding(crate::specs::CallReading::params_at))]
 fn params_at<'a>(
     alloc: Global,
@@ -229,7 +229,7 @@ fn params_run<'a>(
     Err(ParseStop::Refused(refused(SigFaultKind::Limit, rest)))
 }
 
-/// An operation, behind its first word.
+/// An operation, after its first word.
 #[tactic(auto, unfolding(crate::specs::CallReading::operation_at))]
 pub(crate) fn operation_at<'a>(
     alloc: Global,

@@ -32,7 +32,7 @@ fn add_name(alloc: Global, names: &mut Vec<Vec<u8>>, name: &[u8]) -> Result<(), 
     Ok(())
 }
 
-/// An enumerator behind others; what follows it.
+/// An enumerator after others; what follows it.
 #[tactic(auto, unfolding(crate::specs::EnumReading::enumerator_at, crate::specs::ItemReading::new_name_at))]
 fn enumerator<'a>(
     alloc: Global,
@@ -53,7 +53,7 @@ fn enumerator<'a>(
     Ok(rest)
 }
 
-/// An enumerator, and the mark behind it; whether that is the closing one.
+/// An enumerator, and the mark after it; whether that is the closing one.
 #[tactic(auto, unfolding(crate::specs::EnumReading::names_step))]
 fn names_step<'a>(
     alloc: Global,
@@ -87,7 +87,7 @@ fn some_names(alloc: Global, text: &[u8]) -> Result<(Vec<Vec<u8>>, &[u8]), Parse
     Err(ParseStop::Refused(refused(SigFaultKind::Limit, rest)))
 }
 
-/// The enumerators of an enum, behind its opening mark.
+/// The enumerators of an enum, after its opening mark.
 #[tactic(auto, unfolding(crate::specs::EnumReading::names_at))]
 fn names_at(alloc: Global, text: &[u8]) -> Result<(Vec<Vec<u8>>, &[u8]), ParseStop>
     ensures { Gives (λ x. (map (λ n. n.items) x.0.items, x.1.now)) result (names_at text.now) }
@@ -98,7 +98,7 @@ fn names_at(alloc: Global, text: &[u8]) -> Result<(Vec<Vec<u8>>, &[u8]), ParseSt
     }
 }
 
-/// An enum, behind its word; what follows it.
+/// An enum, after its word; what follows it.
 #[tactic(auto, unfolding(crate::specs::EnumReading::enumeration_at))]
 pub(crate) fn enumeration<'a>(
     alloc: Global,

@@ -33,7 +33,7 @@ pub(crate) fn is_among(seen: &[&[u8]], name: &[u8]) -> bool
     seen.iter().any(|other| *other == name)
 }
 
-/// A name behind those of its list, which may have so many.
+/// A name after those of its list, which may have so many.
 #[tactic(auto, unfolding(crate::specs::ItemReading::new_name_at))]
 pub(crate) fn new_name_at<'a>(
     most: usize,
@@ -89,7 +89,7 @@ fn array_of(
     }
 }
 
-/// An item: a type, a name and perhaps the length of an array, behind others of these names.
+/// An item: a type, a name and perhaps the length of an array, after others of these names.
 #[tactic(auto, unfolding(crate::specs::ItemReading::item_at))]
 pub(crate) fn item_at<'a>(
     draft: &mut Draft,
@@ -185,7 +185,7 @@ pub(crate) fn filled_at(text: &[u8]) -> Result<&[u8], ParseStop>
     }
 }
 
-/// A struct, behind its first word.
+/// A struct, after its first word.
 #[tactic(auto, unfolding(crate::specs::ItemReading::structure_at))]
 pub(crate) fn structure_at<'a>(
     alloc: Global,
@@ -222,7 +222,7 @@ fn new_repository_at<'a>(draft: &Draft, text: &'a [u8]) -> Result<(&'a [u8], &'a
     Ok((repository, rest))
 }
 
-/// An exception, behind its first word.
+/// An exception, after its first word.
 #[tactic(auto, unfolding(crate::specs::ItemReading::exception_at))]
 pub(crate) fn exception_at<'a>(
     alloc: Global,

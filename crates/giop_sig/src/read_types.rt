@@ -52,7 +52,7 @@ pub(crate) fn size_at(text: &[u8]) -> Result<(u32, &[u8]), ParseStop>
     Ok((n as u32, rest))
 }
 
-/// A size between two marks, where the first stands.
+/// A size between two marks, where the first mark comes next.
 #[tactic(auto, unfolding(crate::specs::TypeReading::enclosed_at))]
 pub(crate) fn enclosed_at(
     before: Mark,
@@ -72,7 +72,7 @@ pub(crate) fn enclosed_at(
     }
 }
 
-/// A size behind a comma, where one stands.
+/// A size after a comma, where there is a comma.
 #[tactic(auto, unfolding(crate::specs::TypeReading::most_at))]
 fn most_at(text: &[u8]) -> Result<(Option<u32>, &[u8]), ParseStop>
     ensures { Gives (λ x. (x.0, x.1.now)) result (most_at text.now) }
@@ -117,7 +117,7 @@ fn base_of(word: &[u8]) -> Option<TypeId>
     }
 }
 
-/// A string, behind its word.
+/// A string, after its word.
 #[tactic(auto, unfolding(crate::specs::TypeReading::text_at))]
 fn text_at<'a>(
     draft: &mut Draft,
@@ -156,7 +156,7 @@ fn named_type<'a>(
     }
 }
 
-/// Adds a sequence of elements of a type: octets are of a kind of their own.
+/// Adds a sequence of elements of a type; a sequence of octets is a kind of its own.
 fn sequence_of(
     draft: &mut Draft,
     at: usize,
@@ -174,7 +174,7 @@ fn sequence_of(
     }
 }
 
-/// What stands behind the element of a sequence: perhaps a bound, and the closing mark.
+/// What follows the element of a sequence: perhaps a bound, and the closing mark.
 fn after_element<'a>(
     draft: &mut Draft,
     at: usize,
@@ -191,7 +191,7 @@ fn after_element<'a>(
     Ok((t, rest))
 }
 
-/// What stands behind the type that an encapsulation holds: the closing mark.
+/// What follows the type that an encapsulation holds: the closing mark.
 fn after_encapsulated<'a>(
     draft: &mut Draft,
     at: usize,

@@ -73,7 +73,7 @@ fn is_seen(seen: &[Option<Number>], label: Option<Number>) -> bool
     seen.contains(&label)
 }
 
-/// A label behind others of its union: its value or its word stands at the front of the text.
+/// A label after others of its union: its value or its word is at the front of the text.
 #[tactic(auto, unfolding(crate::specs::UnionReading::unseen_label))]
 fn unseen_label(
     seen: &[Option<Number>],
@@ -116,7 +116,7 @@ fn label_at<'a>(
     }
 }
 
-/// Whether a label comes.
+/// Whether a label comes next.
 #[tactic(auto, unfolding(crate::specs::UnionReading::begins_label))]
 fn begins_label(text: &[u8]) -> Result<bool, ParseStop>
     ensures { Gives (λ x. x) result (begins_label text.now) }
@@ -240,7 +240,7 @@ fn switch_at<'a>(
     }
 }
 
-/// Adds a case behind others: its labels, whether the default is among them, and its name and type.
+/// Adds a case after others: its labels, whether the default is among them, and its name and type.
 fn add_case<'a>(
     alloc: Global,
     cases: &mut Cases<'a>,
@@ -261,7 +261,7 @@ fn add_case<'a>(
     Ok(())
 }
 
-/// A case behind others, of a union in the declaration whose name is at this place; what follows it.
+/// A case after others, of a union in the declaration whose name is at this place; what follows it.
 #[tactic(auto, unfolding(crate::specs::UnionReading::case_at))]
 fn case_at<'a>(
     alloc: Global,
@@ -350,7 +350,7 @@ fn cases_at<'a>(
     }
 }
 
-/// A union, behind its word; what follows it.
+/// A union, after its word; what follows it.
 #[tactic(auto, unfolding(crate::specs::UnionReading::union_at))]
 pub(crate) fn union<'a>(
     alloc: Global,

@@ -80,7 +80,7 @@ fn entry(line: &[u8]) -> Option<(u32, &[u8])>
     }
 }
 
-/// What an id is kept with, once one more of its entries has an operation found.
+/// The operation stored with an id, after one more of its entries with the operation found for that.
 fn joined(kept: Option<&Option<OpId>>, found: Option<OpId>) -> Option<OpId>
     ensures { result ≡ joined (option_copied kept.entry) found }
 {
@@ -117,10 +117,10 @@ impl Model for Requests {
 impl Requests {
     /// Reads a list. `catalogue` knows the operations; the list may name others.
     pub fn parse(alloc: Global, text: &[u8], catalogue: &Catalogue) -> Result<Requests, ListFault>
-        // What is kept is of the list that the text is.
+        // The stored operations are those of the list that the text is.
         ensures ok { IfOk result (λ kept.
             (es : List Entry) × Lists text.now es × IsOf (operation_number catalogue.now) es kept) }
-        // What is refused, unless for memory, is the first line that can't stand.
+        // A refusal, unless for memory, is at the first line that is wrong.
         ensures err { IfErr result (λ f. IsRefusedAs text.now f.line f.kind) }
         // A list is refused for want of memory alone.
         ensures only { (es : List Entry) → Lists text.now es

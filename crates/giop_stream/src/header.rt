@@ -1,24 +1,13 @@
 //! The fields of a message header, and the octets that it may have (GIOP Message Formats, GIOP Message Header).
 
 ghost use Rattle.std.specs.Prelude.{◌≡◌, ◌≤◌, ◌<◌, ◌+◌, ℕ, List, [], ◌∷◌, length, take, None, IsTrue};
-ghost use Rattle.giop_cdr.specs.Numbers.{little, num};
+ghost use Rattle.giop_cdr.specs.Numbers.{little};
 ghost use Rattle.giop_message.specs.Headers.{has_more, size};
 ghost use Rattle.giop_stream.specs.HeaderOctets.{wrong};
 
 use crate::fault::StreamFault;
-use giop_cdr::{Carry, Number, Order, Prim};
+use giop_cdr::Order;
 use giop_message::order_of;
-
-/// The number that the four octets of a carry spell (CDR Transfer Syntax, Primitive Types).
-pub fn unsigned_long(order: Order, carry: &Carry) -> u32
-    requires { length carry.now ≡ 4 }
-    ensures { result ≡ num order carry.now }
-{
-    match carry.value(order, Prim::ULong) {
-        Ok(Number::Unsigned(number)) => number as u32,
-        _ => unreachable!(),
-    }
-}
 
 /// The number that four octets spell, the first the lightest.
 fn lightest_first(a: u8, b: u8, c: u8, d: u8) -> u32

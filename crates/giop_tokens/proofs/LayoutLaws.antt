@@ -1,4 +1,4 @@
--- A text as it may be written is its tokens.
+-- A text in which tokens are written by the rules of layout has exactly these tokens.
 use Rattle.std.proofs.Common.{◌≡◌, ℕ, ◌<◌, ◌^◌, Bool, true, false, eqb, List, [], ◌∷◌, ◌++◌, inl, inr, length, map, Option, Some, None, Result, Ok, append_assoc, refl, sym, ap, subst, ◌∙◌, arith}
 use Rattle.std.specs.Prelude.{◌||◌, nat_le, decimal, slice_index}
 use Rattle.std.specs.List.{AllByRecursion, prefix_len}
@@ -12,7 +12,7 @@ use Rattle.giop_tokens.specs.Tokens.{Token, word, number, negative, repository, 
 use Rattle.giop_tokens.proofs.Digits.{decimal_is_number, digits_are_word, digit_at, number_of_decimal}
 use Rattle.giop_tokens.specs.Layout.{IsId, IsToken, written, is_run, Space, white, comment, IsLine, IsSpace, space, spaces, IsTail, Laid, printed, AreLaid, IsFirst, IsLayout}
 
--- ---- White space and comments are passed over.
+-- ---- White space and comments are skipped.
 
 not_slash : (b : ℕ) (v : Bool) → eqb b 47 ≡ v → is_white b ≡ true → eqb b 47 ≡ false
 not_slash b false e w = e
@@ -173,7 +173,7 @@ next_laid : (front : List Space) (t : Token) (after : List ℕ) → AllByRecursi
 unfolding next
 next_laid front t after f h e = ap first (gap_spaces front (written t ++ after) f ∙ gap_written t after h) ∙ first_written t after h e
 
--- what stands first is read first
+-- the token that is written first is read first
 pub first_next : (text : List ℕ) (t : Token) (rest : List ℕ) → IsFirst text t rest → next text ≡ Ok (Some t, rest)
 first_next text t rest k = ap next k.octets ∙ next_laid k.front t rest k.fronts k.token k.apart
 

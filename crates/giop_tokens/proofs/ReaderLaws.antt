@@ -1,4 +1,4 @@
--- What the readers give of a text of known tokens, and what tokens a text has that they read.
+-- The readers of one token, both ways: what they give of a text of known tokens, and which tokens a text that they read has.
 use Rattle.std.proofs.Common.{◌≡◌, ℕ, ◌≤◌, ◌<◌, Bool, true, false, cond, eqb, ltb, List, [], ◌∷◌, length, Option, Some, None, Result, Ok, Err, refl, sym, ap, subst, ◌∙◌}
 use Rattle.std.specs.Prelude.{option_and_then}
 use Rattle.std.specs.Str.{bytes_eq}
@@ -30,12 +30,12 @@ some_is x y e = cc
 
 -- ---- A text of known tokens is read again.
 
--- the reader gives what the token tells
+-- the reader gives the value of the token
 pub as_again : {X : Type 0} (tells : Token → Option X) (text : List ℕ) (t : Token) (ts : List Token) (x : X) (h : AreTokens text (t ∷ ts)) → tells t ≡ Some x → next_as tells text ≡ Ok (x, h.0)
 unfolding next_as
 as_again tells text t ts x h e = rw (h.1, e) refl
 
--- the reader refuses a token that tells nothing
+-- the reader refuses a token of another kind
 pub as_other : {X : Type 0} (tells : Token → Option X) (text : List ℕ) (t : Token) (ts : List Token) → AreTokens text (t ∷ ts) → tells t ≡ None → next_as tells text ≡ Err (misplaced text)
 unfolding next_as
 as_other tells text t ts h e = rw (h.1, e) refl
@@ -140,7 +140,7 @@ wanted_by : {X : Type 0} (tells : Token → Option X) (text : List ℕ) (t : Opt
 wanted_by tells text None rest x n e = absurd cc
 wanted_by tells text (Some t) rest x n e = told_by tells text t rest x (tells t) refl n e
 
--- what is read is told by the first token
+-- what is read follows from the first token
 pub as_takes : {X : Type 0} (tells : Token → Option X) (text : List ℕ) (x : X × List ℕ) → next_as tells text ≡ Ok x → (t : Token) × (tells t ≡ Some x.0) × (next text ≡ Ok (Some t, x.1))
 unfolding next_as
 as_takes tells text x e =
@@ -262,9 +262,6 @@ identifier_word text x e =
     let a = bind_ok (word_at text) (λ w. cond (is_reserved w.0) (Err (misplaced text)) (cond (ltb 64 (length w.0)) (Err (too_long text)) (done (w.0, w.1)))) x e in
     name_by text a.0 x (is_reserved a.0.0) (ltb 64 (length a.0.0)) refl refl a.1 a.2
 
-pub identifier_takes : (text : List ℕ) (x : List ℕ × List ℕ) → identifier_at text ≡ Ok x → Takes text (word x.0) x.1
-identifier_takes text x e = word_takes text x (identifier_word text x e).0
-
 operation_by : (text : List ℕ) (w x : List ℕ × List ℕ) (c : Bool) → ltb 128 (length w.0) ≡ c → word_at text ≡ Ok w
     → cond c (Err (too_long text)) (done (w.0, w.1)) ≡ Ok x → (word_at text ≡ Ok x) × (length x.0 ≤ 128)
 operation_by text w x true q n e = absurd cc
@@ -277,6 +274,3 @@ unfolding operation_name_at
 operation_name_word text x e =
     let a = bind_ok (word_at text) (λ w. cond (ltb 128 (length w.0)) (Err (too_long text)) (done (w.0, w.1))) x e in
     operation_by text a.0 x (ltb 128 (length a.0.0)) refl a.1 a.2
-
-pub operation_name_takes : (text : List ℕ) (x : List ℕ × List ℕ) → operation_name_at text ≡ Ok x → Takes text (word x.0) x.1
-operation_name_takes text x e = word_takes text x (operation_name_word text x e).0

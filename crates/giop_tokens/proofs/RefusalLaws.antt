@@ -1,4 +1,4 @@
--- Where no token is found, and that a text has no tokens then.
+-- The place where a text goes on with no token, and that such a text has no list of tokens.
 use Rattle.std.proofs.Common.{◌≡◌, ℕ, Bool, true, false, cond, eqb, List, [], ◌∷◌, length, drop, Option, Some, None, Result, Ok, Err, sym, ◌∙◌}
 use Rattle.std.specs.Prelude.{option_map}
 use Rattle.giop_tokens.specs.declared.fault.Refusal.{Refusal}
@@ -36,7 +36,7 @@ unfolding first
 first_refused [] r e = absurd (not_both (None, []) r e)
 first_refused (b ∷ bs) r e = first_refused_by b bs r (is_word b) (eqb b 45) (eqb b 34) e
 
--- where no token is found, the refusal says so
+-- where no token is found, the refusal is Token at that place
 pub next_refused : (text : List ℕ) (r : Refusal) → next text ≡ Err r → r ≡ no_token text
 unfolding next
 next_refused text r e = first_refused (gap false text) r e

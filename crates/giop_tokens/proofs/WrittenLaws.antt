@@ -12,7 +12,7 @@ use Rattle.giop_tokens.specs.Tokens.{Token, word, number, negative, repository, 
 use Rattle.giop_tokens.proofs.Digits.{IsNumber, number_of_is}
 use Rattle.giop_tokens.specs.Layout.{IsId, IsToken, written, is_run, Space, white, comment, IsLine, IsSpace, spaces, IsTail, IsFirst, IsLayout}
 
--- ---- What stands before the first token.
+-- ---- White space and comments before the first token.
 
 -- spaces, and then the first token or the last comment
 pub record Split (text : List ℕ) : Type 0 where
@@ -338,7 +338,7 @@ first_by text rest t s e (inl g) =
     record { front = s.front; fronts = s.fronts; token = b.token; apart = b.apart; octets = s.parts ∙ ap (λ (x : List ℕ). spaces s.front ++ x) (sym g ∙ b.parts) }
 first_by text rest t s e (inr g) = absurd (no_end t rest (rw g.0 at e))
 
--- what is read first stands first
+-- the token that is read first is written first
 pub next_first : (text : List ℕ) (t : Token) (rest : List ℕ) → next text ≡ Ok (Some t, rest) → IsFirst text t rest
 unfolding next
 next_first text t rest e = first_by text rest t (split text) e (split text).gaps

@@ -7,6 +7,6 @@ use Rattle.giop_tokens.specs.declared.fault.SigFaultKind.TheVariants.{OutOfMemor
 abbrev pub no_memory : SigFault
 no_memory = record { line = 0; kind = OutOfMemory }
 
--- the same where places are counted
+-- the refusal for memory, at the place 0
 abbrev pub out_of_memory : Refusal
 out_of_memory = record { kind = OutOfMemory; left = 0 }

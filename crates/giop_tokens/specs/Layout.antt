@@ -47,7 +47,7 @@ pub data Space : Type 0 where
   white : ℕ → Space
   comment : List ℕ → Space
 
--- what stands in one line
+-- octets of one line: no line feed among them
 abbrev pub IsLine : List ℕ → Type 0
 IsLine c = AllByRecursion (λ b. b ≢ 10) c
 
@@ -70,7 +70,7 @@ IsTail tail = (tail ≡ []) ⊎ ((c : List ℕ) × IsLine c × (tail ≡ 47 ∷ 
 
 -- ---- A text.
 
--- a token, and what stands between it and the next
+-- a token, and the white space and comments between it and the next
 pub record Laid : Type 0 where
   pub token : Token
   pub after : List Space
@@ -79,12 +79,12 @@ abbrev pub printed : List Laid → List ℕ → List ℕ
 printed [] tail = tail
 printed (l ∷ ls) tail = written l.token ++ (spaces l.after ++ printed ls tail)
 
--- No word octet stands behind a word or a number. So two of them have a space between them, and all else may touch.
+-- No word octet follows a word or a number. So two of them have a space between them, and all else may touch.
 abbrev pub AreLaid : List Laid → List ℕ → Type 0
 AreLaid [] tail = IsTail tail
 AreLaid (l ∷ ls) tail = IsToken l.token × AllByRecursion IsSpace l.after × (is_run l.token ≡ true → is_word (slice_index (spaces l.after ++ printed ls tail) 0) ≡ false) × AreLaid ls tail
 
--- this token is the text's first, behind spaces, and this follows it
+-- this token is the text's first, after white space and comments, and this follows it
 pub record IsFirst (text : List ℕ) (t : Token) (rest : List ℕ) : Type 0 where
   pub front : List Space
   pub fronts : AllByRecursion IsSpace front

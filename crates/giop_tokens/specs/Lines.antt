@@ -1,4 +1,4 @@
--- The line of a place in a text (docs/FORMATS.md, Signature file; meaning).
+-- The line number of a place in a text (docs/FORMATS.md, Signature file; meaning).
 use Rattle.std.specs.Prelude.{ℕ, ◌+◌, ◌-◌, List, length, take, max, count_by, ◌==◌}
 use Rattle.giop_tokens.specs.declared.fault.Refusal.{Refusal}
 use Rattle.giop_tokens.specs.declared.fault.SigFault.{SigFault}
@@ -22,6 +22,6 @@ line_by kinds.Depth line = line
 line_by kinds.Label line = line
 line_by kinds.Empty line = line
 
--- what is told of a refusal
+-- the fault that a caller gets of a refusal
 abbrev pub fault_of : List ℕ → Refusal → SigFault
 fault_of text r = record { line = line_by r.kind (line_at text r.left); kind = r.kind }

@@ -1,4 +1,4 @@
--- Readers of one token: what it tells, and what follows it (meaning). Each refuses with Token where there is no token, and with
+-- Readers of one token: its value, and what follows it (meaning). Each refuses with Token where there is no token, and with
 -- Syntax, at the token, where it is another one or the text ends (docs/FORMATS.md, Signature file).
 use Rattle.std.specs.Prelude.{ℕ, Bool, true, false, List, Option, Some, None, Result, Ok, Err, ◌==◌, if◌then◌else◌, option_and_then}
 use Rattle.std.specs.Str.{bytes_eq}
@@ -17,7 +17,7 @@ misplaced text = record { kind = kinds.Syntax; left = left_of text }
 abbrev pub no_token : List ℕ → Refusal
 no_token text = record { kind = kinds.Token; left = left_of text }
 
--- ---- What a token tells.
+-- ---- The value of a token.
 
 abbrev pub as_word : Token → Option (List ℕ)
 as_word (word w) = Some w
@@ -64,13 +64,13 @@ abbrev pub passes : (Token → Bool) → Option Token → Bool
 passes is None = false
 passes is (Some t) = is t
 
--- what the next token tells, and what follows it
+-- the value of the next token, and what follows it
 unfoldable pub next_as : {X : Type 0} → (Token → Option X) → List ℕ → Result (X × List ℕ) Refusal
 next_as tells text = do
   t ← next text
   wanted (misplaced text) (option_and_then tells t.0) t.1
 
--- what follows the next token, which passes the test
+-- what follows the next token, which must pass the test
 unfoldable pub next_is : (Token → Bool) → List ℕ → Result (List ℕ) Refusal
 next_is is text = do
   t ← next text

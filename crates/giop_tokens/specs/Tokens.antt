@@ -37,7 +37,7 @@ is_id b = nat_le 33 b && nat_le b 126 && not (b == 34)
 -- ---- White space and comments.
 
 -- Whether a comment goes on after an octet, with the one that follows it; nothing where a token begins there.
--- In a comment all is passed over up to the end of its line.
+-- A comment goes to the end of its line.
 abbrev pub gap_step : Bool → ℕ → ℕ → Option Bool
 gap_step true b after = Some (not (b == 10))
 gap_step false b after = if b == 47 && after == 47 then Some true else (if is_white b then Some false else None)
@@ -46,7 +46,7 @@ abbrev pub or_stop : Option Bool → List ℕ → (Bool → List ℕ) → List �
 or_stop None here on = here
 or_stop (Some comment) here on = on comment
 
--- what follows white space and comments; the flag says whether a comment has begun
+-- what follows white space and comments; the flag is whether a comment has begun
 unfoldable pub gap : Bool → List ℕ → List ℕ
 gap comment [] = []
 gap comment (b ∷ bs) = or_stop (gap_step comment b (slice_index bs 0)) (b ∷ bs) (λ more. gap more bs)
@@ -79,7 +79,7 @@ abbrev pub below_zero : Option ℕ → Option Token
 below_zero None = None
 below_zero (Some n) = if n == 0 then None else Some (negative n)
 
--- the content of a repository id, 1 to 128 octets, and what stands behind it, a quotation mark first
+-- the content of a repository id, 1 to 128 octets, and what follows it, a quotation mark first
 abbrev pub repository_token : List ℕ → List ℕ → Option Token
 repository_token id after = if nat_le 1 (length id) && nat_le (length id) 128 && slice_index after 0 == 34 then Some (repository id) else None
 
@@ -97,7 +97,7 @@ first (b ∷ bs) =
     (if b == 34 then as_token (b ∷ bs) (repository_token (run is_id bs) (past is_id bs)) (drop 1 (past is_id bs)) else
     as_token (b ∷ bs) (option_map mark (mark_of b)) bs))
 
--- The first token of a text, behind white space and comments, and what follows it; none at the end of the text.
+-- The first token of a text, after white space and comments, and what follows it; none at the end of the text.
 unfoldable pub next : List ℕ → Result (Option Token × List ℕ) Refusal
 next text = first (gap false text)
 

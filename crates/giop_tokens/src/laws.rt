@@ -1,11 +1,11 @@
-//! What the tokens of a text are, said of how they are written (docs/FORMATS.md, Signature file).
+//! Laws of the tokens of a text, stated by how they are written (docs/FORMATS.md, Signature file).
 ghost use Rattle.std.specs.Prelude.{◌≡◌, ℕ, ◌↔◌, List, Ok, Err, Some};
 ghost use Rattle.giop_tokens.specs.declared.fault.Refusal.{Refusal};
 ghost use Rattle.giop_tokens.specs.Tokens.{Token, next, AreTokens};
 ghost use Rattle.giop_tokens.specs.Readers.{no_token};
 ghost use Rattle.giop_tokens.specs.Layout.{IsFirst, IsLayout};
 
-/// What is read first is what stands first, behind white space and comments.
+/// The token that is read first is the one that is written first, after white space and comments.
 pub fn first_token()
     ensures { (text : List ℕ) (t : Token) (rest : List ℕ)
         → (next text ≡ Ok (Some t, rest)) ↔ IsFirst text t rest }
@@ -23,7 +23,7 @@ pub fn one_list()
         → ts ≡ us }
 {}
 
-/// A text is refused where no token stands first, as Token at that place, and has no list of
+/// A text is refused where it goes on with no token, as Token at that place, and has no list of
 /// tokens then.
 pub fn no_list()
     ensures place { (text : List ℕ) (r : Refusal) → next text ≡ Err r → r ≡ no_token text }

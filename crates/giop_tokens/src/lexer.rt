@@ -118,7 +118,7 @@ fn word_token(word: &[u8]) -> Option<Token<'_>>
     Some(Token::Word(word))
 }
 
-/// The number below zero that a word behind `-` is.
+/// The number below zero that a word after `-` is.
 fn negative_token(word: &[u8]) -> Option<Token<'_>>
     ensures { option_map token_view result ≡ below_zero (number_of word.now) }
 {
@@ -201,7 +201,7 @@ fn past_mark(text: &[u8]) -> &[u8]
     }
 }
 
-/// The first token of a text, behind white space and comments, and what follows it; none at the
+/// The first token of a text, after white space and comments, and what follows it; none at the
 /// end of the text.
 #[tactic(auto, unfolding(crate::specs::Tokens::next))]
 pub fn next(text: &[u8]) -> Result<(Option<Token<'_>>, &[u8]), Refusal>

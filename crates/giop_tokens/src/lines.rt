@@ -1,4 +1,4 @@
-//! The line of a refusal.
+//! The line number of a refusal.
 ghost use Rattle.std.specs.Prelude.{◌≡◌, ◌<◌, ◌^◌, ◌==◌, length, count_by};
 ghost use Rattle.giop_tokens.specs.Lines.{line_at, fault_of};
 
@@ -21,7 +21,7 @@ pub fn line_of(text: &[u8], left: usize) -> u32
     1 + line_feeds(&text[..before]) as u32
 }
 
-/// What is told of a refusal of a text.
+/// The fault that a caller gets of a refusal: its kind and its line.
 pub fn fault_in(text: &[u8], refusal: Refusal) -> SigFault
     requires { length text.now < 2 ^ 32 }
     ensures { result ≡ fault_of text.now refusal }

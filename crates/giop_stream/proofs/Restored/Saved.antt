@@ -50,9 +50,6 @@ entries_own [] m (f ∷ es) e are is = absurd are
 entries_own (s ∷ slots) m [] e are is = absurd are
 entries_own (s ∷ slots) m (f ∷ es) e are is = (are.0, entries_own slots m es e are.1 is)
 
-pub put_none : (before : List ℕ) → IsPut before before (AreOpen [])
-put_none before = record { entries = []; are = tt; put = sym (append-nil before) }
-
 pub put_more : (slots : List OpenEntry) (slot : OpenEntry) (before between after : List ℕ) → IsPut before between (AreOpen slots) → IsPutOne between after (IsOpen slot)
     → IsPut before after (AreOpen (slots ++ slot ∷ []))
 put_more slots slot before between after some one = record {
@@ -213,14 +210,6 @@ pub puts_all : (slots : List OpenEntry) (i : ℕ) (result : Result ℕ OutFault)
     → PutsSuch result before after (λ octets. IsPut front octets (AreOpen slots))
 puts_all slots i result before after front high some =
     let P : List OpenEntry → Type 0 = λ xs. PutsSuch result before after (λ octets. IsPut front octets (AreOpen xs)) in subst P (take_all i slots high) some
-
-pub puts_same : (C : Table) (at : ℕ) (slots same : List OpenEntry) (result : Result ℕ OutFault) (before after : OutLog) (front : List ℕ) → slots ≡ same
-    → (Each (λ s. IsReady C at s.value.message) slots → PutsSuch result before after (λ octets. IsPut front octets (AreOpen slots)))
-    → Each (λ s. IsReady C at s.value.message) same → PutsSuch result before after (λ octets. IsPut front octets (AreOpen same))
-puts_same C at slots same result before after front e put ready =
-    let P : List OpenEntry → Type 0 = λ xs. Each (λ s. IsReady C at s.value.message) xs in
-    let Q : List OpenEntry → Type 0 = λ xs. PutsSuch result before after (λ octets. IsPut front octets (AreOpen xs)) in
-    subst Q e (put (subst P (sym e) ready))
 
 pub ok_within : (r : Result ℕ OutFault) (a b : ℕ) → a ≤ b → IfOk r (λ n. n ≤ a) → IfOk r (λ n. n ≤ b)
 ok_within (Ok n) a b h c = omega (arith, h, c)

@@ -12,11 +12,6 @@ use Rattle.giop_stream.specs.OpenSlots.{Slot, OctetsByNumber, slots_of}
 use Rattle.giop_stream.specs.Effects.{Tracked}
 use Rattle.giop_stream.specs.SlotsRepresent.{OpenEntry, with_message, IsReady, IsSlot, AreSlots}
 
-pub get_some : {A : Type 0} (xs : List A) (k : ℕ) (x : A) → k < length xs → x ≡ slice_index_or xs k x → slice_get xs k ≡ Some x
-get_some [] k x h e = absurd (omega arith)
-get_some {A} (a ∷ xs) zero x h e = ap (λ (y : A). Some y) (sym e)
-get_some (a ∷ xs) (suc k) x h e = get_some xs k x (omega arith) e
-
 pub slots_get : (c : Tracked) (k : ℕ) (o : Open) → slice_get c.still_open k ≡ Some o
     → slice_get (slots_of c.known c.still_open) k ≡ Some (record { open_as = o; octets = c.known o.opener.number })
 unfolding slots_of
@@ -128,12 +123,6 @@ later_ready C n n' (Some m) less h = (h.0, omega (arith, h.1))
 pub all_later : (C : Table) (n n' : ℕ) (ks : List OpenEntry) → n ≤ n' → Each (λ slot. IsReady C n slot.value.message) ks → Each (λ slot. IsReady C n' slot.value.message) ks
 all_later C n n' [] less h = tt
 all_later C n n' (k ∷ ks) less h = (later_ready C n n' k.value.message less h.0, all_later C n n' ks less h.1)
-
-pub set_ready : (C : Table) (n : ℕ) (ks : List OpenEntry) (k : ℕ) (x : OpenEntry) → IsReady C n x.value.message
-    → Each (λ slot. IsReady C n slot.value.message) ks → Each (λ slot. IsReady C n slot.value.message) (slice_set ks k x)
-set_ready C n [] k x h hs = tt
-set_ready C n (y ∷ ks) zero x h hs = (h, hs.1)
-set_ready C n (y ∷ ks) (suc k) x h hs = (hs.0, set_ready C n ks k x h hs.1)
 
 pub value_ready : (C : Table) (n : ℕ) (ks : List OpenEntry) (k : ℕ) (v : Contents) → IsReady C n v.message
     → Each (λ slot. IsReady C n slot.value.message) ks → Each (λ slot. IsReady C n slot.value.message) (revalued ks k v)

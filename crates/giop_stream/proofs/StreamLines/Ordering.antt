@@ -114,14 +114,6 @@ unfolding by_class
 ordered_stays [] h = no_lines classes
 ordered_stays (l ∷ ls) h = first_stays classes l ls classes_rise h.0 (a_class (class_of l.content)) ∙ ap (λ (ks : List Line). l ∷ ks) (ordered_stays ls h.1)
 
-pub ordered_left : (xs ys : List Line) → Ordered (xs ++ ys) → Ordered xs
-ordered_left [] ys h = tt
-ordered_left (x ∷ xs) ys h = (each_front (λ k. rank_of x ≤ rank_of k) xs ys h.0, ordered_left xs ys h.1)
-  where
-    each_front : (P : Line → Type 0) (xs ys : List Line) → Each P (xs ++ ys) → Each P xs
-    each_front P [] ys h = tt
-    each_front P (x ∷ xs) ys h = (h.0, each_front P xs ys h.1)
-
 pub ordered_right : (xs ys : List Line) → Ordered (xs ++ ys) → Ordered ys
 ordered_right [] ys h = h
 ordered_right (x ∷ xs) ys h = ordered_right xs ys h.1

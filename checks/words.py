@@ -1,0 +1,123 @@
+"""The words and the definitions of the code: no word that was given up comes back, and nothing stands there unused.
+
+Words are compared in code, with comments and strings left out, and in the names of files. Used is what another function,
+definition, clause or lemma names: a function of src/, a definition of specs/ and a lemma of proofs/. Laws, which are functions
+without a body, tests, the functions of a trait and answers of goals need no use, and no rows of computation.
+"""
+
+from __future__ import annotations
+
+import re
+import sys
+from collections import defaultdict
+from pathlib import Path
+
+TOP = Path(__file__).resolve().parent.parent
+
+# Coined words, and words of more than one meaning, for which the code has plain names now (docs/ARCHITECTURE.md).
+GIVEN_UP = frozenset("""
+    Acts Ahead AreAhead CanSpeak Completing Doing Ended_by EngineMemory Finishing Goes_on Grab Happening
+    Happenings HappeningsKeep HasHead HeadFits Headed Heading Heard Hearing HerePosition Holding Imposed
+    ImposedFault Imposing InPlace InTurn IsAhead IsHere IsInTurn IsSpoken IsWhose Keepers Keeping Kept_message
+    Kept_slot Knows LastHeard Memories MemoryHasRange MessageReading Minds Moves Naming Owning PartTakesEffect
+    Patience Patient PatientWrite Performs Placed Recalling Recalls Remembering Roll Roster SECOND_OPEN
+    Said_call Said_end Said_fault Said_rest Said_value Saying Seg Settling Showing Shown Speech Spine Spoken
+    StandingHasRange Staying TakesEffect Telling Together Turned Turning TurnsIn Voices Walking WantedHasRange
+    WayViews Ways Whereabouts Whose acts at_end at_id at_octet behind_a_stop behind_counts behind_element
+    behind_held behind_param disorder dues end_acts end_segs giop_roster grab_of happens has_head head_width
+    header_acts hear_number hear_piece hear_value heard_of heard_piece here_text hushed hushes id_acts id_said
+    impose imposed imposed_line imposed_word is_behind_header kept_as ladder may_lack memory_at memory_laws
+    memory_octets message_reading minds no_way octet_acts offence opener_title pass_on patient patient_inner
+    place_call place_cases place_choice place_encapsulation place_item place_items place_length place_operation
+    place_params place_return place_sequence place_struct place_text place_union put_memory raise_at reading_by
+    remark_of remarks_text roll_code said_by saying saying_laws saying_line saying_of seg_in seg_of seg_text
+    segs_text settle shut size_behind speaks speech speech_line spoken spokens standing_octet switch_seg
+    taken_as taken_by taken_in told_text turn_in_string turns_in voices wanted_after wanted_octets wanteds
+    way_by way_view ways whom whose_after whose_in whose_named whose_octet
+""".split())
+
+# What makes up a program by itself, or is what a worked row says.
+ROOTS = {"main"}
+ROWS = re.compile(r"(^|/)(Worked|Rows|\w*Rows|OpenMessages|Computing)(\.antt|/)")
+
+
+def code(file: Path) -> str:
+    """The text of a file without comments and strings, line by line."""
+    text = file.read_text(encoding="utf-8")
+    if file.suffix == ".antt":
+        return re.sub(r'"[^"\n]*"|(?m:(?:^|(?<=[\s(]))--(?=[ -]|$).*$)', "", text)
+    return re.sub(r'r#".*?"#|"(?:[^"\\]|\\.)*"|\'(?:[^\'\\]|\\.)\'|//[^\n]*', "", text, flags=re.S)
+
+
+def given_up(file: Path, text: str) -> list[str]:
+    """The words in a file, and in its name, that were given up."""
+    found = sorted(GIVEN_UP & (set(re.findall(r"[A-Za-z_]\w*", text)) | set(file.with_suffix("").parts)))
+    return [f"{file.relative_to(TOP)}: {word}" for word in found]
+
+
+def functions(text: str) -> list[tuple[str, int, int]]:
+    """The functions of a source that need a use: name, and the offsets of its text."""
+    found = []
+    for head in re.finditer(r"(?m)^([ \t]*)(?:pub(?:\([a-z]+\))? )?(?:const )?(?:unsafe )?fn (\w+)", text):
+        end = re.compile(rf"(?m)^{head[1]}(?:\}}|\{{\}})$").search(text, head.end())
+        stop = end.end() if end else len(text)
+        is_law = bool(end) and end[0].strip() == "{}"
+        before = text[: head.start()].rstrip().rsplit("\n", 1)[-1].strip()
+        around = re.findall(r"(?m)^(impl\b[^{]*|trait\b[^{]*|pub trait\b[^{]*)\{|^\}", text[: head.start()])
+        of_trait = bool(head[1]) and bool(around) and (" for " in around[-1] or "trait " in around[-1])
+        if not (is_law or of_trait or before == "#[test]" or head[2] in ROOTS):
+            found.append((head[2], head.start(), stop))
+    return found
+
+
+def definitions(text: str) -> list[tuple[str, int, int]]:
+    """The top-level definitions and lemmas of a file of antt: name, and the offsets of its text."""
+    heads = list(re.finditer(r"(?m)^(?:  )?(?:(?:abbrev|unfoldable|opaque|pub|data|record) )*([A-Za-z_][\w-]*)", text))
+    found: list[tuple[str, int, int]] = []
+    within = ""
+    for at, head in enumerate(heads):
+        if not head[0].startswith("  "):
+            within = head[0]
+        elif "record" in within or "data" in within:
+            continue  # a field or a constructor
+        stop = heads[at + 1].start() if at + 1 < len(heads) else len(text)
+        if found and found[-1][0] == head[1]:
+            found[-1] = head[1], found[-1][1], stop
+        else:
+            found.append((head[1], head.start(), stop))
+    declared = re.compile(r"(?:(?:abbrev|unfoldable|opaque|pub) )*[\w-]+ :")
+    return [it for it in found if declared.match(text[it[1]:it[2]].lstrip())]
+
+
+def unused(files: dict[Path, str]) -> list[str]:
+    """What stands in the sources, definitions and proofs, and is named nowhere else."""
+    uses: dict[str, list[tuple[Path, int]]] = defaultdict(list)
+    for file, text in files.items():
+        for word in re.finditer(r"[A-Za-z_][\w-]*", text):
+            uses[word[0]].append((file, word.start()))
+    found = []
+    for file, text in files.items():
+        if file.name in ("Answers.antt", "Invariants.antt", "Proof.antt", "Lib.antt") or ROWS.search(str(file)):
+            continue
+        parts = functions(text) if file.suffix == ".rt" else definitions(text)
+        for name, start, stop in parts:
+            imports = re.compile(r"\buse\b[^\n]*$")
+            used = any(where != file or not start <= at < stop for where, at in uses[name]
+                       if not imports.search(files[where][files[where].rfind("\n", 0, at) + 1:at]))
+            if not used:
+                found.append(f"{file.relative_to(TOP)}: nothing uses {name}")
+    return found
+
+
+def main() -> int:
+    files = {file: code(file) for part in ("src", "specs", "proofs") for file in sorted(TOP.glob(f"crates/*/{part}/**/*"))
+             if file.suffix in (".rt", ".antt")}
+    faults = [fault for file, text in files.items() for fault in given_up(file, text)] + unused(files)
+    for fault in faults:
+        print(fault)
+    print(f"words: {len(files)} files, {len(faults)} faults")
+    return 1 if faults else 0
+
+
+if __name__ == "__main__":
+    sys.exit(main())
