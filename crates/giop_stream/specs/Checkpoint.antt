@@ -21,7 +21,7 @@ use Rattle.giop_checkpoint.specs.declared.fixed.Fixed.{Fixed}
 use Rattle.giop_checkpoint.specs.declared.fixed.Place.{Place}
 use Rattle.giop_checkpoint.specs.declared.fixed.Place.TheVariants.{Header, Payload, Stopped}
 use Rattle.giop_checkpoint.specs.declared.record.RecordKind.{RecordKind}
-use Rattle.giop_checkpoint.specs.declared.record.RecordKind.TheVariants as standings
+use Rattle.giop_checkpoint.specs.declared.record.RecordKind.TheVariants as record_kinds
 use Rattle.giop_checkpoint.specs.Layouts.{OpenHasRange}
 use Rattle.giop_checkpoint.specs.Fixed.{fixed_octets}
 use Rattle.giop_checkpoint.specs.Records.{Entry, EntryHasRange, entry_octets}
@@ -79,8 +79,8 @@ fixed_of C l m = record {
 -- ---- the records
 
 abbrev pub standing_of : Option Message → ℕ → RecordKind
-standing_of None id = standings.Over id
-standing_of (Some m) id = standings.Open id
+standing_of None id = record_kinds.Over id
+standing_of (Some m) id = record_kinds.Open id
 
 -- what is kept of a message that isn't over, in no more frames than the types that it fits are deep
 pub record IsHeld (m : Message) (e : Entry) : Type 0 where
@@ -110,7 +110,7 @@ pub record IsMessageRecord (record_kind : RecordKind) (number : ℕ) (header : L
 
 -- that of the current one, where it isn't open
 abbrev pub IsCurrent : Message → Entry → Type 0
-IsCurrent m e = IsMessageRecord standings.Current m.number m.header m e
+IsCurrent m e = IsMessageRecord record_kinds.Current m.number m.header m e
 
 abbrev pub IsLast : Option Message → List Entry → Type 0
 IsLast None [] = Unit {0}

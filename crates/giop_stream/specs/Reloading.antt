@@ -33,10 +33,10 @@ header_in (Payload header left) = header
 header_in (Stopped fault) = []
 
 -- the payload octets that have come
-abbrev pub come_in : Place → ℕ
-come_in (Header held) = 0
-come_in (Payload header left) = size header - left
-come_in (Stopped fault) = 0
+abbrev pub payload_count_in : Place → ℕ
+payload_count_in (Header held) = 0
+payload_count_in (Payload header left) = size header - left
+payload_count_in (Stopped fault) = 0
 
 -- the octets to come are the current message's own: it is no Fragment whose request id is complete
 abbrev pub comes_in : Place → Bool

@@ -24,12 +24,12 @@ IsOwn C l (Some m) None = ⊥
 IsOwn C l None (Some o) = ⊥
 
 -- the payload octets that have come
-unfoldable pub come_in : State → ℕ
-come_in s = if nat_lt (length s.held) 12 then 0 else size s.held - s.left
+unfoldable pub payload_count_in : State → ℕ
+payload_count_in s = if nat_lt (length s.held) 12 then 0 else size s.held - s.left
 
 -- the next octets are of a payload, and the current message's own: it is no Fragment whose request id is complete
 unfoldable pub comes_itself : State → Bool
-comes_itself s = nat_le 12 (length s.held) && not (is_fragment s.held && nat_le 4 (come_in s))
+comes_itself s = nat_le 12 (length s.held) && not (is_fragment s.held && nat_le 4 (payload_count_in s))
 
 -- Whose the payload's next octets are: the current message's, unless it is over; an open message's; or nobody's.
 abbrev pub IsOwner : Payload → State → Type 0
@@ -49,7 +49,7 @@ pub record Shows (C : Table) (l : RequestTable) (f : FramingView) (s : State) : 
   pub totals : f.totals ≡ s.totals
   pub stopped : f.stopped ≡ s.stop
   pub header : f.header ≡ s.held
-  pub payload_count : f.payload_count ≡ come_in s
+  pub payload_count : f.payload_count ≡ payload_count_in s
   pub slots : AreSlots C l f.slots.slots.entries s.slots
   pub own : IsOwn C l f.slots.own s.own
   pub owner : IsOwner f.slots.payload s

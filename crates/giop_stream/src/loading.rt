@@ -8,7 +8,7 @@ ghost use Rattle.giop_message.specs.Stored.{Stored};
 ghost use Rattle.giop_message.specs.declared.message.Message.{Message as CodeMessage};
 ghost use Rattle.giop_checkpoint.specs.Records.{AreRecords, entry_octets, used};
 ghost use Rattle.giop_checkpoint.specs.Refusals.{IsOurs};
-ghost use Rattle.giop_checkpoint.specs.declared.record.RecordKind.TheVariants as standings;
+ghost use Rattle.giop_checkpoint.specs.declared.record.RecordKind.TheVariants as record_kinds;
 ghost use Rattle.giop_stream.specs.Rules.{rules, most_open};
 ghost use Rattle.giop_stream.specs.OpenSlots.{Slot as Held};
 ghost use Rattle.giop_stream.specs.SlotsRepresent.{AreReady, IsBare, IsReady};
@@ -16,7 +16,7 @@ ghost use Rattle.giop_stream.specs.FramingView.{framing_view};
 ghost use Rattle.giop_stream.specs.EngineState.{state_of, Own};
 ghost use Rattle.giop_stream.specs.ViewOfState.{Shows, IsOwn};
 ghost use Rattle.giop_stream.specs.Checkpoint.{counts_of, fixed_of, Allows, IsRefused, OrNoMemory, Spells};
-ghost use Rattle.giop_stream.specs.Reloading.{stop_in, header_in, come_in, comes_in, payload_of, pushed, IsOpenEntry, IsCurrentEntry, HasAdded, HasAddedFirst, AreLeft};
+ghost use Rattle.giop_stream.specs.Reloading.{stop_in, header_in, payload_count_in, comes_in, payload_of, pushed, IsOpenEntry, IsCurrentEntry, HasAdded, HasAddedFirst, AreLeft};
 
 use crate::framing::Framing;
 use crate::header::size_of;
@@ -133,7 +133,7 @@ fn stop_of(place: &Place) -> Option<StreamFault>
 /// The header octets that have come, and the payload octets.
 fn header_of(place: Place) -> (ArrayVec<u8, 12>, u32)
     ensures header { result.0.items ≡ header_in place }
-    ensures payload_count { result.1 ≡ come_in place }
+    ensures payload_count { result.1 ≡ payload_count_in place }
 {
     match place {
         Place::Header(held) => (held_of(held.as_slice()), 0),
@@ -298,7 +298,7 @@ fn add_open(
     ensures own { slots.new.own ≡ slots.old.own }
     ensures again { (l : RequestTable) (held : Held) →
         IsOpenEntry catalogue.now l (octets + 1) first.now held →
-        first.now.record.record_kind ≡ standings.Open id →
+        first.now.record.record_kind ≡ record_kinds.Open id →
         length slots.old.slots.entries < slots.old.slots.most →
         (result ≡ true) × HasAdded catalogue.now l slots.old slots.new (held ∷ []) }
     ensures most { slots.new.slots.most ≡ slots.old.slots.most }
@@ -313,7 +313,7 @@ fn add_over(slots: &mut Slots, first: &FirstRecord<'_>, id: u32) -> bool
     ensures own { slots.new.own ≡ slots.old.own }
     ensures again { (C : Table) (l : RequestTable) (n : ℕ) (held : Held) →
         IsOpenEntry C l n first.now held →
-        first.now.record.record_kind ≡ standings.Over id →
+        first.now.record.record_kind ≡ record_kinds.Over id →
         length slots.old.slots.entries < slots.old.slots.most →
         (result ≡ true) × HasAdded C l slots.old slots.new (held ∷ []) }
     ensures most { slots.new.slots.most ≡ slots.old.slots.most }

@@ -35,7 +35,7 @@ use Rattle.giop_stream.specs.declared.slots.Payload.TheVariants as payload
 use Rattle.giop_stream.specs.OpenSlots.{octets_of, slots_of, is_open}
 use Rattle.giop_stream.specs.EngineView.{FramingView}
 use Rattle.giop_stream.specs.EngineState.{state_of, own_for, owner_for}
-use Rattle.giop_stream.specs.ViewOfState.{come_in, comes_itself}
+use Rattle.giop_stream.specs.ViewOfState.{payload_count_in, comes_itself}
 use Rattle.giop_stream.specs.Checkpoint.{counts_of, fixed_of, checkpoint_octets}
 use Rattle.giop_stream_rows.specs.Worked.{digit, octets, stream, written, read_by, called, table_of, builtin, puts, bigs, late, asks, kept}
 use Rattle.giop_stream_rows.specs.Streams.{CloseConnection, LittleRequest, Interleaved, OpenTwice, OneOpen, Cancelled, Replied, Raised}
@@ -92,7 +92,7 @@ raised = record { text = refl; closing = refl }
 
 -- what a checkpoint is spelled with
 unfoldable pub a_checkpoint : ℕ
-unfolding four eight magic counts_octets state_octets fixed_octets counts_of fixed_of checkpoint_octets octets_of slots_of state_of own_for owner_for is_open come_in comes_itself five_octets one_in_payload bad_magic
+unfolding four eight magic counts_octets state_octets fixed_octets counts_of fixed_of checkpoint_octets octets_of slots_of state_of own_for owner_for is_open payload_count_in comes_itself five_octets one_in_payload bad_magic
 a_checkpoint = 0
 
 -- numbers that are each below 256

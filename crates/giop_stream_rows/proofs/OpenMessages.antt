@@ -32,7 +32,7 @@ use Rattle.giop_message.specs.Stored as messages
 use Rattle.giop_message.specs.Stored.{Stored}
 use Rattle.giop_checkpoint.specs.Records as records
 use Rattle.giop_checkpoint.specs.Records.{Entry, EntryHasRange}
-use Rattle.giop_checkpoint.specs.declared.record.RecordKind.TheVariants as standings
+use Rattle.giop_checkpoint.specs.declared.record.RecordKind.TheVariants as record_kinds
 use Rattle.giop_checkpoint.specs.declared.layout.Layout.TheVariants.{Third}
 use Rattle.giop_stream.specs.declared.slots.Payload.TheVariants as payload
 use Rattle.giop_stream.specs.EngineView.{FramingView}
@@ -89,7 +89,7 @@ first = record {
 
 first_entry : Entry
 first_entry = record {
-  record_is = record { frames = 2; record_kind = standings.Open 5; number = 1; header = header 40 };
+  record_is = record { frames = 2; record_kind = record_kinds.Open 5; number = 1; header = header 40 };
   message = messages.own_octets first ++ decoders.fixed_octets in_body number;
   frames = decoders.frames_octets (parameters_frame ∷ decoders.own_frame number ∷ []);
 }
@@ -111,7 +111,7 @@ second = record {
 
 second_entry : Entry
 second_entry = record {
-  record_is = record { frames = 0; record_kind = standings.Open 6; number = 2; header = header 36 };
+  record_is = record { frames = 0; record_kind = record_kinds.Open 6; number = 2; header = header 36 };
   message = messages.own_octets second ++ messages.rest_octets nothing;
   frames = [];
 }

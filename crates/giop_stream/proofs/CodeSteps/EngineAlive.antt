@@ -100,9 +100,9 @@ mute_causal : IsCausal mute
 unfolding mute
 mute_causal = record { earlier = λ header xs more k h. refl }
 
-mute_in_turn : IsStreamable mute
+silent_streamable : IsStreamable mute
 unfolding mute
-mute_in_turn = record {
+silent_streamable = record {
   named = record { named = λ header xs name few. tt };
   ordered = record { ordered = λ header xs k. inl refl };
   closing = record { closed = λ header xs. inr (inl refl); over = λ header xs x no. absurd cc; one_rest = λ header xs x no. absurd cc };
@@ -110,10 +110,10 @@ mute_in_turn = record {
 
 pub few_open : (most : ℕ) (p : List ℕ) → length (open_after most p) ≤ most
 unfolding IsFew
-few_open most p = (sound (mute_rules most) mute_causal mute_in_turn p).still_open.few
+few_open most p = (sound (mute_rules most) mute_causal silent_streamable p).still_open.few
 
 pub rising_open : (most : ℕ) (p : List ℕ) → Rising (open_after most p)
-rising_open most p = (sound (mute_rules most) mute_causal mute_in_turn p).rising
+rising_open most p = (sound (mute_rules most) mute_causal silent_streamable p).rising
 
 pub early_events : (most : ℕ) (p : List ℕ) → Each (λ e. e.place ≤ length p) (events most p)
-early_events most p = (sound (mute_rules most) mute_causal mute_in_turn p).places
+early_events most p = (sound (mute_rules most) mute_causal silent_streamable p).places

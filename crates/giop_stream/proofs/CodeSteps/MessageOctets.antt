@@ -25,7 +25,7 @@ use Rattle.giop_stream.specs.Effects.{Tracked, Effect, effects, tracked_after, w
 use Rattle.giop_stream.specs.SlotsRepresent.{SlotsRepresent}
 use Rattle.giop_stream.specs.PayloadOwner.{IsBeforeOctet, IsBeforeMessage, IsNewest, SlotsRepresentStream, owner_of_next_in, owner_after}
 use Rattle.giop_stream.specs.EngineView.{FramingView}
-use Rattle.giop_stream.specs.Octet.{header_of, come_of}
+use Rattle.giop_stream.specs.Octet.{header_of, payload_count_of}
 use Rattle.giop_stream.specs.EngineState.{State, state_of}
 use Rattle.giop_stream.specs.EngineStep.{step, run_state, runs}
 use Rattle.giop_stream.specs.FramingSteps.{held_on, end_message as settled}
@@ -109,7 +109,7 @@ module _ (C : Table) (l : RequestTable) (most : ℕ) (s : State) (reached : IsRe
     unfolding state_of
     header_at = at_p.header ∙ rw runs_on refl
 
-    come_at : m.payload_count ≡ come_of (cut p).current
+    come_at : m.payload_count ≡ payload_count_of (cut p).current
     come_at = at_p.payload_count ∙ (come_state R p so ∙ rw runs_on refl)
 
     pub all_read : m.totals.octets ≡ length p
@@ -244,7 +244,7 @@ module _ (C : Table) (l : RequestTable) (most : ℕ) (s : State) (reached : IsRe
     count = rw cur (ap length (append-nil (cut p).whole))
 
     none_come : b.payload_count ≡ 0
-    none_come = come_was ∙ (come_at ran ∙ ap come_of cur)
+    none_come = come_was ∙ (come_at ran ∙ ap payload_count_of cur)
 
     pub is_first : (now : Current) → now.number ≡ b.totals.messages + 1 → now.header ≡ b.header
         → now.place ≡ b.totals.octets → now.payload_count ≡ b.payload_count
@@ -294,7 +294,7 @@ module _ (C : Table) (l : RequestTable) (most : ℕ) (s : State) (reached : IsRe
     header_is = header_at free ∙ ap (λ (o : Option Message). header_of o (cut p).held) cur
 
     pub come_is : m.payload_count ≡ length c.payload
-    come_is = come_at free ∙ ap come_of cur
+    come_is = come_at free ∙ ap payload_count_of cur
 
     all_messages : length (messages (cut p)) ≡ length (cut p).whole + 1
     unfolding messages

@@ -14,7 +14,7 @@ use Rattle.giop_stream.specs.Lines.{stop_line, lines}
 use Rattle.giop_stream.specs.Stream.{start_count, fault_count, tally}
 use Rattle.giop_stream.specs.OpenSlots.{octets_of, is_open, slots_of}
 use Rattle.giop_stream.specs.Effects.{Tracked, with_octet, tracked_after}
-use Rattle.giop_stream.specs.Octet.{octet_in, octet_of, header_of, come_of}
+use Rattle.giop_stream.specs.Octet.{octet_in, octet_of, header_of, payload_count_of}
 use Rattle.giop_stream.specs.EngineState.{State, Own, unless, left_of, own_for, owner_for, own_in, owner_in, state_of}
 use Rattle.giop_stream.specs.EngineStep.{Step, octet_at, own_octets, still_open_of, id_by, id_of, other_of, ended, held_on}
 use Rattle.giop_stream.proofs.Cuts.Cutting.{stopped_at, of_parts}
@@ -76,7 +76,7 @@ seen : (stop : Option (ℕ × StreamFault)) (current : Option Message) (held : L
     → (stop ≡ None → length held < 12)
     → octet_in (fault_of stop) (unless stop [] (header_of current held)) number read
     (size (unless stop [] (header_of current held)) - unless stop 0 (left_of current)) x ≡ octet_in (fault_of stop)
-    (header_of current held) number' n (come_of current) x
+    (header_of current held) number' n (payload_count_of current) x
 unfolding octet_in
 seen (Some found) current held number number' read n x e r lacks short = refl
 seen None (Some m) held number number' read n x e r lacks short =

@@ -19,7 +19,7 @@ use Rattle.giop_stream.specs.Stream.{start_count}
 use Rattle.giop_stream.specs.OpenSlots.{OctetsByNumber, octets_of}
 use Rattle.giop_stream.proofs.StreamLines.EventsTogether.{all_lines, sorted_lines}
 use Rattle.giop_stream.specs.Effects.{Tracked, effects, IsBegun, with_octet, tracked_after}
-use Rattle.giop_stream.specs.Octet.{Octet, AfterStop, Ends, Held, Of, front_is, octet_in, octet_of, header_of, come_of}
+use Rattle.giop_stream.specs.Octet.{Octet, AfterStop, Ends, Held, Of, front_is, octet_in, octet_of, header_of, payload_count_of}
 use Rattle.giop_stream.proofs.Lists.{all_by, each_weaker}
 use Rattle.giop_stream.proofs.Cuts.Cutting.{next, stopped_at, of_parts, parts_by, cut_grows, settle_stop, settled_messages, next_limit, next_payload, next_front, next_stopped}
 use Rattle.giop_stream.proofs.Cuts.CutFrom.{end_message, header_case}
@@ -30,7 +30,7 @@ use Rattle.giop_stream.proofs.StreamLines.Ordering.{Ordered, Rises, Fine, ordere
 use Rattle.giop_stream.proofs.StreamLines.LineOrder.{events_of_octet_fine, not_past}
 use Rattle.giop_stream.proofs.Events.Sharing.{header_joined, own_joined}
 use Rattle.giop_stream.proofs.StreamLines.StartLines.{start_append, none_later, one_first}
-use Rattle.giop_stream.proofs.Events.AfterMoreEvents.{said_grows, said_idle, octets_grow, octets_idle, open_grows, open_idle, lines_free, lines_stopped}
+use Rattle.giop_stream.proofs.Events.AfterMoreEvents.{message_lines_grow, message_lines_same, octets_grow, octets_idle, open_grows, open_idle, lines_free, lines_stopped}
 use Rattle.giop_stream.proofs.Events.Soundness.{Fits, IsSound, dealt_sound, events_on, events_begin}
 use Rattle.giop_stream.proofs.Events.StepCases.{quiet_sound, stop_starts, none_known, not_twelve, place_more, place_first, events_of_cut}
 use Rattle.giop_stream.proofs.Events.StepCases.{octets_are}
@@ -117,7 +117,7 @@ module _ (R : Rules) (causal : IsCausal R.reading) (laws : IsStreamable R.readin
   idle c ls ec ms same none here rises fits =
       let p' = p ++ x ∷ [] in
       let ev : events R.most p' ≡ events R.most p = ap (events_from R.most []) (ap messages ec ∙ ms) in
-      let sd = said_idle R causal p p' len ev sound.places in
+      let sd = message_lines_same R causal p p' len ev sound.places in
       let ln : lines R p' ≡ lines R p ++ ls =
       lines_stopped R p' c.stop (ap (λ (d : Cut). d.stop) ec) ∙ (ap (λ (l : List Line). l ++ stop_line c.stop) sd ∙ same) in
       let sc : start_count (lines R p') ≡ start_count (lines R p) = ap start_count ln ∙ (start_append (lines R p) ls ∙ omega (arith, none)) in
@@ -149,7 +149,7 @@ module _ (R : Rules) (causal : IsCausal R.reading) (laws : IsStreamable R.readin
       let here : Each (λ e. e.place ≡ suc (length p)) es =
       events_of_octet_each R.most (λ e. e.place ≡ suc (length p)) still_open m (λ what. pl)
       (all_by (λ (o : Open). (what : EventKind) → place m ≡ suc (length p)) (λ o what. pl) still_open) in
-      let sd = said_grows R causal p p' es len ev sound.places here in
+      let sd = message_lines_grow R causal p p' es len ev sound.places here in
       let fine = events_of_octet_fine R laws K still_open m fits begun in
       let p1 = are_effects R.reading (record { still_open = still_open; known = K }) es fine.ordered in
       let st' : (cut p').stop ≡ None = ap (λ (c : Cut). c.stop) ec ∙ settle_stop whole m in
@@ -344,7 +344,7 @@ module _ (R : Rules) (causal : IsCausal R.reading) (laws : IsStreamable R.readin
 
   then_by : (whole : List Message) (current : Option Message) (held : List ℕ) (stop : Option (ℕ × StreamFault))
       → cut p ≡ of_parts whole current held stop → (b : Bool) → nat_lt limit (suc (length p)) ≡ b
-      → Then R p x (octet_in (fault_of stop) (header_of current held) (length (messages (cut p))) (length p) (come_of current) x)
+      → Then R p x (octet_in (fault_of stop) (header_of current held) (length (messages (cut p))) (length p) (payload_count_of current) x)
   unfolding of_parts octet_in stopped_at start_count
   then_by whole current held (Some found) ec b e =
       let st : (cut p).stop ≡ Some found = rw ec refl in (
@@ -355,7 +355,7 @@ module _ (R : Rules) (causal : IsCausal R.reading) (laws : IsStreamable R.readin
             (λ free. absurd (let no : Some found ≡ None = sym st ∙ free in cc)),
       )
   then_by whole current held None ec true e =
-      rw (octet_limit (header_of current held) (length (messages (cut p))) (length p) (come_of current) x e)
+      rw (octet_limit (header_of current held) (length (messages (cut p))) (length p) (payload_count_of current) x e)
       (stops whole current held StreamLimit ec (rw ec (next_limit whole current held (length p) x e)))
   then_by whole (Some was) held None ec false e = paid whole was held ec e
   then_by whole None held None ec false e =

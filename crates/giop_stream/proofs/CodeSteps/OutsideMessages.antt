@@ -22,7 +22,7 @@ use Rattle.giop_stream.specs.Octet.{AfterStop, Ends, Held, front_is, octet_in}
 use Rattle.giop_stream.specs.EngineState.{State}
 use Rattle.giop_stream.specs.EngineStep.{fresh, octet_at, ended, held_on, step_by, step}
 use Rattle.giop_stream.specs.FramingSteps as steps
-use Rattle.giop_stream.specs.ViewOfState.{IsTurn, Shows, come_in, comes_itself}
+use Rattle.giop_stream.specs.ViewOfState.{IsTurn, Shows, payload_count_in, comes_itself}
 use Rattle.giop_stream.proofs.SlotSteps.StateToSlots.{owner_stays}
 use Rattle.giop_stream.proofs.CodeSteps.OneOctet.{octet_limit, octet_front, front_short}
 
@@ -69,7 +69,7 @@ not_itself s short = rw (lt-leb 12 (length s.held) short) refl
 
 pub nothing_shown : (C : Table) (l : RequestTable) (m : FramingView) → m.totals ≡ record { messages = 0; faults = 0; octets = 0 }
     → m.stopped ≡ None → m.header ≡ [] → m.payload_count ≡ 0 → IsBare m.slots → Shows C l m fresh
-unfolding fresh come_in comes_itself
+unfolding fresh payload_count_in comes_itself
 nothing_shown C l m totals stopped header payload_count bare =
     record {
       totals = totals;
@@ -119,7 +119,7 @@ module _ (C : Table) (l : RequestTable) (most : ℕ) (m : FramingView) (s : Stat
   pub ended_shows : (fault : StreamFault) (b : FramingView) → b.totals.messages ≡ m.totals.messages
       → b.totals.faults ≡ m.totals.faults → b.slots ≡ m.slots
       → Shows C l (steps.stop b fault (m.totals.octets + 1)) (ended s fault).state
-  unfolding steps.stop ended come_in
+  unfolding steps.stop ended payload_count_in
   ended_shows fault b messages faults slots =
       let one : m.totals.octets + 1 ≡ suc s.totals.octets = omega (arith, octets_are) in
       rw slots (record {
@@ -148,7 +148,7 @@ module _ (C : Table) (l : RequestTable) (most : ℕ) (m : FramingView) (s : Stat
     short = subst (λ (xs : List ℕ). length xs < 12) h.header few
 
     pub none_come : m.payload_count ≡ 0
-    unfolding come_in
+    unfolding payload_count_in
     none_come = h.payload_count ∙ rw (lt-ltb (length s.held) 12 short) refl
 
     octet_is : octet_at s x ≡ front_is front s.totals.messages (suc s.totals.octets) (wrong front)
@@ -171,7 +171,7 @@ module _ (C : Table) (l : RequestTable) (most : ℕ) (m : FramingView) (s : Stat
     not_full other = elim (cases_eq (length front) 12) [ inl e ↦ absurd (other e) | inr k ↦ omega (arith, few, length_push m.header x, k) ]
 
     pub held_shows : (length front ≡ 12 → ⊥) → Shows C l (steps.held_on m x) (held_on s front).state
-    unfolding steps.held_on held_on come_in
+    unfolding steps.held_on held_on payload_count_in
     held_shows other =
         let less = not_full other in
         record {

@@ -29,7 +29,7 @@ use Rattle.giop_stream.specs.EngineView.{FramingView}
 use Rattle.giop_stream.specs.EngineState.{State, state_of}
 use Rattle.giop_stream.specs.EngineStep.{runs}
 use Rattle.giop_stream.specs.ViewOfState.{IsReached, Shows, Does}
-use Rattle.giop_stream.specs.Octet.{header_of, come_of}
+use Rattle.giop_stream.specs.Octet.{header_of, payload_count_of}
 use Rattle.giop_stream.proofs.Cuts.Cutting.{next, of_parts, parts_by, cut_grows, next_payload}
 use Rattle.giop_stream.proofs.Cuts.CutFrom.{end_message}
 use Rattle.giop_stream.proofs.Events.AfterMoreEvents.{count_append}
@@ -283,4 +283,4 @@ module _ (C : Table) (l : RequestTable) (most : ℕ) (s : State) (reached : IsRe
       omega (arith, octets, all, length-append p q) ∙ sym (read_all (p ++ q) run.within.free) in
       shows_by C l most (p ++ q) b (cut (p ++ q)) refl run.within.free (λ j. record { messages = started j; faults = faulted j; octets = read j }) (stopped ∙ free)
       (header ∙ (header_is C l most s reached m h free c current ∙ ap (λ (o : Option Message). header_of o (cut (p ++ q)).held) (sym then)))
-      (omega (arith, payload_count, come_is C l most s reached m h free c current, length-append c.payload q) ∙ ap come_of (sym then)) (knows_so b.slots keeps)
+      (omega (arith, payload_count, come_is C l most s reached m h free c current, length-append c.payload q) ∙ ap payload_count_of (sym then)) (knows_so b.slots keeps)

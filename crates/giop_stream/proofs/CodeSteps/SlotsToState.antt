@@ -19,10 +19,10 @@ use Rattle.giop_stream.specs.OpenSlots.{Slot, OctetsByNumber, is_open, slots_of}
 use Rattle.giop_stream.specs.Effects.{Tracked, tracked_after}
 use Rattle.giop_stream.specs.SlotsRepresent.{RepresentsMessage, PayloadBelongs}
 use Rattle.giop_stream.specs.PayloadOwner.{SlotsRepresentStream, opener_key, owner_of_next, owner_of_next_in}
-use Rattle.giop_stream.specs.Octet.{header_of, come_of}
+use Rattle.giop_stream.specs.Octet.{header_of, payload_count_of}
 use Rattle.giop_stream.specs.EngineState.{State, Own, unless, left_of, is_named, owner_for, state_of}
 use Rattle.giop_stream.specs.EngineView.{FramingView}
-use Rattle.giop_stream.specs.ViewOfState.{IsOwn, IsOwner, IsTurn, Shows, come_in, comes_itself}
+use Rattle.giop_stream.specs.ViewOfState.{IsOwn, IsOwner, IsTurn, Shows, payload_count_in, comes_itself}
 use Rattle.giop_stream.proofs.Lists.{each_weaker}
 use Rattle.giop_stream.proofs.SlotSteps.OneSlotChanges.{at_index}
 use Rattle.giop_stream.proofs.SlotSteps.Parts.{in_turn}
@@ -38,7 +38,7 @@ come_by : (stop : Option (ℕ × StreamFault)) (current : Option Message) (held 
     → (stop ≡ None → IfSome current (λ m. (length m.header ≡ 12) × (length m.payload < size m.header)))
     → (stop ≡ None → length held < 12)
     → (if nat_lt (length (unless stop [] (header_of current held))) 12 then 0 else size
-    (unless stop [] (header_of current held)) - unless stop 0 (left_of current)) ≡ unless stop 0 (come_of current)
+    (unless stop [] (header_of current held)) - unless stop 0 (left_of current)) ≡ unless stop 0 (payload_count_of current)
 come_by (Some found) current held h k = refl
 come_by None None held h k = let short = k refl in rw (lt-ltb (length held) 12 short) refl
 come_by None (Some m) held h k = let fit = h refl in rw (le-ltb (length m.header) 12 (omega (arith, fit.0))) (omega (arith, fit.1))
@@ -53,7 +53,7 @@ itself None = false
 itself (Some m) = not (has_named m)
 
 itself_by : (stop : Option (ℕ × StreamFault)) → stop ≡ None → (current : Option Message) (held : List ℕ) (payload_count : ℕ)
-    → payload_count ≡ come_of current → IfSome current (λ m. (length m.header ≡ 12) × (length m.payload < size m.header))
+    → payload_count ≡ payload_count_of current → IfSome current (λ m. (length m.header ≡ 12) × (length m.payload < size m.header))
     → length held < 12
     → (nat_le 12 (length (unless stop [] (header_of current held))) && not
     (is_fragment (unless stop [] (header_of current held)) && nat_le 4 payload_count)) ≡ itself current
@@ -63,16 +63,16 @@ itself_by None st None held payload_count e h short = rw (lt-leb 12 (length held
 itself_by None st (Some m) held payload_count e h short = rw (e, le-leb 12 (length m.header) (omega (arith, h.0))) refl
 
 module _ (R : Rules) (p : List ℕ) (so : IsSound R p) where
-  pub come_state : come_in (state_of R p) ≡ unless (cut p).stop 0 (come_of (cut p).current)
-  unfolding come_in state_of
+  pub come_state : payload_count_in (state_of R p) ≡ unless (cut p).stop 0 (payload_count_of (cut p).current)
+  unfolding payload_count_in state_of
   come_state =
       come_by (cut p).stop (cut p).current (cut p).held (λ st. fits_of (length p) (cut p) (cut p).current (so.fits st).current) (λ st. (so.fits st).short)
 
   itself_state : (cut p).stop ≡ None → comes_itself (state_of R p) ≡ itself (cut p).current
   unfolding comes_itself state_of
   itself_state st =
-      let payload_count : come_in (state_of R p) ≡ come_of (cut p).current = come_state ∙ rw st refl in
-      itself_by (cut p).stop st (cut p).current (cut p).held (come_in (state_of R p)) payload_count
+      let payload_count : payload_count_in (state_of R p) ≡ payload_count_of (cut p).current = come_state ∙ rw st refl in
+      itself_by (cut p).stop st (cut p).current (cut p).held (payload_count_in (state_of R p)) payload_count
       (fits_of (length p) (cut p) (cut p).current (so.fits st).current) (so.fits st).short
 
 -- ---- The owner of the next octets, by number.
@@ -262,12 +262,12 @@ module _ (C : Table) (l : RequestTable) (most : ℕ) (p : List ℕ) where
 
   -- from the slots to the state, by the stream's cut, where the reading goes on
   pub shows_by : (m : FramingView) (c : Cut) → cut p ≡ c → c.stop ≡ None → m.totals ≡ tally R p → m.stopped ≡ None
-      → m.header ≡ header_of c.current c.held → m.payload_count ≡ come_of c.current → SlotsRepresentStream C l most m.slots p → Shows C l m (state_of R p)
+      → m.header ≡ header_of c.current c.held → m.payload_count ≡ payload_count_of c.current → SlotsRepresentStream C l most m.slots p → Shows C l m (state_of R p)
   unfolding state_of tracked_after
   shows_by m c e st totals stopped header payload_count knows =
       let goes_on : (cut p).stop ≡ None = ap (λ (d : Cut). d.stop) e ∙ st in
       let same : unless (cut p).stop [] (header_of (cut p).current (cut p).held) ≡ header_of c.current c.held = rw (e, st) refl in
-      let many : unless (cut p).stop 0 (come_of (cut p).current) ≡ come_of c.current = rw (e, st) refl in
+      let many : unless (cut p).stop 0 (payload_count_of (cut p).current) ≡ payload_count_of c.current = rw (e, st) refl in
       record {
         totals = totals;
         stopped = stopped ∙ ap fault_of (sym goes_on);

@@ -20,17 +20,17 @@ pub events_nothing : (most : ℕ) → events most [] ≡ []
 unfolding events events_from messages of_parts
 events_nothing most = rw (events, cut_nothing) refl
 
-pub said_nothing : (R : Rules) → lines_of_messages R [] ≡ []
+pub no_message_lines : (R : Rules) → lines_of_messages R [] ≡ []
 unfolding lines_of_messages in_order up_to_last_line
-said_nothing R = refl
+no_message_lines R = refl
 
 pub lines_nothing : (R : Rules) → lines R [] ≡ []
 unfolding of_parts stop_line
-lines_nothing R = lines_stopped R [] None (rw cut_nothing refl) ∙ rw (said_nothing R) refl
+lines_nothing R = lines_stopped R [] None (rw cut_nothing refl) ∙ rw (no_message_lines R) refl
 
 octets_nothing : (R : Rules) (i : ℕ) → octets_of R [] i ≡ Some []
 unfolding octets_of is_over joined
-octets_nothing R i = rw (octets_of, said_nothing R, events_nothing R.most) refl
+octets_nothing R i = rw (octets_of, no_message_lines R, events_nothing R.most) refl
 
 pub open_nothing : (most : ℕ) → open_after most [] ≡ []
 unfolding open_after opened

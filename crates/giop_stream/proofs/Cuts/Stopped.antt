@@ -10,7 +10,7 @@ use Rattle.giop_stream.specs.Lines.{lines}
 use Rattle.giop_stream.specs.Text.{lines_text}
 use Rattle.giop_stream.specs.Stream.{start_count, fault_count, text, tally}
 use Rattle.giop_stream.proofs.Cuts.Cutting.{next, parts_by, cut_grows, next_stopped}
-use Rattle.giop_stream.proofs.Events.AfterMoreEvents.{said_idle, lines_stopped}
+use Rattle.giop_stream.proofs.Events.AfterMoreEvents.{message_lines_same, lines_stopped}
 use Rattle.giop_stream.proofs.CodeSteps.EngineAlive.{early_events}
 
 cut_stays : (p : List ℕ) (x : ℕ) (found : ℕ × StreamFault) → (cut p).stop ≡ Some found → cut (p ++ x ∷ []) ≡ cut p
@@ -23,7 +23,7 @@ unfolding events
 one_stays R causal p x found h =
     let p' = p ++ x ∷ [] in
     let same = cut_stays p x found h in
-    let sd = said_idle R causal p p' (omega (arith, length_push p x)) (ap (λ (c : Cut). events_from R.most [] (messages c)) same) (early_events R.most p) in
+    let sd = message_lines_same R causal p p' (omega (arith, length_push p x)) (ap (λ (c : Cut). events_from R.most [] (messages c)) same) (early_events R.most p) in
     lines_stopped R p' (Some found) (ap (λ (c : Cut). c.stop) same ∙ h) ∙ (rw sd refl ∙ sym (lines_stopped R p (Some found) h))
 
 -- the fault stays

@@ -16,37 +16,37 @@ use Rattle.giop_stream.specs.Effects.{kept_with, kept_after}
 use Rattle.giop_stream.proofs.StreamLines.EventsTogether.{sorted_lines}
 use Rattle.giop_stream.proofs.Lists.{any_append}
 use Rattle.giop_stream.proofs.Events.EventsOfOctet.{opened_append}
-use Rattle.giop_stream.proofs.StreamLines.LinesOfOctet.{joined_append, heard, noted_each, told_heard, told_grows, in_order_grows, in_order_idle, standing_append, keeping, standing_all_lines}
+use Rattle.giop_stream.proofs.StreamLines.LinesOfOctet.{joined_append, lines_so_far, lines_so_far_each, lines_by_past, lines_grow, in_order_grows, in_order_idle, standing_append, keeping, standing_all_lines}
 
 -- After these events, from what holds before them.
-told_places : (R : MessageReader) → IsCausal R → (es : List Event) (n : ℕ) → Each (λ e. e.place ≤ n) es → Each (λ l. l.place ≤ n) (lines_of_events R es [] es)
-told_places R causal es n h = rw (told_heard R causal es [] es refl) (noted_each R (λ k. k ≤ n) [] es h)
+line_places : (R : MessageReader) → IsCausal R → (es : List Event) (n : ℕ) → Each (λ e. e.place ≤ n) es → Each (λ l. l.place ≤ n) (lines_of_events R es [] es)
+line_places R causal es n h = rw (lines_by_past R causal es [] es refl) (lines_so_far_each R (λ k. k ≤ n) [] es h)
 
-pub said_grows : (R : Rules) → IsCausal R.reading → (p p' : List ℕ) (es : List Event) → length p' ≡ suc (length p)
+pub message_lines_grow : (R : Rules) → IsCausal R.reading → (p p' : List ℕ) (es : List Event) → length p' ≡ suc (length p)
     → events R.most p' ≡ events R.most p ++ es → Each (λ e. e.place ≤ length p) (events R.most p) → Each (λ e. e.place ≡ suc (length p)) es
     → lines_of_messages R p' ≡ lines_of_messages R p ++ sorted_lines R.reading (octets_of R p) es
 unfolding lines_of_messages sorted_lines is_over octets_of keeping
-said_grows R causal p p' es len ev old new =
+message_lines_grow R causal p p' es len ev old new =
     let none : ℕ → Bool = λ i. false in
     let before = lines_of_events R.reading (events R.most p) [] (events R.most p) in
-    let more = heard R.reading (events R.most p) es in
+    let more = lines_so_far R.reading (events R.most p) es in
     rw (
       ev,
       len,
-      told_grows R.reading causal (events R.most p) es,
+      lines_grow R.reading causal (events R.most p) es,
       in_order_grows (length p) before more
-          (told_places R.reading causal (events R.most p) (length p) old)
-          (noted_each R.reading (λ k. k ≡ suc (length p)) (events R.most p) es new),
+          (line_places R.reading causal (events R.most p) (length p) old)
+          (lines_so_far_each R.reading (λ k. k ≡ suc (length p)) (events R.most p) es new),
       standing_append none (in_order (length p) before)
           (by_class more),
     )
     (ap (λ (ls : List Line). lines_of_messages R p ++ ls) (standing_all_lines R.reading (is_over R p) (events R.most p) es))
 
-pub said_idle : (R : Rules) → IsCausal R.reading → (p p' : List ℕ) → length p' ≡ suc (length p) → events R.most p' ≡ events R.most p
+pub message_lines_same : (R : Rules) → IsCausal R.reading → (p p' : List ℕ) → length p' ≡ suc (length p) → events R.most p' ≡ events R.most p
     → Each (λ e. e.place ≤ length p) (events R.most p) → lines_of_messages R p' ≡ lines_of_messages R p
 unfolding lines_of_messages
-said_idle R causal p p' len ev old =
-    rw (ev, len, in_order_idle (length p) (lines_of_events R.reading (events R.most p) [] (events R.most p)) (told_places R.reading causal (events R.most p) (length p) old)) refl
+message_lines_same R causal p p' len ev old =
+    rw (ev, len, in_order_idle (length p) (lines_of_events R.reading (events R.most p) [] (events R.most p)) (line_places R.reading causal (events R.most p) (length p) old)) refl
 
 octets_by : (over again : Bool) (xs ys : List ℕ)
     → (if over || again then None else Some (xs ++ ys))

@@ -13,8 +13,7 @@ use Rattle.giop_stream.specs.Events.{EventKind, Opens, Cancelled, Faults, Closes
 use Rattle.giop_stream.proofs.Lists.{each_append, each_filter}
 use Rattle.giop_stream.proofs.Events.EventsOfOctet.{opened_append, quiet_if, quiet_header, quiet_octet, quiet_continues, four}
 
--- ---- A property is kept that passes to fewer open messages, and to those with one more where an opener becomes
--- open.
+-- ---- A property is kept if it passes to fewer open messages, and to one more where an opener becomes open.
 
 unfoldable pub opened_by : Message → Open
 opened_by m = record { id = id m; opener = message_key m }

@@ -145,13 +145,13 @@ one_each R n e h so_far all (Faults fault) = (one_line n e h (Faulted fault) (λ
 one_each R n e h so_far all Closes =
     each_map (IsOne n) (λ l. line e (Said l.0 l.1)) (λ l. one_said n e h l.0 l.1) (R.closes e.subject.header so_far)
 
-told_each : (R : MessageReader) (n : ℕ) (all past es : List Event) → Each (λ e. IsNumber n e.subject.number) es
+lines_each : (R : MessageReader) (n : ℕ) (all past es : List Event) → Each (λ e. IsNumber n e.subject.number) es
     → Each (IsOne n) (lines_of_events R all past es)
 unfolding lines_of_events
-told_each R n all past [] h = tt
-told_each R n all past (e ∷ es) h =
+lines_each R n all past [] h = tt
+lines_each R n all past (e ∷ es) h =
     each_append (IsOne n) _ (lines_of_events R all (past ++ e ∷ []) es) (one_each R n e h.0 _ _ e.what)
-    (told_each R n all (past ++ e ∷ []) es h.1)
+    (lines_each R n all (past ++ e ∷ []) es h.1)
 
 order_each : (P : Line → Type 0) (n : ℕ) (ls : List Line) → Each P ls → Each P (in_order n ls)
 unfolding in_order by_class
@@ -232,7 +232,7 @@ unfolding lines_of_messages events
 said_few R p =
     let n = length (messages (cut p)) in
     let all = lines_of_events R.reading (events R.most p) [] (events R.most p) in
-    let ones = told_each R.reading n (events R.most p) [] (events R.most p) (events_each R.most (IsNumber n) [] (messages (cut p)) tt (numbers p)) in
+    let ones = lines_each R.reading n (events R.most p) [] (events R.most p) (events_each R.most (IsNumber n) [] (messages (cut p)) tt (numbers p)) in
     let most = faults_free n (λ i. false) (in_order (length p) all) (order_each (IsOne n) (length p) all ones) in
     omega (arith, most, all_free n)
 

@@ -22,7 +22,7 @@ use Rattle.giop_stream.proofs.Events.EventsOfOctet.{opened_append, events_from_p
 use Rattle.giop_stream.proofs.Events.EventsKeep.{Below, rising_events, IsFew, few_events, Differ, differ_events, AreOpeners, openers_events}
 use Rattle.giop_stream.proofs.StreamLines.LinesOfOctet.{joined_append, written_each, none_last, none_joined}
 use Rattle.giop_stream.proofs.StreamLines.StartLines.{start_append}
-use Rattle.giop_stream.proofs.Events.AfterMoreEvents.{said_grows, octets_grow, open_grows, lines_free}
+use Rattle.giop_stream.proofs.Events.AfterMoreEvents.{message_lines_grow, octets_grow, open_grows, lines_free}
 
 -- ---- The invariants.
 pub record CurrentFits (n : ℕ) (c : Cut) (m : Message) : Type 0 where
@@ -158,7 +158,7 @@ dealt_sound R causal p p' whole m len ec ev pl nm twelve st more low starts grow
     let owner_of_next : Each (λ e. e.subject.number ≤ all) es =
     events_of_octet_each R.most (λ e. e.subject.number ≤ all) still_open m (λ what. mine)
     (each_weaker (λ o. o.opener.number ≤ all) _ (λ o h what. h) still_open old) in
-    let sd = said_grows R causal p p' es len ev sound.places here in
+    let sd = message_lines_grow R causal p p' es len ev sound.places here in
     let now_free : (cut p').stop ≡ None = rw ec (settle_stop whole m) in
     let ln : lines R p' ≡ lines R p ++ ls = lines_free R p' now_free ∙ (sd ∙ rw (lines_free R p st) refl) in
     let sc : start_count (lines R p') ≡ start_count (lines R p) + start_count ls = ap start_count ln ∙ start_append (lines R p) ls in

@@ -21,7 +21,7 @@ use Rattle.giop_stream.proofs.Cuts.Cutting.{stopped_at, of_parts, settled_messag
 use Rattle.giop_stream.proofs.Cuts.CutFrom.{end_message}
 use Rattle.giop_stream.proofs.Events.EventsOfOctet.{events_of_octet_each}
 use Rattle.giop_stream.proofs.Events.EventsKeep.{Below}
-use Rattle.giop_stream.proofs.Events.AfterMoreEvents.{said_grows, said_idle, open_grows, open_idle}
+use Rattle.giop_stream.proofs.Events.AfterMoreEvents.{message_lines_grow, message_lines_same, open_grows, open_idle}
 use Rattle.giop_stream.proofs.Events.Soundness.{settled_if, IsSound}
 use Rattle.giop_stream.proofs.Events.StepCases.{if_some}
 use Rattle.giop_stream.proofs.Cuts.Start.{cut_nothing, open_nothing}
@@ -147,7 +147,7 @@ complete_deal R causal ending p p' whole m len ec ev old pl fits low start known
     let here : Each (λ e. e.place ≡ suc (length p)) es =
     events_of_octet_each R.most (λ e. e.place ≡ suc (length p)) still_open m (λ what. pl)
     (all_by (λ (o : Open). (what : EventKind) → place m ≡ suc (length p)) (λ o what. pl) still_open) in
-    let sd = said_grows R causal p p' es len ev old here in
+    let sd = message_lines_grow R causal p p' es len ev old here in
     let over = is_over R p' in
     let d : Each (Dead over) es = dead R ending p p' es sd in
     let mix : (i : ℕ) → over i ≡ (is_over R p i || list_any (is_last_of i) ls) = λ i. is_over_grows R p p' ls i sd in
@@ -231,7 +231,7 @@ module _ (R : Rules) (causal : IsCausal R.reading) (ending : IsEnding R.reading)
   idle c e ms cur =
       let ev = ap (λ (d : Cut). events_from R.most [] (messages d)) e ∙ ap (events_from R.most []) ms in
       complete_quiet R p (p ++ x ∷ []) (ap messages e ∙ ms) (ap (λ (d : Cut). d.current) e ∙ cur) ev
-      (said_idle R causal p (p ++ x ∷ []) len ev sound.places) complete
+      (message_lines_same R causal p (p ++ x ∷ []) len ev sound.places) complete
 
   complete_then : (o : Octet) → Then R p x o → IsComplete R (p ++ x ∷ [])
   unfolding of_parts stopped_at messages

@@ -10,7 +10,7 @@ use Rattle.giop_message.specs.Signatures.{RequestTable}
 use Rattle.giop_message.specs.Stored.{Stored}
 use Rattle.giop_checkpoint.specs.declared.record.Record.{Record}
 use Rattle.giop_checkpoint.specs.declared.record.FirstRecord.{FirstRecord}
-use Rattle.giop_checkpoint.specs.declared.record.RecordKind.TheVariants as standings
+use Rattle.giop_checkpoint.specs.declared.record.RecordKind.TheVariants as record_kinds
 use Rattle.giop_checkpoint.specs.Records.{Entry, EntryHasRange, entry_octets}
 use Rattle.giop_stream.specs.SlotsRepresent.{OpenEntry}
 use Rattle.giop_stream.specs.declared.slots.Slots.{Slots}
@@ -43,19 +43,19 @@ stored_in m e first is entry =
     let Q : List ℕ → Type 0 = λ xs. Stored m e.message xs in
     subst P (sym entry.message) (subst Q (sym entry.frames) is.stored)
 
-open_id : (a b : ℕ) → standings.Open a ≡ standings.Open b → a ≡ b
+open_id : (a b : ℕ) → record_kinds.Open a ≡ record_kinds.Open b → a ≡ b
 open_id a b e = cc
 
-over_id : (a b : ℕ) → standings.Over a ≡ standings.Over b → a ≡ b
+over_id : (a b : ℕ) → record_kinds.Over a ≡ record_kinds.Over b → a ≡ b
 over_id a b e = cc
 
-over_not_open : (a b : ℕ) → standings.Over a ≡ standings.Open b → ⊥
+over_not_open : (a b : ℕ) → record_kinds.Over a ≡ record_kinds.Open b → ⊥
 over_not_open a b e = cc
 
-open_not_over : (a b : ℕ) → standings.Open a ≡ standings.Over b → ⊥
+open_not_over : (a b : ℕ) → record_kinds.Open a ≡ record_kinds.Over b → ⊥
 open_not_over a b e = cc
 
-current_none : (m : Option Message) (id : ℕ) → standing_of m id ≡ standings.Current → ⊥
+current_none : (m : Option Message) (id : ℕ) → standing_of m id ≡ record_kinds.Current → ⊥
 current_none None id e = cc
 current_none (Some m) id e = cc
 
@@ -71,17 +71,17 @@ Restores C octets first found =
 
 module _ (C : Table) (l : RequestTable) (first : FirstRecord) where
   -- the record is this entry of an open message, which represents these octets
-  record IsOf (e : Entry) (w : MessageKey) (message : Option Message) (payload_count : Option (List ℕ)) (id : ℕ) : Type 0 where
+  record IsOf (e : Entry) (w : MessageKey) (message : Option Message) (message_octets : Option (List ℕ)) (id : ℕ) : Type 0 where
     entry : IsEntry first e
     record_kind : first.«record».record_kind ≡ standing_of message id
     stored : IsStored message e
-    kept : RepresentsMessage C l message w payload_count
+    kept : RepresentsMessage C l message w message_octets
     number : w.number ≡ first.«record».number
     header : w.header ≡ first.«record».header
 
   -- such a message is restored
   abbrev IsAgain : MessageKey → Option Message → Option (List ℕ) → Type 0
-  IsAgain w found payload_count = (is_some found ≡ true) × RepresentsMessage C l found w payload_count
+  IsAgain w found message_octets = (is_some found ≡ true) × RepresentsMessage C l found w message_octets
 
   is_again : (w : MessageKey) (xs : List ℕ) (found : Option Message) →
       IsSomeAnd found (λ m. Follows C l w.number w.header m xs) → IsAgain w found (Some xs)
@@ -90,14 +90,14 @@ module _ (C : Table) (l : RequestTable) (first : FirstRecord) where
 
   -- a message that is over: no frames, and zeros for its octets
   abbrev IsNothing : MessageKey → Option (List ℕ) → Type 0
-  IsNothing w payload_count = (first.frames.now ≡ []) × (first.message ≡ replicate 224 0) × RepresentsMessage C l None w payload_count
+  IsNothing w message_octets = (first.frames.now ≡ []) × (first.message ≡ replicate 224 0) × RepresentsMessage C l None w message_octets
 
-  over_by : (e : Entry) (w : MessageKey) (message : Option Message) (payload_count : Option (List ℕ)) (kid id : ℕ) →
-      IsOf e w message payload_count kid → first.«record».record_kind ≡ standings.Over id → (kid ≡ id) × IsNothing w payload_count
+  over_by : (e : Entry) (w : MessageKey) (message : Option Message) (message_octets : Option (List ℕ)) (kid id : ℕ) →
+      IsOf e w message message_octets kid → first.«record».record_kind ≡ record_kinds.Over id → (kid ≡ id) × IsNothing w message_octets
   over_by e w None None kid id is over =
       (over_id kid id (sym is.record_kind ∙ over), (is.entry.frames ∙ is.stored.1, is.entry.message ∙ is.stored.0, tt))
   over_by e w None (Some xs) kid id is over = absurd is.kept
-  over_by e w (Some m) payload_count kid id is over = absurd (open_not_over kid id (sym is.record_kind ∙ over))
+  over_by e w (Some m) message_octets kid id is over = absurd (open_not_over kid id (sym is.record_kind ∙ over))
 
 module _ (C : Table) (l : RequestTable) (octets : ℕ) (first : FirstRecord) where
   pub current_again : (o : Own) (found : Option Message) → IsCurrentEntry C l (octets + 1) first o →
@@ -113,10 +113,10 @@ module _ (C : Table) (l : RequestTable) (octets : ℕ) (first : FirstRecord) whe
       framing_view None h = absurd h
       framing_view (Some x) h = (refl, h)
 
-  open_by : (e : Entry) (w : MessageKey) (found message : Option Message) (payload_count : Option (List ℕ)) (kid id : ℕ) →
-      IsOf C l first e w message payload_count kid → first.«record».record_kind ≡ standings.Open id →
-      IsReady C (octets + 1) message → Restores C octets first found → (kid ≡ id) × IsAgain C l first w found payload_count
-  open_by e w found None payload_count kid id is opened ready again =
+  open_by : (e : Entry) (w : MessageKey) (found message : Option Message) (message_octets : Option (List ℕ)) (kid id : ℕ) →
+      IsOf C l first e w message message_octets kid → first.«record».record_kind ≡ record_kinds.Open id →
+      IsReady C (octets + 1) message → Restores C octets first found → (kid ≡ id) × IsAgain C l first w found message_octets
+  open_by e w found None message_octets kid id is opened ready again =
       absurd (over_not_open kid id (sym is.record_kind ∙ opened))
   open_by e w found (Some m) None kid id is opened ready again = absurd is.kept
   open_by e w found (Some m) (Some xs) kid id is opened ready again = (
@@ -147,7 +147,7 @@ module _ (C : Table) (l : RequestTable) (at : ℕ) (first : FirstRecord) (held :
     message = kept;
   }
 
-  pub over_again : (id : ℕ) → IsOpenEntry C l at first held → first.«record».record_kind ≡ standings.Over id →
+  pub over_again : (id : ℕ) → IsOpenEntry C l at first held → first.«record».record_kind ≡ record_kinds.Over id →
       (first.frames.now ≡ []) × (first.message ≡ replicate 224 0) × IsSlot C l (pushed first id None) held
   over_again id is over =
       let made = over_by C l first is.entry held.open_as.opener is.kept.value.message held.octets is.kept.key id (of_slot is) over in
@@ -155,12 +155,12 @@ module _ (C : Table) (l : RequestTable) (at : ℕ) (first : FirstRecord) (held :
 
   -- ---- which message a record is of: an open one or the current one
 
-  pub open_not_current : IsOpenEntry C l at first held → first.«record».record_kind ≡ standings.Current → ⊥
+  pub open_not_current : IsOpenEntry C l at first held → first.«record».record_kind ≡ record_kinds.Current → ⊥
   open_not_current is e =
       current_none is.kept.value.message is.kept.key (sym is.entry_is.record_kind ∙ sym (standing_in first is.entry is.read) ∙ e)
 
 pub open_again : (C : Table) (l : RequestTable) (octets : ℕ) (first : FirstRecord) (held : Held) (id : ℕ) (found : Option Message) →
-    IsOpenEntry C l (octets + 1) first held → first.«record».record_kind ≡ standings.Open id →
+    IsOpenEntry C l (octets + 1) first held → first.«record».record_kind ≡ record_kinds.Open id →
     Restores C octets first found → (is_some found ≡ true) × IsSlot C l (pushed first id found) held
 open_again C l octets first held id found is opened again =
     let made = open_by C l octets first is.entry held.open_as.opener found is.kept.value.message held.octets is.kept.key id
@@ -168,14 +168,14 @@ open_again C l octets first held id found is opened again =
     (made.1.0, slot_again C l (octets + 1) first held id found is made.0 made.1.1)
 
 module _ (C : Table) (l : RequestTable) (at : ℕ) (first : FirstRecord) (o : Own) (id : ℕ) where
-  standing_now : IsCurrentEntry C l at first o → standings.Current ≡ first.«record».record_kind
+  standing_now : IsCurrentEntry C l at first o → record_kinds.Current ≡ first.«record».record_kind
   standing_now is = sym (standing_in first is.entry is.read ∙ is.entry_is.standing_is)
 
-  pub current_not_open : IsCurrentEntry C l at first o → first.«record».record_kind ≡ standings.Open id → ⊥
-  current_not_open is e = let never : standings.Current ≡ standings.Open id = standing_now is ∙ e in cc
+  pub current_not_open : IsCurrentEntry C l at first o → first.«record».record_kind ≡ record_kinds.Open id → ⊥
+  current_not_open is e = let never : record_kinds.Current ≡ record_kinds.Open id = standing_now is ∙ e in cc
 
-  pub current_not_over : IsCurrentEntry C l at first o → first.«record».record_kind ≡ standings.Over id → ⊥
-  current_not_over is e = let never : standings.Current ≡ standings.Over id = standing_now is ∙ e in cc
+  pub current_not_over : IsCurrentEntry C l at first o → first.«record».record_kind ≡ record_kinds.Over id → ⊥
+  current_not_over is e = let never : record_kinds.Current ≡ record_kinds.Over id = standing_now is ∙ e in cc
 
 -- ---- the open messages that were added
 

@@ -22,7 +22,7 @@ use Rattle.giop_stream.specs.Events.{open_after}
 use Rattle.giop_stream.specs.OpenSlots.{Slot as Held, octets_of}
 use Rattle.giop_stream.specs.EngineState.{State, Own, unless, state_of}
 use Rattle.giop_stream.specs.SlotsRepresent.{AreSlots}
-use Rattle.giop_stream.specs.ViewOfState.{IsOwn, IsOwner, IsTurn, Shows, come_in, comes_itself}
+use Rattle.giop_stream.specs.ViewOfState.{IsOwn, IsOwner, IsTurn, Shows, payload_count_in, comes_itself}
 use Rattle.giop_stream.specs.EngineView.{FramingView}
 use Rattle.giop_stream.specs.Checkpoint.{place_of, owner_of, fixed_of, Spells}
 use Rattle.giop_stream.specs.Reloading as fields
@@ -107,34 +107,34 @@ header_again (Some fault) header payload_count behind = sym (behind fault refl)
 header_again None header payload_count behind = header_by (nat_lt (length header) 12) header payload_count
 
 -- how many payload octets have come, from how many are still to come
-abbrev come_of : Bool → List ℕ → ℕ → ℕ
-come_of b header left = if b then 0 else size header - left
+abbrev payload_count_of : Bool → List ℕ → ℕ → ℕ
+payload_count_of b header left = if b then 0 else size header - left
 
 twice : (n k : ℕ) → n - (n - (n - k)) ≡ n - k
 twice n k = omega arith
 
-come_by : (b : Bool) (header : List ℕ) (left payload_count : ℕ) → payload_count ≡ come_of b header left →
-    fields.come_in (running_place b header payload_count) ≡ payload_count
+come_by : (b : Bool) (header : List ℕ) (left payload_count : ℕ) → payload_count ≡ payload_count_of b header left →
+    fields.payload_count_in (running_place b header payload_count) ≡ payload_count
 come_by true header left payload_count e = sym e
 come_by false header left payload_count e = rw e (twice (size header) left)
 
 come_again : (stopped : Option StreamFault) (header : List ℕ) (left payload_count : ℕ) → IsBehind stopped header →
-    payload_count ≡ come_of (nat_lt (length header) 12) header left → fields.come_in (place_of stopped header payload_count) ≡ payload_count
+    payload_count ≡ payload_count_of (nat_lt (length header) 12) header left → fields.payload_count_in (place_of stopped header payload_count) ≡ payload_count
 come_again (Some fault) header left payload_count behind e =
-    sym (e ∙ ap (λ (xs : List ℕ). come_of (nat_lt (length xs) 12) xs left) (behind fault refl))
+    sym (e ∙ ap (λ (xs : List ℕ). payload_count_of (nat_lt (length xs) 12) xs left) (behind fault refl))
 come_again None header left payload_count behind e = come_by (nat_lt (length header) 12) header left payload_count e
 
 -- whether the next octets belong to the current message itself
 abbrev own_comes : List ℕ → ℕ → Bool
 own_comes header payload_count = nat_le 12 (length header) && not (is_fragment header && nat_le 4 payload_count)
 
-itself_by : (b : Bool) (header : List ℕ) (left payload_count : ℕ) → nat_lt (length header) 12 ≡ b → payload_count ≡ come_of b header left →
+itself_by : (b : Bool) (header : List ℕ) (left payload_count : ℕ) → nat_lt (length header) 12 ≡ b → payload_count ≡ payload_count_of b header left →
     fields.comes_in (running_place b header payload_count) ≡ own_comes header payload_count
 itself_by true header left payload_count short e = rw (lt-leb 12 (length header) (omega (arith, ltb-true (length header) 12 short))) refl
 itself_by false header left payload_count long e =
     rw (le-leb 12 (length header) (omega (arith, ltb-false (length header) 12 long)), come_by false header left payload_count e) refl
 
-itself_again : (header : List ℕ) (left payload_count : ℕ) → payload_count ≡ come_of (nat_lt (length header) 12) header left →
+itself_again : (header : List ℕ) (left payload_count : ℕ) → payload_count ≡ payload_count_of (nat_lt (length header) 12) header left →
     fields.comes_in (place_of None header payload_count) ≡ own_comes header payload_count
 itself_again header left payload_count e = itself_by (nat_lt (length header) 12) header left payload_count refl e
 
@@ -183,7 +183,7 @@ pub record IsReadAs (m : FramingView) (fixed : Fixed) (made : Slots) : Type 0 wh
   pub totals : m.totals ≡ record { messages = fixed.messages; faults = fixed.faults; octets = fixed.octets }
   pub stopped : m.stopped ≡ fields.stop_in fixed.place
   pub header : m.header ≡ fields.header_in fixed.place
-  pub payload_count : m.payload_count ≡ fields.come_in fixed.place
+  pub payload_count : m.payload_count ≡ fields.payload_count_in fixed.place
   pub payload : m.slots.payload ≡ fields.payload_of fixed.owner (fields.comes_in fixed.place) (length made.slots.entries)
   pub slots : m.slots.slots ≡ made.slots
   pub own : m.slots.own ≡ made.own
@@ -209,11 +209,11 @@ module _ (octets p : List ℕ) (C : Table) (l : RequestTable) (most : ℕ) (s : 
   unfolding state
   behind fault e = s.shows.header ∙ held_behind (rules C l most) p fault (sym s.shows.stopped ∙ e)
 
-  come_is : s.memory.payload_count ≡ come_of (nat_lt (length s.memory.header) 12) s.memory.header state.left
-  unfolding state come_in
+  come_is : s.memory.payload_count ≡ payload_count_of (nat_lt (length s.memory.header) 12) s.memory.header state.left
+  unfolding state payload_count_in
   come_is =
       s.shows.payload_count
-      ∙ ap (λ (xs : List ℕ). come_of (nat_lt (length xs) 12) xs (state_of (rules C l most) p).left) (sym s.shows.header)
+      ∙ ap (λ (xs : List ℕ). payload_count_of (nat_lt (length xs) 12) xs (state_of (rules C l most) p).left) (sym s.shows.header)
 
   -- whether the next octets belong to the current message itself, by the place that was written
   itself_now : Option StreamFault → Bool

@@ -22,7 +22,7 @@ use Rattle.giop_print.proofs.Writing.{wrote-nil, wrote-front, front-append}
 use Rattle.giop_stream.specs.declared.fault.Stop.{Stop}
 use Rattle.giop_stream.specs.EngineHolds.{Holds, StopWrites}
 use Rattle.giop_stream.specs.EngineView.{FramingView, EngineView}
-use Rattle.giop_checkpoint.specs.declared.record.RecordKind.TheVariants as standings
+use Rattle.giop_checkpoint.specs.declared.record.RecordKind.TheVariants as record_kinds
 use Rattle.giop_stream.proofs.Restored.LoadRanges.{few_slots}
 use Rattle.giop_stream.proofs.Restored.SavedSizes.{HasRoom, whole_long, whole_within}
 use Rattle.giop_stream.specs.Checkpoint.{standing_of, IsHeld, IsStored, IsOpen, IsMessageRecord, IsCurrent, IsPutOne, IsPut, AreOpen, AreEntries, fixed_of, checkpoint_octets, IsPutWhole, Puts, PutsSuch, Spells, Saves}
@@ -63,7 +63,7 @@ put_more slots slot before between after some one = record {
 
 -- a message that is over is written as zeros, after the record's own octets
 pub over_is : (slot : OpenEntry) (r : Record) (before between after : List ℕ) → slot.value.message ≡ None → RecordHasRange r
-    → r.frames ≡ 0 → r.record_kind ≡ standings.Over slot.key → r.number ≡ slot.value.number → r.header ≡ slot.value.header
+    → r.frames ≡ 0 → r.record_kind ≡ record_kinds.Over slot.key → r.number ≡ slot.value.number → r.header ≡ slot.value.header
     → between ≡ before ++ own_octets r → after ≡ between ++ replicate 224 0 → IsPutOne before after (IsOpen slot)
 over_is slot r before between after none range few record_kind number header put zeros = record {
   entry = record { record_is = r; message = replicate 224 0; frames = [] };
@@ -84,7 +84,7 @@ over_is slot r before between after none range few record_kind number header put
 
 -- a message that isn't over
 pub open_is : (slot : OpenEntry) (m : Message) (before after : List ℕ) → slot.value.message ≡ Some m
-    → IsPutOne before after (IsMessageRecord (standings.Open slot.key) slot.value.number slot.value.header m)
+    → IsPutOne before after (IsMessageRecord (record_kinds.Open slot.key) slot.value.number slot.value.header m)
     → IsPutOne before after (IsOpen slot)
 open_is slot m before after some put = record {
   entry = put.entry;
@@ -176,7 +176,7 @@ ready_at C at slots i slot low is ready = let P : OpenEntry → Type 0 = λ s. I
     read (x ∷ xs) (suc j) low ready = read xs j (omega (arith, low)) ready.1
 
 pub current_is : (m : Message) (number : ℕ) (header before after : List ℕ) → number ≡ m.number → header ≡ m.header
-    → IsPutOne before after (IsMessageRecord standings.Current number header m) → IsPutOne before after (IsCurrent m)
+    → IsPutOne before after (IsMessageRecord record_kinds.Current number header m) → IsPutOne before after (IsCurrent m)
 current_is m number header before after n h put = record {
   entry = put.entry;
   is = record {

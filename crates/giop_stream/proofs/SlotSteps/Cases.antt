@@ -99,7 +99,7 @@ pub octet_lost : (R : MessageReader) (c : Tracked) (still_open : List Open) (m :
 unfolding payload_events goes_past
 octet_lost R c still_open m h e = rw (h, e) (effects_nobody R c m (Takes (get_or m.payload (length m.payload - 1) 0)))
 
--- ---- A request id: of a Fragment,
+-- ---- The request id of a Fragment.
 
 pub fragment_unknown : (R : Rules) (c : Tracked) (still_open : List Open) (m : Message) → is_fragment m.header ≡ true
     → opener_of still_open m ≡ None → effects R.reading c (events_at_request_id R.most still_open m) ≡ one_effect R.reading c (place m) (message_key m) (Faults NoOpen)
@@ -140,7 +140,7 @@ unfolding request_id_events
 fragment_out_of_order R c still_open m o xs f e k s =
     rw (f, e, s) (goes_first R.reading c m o xs (event_of_open (now_of m) (Some o) (Faults FragmentOrder)) k ∙ rw (effects_about R.reading c m o (Faults FragmentOrder)) refl)
 
--- of a message that has fragments,
+-- ---- The request id of a message that has fragments.
 
 pub opener_twice : (R : Rules) (c : Tracked) (still_open : List Open) (m : Message) (o : Open) → is_fragment m.header ≡ false
     → is_opener m.header ≡ true → opener_of still_open m ≡ Some o
@@ -160,7 +160,7 @@ pub opener_opens : (R : Rules) (c : Tracked) (still_open : List Open) (m : Messa
 unfolding request_id_events
 opener_opens R c still_open m f h e n = rw (f, h, e, lt-leb R.most (length still_open) n) (effects_own R.reading c m (Opens (id m)))
 
--- of a CancelRequest,
+-- ---- The request id of a CancelRequest.
 
 pub cancel_closes : (R : Rules) (c : Tracked) (still_open : List Open) (m : Message) (o : Open) → is_fragment m.header ≡ false
     → is_opener m.header ≡ false → is_cancel m.header ≡ true → opener_of still_open m ≡ Some o
@@ -179,7 +179,7 @@ pub cancel_misses : (R : Rules) (c : Tracked) (still_open : List Open) (m : Mess
 unfolding request_id_events
 cancel_misses R c still_open m f g h e = rw (f, g, h, e) (effects_none R.reading c)
 
--- and of any other message.
+-- ---- The request id of any other message.
 
 pub other_id : (R : Rules) (c : Tracked) (still_open : List Open) (m : Message) → is_fragment m.header ≡ false
     → is_opener m.header ≡ false → is_cancel m.header ≡ false → effects R.reading c (events_at_request_id R.most still_open m) ≡ no_effect c

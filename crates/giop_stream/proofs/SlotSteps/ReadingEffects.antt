@@ -25,13 +25,13 @@ use Rattle.giop_stream.specs.DoesEffect.{WritesLines, one_if}
 
 -- ---- Lines that a reader gives.
 
-abbrev said_lines : ℕ → ℕ → List TimedLine → List Line
-said_lines at number rs = map (λ r. record { place = at; number = number; content = Said r.line_class r.text }) rs
+abbrev reader_lines : ℕ → ℕ → List TimedLine → List Line
+reader_lines at number rs = map (λ r. record { place = at; number = number; content = Said r.line_class r.text }) rs
 
 abbrev close_lines : ℕ → ℕ → List (LineClass × List ℕ) → List Line
 close_lines at number cs = map (λ c. record { place = at; number = number; content = Said c.0 c.1 }) cs
 
-said_is : (at number : ℕ) (rs : List TimedLine) → lines_text (said_lines at number rs) ≡ numbered_lines at number rs
+said_is : (at number : ℕ) (rs : List TimedLine) → lines_text (reader_lines at number rs) ≡ numbered_lines at number rs
 unfolding lines_text numbered_lines
 said_is at number [] = refl
 said_is at number (r ∷ rs) = ap (λ (t : List ℕ). line_class_text at number r.line_class r.text ++ t) (said_is at number rs)
@@ -77,7 +77,7 @@ few_at_close a b c more (inl e) = absurd cc
 few_at_close a b c more (inr (inl e)) = absurd cc
 few_at_close a b c more (inr (inr e)) = absurd cc
 
-turn_stands : (at n : ℕ) (rs : List TimedLine) → AreInLineOrder (map (λ r. r.line_class) rs) → up_to_last_line (λ i. false) (said_lines at n rs) ≡ said_lines at n rs
+turn_stands : (at n : ℕ) (rs : List TimedLine) → AreInLineOrder (map (λ r. r.line_class) rs) → up_to_last_line (λ i. false) (reader_lines at n rs) ≡ reader_lines at n rs
 unfolding up_to_last_line is_last_of
 turn_stands at n (r ∷ s ∷ []) h = let e = two_values r.line_class s.line_class h in rw (e.0, eq-eqb n n refl) refl
 turn_stands at n (r ∷ s ∷ t ∷ rs) h = absurd (few_in_turn r.line_class s.line_class t.line_class (map (λ r. r.line_class) rs) h)
@@ -88,13 +88,13 @@ unfolding fault_count
 one_fault at n Value text = refl
 one_fault at n _ text = refl
 
-turn_faults : (at n : ℕ) (rs : List TimedLine) → AreInLineOrder (map (λ r. r.line_class) rs) → fault_count (said_lines at n rs) ≡ (if list_any (λ r. is_fault r.line_class) rs then 1 else 0)
+turn_faults : (at n : ℕ) (rs : List TimedLine) → AreInLineOrder (map (λ r. r.line_class) rs) → fault_count (reader_lines at n rs) ≡ (if list_any (λ r. is_fault r.line_class) rs then 1 else 0)
 unfolding fault_count
 turn_faults at n [] h = refl
 turn_faults at n (r ∷ []) h = unfold fault_count in one_fault at n r.line_class r.text
 turn_faults at n (r ∷ s ∷ []) h = go (two_values r.line_class s.line_class h)
   where
-    go : (r.line_class ≡ Value) × ((s.line_class ≡ Call) ⊎ (s.line_class ≡ Fault)) → fault_count (said_lines at n (r ∷ s ∷ [])) ≡ (if list_any (λ r. is_fault r.line_class) (r ∷ s ∷ []) then 1 else 0)
+    go : (r.line_class ≡ Value) × ((s.line_class ≡ Call) ⊎ (s.line_class ≡ Fault)) → fault_count (reader_lines at n (r ∷ s ∷ [])) ≡ (if list_any (λ r. is_fault r.line_class) (r ∷ s ∷ []) then 1 else 0)
     go (e, inl c) = rw (e, c) refl
     go (e, inr c) = rw (e, c) refl
 turn_faults at n (r ∷ s ∷ t ∷ rs) h = absurd (few_in_turn r.line_class s.line_class t.line_class (map (λ r. r.line_class) rs) h)
@@ -103,13 +103,13 @@ one_last : (s : LineClass) → AreInLineOrder (s ∷ []) → is_last s ≡ is_fa
 one_last End h = absurd (no_end h)
 one_last _ h = refl
 
-turn_last : (at n : ℕ) (rs : List TimedLine) → AreInLineOrder (map (λ r. r.line_class) rs) → list_any (is_last_of n) (said_lines at n rs) ≡ list_any (λ r. is_fault r.line_class) rs
+turn_last : (at n : ℕ) (rs : List TimedLine) → AreInLineOrder (map (λ r. r.line_class) rs) → list_any (is_last_of n) (reader_lines at n rs) ≡ list_any (λ r. is_fault r.line_class) rs
 unfolding is_last_of
 turn_last at n [] h = refl
 turn_last at n (r ∷ []) h = rw (eq-eqb n n refl) (ap (λ (b : Bool). b || false) (one_last r.line_class h))
 turn_last at n (r ∷ s ∷ []) h = go (two_values r.line_class s.line_class h)
   where
-    go : (r.line_class ≡ Value) × ((s.line_class ≡ Call) ⊎ (s.line_class ≡ Fault)) → list_any (is_last_of n) (said_lines at n (r ∷ s ∷ [])) ≡ list_any (λ r. is_fault r.line_class) (r ∷ s ∷ [])
+    go : (r.line_class ≡ Value) × ((s.line_class ≡ Call) ⊎ (s.line_class ≡ Fault)) → list_any (is_last_of n) (reader_lines at n (r ∷ s ∷ [])) ≡ list_any (λ r. is_fault r.line_class) (r ∷ s ∷ [])
     go (e, inl c) = rw (e, c, eq-eqb n n refl) refl
     go (e, inr c) = rw (e, c, eq-eqb n n refl) refl
 turn_last at n (r ∷ s ∷ t ∷ rs) h = absurd (few_in_turn r.line_class s.line_class t.line_class (map (λ r. r.line_class) rs) h)
@@ -169,7 +169,7 @@ module _ (C : Table) (l : RequestTable) where
   at_close : (header xs : List ℕ) → AtClose (map (λ c. c.0) (R_of.closes header xs))
   at_close header xs = (is_closing (signatures_of C l)).closed header xs
 
-  take_lines : (at : ℕ) (w : MessageKey) (xs : List ℕ) (x : ℕ) → lines_of R_of (event at w (Takes x)) (Some xs) ≡ said_lines at w.number (due R_of w.header xs x)
+  take_lines : (at : ℕ) (w : MessageKey) (xs : List ℕ) (x : ℕ) → lines_of R_of (event at w (Takes x)) (Some xs) ≡ reader_lines at w.number (due R_of w.header xs x)
   unfolding lines_of lines_for lines_of_event line
   take_lines at w xs x = rw (one_octet at w x) (turn_stands at w.number (due R_of w.header xs x) (in_turn w.header xs x))
 
@@ -195,25 +195,25 @@ module _ (C : Table) (l : RequestTable) where
 
   -- ---- A close.
 
-  shut_text : (P : List ℕ → Type 0) (w : MessageKey) (at : ℕ) (xs : List ℕ) → P (closing_text w.number at (close (stage_of (message (signatures_of C l) w.header xs))))
+  close_text : (P : List ℕ → Type 0) (w : MessageKey) (at : ℕ) (xs : List ℕ) → P (closing_text w.number at (close (stage_of (message (signatures_of C l) w.header xs))))
       → P (lines_text (lines_of R_of (event at w Closes) (Some xs)))
-  shut_text P w at xs p =
+  close_text P w at xs p =
       let text : lines_text (lines_of R_of (event at w Closes) (Some xs)) ≡ closing_text w.number at (close (stage_of (message (signatures_of C l) w.header xs))) =
       ap lines_text (closing_lines at w xs) ∙ (closed_is at w.number (R_of.closes w.header xs) ∙ sym (close_is (signatures_of C l) w.number at w.header xs)) in
       subst P (sym text) p
 
-  shut_by : (at : ℕ) (w : MessageKey) (xs : List ℕ) → fault_count (lines_of R_of (event at w Closes) (Some xs)) ≡ one_if (is_short (close (stage_of (message (signatures_of C l) w.header xs))))
-  shut_by at w xs = rw (closing_lines at w xs, close_short (signatures_of C l) w.header xs) (close_faults at w.number (R_of.closes w.header xs) (at_close w.header xs))
+  close_by : (at : ℕ) (w : MessageKey) (xs : List ℕ) → fault_count (lines_of R_of (event at w Closes) (Some xs)) ≡ one_if (is_short (close (stage_of (message (signatures_of C l) w.header xs))))
+  close_by at w xs = rw (closing_lines at w xs, close_short (signatures_of C l) w.header xs) (close_faults at w.number (R_of.closes w.header xs) (at_close w.header xs))
 
-  pub shut_says : {E : Type 0} (m : Message) (w : MessageKey) (o : Option (List ℕ)) (at : ℕ) (r : Result Bool E) (a b : OutLog) → RepresentsMessage C l (Some m) w o
+  pub close_writes : {E : Type 0} (m : Message) (w : MessageKey) (o : Option (List ℕ)) (at : ℕ) (r : Result Bool E) (a b : OutLog) → RepresentsMessage C l (Some m) w o
       → ((number : ℕ) (header s : List ℕ) → Follows C l number header m s → Writes r a b (closing_text number at (close (stage_of (message (signatures_of C l) header s)))))
       → IfOk r (λ short. (kept : RequestTable) (number : ℕ) (header s : List ℕ) → Follows C kept number header m s → short ≡ is_short (close (stage_of (message (signatures_of C kept) header s))))
       → WritesLines one_if r a b (lines_of R_of (event at w Closes) o)
-  shut_says m w None at r a b k text short = absurd k
-  shut_says m w (Some xs) at (Err e) a b k text short = record { text = shut_text (WroteFront a b) w at xs (text w.number w.header xs k); faults = tt; kept = tt }
-  shut_says m w (Some xs) at (Ok answer) a b k text short = record {
-    text = shut_text (Wrote a b) w at xs (text w.number w.header xs k);
-    faults = shut_by at w xs ∙ ap one_if (sym (short l w.number w.header xs k));
+  close_writes m w None at r a b k text short = absurd k
+  close_writes m w (Some xs) at (Err e) a b k text short = record { text = close_text (WroteFront a b) w at xs (text w.number w.header xs k); faults = tt; kept = tt }
+  close_writes m w (Some xs) at (Ok answer) a b k text short = record {
+    text = close_text (Wrote a b) w at xs (text w.number w.header xs k);
+    faults = close_by at w xs ∙ ap one_if (sym (short l w.number w.header xs k));
     kept = tt;
   }
 

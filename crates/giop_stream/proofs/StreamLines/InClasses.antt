@@ -16,7 +16,7 @@ use Rattle.giop_stream.specs.Lines.{line, lines_of_event}
 use Rattle.giop_stream.specs.OpenSlots.{OctetsByNumber}
 use Rattle.giop_stream.specs.Effects.{lines_for, kept_with}
 use Rattle.giop_stream.proofs.StreamLines.EventsTogether.{all_lines}
-use Rattle.giop_stream.proofs.StreamLines.Spans.{Spans, spans_none, spans_wider, spans_join, spans_one, said_spans, turn_spans, close_spans}
+use Rattle.giop_stream.proofs.StreamLines.Spans.{Spans, spans_none, spans_wider, spans_join, spans_one, class_spans, turn_spans, close_spans}
 
 -- ---- The lines of one event.
 
@@ -46,11 +46,11 @@ event_lines_faulted R fault e so_far all = spans_one 5 _ refl
 pub event_lines_takes : (R : MessageReader) → IsOrdered R → (x : ℕ) → Tells R 1 7 (Takes x)
 unfolding Tells lines_of_event
 event_lines_takes R ordered x e so_far all =
-    said_spans 1 7 e (λ r. r.line_class) (λ r. r.text) (filter (λ r. r.at == suc (length so_far)) (R.reads e.subject.header all)) (turn_spans _ (ordered.ordered e.subject.header all (suc (length so_far))))
+    class_spans 1 7 e (λ r. r.line_class) (λ r. r.text) (filter (λ r. r.at == suc (length so_far)) (R.reads e.subject.header all)) (turn_spans _ (ordered.ordered e.subject.header all (suc (length so_far))))
 
 event_lines_closes : (R : MessageReader) → IsClosing R → Tells R 6 8 Closes
 unfolding Tells lines_of_event
-event_lines_closes R closing e so_far all = said_spans 6 8 e (λ l. l.0) (λ l. l.1) (R.closes e.subject.header so_far) (close_spans _ (closing.closed e.subject.header so_far))
+event_lines_closes R closing e so_far all = class_spans 6 8 e (λ l. l.0) (λ l. l.1) (R.closes e.subject.header so_far) (close_spans _ (closing.closed e.subject.header so_far))
 
 -- ---- The lines of events, whatever is kept.
 

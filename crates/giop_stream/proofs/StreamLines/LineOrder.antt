@@ -16,7 +16,7 @@ use Rattle.giop_stream.specs.OpenSlots.{OctetsByNumber}
 use Rattle.giop_stream.proofs.StreamLines.EventsTogether.{all_lines}
 use Rattle.giop_stream.proofs.Lists.{each_filter}
 use Rattle.giop_stream.proofs.StreamLines.Ordering.{rank_of, Rises, Fine, fine_of}
-use Rattle.giop_stream.proofs.StreamLines.Spans.{Spans, spans_none, said_rank, LineClassesRise, rank_said, said_each, said_rises, said_spans, both_say, value_spans}
+use Rattle.giop_stream.proofs.StreamLines.Spans.{Spans, spans_none, class_rank, LineClassesRise, rank_said, reader_classes_each, reader_classes_rise, class_spans, both_say, value_spans}
 use Rattle.giop_stream.proofs.StreamLines.Accepted.{named_accepted}
 use Rattle.giop_stream.proofs.StreamLines.InClasses.{event_lines_begins, event_lines_takes, Always, join_spans, always_join, always_none, always_if, always_one, always_own, always_header, ends_short, always_close, always_end, always_later}
 
@@ -39,15 +39,15 @@ module _ {A B : Type 0} (d e : Event) (f : A → LineClass) (g : A → List ℕ)
   abbrev sayings : List A → List B → List LineClass
   sayings xs ys = map f xs ++ map f' ys
 
-  pair_each : (P : ℕ → Type 0) (xs : List A) (ys : List B) → Each (λ s. P (said_rank s)) (sayings xs ys)
+  pair_each : (P : ℕ → Type 0) (xs : List A) (ys : List B) → Each (λ s. P (class_rank s)) (sayings xs ys)
       → Each (λ l. P (rank_of l)) (both_give_lines xs ys)
-  pair_each P [] ys h = said_each P e f' g' ys h
+  pair_each P [] ys h = reader_classes_each P e f' g' ys h
   pair_each P (x ∷ xs) ys h = (subst P (sym (rank_said d (f x) (g x))) h.0, pair_each P xs ys h.1)
 
   pair_rises : (xs : List A) (ys : List B) → LineClassesRise (sayings xs ys) → Rises (both_give_lines xs ys)
-  pair_rises [] ys h = said_rises e f' g' ys h
+  pair_rises [] ys h = reader_classes_rise e f' g' ys h
   pair_rises (x ∷ xs) ys h =
-      (rw (rank_said d (f x) (g x)) (pair_each (λ n. said_rank (f x) < n) xs ys h.0), pair_rises xs ys h.1)
+      (rw (rank_said d (f x) (g x)) (pair_each (λ n. class_rank (f x) < n) xs ys h.0), pair_rises xs ys h.1)
 
   faults_fine : (xs : List A) (ys : List B) → d.subject.number ≡ e.subject.number → map f xs ≡ Fault ∷ [] → map f' ys ≡ Fault ∷ []
       → Fine (both_give_lines xs ys)
@@ -122,7 +122,7 @@ module _ (R : MessageReader) (laws : IsStreamable R) where
       let all = xs ++ x ∷ [] in
       let header = subject.header in
       rw (one_octet (event at subject (Takes x)) x refl)
-      (said_spans 1 1 (event at subject (Takes x)) (λ r. r.line_class) (λ r. r.text) (due R header xs x)
+      (class_spans 1 1 (event at subject (Takes x)) (λ r. r.line_class) (λ r. r.text) (due R header xs x)
       (value_spans (λ r. r.line_class) (due R header xs x) (laws.ordered.ordered header all (suc (length xs)))
       (each_filter (λ r. r.line_class ≡ Value) (λ r. r.at == suc (length xs)) (R.reads header all)
       (laws.named.named header all k (omega (arith, length_push xs x))))))

@@ -33,14 +33,14 @@ event_lines_early R causal e so_far more (Takes x) =
 event_lines_early R causal e so_far more _ = refl
 
 -- The lines of events, each by the octets up to it.
-unfoldable pub heard : MessageReader → List Event → List Event → List Line
-heard R past [] = []
-heard R past (e ∷ es) = lines_of_event R e (joined e.subject.number past) (joined e.subject.number past ++ octet e.what) e.what ++ heard R (past ++ e ∷ []) es
+unfoldable pub lines_so_far : MessageReader → List Event → List Event → List Line
+lines_so_far R past [] = []
+lines_so_far R past (e ∷ es) = lines_of_event R e (joined e.subject.number past) (joined e.subject.number past ++ octet e.what) e.what ++ lines_so_far R (past ++ e ∷ []) es
 
-pub told_heard : (R : MessageReader) → IsCausal R → (all past es : List Event) → past ++ es ≡ all → lines_of_events R all past es ≡ heard R past es
-unfolding lines_of_events heard
-told_heard R causal all past [] h = refl
-told_heard R causal all past (e ∷ es) h =
+pub lines_by_past : (R : MessageReader) → IsCausal R → (all past es : List Event) → past ++ es ≡ all → lines_of_events R all past es ≡ lines_so_far R past es
+unfolding lines_of_events lines_so_far
+lines_by_past R causal all past [] h = refl
+lines_by_past R causal all past (e ∷ es) h =
     let i = e.subject.number in
     let split : past ++ e ∷ [] ++ es ≡ all = append_assoc past (e ∷ []) es ∙ h in
     let octets : joined i all ≡ (joined i past ++ octet e.what) ++ joined i es =
@@ -49,19 +49,19 @@ told_heard R causal all past (e ∷ es) h =
     let first : lines_of_event R e (joined i past) (joined i all) e.what ≡ lines_of_event R e (joined i past)
     (joined i past ++ octet e.what) e.what =
     rw octets (event_lines_early R causal e (joined i past) (joined i es) e.what) in
-    rw (first, told_heard R causal all (past ++ e ∷ []) es split) refl
+    rw (first, lines_by_past R causal all (past ++ e ∷ []) es split) refl
 
-noted_append : (R : MessageReader) (past es fs : List Event) → heard R past (es ++ fs) ≡ heard R past es ++ heard R (past ++ es) fs
-unfolding heard
-noted_append R past [] fs = rw append-nil refl
-noted_append R past (e ∷ es) fs =
+lines_so_far_append : (R : MessageReader) (past es fs : List Event) → lines_so_far R past (es ++ fs) ≡ lines_so_far R past es ++ lines_so_far R (past ++ es) fs
+unfolding lines_so_far
+lines_so_far_append R past [] fs = rw append-nil refl
+lines_so_far_append R past (e ∷ es) fs =
     let first = lines_of_event R e (joined e.subject.number past) (joined e.subject.number past ++ octet e.what) e.what in
-    rw (noted_append R (past ++ e ∷ []) es fs, append_assoc past (e ∷ []) es)
-    (sym (append_assoc first (heard R (past ++ e ∷ []) es) (heard R (past ++ e ∷ es) fs)))
+    rw (lines_so_far_append R (past ++ e ∷ []) es fs, append_assoc past (e ∷ []) es)
+    (sym (append_assoc first (lines_so_far R (past ++ e ∷ []) es) (lines_so_far R (past ++ e ∷ es) fs)))
 
 -- More events at the end add lines at the end.
-pub told_grows : (R : MessageReader) → IsCausal R → (es fs : List Event) → lines_of_events R (es ++ fs) [] (es ++ fs) ≡ lines_of_events R es [] es ++ heard R es fs
-told_grows R causal es fs = told_heard R causal (es ++ fs) [] (es ++ fs) refl ∙ (noted_append R [] es fs ∙ rw (told_heard R causal es [] es refl) refl)
+pub lines_grow : (R : MessageReader) → IsCausal R → (es fs : List Event) → lines_of_events R (es ++ fs) [] (es ++ fs) ≡ lines_of_events R es [] es ++ lines_so_far R es fs
+lines_grow R causal es fs = lines_by_past R causal (es ++ fs) [] (es ++ fs) refl ∙ (lines_so_far_append R [] es fs ∙ rw (lines_by_past R causal es [] es refl) refl)
 
 -- Each line of an event has its place and its message.
 IsOf : Event → Line → Type 0
@@ -83,15 +83,15 @@ event_lines_of R e so_far all (Cancelled j) = (line_of e (CancelledBy j), tt)
 event_lines_of R e so_far all (Faults fault) = (line_of e (Faulted fault), tt)
 event_lines_of R e so_far all Closes = each_map (IsOf e) (λ l. line e (Said l.0 l.1)) (λ l. line_of e (Said l.0 l.1)) (R.closes e.subject.header so_far)
 
-pub noted_each : (R : MessageReader) (P : ℕ → Type 0) (past es : List Event) → Each (λ e. P e.place) es → Each (λ l. P l.place) (heard R past es)
-unfolding heard IsOf
-noted_each R P past [] h = tt
-noted_each R P past (e ∷ es) h =
+pub lines_so_far_each : (R : MessageReader) (P : ℕ → Type 0) (past es : List Event) → Each (λ e. P e.place) es → Each (λ l. P l.place) (lines_so_far R past es)
+unfolding lines_so_far IsOf
+lines_so_far_each R P past [] h = tt
+lines_so_far_each R P past (e ∷ es) h =
     let first = lines_of_event R e (joined e.subject.number past) (joined e.subject.number past ++ octet e.what) e.what in
-    each_append (λ l. P l.place) first (heard R (past ++ e ∷ []) es)
+    each_append (λ l. P l.place) first (lines_so_far R (past ++ e ∷ []) es)
     (each_weaker (IsOf e) (λ l. P l.place) (λ l k. subst P (sym k.0) h.0) first
     (event_lines_of R e (joined e.subject.number past) (joined e.subject.number past ++ octet e.what) e.what))
-    (noted_each R P (past ++ e ∷ []) es h.1)
+    (lines_so_far_each R P (past ++ e ∷ []) es h.1)
 
 -- The order of the lines.
 pub by_class_none : by_class [] ≡ []
@@ -238,25 +238,25 @@ one_by R over past e false k =
     (event_lines_of R e (joined e.subject.number past) (joined e.subject.number past ++ octet e.what) e.what))
     ∙ rw (keeping, k, lines_for, joined_own e) refl
 
-pub noted_all_lines : (R : MessageReader) (over : ℕ → Bool) (past es : List Event)
-    → filter (λ l. not (over l.number)) (heard R past es) ≡ all_lines R (keeping over past) es
-unfolding heard all_lines
-noted_all_lines R over past [] = refl
-noted_all_lines R over past (e ∷ es) =
+pub all_lines_so_far : (R : MessageReader) (over : ℕ → Bool) (past es : List Event)
+    → filter (λ l. not (over l.number)) (lines_so_far R past es) ≡ all_lines R (keeping over past) es
+unfolding lines_so_far all_lines
+all_lines_so_far R over past [] = refl
+all_lines_so_far R over past (e ∷ es) =
     filter_append_at R over past e es
-    ∙ rw (one_by R over past e (over e.subject.number) refl, noted_all_lines R over (past ++ e ∷ []) es)
+    ∙ rw (one_by R over past e (over e.subject.number) refl, all_lines_so_far R over (past ++ e ∷ []) es)
     (ap (λ (ls : List Line). lines_for R e (keeping over past e.subject.number) ++ ls)
     (all_lines_same R (keeping over (past ++ e ∷ [])) (kept_with (keeping over past) (e ∷ [])) es
     (λ i. sym (with_one over past e i))))
   where
     filter_append_at : (R : MessageReader) (over : ℕ → Bool) (past : List Event) (e : Event) (es : List Event)
-        → filter (λ l. not (over l.number)) (heard R past (e ∷ es)) ≡ filter (λ l. not (over l.number))
+        → filter (λ l. not (over l.number)) (lines_so_far R past (e ∷ es)) ≡ filter (λ l. not (over l.number))
         (lines_of_event R e (joined e.subject.number past) (joined e.subject.number past ++ octet e.what) e.what) ++ filter
-        (λ l. not (over l.number)) (heard R (past ++ e ∷ []) es)
+        (λ l. not (over l.number)) (lines_so_far R (past ++ e ∷ []) es)
     filter_append_at R over past e es =
         filter-append (λ l. not (over l.number))
         (lines_of_event R e (joined e.subject.number past) (joined e.subject.number past ++ octet e.what) e.what)
-        (heard R (past ++ e ∷ []) es)
+        (lines_so_far R (past ++ e ∷ []) es)
 
 -- The lines depend only on what is kept of the events' subjects.
 pub all_lines_agree : (R : MessageReader) (f g : OctetsByNumber) (es : List Event) → Each (λ e. f e.subject.number ≡ g e.subject.number) es → all_lines R f es ≡ all_lines R g es
@@ -270,10 +270,10 @@ all_lines_agree R f g (e ∷ es) h =
 
 -- The new lines that are written are those of the effects.
 pub standing_all_lines : (R : MessageReader) (over : ℕ → Bool) (past es : List Event)
-    → up_to_last_line over (by_class (heard R past es)) ≡ up_to_last_line (λ i. false) (by_class (all_lines R (keeping over past) es))
+    → up_to_last_line over (by_class (lines_so_far R past es)) ≡ up_to_last_line (λ i. false) (by_class (all_lines R (keeping over past) es))
 standing_all_lines R over past es =
-    standing_drops over over (λ i. false) (by_class (heard R past es)) (λ i. sym (or_false (over i)))
-    ∙ rw (by_class_filter (λ l. not (over l.number)) (heard R past es), noted_all_lines R over past es) refl
+    standing_drops over over (λ i. false) (by_class (lines_so_far R past es)) (λ i. sym (or_false (over i)))
+    ∙ rw (by_class_filter (λ l. not (over l.number)) (lines_so_far R past es), all_lines_so_far R over past es) refl
 
 -- What holds of the events' subjects holds of the lines' messages,
 pub event_lines_number : (R : MessageReader) (P : ℕ → Type 0) (e : Event) (o : Option (List ℕ)) → P e.subject.number → Each (λ l. P l.number) (lines_for R e o)

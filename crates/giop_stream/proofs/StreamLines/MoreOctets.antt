@@ -59,24 +59,24 @@ first_of [] x e = absurd cc
 first_of (y ∷ xs) x e = let same : y ≡ x = cc in ap (λ (z : ℕ). z ∷ xs) same
 
 -- the octets taken so far, with one more run of them
-pub further : (payload_count rest q left piece : List ℕ) → piece ≡ payload_count ++ rest → rest ≡ q ++ left → piece ≡ (payload_count ++ q) ++ left
-further payload_count rest q left piece e f = e ∙ (ap (λ (z : List ℕ). payload_count ++ z) f ∙ sym (append_assoc payload_count q left))
+pub further : (octets_taken rest q left piece : List ℕ) → piece ≡ octets_taken ++ rest → rest ≡ q ++ left → piece ≡ (octets_taken ++ q) ++ left
+further octets_taken rest q left piece e f = e ∙ (ap (λ (z : List ℕ). octets_taken ++ z) f ∙ sym (append_assoc octets_taken q left))
 
 -- they are octets
-pub octets_come : (payload_count left piece : List ℕ) → piece ≡ payload_count ++ left → AreOctets piece → AreOctets payload_count
-octets_come payload_count left piece e h =
-    let front : take (length payload_count) piece ≡ payload_count =
-    ap (take (length payload_count)) e ∙ (take-append-le (length payload_count) payload_count left (omega arith)
-    ∙ take_all (length payload_count) payload_count (omega arith)) in
-    subst AreOctets front (All-take (λ x. x < 256) (length payload_count) piece h)
+pub octets_come : (octets_taken left piece : List ℕ) → piece ≡ octets_taken ++ left → AreOctets piece → AreOctets octets_taken
+octets_come octets_taken left piece e h =
+    let front : take (length octets_taken) piece ≡ octets_taken =
+    ap (take (length octets_taken)) e ∙ (take-append-le (length octets_taken) octets_taken left (omega arith)
+    ∙ take_all (length octets_taken) octets_taken (omega arith)) in
+    subst AreOctets front (All-take (λ x. x < 256) (length octets_taken) piece h)
 
 -- the text so far is a front of the piece's text
-pub run_within : (R : Rules) (s : State) (payload_count q left piece : List ℕ) → piece ≡ (payload_count ++ q) ++ left
+pub run_within : (R : Rules) (s : State) (octets_taken q left piece : List ℕ) → piece ≡ (octets_taken ++ q) ++ left
     → (more : List ℕ) × (lines_text (run R s piece)
-    ≡ (lines_text (run R s payload_count) ++ lines_text (run R (run_state R s payload_count) q)) ++ more)
-run_within R s payload_count q left piece e = (
-  lines_text (run R (run_state R s (payload_count ++ q)) left),
+    ≡ (lines_text (run R s octets_taken) ++ lines_text (run R (run_state R s octets_taken) q)) ++ more)
+run_within R s octets_taken q left piece e = (
+  lines_text (run R (run_state R s (octets_taken ++ q)) left),
   ap (λ (z : List ℕ). lines_text (run R s z)) e
-      ∙ (run_text_on R s (payload_count ++ q) left ∙ ap (λ (z : List ℕ). z ++ lines_text (run R (run_state R s (payload_count ++ q)) left))
-      (run_text_on R s payload_count q)),
+      ∙ (run_text_on R s (octets_taken ++ q) left ∙ ap (λ (z : List ℕ). z ++ lines_text (run R (run_state R s (octets_taken ++ q)) left))
+      (run_text_on R s octets_taken q)),
 )

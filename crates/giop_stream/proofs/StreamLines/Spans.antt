@@ -39,38 +39,38 @@ spans_one n l h = record { within = ((omega arith, omega arith), tt); rises = (t
 
 -- ---- The same of a reader's line classes.
 
-abbrev pub said_rank : LineClass → ℕ
-said_rank Value = 1
-said_rank Call = 2
-said_rank Rest = 6
-said_rank Fault = 7
-said_rank End = 8
+abbrev pub class_rank : LineClass → ℕ
+class_rank Value = 1
+class_rank Call = 2
+class_rank Rest = 6
+class_rank Fault = 7
+class_rank End = 8
 
 abbrev pub LineClassesRise : List LineClass → Type 0
 LineClassesRise [] = Unit {0}
-LineClassesRise (s ∷ ss) = Each (λ t. said_rank s < said_rank t) ss × LineClassesRise ss
+LineClassesRise (s ∷ ss) = Each (λ t. class_rank s < class_rank t) ss × LineClassesRise ss
 
-pub record SaySpans (lo hi : ℕ) (ss : List LineClass) : Type 0 where
-  pub within : Each (λ s. (lo ≤ said_rank s) × (said_rank s ≤ hi)) ss
+pub record ClassSpans (lo hi : ℕ) (ss : List LineClass) : Type 0 where
+  pub within : Each (λ s. (lo ≤ class_rank s) × (class_rank s ≤ hi)) ss
   pub rises : LineClassesRise ss
 
-pub rank_said : (e : Event) (s : LineClass) (text : List ℕ) → rank_of (line e (Said s text)) ≡ said_rank s
+pub rank_said : (e : Event) (s : LineClass) (text : List ℕ) → rank_of (line e (Said s text)) ≡ class_rank s
 unfolding line
 rank_said e Value text = refl
 rank_said e _ text = refl
 
-pub said_each : {A : Type 0} (P : ℕ → Type 0) (e : Event) (f : A → LineClass) (g : A → List ℕ) (xs : List A) → Each (λ s. P (said_rank s)) (map f xs) → Each (λ l. P (rank_of l)) (map (λ a. line e (Said (f a) (g a))) xs)
-said_each P e f g [] h = tt
-said_each P e f g (x ∷ xs) h = (subst P (sym (rank_said e (f x) (g x))) h.0, said_each P e f g xs h.1)
+pub reader_classes_each : {A : Type 0} (P : ℕ → Type 0) (e : Event) (f : A → LineClass) (g : A → List ℕ) (xs : List A) → Each (λ s. P (class_rank s)) (map f xs) → Each (λ l. P (rank_of l)) (map (λ a. line e (Said (f a) (g a))) xs)
+reader_classes_each P e f g [] h = tt
+reader_classes_each P e f g (x ∷ xs) h = (subst P (sym (rank_said e (f x) (g x))) h.0, reader_classes_each P e f g xs h.1)
 
-pub said_rises : {A : Type 0} (e : Event) (f : A → LineClass) (g : A → List ℕ) (xs : List A) → LineClassesRise (map f xs) → Rises (map (λ a. line e (Said (f a) (g a))) xs)
-said_rises e f g [] h = tt
-said_rises {A} e f g (x ∷ xs) h = (rw (rank_said e (f x) (g x)) (said_each (λ n. said_rank (f x) < n) e f g xs h.0), said_rises e f g xs h.1)
+pub reader_classes_rise : {A : Type 0} (e : Event) (f : A → LineClass) (g : A → List ℕ) (xs : List A) → LineClassesRise (map f xs) → Rises (map (λ a. line e (Said (f a) (g a))) xs)
+reader_classes_rise e f g [] h = tt
+reader_classes_rise {A} e f g (x ∷ xs) h = (rw (rank_said e (f x) (g x)) (reader_classes_each (λ n. class_rank (f x) < n) e f g xs h.0), reader_classes_rise e f g xs h.1)
 
-pub said_spans : {A : Type 0} (lo hi : ℕ) (e : Event) (f : A → LineClass) (g : A → List ℕ) (xs : List A) → SaySpans lo hi (map f xs) → Spans lo hi (map (λ a. line e (Said (f a) (g a))) xs)
-said_spans lo hi e f g xs h = record { within = said_each (λ n. (lo ≤ n) × (n ≤ hi)) e f g xs h.within; rises = said_rises e f g xs h.rises }
+pub class_spans : {A : Type 0} (lo hi : ℕ) (e : Event) (f : A → LineClass) (g : A → List ℕ) (xs : List A) → ClassSpans lo hi (map f xs) → Spans lo hi (map (λ a. line e (Said (f a) (g a))) xs)
+class_spans lo hi e f g xs h = record { within = reader_classes_each (λ n. (lo ≤ n) × (n ≤ hi)) e f g xs h.within; rises = reader_classes_rise e f g xs h.rises }
 
-pub turn_spans : (ss : List LineClass) → AreInLineOrder ss → SaySpans 1 7 ss
+pub turn_spans : (ss : List LineClass) → AreInLineOrder ss → ClassSpans 1 7 ss
 turn_spans ss (inl e) = rw e (record { within = tt; rises = tt })
 turn_spans ss (inr (inl e)) = rw e (record { within = omega arith; rises = omega arith })
 turn_spans ss (inr (inr (inl e))) = rw e (record { within = omega arith; rises = omega arith })
@@ -78,7 +78,7 @@ turn_spans ss (inr (inr (inr (inl e)))) = rw e (record { within = omega arith; r
 turn_spans ss (inr (inr (inr (inr (inl e))))) = rw e (record { within = omega arith; rises = omega arith })
 turn_spans ss (inr (inr (inr (inr (inr e))))) = rw e (record { within = omega arith; rises = omega arith })
 
-pub close_spans : (ss : List LineClass) → AtClose ss → SaySpans 6 8 ss
+pub close_spans : (ss : List LineClass) → AtClose ss → ClassSpans 6 8 ss
 close_spans ss (inl e) = rw e (record { within = omega arith; rises = omega arith })
 close_spans ss (inr (inl e)) = rw e (record { within = omega arith; rises = omega arith })
 close_spans ss (inr (inr e)) = rw e (record { within = omega arith; rises = omega arith })
@@ -99,11 +99,11 @@ both_say ds cs (inr (inr (inr (inl e)))) (inr (inr f)) h k = absurd (k e f)
 both_say ds cs (inr (inr (inr (inr (inl e))))) c h k = let f = h (ap (list_any is_fault) e) in rw (e, f) (inl (omega arith))
 both_say ds cs (inr (inr (inr (inr (inr e))))) c h k = let f = h (ap (list_any is_fault) e) in rw (e, f) (inl (omega arith))
 
-values_each : {A : Type 0} (f : A → LineClass) (xs : List A) → Each (λ a. f a ≡ Value) xs → Each (λ s. (1 ≤ said_rank s) × (said_rank s ≤ 1)) (map f xs)
+values_each : {A : Type 0} (f : A → LineClass) (xs : List A) → Each (λ a. f a ≡ Value) xs → Each (λ s. (1 ≤ class_rank s) × (class_rank s ≤ 1)) (map f xs)
 values_each f [] h = tt
-values_each f (x ∷ xs) h = let one : said_rank (f x) ≡ 1 = ap said_rank h.0 in ((omega arith, omega arith), values_each f xs h.1)
+values_each f (x ∷ xs) h = let one : class_rank (f x) ≡ 1 = ap class_rank h.0 in ((omega arith, omega arith), values_each f xs h.1)
 
-values_rise : (ss : List LineClass) → AreInLineOrder ss → Each (λ s. (1 ≤ said_rank s) × (said_rank s ≤ 1)) ss → LineClassesRise ss
+values_rise : (ss : List LineClass) → AreInLineOrder ss → Each (λ s. (1 ≤ class_rank s) × (class_rank s ≤ 1)) ss → LineClassesRise ss
 values_rise ss (inl e) h = rw e tt
 values_rise ss (inr (inl e)) h = rw e (tt, tt)
 values_rise ss (inr (inr (inl e))) h = absurd (let each = rw e at h in let two = each.1.0.1 in omega arith)
@@ -111,5 +111,5 @@ values_rise ss (inr (inr (inr (inl e)))) h = absurd (let each = rw e at h in let
 values_rise ss (inr (inr (inr (inr (inl e))))) h = absurd (let each = rw e at h in let seven = each.0.1 in omega arith)
 values_rise ss (inr (inr (inr (inr (inr e))))) h = absurd (let each = rw e at h in let seven = each.1.0.1 in omega arith)
 
-pub value_spans : {A : Type 0} (f : A → LineClass) (xs : List A) → AreInLineOrder (map f xs) → Each (λ a. f a ≡ Value) xs → SaySpans 1 1 (map f xs)
+pub value_spans : {A : Type 0} (f : A → LineClass) (xs : List A) → AreInLineOrder (map f xs) → Each (λ a. f a ≡ Value) xs → ClassSpans 1 1 (map f xs)
 value_spans f xs t h = let each = values_each f xs h in record { within = each; rises = values_rise (map f xs) t each }

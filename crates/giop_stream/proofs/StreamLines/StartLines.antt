@@ -115,8 +115,8 @@ pub none_later : (R : Rules) (K : OctetsByNumber) (still_open : List Open) (m : 
 unfolding sorted_lines by_class events_of_octet later_part
 none_later R K still_open m h =
     let es : List Event = events_at_octet still_open m ++ later_part R.most still_open m in
-    let payload_run : Each Quiet es = each_append Quiet (events_at_octet still_open m) (later_part R.most still_open m) (quiet_octet (now_of m) (opener_of still_open m)) (quiet_later R.most still_open m) in
-    let all : Each NoStart (all_lines R.reading K es) = all_lines_none R.reading K es payload_run in
+    let all_quiet : Each Quiet es = each_append Quiet (events_at_octet still_open m) (later_part R.most still_open m) (quiet_octet (now_of m) (opener_of still_open m)) (quiet_later R.most still_open m) in
+    let all : Each NoStart (all_lines R.reading K es) = all_lines_none R.reading K es all_quiet in
     rw (ne_eqb (length m.payload) 0 (λ e. omega arith))
     (none_count (up_to_last_line (λ i. false) (flat_map (λ class. filter (has_class class) (all_lines R.reading K es)) classes))
     (standing_each NoStart (λ i. false) (flat_map (λ class. filter (has_class class) (all_lines R.reading K es)) classes)

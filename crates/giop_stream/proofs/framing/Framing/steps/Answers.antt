@@ -17,7 +17,7 @@ use Rattle.giop_stream.proofs.framing.Framing.steps.Goals as goal
 pub loop-octet-init : goal.loop-octet-init
 unfolding run run_state
 loop-octet-init g c = record {
-  payload_count = [];
+  octets_taken = [];
   most = refl;
   split = refl;
   shows = λ s r h. h;
@@ -34,14 +34,14 @@ returns-in_err-step-clause-does g c s r h =
     let octet = c.in-Some.octet.now in
     let rest = c.loop-octet.rest.now in
     let octets =
-    octets_come so_far.payload_count rest c.args.piece.now so_far.split
+    octets_come so_far.octets_taken rest c.args.piece.now so_far.split
     (All-from_get_or (λ x. x < 256) c.args.piece.now 0 (λ i below. omega (arith, c.type_inv.piece i))) in
     let does =
-    rw (← one_run R (run_state R s so_far.payload_count) octet) at (rw so_far.most at (c.in_err-step.ensures.does (run_state R s so_far.payload_count)
-    (reached_at C kept _ _ _ (sym so_far.most) (reached_on C kept c.args.self.now.slots.slots.most s so_far.payload_count octets r)) (so_far.shows s r h))) in
+    rw (← one_run R (run_state R s so_far.octets_taken) octet) at (rw so_far.most at (c.in_err-step.ensures.does (run_state R s so_far.octets_taken)
+    (reached_at C kept _ _ _ (sym so_far.most) (reached_on C kept c.args.self.now.slots.slots.most s so_far.octets_taken octets r)) (so_far.shows s r h))) in
     let split =
-    run_within R s so_far.payload_count (octet ∷ []) (drop 1 rest) c.args.piece.now
-    (further so_far.payload_count rest (octet ∷ []) _ c.args.piece.now so_far.split (first_of rest octet c.in-Some.ensures.value)) in
+    run_within R s so_far.octets_taken (octet ∷ []) (drop 1 rest) c.args.piece.now
+    (further so_far.octets_taken rest (octet ∷ []) _ c.args.piece.now so_far.split (first_of rest octet c.in-Some.ensures.value)) in
     let failed = c.from_residual.ensures.0 in
     record {
       text = rw split.1 (writes_err _ _ _ _ _ failed (wrote-front _ _ _ _ _ (so_far.text s r h) does.text));
@@ -57,20 +57,20 @@ loop-octet-preserved-then-payload_run-eq0 g c =
     let octet = c.in-Some.octet.now in
     let rest = c.loop-octet.rest.now in
     let octets =
-    octets_come so_far.payload_count rest c.args.piece.now so_far.split
+    octets_come so_far.octets_taken rest c.args.piece.now so_far.split
     (All-from_get_or (λ x. x < 256) c.args.piece.now 0 (λ i below. omega (arith, c.type_inv.piece i))) in
     let left : drop 1 rest ≡ take (length rest - 1) (drop 1 rest) = sym (take_all (length rest - 1) (drop 1 rest) (omega (arith, length-drop 1 rest))) in
     let parts : rest ≡ octet ∷ take (length rest - 1) (drop 1 rest) = first_of rest octet c.in-Some.ensures.value ∙ ap (λ (z : List ℕ). octet ∷ z) left in
     let next =
     λ (s : State) (r : IsReached C kept c.args.self.now.slots.slots.most s) (h : Shows C kept (framing_view c.args.self.now) s). rw
-    (← one_run R (run_state R s so_far.payload_count) octet) at (rw so_far.most at (c.in_ok-step.ensures.does (run_state R s so_far.payload_count)
-    (reached_at C kept _ _ _ (sym so_far.most) (reached_on C kept c.args.self.now.slots.slots.most s so_far.payload_count octets r)) (so_far.shows s r h))) in
+    (← one_run R (run_state R s so_far.octets_taken) octet) at (rw so_far.most at (c.in_ok-step.ensures.does (run_state R s so_far.octets_taken)
+    (reached_at C kept _ _ _ (sym so_far.most) (reached_on C kept c.args.self.now.slots.slots.most s so_far.octets_taken octets r)) (so_far.shows s r h))) in
     record {
-      payload_count = so_far.payload_count ++ octet ∷ [];
+      octets_taken = so_far.octets_taken ++ octet ∷ [];
       most = c.in_ok-step.ensures.most ∙ so_far.most;
-      split = further so_far.payload_count rest (octet ∷ []) _ c.args.piece.now so_far.split parts;
-      shows = λ s r h. rw (run_state_on R s so_far.payload_count (octet ∷ [])) (next s r h).shows;
-      text = λ s r h. rw (run_text_on R s so_far.payload_count (octet ∷ [])) (wrote-append _ _ _ _ _ (so_far.text s r h) (next s r h).text);
+      split = further so_far.octets_taken rest (octet ∷ []) _ c.args.piece.now so_far.split parts;
+      shows = λ s r h. rw (run_state_on R s so_far.octets_taken (octet ∷ [])) (next s r h).shows;
+      text = λ s r h. rw (run_text_on R s so_far.octets_taken (octet ∷ [])) (wrote-append _ _ _ _ _ (so_far.text s r h) (next s r h).text);
       ready = c.in_ok-step.ensures.ready;
     }
 
@@ -87,17 +87,17 @@ loop-octet-preserved-then-header_run-gt0 g c =
     let most = c.args.self.now.slots.slots.most in
     let silent =
     λ (s : State) (r : IsReached C kept most s) (h : Shows C kept (framing_view c.args.self.now) s).
-    rw so_far.most at (c.take_header_octets.ensures.lines C kept (run_state R s so_far.payload_count) (so_far.shows s r h)) in
+    rw so_far.most at (c.take_header_octets.ensures.lines C kept (run_state R s so_far.octets_taken) (so_far.shows s r h)) in
     let shows =
     λ (s : State) (r : IsReached C kept most s) (h : Shows C kept (framing_view c.args.self.now) s).
-    rw so_far.most at (c.take_header_octets.ensures.shows C kept (run_state R s so_far.payload_count) (so_far.shows s r h)) in
+    rw so_far.most at (c.take_header_octets.ensures.shows C kept (run_state R s so_far.octets_taken) (so_far.shows s r h)) in
     record {
-      payload_count = so_far.payload_count ++ take n rest;
+      octets_taken = so_far.octets_taken ++ take n rest;
       most = c.take_header_octets.ensures.most ∙ so_far.most;
-      split = further so_far.payload_count rest (take n rest) _ c.args.piece.now so_far.split
+      split = further so_far.octets_taken rest (take n rest) _ c.args.piece.now so_far.split
           (sym (take-append-drop n rest) ∙ ap (λ (z : List ℕ). take n rest ++ z) left);
-      shows = λ s r h. rw (run_state_on R s so_far.payload_count (take n rest)) (shows s r h);
-      text = λ s r h. rw (run_text_on R s so_far.payload_count (take n rest), silent s r h) (rw (append-nil (lines_text (run R s so_far.payload_count))) (so_far.text s r h));
+      shows = λ s r h. rw (run_state_on R s so_far.octets_taken (take n rest)) (shows s r h);
+      text = λ s r h. rw (run_text_on R s so_far.octets_taken (take n rest), silent s r h) (rw (append-nil (lines_text (run R s so_far.octets_taken))) (so_far.text s r h));
       ready = c.take_header_octets.ensures.ready C so_far.ready;
     }
 
@@ -110,12 +110,12 @@ returns-in_err-run-clause-does g c s r h =
     let n = c.payload_run-payload_run.result in
     let rest = c.loop-octet.rest.now in
     let octets =
-    octets_come so_far.payload_count rest c.args.piece.now so_far.split
+    octets_come so_far.octets_taken rest c.args.piece.now so_far.split
     (All-from_get_or (λ x. x < 256) c.args.piece.now 0 (λ i below. omega (arith, c.type_inv.piece i))) in
-    let does = rw so_far.most at (c.in_err-run.ensures.does (run_state R s so_far.payload_count) (reached_at C kept _ _ _ (sym so_far.most) (reached_on C kept c.args.self.now.slots.slots.most s so_far.payload_count octets r)) (so_far.shows s r h)) in
+    let does = rw so_far.most at (c.in_err-run.ensures.does (run_state R s so_far.octets_taken) (reached_at C kept _ _ _ (sym so_far.most) (reached_on C kept c.args.self.now.slots.slots.most s so_far.octets_taken octets r)) (so_far.shows s r h)) in
     let split =
-    run_within R s so_far.payload_count (take n rest) (drop n rest) c.args.piece.now
-    (further so_far.payload_count rest (take n rest) (drop n rest) c.args.piece.now so_far.split (sym (take-append-drop n rest))) in
+    run_within R s so_far.octets_taken (take n rest) (drop n rest) c.args.piece.now
+    (further so_far.octets_taken rest (take n rest) (drop n rest) c.args.piece.now so_far.split (sym (take-append-drop n rest))) in
     let failed = c.from_residual-in_err-run.ensures.0 in
     record {
       text = rw split.1 (writes_err _ _ _ _ _ failed (wrote-front _ _ _ _ _ (so_far.text s r h) does.text));
@@ -131,18 +131,18 @@ loop-octet-preserved g c =
     let n = c.payload_run-payload_run.result in
     let rest = c.loop-octet.rest.now in
     let octets =
-    octets_come so_far.payload_count rest c.args.piece.now so_far.split
+    octets_come so_far.octets_taken rest c.args.piece.now so_far.split
     (All-from_get_or (λ x. x < 256) c.args.piece.now 0 (λ i below. omega (arith, c.type_inv.piece i))) in
     let left : drop n rest ≡ take (length rest - n) (drop n rest) = sym (take_all (length rest - n) (drop n rest) (omega (arith, length-drop n rest))) in
     let next =
     λ (s : State) (r : IsReached C kept c.args.self.now.slots.slots.most s) (h : Shows C kept (framing_view c.args.self.now) s). rw so_far.most at (c.in_ok-run.ensures.does
-    (run_state R s so_far.payload_count) (reached_at C kept _ _ _ (sym so_far.most) (reached_on C kept c.args.self.now.slots.slots.most s so_far.payload_count octets r)) (so_far.shows s r h)) in
+    (run_state R s so_far.octets_taken) (reached_at C kept _ _ _ (sym so_far.most) (reached_on C kept c.args.self.now.slots.slots.most s so_far.octets_taken octets r)) (so_far.shows s r h)) in
     record {
-      payload_count = so_far.payload_count ++ take n rest;
+      octets_taken = so_far.octets_taken ++ take n rest;
       most = c.in_ok-run.ensures.most ∙ so_far.most;
-      split = further so_far.payload_count rest (take n rest) _ c.args.piece.now so_far.split
+      split = further so_far.octets_taken rest (take n rest) _ c.args.piece.now so_far.split
           (sym (take-append-drop n rest) ∙ ap (λ (z : List ℕ). take n rest ++ z) left);
-      shows = λ s r h. rw (run_state_on R s so_far.payload_count (take n rest)) (next s r h).shows;
-      text = λ s r h. rw (run_text_on R s so_far.payload_count (take n rest)) (wrote-append _ _ _ _ _ (so_far.text s r h) (next s r h).text);
+      shows = λ s r h. rw (run_state_on R s so_far.octets_taken (take n rest)) (next s r h).shows;
+      text = λ s r h. rw (run_text_on R s so_far.octets_taken (take n rest)) (wrote-append _ _ _ _ _ (so_far.text s r h) (next s r h).text);
       ready = c.in_ok-run.ensures.ready;
     }

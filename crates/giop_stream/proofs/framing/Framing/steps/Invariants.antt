@@ -13,13 +13,13 @@ use Rattle.giop_stream.proofs.framing.Framing.steps.Given as goal
 abbrev pub invariant-loop-octet : goal.invariant-loop-octet
 invariant-loop-octet g l =
     record {
-      payload_count : List ℕ;
+      octets_taken : List ℕ;
       most : l.self.slots.slots.most ≡ l.initial.self.slots.slots.most;
-      split : l.piece ≡ payload_count ++ l.rest;
+      split : l.piece ≡ octets_taken ++ l.rest;
       shows : (s : State) → IsReached l.catalogue l.requests l.initial.self.slots.slots.most s → Shows l.catalogue l.requests (framing_view l.initial.self) s
-          → Shows l.catalogue l.requests (framing_view l.self) (run_state (rules l.catalogue l.requests l.initial.self.slots.slots.most) s payload_count);
+          → Shows l.catalogue l.requests (framing_view l.self) (run_state (rules l.catalogue l.requests l.initial.self.slots.slots.most) s octets_taken);
       text : (s : State) → IsReached l.catalogue l.requests l.initial.self.slots.slots.most s → Shows l.catalogue l.requests (framing_view l.initial.self) s →
-          Wrote (g.O.Out.log l.initial.out) (g.O.Out.log l.out) (lines_text (run (rules l.catalogue l.requests l.initial.self.slots.slots.most) s payload_count));
+          Wrote (g.O.Out.log l.initial.out) (g.O.Out.log l.out) (lines_text (run (rules l.catalogue l.requests l.initial.self.slots.slots.most) s octets_taken));
       ready : AreReady l.catalogue (l.self.totals.octets + 1) l.self.slots;
     }
 
