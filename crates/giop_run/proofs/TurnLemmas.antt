@@ -1,4 +1,4 @@
--- Turn after turn, to the end of a run.
+-- Reads and feeds, one after the other, to the end of a run.
 use Rattle.std.proofs.Common.{◌≡◌, ℕ, ◌+◌, ◌^◌, ◌<◌, ◌≤◌, List, [], ◌++◌, refl, sym, subst, ap, ◌∙◌, append-nil, append_assoc, arith, Bool, Result, Ok, Err, true, false, inl, inr, Option, Some, None}
 use Rattle.std.proofs.lemmas.List.Elements.{All-nil, All-append}
 use Rattle.giop_print.specs.Output.{OutLog, counted}
@@ -22,7 +22,7 @@ use Rattle.giop_run.proofs.TextLemmas.{AddsUp, wrote-none, runs_or_stops}
 use Rattle.giop_run.proofs.FlushLemmas.{wrote_flushed, flush_front}
 use Rattle.giop_run.proofs.ReadLemmas.{consumes-same, consumes-append}
 
--- one turn
+-- one read and feed
 
 -- a read of some octets, and their feed
 pub turned_on : (R : Rules) (r : Result Bool RunFault) (p s : List ℕ) (e : EngineView) (a b : SourceLog) (x y : OutLog) → OneRead s a b → b.failures ≡ a.failures → b.ends ≡ a.ends → Fed R r p s e x y → HasReadAndFed R r p s e a b x y
@@ -168,9 +168,9 @@ pub going_more : (R : Rules) → AddsUp R → (p s t : List ℕ) (e d : EngineVi
 going_more R adds p s t e d k a b c x y z g u =
     going_on R adds p s t e d k a b c x y z g (turned_by (rules_of e) R (Ok true) (p ++ s) t d b c y z g.took.reads u)
 
--- the last turn
+-- the last read
 
--- a turn failed
+-- a read or a feed failed
 failed_on : (w : RunSetup) → AddsUp (reads_by w) → (r : RunFault) (p s t : List ℕ) (e d : EngineView) (k : ℕ) (a b c : SourceLog) (x y z : OutLog) → Going (reads_by w) p s e k a b x y → HasReadAndFed (reads_by w) (Err r) (p ++ s) t d b c y z → k < 2 ^ 40 → Ran w (Err r) p (s ++ t) a c x z
 failed_on w adds fault.Read p s t e d k a b c x y z g (u, failures, written) h =
     record {
@@ -208,7 +208,7 @@ given_all R p s e k a b x y g h =
       };
     }
 
--- no turn is left
+-- no read is left
 pub ran_turns : (R : Rules) (p s : List ℕ) (e : EngineView) (k : ℕ) (a b : SourceLog) (x y : OutLog) → Going R p s e k a b x y → k ≡ 2 ^ 40 → ReadsSpent R p s a b x y
 ran_turns R p s e k a b x y g h =
     record {
@@ -220,7 +220,7 @@ ran_turns R p s e k a b x y g h =
       written = g.took.written;
     }
 
--- the flush before a turn failed
+-- the flush before a read failed
 pub ran_flush : (w : RunSetup) (p s : List ℕ) (e : EngineView) (k : ℕ) (a b : SourceLog) (x y z : OutLog) → Going (reads_by w) p s e k a b x y → FlushFailed y z → k ≤ 2 ^ 40 → Ran w (Err fault.Out) p s a b x z
 ran_flush w p s e k a b x y z g f h =
     record {
@@ -233,7 +233,7 @@ over_more : (p s t : List ℕ) (a b c : SourceLog) → b.ends ≡ a.ends → IsO
 over_more p s t a b c e (inl q) = inl (record { answered = q.answered ∙ ap counted e; none = q.none })
 over_more p s t a b c e (inr q) = inr (rw append_assoc at q)
 
--- the stream is over after a turn
+-- the stream is over after a read and feed
 over_on : (w : RunSetup) → AddsUp (reads_by w) → (r : Result Report RunFault) (p s t : List ℕ) (e d : EngineView) (k : ℕ) (a b c : SourceLog) (x y z o : OutLog) → Going (reads_by w) p s e k a b x y → HasReadAndFed (reads_by w) (Ok false) (p ++ s) t d b c y z → k < 2 ^ 40
     → Closed w r ((p ++ s) ++ t) z o → Ran w r p (s ++ t) a c x o
 over_on w adds (Ok v) p s t e d k a b c x y z o g (u, failures, over, took) h q =

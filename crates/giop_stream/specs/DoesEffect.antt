@@ -36,7 +36,7 @@ abbrev pub DoesEffect : {A E : Type 0} → Table → RequestTable → (A → ℕ
 DoesEffect C l count result before after slots effect owner_of_next =
     WritesAndLeaves count result before after effect.lines (SlotsRepresent C l slots effect.tracked owner_of_next)
 
--- The message of this title is kept as this part of an effect leaves it.
+-- The message of this number and header is kept as this part of an effect leaves it.
 abbrev pub DoesPart : {A E : Type 0} → Table → RequestTable → (A → ℕ) → Result A E → OutLog → OutLog → Option CodeMessage → MessageKey → Part → Type 0
 DoesPart C l count result before after message w part =
     WritesAndLeaves count result before after part.lines (RepresentsMessage C l message w part.octets)

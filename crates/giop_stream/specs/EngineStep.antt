@@ -47,7 +47,7 @@ id_by now (Some xs) = num (order now.subject.header) (xs ++ now.octet ∷ [])
 unfoldable pub id_of : State → Now → ℕ
 id_of s now = id_by now (own_octets s now)
 
--- the open message that has this request id; behind that, the one whose the octet is
+-- the open message that has this request id; behind the request id, the owner of the octet
 abbrev pub numbered : List Open → Option ℕ → Option Open
 numbered still_open None = None
 numbered still_open (Some number) = find (λ o. o.opener.number == number) still_open

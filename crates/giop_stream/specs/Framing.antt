@@ -24,7 +24,7 @@ unfoldable pub with_first : Message → Cut → Cut
 with_first m c = record c { whole = m ∷ c.whole }
 
 -- What is left of the stream, where the next message has this number and comes after so many octets: at most `fuel`
--- messages. The `elim` waits for the offence, so that nothing is cut behind one.
+-- messages. The `elim` waits for the first wrong octet, so that nothing is cut behind one.
 unfoldable pub cut_from : ℕ → ℕ → ℕ → List ℕ → Cut
 cut_from zero number before xs = record { whole = []; current = None; held = []; stop = None }
 cut_from (suc fuel) number before xs =

@@ -7,7 +7,7 @@ use Rattle.giop_message.specs.MessageReader.{LineClass, Value, Call, Rest, Fault
 use Rattle.giop_stream.specs.Rules.{Rules}
 use Rattle.giop_stream.specs.Events.{Event, EventKind, Begins, Takes, Opens, Continues, Cancelled, Faults, Closes, events, joined}
 
--- An imposed fault stands before the rest, so that the rest, the end and the other faults of its octet come after it.
+-- A fault of the framing stands before the rest, so that the rest, the end and the other faults of its octet come after it.
 pub data Class : Type 0 where
   Start ValueClass CallClass Continuing Cancelling FramingFaultClass RestClass FaultClass EndClass Stop : Class
 

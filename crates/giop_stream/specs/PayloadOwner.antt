@@ -1,4 +1,4 @@
--- Whose the octets of a message's payload are, and what the code knows of that message at one of them (state).
+-- The owner of a payload's octets, and what the code knows of that message at one of them (state).
 use Rattle.std.specs.Prelude.{◌≡◌, ◌==◌, ◌<◌, ◌+◌, ℕ, true, List, [], length, Option, Some, None, if◌then◌else◌}
 use Rattle.std.specs.List.{AllByRecursion as Each}
 use Rattle.giop_sig.specs.Types.{Ty}
@@ -20,7 +20,7 @@ abbrev pub opener_key : Option Open → Option MessageKey
 opener_key None = None
 opener_key (Some o) = Some o.opener
 
--- Whose the next octet is, where these messages are open: a Fragment's after its request id is its opener's.
+-- The owner of the next octet, where these messages are open: behind a Fragment's request id the message that it continues.
 unfoldable pub owner_of_next : List Open → Message → Option MessageKey
 owner_of_next still_open m = if has_named m then opener_key (opener_of still_open m) else Some (message_key m)
 
@@ -53,7 +53,7 @@ pub record IsAtOctet (C : Table) (l : RequestTable) (s : Slots) (c : Tracked) (m
   pub rising : Rising c.still_open
   pub current : IsCurrent now m
 
--- ---- An octet that has come, part by part: whose it is, and what it does at the request id and at the end.
+-- ---- An octet that has come, part by part: its owner, its events at the request id, and those at the end.
 
 unfoldable pub owner_of_octet : List Open → Message → Option MessageKey
 owner_of_octet still_open m = if goes_past m then opener_key (opener_of still_open m) else Some (message_key m)
@@ -64,7 +64,7 @@ id_events most still_open m = if length m.payload == 4 then events_at_request_id
 unfoldable pub end_events : List Open → Message → List Event
 end_events still_open m = if length m.payload == size m.header then events_at_end still_open m else []
 
--- and whose the octets are from then on
+-- and the owner of the octets from then on
 unfoldable pub owner_after : List Open → Message → Option MessageKey
 owner_after still_open m = if length m.payload == size m.header then None else owner_of_next still_open m
 
@@ -72,7 +72,7 @@ owner_after still_open m = if length m.payload == size m.header then None else o
 abbrev pub IsNewest : ℕ → List Open → Type 0
 IsNewest n still_open = Each (λ o. o.opener.number < n) still_open
 
--- The slots keep what is tracked once the octet has been given to the message whose it is.
+-- The slots keep what is tracked once the octet's owner has taken it.
 pub record IsAfterTake (C : Table) (l : RequestTable) (s : Slots) (c : Tracked) (m : Message) (now : Current) : Type 0 where
   pub keeps : SlotsRepresent C l s c (owner_of_octet c.still_open m)
   pub rising : Rising c.still_open

@@ -7,14 +7,14 @@ use Rattle.giop_stream.specs.Events.{MessageKey, Takes}
 use Rattle.giop_stream.specs.Effects.{Tracked, Effect, no_effect, then_effect, Part, no_part, then_part, part_of}
 use Rattle.giop_stream.specs.SlotsRepresent.{event, effect_to}
 
--- The octets come behind so many of the stream, and are the contents of the message whose they are.
+-- The octets come behind so many of the stream, and are the contents of their owner.
 unfoldable pub run_effect : Table → RequestTable → ℕ → Tracked → Option MessageKey → List ℕ → Effect
 run_effect C l before c owner_of_next [] = no_effect c
 run_effect C l before c owner_of_next (x ∷ xs) =
     let one = effect_to C l (suc before) c owner_of_next (Takes x) in
     then_effect one (run_effect C l (suc before) one.tracked owner_of_next xs)
 
--- the same of that message alone, of which these octets had come, unless it was over
+-- the same of the owner alone, of which these octets had come, unless it was over
 unfoldable pub run_part : Table → RequestTable → ℕ → MessageKey → Option (List ℕ) → List ℕ → Part
 run_part C l before w o [] = no_part o
 run_part C l before w o (x ∷ xs) =

@@ -47,7 +47,7 @@ comes_in (Stopped fault) = false
 abbrev pub by_turn : Bool → PayloadOwner
 by_turn itself = if itself then payload.Own else payload.Nobody
 
--- whose they are: behind the records of the open messages is the current one's
+-- their owner: behind the records of the open messages stands the current one's
 abbrev pub payload_of : Option ℕ → Bool → ℕ → PayloadOwner
 payload_of None itself many = by_turn itself
 payload_of (Some k) itself many = if nat_lt k many then payload.Open k else payload.Own

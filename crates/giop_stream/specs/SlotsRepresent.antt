@@ -57,7 +57,7 @@ AreSlots C l (kept ∷ more) (slot ∷ slots) = IsSlot C l kept slot × AreSlots
 AreSlots C l [] (slot ∷ slots) = ⊥
 AreSlots C l (kept ∷ more) [] = ⊥
 
--- whose the octets of the payload are
+-- the owner of the payload's octets
 abbrev pub PayloadBelongs : Table → RequestTable → Payload → Option CodeMessage → Tracked → Option MessageKey → Type 0
 PayloadBelongs C l Own own c (Some w) = Each (λ o. o.opener.number ≡ w.number → ⊥) c.still_open × RepresentsMessage C l own w (c.known w.number)
 PayloadBelongs C l (Open k) own c (Some w) = (own ≡ None) × ((o : events.Open) × (slice_get c.still_open k ≡ Some o) × (o.opener ≡ w))
@@ -76,7 +76,7 @@ pub record IsBare (s : Slots) : Type 0 where
   pub no_own : s.own ≡ None
   pub nobody : s.payload ≡ Nobody
 
--- what happens at a place to the message whose the octets are
+-- the effect of an event at a place on the owner of the payload
 abbrev pub event : ℕ → MessageKey → EventKind → Event
 event at subject what = record { place = at; subject = subject; what = what }
 

@@ -31,7 +31,7 @@ payload_count_in s = if nat_lt (length s.held) 12 then 0 else size s.held - s.le
 unfoldable pub comes_itself : State → Bool
 comes_itself s = nat_le 12 (length s.held) && not (is_fragment s.held && nat_le 4 (payload_count_in s))
 
--- Whose the payload's next octets are: the current message's, unless it is over; an open message's; or nobody's.
+-- The owner of the payload's next octets: the current message, unless it is over; an open message; or none.
 abbrev pub IsOwner : Payload → State → Type 0
 IsOwner payload.Own s = s.owner ≡ option_map (λ o. o.message_key.number) s.own
 IsOwner (payload.Open k) s =

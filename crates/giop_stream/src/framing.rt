@@ -114,7 +114,7 @@ impl Framing {
         stream_fault_line(out, fault, place)
     }
 
-    /// Behind a message's last octet the next header comes.
+    /// After a message's last octet: the next octet is the first of a header.
     #[tactic(auto, unfolding(crate::specs::FramingSteps::end_message))]
     fn end_message(&mut self, size: u32)
         ensures state { framing_view self.new ≡ end_message (framing_view self.old) size }

@@ -157,7 +157,7 @@ fn held_of(octets: &[u8]) -> ArrayVec<u8, 12>
     held
 }
 
-/// Whose the octets of the payload are.
+/// The owner of the payload's octets.
 fn payload_of(fixed: &Fixed, slots: &Slots) -> Payload
     ensures { result ≡ payload_of fixed.now.owner (comes_in fixed.now.place)
         (length slots.now.slots.entries) }

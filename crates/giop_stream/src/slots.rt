@@ -1,4 +1,4 @@
-//! The messages that have begun and not ended: the open ones, and the one whose payload comes.
+//! The messages that have begun and not ended: the open ones in their slots, and the current one, whose payload comes.
 
 ghost use Rattle.std.specs.Prelude.{◌≡◌, ◌+◌, ◌≤◌, ◌^◌, ℕ, [], length, Option, Some, None, OnOk, IfOk, if◌then◌else◌};
 ghost use Rattle.giop_print.specs.Output.{Writes};
@@ -29,7 +29,7 @@ pub struct Slot {
     pub message: Option<Message>,
 }
 
-/// Whose the octets of the payload are.
+/// The message that the payload's octets belong to.
 #[derive(Clone, Copy, Debug)]
 pub enum Payload {
     /// The message's own, which isn't open.
@@ -126,8 +126,8 @@ impl Slots {
         Ok(())
     }
 
-    /// Gives octets of the payload, behind so many of the stream, to the message whose they are; says whether one of them
-    /// faults it.
+    /// Hands octets of the payload, behind so many of the stream, to the message that owns them; answers whether one of
+    /// them faults it.
     pub fn take<O: Out>(
         &mut self,
         catalogue: &Catalogue,
@@ -159,7 +159,7 @@ impl Slots {
         }
     }
 
-    /// Faults the message whose the payload is, unless it is over; says whether it does.
+    /// Faults the owner of the payload, unless it is over; answers whether it does.
     pub fn fault_message<O: Out>(
         &mut self,
         number: u64,
@@ -184,7 +184,7 @@ impl Slots {
         }
     }
 
-    /// Closes the message whose the payload is, unless it is over; says whether that faults it.
+    /// Closes the owner of the payload, unless it is over; answers whether that faults it.
     pub fn close<O: Out>(
         &mut self,
         catalogue: &Catalogue,

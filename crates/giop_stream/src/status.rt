@@ -1,4 +1,4 @@
-//! What an engine tells of its stream.
+//! What an engine answers of its stream: its status and its totals.
 
 use crate::fault::StreamFault;
 

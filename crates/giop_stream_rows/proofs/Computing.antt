@@ -51,7 +51,7 @@ unfoldable pub a_stream : ℕ
 unfolding type_word print.start_line continues_line cancelled_line fault_line stream_fault_line unfinished_line total_line fronts wrong first_wrong first_wrong_octet has_more size with_first cut_from limit limited cut messages read_of start_line numbered_line is_inside is_truncated may_be_fragmented is_opener is_fragment is_cancel may_be_cancelled refused place own event_of_open id opener_of has_named goes_past header_events payload_events request_id_events message_end_events events_of_octet events_of changed opened events_from events open_after octet joined classes line lines_of_event lines_of_events by_class in_order is_last_of up_to_last_line lines_of_messages stop_line lines lines_text text start_count fault_count tally is_over first_messages unfinished final closing
 a_stream = 0
 
--- what the rows are told with
+-- what the rows compute with
 unfoldable pub told_with : ℕ
 unfolding digit octets stream written read_by called table_of builtin puts bigs late asks kept
 told_with = 0

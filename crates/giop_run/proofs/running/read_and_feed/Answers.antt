@@ -1,4 +1,4 @@
--- The octets of a turn are those that its read gave.
+-- The octets that are fed are those that the read gave.
 use Rattle.std.proofs.Common.{◌≡◌, ◌<◌, [], refl, length, take, arith, inl}
 use Rattle.giop_run.proofs.TextLemmas.{wrote-none}
 use Rattle.giop_run.proofs.ReadLemmas.{read_none, read_end, read_some, not_end}
