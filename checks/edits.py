@@ -69,10 +69,10 @@ def module_of(path: str) -> str:
 
 def function_at(path: str, text: str, line: int) -> str | None:
     """The function around a line, as a check prints it: by its type, or by its module where it has none."""
-    for first, last, name in functions_of(text):
-        if first <= line <= last:
-            return name if "::" in name else f"{module_of(path)}::{name}"
-    return None
+    around = [name for first, last, name in functions_of(text) if first <= line <= last]
+    if not around:
+        return None
+    return around[-1] if "::" in around[-1] else f"{module_of(path)}::{around[-1]}"
 
 
 def changed(file: Path, crate: Path) -> tuple[dict[tuple[str, int], str], str | None]:
