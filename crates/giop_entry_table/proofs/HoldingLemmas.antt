@@ -1,4 +1,5 @@
--- What the entries of a roster are, and what they become when its ids, numbers and values change.
+-- The entries of a table, made of its ids, slab numbers and values: their number, the entry at a place, and what they become
+-- when one is added, removed or changed.
 use Rattle.std.proofs.Common.{◌≡◌, ◌≢◌, ◌<◌, ◌==◌, ◌+◌, ◌≤◌, ℕ, zero, suc, false, eqb, cond, List, [], ◌∷◌, ◌++◌, length, get_or, Option, Some, None, IsSome, slice_get, refl, sym, ap, ◌∙◌, arith, length-append, inl, inr, map, set, is_some, count_by}
 use Rattle.std.specs.List.{AllByRecursion as Each, IsDistinct, remove, position_from}
 use Rattle.std.proofs.lemmas.List.Sums.{sum_by-cons}
@@ -125,7 +126,7 @@ module _ {V : Type 0} where
       let first = there (get values n) held.0 in
       rw first.1 (ap (λ ks. k ∷ ks) (keys-of values ks ns (omega (arith, same)) held.1))
 
-  -- what a tied roster holds, and how it stays tied
+  -- the entries of tied ids, numbers and values, and how these stay tied
   pub length-held : (keys numbers : List ℕ) (values : Slab V) → IsTied keys numbers values →
       length (entries_of values keys numbers) ≡ length numbers
   length-held keys numbers values tied = length-entries values keys numbers tied.as_many tied.held

@@ -62,7 +62,7 @@ distinct-push [] number distinct apart = (tt, tt)
 distinct-push (n ∷ ns) number distinct apart =
     (each-push (λ m. eqb n m ≡ false) ns number distinct.0 (ne_eqb n number apart.0), distinct-push ns number distinct.1 apart.1)
 
--- an element that is there is the same, whatever stands for one that is not
+-- an element within a list is the same for any default
 pub read-at : (xs : List ℕ) (place x : ℕ) → place < length xs → x ≡ get_or xs place x →
     x ≡ get_or xs place 0
 read-at xs place x within found = found ∙ get_or_default xs place x 0 within

@@ -1,4 +1,4 @@
--- A search that passes over elements which do not fit.
+-- A search for the first element that passes a test: it goes on after elements that do not.
 use Rattle.std.proofs.Common.{◌≡◌, ◌+◌, ℕ, Bool, true, false, cond, List, [], ◌∷◌, ◌++◌, length, Option, Some, None, refl, ap, ◌∙◌, arith, add-zero, suc, ◌≤◌, drop, length-take, length-drop, slice_range}
 use Rattle.std.proofs.lemmas.List.{take_all}
 use Rattle.std.proofs.lemmas.List.Folds.{drop_split}
@@ -19,7 +19,7 @@ module _ {X : Type 0} (test : X → Bool) where
           let same : from + 1 + length xs ≡ from + suc (length xs) = omega arith in
           rw (e, ← same) (past (rw e at none))
 
-  -- a block that fits nowhere is passed over
+  -- a block of which no element passes the test is passed over
   pub position-block : (xs : List X) (at size : ℕ) → at + size ≤ length xs →
       list_any test (slice_range xs at (at + size)) ≡ false →
       position_from test at (drop at xs) ≡ position_from test (at + size) (drop (at + size) xs)

@@ -1,4 +1,5 @@
--- What a roster is to its callers: entries in the order of being added, and how many there may be (meaning).
+-- What a table is to its callers: entries, each an id and a value, in the order of being added, and how many there may be
+-- (meaning).
 use Rattle.std.specs.Prelude.{ℕ, zero, suc, List, [], ◌∷◌, refl}
 use Rattle.std.specs.Coded.{Coded, code_by, coded×, coded_ℕ, coded_list}
 use Rattle.giop_entry_table.specs.declared.entry_table.Entry.{Entry}
@@ -14,7 +15,7 @@ entry_code {V} code =
     code_by (ℕ × V) (coded× coded_ℕ code) (λ e. (e.key, e.value))
     (λ p. record { key = p.0; value = p.1 }) (λ _. refl)
 
--- a roll is stored as the pair of its fields
+-- a table is stored as the pair of its fields
 abbrev pub entries_code : {V : Type 0} → Coded V → Coded (Entries V)
 entries_code {V} code =
     code_by (ℕ × List (Entry V)) (coded× coded_ℕ (coded_list (entry_code code)))
@@ -27,6 +28,6 @@ module _ {V : Type 0} where
   revalued (e ∷ es) zero value = record e { value = value } ∷ es
   revalued (e ∷ es) (suc place) value = e ∷ revalued es place value
 
-  -- the roll, where the entry at a place has this value
+  -- the table, where the entry at a place has this value
   abbrev pub with_value : Entries V → ℕ → V → Entries V
   with_value r place value = record r { entries = revalued r.entries place value }

@@ -1,23 +1,23 @@
--- How a roster keeps its entries: ids and numbers in order, and each value under its number (state).
+-- How a table keeps its entries: the ids and the slab numbers in order, and each value in the slab under its number (state).
 use Rattle.std.specs.Prelude.{◌≡◌, ℕ, ◌≤◌, eqb, List, [], ◌∷◌, length, Option, Some, None, IsSome}
 use Rattle.std.specs.List.{AllByRecursion as Each, IsDistinct}
 use Rattle.slab.specs.Slab.{Slab, get, slab_len}
 use Rattle.giop_entry_table.specs.declared.entry_table.Entry.{Entry}
 
 module _ {V : Type 0} where
-  -- an entry in front of others, if its value is there
+  -- an entry before others, if its value is there
   abbrev pub entry_before : ℕ → Option V → List (Entry V) → List (Entry V)
   entry_before key None rest = rest
   entry_before key (Some value) rest = record { key = key; value = value } ∷ rest
 
-  -- the entry of each id with the value that stands under its number
+  -- the entry of each id, with the value that the slab has under its number
   abbrev pub entries_of : Slab V → List ℕ → List ℕ → List (Entry V)
   entries_of values [] numbers = []
   entries_of values (key ∷ keys) [] = []
   entries_of values (key ∷ keys) (number ∷ numbers) =
       entry_before key (get values number) (entries_of values keys numbers)
 
-  -- each id has a number of its own, under which a value stands, and no other value is there
+  -- each id has a number of its own, under which the slab has a value, and the slab has no other value
   pub record IsTied (keys numbers : List ℕ) (values : Slab V) : Type 0 where
     pub as_many : length keys ≡ length numbers
     pub distinct : IsDistinct eqb numbers

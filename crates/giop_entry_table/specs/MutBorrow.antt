@@ -1,4 +1,4 @@
--- What a roster ends as, where a `&mut` to one of its values is returned.
+-- What a table becomes, where a `&mut` to one of its values is returned (steps).
 use Rattle.std.specs.Prelude.{ℕ, Option}
 use Rattle.std.specs.Borrow.{Lends, LendsIf, Fml, RattleType, MutBor}
 use Rattle.giop_entry_table.specs.EntryTable.{Entries, with_value}
@@ -9,6 +9,6 @@ module _ (V : RattleType) (r : MutBor (Entries V.Denot)) (place : ℕ) where
   abbrev pub lends_value : MutBor V.Denot → Fml
   lends_value x = Lends (the_row V) V r x (with_value r.now place)
 
-  -- the same where x is a reference, and at `None` the roster stays as it is
+  -- the same where x is a reference, and at `None` the table stays as it is
   abbrev pub lends_get : Option (MutBor V.Denot) → Fml
   lends_get x = LendsIf (the_row V) V r x (with_value r.now place) r.now

@@ -10,21 +10,21 @@ use slab::Slab;
 use std::alloc::{AllocError, Global};
 use std::marker::Model;
 
-/// A value and the id that it stands under.
+/// A value and its id.
 #[derive(Drop)]
 pub struct Entry<V> {
     pub key: u32,
     pub value: V,
 }
 
-/// Values under ids, in the order of being added. All of its memory is taken when it is made.
+/// Values under ids, in the order of being added. All of its memory is allocated when it is made.
 #[derive(Drop)]
 pub struct EntryTable<V> {
     // How many entries there may be.
     most: usize,
     // The id of each entry.
     keys: Vec<u32>,
-    // The key of each entry's value in `values`.
+    // The number of each entry's value in `values`.
     numbers: Vec<usize>,
     values: Slab<V>,
 }
@@ -52,7 +52,7 @@ impl<V> Model for EntryTable<V> {
 impl<V> EntryTable<V> {
     ghost use Rattle.giop_entry_table.specs.MutBorrow.{lends_value, lends_get};
 
-    /// No entry, and the memory for so many.
+    /// A table without entries, with memory for so many.
     pub fn new(alloc: Global, most: usize) -> Result<EntryTable<V>, AllocError>
         ensures most { IfOk result (λ r. r.most ≡ most) }
         ensures entries { IfOk result (λ r. r.entries ≡ []) }
@@ -139,7 +139,7 @@ impl<V> EntryTable<V> {
         &mut self.values[number]
     }
 
-    /// Adds a value under this id, behind the others. There must be room.
+    /// Adds a value under this id, after the others. There must be room.
     pub fn add(&mut self, key: u32, value: V)
         requires { length self.old.entries < self.old.most }
         ensures entries { self.new.entries
@@ -151,7 +151,7 @@ impl<V> EntryTable<V> {
         self.keys.push_reserved(key);
     }
 
-    /// Takes the entry at this place out; those behind it move up.
+    /// Removes the entry at this place and returns it; those after it move up.
     pub fn take(&mut self, place: usize) -> Option<Entry<V>>
         ensures value { result ≡ slice_get self.old.entries place }
         ensures variant { IsSome result ↔ (place < length self.old.entries) }
@@ -181,7 +181,7 @@ impl<V> EntryTable<V> {
         Entry { key, value }
     }
 
-    /// Lets every entry go, and keeps the memory.
+    /// Drops all entries, and keeps the memory.
     pub fn clear(&mut self)
     where
         V: Drop,

@@ -1,4 +1,4 @@
-//! Values under ids, in the order of being added, in memory that is all taken at the start.
+//! A table of values under ids, in the order of being added. All of its memory is allocated when it is made.
 #![tactic(auto)]
 
 mod entry_table;

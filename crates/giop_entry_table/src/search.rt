@@ -1,12 +1,12 @@
-//! Where an id stands among many.
+//! Searches the first place of an id among many, block by block.
 
 ghost use Rattle.std.specs.Prelude.{◌≡◌, ◌<◌, ◌≤◌, ◌==◌, drop, length, IfSome};
 ghost use Rattle.std.specs.List.{list_any, position_from};
 
-/// How many ids are looked at between two tests of whether the id is found.
+/// How many ids are compared between two tests of whether the id was found.
 const BLOCK: usize = 64;
 
-/// Whether an id stands among these. It looks at each, and so at several at once.
+/// Whether an id is among these. All are compared without an early exit, so that several can be compared at once.
 fn is_among(keys: &[u32], key: u32) -> bool
     ensures { result ≡ list_any (λ k. k == key) keys.now }
 {
@@ -17,7 +17,7 @@ fn is_among(keys: &[u32], key: u32) -> bool
     found
 }
 
-/// How many ids stand in front of the first block that has the id, or of those that fill no block.
+/// How many ids are before the first block that has the id, or before the last ones that fill no block.
 fn passed_over(keys: &[u32], key: u32) -> usize
     ensures within { result ≤ length keys.now }
     ensures value { position_from (λ k. k == key) 0 keys.now
@@ -30,7 +30,7 @@ fn passed_over(keys: &[u32], key: u32) -> usize
     at
 }
 
-/// The first place at which an id stands, by a look at one after another.
+/// The first place of an id, found by comparing one after the other.
 fn first_of(keys: &[u32], key: u32) -> Option<usize>
     ensures value { result ≡ position_from (λ k. k == key) 0 keys.now }
     ensures within { IfSome result (λ k. k < length keys.now) }
@@ -38,7 +38,7 @@ fn first_of(keys: &[u32], key: u32) -> Option<usize>
     keys.iter().position(|k| *k == key)
 }
 
-/// The first place at which an id stands.
+/// The first place of an id.
 pub(crate) fn place_of(keys: &[u32], key: u32) -> Option<usize>
     ensures value { result ≡ position_from (λ k. k == key) 0 keys.now }
     ensures within { IfSome result (λ k. k < length keys.now) }

@@ -1,9 +1,9 @@
-//! A small roster, step by step, and a large one, filled, searched and emptied twice.
+//! A small table, step by step, and a large one, filled, searched and emptied twice.
 
 use crate::{Entry, EntryTable};
 use std::test::Fail;
 
-/// How many entries the large roster has.
+/// How many entries the large table has.
 const MANY: u32 = 4096;
 
 /// Adds an entry where there is room.
@@ -15,7 +15,7 @@ fn put(roster: &mut EntryTable<u64>, key: u32, value: u64) -> Result<(), Fail> {
     Ok(())
 }
 
-/// The entry that is taken.
+/// The entry that is removed.
 fn taken(roster: &mut EntryTable<u64>, place: usize) -> Result<(u32, u64), Fail> {
     match roster.take(place) {
         Some(Entry { key, value }) => Ok((key, value)),

@@ -1,4 +1,4 @@
-//! What a row tells of its checkpoints: one behind 0, 1, 2, .. octets of its stream.
+//! What a row gives of its checkpoints, one after each of 0, 1, 2, .. octets of its stream: their lengths and a hash.
 
 use super::early::times;
 use std::alloc::Global;
@@ -6,7 +6,7 @@ use std::alloc::Global;
 /// The hash of no octets.
 pub const NO_OCTETS: u32 = 0x811c_9dc5;
 
-/// How long the checkpoints of a row are, and the hash of their fixed parts, one behind the other.
+/// How long the checkpoints of a row are, and the hash of their fixed parts, one after the other.
 #[derive(Drop)]
 pub struct Checkpoints {
     pub lengths: Vec<usize>,
@@ -14,8 +14,8 @@ pub struct Checkpoints {
 }
 
 impl Checkpoints {
-    /// What a text spells: the hash in hexadecimal digits, and the lengths, each perhaps with `*` and a number behind it. None
-    /// also for want of memory.
+    /// Parses a text: the hash in hexadecimal digits, and the lengths, each perhaps with `*` and a number after it. `None` for
+    /// another text, and for lack of memory.
     pub fn read(alloc: Global, text: &str) -> Option<Checkpoints> {
         let (hash, words) = text.split_once(' ')?;
         let mut lengths = Vec::new(alloc);
@@ -37,7 +37,7 @@ fn push(lengths: &mut Vec<usize>, length: usize, count: usize) -> Option<()> {
     Some(())
 }
 
-/// The hash of some octets behind others that have this hash (FNV-1a, of 32 bits).
+/// The hash of some octets after others that have this hash (FNV-1a, of 32 bits).
 pub fn hashed(hash: u32, octets: &[u8]) -> u32 {
     let mut hash = hash;
     for octet in octets {

@@ -1,4 +1,4 @@
-//! What differs between the lines and the status that a row tells, and those of a dump.
+//! What differs between the lines and the status that a row gives, and those of a dump.
 
 use giop_stream::LoadFault;
 use std::fmt;
@@ -6,7 +6,7 @@ use std::fmt;
 /// The first thing that differs.
 #[derive(Clone, Copy)]
 pub enum Difference<'w, 'g> {
-    /// A line, counted from 1. An empty one stands for none.
+    /// A line, counted from 1. An empty text means that there is no such line.
     Line {
         number: usize,
         wanted: &'w str,
@@ -17,13 +17,13 @@ pub enum Difference<'w, 'g> {
         wanted: u8,
         got: u8,
     },
-    /// The length of the checkpoint behind so many octets.
+    /// The length of the checkpoint after so many octets.
     Length {
         at: usize,
         wanted: usize,
         got: usize,
     },
-    /// Why the checkpoint behind so many octets is refused.
+    /// Why the checkpoint after so many octets is refused.
     Refused {
         at: usize,
         why: LoadFault,
@@ -62,8 +62,7 @@ impl fmt::Display for Difference<'_, '_> {
     }
 }
 
-/// Compares the lines that are wanted, the last one's end left out, and the status, with what was written and the status
-/// of a dump.
+/// Compares the lines that are wanted, without the last line feed, and the status, with what a dump wrote and its status.
 pub fn compare<'w, 'g>(
     wanted: &'w str,
     wanted_status: u8,
@@ -83,7 +82,7 @@ pub fn compare<'w, 'g>(
     None
 }
 
-/// Whether a text is these lines, of which the last one's end is left out; or no line.
+/// Whether a text is these lines, which are given without the last line feed.
 fn is_same(wanted: &str, got: &str) -> bool {
     if wanted.is_empty() {
         return got.is_empty();
@@ -111,7 +110,7 @@ pub fn compare_front<'w, 'g>(
     None
 }
 
-/// The first line in which two texts differ, or the first behind the end of one of them.
+/// The first line in which two texts differ, or the first one after the end of one of them.
 fn first_line<'w, 'g>(wanted: &'w str, got: &'g str) -> Difference<'w, 'g> {
     let mut number = 1usize;
     let mut left = got.split('\n');

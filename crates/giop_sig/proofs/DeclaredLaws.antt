@@ -9,7 +9,7 @@ use Rattle.giop_tokens.specs.declared.marks.Mark.TheVariants as marks
 use Rattle.giop_tokens.specs.Tokens.{Token, word, repository, mark, left_of, AreTokens}
 use Rattle.giop_tokens.specs.Reading.{◌>>=◌}
 use Rattle.giop_tokens.specs.Readers.{mark_at}
-use Rattle.giop_tokens.proofs.ReaderLaws.{bind_ok, ok_is, Takes, mark_again, mark_if_again, mark_takes, repository_again}
+use Rattle.giop_tokens.proofs.ReaderLaws.{bind_ok, ok_is, Takes, mark_again, mark_if_again, mark_takes, repository_again, repository_few}
 use Rattle.giop_sig.specs.Table.{Node, exception_in}
 use Rattle.giop_sig.specs.Table as nodes
 use Rattle.giop_sig.specs.Grammar.{Item, spell_length, spell_items, Declaration, Structure, DeclaredException, spell}
@@ -128,14 +128,11 @@ repository_keeps s r short new kinds.Limit = short
 repository_keeps s r short new _ = tt
 
 repository_by : (types : List Node) (s : Scope) (text r rest : List ℕ) (more : List Token)
-    (a b : Bool) → ltb 128 (length r) ≡ a
-    → is_some (exception_in s.table r) ≡ b → AreTokens rest more
+    (b : Bool) → length r ≤ 128 → is_some (exception_in s.table r) ≡ b → AreTokens rest more
     → Out {X = List ℕ × List ℕ} (λ rest. (r, rest)) (λ k. OfRepository k s r) types more
-    (cond a (Err (refused kinds.Limit text))
-    (cond b (Err (refused kinds.Duplicate text)) (Ok (r, rest))))
-repository_by types s text r rest more true b p q m = broken (refused kinds.Limit text) (inl (λ h. let z = ltb-true 128 (length r) p in omega arith))
-repository_by types s text r rest more false true p q m = broken (refused kinds.Duplicate text) (some_none (exception_in s.table r) q)
-repository_by types s text r rest more false false p q m = good rest m (repository_keeps s r (ltb-false 128 (length r) p) (none_of (exception_in s.table r) q))
+    (cond b (Err (refused kinds.Duplicate text)) (Ok (r, rest)))
+repository_by types s text r rest more true few q m = broken (refused kinds.Duplicate text) (some_none (exception_in s.table r) q)
+repository_by types s text r rest more false few q m = good rest m (repository_keeps s r few (none_of (exception_in s.table r) q))
 
 repository_reads : (types : List Node) (s : Scope) (text r : List ℕ) (more : List Token)
     → AreTokens text (repository r ∷ more)
@@ -143,7 +140,9 @@ repository_reads : (types : List Node) (s : Scope) (text r : List ℕ) (more : L
     (new_repository_at s text)
 unfolding new_repository_at
 repository_reads types s text r more h =
-    rw (repository_again text r more h) (repository_by types s text r h.0 more (ltb 128 (length r)) (is_some (exception_in s.table r)) refl refl h.2)
+    rw (repository_again text r more h)
+    (repository_by types s text r h.0 more (is_some (exception_in s.table r))
+    (repository_few text (r, h.0) (repository_again text r more h)) refl h.2)
 
 pub raise_reads : (s : Scope) (w i : List ℕ) (is : List Item) (text : List ℕ) (more : List Token)
     → 0 < size s → OfDeclaration kinds.Syntax s (DeclaredException w i is)

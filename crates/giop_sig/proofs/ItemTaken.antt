@@ -14,7 +14,7 @@ use Rattle.giop_tokens.specs.Tokens.{word, repository, mark}
 use Rattle.giop_tokens.specs.Reading.{◌>>=◌}
 use Rattle.giop_tokens.specs.Readers.{mark_at, mark_if, repository_at}
 use Rattle.giop_tokens.specs.Names.{identifier_at}
-use Rattle.giop_tokens.proofs.ReaderLaws.{bind_ok, ok_is, Takes, word_takes, mark_takes, mark_if_takes, repository_takes, identifier_word}
+use Rattle.giop_tokens.proofs.ReaderLaws.{bind_ok, ok_is, Takes, word_takes, mark_takes, mark_if_takes, repository_takes, identifier_word, repository_few}
 use Rattle.giop_sig.specs.Table.{Node, Part, IsPart, TakesOctet, exception_in}
 use Rattle.giop_sig.specs.Table as nodes
 use Rattle.giop_sig.specs.Grammar.{Item, spell_length, spell_item, spell_items}
@@ -291,22 +291,20 @@ pub record RepositoryTaken (s : Scope) (text : List ℕ) (x : List ℕ × List �
   pub new : exception_in s.table x.0 ≡ None
   pub front : Takes text (repository x.0) x.1
 
-repository_by : (s : Scope) (text : List ℕ) (i x : List ℕ × List ℕ) (a b : Bool)
-    → ltb 128 (length i.0) ≡ a → is_some (exception_in s.table i.0) ≡ b
+repository_by : (s : Scope) (text : List ℕ) (i x : List ℕ × List ℕ) (b : Bool)
+    → length i.0 ≤ 128 → is_some (exception_in s.table i.0) ≡ b
     → Takes text (repository i.0) i.1
-    → cond a (Err (refused kinds.Limit text))
-    (cond b (Err (refused kinds.Duplicate text)) (Ok (i.0, i.1))) ≡ Ok x → RepositoryTaken s text x
-repository_by s text i x true b p q t e = absurd cc
-repository_by s text i x false true p q t e = absurd cc
-repository_by s text i x false false p q t e =
-    subst (RepositoryTaken s text) (ok_is i x e) (record { short = ltb-false 128 (length i.0) p; new = none_of (exception_in s.table i.0) q; front = t })
+    → cond b (Err (refused kinds.Duplicate text)) (Ok (i.0, i.1)) ≡ Ok x → RepositoryTaken s text x
+repository_by s text i x true few q t e = absurd cc
+repository_by s text i x false few q t e =
+    subst (RepositoryTaken s text) (ok_is i x e) (record { short = few; new = none_of (exception_in s.table i.0) q; front = t })
 
 pub new_repository_takes : (s : Scope) (text : List ℕ) (x : List ℕ × List ℕ)
     → new_repository_at s text ≡ Ok x → RepositoryTaken s text x
 unfolding new_repository_at
 new_repository_takes s text x e =
     let a = bind_ok _ _ x e in
-    repository_by s text a.0 x (ltb 128 (length (a.0).0)) (is_some (exception_in s.table (a.0).0)) refl refl (repository_takes text a.0 a.1) a.2
+    repository_by s text a.0 x (is_some (exception_in s.table (a.0).0)) (repository_few text a.0 a.1) refl (repository_takes text a.0 a.1) a.2
 
 -- an id that was new is still new
 pub still_different : (s t : Scope) (r : List ℕ) → Grows s t → exception_in s.table r ≡ None

@@ -123,13 +123,11 @@ structure_at s text = do
   p ← added (left_of text) m.0 (nodes.members m.1)
   Ok (with_named n.0 p, r)
 
--- a repository id that is new, and not too long
+-- a repository id that is new
 unfoldable pub new_repository_at : Scope → List ℕ → Result (List ℕ × List ℕ) Refusal
 new_repository_at s text = do
   i ← repository_at text
-  if nat_lt 128 (length i.0) then Err (refused kinds.Limit text)
-      else (if is_some (exception_in s.table i.0)
-      then Err (refused kinds.Duplicate text) else Ok (i.0, i.1))
+  if is_some (exception_in s.table i.0) then Err (refused kinds.Duplicate text) else Ok (i.0, i.1)
 
 unfoldable pub exception_at : Scope → List ℕ → Result Declared Refusal
 exception_at s text = do

@@ -21,8 +21,6 @@ use std::alloc::Global;
 pub(crate) const WORDS_MAX: u8 = 25;
 /// The most members of a struct.
 const MEMBERS_MAX: usize = 256;
-/// The most octets of a repository id.
-const REPOSITORY_MAX: usize = 128;
 /// The most types, exceptions or operations.
 pub(crate) const DECLARED_MAX: u32 = 4_096;
 
@@ -207,15 +205,12 @@ pub(crate) fn structure_at<'a>(
     Ok(rest)
 }
 
-/// A repository id that is new, and not too long.
+/// A repository id that is new.
 #[tactic(auto, unfolding(crate::specs::ItemReading::new_repository_at))]
 fn new_repository_at<'a>(draft: &Draft, text: &'a [u8]) -> Result<(&'a [u8], &'a [u8]), ParseStop>
     ensures { Gives (λ x. (x.0.now, x.1.now)) result (new_repository_at draft.now text.now) }
 {
     let (repository, rest) = repository_id(text)?;
-    if repository.len() > REPOSITORY_MAX {
-        return Err(ParseStop::Refused(refused(SigFaultKind::Limit, text)));
-    }
     if draft.has_repository(repository) {
         return Err(ParseStop::Refused(refused(SigFaultKind::Duplicate, text)));
     }

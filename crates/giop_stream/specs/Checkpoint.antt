@@ -1,4 +1,5 @@
--- Which fields of an engine a checkpoint has, and which streams its octets spell (docs/FORMATS.md, Checkpoints; state).
+-- The octets of a checkpoint: which fields of an engine they store, and of which streams they are the checkpoint
+-- (docs/FORMATS.md, Checkpoints; state).
 use Rattle.std.specs.Prelude.{◌≡◌, ◌≤◌, ◌⊎◌, ℕ, ◌+◌, ◌-◌, ◌*◌, List, [], ◌∷◌, ◌++◌, length, flat_map, replicate, nat_lt, Option, Some, None, Result, Ok, Err, IfOk, if◌then◌else◌}
 use Rattle.giop_cdr.specs.Numbers.{AreOctets}
 use Rattle.giop_print.specs.declared.sink.OutFault.{OutFault}
@@ -39,17 +40,17 @@ use Rattle.giop_stream.specs.ViewOfState.{Shows}
 
 -- ---- the fixed part
 
--- what the table and the list have that an engine reads by
+-- how many types, operations, exceptions and requests an engine reads by
 unfoldable pub counts_of : Table → RequestTable → Counts
 counts_of C l = record { types = C.declared; operations = length C.operations; exceptions = length C.exceptions; ids = length l }
 
--- Behind a stream fault nothing is held of a header; else fewer than 12 octets, or a payload comes.
+-- where the next octet is: after a stream fault, in a header of which fewer than 12 octets are held, or in a payload
 abbrev pub place_of : Option StreamFault → List ℕ → ℕ → Place
 place_of (Some fault) header payload_count = Stopped fault
 place_of None header payload_count =
     if nat_lt (length header) 12 then Header (record { items = header }) else Payload header (size header - payload_count)
 
--- the record of the current message itself, behind those of the open ones
+-- the record of the current message itself, after those of the open ones
 abbrev pub own_record : ℕ → Option Message → Option ℕ
 own_record many None = None
 own_record many (Some m) = Some many
@@ -82,12 +83,12 @@ abbrev pub standing_of : Option Message → ℕ → RecordKind
 standing_of None id = record_kinds.Over id
 standing_of (Some m) id = record_kinds.Open id
 
--- what is kept of a message that isn't over, in no more frames than the types that it fits are deep
+-- the entry stores a message that isn't over, in no more frames than the types that it fits are deep
 pub record IsHeld (m : Message) (e : Entry) : Type 0 where
   pub stored : Stored m e.message e.frames
   pub shallow : (C : Table) → Fits C m → e.record_is.frames ≤ depth_of C.types
 
--- what a record keeps of a message; zeros of one that is over
+-- what an entry stores of a message; zeros of one that is over
 abbrev pub IsStored : Option Message → Entry → Type 0
 IsStored None e = (e.message ≡ replicate MESSAGE_SIZE 0) × (e.frames ≡ [])
 IsStored (Some m) e = IsHeld m e
@@ -124,7 +125,7 @@ AreEntries [] own es = IsLast own es
 AreEntries (slot ∷ slots) own [] = ⊥
 AreEntries (slot ∷ slots) own (e ∷ es) = IsOpen slot e × AreEntries slots own es
 
--- ---- what a call writes behind these octets: an entry of which this is so, or several
+-- ---- what a call writes after these octets: an entry that has this property, or several
 
 pub record IsPutOne (before after : List ℕ) (Is : Entry → Type 0) : Type 0 where
   pub entry : Entry
@@ -139,14 +140,14 @@ pub record IsPut (before after : List ℕ) (Are : List Entry → Type 0) : Type 
 abbrev pub AreOpen : List OpenEntry → List Entry → Type 0
 AreOpen slots entries = AreEntries slots None entries
 
--- ---- what a call puts: all of these octets, their number its answer, or a front of them before a put failed
+-- ---- what a call puts: all of these octets, and their number is its result; or a front of them before a put failed
 
 pub record Puts (result : Result ℕ OutFault) (before after : OutLog) (octets : List ℕ)
     : Type 0 where
   pub written : Writes result before after octets
   pub count : IfOk result (λ n. n ≡ length octets)
 
--- octets of which this is so
+-- octets that have this property
 pub record PutsSuch (result : Result ℕ OutFault) (before after : OutLog)
     (Is : List ℕ → Type 0) : Type 0 where
   pub octets : List ℕ
@@ -159,7 +160,7 @@ unfoldable pub checkpoint_octets : Layout → Table → RequestTable → Framing
 checkpoint_octets layout C l m entries =
     fixed_octets layout (fixed_of C l m) ++ flat_map entry_octets entries
 
--- the checkpoint of this memory, in this layout
+-- the checkpoint of an engine with these fields, in this layout
 pub record IsPutWhole (layout : Layout) (C : Table) (l : RequestTable) (m : FramingView) (octets : List ℕ)
     : Type 0 where
   pub entries : List Entry
@@ -167,7 +168,7 @@ pub record IsPutWhole (layout : Layout) (C : Table) (l : RequestTable) (m : Fram
   pub put : octets ≡ checkpoint_octets layout C l m entries
 
 -- These octets are the checkpoint of an engine that holds the stream p, by this table and list, where
--- so many messages may be open. Layout 3 says how many; by layout 2 they are 16.
+-- so many messages may be open. Layout 3 stores how many; in layout 2 they are 16.
 pub record Spells (octets : List ℕ) (C : Table) (l : RequestTable) (most : ℕ) (p : List ℕ) : Type 0 where
   pub layout : Layout
   pub memory : FramingView
@@ -180,7 +181,7 @@ pub record Spells (octets : List ℕ) (C : Table) (l : RequestTable) (most : ℕ
   pub shows : Shows C l memory (state_of (rules C l most) p)
   pub ready : AreReady C (memory.totals.octets + 1) memory.slots
 
--- the greatest checkpoint where so many messages may be open, for a catalogue of this depth
+-- the size of the greatest checkpoint where so many messages may be open, for a catalogue of this depth
 unfoldable pub checkpoint_limit : ℕ → ℕ → ℕ
 checkpoint_limit most depth = FIXED_SIZE + (most + 1) * (RECORD_SIZE + FRAME_SIZE * depth)
 
@@ -190,7 +191,7 @@ entries_size [] = 0
 entries_size (e ∷ es) = (RECORD_SIZE + FRAME_SIZE * e.record_is.frames) + entries_size es
 
 -- What a save did: a checkpoint of p was written in layout 3, the fixed part and each record with its
--- frames, and its length is the answer; or a front of it before a put failed.
+-- frames, and its length is the result; or a front of it before a put failed.
 pub record Saves (result : Result ℕ Stop) (before after : OutLog)
     (C : Table) (l : RequestTable) (most : ℕ) (p : List ℕ) : Type 0 where
   pub octets : List ℕ
@@ -201,9 +202,10 @@ pub record Saves (result : Result ℕ Stop) (before after : OutLog)
   pub size : length octets ≡ FIXED_SIZE + entries_size spells.entries
   pub within : length octets ≤ checkpoint_limit most (depth_of C.types)
 
--- ---- what is no checkpoint
+-- ---- octets that are refused
 
--- These pass up to the records' lengths. What is wrong then is a field of a record, or totals that no stream has.
+-- The octets pass the checks up to the records' lengths. What may be wrong then is a field of a record, or totals that no
+-- stream has.
 abbrev pub PassesLengths : Counts → List ℕ → Type 0
 PassesLengths c s = (f : Fixed) × HasState c f s × HasRecords f s
 
@@ -211,7 +213,7 @@ PassesLengths c s = (f : Fixed) × HasState c f s × HasRecords f s
 abbrev pub Allows : Counts → List ℕ → ℕ → Type 0
 Allows c s n = (f : Fixed) × HasState c f s × (f.most_open ≡ n)
 
--- the first check that fails, or behind that of the lengths no memory for the open messages
+-- the first check that fails; or, after that of the lengths, no memory for the open messages
 abbrev pub IsRefused : Counts → List ℕ → LoadFault → Type 0
 IsRefused c s refusals.Magic = IsNotOurs c s refusals.Magic
 IsRefused c s refusals.Version = IsNotOurs c s refusals.Version
@@ -220,7 +222,7 @@ IsRefused c s refusals.Length = Refused c s refusals.Length
 IsRefused c s refusals.OutOfMemory = IsOurs c s × PassesLengths c s
 IsRefused c s refusals.State = IsOurs c s × (IsOutOfRange c s refusals.State ⊎ PassesLengths c s)
 
--- so is what was loaded, unless there wasn't enough memory
+-- what was loaded has this property, unless there wasn't enough memory
 abbrev pub OrNoMemory : {A : Type 0} → Result A LoadFault → (A → Type 0) → Type 0
 OrNoMemory (Ok x) Is = Is x
 OrNoMemory (Err why) Is = why ≡ refusals.OutOfMemory

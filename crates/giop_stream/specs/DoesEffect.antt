@@ -1,5 +1,5 @@
--- What a call does by which events have their effect: the lines that it writes, what it says of faults, and what it keeps
--- (steps). Private clauses alone cite these.
+-- A call does what an effect of events says: the lines that it writes, the faults that it counts, and what the slots keep
+-- afterwards (steps). Only private clauses cite these.
 use Rattle.std.specs.Prelude.{◌≡◌, ℕ, Bool, List, Option, Result, OnOk, IfOk, if◌then◌else◌}
 use Rattle.giop_print.specs.Output.{OutLog, Writes}
 use Rattle.giop_sig.specs.Table.{Table}
@@ -13,34 +13,34 @@ use Rattle.giop_stream.specs.Stream.{fault_count}
 use Rattle.giop_stream.specs.Effects.{Effect, Part}
 use Rattle.giop_stream.specs.SlotsRepresent.{RepresentsMessage, SlotsRepresent}
 
--- The call writes these lines; its result counts the faults among them; and where it doesn't fail, this is so then.
+-- The call writes these lines; its result counts the faults among them; and where it doesn't fail, `leaves` holds then.
 pub record WritesAndLeaves {A E : Type 0} (count : A → ℕ) (result : Result A E) (before after : OutLog) (ls : List Line) (leaves : Type 0) : Type 0 where
   pub text : Writes result before after (lines_text ls)
   pub faults : IfOk result (λ x. fault_count ls ≡ count x)
   pub kept : OnOk result leaves
 
--- the faults of a call that says whether there is one
+-- how many faults the result of a call counts: of one that returns whether there is a fault,
 abbrev pub one_if : Bool → ℕ
 one_if fault = if fault then 1 else 0
 
--- of one that says how many
+-- of one that returns how many,
 abbrev pub all : ℕ → ℕ
 all faults = faults
 
--- and of one that has none
+-- and of one that finds none
 abbrev pub never : {A : Type 0} → A → ℕ
 never x = 0
 
--- The slots keep then what the effect leaves tracked, and the payload's next octets are this message's.
+-- The slots then represent what the effect leaves tracked, and the payload's next octets belong to this message.
 abbrev pub DoesEffect : {A E : Type 0} → Table → RequestTable → (A → ℕ) → Result A E → OutLog → OutLog → Slots → Effect → Option MessageKey → Type 0
 DoesEffect C l count result before after slots effect owner_of_next =
     WritesAndLeaves count result before after effect.lines (SlotsRepresent C l slots effect.tracked owner_of_next)
 
--- The message of this number and header is kept as this part of an effect leaves it.
+-- The code's message of this number and header then represents what this part of an effect leaves.
 abbrev pub DoesPart : {A E : Type 0} → Table → RequestTable → (A → ℕ) → Result A E → OutLog → OutLog → Option CodeMessage → MessageKey → Part → Type 0
 DoesPart C l count result before after message w part =
     WritesAndLeaves count result before after part.lines (RepresentsMessage C l message w part.octets)
 
--- Nothing is kept.
+-- The lines alone: nothing is kept.
 abbrev pub WritesLines : {A E : Type 0} → (A → ℕ) → Result A E → OutLog → OutLog → List Line → Type 0
 WritesLines count result before after ls = WritesAndLeaves count result before after ls (Unit {0})

@@ -1,4 +1,5 @@
--- What an octet does, an event after the other, as the code does it (steps).
+-- What the events of an octet do, one after the other: to the open messages, to what is kept of each message, and the lines
+-- that they give (steps).
 use Rattle.std.specs.Prelude.{Bool, true, ◌≡◌, ℕ, ◌<◌, ◌≤◌, false, List, [], ◌∷◌, ◌++◌, length, Option, Some, None, if◌then◌else◌, option_map}
 use Rattle.std.specs.List.{list_any, AllByRecursion as Each}
 use Rattle.giop_message.specs.MessageReader.{MessageReader}
@@ -22,7 +23,7 @@ unfoldable pub lines_for : MessageReader → Event → Option (List ℕ) → Lis
 lines_for R e None = []
 lines_for R e (Some xs) = lines_of_event R e xs (xs ++ joined e.subject.number (e ∷ [])) e.what
 
--- what is kept with the octets of these events, and once these lines are written
+-- what is kept of each message: with the octets of these events added, and without the messages that these lines end
 unfoldable pub kept_with : OctetsByNumber → List Event → OctetsByNumber
 kept_with known es i = option_map (λ xs. xs ++ joined i es) (known i)
 
@@ -42,7 +43,7 @@ effects R c (e ∷ es) =
     let more = effects R (tracked_at R c e) es in
     record { tracked = more.tracked; lines = lines_at R c.known e ++ more.lines }
 
--- While a request id comes, no more is kept of its message than what came before this octet.
+-- While its request id is read, a message has fewer octets kept than its payload has with this octet.
 abbrev pub IsBegun : OctetsByNumber → Message → Type 0
 IsBegun known m = 0 < length m.payload → length m.payload ≤ 4 → (xs : List ℕ) → known m.number ≡ Some xs → length xs < length m.payload
 
@@ -60,7 +61,7 @@ lines_of R e o = up_to_last_line (λ i. false) (lines_for R e o)
 unfoldable pub octets_then : MessageReader → Event → Option (List ℕ) → Option (List ℕ)
 octets_then R e o = if list_any (is_last_of e.subject.number) (lines_of R e o) then None else option_map (λ xs. xs ++ octet e.what) o
 
--- both
+-- the two together
 pub record Part : Type 0 where
   pub octets : Option (List ℕ)
   pub lines : List Line
@@ -68,7 +69,7 @@ pub record Part : Type 0 where
 unfoldable pub part_of : MessageReader → Event → Option (List ℕ) → Part
 part_of R e o = record { octets = octets_then R e o; lines = lines_of R e o }
 
--- what no event makes of it
+-- the part of no event
 abbrev pub no_part : Option (List ℕ) → Part
 no_part o = record { octets = o; lines = [] }
 
@@ -76,13 +77,13 @@ no_part o = record { octets = o; lines = [] }
 abbrev pub then_part : Part → Part → Part
 then_part one more = record { octets = more.octets; lines = one.lines ++ more.lines }
 
--- what there is to know of the messages of a stream
+-- what is tracked of the messages of a stream
 unfoldable pub tracked_after : Rules → List ℕ → Tracked
 tracked_after R p = record { still_open = open_after R.most p; known = octets_of R p }
 
 -- ---- What an event does to the slots.
 
--- it opens nothing and closes nothing
+-- the event opens nothing and closes nothing
 abbrev pub stays : EventKind → Bool
 stays Begins = true
 stays (Takes x) = true
@@ -92,7 +93,7 @@ stays (Cancelled j) = false
 stays (Faults fault) = true
 stays Closes = false
 
--- it closes a message
+-- the event closes a message
 abbrev pub goes : EventKind → Bool
 goes Begins = false
 goes (Takes x) = false

@@ -1,4 +1,4 @@
--- Which streams an engine holds: each of its fields is said from the whole stream (state).
+-- Which streams an engine holds: each of its fields is determined by the whole stream (state).
 use Rattle.std.specs.Prelude.{◌≡◌, ℕ, List, length, drop, ◌++◌, true, false, Option, Some, None, Result, Ok, Err}
 use Rattle.giop_cdr.specs.Numbers.{AreOctets}
 use Rattle.giop_print.specs.Output.{OutLog, Wrote, WroteFront}
@@ -16,11 +16,11 @@ use Rattle.giop_stream.specs.EngineState.{state_of}
 use Rattle.giop_stream.specs.ViewOfState.{Shows}
 use Rattle.giop_stream.specs.EngineView.{EngineView}
 
--- what is kept of a list of requests for the operations of this table
+-- the request table is of the operations of this table
 abbrev pub AreOf : Table → RequestTable → Type 0
 AreOf C l = messages.AreOf C l
 
--- by what an engine reads: its table, what it knows of requests, and how many messages may be open
+-- the rules that an engine reads by: its table, its request table, and how many messages may be open
 abbrev pub rules_of : EngineView → Rules
 rules_of e = rules e.table e.request_table e.most
 
@@ -28,7 +28,7 @@ rules_of e = rules e.table e.request_table e.most
 unfoldable pub added : Rules → List ℕ → List ℕ → List ℕ
 added R p more = drop (length (text R p)) (text R (p ++ more))
 
--- The engine holds the stream p: its fields show what there is to hold of it.
+-- The engine holds the stream p: its fields show the state of p.
 pub record Holds (e : EngineView) (p : List ℕ) : Type 0 where
   pub sound : e.failed ≡ false
   pub octets : AreOctets p
@@ -44,7 +44,7 @@ StopWrites (Ok x) before after due = Wrote before after due
 StopWrites (Err (stop.Out f)) before after due = WroteFront before after due
 StopWrites (Err stop.Failed) before after due = after ≡ before
 
--- what a call leaves of the engine
+-- how a call leaves the engine: whether it is failed, and with which totals
 abbrev pub Leaves : {A : Type 0} → Result A Stop → EngineView → EngineView → Type 0
 Leaves (Ok x) before after = (before.failed ≡ false) × (after.failed ≡ false)
 Leaves (Err (stop.Out f)) before after = (before.failed ≡ false) × (after.failed ≡ true) × (after.stream.totals ≡ before.stream.totals)

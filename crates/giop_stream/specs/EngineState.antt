@@ -1,5 +1,5 @@
--- What an engine holds of a stream: one record, each field of which is said from the whole stream (state). A checkpoint has these
--- fields and no other.
+-- What an engine holds of a stream: one record, each field of which is determined by the whole stream (state). A checkpoint
+-- stores these fields and no other.
 use Rattle.std.specs.Prelude.{ℕ, ◌-◌, Bool, ◌&&◌, ◌||◌, List, [], length, Option, Some, None, is_some, nat_lt, nat_le, if◌then◌else◌, option_map}
 use Rattle.giop_stream.specs.Rules.{Rules}
 use Rattle.giop_message.specs.Headers.{size, is_fragment}
@@ -19,13 +19,13 @@ pub record Own : Type 0 where
 pub record State : Type 0 where
   pub totals : Totals
   pub stop : Option StreamFault
-  pub held : List ℕ  -- the header octets that have come, all 12 within a payload; none behind the stream fault
-  pub left : ℕ  -- the payload octets still to come; none behind the stream fault
+  pub held : List ℕ  -- the header octets read so far, all 12 within a payload; none after a stream fault
+  pub left : ℕ  -- how many payload octets are still to come; 0 after a stream fault
   pub slots : List Slot  -- the open messages, with the octets of each that isn't over
   pub own : Option Own
-  pub owner : Option ℕ  -- the number of the message, open or current, whose the payload's next octets are
+  pub owner : Option ℕ  -- the number of the message, open or current, that the payload's next octets belong to
 
--- ---- What is held of a message that is current, behind the octet that came last.
+-- ---- What is held of the current message, after the octet that came last.
 
 abbrev pub is_named : Now → Bool
 is_named now = is_fragment now.subject.header && nat_le 4 now.payload_count
@@ -38,7 +38,7 @@ own_for known still_open now =
     if is_open still_open now.subject.number || is_named now then None
     else option_map (λ xs. record { message_key = now.subject; octets = xs }) (known now.subject.number)
 
--- and where it is a Fragment that continues this one
+-- the number of the message that its next octets belong to; `other` is the open message that a Fragment continues
 unfoldable pub owner_for : OctetsByNumber → List Open → Now → Option Open → Option ℕ
 owner_for known still_open now other =
     if is_named now then option_map (λ o. o.opener.number) other

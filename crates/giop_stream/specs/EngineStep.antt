@@ -1,4 +1,4 @@
--- What the next octet of a stream makes of what an engine holds, and its lines; and what is written at the finish (steps).
+-- What the next octet of a stream changes in what an engine holds, and its lines; and what is written at the finish (steps).
 use Rattle.std.specs.Prelude.{ℕ, suc, ◌+◌, ◌-◌, Bool, ◌&&◌, List, [], ◌∷◌, ◌++◌, length, map, flat_map, Option, Some, None, is_none, ◌==◌, nat_lt, if◌then◌else◌, option_map}
 use Rattle.std.specs.List.{find}
 use Rattle.giop_cdr.specs.Numbers.{num}
@@ -29,7 +29,7 @@ octet_at s x = octet_in s.stop s.held s.totals.messages s.totals.octets (size s.
 
 -- ---- An octet of a message.
 
--- what is kept of the message itself; of one that begins, that nothing has come
+-- the octets kept of the message itself; of one that begins, none so far
 abbrev pub own_octets : State → Now → Option (List ℕ)
 own_octets s now = if now.payload_count == 0 then Some [] else option_map (λ o. o.octets) s.own
 
@@ -47,11 +47,12 @@ id_by now (Some xs) = num (order now.subject.header) (xs ++ now.octet ∷ [])
 unfoldable pub id_of : State → Now → ℕ
 id_of s now = id_by now (own_octets s now)
 
--- the open message that has this request id; behind the request id, the owner of the octet
+-- the open message of this number
 abbrev pub numbered : List Open → Option ℕ → Option Open
 numbered still_open None = None
 numbered still_open (Some number) = find (λ o. o.opener.number == number) still_open
 
+-- at the last octet of a request id, the open message with that id; after it, the open message that the octet belongs to
 unfoldable pub other_of : State → Now → Option Open
 other_of s now = if now.payload_count == 4 then find (λ o. o.id == id_of s now) (still_open_of s) else numbered (still_open_of s) s.owner
 

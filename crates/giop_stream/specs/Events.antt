@@ -1,5 +1,5 @@
--- What each octet of each message does, and to which message (meaning). From this come the open messages, the octets that each
--- joined message has, and its lines (GIOP Message Formats, Fragment Message, CancelRequest Message).
+-- The events of a stream: what each octet of each message does, and to which message (meaning). They determine the open
+-- messages, the octets of each joined message, and its lines (GIOP Message Formats, Fragment Message, CancelRequest Message).
 use Rattle.std.specs.Prelude.{ℕ, ◌+◌, ◌-◌, ◌<◌, Bool, true, false, not, ◌&&◌, ◌||◌, List, [], ◌∷◌, ◌++◌, length, get_or, take, filter, flat_map, Option, Some, None, nat_lt, nat_le, ◌==◌, if◌then◌else◌}
 use Rattle.std.specs.List.{find, AllByRecursion as Each}
 use Rattle.giop_cdr.specs.declared.order.Order.{Order}
@@ -12,7 +12,7 @@ use Rattle.giop_message.specs.Headers.{order, has_more, size, is_opener, is_frag
 use Rattle.giop_stream.specs.Framing.{Message, with_payload, cut, messages}
 use Rattle.giop_stream.specs.Kinds.{may_be_cancelled, refused}
 
--- what may happen to a message
+-- what an octet may do to a message
 pub data EventKind : Type 0 where
   Begins : EventKind  -- its header is complete
   Takes : ℕ → EventKind  -- the joined message gets this octet
@@ -22,12 +22,13 @@ pub data EventKind : Type 0 where
   Faults : FramingFault → EventKind  -- it is faulted for its header, its request id or its size
   Closes : EventKind  -- the joined message is complete
 
+-- which message: its number and its header
 pub record MessageKey : Type 0 where
   pub number : ℕ
   pub header : List ℕ
 
 pub record Event : Type 0 where
-  pub place : ℕ  -- the stream octets up to and with the one that does it
+  pub place : ℕ  -- the number in the stream of the octet that does it, from 1
   pub subject : MessageKey
   pub what : EventKind
 
@@ -45,22 +46,22 @@ place m = m.before + 12 + length m.payload
 -- an octet of a message: the last one of its header, or one of its payload
 pub record Now : Type 0 where
   pub subject : MessageKey
-  pub place : ℕ  -- the stream octets up to and with this one
-  pub payload_count : ℕ  -- the payload octets up to and with this one
+  pub place : ℕ  -- the octet's number in the stream, from 1
+  pub payload_count : ℕ  -- how many payload octets were read, this one included
   pub octet : ℕ
 
--- a message at its last octet that came
+-- a message at the octet of it that came last
 abbrev pub now_of : Message → Now
 now_of m = record { subject = message_key m; place = place m; payload_count = length m.payload; octet = get_or m.payload (length m.payload - 1) 0 }
 
--- The functions from here to `events_with_id` say what an octet of a message does, where the message has this request id and `other` is
--- the message that was open under that.
+-- The functions from here to `events_with_id` give the events of an octet of a message, where `id` is the message's request id
+-- and `other` the message that was open under that id.
 
--- to the message itself
+-- an event of the message itself
 unfoldable pub own : Now → EventKind → List Event
 own now what = record { place = now.place; subject = now.subject; what = what } ∷ []
 
--- to the open message that has its request id
+-- an event of the open message that has its request id
 unfoldable pub event_of_open : Now → Option Open → EventKind → List Event
 event_of_open now None what = []
 event_of_open now (Some o) what = record { place = now.place; subject = o.opener; what = what } ∷ []
@@ -134,7 +135,7 @@ events_with_id most still_open now id other =
     ++ ((if now.payload_count == 4 then request_id_events most still_open now id other else [])
     ++ (if now.payload_count == size now.subject.header then message_end_events now other else []))
 
--- ---- The same of a message whose last octet has just come, where these messages were open before it.
+-- ---- The same of a message at its last octet so far, where these messages were open before that octet.
 
 unfoldable pub id : Message → ℕ
 id m = num (order m.header) (take 4 m.payload)
@@ -201,7 +202,7 @@ events most p = events_from most [] (messages (cut p))
 unfoldable pub open_after : ℕ → List ℕ → List Open
 open_after most p = opened [] (events most p)
 
--- the octets of the joined message of this number, after its header
+-- the octet that an event adds to a joined message
 unfoldable pub octet : EventKind → List ℕ
 octet (Takes x) = x ∷ []
 octet Begins = []
@@ -211,6 +212,7 @@ octet (Cancelled j) = []
 octet (Faults fault) = []
 octet Closes = []
 
+-- the octets of the joined message of this number, after its header
 unfoldable pub joined : ℕ → List Event → List ℕ
 joined i es = flat_map (λ e. if e.subject.number == i then octet e.what else []) es
 

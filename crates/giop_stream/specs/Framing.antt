@@ -1,4 +1,5 @@
--- How a stream falls into messages, and where it stops (GIOP Message Formats, GIOP Message Header; meaning). Places count stream octets from 1.
+-- How a stream is cut into messages, and which octet of it is a stream fault (GIOP Message Formats, GIOP Message Header;
+-- meaning). Places count stream octets from 1.
 use Rattle.std.specs.Prelude.{ℕ, zero, suc, Bool, true, false, ◌+◌, ◌^◌, List, [], ◌∷◌, ◌++◌, length, take, drop, Option, Some, None, nat_lt, if◌then◌else◌, option_to_list}
 use Rattle.giop_checkpoint.specs.declared.fault.StreamFault.{StreamFault}
 use Rattle.giop_checkpoint.specs.declared.fault.StreamFault.TheVariants.{StreamLimit}
@@ -9,7 +10,7 @@ pub record Message : Type 0 where
   pub number : ℕ  -- from 1
   pub before : ℕ  -- the stream octets before it
   pub header : List ℕ  -- its 12 octets
-  pub payload : List ℕ  -- what has come of its payload
+  pub payload : List ℕ  -- the octets of its payload so far
 
 abbrev pub with_payload : Message → List ℕ → Message
 with_payload m xs = record m { payload = xs }
@@ -17,14 +18,14 @@ with_payload m xs = record m { payload = xs }
 pub record Cut : Type 0 where
   pub whole : List Message  -- the messages that are complete
   pub current : Option Message  -- the last one, where it is incomplete
-  pub held : List ℕ  -- what has come of the next header
+  pub held : List ℕ  -- the octets of the next header so far
   pub stop : Option (ℕ × StreamFault)  -- the stream fault, with the place of its octet
 
 unfoldable pub with_first : Message → Cut → Cut
 with_first m c = record c { whole = m ∷ c.whole }
 
--- What is left of the stream, where the next message has this number and comes after so many octets: at most `fuel`
--- messages. The `elim` waits for the first wrong octet, so that nothing is cut behind one.
+-- The rest of the stream, cut, where the next message has this number and comes after so many octets: at most `fuel`
+-- messages. The `elim` looks for a wrong header octet first, so that nothing is cut after one.
 unfoldable pub cut_from : ℕ → ℕ → ℕ → List ℕ → Cut
 cut_from zero number before xs = record { whole = []; current = None; held = []; stop = None }
 cut_from (suc fuel) number before xs =
@@ -53,14 +54,14 @@ unfoldable pub limited : Bool → Cut → Cut
 limited false c = c
 limited true c = stop_or_limit c.stop c
 
--- The whole stream, cut. The offending octet and what follows it belong to no message.
+-- The whole stream, cut. The octet of a stream fault and what follows it belong to no message.
 unfoldable pub cut : List ℕ → Cut
 cut p = limited (nat_lt limit (length p)) (cut_from (suc (length p)) 1 0 (take limit p))
 
 unfoldable pub messages : Cut → List Message
 messages c = c.whole ++ option_to_list c.current
 
--- the octets that are read, up to and with that of a stream fault
+-- how many octets are read, that of a stream fault included
 unfoldable pub read_of : List ℕ → Option (ℕ × StreamFault) → ℕ
 read_of p None = length p
 read_of p (Some found) = found.0

@@ -1,11 +1,11 @@
--- What the calls of the framing do to the fields that are remembered (steps): private clauses alone cite these.
+-- What the functions of `Framing` do to its fields (steps). Only private clauses cite these.
 use Rattle.std.specs.Prelude.{ℕ, suc, Bool, [], ◌∷◌, ◌++◌, length, Some, is_none, ◌&&◌, ◌==◌, nat_lt, if◌then◌else◌}
 use Rattle.giop_checkpoint.specs.declared.fault.StreamFault.{StreamFault}
 use Rattle.giop_stream.specs.declared.status.Totals.{Totals}
 use Rattle.giop_stream.specs.Stream.{with_truncated}
 use Rattle.giop_stream.specs.EngineView.{FramingView}
 
--- an octet more that is read, and held of a header
+-- one octet more is read, and held as one of a header
 unfoldable pub held_on : FramingView → ℕ → FramingView
 held_on m x = record m { totals = record m.totals { octets = suc m.totals.octets }; header = m.header ++ x ∷ [] }
 
@@ -18,7 +18,7 @@ stop m fault place = record m {
   payload_count = 0;
 }
 
--- behind a message's last octet the next header comes
+-- after a message's last octet the next header begins
 unfoldable pub end_message : FramingView → ℕ → FramingView
 end_message m size = if m.payload_count == size then record m { header = []; payload_count = 0 } else m
 

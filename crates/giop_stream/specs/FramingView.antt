@@ -1,4 +1,4 @@
--- The fields of the code as what an engine remembers (state).
+-- The fields of the code's `Framing`, as the record that contracts see (state).
 use Rattle.giop_stream.specs.declared.framing.Framing.{Framing}
 use Rattle.giop_stream.specs.EngineView.{FramingView}
 

@@ -1,4 +1,4 @@
--- A message header of 12 octets: its fields, and which of its octets is wrong (GIOP Message Formats, GIOP Message Header; meaning).
+-- The octets of a message header: which of them is wrong, and how (GIOP Message Formats, GIOP Message Header; meaning).
 use Rattle.std.specs.Prelude.{ℕ, ◌-◌, Bool, true, false, ◌||◌, List, [], ◌∷◌, length, get_or, map, Option, Some, None, nat_lt, ◌==◌, if◌then◌else◌}
 use Rattle.giop_checkpoint.specs.declared.fault.StreamFault.{StreamFault}
 use Rattle.giop_checkpoint.specs.declared.fault.StreamFault.TheVariants.{Magic, Version, ByteOrder}
@@ -28,7 +28,7 @@ wrong front =
     else (if at == 6 then unless (nat_lt octet 2 || nat_lt 0 (get_or front 5 0)) ByteOrder
     else None)))))))
 
--- a fault at the last of so many octets, or what comes later
+-- a fault at the last of so many octets, or else what was found after it
 abbrev pub wrong_or : Option StreamFault → ℕ → Option (ℕ × StreamFault) → Option (ℕ × StreamFault)
 wrong_or (Some fault) size later = Some (size, fault)
 wrong_or None size later = later

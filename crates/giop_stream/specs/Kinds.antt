@@ -1,5 +1,5 @@
--- What kind of message a header begins, and what a message is faulted for by its header, its request id or its size alone
--- (GIOP Message Formats, Fragment Message; meaning).
+-- What kind of message a header begins, and what a message is faulted for by its header or its size alone (GIOP Message
+-- Formats, Fragment Message; meaning).
 use Rattle.std.specs.Prelude.{ℕ, Bool, ◌&&◌, ◌||◌, List, Option, Some, None, nat_lt, ◌==◌, if◌then◌else◌}
 use Rattle.giop_stream.specs.declared.fault.FramingFault.{FramingFault}
 use Rattle.giop_stream.specs.declared.fault.FramingFault.TheVariants.{MessageType, OldFragment}
@@ -16,7 +16,7 @@ refused header =
     else if (minor header == 1) && ((kind header == 7) || (has_more header && may_be_fragmented header)) then Some OldFragment
     else None
 
--- an opener or a Fragment that is over before its request id
+-- an opener or a Fragment that ends before its request id is complete
 unfoldable pub is_short : List ℕ → Bool
 is_short header = nat_lt (size header) 4 && (is_opener header || is_fragment header)
 

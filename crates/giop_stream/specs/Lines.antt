@@ -7,11 +7,12 @@ use Rattle.giop_message.specs.MessageReader.{LineClass, Value, Call, Rest, Fault
 use Rattle.giop_stream.specs.Rules.{Rules}
 use Rattle.giop_stream.specs.Events.{Event, EventKind, Begins, Takes, Opens, Continues, Cancelled, Faults, Closes, events, joined}
 
--- A fault of the framing stands before the rest, so that the rest, the end and the other faults of its octet come after it.
+-- The classes of lines. A framing fault stands before the rest, so that the rest, the end and the other faults of its octet
+-- come after it.
 pub data Class : Type 0 where
   Start ValueClass CallClass Continuing Cancelling FramingFaultClass RestClass FaultClass EndClass Stop : Class
 
--- where a class stands among the lines of one octet
+-- the order of the classes among the lines of one octet
 abbrev pub rank : Class → ℕ
 rank Start = 0
 rank ValueClass = 1
@@ -32,7 +33,7 @@ classes = Start ∷ ValueClass ∷ CallClass ∷ Continuing ∷ Cancelling ∷ F
 
 pub data Content : Type 0 where
   Started : List ℕ → Content  -- with this header
-  Said : LineClass → List ℕ → Content  -- what the reading of the message says
+  Said : LineClass → List ℕ → Content  -- a line that the message's reader gives
   ContinuesMessage : ℕ → Content  -- it continues this message
   CancelledBy : ℕ → Content  -- this message cancels it
   Faulted : FramingFault → Content
@@ -58,10 +59,11 @@ pub record Line : Type 0 where
 abbrev pub has_class : Class → Line → Bool
 has_class c l = is_of c (class_of l.content)
 
--- The lines of one event, of a message that has these octets so far and whose octets are all these.
+-- a line of this event
 unfoldable pub line : Event → Content → Line
 line e content = record { place = e.place; number = e.subject.number; content = content }
 
+-- The lines of one event, of a message that has the octets `so_far` before it and the octets `all` in the whole stream.
 unfoldable pub lines_of_event : MessageReader → Event → List ℕ → List ℕ → EventKind → List Line
 lines_of_event R e so_far all Begins = line e (Started e.subject.header) ∷ []
 lines_of_event R e so_far all (Takes x) = map (λ r. line e (Said r.line_class r.text)) (filter (λ r. r.at == suc (length so_far)) (R.reads e.subject.header all))
@@ -71,13 +73,13 @@ lines_of_event R e so_far all (Cancelled j) = line e (CancelledBy j) ∷ []
 lines_of_event R e so_far all (Faults fault) = line e (Faulted fault) ∷ []
 lines_of_event R e so_far all Closes = map (λ l. line e (Said l.0 l.1)) (R.closes e.subject.header so_far)
 
--- The lines of these events, which come after those others. All events of the stream are these.
+-- The lines of these events, where `past` are the events before them, and `all` those of the whole stream.
 unfoldable pub lines_of_events : MessageReader → List Event → List Event → List Event → List Line
 lines_of_events R all past [] = []
 lines_of_events R all past (e ∷ es) =
     lines_of_event R e (joined e.subject.number past) (joined e.subject.number all) e.what ++ lines_of_events R all (past ++ e ∷ []) es
 
--- Lines in the order of their stamps, up to this place.
+-- Lines in the order of their classes; and in the order of places, and at each of classes, up to this place.
 unfoldable pub by_class : List Line → List Line
 by_class ls = flat_map (λ class. filter (has_class class) ls) classes
 
@@ -97,7 +99,7 @@ ends (Stopped fault) = false
 unfoldable pub is_last_of : ℕ → Line → Bool
 is_last_of i l = (l.number == i) && ends l.content
 
--- Of each message the lines up to its first fault, cancelled line or end, where these messages are over before.
+-- Of each message the lines up to its first fault, cancelled line or end; none of a message that `is_over` holds of.
 unfoldable pub up_to_last_line : (ℕ → Bool) → List Line → List Line
 up_to_last_line is_over [] = []
 up_to_last_line is_over (l ∷ ls) =

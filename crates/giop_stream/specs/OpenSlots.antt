@@ -1,4 +1,4 @@
--- What is kept of each message of a stream, and of its open ones, said from the whole of it (state).
+-- What is kept of each message of a stream, and of its open ones, determined by the whole stream (state).
 use Rattle.std.specs.Prelude.{ℕ, Bool, List, [], ◌∷◌, map, Option, Some, None, ◌==◌, if◌then◌else◌}
 use Rattle.std.specs.List.{list_any}
 use Rattle.giop_stream.specs.Rules.{Rules}
@@ -10,7 +10,7 @@ pub record Slot : Type 0 where
   pub open_as : Open
   pub octets : Option (List ℕ)
 
--- what is kept of each message
+-- what is kept of each message, by its number
 abbrev pub OctetsByNumber : Type 0
 OctetsByNumber = ℕ → Option (List ℕ)
 

@@ -15,16 +15,16 @@ use Rattle.giop_stream.specs.Events.{MessageKey, Event, Open, Rising, id, messag
 use Rattle.giop_stream.specs.Effects.{Tracked, tracked_after, with_octet}
 use Rattle.giop_stream.specs.SlotsRepresent.{SlotsRepresent}
 
--- the message that an open one began with
+-- the first message of an open one
 abbrev pub opener_key : Option Open → Option MessageKey
 opener_key None = None
 opener_key (Some o) = Some o.opener
 
--- The owner of the next octet, where these messages are open: behind a Fragment's request id the message that it continues.
+-- The owner of the next octet, where these messages are open: after a Fragment's request id, the message that it continues.
 unfoldable pub owner_of_next : List Open → Message → Option MessageKey
 owner_of_next still_open m = if has_named m then opener_key (opener_of still_open m) else Some (message_key m)
 
--- and once the request id is complete
+-- the same once the request id is complete
 unfoldable pub owner_after_id : List Open → Message → Option MessageKey
 owner_after_id still_open m = if is_fragment m.header then opener_key (opener_of still_open m) else Some (message_key m)
 
@@ -38,7 +38,8 @@ pub record IsCurrent (now : Current) (m : Message) : Type 0 where
 abbrev pub SaysId : List ℕ → Type 0
 SaysId header = (T : Ty) × (header_type (minor header) (kind header) ≡ Some T) × BeginsWithId T
 
--- The request id of a message is complete: its own octets came, and the message isn't over where it begins with that id.
+-- The request id of a message is complete. Where the message begins with it, its octets were the message's own, and the
+-- message isn't over.
 pub record IsAtRequestId (C : Table) (l : RequestTable) (s : Slots) (c : Tracked) (m : Message) (now : Current) (i : ℕ) : Type 0 where
   pub keeps : SlotsRepresent C l s c (Some (message_key m))
   pub rising : Rising c.still_open
@@ -47,7 +48,7 @@ pub record IsAtRequestId (C : Table) (l : RequestTable) (s : Slots) (c : Tracked
   pub own_comes : has_name m.header ≡ true → s.payload ≡ Own
   pub alive : has_name m.header ≡ true → (xs : List ℕ) × (c.known m.number ≡ Some xs)
 
--- The slots keep what is tracked at an octet of a message, the last that came.
+-- The slots represent what is tracked at an octet of a message, the last that came.
 pub record IsAtOctet (C : Table) (l : RequestTable) (s : Slots) (c : Tracked) (m : Message) (now : Current) : Type 0 where
   pub keeps : SlotsRepresent C l s c (owner_of_next c.still_open m)
   pub rising : Rising c.still_open
@@ -72,7 +73,7 @@ owner_after still_open m = if length m.payload == size m.header then None else o
 abbrev pub IsNewest : ℕ → List Open → Type 0
 IsNewest n still_open = Each (λ o. o.opener.number < n) still_open
 
--- The slots keep what is tracked once the octet's owner has taken it.
+-- The slots represent what is tracked once the octet's owner has taken it.
 pub record IsAfterTake (C : Table) (l : RequestTable) (s : Slots) (c : Tracked) (m : Message) (now : Current) : Type 0 where
   pub keeps : SlotsRepresent C l s c (owner_of_octet c.still_open m)
   pub rising : Rising c.still_open
@@ -82,7 +83,7 @@ pub record IsAfterTake (C : Table) (l : RequestTable) (s : Slots) (c : Tracked) 
   pub alive : has_name m.header ≡ true → length m.payload ≡ 4 → c.known m.number ≡ Some m.payload
   pub says : has_name m.header ≡ true → SaysId m.header
 
--- The slots keep what is tracked before this octet of a message comes.
+-- The slots represent what is tracked before this octet of a message comes.
 pub record IsBeforeOctet (C : Table) (l : RequestTable) (s : Slots) (c : Tracked) (m : Message) (now : Current) (x : ℕ) : Type 0 where
   pub keeps : SlotsRepresent C l s c (owner_of_next c.still_open m)
   pub rising : Rising c.still_open
@@ -92,7 +93,7 @@ pub record IsBeforeOctet (C : Table) (l : RequestTable) (s : Slots) (c : Tracked
   pub alive : has_name m.header ≡ true → length m.payload < 4 → c.known m.number ≡ Some m.payload
   pub says : has_name m.header ≡ true → SaysId m.header
 
--- The slots keep what is tracked before the message begins, whose header is complete.
+-- The slots represent what is tracked before a message begins, at the last octet of its header.
 pub record IsBeforeMessage (C : Table) (l : RequestTable) (s : Slots) (c : Tracked) (who : Option MessageKey) (m : Message) (now : Current) : Type 0 where
   pub keeps : SlotsRepresent C l s c who
   pub rising : Rising c.still_open
@@ -102,13 +103,13 @@ pub record IsBeforeMessage (C : Table) (l : RequestTable) (s : Slots) (c : Track
   pub newest : IsNewest m.number c.still_open
   pub unknown : c.known m.number ≡ Some []
 
--- ---- The slots, and the whole stream that has come.
+-- ---- The slots, and the whole stream so far.
 
 abbrev pub owner_of_next_in : List Open → Option Message → Option MessageKey
 owner_of_next_in still_open None = None
 owner_of_next_in still_open (Some m) = owner_of_next still_open m
 
--- The slots keep what there is to know of the messages of this stream.
+-- The slots represent what is tracked of the messages of this stream.
 abbrev pub SlotsRepresentStream : Table → RequestTable → ℕ → Slots → List ℕ → Type 0
 SlotsRepresentStream C l most s p =
     SlotsRepresent C l s (tracked_after (rules C l most) p) (owner_of_next_in (open_after most p) (cut p).current)

@@ -4,7 +4,7 @@ use Rattle.giop_stream.specs.Rules.{Rules}
 use Rattle.giop_stream.specs.Stream.{text, closing}
 use Rattle.giop_stream.specs.EngineHolds.{added}
 
--- of these pieces, behind the stream p: piece by piece what it adds to the text of those before it
+-- of these pieces, after the stream p: what each piece adds to the text of what comes before it
 unfoldable pub fed : Rules → List ℕ → List (List ℕ) → List ℕ
 fed R p [] = []
 fed R p (piece ∷ pieces) = added R p piece ++ fed R (p ++ piece) pieces
@@ -13,6 +13,6 @@ fed R p (piece ∷ pieces) = added R p piece ++ fed R (p ++ piece) pieces
 unfoldable pub whole_text : Rules → List ℕ → List ℕ
 whole_text R p = text R p ++ closing R p
 
--- what of that is left behind the front p, where q follows
+-- the part of that which is written after the front p, where q follows
 unfoldable pub remaining : Rules → List ℕ → List ℕ → List ℕ
 remaining R p q = added R p q ++ closing R (p ++ q)

@@ -1,4 +1,4 @@
--- What the parts of a checkpoint say of an engine's fields (state); and what is known of its records while they are read.
+-- Which fields of an engine the parts of a checkpoint give; and what is known of its records while they are read (state).
 use Rattle.std.specs.Prelude.{◌≡◌, ◌⊎◌, ℕ, ◌-◌, Bool, false, not, ◌&&◌, List, [], ◌∷◌, ◌++◌, length, flat_map, Option, Some, None, nat_lt, nat_le, if◌then◌else◌}
 use Rattle.std.specs.List.{AllByRecursion as Each}
 use Rattle.giop_sig.specs.Table.{Table}
@@ -26,28 +26,29 @@ stop_in (Header held) = None
 stop_in (Payload header left) = None
 stop_in (Stopped fault) = Some fault
 
--- the header octets that have come
+-- the header octets read so far
 abbrev pub header_in : Place → List ℕ
 header_in (Header held) = held.items
 header_in (Payload header left) = header
 header_in (Stopped fault) = []
 
--- the payload octets that have come
+-- how many payload octets were read
 abbrev pub payload_count_in : Place → ℕ
 payload_count_in (Header held) = 0
 payload_count_in (Payload header left) = size header - left
 payload_count_in (Stopped fault) = 0
 
--- the octets to come are the current message's own: it is no Fragment whose request id is complete
+-- the next octets belong to the current message itself: it isn't a Fragment with a complete request id
 abbrev pub comes_in : Place → Bool
 comes_in (Header held) = false
 comes_in (Payload header left) = not (is_fragment header && nat_le 4 (size header - left))
 comes_in (Stopped fault) = false
 
+-- the owner where no record is named: the current message itself, or nobody
 abbrev pub by_turn : Bool → PayloadOwner
 by_turn itself = if itself then payload.Own else payload.Nobody
 
--- their owner: behind the records of the open messages stands the current one's
+-- their owner: after the records of the open messages stands the current one's
 abbrev pub payload_of : Option ℕ → Bool → ℕ → PayloadOwner
 payload_of None itself many = by_turn itself
 payload_of (Some k) itself many = if nat_lt k many then payload.Open k else payload.Own
@@ -60,12 +61,12 @@ pub record IsEntry (first : FirstRecord) (e : Entry) : Type 0 where
   pub message : first.message ≡ e.message
   pub frames : first.frames.now ≡ e.frames
 
--- the open message of it
+-- the open message that it gives
 abbrev pub pushed : FirstRecord → ℕ → Option Message → OpenEntry
 pushed first id message =
     open_entry id first.«record».number first.«record».header message
 
--- It is the entry of an open message, of which this is to know.
+-- It is the entry of an open message with these octets.
 pub record IsOpenEntry (C : Table) (l : RequestTable) (at : ℕ) (first : FirstRecord) (held : Held) : Type 0 where
   pub kept : OpenEntry
   pub entry : Entry
@@ -74,7 +75,7 @@ pub record IsOpenEntry (C : Table) (l : RequestTable) (at : ℕ) (first : FirstR
   pub slot_is : IsSlot C l kept held
   pub ready : IsReady C at kept.value.message
 
--- It is the entry of the current message, of which this is to know.
+-- It is the entry of the current message with these octets.
 pub record IsCurrentEntry (C : Table) (l : RequestTable) (at : ℕ) (first : FirstRecord) (own : Own) : Type 0 where
   pub message : Message
   pub entry : Entry
@@ -85,7 +86,7 @@ pub record IsCurrentEntry (C : Table) (l : RequestTable) (at : ℕ) (first : Fir
 
 -- ---- the records that are left
 
--- These octets are so many entries, of messages of which this is to know.
+-- These octets are so many entries, of these open messages and this current one.
 pub record AreLeft (C : Table) (l : RequestTable) (at count : ℕ) (octets : List ℕ) (held : List Held) (own : Option Own)
     : Type 0 where
   pub kept : List OpenEntry
@@ -99,13 +100,13 @@ pub record AreLeft (C : Table) (l : RequestTable) (at count : ℕ) (octets : Lis
   pub each_ready : Each (λ slot. IsReady C at slot.value.message) kept
   pub own_ready : IsReady C at current
 
--- Open messages of which this is to know were added.
+-- These open messages were added.
 pub record HasAdded (C : Table) (l : RequestTable) (before after : Slots) (held : List Held) : Type 0 where
   pub kept : List OpenEntry
   pub are : AreSlots C l kept held
   pub put : after.slots.entries ≡ before.slots.entries ++ kept
 
--- The first of so many records was added, that of an open message; these octets are the others.
+-- The first of so many records was added, that of an open message; `rest` are the others.
 pub record HasAddedOpen (C : Table) (l : RequestTable) (at count : ℕ) (before after : Slots)
     (rest : List ℕ) (held : List Held) (own : Option Own) : Type 0 where
   pub here : Held
@@ -125,7 +126,7 @@ pub record HasAddedOwn (C : Table) (l : RequestTable) (count : ℕ) (before afte
   pub is : IsOwn C l after.own (Some here)
   pub last : count - 1 ≡ 0
 
--- It was one or the other.
+-- The first record was one or the other.
 abbrev pub HasAddedFirst : Table → RequestTable → ℕ → ℕ → Slots → Slots → List ℕ → List Held → Option Own
     → Type 0
 HasAddedFirst C l at count before after rest held own =

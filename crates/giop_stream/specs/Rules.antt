@@ -1,5 +1,4 @@
--- By what a stream is read: how each of its messages reads, and how many of them may be open at
--- once (meaning).
+-- The rules that a stream is read by: the reader of its messages, and how many of them may be open at once (meaning).
 use Rattle.std.specs.Prelude.{ℕ}
 use Rattle.giop_sig.specs.Table.{Table}
 use Rattle.giop_message.specs.MessageReader.{MessageReader}
@@ -11,10 +10,10 @@ pub record Rules : Type 0 where
   pub reading : MessageReader
   pub most : ℕ
 
--- by a table, what is known of requests, and so many messages
+-- the rules of a table, of what is known of requests, and of so many open messages
 abbrev pub rules : Table → RequestTable → ℕ → Rules
 rules C l most = record { reading = message_reader C l; most = most }
 
--- how many may be open where an engine is made
+-- how many messages an engine may allow to be open at most
 abbrev pub most_open : ℕ
 most_open = MOST_OPEN

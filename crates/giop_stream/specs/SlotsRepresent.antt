@@ -1,4 +1,4 @@
--- What the code keeps of the messages, against what there is to know of them (state).
+-- When the code's slots represent what is tracked of the messages of a stream (state).
 use Rattle.std.specs.Prelude.{◌≡◌, ◌<◌, ℕ, List, [], ◌∷◌, Option, Some, None, slice_get}
 use Rattle.std.specs.List.{AllByRecursion as Each}
 use Rattle.giop_sig.specs.Table.{Table}
@@ -24,11 +24,11 @@ abbrev pub open_entry : ℕ → ℕ → List ℕ → Option CodeMessage → Open
 open_entry id number header message =
     record { key = id; value = record { number = number; header = header; message = message } }
 
--- and of which this is kept from now on
+-- the same open message with another state of its reading
 abbrev pub with_message : OpenEntry → Option CodeMessage → OpenEntry
 with_message slot message = open_entry slot.key slot.value.number slot.value.header message
 
--- A message is kept of which these octets have come, or none where it is over.
+-- The code's message has read these octets; there is none where the message is over.
 abbrev pub RepresentsMessage : Table → RequestTable → Option CodeMessage → MessageKey → Option (List ℕ) → Type 0
 RepresentsMessage C l (Some m) w (Some xs) = Follows C l w.number w.header m xs
 RepresentsMessage C l None w None = Unit {0}
@@ -40,7 +40,7 @@ abbrev pub IsReady : Table → ℕ → Option CodeMessage → Type 0
 IsReady C at None = Unit {0}
 IsReady C at (Some m) = Fits C m × (reach m < at)
 
--- and each that is kept can
+-- each message in the slots can
 pub record AreReady (C : Table) (at : ℕ) (s : Slots) : Type 0 where
   pub own_ready : IsReady C at s.own
   pub each_ready : Each (λ slot. IsReady C at slot.value.message) s.slots.entries
@@ -70,17 +70,17 @@ pub record SlotsRepresent (C : Table) (l : RequestTable) (s : Slots) (c : Tracke
   pub slots : AreSlots C l s.slots.entries (slots_of c.known c.still_open)
   pub payload : PayloadBelongs C l s.payload s.own c owner_of_next
 
--- no message is kept
+-- the slots hold no message
 pub record IsBare (s : Slots) : Type 0 where
   pub no_slots : s.slots.entries ≡ []
   pub no_own : s.own ≡ None
   pub nobody : s.payload ≡ Nobody
 
--- the effect of an event at a place on the owner of the payload
+-- an event of a message at a place
 abbrev pub event : ℕ → MessageKey → EventKind → Event
 event at subject what = record { place = at; subject = subject; what = what }
 
--- and what that makes of what is tracked, with its lines; nothing where they are nobody's
+-- its effect on what is tracked, and its lines; none where the octets belong to no message
 abbrev pub effect_to : Table → RequestTable → ℕ → Tracked → Option MessageKey → EventKind → Effect
 effect_to C l at c None what = no_effect c
 effect_to C l at c (Some w) what = one_effect (message_reader C l) c at w what

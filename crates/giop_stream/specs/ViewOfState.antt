@@ -1,4 +1,4 @@
--- The fields of the code as what an engine holds of a stream (state); and what a call does to them (steps).
+-- How the fields of the code show the state that an engine holds of a stream (state); and what a call does to them (steps).
 use Rattle.std.specs.Prelude.{◌≡◌, ◌-◌, ℕ, Bool, true, false, not, ◌&&◌, List, length, Option, Some, None, Result, OnOk, slice_get, option_map, nat_lt, nat_le, if◌then◌else◌}
 use Rattle.giop_print.specs.Output.{OutLog, Writes}
 use Rattle.giop_cdr.specs.Numbers.{AreOctets}
@@ -23,11 +23,11 @@ IsOwn C l (Some m) (Some o) = Follows C l o.message_key.number o.message_key.hea
 IsOwn C l (Some m) None = ⊥
 IsOwn C l None (Some o) = ⊥
 
--- the payload octets that have come
+-- how many payload octets were read
 unfoldable pub payload_count_in : State → ℕ
 payload_count_in s = if nat_lt (length s.held) 12 then 0 else size s.held - s.left
 
--- the next octets are of a payload, and the current message's own: it is no Fragment whose request id is complete
+-- the next octets are of a payload, and belong to the current message itself: it isn't a Fragment with a complete request id
 unfoldable pub comes_itself : State → Bool
 comes_itself s = nat_le 12 (length s.held) && not (is_fragment s.held && nat_le 4 (payload_count_in s))
 
@@ -38,13 +38,13 @@ IsOwner (payload.Open k) s =
     (s.own ≡ None) × ((slot : Slot) × (slice_get s.slots k ≡ Some slot) × (s.owner ≡ Some slot.open_as.opener.number))
 IsOwner payload.Nobody s = s.owner ≡ None
 
--- and whether they are the current message's own
+-- and whether they belong to the current message itself, be it over or not
 abbrev pub IsTurn : Payload → State → Type 0
 IsTurn payload.Own s = comes_itself s ≡ true
 IsTurn (payload.Open k) s = Unit {0}
 IsTurn payload.Nobody s = comes_itself s ≡ false
 
--- The fields show this state; whether octets are the current message's own, only while there are any to come.
+-- The fields show this state; `turn` is asked only before a stream fault, while there are octets to come.
 pub record Shows (C : Table) (l : RequestTable) (f : FramingView) (s : State) : Type 0 where
   pub totals : f.totals ≡ s.totals
   pub stopped : f.stopped ≡ s.stop
@@ -55,7 +55,7 @@ pub record Shows (C : Table) (l : RequestTable) (f : FramingView) (s : State) : 
   pub owner : IsOwner f.slots.payload s
   pub turn : s.stop ≡ None → IsTurn f.slots.payload s
 
--- This state is held of some stream of octets.
+-- An engine that has read some stream of octets holds this state.
 pub record IsReached (C : Table) (l : RequestTable) (most : ℕ) (s : State) : Type 0 where
   pub stream : List ℕ
   pub octets : AreOctets stream

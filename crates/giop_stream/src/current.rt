@@ -1,15 +1,15 @@
-//! The message whose payload comes, at one of its octets.
+//! The current message, the one that is being read, at one of its octets.
 
 ghost use Rattle.std.specs.Prelude.{◌≤◌};
 
-/// The message whose payload comes, at one of its octets or at the last of its header.
+/// The current message, at an octet of its payload or at the last one of its header.
 #[derive(Clone, Copy, Debug)]
 pub struct Current {
     pub number: u64,
     pub header: [u8; 12],
-    /// The stream octets up to and with this one.
+    /// The octet's number in the stream, from 1.
     pub place: u64,
-    /// The octets of the payload up to and with this one.
+    /// How many octets of the payload were read, this one included.
     pub payload_count: u32,
     ghost behind_header: { 12 ≤ place },
 }

@@ -1,4 +1,4 @@
-//! What an octet of a message does to the messages that are open, and to the message itself.
+//! What an octet of a message does: it feeds, opens, continues, cancels, faults or closes a message.
 
 ghost use Rattle.std.specs.Prelude.{Option, ◌≡◌, ◌+◌, ◌<◌, ◌≤◌, ◌^◌, ℕ, length, true, false, Some, None, OnOk, IfOk, if◌then◌else◌, slice_get};
 ghost use Rattle.giop_sig.specs.Table.{Table};
@@ -26,7 +26,7 @@ use giop_message::order_of;
 use giop_print::{Out, OutFault, continues_line};
 use giop_sig::{Catalogue, Requests};
 
-/// At the request id of a message that opens.
+/// At the request id of a message with fragments: it becomes open, or is faulted.
 fn opens<O: Out>(slots: &mut Slots, now: Current, id: u32, out: &mut O) -> Result<bool, OutFault>
     ensures does { (C : Table) (l : RequestTable) (c : Tracked) (m : Message) →
         IsAtRequestId C l slots.old c m now id →
@@ -46,7 +46,7 @@ fn opens<O: Out>(slots: &mut Slots, now: Current, id: u32, out: &mut O) -> Resul
     Ok(false)
 }
 
-/// At a CancelRequest's request id.
+/// At a CancelRequest's request id: closes the open message with that id.
 fn cancels<O: Out>(slots: &mut Slots, now: Current, id: u32, out: &mut O) -> Result<(), OutFault>
     ensures does { (C : Table) (l : RequestTable) (c : Tracked) (m : Message) →
         IsAtRequestId C l slots.old c m now id →
@@ -65,7 +65,7 @@ fn cancels<O: Out>(slots: &mut Slots, now: Current, id: u32, out: &mut O) -> Res
     Ok(())
 }
 
-/// A Fragment of no open message is faulted, and nobody has what follows.
+/// Faults a Fragment of no open message; the rest of its payload belongs to no message.
 fn fault_unopened<O: Out>(slots: &mut Slots, now: Current, out: &mut O) -> Result<bool, OutFault>
     ensures does { (C : Table) (l : RequestTable) (c : Tracked) (m : Message) (id : ℕ) →
         IsAtRequestId C l slots.old c m now id →
@@ -80,7 +80,7 @@ fn fault_unopened<O: Out>(slots: &mut Slots, now: Current, out: &mut O) -> Resul
     faulted
 }
 
-/// A Fragment continues the open message at this place.
+/// A Fragment continues the open message at this index.
 #[tactic(auto, using(giop_print::proofs::Writing::writes_then, giop_print::proofs::Writing::writes_err))]
 fn passes<O: Out>(slots: &mut Slots, k: usize, now: Current, out: &mut O) -> Result<bool, OutFault>
     requires { k < length slots.old.slots.entries }
@@ -102,7 +102,7 @@ fn passes<O: Out>(slots: &mut Slots, k: usize, now: Current, out: &mut O) -> Res
     slots.fault_message(number, FramingFault::FragmentOrder, now.place, out)
 }
 
-/// At a Fragment's request id: what follows is of the open message with that id.
+/// At a Fragment's request id: the rest of its payload belongs to the open message with that id.
 fn continues<O: Out>(
     slots: &mut Slots,
     now: Current,
@@ -123,7 +123,7 @@ fn continues<O: Out>(
     }
 }
 
-/// At the request id of a message, which is complete: what it says of the open messages.
+/// At the last octet of a message's request id; returns whether a message is faulted.
 pub fn named<O: Out>(
     slots: &mut Slots,
     now: Current,
@@ -216,7 +216,7 @@ fn at_last_octet<O: Out>(
     Ok(false)
 }
 
-/// How many messages an octet faults, by what its three parts say.
+/// How many messages an octet faults, in its three parts.
 fn count(a: bool, b: bool, c: bool) -> u8
     ensures value { result ≡ (if a then 1 else 0) + ((if b then 1 else 0) + (if c then 1 else 0)) }
     ensures few { result ≤ 3 }
@@ -224,7 +224,7 @@ fn count(a: bool, b: bool, c: bool) -> u8
     u8::from(a) + (u8::from(b) + u8::from(c))
 }
 
-/// An octet of a message's payload; says how many messages it faults.
+/// An octet of a message's payload; returns how many messages it faults.
 pub fn octet<O: Out>(
     slots: &mut Slots,
     catalogue: &Catalogue,
@@ -277,7 +277,7 @@ fn starts<O: Out>(
     }
 }
 
-/// A header's last octet; says how many messages it faults.
+/// A header's last octet; returns how many messages it faults.
 pub fn header<O: Out>(
     slots: &mut Slots,
     catalogue: &Catalogue,

@@ -58,7 +58,7 @@ impl<'a> Model for Engine<'a> {
 }
 
 impl<'a> Engine<'a> {
-    /// An engine that has read nothing, for these types and what is known of requests for their operations.
+    /// An engine that has read nothing, with these types and the operations of these requests.
     /// Room for so many open messages is made here, and refused only where there isn't enough memory.
     pub fn new(
         alloc: Global,
@@ -86,7 +86,7 @@ impl<'a> Engine<'a> {
 
     /// The engine that a checkpoint was saved of, by the same types and the same list: it goes on from there. From any
     /// other octets that pass the checks it is an engine that is safe to use (docs/FORMATS.md, Checkpoints). Room for as
-    /// many open messages as it allows is made here, behind the check of its length.
+    /// many open messages as it allows is made here, after the check of its length.
     pub fn load(
         alloc: Global,
         catalogue: &'a Catalogue,
@@ -100,7 +100,7 @@ impl<'a> Engine<'a> {
         // which are those that the octets allow.
         ensures most { IfOk result (λ e.
             Allows (counts_of catalogue.now requests.now) octets.now e.most) }
-        // The first check that fails refuses them, or want of memory.
+        // They are refused by the first check that fails, or for lack of memory.
         ensures refused { IfErr result (λ why.
             IsRefused (counts_of catalogue.now requests.now) octets.now why) }
         ensures ours { IfOk result (λ e. IsOurs (counts_of catalogue.now requests.now) octets.now) }
@@ -119,9 +119,9 @@ impl<'a> Engine<'a> {
         }
     }
 
-    /// Reads a piece of the stream, and writes the lines that it completes. Behind a stream fault it reads nothing.
+    /// Reads a piece of the stream, and writes the lines that it completes. After a stream fault it reads nothing.
     pub fn feed<O: Out>(&mut self, piece: &[u8], out: &mut O) -> Result<Status, Stop>
-        // It then holds what it held, and the piece.
+        // It then holds the stream that it held, with the piece added.
         ensures held { (p : List ℕ) → Holds self.old p →
             OnOk result (Holds self.new (p ++ piece.now)) }
         // What the piece adds to the text is written.
@@ -129,14 +129,14 @@ impl<'a> Engine<'a> {
             → StopWrites result (O.log out.old) (O.log out.new)
             (drop (length (text (rules_of self.old) p))
             (text (rules_of self.old) (p ++ piece.now))) }
-        // It says whether the stream has a fault.
+        // The status gives whether the stream has a fault.
         ensures status { (p : List ℕ) → Holds self.old p
             → IfOk result (λ s. s ≡ status_of (fault_of (cut (p ++ piece.now)).stop)) }
         // After a failed put the engine is failed, with the totals from before the call.
         ensures leaves { Leaves result self.old self.new }
         // A failed engine writes nothing.
         ensures failed { self.old.failed ≡ true → O.log out.new ≡ O.log out.old }
-        // What it reads by stays.
+        // The types, the requests and the limit of open messages stay the same.
         ensures same { (self.new.table ≡ self.old.table) × (self.new.request_table ≡ self.old.request_table) }
         ensures most { self.new.most ≡ self.old.most }
     {
@@ -157,7 +157,7 @@ impl<'a> Engine<'a> {
         }
     }
 
-    /// Ends the stream: writes its closing, and says its totals, a truncated end counted.
+    /// Ends the stream: writes its closing, and returns its totals, with a truncated end counted as a fault.
     pub fn finish<O: Out>(self, out: &mut O) -> Result<Totals, Stop>
         // The closing of what it holds is written.
         ensures text { (p : List ℕ) → Holds self.entry p
@@ -178,10 +178,10 @@ impl<'a> Engine<'a> {
         }
     }
 
-    /// Writes the checkpoint of what was read, and says how many octets it has (docs/FORMATS.md, Checkpoints). A failed put
-    /// leaves the engine as it was.
+    /// Writes the checkpoint of what was read, and returns how many octets it has (docs/FORMATS.md, Checkpoints). A failed
+    /// put leaves the engine as it was.
     pub fn save<O: Out>(&self, out: &mut O) -> Result<u64, Stop>
-        // It is the checkpoint of each stream that it holds; of that a front is written before a put fails.
+        // It is a checkpoint of each stream that the engine holds; if a put fails, a front of it was written.
         ensures saves { (p : List ℕ) → Holds self.now p →
             Saves result (O.log out.old) (O.log out.new)
             self.now.table self.now.request_table self.now.most p }
@@ -189,7 +189,7 @@ impl<'a> Engine<'a> {
         ensures failed { self.now.failed ≡ true →
             (result ≡ Err Stop.Failed) × (O.log out.new ≡ O.log out.old) }
         ensures sound { result ≡ Err Stop.Failed → self.now.failed ≡ true }
-        // and else only where a put fails.
+        // and otherwise only where a put fails.
         ensures cause { self.now.failed ≡ false →
             OnErr result ((O.log out.new).failures ≡ counted (O.log out.old).failures) }
     {
@@ -226,7 +226,7 @@ pub fn text_begins()
 
 /// However a stream is cut into pieces, the same is written of it.
 pub fn any_pieces()
-    // What is written of pieces, one behind the other, is what all their octets add,
+    // What is written of pieces, one after the other, is what all their octets add,
     ensures whole { (C : Table) (l : RequestTable) (n : ℕ) (p : List ℕ) (pieces : List (List ℕ)) →
         fed (rules C l n) p pieces ≡ added (rules C l n) p (concat pieces) }
     // so that any two ways to cut the same octets write the same.
@@ -237,7 +237,7 @@ pub fn any_pieces()
 
 /// A stream is read on from a checkpoint of its front as if the reading had never ended, and each checkpoint is small.
 pub fn remaining()
-    // The text of the front, and what is written of the octets behind it and at their end, are all that is written of both.
+    // The text of the front, and what is written of the octets after it and at their end, are all that is written of both.
     ensures text { (C : Table) (l : RequestTable) (n : ℕ) (octets p q : List ℕ) → Spells octets C l n p →
         text (rules C l n) p ++ remaining (rules C l n) p q
         ≡ whole_text (rules C l n) (p ++ q) }

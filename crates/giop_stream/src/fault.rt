@@ -1,11 +1,11 @@
-//! What faults a message by the stream, and the refusals of an engine. What ends a stream stands with its checkpoint.
+//! The faults that framing gives a message, and why a call of an engine fails. Stream faults, which end a stream, are
+//! defined beside the checkpoint that stores them.
 
 pub use giop_checkpoint::{LoadFault, StreamFault};
 use giop_print::OutFault;
 use thiserror::Error;
 
-/// What the stream faults a message for, by its header, its request id or its size alone. `Display` is the word of its
-/// line.
+/// Why framing faults a message: for its header, its request id or its size alone. `Display` is the word of its line.
 #[derive(Clone, Copy, Debug, PartialEq, Eq, Error)]
 pub enum FramingFault {
     /// A message type above 7, or a Fragment of 1.0.
@@ -17,7 +17,7 @@ pub enum FramingFault {
     /// No room for the request id, in a message that has fragments or in a Fragment.
     #[error("short")]
     Short,
-    /// A Fragment whose request id is that of no open message.
+    /// A Fragment with the request id of no open message.
     #[error("no-open")]
     NoOpen,
     /// A message that has fragments, with the request id of an open one.
@@ -26,7 +26,7 @@ pub enum FramingFault {
     /// A message that has fragments, where as many are open as may be.
     #[error("too-many-open")]
     TooManyOpen,
-    /// A Fragment whose byte order isn't that of the message that it continues.
+    /// A Fragment of another byte order than the message that it continues.
     #[error("fragment-order")]
     FragmentOrder,
 }

@@ -65,7 +65,7 @@ impl Framing {
         Ok(())
     }
 
-    /// The message whose own octets are kept, unless it is a Fragment.
+    /// The line of the current message where it isn't open, unless it is a Fragment.
     fn own_unfinished<O: Out>(&self, out: &mut O) -> Result<(), OutFault>
         ensures { (C : Table) (l : RequestTable) (s : State) → Shows C l (framing_view self.now) s →
             Writes result (O.log out.old) (O.log out.new)
@@ -80,7 +80,7 @@ impl Framing {
         unfinished_line(out, message.number())
     }
 
-    /// The messages that have neither ended nor been faulted, by number.
+    /// The lines of the messages that have neither ended nor been faulted, by number.
     fn unfinished<O: Out>(&self, out: &mut O) -> Result<(), OutFault>
         ensures { (C : Table) (l : RequestTable) (s : State) → Shows C l (framing_view self.now) s →
             Writes result (O.log out.old) (O.log out.new)
@@ -90,7 +90,7 @@ impl Framing {
         self.own_unfinished(out)
     }
 
-    /// What comes behind the line of a truncation.
+    /// What follows the line of a truncation.
     #[tactic(auto, using(giop_print::proofs::Writing::writes_then, giop_print::proofs::Writing::writes_err))]
     fn ending<O: Out>(&self, out: &mut O) -> Result<(), OutFault>
         ensures { (C : Table) (l : RequestTable) (s : State) → Shows C l (framing_view self.now) s →

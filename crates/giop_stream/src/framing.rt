@@ -1,4 +1,4 @@
-//! What is remembered of a stream, and what an octet of it does: headers, payloads, and what ends the stream.
+//! The state that is kept of a stream, and what an octet does to it: headers, payloads and stream faults.
 
 ghost use Rattle.std.specs.Prelude.{◌≡◌, ◌+◌, ◌*◌, ◌++◌, ◌∷◌, ◌^◌, ◌≤◌, ◌<◌, ℕ, List, [], length, None, IfOk, OnOk, if◌then◌else◌};
 ghost use Rattle.arrayvec.specs.ArrayVec.{array_vec_len};
@@ -16,17 +16,17 @@ use giop_print::{Out, OutFault};
 use giop_sig::{Catalogue, Requests};
 use std::alloc::{AllocError, Global};
 
-/// The number of octets that are read of a stream.
+/// How many octets are read of a stream at most.
 pub const LIMIT: u64 = 281_474_976_710_656;
 
-/// What is remembered of a stream.
+/// The state that is kept of a stream.
 #[derive(Drop)]
 pub struct Framing {
     pub totals: Totals,
     pub stopped: Option<StreamFault>,
-    /// The header octets that have come, 12 within a payload.
+    /// The header octets read so far; all 12 within a payload.
     pub header: ArrayVec<u8, 12>,
-    /// The payload octets that have come.
+    /// How many octets of the payload were read.
     pub payload_count: u32,
     pub slots: Slots,
     ghost read: { totals.octets ≤ 2 ^ 48 + 1 },
@@ -55,7 +55,7 @@ impl Framing {
     ghost use Rattle.giop_stream.specs.EngineHolds.{AreOf};
     ghost use Rattle.giop_stream.specs.FramingSteps.{held_on, stop, end_message};
 
-    /// Nothing read, where so many messages may be open.
+    /// The state before the first octet, where so many messages may be open.
     pub fn new(alloc: Global, most: usize) -> Result<Framing, AllocError>
         requires room { most ≤ most_open }
         requires some { 1 ≤ most }
@@ -79,7 +79,7 @@ impl Framing {
         })
     }
 
-    /// Lets go of all but the totals and the stream fault from before, where a put failed.
+    /// After a failed put: keeps only the totals and the stream fault from before the call.
     pub fn fail(&mut self, totals: Totals, stopped: Option<StreamFault>)
         requires read { totals.octets ≤ 2 ^ 48 + 1 }
         requires running { stopped ≡ None → totals.octets ≤ 2 ^ 48 }
@@ -96,7 +96,7 @@ impl Framing {
         self.slots.clear();
     }
 
-    /// The end of the reading, by the octet at this place: no header is held then, and no payload comes.
+    /// A stream fault at the octet of this place ends the reading: no header and no payload is held from then on.
     #[tactic(auto, unfolding(crate::specs::FramingSteps::stop))]
     fn stop<O: Out>(&mut self, fault: StreamFault, place: u64, out: &mut O) -> Result<(), OutFault>
         requires place { self.old.totals.octets ≤ place }
@@ -126,7 +126,7 @@ impl Framing {
         }
     }
 
-    /// What is known of the message whose header has come, at the octet that came last.
+    /// The current message, at the octet that was read last.
     fn current(&self) -> Current
         requires { length self.now.header.items ≡ 12 }
         ensures number { result.number ≡ self.now.totals.messages }
@@ -152,7 +152,7 @@ impl Framing {
         requires messages { self.old.totals.messages < self.old.totals.octets }
         requires faults { self.old.totals.faults + 3 ≤ 3 * self.old.totals.octets }
         requires ready { AreReady catalogue.now self.old.totals.octets self.old.slots }
-        // It does the step of the octet that was held last.
+        // It does the step of the octet that was added to the header last.
         ensures does { (l : RequestTable) (s : State) (m : FramingView) (x : ℕ) →
             IsReached catalogue.now l self.old.slots.slots.most s →
             Shows catalogue.now l m s → framing_view self.old ≡ held_on m x →

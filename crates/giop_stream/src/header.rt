@@ -25,7 +25,7 @@ pub fn more_of(header: &[u8]) -> bool
     0 < header[5] && header[6] / 2 % 2 == 1
 }
 
-/// How many octets come after the header.
+/// How many octets follow the header.
 #[tactic(auto, unfolding(giop_message::specs::Headers::size))]
 pub fn size_of(header: &[u8]) -> u32
     requires { length header.now ≡ 12 }
@@ -60,7 +60,7 @@ pub fn wrong_in(front: &[u8]) -> Option<StreamFault>
     if is_right { None } else { Some(fault) }
 }
 
-/// Whether no octet of a header's front is wrong; behind its first seven any may come.
+/// Whether no octet of a header's front is wrong; those after the first seven may have any value.
 #[tactic(auto, unfolding(crate::specs::HeaderOctets::wrong))]
 pub fn begins_right(front: &[u8]) -> bool
     requires { 7 ≤ length front.now }

@@ -47,7 +47,7 @@ pub fn is_cancel(header: &[u8]) -> bool
     kind_of(header) == 2
 }
 
-/// Whether a message ends before its request id, which the joined message needs.
+/// Whether a Fragment, or a message with fragments, is too short for its request id.
 #[tactic(auto, unfolding(crate::specs::Kinds::is_short))]
 pub fn is_short(header: &[u8]) -> bool
     requires { length header.now ≡ 12 }

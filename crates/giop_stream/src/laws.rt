@@ -17,7 +17,7 @@ ghost use Rattle.giop_stream.specs.EngineStep.{fresh, step, run, run_state, fini
 
 // The functions here have no body, and are called for their contracts.
 
-/// What an event does to the slots of the open messages, in their places.
+/// What an event does to the slots of the open messages, each at its index.
 pub fn each_slot()
     // An octet or a fault changes the slot of its message,
     ensures stays { (R : MessageReader) (c : Tracked) (e : Event) (k : ℕ) (o : Open) →
@@ -46,7 +46,7 @@ pub fn each_slot()
     // A Fragment that continues a message changes nothing.
     ensures continues { (R : MessageReader) (c : Tracked) (e : Event) (n : ℕ) →
         e.what ≡ Continues n → tracked_at R c e ≡ c }
-    // What is kept of the event's message is that of its octets then; nothing else changes.
+    // The octets kept of the event's message change as `octets_then` gives; those of no other message change.
     ensures kept { (R : MessageReader) (c : Tracked) (e : Event) →
         (tracked_at R c e).known e.subject.number ≡ octets_then R e (c.known e.subject.number) }
     ensures others { (R : MessageReader) (c : Tracked) (e : Event) (i : ℕ) → (i ≡ e.subject.number → ⊥) →
@@ -55,7 +55,7 @@ pub fn each_slot()
     ensures rising { (most : ℕ) (p : List ℕ) → Rising (open_after most p) }
 {}
 
-/// The octets that come to a message are its own, then of each message that continues it those after the request id.
+/// The octets of a joined message are its own, then of each message that continues it those after the request id.
 pub fn each_joined()
     ensures { (most : ℕ) (p : List ℕ) (i : ℕ) →
         joined i (events most p) ≡ shares most i [] (messages (cut p)) }
@@ -66,7 +66,7 @@ pub fn open_messages()
     ensures { (most : ℕ) (p : List ℕ) → length (open_after most p) ≤ most }
 {}
 
-/// Behind a stream fault no octet adds a line, and none is counted.
+/// After a stream fault no octet adds a line, and none is counted.
 pub fn after_a_stop()
     ensures text { (R : Rules) → IsCausal R.reading → (p q : List ℕ) (found : ℕ × StreamFault) →
         (cut p).stop ≡ Some found →
@@ -83,7 +83,7 @@ pub fn one_of_each()
         length (filter (λ l. (l.place == k) && has_class c l) (lines R p)) ≤ 1 }
 {}
 
-/// What an engine holds of a stream goes by one step for each octet.
+/// What an engine holds of a stream changes by one step for each octet.
 pub fn each_step()
     ensures start { (R : Rules) → state_of R [] ≡ fresh }
     ensures state { (R : Rules) → IsCausal R.reading → IsStreamable R.reading → (p : List ℕ) (x : ℕ) →

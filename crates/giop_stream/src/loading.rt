@@ -1,4 +1,4 @@
-//! The checkpoint of an engine, read: its fixed part, and its records, each in its range (docs/FORMATS.md, Checkpoints).
+//! Reads the checkpoint of an engine: its fixed part and its records, each checked (docs/FORMATS.md, Checkpoints).
 
 ghost use Rattle.std.specs.Prelude.{◌≡◌, ℕ, List, ◌+◌, ◌<◌, ◌≤◌, ◌^◌, ◌*◌, length, drop, true, Option, Some, None, IfOk, IfErr, IfSome, IsSomeAnd, [], ◌∷◌, ◌++◌, flat_map, replicate};
 ghost use Rattle.giop_sig.specs.Table.{Table};
@@ -32,7 +32,7 @@ use giop_message::Message;
 use giop_sig::{Catalogue, Requests};
 use std::alloc::Global;
 
-/// What is remembered of a stream, by its checkpoint.
+/// The state of a stream, from its checkpoint.
 pub fn read(
     alloc: Global,
     catalogue: &Catalogue,
@@ -64,7 +64,7 @@ pub fn read(
     }
 }
 
-/// What these fields and records say, where it may be remembered of a stream.
+/// The state that these fields and records give, where a stream can have it.
 fn framing_of(catalogue: &Catalogue, fixed: Fixed, records: &[u8], slots: Slots) -> Option<Framing>
     requires octets { fixed.octets ≤ 2 ^ 48 + 1 }
     requires open { (1 ≤ fixed.most_open) × (fixed.most_open ≤ most_open) }
@@ -104,7 +104,7 @@ fn framing_of(catalogue: &Catalogue, fixed: Fixed, records: &[u8], slots: Slots)
     })
 }
 
-/// Whether a stream may have these totals, where it stopped so and so much of a header is held.
+/// Whether a stream can have these totals, with this stream fault and so many header octets held.
 fn may_be(totals: Totals, stopped: Option<StreamFault>, held: usize) -> bool
     requires { totals.octets ≤ 2 ^ 48 + 1 }
     ensures running { result ≡ true → stopped ≡ None → totals.octets ≤ 2 ^ 48 }
@@ -120,7 +120,7 @@ fn may_be(totals: Totals, stopped: Option<StreamFault>, held: usize) -> bool
         && (stopped.is_some() || totals.octets <= 1 << 48)
 }
 
-/// The stream fault.
+/// The stream fault, where the stream has stopped.
 fn stop_of(place: &Place) -> Option<StreamFault>
     ensures { result ≡ stop_in place.now }
 {
@@ -130,7 +130,7 @@ fn stop_of(place: &Place) -> Option<StreamFault>
     }
 }
 
-/// The header octets that have come, and the payload octets.
+/// The header octets read so far, and how many payload octets were read.
 fn header_of(place: Place) -> (ArrayVec<u8, 12>, u32)
     ensures header { result.0.items ≡ header_in place }
     ensures payload_count { result.1 ≡ payload_count_in place }
@@ -145,7 +145,7 @@ fn header_of(place: Place) -> (ArrayVec<u8, 12>, u32)
     }
 }
 
-/// These octets of a header, held.
+/// These octets of a header, as the framing holds them.
 fn held_of(octets: &[u8]) -> ArrayVec<u8, 12>
     requires { length octets.now ≤ 12 }
     ensures { result.items ≡ octets.now }
@@ -170,7 +170,7 @@ fn payload_of(fixed: &Fixed, slots: &Slots) -> Payload
     }
 }
 
-/// Whether the octets to come are the current message's own: it is no Fragment whose request id is complete.
+/// Whether the next octets belong to the current message itself: it isn't a Fragment with a complete request id.
 fn comes_itself(place: &Place) -> bool
     ensures { result ≡ comes_in place.now }
 {
@@ -182,7 +182,7 @@ fn comes_itself(place: &Place) -> bool
     }
 }
 
-/// Adds the messages of so many records; says whether each is in its range.
+/// Adds the messages of so many records; returns whether each is in its range.
 fn add_all(
     slots: &mut Slots,
     catalogue: &Catalogue,
@@ -211,8 +211,8 @@ fn add_all(
     add_all(slots, catalogue, octets, count - 1, rest)
 }
 
-/// Adds the message of the first of these records, and answers the records behind it, where it is in its range. It stands
-/// apart, so that no frame of the recursion has room for a record.
+/// Adds the message of the first of these records, where it is in its range, and returns the records after it. It isn't
+/// inlined, so that no stack frame of the recursion has room for a record.
 #[inline(never)]
 fn add_first<'a>(
     slots: &mut Slots,
@@ -241,7 +241,7 @@ fn add_first<'a>(
     Some(first.rest)
 }
 
-/// Adds the message of a record; says whether it is in its range.
+/// Adds the message of a record; returns whether it is in its range.
 fn add(slots: &mut Slots, catalogue: &Catalogue, octets: u64, first: &FirstRecord<'_>) -> bool
     requires range { octets ≤ 2 ^ 48 + 1 }
     requires ready { AreReady catalogue.now (octets + 1) slots.old }
@@ -342,7 +342,7 @@ fn push(slots: &mut Slots, first: &FirstRecord<'_>, id: u32, message: Option<Mes
     true
 }
 
-/// The message of a record, where that is one, of no more octets than the stream has.
+/// The message that a record stores, where its fields are valid and it has no more octets than the stream.
 fn message_of(catalogue: &Catalogue, octets: u64, first: &FirstRecord<'_>) -> Option<Message>
     ensures ready { IsReady catalogue.now (octets + 1) result }
     ensures again { (m : CodeMessage) (l : RequestTable) (n : ℕ) (h xs : List ℕ) →
@@ -367,7 +367,7 @@ fn message_of(catalogue: &Catalogue, octets: u64, first: &FirstRecord<'_>) -> Op
     }
 }
 
-/// Whether a record keeps nothing of its message.
+/// Whether a record stores nothing of its message: no frames, and zeros.
 fn is_zero(first: &FirstRecord<'_>) -> bool
     ensures { first.now.frames.now ≡ [] → first.now.message ≡ replicate 224 0 → result ≡ true }
 {

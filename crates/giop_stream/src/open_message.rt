@@ -1,4 +1,4 @@
-//! What is done to one message that has begun and not ended, of which nothing is kept once it is over.
+//! What is done to one message that has begun and not ended; it is `None` once it is over (faulted or ended).
 
 ghost use Rattle.std.specs.Prelude.{◌≡◌, ◌+◌, ◌≤◌, ◌^◌, ℕ, List, length, Option, None, OnOk, IfOk, if◌then◌else◌};
 ghost use Rattle.giop_sig.specs.Table.{Table};
@@ -17,14 +17,14 @@ use giop_message::Message;
 use giop_print::{Out, OutFault};
 use giop_sig::{Catalogue, Requests};
 
-/// Lets go of a message that is over. It stands apart from what is done at every octet, which needs no room for it.
+/// Drops a message that is over. It is a function of its own, so that what runs at every octet needs no stack for it.
 fn forget(message: &mut Option<Message>)
     ensures { message.new ≡ None }
 {
     *message = None;
 }
 
-/// Gives a message octets, behind so many of the stream; says whether one of them faults it.
+/// Feeds octets to a message, after so many of the stream; returns whether one of them faults it.
 pub fn take_octets<O: Out>(
     message: &mut Option<Message>,
     catalogue: &Catalogue,
@@ -53,7 +53,7 @@ pub fn take_octets<O: Out>(
     Ok(true)
 }
 
-/// Faults a message of this number, unless it is over; says whether it does.
+/// Faults a message of this number, unless it is over; returns whether it does.
 pub fn fault_message<O: Out>(
     message: &mut Option<Message>,
     number: u64,
@@ -74,7 +74,7 @@ pub fn fault_message<O: Out>(
     Ok(true)
 }
 
-/// Closes a message, unless it is over; says whether that faults it.
+/// Closes a message, unless it is over; returns whether that faults it.
 pub fn close_message<O: Out>(
     message: Option<Message>,
     catalogue: &Catalogue,

@@ -1,4 +1,4 @@
-//! A piece of a stream, in runs where its octets only add to a header, or are of a message's contents alone.
+//! Takes a piece of a stream in runs: octets that only add to a header, or only to the contents of a message.
 
 ghost use Rattle.std.specs.Prelude.{◌≡◌, ◌+◌, ◌*◌, ◌++◌, ◌^◌, ◌≤◌, ◌<◌, ℕ, List, length, take, [], None, OnOk, if◌then◌else◌};
 
@@ -22,7 +22,7 @@ impl Framing {
     ghost use Rattle.giop_stream.specs.ViewOfState.{Shows, IsReached, Does};
     ghost use Rattle.giop_stream.specs.EngineHolds.{AreOf};
 
-    /// How many of so many octets are of a message's contents alone: none of them is the last of its request id, or its last.
+    /// How many of the next octets only add to a message's contents: none is the last of its request id, or of the message.
     fn payload_run(&self, room: usize) -> usize
         ensures within { result ≤ room }
         ensures full { 0 < result → length self.now.header.items ≡ 12 }
@@ -41,7 +41,7 @@ impl Framing {
             .min(unread as usize)
     }
 
-    /// Octets of a message's contents alone.
+    /// Takes octets that only add to a message's contents.
     fn run<O: Out>(
         &mut self,
         catalogue: &Catalogue,
@@ -75,7 +75,7 @@ impl Framing {
         Ok(())
     }
 
-    /// How many of these octets only add to a header: they are right, and none of them is its last.
+    /// How many of these octets only add to a header: they are right, and none is its last.
     fn header_run(&self, octets: &[u8]) -> usize
         ensures within { result ≤ length octets.now }
         ensures before_last { 0 < result → length self.now.header.items + result < 12 }
@@ -107,7 +107,7 @@ impl Framing {
         header_run
     }
 
-    /// Octets that only add to a header.
+    /// Takes octets that only add to a header.
     fn take_header_octets(&mut self, octets: &[u8])
         requires before_last { length self.old.header.items + length octets.now < 12 }
         requires running { self.old.stopped ≡ None }
@@ -127,7 +127,7 @@ impl Framing {
         self.header.try_extend_from_slice(octets).unwrap();
     }
 
-    /// The octets of a piece, in runs where there are such.
+    /// Takes the octets of a piece, in runs where that is possible.
     pub fn steps<O: Out>(
         &mut self,
         catalogue: &Catalogue,
@@ -165,8 +165,8 @@ impl Framing {
     }
 }
 
-/// How many of so many octets of a payload, behind so many others, come before the last one of its request id: all of them
-/// where that has come.
+/// How many of so many octets of a payload, after so many others, come before the last one of its request id: all of them
+/// where the request id is complete.
 fn before_id(payload_count: u32, room: usize) -> usize
     ensures within { result ≤ room }
     ensures apart { payload_count < 4 → payload_count + result < 4 }

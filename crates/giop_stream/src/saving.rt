@@ -1,4 +1,4 @@
-//! The checkpoint of an engine, written: the fixed part, a record of each open message, and one of the current message
+//! Writes the checkpoint of an engine: the fixed part, a record of each open message, and one of the current message
 //! (docs/FORMATS.md, Checkpoints).
 
 ghost use Rattle.std.specs.Prelude.{◌≡◌, ℕ, List, ◌+◌, ◌*◌, ◌^◌, ◌<◌, ◌≤◌, ◌++◌, length, IfOk};
@@ -25,7 +25,7 @@ use giop_octets::{put_octets, put_zeros};
 use giop_print::{Out, OutFault, put_all};
 use giop_sig::{Catalogue, Requests};
 
-/// Writes the checkpoint of a stream's reading by this catalogue and this list, and says how many octets it has.
+/// Writes the checkpoint of a stream that was read by this catalogue and this list; returns how many octets it has.
 pub fn write<O: Out>(
     framing: &Framing,
     catalogue: &Catalogue,
@@ -52,7 +52,7 @@ pub fn write<O: Out>(
     put_next(written, record.as_slice(), out)
 }
 
-/// Puts octets behind those that were written, unless a put failed, and says how many there are then.
+/// Puts octets after those that were written, unless a put failed; returns how many there are then.
 fn put_next<O: Out>(
     written: Result<u64, OutFault>,
     octets: &[u8],
@@ -87,7 +87,7 @@ fn fixed_part(framing: &Framing, catalogue: &Catalogue, requests: &Requests) -> 
     }
 }
 
-/// What the catalogue and the list have.
+/// How many types, operations, exceptions and request ids the catalogue and the list have.
 #[tactic(auto, unfolding(crate::specs::Checkpoint::counts_of))]
 pub fn counts_of(catalogue: &Catalogue, requests: &Requests) -> Counts
     ensures { result ≡ counts_of catalogue.now requests.now }
@@ -109,7 +109,7 @@ fn records_of(slots: &Slots) -> u32
     slots.slots.len() as u32 + u32::from(slots.own.is_some())
 }
 
-/// Where the next octet stands.
+/// Where the next octet is: in a header, in a payload, or after a stream fault.
 fn place_of(framing: &Framing) -> Place
     ensures { result ≡ place_of framing.now.stopped framing.now.header.items framing.now.payload_count }
 {
@@ -153,7 +153,7 @@ fn owner_of(slots: &Slots) -> Option<u32>
     }
 }
 
-/// Writes the records of the open messages behind what was written. Each is composed by itself, also behind a failed put.
+/// Writes the records of the open messages after what was written. Each is composed by itself, also after a failed put.
 fn write_open<O: Out>(
     slots: &Slots,
     begun: Result<u64, OutFault>,

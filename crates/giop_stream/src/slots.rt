@@ -25,22 +25,22 @@ pub const MOST_OPEN: u32 = 4_096;
 pub struct Slot {
     pub number: u64,
     pub header: [u8; 12],
-    /// What is kept of it, unless it is over.
+    /// The state of its reading, unless the message is over.
     pub message: Option<Message>,
 }
 
 /// The message that the payload's octets belong to.
 #[derive(Clone, Copy, Debug)]
 pub enum Payload {
-    /// The message's own, which isn't open.
+    /// The current message itself, which isn't open.
     Own,
-    /// Those of the open message at this place.
+    /// The open message at this index.
     Open(usize),
-    /// No message's.
+    /// No message.
     Nobody,
 }
 
-/// The open messages, and the message whose payload comes where it isn't one of them.
+/// The open messages, and the current message where it isn't one of them.
 #[derive(Drop)]
 pub struct Slots {
     pub slots: EntryTable<Slot>,
@@ -76,7 +76,7 @@ impl Slots {
         })
     }
 
-    /// Lets go of all messages.
+    /// Drops all messages.
     pub fn clear(&mut self)
         ensures most { self.new.slots.most ≡ self.old.slots.most }
         ensures bare { IsBare self.new }
@@ -87,7 +87,7 @@ impl Slots {
         self.payload = Payload::Nobody;
     }
 
-    /// The open message at this place.
+    /// The open message at this index.
     pub fn at(&self, k: usize) -> &Slot
         requires { k < length self.now.slots.entries }
         ensures { option_map (λ e. e.value) (slice_get self.now.slots.entries k)
@@ -99,7 +99,7 @@ impl Slots {
         }
     }
 
-    /// Its request id.
+    /// The request id of the open message at this index.
     pub fn id(&self, k: usize) -> u32
         requires { k < length self.now.slots.entries }
         ensures { option_map (λ e. e.key) (slice_get self.now.slots.entries k) ≡ Some result }
@@ -110,7 +110,7 @@ impl Slots {
         }
     }
 
-    /// The open messages that have neither ended nor been faulted, by number.
+    /// The lines of the open messages that have neither ended nor been faulted, by number.
     pub fn unfinished<O: Out>(&self, out: &mut O) -> Result<(), OutFault>
         ensures { (C : Table) (l : RequestTable) (slots : List Held) →
             AreSlots C l self.now.slots.entries slots →
@@ -126,8 +126,7 @@ impl Slots {
         Ok(())
     }
 
-    /// Hands octets of the payload, behind so many of the stream, to the message that owns them; answers whether one of
-    /// them faults it.
+    /// Feeds octets of the payload, after so many of the stream, to their owner; returns whether one of them faults it.
     pub fn take<O: Out>(
         &mut self,
         catalogue: &Catalogue,
@@ -159,7 +158,7 @@ impl Slots {
         }
     }
 
-    /// Faults the owner of the payload, unless it is over; answers whether it does.
+    /// Faults the owner of the payload, unless it is over; returns whether it does.
     pub fn fault_message<O: Out>(
         &mut self,
         number: u64,
@@ -184,7 +183,7 @@ impl Slots {
         }
     }
 
-    /// Closes the owner of the payload, unless it is over; answers whether that faults it.
+    /// Closes the owner of the payload, unless it is over; returns whether that faults it.
     pub fn close<O: Out>(
         &mut self,
         catalogue: &Catalogue,
@@ -218,7 +217,7 @@ impl Slots {
         self.slots.is_full()
     }
 
-    /// Makes the message whose payload comes an open one.
+    /// Makes the current message an open one, under this request id.
     pub fn open(&mut self, number: u64, header: [u8; 12], id: u32)
         requires { length self.old.slots.entries < self.old.slots.most }
         ensures kept { (C : Table) (l : RequestTable) (c : Tracked) (w : MessageKey) (place : ℕ) →
@@ -238,7 +237,7 @@ impl Slots {
         self.slots.add(id, slot);
     }
 
-    /// The payload is of the open message at this place, from now on.
+    /// From now on the payload belongs to the open message at this index.
     pub fn set_open_owner(&mut self, k: usize)
         ensures kept { (C : Table) (l : RequestTable) (c : Tracked) (owner_of_next : Option MessageKey) (o : Open) →
             SlotsRepresent C l self.old c owner_of_next → slice_get c.still_open k ≡ Some o →
@@ -250,7 +249,7 @@ impl Slots {
         self.payload = Payload::Open(k);
     }
 
-    /// The payload is no message's, from now on.
+    /// From now on the payload belongs to no message.
     pub fn set_no_owner(&mut self)
         ensures kept { (C : Table) (l : RequestTable) (c : Tracked) (owner_of_next : Option MessageKey) →
             SlotsRepresent C l self.old c owner_of_next → SlotsRepresent C l self.new c None }
@@ -263,7 +262,7 @@ impl Slots {
         self.payload = Payload::Nobody;
     }
 
-    /// A message begins.
+    /// A message begins: it is the current one, and not open.
     pub fn begin(&mut self, catalogue: &Catalogue, number: u64, header: [u8; 12])
         ensures kept { (l : RequestTable) (c : Tracked) (owner_of_next : Option MessageKey) (w : MessageKey) →
             SlotsRepresent catalogue.now l self.old c owner_of_next → w.number ≡ number → w.header ≡ header →
@@ -277,7 +276,7 @@ impl Slots {
         self.payload = Payload::Own;
     }
 
-    /// The request id of the message whose payload comes, once its own octets have brought it.
+    /// The request id of the current message, once its own octets have completed it.
     pub fn request_id(&self) -> u32
         ensures { (C : Table) (l : RequestTable) (w : MessageKey) (xs : List ℕ) (i : ℕ) →
             RepresentsMessage C l self.now.own w (Some xs) →
@@ -289,7 +288,7 @@ impl Slots {
         }
     }
 
-    /// Where the open message with this request id is.
+    /// The index of the open message with this request id.
     pub fn find(&self, id: u32) -> Option<usize>
         ensures value { result ≡ position_from (λ slot. slot.key == id) 0 self.now.slots.entries }
         ensures within { IfSome result (λ k. k < length self.now.slots.entries) }
@@ -297,7 +296,7 @@ impl Slots {
         self.slots.find(id)
     }
 
-    /// Closes the open message at this place, which the message of this number cancels.
+    /// Closes the open message at this index, which the message of this number cancels.
     pub fn cancel<O: Out>(
         &mut self,
         k: usize,

@@ -1,4 +1,4 @@
-//! What an engine answers of its stream: its status and its totals.
+//! What an engine reports of its stream: its status and its totals.
 
 use crate::fault::StreamFault;
 
@@ -6,12 +6,12 @@ use crate::fault::StreamFault;
 #[derive(Clone, Copy, Debug, PartialEq, Eq)]
 pub enum Status {
     Running,
-    /// The stream has a fault; no octet behind it is read.
+    /// The stream has a fault; no octet after it is read.
     Stopped(StreamFault),
 }
 
-/// What was read so far: the messages whose header came, the faults of messages and of the stream, and the octets, that of
-/// a stream fault included.
+/// What was read so far: the messages with a complete header, the faults of messages and of the stream, and the octets,
+/// that of a stream fault included.
 #[derive(Clone, Copy, Debug, PartialEq, Eq)]
 pub struct Totals {
     pub messages: u64,

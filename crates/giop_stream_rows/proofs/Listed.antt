@@ -1,4 +1,4 @@
--- What is kept of the request list.
+-- The request table of the worked Replies gives the operations that their request list gives.
 use Rattle.std.proofs.Common.{◌≡◌, ℕ, Bool, true, false, refl}
 use Rattle.std.specs.Prelude.{◌==◌}
 use Rattle.std.proofs.lemmas.Bool.{eqb-true}

@@ -73,7 +73,7 @@ in_body = record {
   };
 }
 
--- a header of a Request of so many octets, with more to come
+-- the header of a 1.2 Request of so many octets, with fragments to follow
 header : ℕ → List ℕ
 header n = 71 ∷ 73 ∷ 79 ∷ 80 ∷ 1 ∷ 2 ∷ 2 ∷ 0 ∷ 0 ∷ 0 ∷ 0 ∷ n ∷ []
 
@@ -94,7 +94,7 @@ first_entry = record {
   frames = decoders.frames_octets (parameters_frame ∷ decoders.own_frame number ∷ []);
 }
 
--- ---- The second, behind its body, which has no octets.
+-- ---- The second, after its body, which has no octets.
 
 nothing : Rest
 nothing = record { offset = 0; held = record { items = [] }; room = omega arith }
@@ -116,7 +116,7 @@ second_entry = record {
   frames = [];
 }
 
--- what is held of the stream
+-- the fields of the engine after the stream
 between : FramingView
 between = record {
   totals = record { messages = 2; faults = 0; octets = 100 };
@@ -134,7 +134,7 @@ between = record {
   };
 }
 
--- what is held is told with these,
+-- the definitions that are unfolded for the fields of the engine,
 the_decoder : ℕ
 unfolding parameters number parameters_frame in_body header nothing builtin_types
 the_decoder = 0
@@ -143,7 +143,7 @@ the_messages : ℕ
 unfolding first second first_entry second_entry between id_in first_id first_request_id two_requests
 the_messages = 0
 
--- and a checkpoint with these
+-- and those for the octets of the checkpoint
 its_octets : ℕ
 unfolding decoders.fixed_octets messages.own_octets messages.rest_octets four eight
 its_octets = 0
@@ -235,9 +235,9 @@ second_range = record {
   frames = refl;
 }
 
--- ---- What they follow.
+-- ---- The octets that they have read.
 
--- the first Request's octets behind its header and up to its number, and the second's
+-- the first Request's octets after its header and up to its number, and the second's
 first_front : List ℕ
 first_front = take 36 (drop 12 two_requests)
 
@@ -305,7 +305,7 @@ number_begun : FitsIn (part_of (tree bigs parameters) 0) [] (leaf_of bigs number
 unfolding one_message told_with kept_messages some_octets
 number_begun = record { same = refl; kind = tt; room = omega arith }
 
--- so the parameters fit, as they stand
+-- so the parameters fit, with what was read of them
 FitsOne : Ty → Leaf → Type 0
 FitsOne T leaf = IsFit 24 T × FitsIn T (part_in T 0 1 ∷ []) leaf × IsWithin None 0 1 T
 
@@ -350,7 +350,7 @@ first_fits = record {
 
 -- ---- The checkpoint.
 
--- what the stream's octets are told with
+-- the definitions that are unfolded for the stream's octets
 its_parts : ℕ
 unfolding first_front some_octets second_octets
 its_parts = 0

@@ -1,5 +1,4 @@
--- Checkpoints of worked streams, octet for octet (meaning). In the first four no message is kept:
--- there is no record.
+-- Checkpoints of worked streams, octet for octet (meaning). The first four have no record of a message.
 use Rattle.std.specs.Prelude.{ℕ, List, [], ◌∷◌, ◌++◌, replicate, codes}
 use Rattle.giop_stream.specs.Checkpoint.{Spells}
 use Rattle.giop_stream_rows.specs.Worked.{stream, builtin, bigs}
@@ -21,7 +20,7 @@ InAHeader = Spells
     16
     five_octets
 
--- and by layout 2, which has no such number: it is 16
+-- the same in layout 2, which doesn't store how many may be open: they are 16
 abbrev pub InAnOldHeader : Type 0
 InAnOldHeader = Spells
     (stream (codes "47494f5044554d50 00000002 00000000 00000000 00000000 00000000 00000000"
@@ -55,7 +54,7 @@ InAPayload = Spells
 unfoldable pub bad_magic : List ℕ
 bad_magic = stream (codes "47494f50 0100 00 05 00000000 474958" ∷ [])
 
--- behind a stream fault, where 4,096 may be
+-- after a stream fault, where 4,096 messages may be open
 abbrev pub BehindAFault : Type 0
 BehindAFault = Spells
     (stream (codes "47494f5044554d50 00000003 00000000 00000000 00000000 00000000 00000000"
@@ -70,8 +69,8 @@ BehindAFault = Spells
 
 -- ---- Two open messages.
 
--- the Requests of two operations of `bigs`, each with more to come: the first within its number,
--- the second behind its body
+-- the Requests of two operations of `bigs`, each with fragments to follow: the first ends within its number, the second
+-- after its body
 unfoldable pub two_requests : List ℕ
 two_requests = stream (codes "47494f50 0102 02 00 00000028"
     ∷ codes "00000005 03 000000 0000 0000 00000001 41 000000 00000004 626967 00 00000000"
@@ -81,7 +80,7 @@ two_requests = stream (codes "47494f50 0102 02 00 00000028"
     ∷ codes "00000000"
     ∷ [])
 
--- two operations, and two records; nobody's octets come next
+-- the fixed part: two operations, two records, and a header next
 unfoldable pub between_messages : List ℕ
 between_messages =
     stream (codes "47494f5044554d50 00000003 00000000 00000002 00000000 00000000 00000002"
@@ -90,8 +89,8 @@ between_messages =
     ∷ codes "00000010 ffffffff 0000000000000000"
     ∷ [])
 
--- The first is open by its id 5 and stands in its body, in front of octet 52. Of a number of type 8
--- four octets are held; it is the one part of the struct that is the first type declared.
+-- The record of the first, which is open under the request id 5 and in its body, before octet 52. Four octets are held of a
+-- number of type 8, the one part of the struct that is the first type declared.
 unfoldable pub in_a_number : List ℕ
 in_a_number =
     stream (codes "02 01 0000000000000001 47494f50 0102 02 00 00000028 00000005 000000000000"
@@ -103,7 +102,7 @@ in_a_number =
     ∷ codes "00000008 00000000 00000000 00 0000000000000000000000"
     ∷ [])
 
--- The second is open by its id 6 and stands in its rest, in front of octet 48. Nothing of that is
+-- The record of the second, which is open under the request id 6 and in its rest, before octet 48. No octet of the rest is
 -- held.
 unfoldable pub behind_a_body : List ℕ
 behind_a_body =

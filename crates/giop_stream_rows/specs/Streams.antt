@@ -35,7 +35,7 @@ LittleRequest = Row (read_by puts [])
     ∷ [])
     (codes "total messages 1 faults 0 octets 56" ∷ [])
 
--- Two Requests in fragments, which come by turns. The number of the first is cut into three.
+-- Two Requests whose fragments are interleaved. The number of the first is cut into three.
 abbrev pub Interleaved : Type 0
 Interleaved = Row (read_by bigs [])
     (stream (codes "47494f50 0102 02 00 00000028"
@@ -117,7 +117,7 @@ OneOpen = Row (rules builtin [] 1)
     ∷ codes "total messages 2 faults 1 octets 32"
     ∷ [])
 
--- a CancelRequest of an open message, and a Fragment behind it
+-- a CancelRequest of an open message, and a Fragment after it
 abbrev pub Cancelled : Type 0
 Cancelled = Row (read_by builtin [])
     (stream (codes "47494f50 0102 02 00 00000004 00000004"

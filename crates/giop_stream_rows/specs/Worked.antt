@@ -1,5 +1,5 @@
--- How a worked stream is told: its octets in hexadecimal digits, its lines, and the types and requests that it
--- is read by (meaning).
+-- How a worked stream is written down: its octets in hexadecimal digits, its lines, and the types and requests that it is
+-- read by (meaning).
 use Rattle.std.specs.Prelude.{◌≡◌, ℕ, ◌+◌, ◌-◌, ◌*◌, ◌==◌, nat_lt, if◌then◌else◌, List, [], ◌∷◌, ◌++◌, length, Some, None, codes}
 use Rattle.giop_sig.specs.Table.{Node, members, Operation, Exception, Table, op_id, operation_number}
 use Rattle.giop_sig.specs.Builtin.{builtin_types, member}
@@ -38,8 +38,8 @@ pub record Row (R : Rules) (p : List ℕ) (lines end : List (List ℕ)) : Type 0
 unfoldable pub read_by : Table → RequestTable → Rules
 read_by table kept = rules table kept most_open
 
--- an operation by the structs of its parameters and of its results, which stand one behind the other; the first is counted
--- from the first type behind the built-in ones
+-- an operation with the structs of its parameters and of its results, one after the other in the table; the first is counted
+-- from the first type after the built-in ones
 unfoldable pub called : List ℕ → ℕ → Operation
 called name request = record {
   name = name;
@@ -88,10 +88,10 @@ entry id name = record { id = id; name = name }
 unfoldable pub entries : List Entry
 entries = entry 1 (codes "ask") ∷ entry 1 (codes "ask") ∷ entry 2 (codes "nop") ∷ entry 2 (codes "ask") ∷ []
 
--- what is kept of these: the one operation of the first id, and none of the second
+-- the request table of these: the one operation of the first id, and none of the second, which has two
 unfoldable pub kept : RequestTable
 kept = (1, Some (op_id 0)) ∷ (2, None) ∷ []
 
--- it answers as the list does, for these declarations
+-- it gives the operations that the list gives, for these declarations
 abbrev pub AreOfTheirList : Type 0
 AreOfTheirList = IsOf (operation_number asks) entries kept

@@ -12,7 +12,7 @@ pub fn worked_streams()
     ensures close_connection { CloseConnection }
     // A Request of 1.2 and little order, whose body is aligned to 8.
     ensures little_request { LittleRequest }
-    // Two Requests in fragments, which come by turns.
+    // Two Requests whose fragments are interleaved.
     ensures interleaved { Interleaved }
     // Two messages of one request id.
     ensures open_twice { OpenTwice }
@@ -23,17 +23,17 @@ pub fn worked_streams()
     // A Reply with the results of its request's operation, and one with an exception.
     ensures replied { Replied }
     ensures raised { Raised }
-    // What is kept of the request list of these two answers as the list does.
+    // The request table of these two gives the operations that the request list gives.
     ensures request_table { AreOfTheirList }
 {}
 
 /// The checkpoints of worked streams, octet for octet. It has no body, and is called for its contract.
 pub fn worked_checkpoints()
-    // In a header, by either layout, in the payload of a faulted message, and behind a stream fault.
+    // In a header, in either layout, in the payload of a faulted message, and after a stream fault.
     ensures in_a_header { InAHeader }
     ensures in_an_old_header { InAnOldHeader }
     ensures in_a_payload { InAPayload }
     ensures behind_a_fault { BehindAFault }
-    // With two messages open, of which one stands within a number.
+    // With two open messages, one of them within a number.
     ensures between_messages { BetweenMessages }
 {}

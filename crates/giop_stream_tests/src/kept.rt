@@ -1,5 +1,5 @@
-//! Checkpoints that are kept as octets: they are what is saved of a stream, and are loaded, by layout 2 too; one of layout 1
-//! is refused.
+//! Checkpoints written here as octets: saving a stream gives them, and they can be loaded, in layout 2 as well; one of
+//! layout 1 is refused.
 
 ghost use Rattle.giop_stream.specs.EngineHolds.{AreOf};
 
@@ -10,7 +10,7 @@ use giop_stream::{Engine, LoadFault};
 use std::alloc::Global;
 use std::test::Fail;
 
-/// No types of one's own.
+/// A signature file that declares nothing.
 const BUILT_IN: &[u8] = b"signatures 1;\n";
 
 /// A checkpoint, in hexadecimal text.
@@ -18,12 +18,12 @@ struct Kept {
     name: &'static str,
     /// The signature file.
     types: &'static [u8],
-    /// The octets that were read; none where no stream was so long.
+    /// The octets that were read; empty for a stream that is too long to be fed.
     front: &'static str,
     checkpoint: &'static str,
-    /// Its fixed part by layout 2.
+    /// Its fixed part in layout 2.
     second: &'static str,
-    /// The octets behind.
+    /// The octets that follow.
     behind: &'static str,
     /// Their lines.
     lines: &'static [u8],
@@ -116,7 +116,7 @@ total messages 0 faults 1 octets 281474976710657\n",
     },
 ];
 
-/// A checkpoint of layout version 1, inside an octet sequence, as it was saved then.
+/// A checkpoint of layout version 1, inside an octet sequence.
 const OF_VERSION_1: &str =
     "47494f5044554d50000000010000000000000001000000000000000000000001000000000000005a0000000000000001\
 00000000000000000100000047494f500102000000000068000000000000001a00000000000000000000000000000000\
@@ -127,7 +127,7 @@ const OF_VERSION_1: &str =
 000000000000000000000000000000000000000000000000000000000000000000000000000000000000000000000000\
 000000000000000000000000000000000000002600000000000000010000000000000025000000000000000000000000";
 
-/// The octets of hexadecimal text, in this room; none where it isn't such text, or doesn't fit.
+/// The octets of hexadecimal text, in this buffer; none where it isn't such text, or doesn't fit.
 fn octets_of<'a>(text: &str, room: &'a mut [u8; 1024]) -> &'a [u8] {
     let (octets, _) = room.split_at_mut((text.len() / 2).min(1024));
     match hex::decode_to_slice(text.as_bytes(), octets) {
@@ -136,7 +136,7 @@ fn octets_of<'a>(text: &str, room: &'a mut [u8; 1024]) -> &'a [u8] {
     }
 }
 
-/// Whether an engine writes these lines of the octets behind what it has read, and of their end.
+/// Whether an engine writes these lines for the octets that follow what it has read, and for the end.
 fn goes_on(engine: Engine, behind: &[u8], lines: &[u8]) -> bool {
     let mut room = [0; 4096];
     let mut sheet = Sheet::new(&mut room);
@@ -146,7 +146,7 @@ fn goes_on(engine: Engine, behind: &[u8], lines: &[u8]) -> bool {
         && sheet.held() == lines
 }
 
-/// What differs of the checkpoint that is saved of its stream, or behind it.
+/// What differs when the stream is saved and then read on; empty if nothing does.
 fn saved_differs(
     alloc: Global,
     catalogue: &Catalogue,
@@ -189,7 +189,7 @@ fn a_kept_checkpoint_is_saved_of_its_stream(rt: HostRuntime) -> Result<(), Fail>
     Ok(())
 }
 
-/// A checkpoint with another fixed part.
+/// A checkpoint with its fixed part replaced.
 fn joined(fixed: &[u8; 1024], whole: [u8; 1024]) -> [u8; 1024] {
     let mut octets = whole;
     for at in 0..96 {
@@ -198,7 +198,7 @@ fn joined(fixed: &[u8; 1024], whole: [u8; 1024]) -> [u8; 1024] {
     octets
 }
 
-/// Whether the checkpoint is loaded, with the fixed part of layout 2 where that is wanted, and the engine goes on.
+/// Whether the checkpoint can be loaded, with the fixed part of layout 2 where `is_second`, and the engine reads on.
 fn is_loaded(
     alloc: Global,
     catalogue: &Catalogue,
@@ -260,12 +260,12 @@ fn one_to_4096_messages_may_be_open(rt: HostRuntime) -> Result<(), Fail> {
     Ok(())
 }
 
-/// A checkpoint of nothing, where one message may be open.
+/// A checkpoint of an engine that has read nothing, where one message may be open.
 const FRESH_OF_ONE: &str =
     "47494f5044554d5000000003000000000000000000000000000000000000000000000000000000000000000000000000\
 000000000000000000000000000000000000000000000000000000000000000000000001ffffffff0000000000000000";
 
-/// Two Requests of 1.2 of which more is to come, and their text where one may be open.
+/// Two 1.2 Requests with fragments to follow, and their text where one may be open.
 const TWO_OPENERS: &str = "47494f5001020200000000040000000147494f50010202000000000400000002";
 
 const ONE_OPEN: &[u8] = b"m1 start 1.2 big Request size 4 more\n\
@@ -301,17 +301,17 @@ fn a_checkpoint_of_version_1_is_refused(rt: HostRuntime) -> Result<(), Fail> {
     Ok(())
 }
 
-/// What comes of a checkpoint of which one octet is another.
+/// What loading a checkpoint with a changed octet leads to.
 enum Outcome {
     /// It is refused.
     Refused(LoadFault),
-    /// An engine was fed the octets behind, and came to its end.
+    /// An engine was fed the octets that follow, and finished.
     Ended,
     /// An engine was stopped by its out.
     Stopped,
 }
 
-/// Loads a checkpoint, and feeds the octets behind to the engine.
+/// Loads a checkpoint, and feeds the octets that follow to the engine.
 fn fed_damaged(
     alloc: Global,
     catalogue: &Catalogue,
@@ -336,7 +336,7 @@ fn fed_damaged(
     }
 }
 
-/// Whether this may come of a checkpoint of which the octet at this place is complemented.
+/// Whether this outcome is allowed where the octet at this place of the checkpoint is complemented.
 fn is_right(at: usize, outcome: Outcome) -> bool {
     match outcome {
         Outcome::Refused(why) if at < 8 => why == LoadFault::Magic,
@@ -348,7 +348,7 @@ fn is_right(at: usize, outcome: Outcome) -> bool {
     }
 }
 
-/// The first octet of a checkpoint of whose complement comes what may not.
+/// The first octet of a checkpoint whose complement leads to an outcome that isn't allowed.
 fn first_wrong(
     alloc: Global,
     catalogue: &Catalogue,

@@ -1,4 +1,4 @@
-//! What the tests read streams by.
+//! The types and requests by which the tests read streams.
 
 ghost use Rattle.std.specs.Prelude.{IfOk};
 ghost use Rattle.giop_stream.specs.EngineHolds.{AreOf};

@@ -1,4 +1,4 @@
-//! Tests of giop_stream from outside, as a program of one's own would use it.
+//! Tests of giop_stream from outside, as a program that depends on it uses it.
 #![tactic(auto)]
 
 #[cfg(test)]

@@ -1,4 +1,4 @@
-//! How many messages may be open at once: the number that an engine is made for, which its checkpoint has.
+//! How many messages may be open at once: the number that an engine is made for, and that its checkpoint stores.
 
 ghost use Rattle.std.specs.Prelude.{◌≤◌};
 ghost use Rattle.giop_stream.specs.Rules.{most_open};
@@ -12,17 +12,17 @@ use hex::FromHex;
 use std::alloc::Global;
 use std::test::Fail;
 
-/// No types of one's own.
+/// A signature file that declares nothing.
 const BUILT_IN: &[u8] = b"signatures 1;\n";
 
-/// A Request of 1.2 with this id, of which more is to come.
+/// A 1.2 Request with this id and with fragments to follow.
 fn opener(id: u32) -> [u8; 16] {
     let mut octets = *b"GIOP\x01\x02\x02\x00\x00\x00\x00\x04\x00\x00\x00\x00";
     [octets[12], octets[13], octets[14], octets[15]] = id.to_be_bytes();
     octets
 }
 
-/// The text of two, where one may be open.
+/// The text of two of them, where one may be open.
 const ONE_OPEN: &[u8] = b"m1 start 1.2 big Request size 4 more\n\
 m1 header.request_id ulong 1\n\
 m2 start 1.2 big Request size 4 more\n\
@@ -85,7 +85,7 @@ fn where_4096_are_open_the_next_is_faulted(rt: HostRuntime) -> Result<(), Fail> 
     Ok(())
 }
 
-/// The operations of a stream, of two Requests in fragments that come by turns; behind 100 octets both have begun.
+/// The operations of a stream of two Requests whose fragments are interleaved; after 100 octets both are open.
 const DECLARED: &[u8] =
     b"signatures 1;\noperation void big(in ulonglong n); operation void nop();\n";
 
@@ -95,7 +95,7 @@ const STREAM: &str =
 41000000000000046e6f7000000000000000000047494f5001020207000000060000000505064749\
 4f5001020007000000040000000647494f500102000700000006000000050708";
 
-/// The fixed part of the checkpoint there, and the lines behind, where one may be open.
+/// The fixed part of the checkpoint after 100 octets, and the lines of the others, where one may be open.
 const FIXED_OF_ONE: &str =
     "47494f5044554d5000000003000000000000000200000000000000000000000100000000000000640000000000000002\
 000000000000000100000000000000000000000000000000000000000000000000000001ffffffff0000000000000000";
@@ -113,7 +113,7 @@ m1 body.n ulonglong 72623859790382856\n\
 m1 end\n\
 total messages 5 faults 2 octets 152\n";
 
-/// And where 4,096 may be.
+/// The same where 4,096 may be open.
 const FIXED_OF_MANY: &str =
     "47494f5044554d5000000003000000000000000200000000000000000000000200000000000000640000000000000002\
 000000000000000000000000000000000000000000000000000000000000000000001000ffffffff0000000000000000";
@@ -132,7 +132,7 @@ m1 body.n ulonglong 72623859790382856\n\
 m1 end\n\
 total messages 5 faults 0 octets 152\n";
 
-/// Whether an engine writes these lines of the octets behind what it has read, and of their end.
+/// Whether an engine writes these lines for the octets that follow what it has read, and for the end.
 fn goes_on(engine: Engine<'_>, behind: &[u8], lines: &[u8]) -> Result<bool, Fail> {
     let mut room = [0; 1024];
     let mut sheet = Sheet::new(&mut room);
@@ -142,7 +142,7 @@ fn goes_on(engine: Engine<'_>, behind: &[u8], lines: &[u8]) -> Result<bool, Fail
     Ok(sheet.held() == lines)
 }
 
-/// What differs where the stream is saved behind 100 octets, or goes on from there.
+/// What differs when the stream is saved after 100 octets and read on from there; empty if nothing does.
 fn differs(
     alloc: Global,
     known: &(Catalogue, Requests),

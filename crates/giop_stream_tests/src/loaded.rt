@@ -1,4 +1,4 @@
-//! What an engine that was loaded writes of the octets behind, and which octets are no checkpoint.
+//! What a loaded engine writes for the octets that follow, and which octets are refused as a checkpoint.
 
 ghost use Rattle.giop_stream.specs.EngineHolds.{AreOf};
 
@@ -10,14 +10,14 @@ use hex::FromHex;
 use std::alloc::Global;
 use std::test::Fail;
 
-/// The operations of the stream, and those of another.
+/// The operations of the stream, and those of another signature file.
 const DECLARED: &[u8] =
     b"signatures 1;\noperation void big(in ulonglong n); operation void nop();\n";
 
 const OTHER: &[u8] =
     b"signatures 1;\nexception Late \"IDL:Late:1.0\" { ushort by; }; operation long ask(in long a, out octet b); operation void nop();\n";
 
-/// Two Requests in fragments: 5 for `big`, whose number comes in three, and between them 6 for `nop`.
+/// Two Requests in fragments: 5 for `big`, whose number is cut into three, and between its fragments 6 for `nop`.
 const STREAM: &str =
     "47494f50010202000000002800000005030000000000000000000001410000000000000462696700\
 00000000000000000102030447494f50010202000000002400000006030000000000000000000001\
@@ -61,7 +61,7 @@ m1 body.n ulonglong 72623859790382856\n\
 m1 end\n\
 total messages 5 faults 0 octets 152\n";
 
-/// A checkpoint without records, by the built-in types: 2^48 octets were read. And one of two octets more, which are too many.
+/// A checkpoint without records, by the built-in types, after 2^48 octets; and one after two more, which are too many.
 const FULL: &str =
     "47494f5044554d5000000003000000000000000000000000000000000000000000010000000000000000000000000000\
 000000000000000000000000000000000000000000000000000000000000000000000010ffffffff0000000000000000";
@@ -70,11 +70,11 @@ const TOO_FULL: &str =
     "47494f5044554d5000000003000000000000000000000000000000000000000000010000000000020000000000000000\
 000000000000000000000000000000000000000000000000000000000000000000000010ffffffff0000000000000000";
 
-/// What is written behind the first.
+/// What is written after the first.
 const LIMIT_TEXT: &[u8] = b"stream fault stream-limit at 281474976710657\n\
 total messages 0 faults 1 octets 281474976710657\n";
 
-/// Puts a checkpoint of the front of a stream to an out; its lines go to the sheet.
+/// Saves a checkpoint of the front of a stream to `out`; its lines go to `sheet`.
 fn saved(
     alloc: Global,
     known: &(Catalogue, Requests),
@@ -94,7 +94,7 @@ fn saved(
     Ok(())
 }
 
-/// What is wrong with the text of a stream that was read by two engines, one behind the other.
+/// What is wrong with the text of a stream that is read by one engine up to `at`, and on from its checkpoint by another.
 fn differs(
     alloc: Global,
     known: &(Catalogue, Requests),

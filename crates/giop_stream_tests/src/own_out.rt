@@ -1,4 +1,4 @@
-//! A program of one's own over the engine: an out that counts lines. docs/LIBRARY.md shows it.
+//! A user's own `Out` for the engine, which counts lines. docs/LIBRARY.md shows it.
 
 ghost use Rattle.std.specs.Prelude.{IfOk};
 ghost use Rattle.giop_stream.specs.EngineHolds.{AreOf};
@@ -9,7 +9,7 @@ use giop_stream::{Engine, Stop};
 use std::alloc::Global;
 use std::test::Fail;
 
-/// Counts the lines that it is handed, and keeps none of their text.
+/// Counts the lines that are put to it, and keeps none of their text.
 #[derive(Drop)]
 struct LineCount {
     lines: u64,
@@ -34,7 +34,7 @@ fn line_feeds(octets: &[u8]) -> u64 {
     octets.iter().filter(|octet| **octet == b'\n').count() as u64
 }
 
-/// How many lines a stream has behind what an engine has read, in pieces of a kibibyte.
+/// How many lines an engine writes for a stream that is fed in pieces of a kibibyte, and for its end.
 fn lines_of(engine: Engine<'_>, stream: &[u8]) -> Result<u64, Stop> {
     let mut out = LineCount { lines: 0, puts: 0 };
     let mut engine = engine;

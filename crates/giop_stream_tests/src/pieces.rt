@@ -1,4 +1,4 @@
-//! A stream that comes in pieces, which end in a number, in a piece of a content, and at its ends.
+//! A stream that is fed in pieces, which end within a part of an octet sequence, and beside the end of that part.
 
 ghost use Rattle.giop_stream.specs.EngineHolds.{AreOf};
 
@@ -13,7 +13,7 @@ use std::test::Fail;
 /// The operation of the stream.
 const DECLARED: &[u8] = b"signatures 1;\noperation void raw(in sequence<octet> o);\n";
 
-/// A Request with 64 octets, of which the first stands at 52.
+/// A Request with an octet sequence of 64 octets, the first at offset 52.
 const STREAM: &str =
     "47494f50010200000000006800000001030000000000000000000001410000000000000472617700\
 00000000000000000000004000000000000000000000000000000000000000000000000000000000000000000000000000\
@@ -37,7 +37,7 @@ m1 end
 total messages 1 faults 0 octets 116
 ";
 
-/// Behind which octets it is cut: inside of the first piece, on both sides of its end, and behind the next octet.
+/// After how many octets it is cut: within the first part of the sequence, before and after its last octet, and one later.
 const CUTS: &[&[usize]] = &[&[], &[53], &[83], &[84], &[85], &[53, 83, 84, 85]];
 
 /// Feeds octets up to each of these places, and then the others.

@@ -1,4 +1,4 @@
-//! What an engine saves of a stream: how long it is, and its fixed part.
+//! What an engine saves of a stream: the checkpoint's length and its fixed part.
 
 ghost use Rattle.giop_stream.specs.EngineHolds.{AreOf};
 
@@ -15,7 +15,7 @@ use std::test::Fail;
 const DECLARED: &[u8] =
     b"signatures 1;\noperation void big(in ulonglong n);\noperation void nop();\n";
 
-/// Two Requests of which more is to come: request 5 for `big`, with the first half of its number, and request 6 for `nop`.
+/// Two Requests with fragments to follow: 5 for `big`, with the first half of its number, and 6 for `nop`.
 const STREAM: &str =
     "47494f50010202000000002800000005030000000000000000000001410000000000000462696700\
 000000000000000001020304\
@@ -24,7 +24,7 @@ const STREAM: &str =
 /// A row: how many octets of the stream are fed, how many octets the checkpoint has, and its fixed part.
 type Row = (usize, u64, &'static str);
 
-/// In front of a header, in one, in front of a payload, in the second message, and behind both.
+/// Before a header, within one, before a payload, within the second message, and after both.
 const ROWS: &[Row] = &[
     (
         0,
@@ -58,7 +58,7 @@ const ROWS: &[Row] = &[
     ),
 ];
 
-/// What differs of the checkpoint behind these octets.
+/// What differs in the checkpoint after these octets; empty if nothing does.
 fn differs(
     alloc: Global,
     catalogue: &Catalogue,
@@ -113,7 +113,7 @@ fn a_failed_engine_saves_nothing(rt: HostRuntime) -> Result<(), Fail> {
     Ok(())
 }
 
-/// What differs in a save over an out with so little room, and in one behind it.
+/// What differs in a save to an out with so little room, and in a save after it; empty if nothing does.
 fn stopped_differs(engine: &Engine, whole: &[u8], room: usize) -> &'static str {
     let mut octets = [0; 2048];
     let mut out = Sheet::new(&mut octets[..room.min(2048)]);
@@ -131,7 +131,7 @@ fn stopped_differs(engine: &Engine, whole: &[u8], room: usize) -> &'static str {
     ""
 }
 
-/// Saves a stream over each out that has less room than its checkpoint.
+/// Saves a stream to outs that each have less room than its checkpoint needs.
 fn stops(rt: &impl Abort, engine: &Engine) {
     let mut octets = [0; 2048];
     let mut out = Sheet::new(&mut octets);

@@ -12,6 +12,7 @@ use Rattle.giop_tokens.specs.Tokens.{Token, word, number, negative, repository, 
 use Rattle.giop_tokens.specs.Reading.{◌>>=◌}
 use Rattle.giop_tokens.specs.Readers.{misplaced, as_word, as_number, as_repository, is_the_mark, is_the_word, wanted, passes, next_as, next_is, next_if, word_at, number_at, repository_at, mark_at, keyword_at, mark_if, keyword_if, end_at}
 use Rattle.giop_tokens.specs.Names.{is_reserved, too_long, identifier_at, operation_name_at}
+use Rattle.giop_tokens.proofs.WrittenLaws.{next_first}
 
 -- ---- Steps of a reading.
 
@@ -246,6 +247,10 @@ mark_if_takes m text rest e = next_takes text (mark m) rest (mark_if_next m text
 
 pub keyword_if_takes : (w text rest : List ℕ) → keyword_if w text ≡ Ok (Some rest) → Takes text (word w) rest
 keyword_if_takes w text rest e = next_takes text (word w) rest (keyword_if_next w text rest e)
+
+-- a repository id that was read is not too long, since a longer one is no token
+pub repository_few : (text : List ℕ) (x : List ℕ × List ℕ) → repository_at text ≡ Ok x → length x.0 ≤ 128
+repository_few text x e = (next_first text (repository x.0) x.1 (repository_next text x e)).token.few
 
 -- a name that was read: a word that isn't reserved and is not too long
 name_by : (text : List ℕ) (w x : List ℕ × List ℕ) (b c : Bool) → is_reserved w.0 ≡ b → ltb 64 (length w.0) ≡ c → word_at text ≡ Ok w

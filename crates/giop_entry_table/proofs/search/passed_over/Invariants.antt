@@ -2,7 +2,7 @@ use Rattle.std.proofs.Common.{◌≡◌, ◌≤◌, ◌-◌, ◌==◌, length, d
 use Rattle.std.specs.List.{position_from}
 use Rattle.giop_entry_table.proofs.search.passed_over.Given as goal
 
--- the id stands in no block that was passed
+-- no block that was passed over has the id
 abbrev pub invariant-loop-at : goal.invariant-loop-at
 invariant-loop-at l = (l.at ≤ length l.keys)
     × (position_from (λ k. k == l.key) 0 l.keys
