@@ -7,7 +7,7 @@ ghost use Rattle.giop_stream.specs.Checkpoint.{counts_of};
 ghost use Rattle.giop_stream.specs.EngineHolds.{AreOf, Holds};
 ghost use Rattle.giop_run.specs.Running.{HasKept, setup_of};
 ghost use Rattle.giop_run.specs.Console.{Dumped, exit_status, run_of};
-ghost use Rattle.giop_run.specs.Files.{GoesOn, NoCheckpoint, NoStream, ending_of, stream_of, setup_by};
+ghost use Rattle.giop_run.specs.Files.{CatalogueOf, GoesOn, NoCheckpoint, NoStream, ReadsBy, ending_of, stream_of, setup_by};
 ghost use Rattle.giop_run.specs.Performing.{Did, Kept, task_of};
 ghost use Rattle.giop_program.specs.Words.{asked_of};
 
@@ -68,14 +68,47 @@ pub fn perform_run<'a, R: Inputs + AllocGlobal, O: Flush, F: Saves>(
         (O.log out.old) (O.log out.new) (F.saved files.old) (F.saved files.new) }
     ensures flushed { OnOk result (O.kept out.new ≡ []) }
 {
-    let save = asked.save;
     let catalogue = catalogue(rt, asked.signatures)?;
-    let requests = requests(rt, asked.requests, &catalogue)?;
-    let ran = begin_run(rt, asked, out, &catalogue, &requests);
-    kept(files, save, ran)
+    run_by_catalogue(rt, asked, out, files, &catalogue)
 }
 
-/// The steps behind the request list.
+/// The steps behind the signatures.
+fn run_by_catalogue<'a, R: Inputs + AllocGlobal, O: Flush, F: Saves>(
+    rt: &R,
+    asked: Arguments<'a>,
+    out: &mut O,
+    files: &mut F,
+    catalogue: &Catalogue,
+) -> Result<Totals, ProgramFault<'a>>
+    requires read { CatalogueOf (R.held rt.now) (asked_of asked).signatures catalogue.now }
+    ensures did { Did (task_of (R.held rt.now) (R.given rt.now) (asked_of asked.entry)) result
+        (O.log out.old) (O.log out.new) (F.saved files.old) (F.saved files.new) }
+    ensures flushed { OnOk result (O.kept out.new ≡ []) }
+{
+    let requests = requests(rt, asked.requests, catalogue)?;
+    run_and_save(rt, asked, out, files, catalogue, &requests)
+}
+
+/// The steps behind the request list, and the save of what the run has kept.
+fn run_and_save<'a, R: Inputs + AllocGlobal, O: Flush, F: Saves>(
+    rt: &R,
+    asked: Arguments<'a>,
+    out: &mut O,
+    files: &mut F,
+    catalogue: &Catalogue,
+    requests: &Requests,
+) -> Result<Totals, ProgramFault<'a>>
+    requires of { AreOf catalogue.now requests.now }
+    requires read { ReadsBy (R.held rt.now) (asked_of asked) catalogue.now requests.now }
+    ensures did { Did (task_of (R.held rt.now) (R.given rt.now) (asked_of asked.entry)) result
+        (O.log out.old) (O.log out.new) (F.saved files.old) (F.saved files.new) }
+    ensures flushed { OnOk result (O.kept out.new ≡ []) }
+{
+    let report = begin_run(rt, asked, out, catalogue, requests)?;
+    kept(files, asked.save, &report)
+}
+
+/// The steps up to the run's end.
 fn begin_run<'a, 'c, R: Inputs + AllocGlobal, O: Flush>(
     rt: &R,
     asked: Arguments<'a>,
@@ -167,14 +200,12 @@ fn dumped<'a, 'c, R: Read + Drop, O: Flush>(
 fn kept<'a, F: Saves>(
     files: &mut F,
     save: Option<&'a str>,
-    ran: Result<Report, ProgramFault<'a>>,
+    report: &Report,
 ) -> Result<Totals, ProgramFault<'a>>
-    requires kept { IfOk ran (λ report.
-        HasKept (ending_of (option_map (λ n. n.now) save)) report.kept) }
-    ensures { Kept (option_map (λ n. n.now) save.entry) ran.entry result
+    requires kept { HasKept (ending_of (option_map (λ n. n.now) save)) report.now.kept }
+    ensures { Kept (option_map (λ n. n.now) save.entry) (Ok report.now) result
         (F.saved files.old) (F.saved files.new) }
 {
-    let report = ran?;
     let (Some(name), Some(engine)) = (save, &report.kept) else {
         return Ok(report.totals);
     };

@@ -12,7 +12,7 @@ use Rattle.giop_run.specs.SourceLog.{SourceLog}
 use Rattle.giop_run.specs.Running.{Given, IsOver, ReadsSpent, Ran, RunSetup, setup_of, reads_by, end_text}
 use Rattle.giop_run.specs.Console.{Dumped}
 use Rattle.giop_run.specs.Flushing.{Flushed, FlushFailed}
-use Rattle.giop_run.specs.RunSteps.{HasFed, Fed, OneRead, HasReadAndFed, Completed, Closed, Going}
+use Rattle.giop_run.specs.RunSteps.{HasFed, Fed, FailedBefore, OneRead, HasReadAndFed, ReadToEnd, PutFailed, Completed, Closed, Going}
 use Rattle.giop_stream.specs.declared.status.Totals.{Totals}
 use Rattle.giop_run.specs.declared.running.Ending.TheVariants as endings
 use Rattle.giop_run.specs.declared.running.Report.{Report}
@@ -145,17 +145,22 @@ going_start R p e a x y f =
       ends = refl;
     }
 
+-- octets that went in, and then others
+fed_both : (R : Rules) → AddsUp R → (p s t : List ℕ) (e d : EngineView) (x y z : OutLog) → HasFed R p s e x y → HasFed R (p ++ s) t d y z → HasFed R p (s ++ t) d x z
+fed_both R adds p s t e d x y z first second =
+    record {
+      reads = second.reads;
+      holds = rw append_assoc at second.holds;
+      written = rw (adds p s t) (wrote-append x y z (added R p s) (added R (p ++ s) t) first.written second.written);
+    }
+
 going_on : (R : Rules) → AddsUp R → (p s t : List ℕ) (e d : EngineView) (k : ℕ) (a b c : SourceLog) (x y z : OutLog) → Going R p s e k a b x y → HasReadAndFed R (Ok true) (p ++ s) t d b c y z → Going R p (s ++ t) d (k + 1) a c x z
 unfolding counted
 going_on R adds p s t e d k a b c x y z g (u, failures, ends, took, running) =
     record {
       began = g.began;
       running = rw append_assoc at running;
-      took = record {
-        reads = took.reads;
-        holds = rw append_assoc at took.holds;
-        written = rw (adds p s t) (wrote-append x y z (added R p s) (added R (p ++ s) t) g.took.written took.written);
-      };
+      took = fed_both R adds p s t e d x y z g.took took;
       left = consumes-append a.left b.left c.left s t g.left u.left;
       octets = All-append (λ v. v < 256) s t g.octets u.octets;
       reads = omega (arith, g.reads, u.reads);
@@ -171,25 +176,25 @@ going_more R adds p s t e d k a b c x y z g u =
 -- the last read
 
 -- a read or a feed failed
-failed_on : (w : RunSetup) → AddsUp (reads_by w) → (r : RunFault) (p s t : List ℕ) (e d : EngineView) (k : ℕ) (a b c : SourceLog) (x y z : OutLog) → Going (reads_by w) p s e k a b x y → HasReadAndFed (reads_by w) (Err r) (p ++ s) t d b c y z → k < 2 ^ 40 → Ran w (Err r) p (s ++ t) a c x z
-failed_on w adds fault.Read p s t e d k a b c x y z g (u, failures, written) h =
+failed_on : (R : Rules) → AddsUp R → (r : RunFault) (p s t : List ℕ) (e d : EngineView) (k : ℕ) (a b c : SourceLog) (x y z : OutLog) → Going R p s e k a b x y → HasReadAndFed R (Err r) (p ++ s) t d b c y z → k < 2 ^ 40 → FailedBefore R r p (s ++ t) a c x z
+failed_on R adds fault.Read p s t e d k a b c x y z g (u, failures, written) h =
     record {
-      given = given_more (reads_by w) p s t e k a b c x y g u h;
+      given = given_more R p s t e k a b c x y g u h;
       failures = failures ∙ ap counted g.failures;
-      written = rw (adds p s t) (wrote-append x y z (added (reads_by w) p s) (added (reads_by w) (p ++ s) t) g.took.written written);
+      written = rw (adds p s t) (wrote-append x y z (added R p s) (added R (p ++ s) t) g.took.written written);
     }
-failed_on w adds fault.Out p s t e d k a b c x y z g (u, failures, front) h =
+failed_on R adds fault.Out p s t e d k a b c x y z g (u, failures, front) h =
     record {
-      given = given_more (reads_by w) p s t e k a b c x y g u h;
+      given = given_more R p s t e k a b c x y g u h;
       failures = failures ∙ g.failures;
-      written = rw (adds p s t) (front-append x z (added (reads_by w) p s ++ added (reads_by w) (p ++ s) t) (end_text w.ending (reads_by w) (p ++ (s ++ t))) (wrote-front x y z (added (reads_by w) p s) (added (reads_by w) (p ++ s) t) g.took.written front));
+      written = rw (adds p s t) (wrote-front x y z (added R p s) (added R (p ++ s) t) g.took.written front);
     }
-failed_on w adds fault.Turns p s t e d k a b c x y z g u h = absurd u
-failed_on w adds fault.Failed p s t e d k a b c x y z g u h = absurd u
+failed_on R adds fault.Turns p s t e d k a b c x y z g u h = absurd u
+failed_on R adds fault.Failed p s t e d k a b c x y z g u h = absurd u
 
-pub ran_err : (w : RunSetup) → AddsUp (reads_by w) → (r : RunFault) (p s t : List ℕ) (e d : EngineView) (k : ℕ) (a b c : SourceLog) (x y z : OutLog) → Going (reads_by w) p s e k a b x y → HasReadAndFed (rules_of e) (Err r) (p ++ s) t d b c y z → k < 2 ^ 40 → Ran w (Err r) p (s ++ t) a c x z
-ran_err w adds r p s t e d k a b c x y z g u h =
-    failed_on w adds r p s t e d k a b c x y z g (turned_by (rules_of e) (reads_by w) (Err r) (p ++ s) t d b c y z g.took.reads u) h
+pub turn_failed : (R : Rules) → AddsUp R → (r : RunFault) (p s t : List ℕ) (e d : EngineView) (k : ℕ) (a b c : SourceLog) (x y z : OutLog) → Going R p s e k a b x y → HasReadAndFed (rules_of e) (Err r) (p ++ s) t d b c y z → k < 2 ^ 40 → FailedBefore R r p (s ++ t) a c x z
+turn_failed R adds r p s t e d k a b c x y z g u h =
+    failed_on R adds r p s t e d k a b c x y z g (turned_by (rules_of e) R (Err r) (p ++ s) t d b c y z g.took.reads u) h
 
 -- the source gave what went in
 given_all : (R : Rules) (p s : List ℕ) (e : EngineView) (k : ℕ) (a b : SourceLog) (x y : OutLog) → Going R p s e k a b x y → k ≤ 2 ^ 40 → Given p s a b
@@ -221,12 +226,12 @@ ran_turns R p s e k a b x y g h =
     }
 
 -- the flush before a read failed
-pub ran_flush : (w : RunSetup) (p s : List ℕ) (e : EngineView) (k : ℕ) (a b : SourceLog) (x y z : OutLog) → Going (reads_by w) p s e k a b x y → FlushFailed y z → k ≤ 2 ^ 40 → Ran w (Err fault.Out) p s a b x z
-ran_flush w p s e k a b x y z g f h =
+pub turn_unflushed : (R : Rules) (p s : List ℕ) (e : EngineView) (k : ℕ) (a b : SourceLog) (x y z : OutLog) → Going R p s e k a b x y → FlushFailed y z → k ≤ 2 ^ 40 → PutFailed R p s a b x z
+turn_unflushed R p s e k a b x y z g f h =
     record {
-      given = given_all (reads_by w) p s e k a b x y g h;
+      given = given_all R p s e k a b x y g h;
       failures = g.failures;
-      written = wrote-front x y z (added (reads_by w) p s) (end_text w.ending (reads_by w) (p ++ s)) g.took.written (flush_front y z (end_text w.ending (reads_by w) (p ++ s)) f);
+      written = rw append-nil at (wrote-front x y z (added R p s) [] g.took.written (flush_front y z [] f));
     }
 
 over_more : (p s t : List ℕ) (a b c : SourceLog) → b.ends ≡ a.ends → IsOver ((p ++ s) ++ t) b c → IsOver (p ++ (s ++ t)) a c
@@ -234,62 +239,66 @@ over_more p s t a b c e (inl q) = inl (record { answered = q.answered ∙ ap cou
 over_more p s t a b c e (inr q) = inr (rw append_assoc at q)
 
 -- the stream is over after a read and feed
-over_on : (w : RunSetup) → AddsUp (reads_by w) → (r : Result Report RunFault) (p s t : List ℕ) (e d : EngineView) (k : ℕ) (a b c : SourceLog) (x y z o : OutLog) → Going (reads_by w) p s e k a b x y → HasReadAndFed (reads_by w) (Ok false) (p ++ s) t d b c y z → k < 2 ^ 40
-    → Closed w r ((p ++ s) ++ t) z o → Ran w r p (s ++ t) a c x o
-over_on w adds (Ok v) p s t e d k a b c x y z o g (u, failures, over, took) h q =
-    let all = wrote-append x y z (added (reads_by w) p s) (added (reads_by w) (p ++ s) t) g.took.written took.written in
-    let assoc = append_assoc p s t in
+over_on : (R : Rules) → AddsUp R → (p s t : List ℕ) (e d : EngineView) (k : ℕ) (a b c : SourceLog) (x y z : OutLog) → Going R p s e k a b x y → HasReadAndFed R (Ok false) (p ++ s) t d b c y z → k < 2 ^ 40 → ReadToEnd R p (s ++ t) d a c x z
+over_on R adds p s t e d k a b c x y z g (u, failures, over, took) h =
     record {
-      given = given_more (reads_by w) p s t e k a b c x y g u h;
+      given = given_more R p s t e k a b c x y g u h;
       over = over_more p s t a b c g.ends over;
       failures = failures ∙ g.failures;
-      written = rw (adds p s t, ← assoc) (wrote-append x z o (added (reads_by w) p s ++ added (reads_by w) (p ++ s) t) (end_text w.ending (reads_by w) ((p ++ s) ++ t)) all q.written);
-      ended = rw (← assoc) q.ended;
+      fed = fed_both R adds p s t e d x y z g.took took;
     }
-over_on w adds (Err fault.Out) p s t e d k a b c x y z o g (u, failures, over, took) h q =
-    let all = wrote-append x y z (added (reads_by w) p s) (added (reads_by w) (p ++ s) t) g.took.written took.written in
-    let assoc = append_assoc p s t in
-    record {
-      given = given_more (reads_by w) p s t e k a b c x y g u h;
-      failures = failures ∙ g.failures;
-      written = rw (adds p s t, ← assoc) (wrote-front x z o (added (reads_by w) p s ++ added (reads_by w) (p ++ s) t) (end_text w.ending (reads_by w) ((p ++ s) ++ t)) all q);
-    }
-over_on w adds (Err fault.Read) p s t e d k a b c x y z o g u h q = absurd q
-over_on w adds (Err fault.Turns) p s t e d k a b c x y z o g u h q = absurd q
-over_on w adds (Err fault.Failed) p s t e d k a b c x y z o g u h q = absurd q
 
-pub ran_over : (w : RunSetup) → AddsUp (reads_by w) → (r : Result Report RunFault) (p s t : List ℕ) (e d : EngineView) (k : ℕ) (a b c : SourceLog) (x y z o : OutLog) → Going (reads_by w) p s e k a b x y → HasReadAndFed (rules_of e) (Ok false) (p ++ s) t d b c y z → k < 2 ^ 40
-    → (d.table ≡ w.table) × (d.request_table ≡ w.request_table) × (d.most ≡ w.most) → Closed (setup_of d w.ending) r ((p ++ s) ++ t) z o → Ran w r p (s ++ t) a c x o
-ran_over w adds r p s t e d k a b c x y z o g u h same q =
-    let v = turned_by (rules_of e) (reads_by w) (Ok false) (p ++ s) t d b c y z g.took.reads u in
-    over_on w adds r p s t e d k a b c x y z o g v h (closed_by w d r ((p ++ s) ++ t) z o same q)
+pub turn_over : (R : Rules) → AddsUp R → (p s t : List ℕ) (e d : EngineView) (k : ℕ) (a b c : SourceLog) (x y z : OutLog) → Going R p s e k a b x y → HasReadAndFed (rules_of e) (Ok false) (p ++ s) t d b c y z → k < 2 ^ 40 → ReadToEnd R p (s ++ t) d a c x z
+turn_over R adds p s t e d k a b c x y z g u h =
+    over_on R adds p s t e d k a b c x y z g (turned_by (rules_of e) R (Ok false) (p ++ s) t d b c y z g.took.reads u) h
 
 -- the stream was over before the first read
-stopped_on : (w : RunSetup) (r : Result Report RunFault) (p : List ℕ) (e : EngineView) (a : SourceLog) (x y z : OutLog) → Fed (reads_by w) (Ok false) p [] e x y → Closed w r (p ++ []) y z → Ran w r p [] a a x z
-stopped_on w (Ok v) p e a x y z f q =
-    record {
-      given = given_none p a;
-      over = inr f.1;
-      failures = refl;
-      written = wrote-append x y z (added (reads_by w) p []) (end_text w.ending (reads_by w) (p ++ [])) f.0.written q.written;
-      ended = q.ended;
-    }
-stopped_on w (Err fault.Out) p e a x y z f q =
-    record { given = given_none p a; failures = refl; written = wrote-front x y z (added (reads_by w) p []) (end_text w.ending (reads_by w) (p ++ [])) f.0.written q }
-stopped_on w (Err fault.Read) p e a x y z f q = absurd q
-stopped_on w (Err fault.Turns) p e a x y z f q = absurd q
-stopped_on w (Err fault.Failed) p e a x y z f q = absurd q
-
-pub ran_stopped : (w : RunSetup) (r : Result Report RunFault) (p : List ℕ) (e : EngineView) (a : SourceLog) (x y z : OutLog) → Fed (reads_by w) (Ok false) p [] e x y → (e.table ≡ w.table) × (e.request_table ≡ w.request_table) × (e.most ≡ w.most) → Closed (setup_of e w.ending) r (p ++ []) y z → Ran w r p [] a a x z
-ran_stopped w r p e a x y z f same q = stopped_on w r p e a x y z f (closed_by w e r (p ++ []) y z same q)
+pub over_first : (R : Rules) (p : List ℕ) (e : EngineView) (a : SourceLog) (x y : OutLog) → Fed R (Ok false) p [] e x y → ReadToEnd R p [] e a a x y
+over_first R p e a x y f = record { given = given_none p a; over = inr f.1; failures = refl; fed = f.0 }
 
 -- the empty piece failed
-pub ran_first : (w : RunSetup) (r : RunFault) (p : List ℕ) (e : EngineView) (a : SourceLog) (x y : OutLog) → Fed (reads_by w) (Err r) p [] e x y → Ran w (Err r) p [] a a x y
-ran_first w fault.Out p e a x y f =
-    record { given = given_none p a; failures = refl; written = front-append x y (added (reads_by w) p []) (end_text w.ending (reads_by w) (p ++ [])) f }
-ran_first w fault.Read p e a x y f = absurd f
-ran_first w fault.Turns p e a x y f = absurd f
-ran_first w fault.Failed p e a x y f = absurd f
+pub failed_first : (R : Rules) (r : RunFault) (p : List ℕ) (e : EngineView) (a : SourceLog) (x y : OutLog) → Fed R (Err r) p [] e x y → FailedBefore R r p [] a a x y
+failed_first R fault.Out p e a x y f = record { given = given_none p a; failures = refl; written = f }
+failed_first R fault.Read p e a x y f = absurd f
+failed_first R fault.Turns p e a x y f = absurd f
+failed_first R fault.Failed p e a x y f = absurd f
+
+-- a run
+
+-- it failed before its end
+pub ran_failed : (w : RunSetup) (r : RunFault) (p s : List ℕ) (a b : SourceLog) (x y : OutLog) → FailedBefore (reads_by w) r p s a b x y → Ran w (Err r) p s a b x y
+ran_failed w fault.Read p s a b x y f = f
+ran_failed w fault.Turns p s a b x y f = f
+ran_failed w fault.Out p s a b x y f =
+    record {
+      given = f.given;
+      failures = f.failures;
+      written = front-append x y (added (reads_by w) p s) (end_text w.ending (reads_by w) (p ++ s)) f.written;
+    }
+ran_failed w fault.Failed p s a b x y f = absurd f
+
+closed_on : (w : RunSetup) (r : Result Report RunFault) (p s : List ℕ) (e : EngineView) (a b : SourceLog) (x y z : OutLog) → ReadToEnd (reads_by w) p s e a b x y → Closed w r (p ++ s) y z → Ran w r p s a b x z
+closed_on w (Ok v) p s e a b x y z f q =
+    record {
+      given = f.given;
+      over = f.over;
+      failures = f.failures;
+      written = wrote-append x y z (added (reads_by w) p s) (end_text w.ending (reads_by w) (p ++ s)) f.fed.written q.written;
+      ended = q.ended;
+    }
+closed_on w (Err fault.Out) p s e a b x y z f q =
+    record {
+      given = f.given;
+      failures = f.failures;
+      written = wrote-front x y z (added (reads_by w) p s) (end_text w.ending (reads_by w) (p ++ s)) f.fed.written q;
+    }
+closed_on w (Err fault.Read) p s e a b x y z f q = absurd q
+closed_on w (Err fault.Turns) p s e a b x y z f q = absurd q
+closed_on w (Err fault.Failed) p s e a b x y z f q = absurd q
+
+-- it was closed at its end
+pub ran_closed : (w : RunSetup) (r : Result Report RunFault) (p s : List ℕ) (e : EngineView) (a b : SourceLog) (x y z : OutLog) → ReadToEnd (reads_by w) p s e a b x y → (e.table ≡ w.table) × (e.request_table ≡ w.request_table) × (e.most ≡ w.most) → Closed (setup_of e w.ending) r (p ++ s) y z → Ran w r p s a b x z
+ran_closed w r p s e a b x y z f same q = closed_on w r p s e a b x y z f (closed_by w e r (p ++ s) y z same q)
 
 -- a run, by what the source tells that it has left
 pub dumped_by : (w : RunSetup) (r : Result Report RunFault) (p s : List ℕ) (a b : SourceLog) (x y : OutLog) (told : Option (List ℕ)) → a.left ≡ told → Ran w r p s a b x y → Dumped w r p told x y

@@ -9,7 +9,7 @@ use Rattle.giop_stream.specs.Stream.{closing, final}
 use Rattle.giop_stream.specs.EngineHolds.{added, Holds, rules_of}
 use Rattle.giop_stream.specs.EngineView.{EngineView}
 use Rattle.giop_run.specs.SourceLog.{SourceLog}
-use Rattle.giop_run.specs.Running.{IsStopped, IsOver, RunSetup, reads_by, end_text, EndsAs}
+use Rattle.giop_run.specs.Running.{IsStopped, IsOver, Given, ReadStopped, ReadsSpent, RunSetup, reads_by, end_text, EndsAs}
 use Rattle.giop_stream.specs.declared.status.Totals.{Totals}
 use Rattle.giop_run.specs.declared.running.Report.{Report}
 use Rattle.giop_run.specs.declared.fault.RunFault.{RunFault}
@@ -53,6 +53,31 @@ HasReadAndFed R (Err fault.Out) p s e before after x y =
     OneRead s before after × (after.failures ≡ before.failures) × WroteFront x y (added R p s)
 HasReadAndFed R (Err fault.Turns) p s e before after x y = ⊥
 HasReadAndFed R (Err fault.Failed) p s e before after x y = ⊥
+
+-- the source came to its end, or the stream to a fault, and all that the source gave was fed
+pub record ReadToEnd (R : Rules) (p s : List ℕ) (e : EngineView) (before after : SourceLog) (x y : OutLog) : Type 0 where
+  pub given : Given p s before after
+  pub over : IsOver (p ++ s) before after
+  pub failures : after.failures ≡ before.failures
+  pub fed : HasFed R p s e x y
+
+-- a put failed: a front of the lines of what was read is written
+pub record PutFailed (R : Rules) (p s : List ℕ) (before after : SourceLog) (x y : OutLog) : Type 0 where
+  pub given : Given p s before after
+  pub failures : after.failures ≡ before.failures
+  pub written : WroteFront x y (added R p s)
+
+-- how it failed before the end
+abbrev pub FailedBefore : Rules → RunFault → List ℕ → List ℕ → SourceLog → SourceLog → OutLog → OutLog → Type 0
+FailedBefore R fault.Read p s before after x y = ReadStopped R p s before after x y
+FailedBefore R fault.Turns p s before after x y = ReadsSpent R p s before after x y
+FailedBefore R fault.Out p s before after x y = PutFailed R p s before after x y
+FailedBefore R fault.Failed p s before after x y = ⊥
+
+-- what feeding all that the source gave did on an engine that held p
+abbrev pub FedAll : {A : Type 0} → Rules → Result A RunFault → List ℕ → List ℕ → EngineView → SourceLog → SourceLog → OutLog → OutLog → Type 0
+FedAll R (Ok done) p s e before after x y = ReadToEnd R p s e before after x y
+FedAll R (Err why) p s e before after x y = FailedBefore R why p s before after x y
 
 -- what the ending writes behind the lines of p was written, and what it does is done
 pub record Ended (w : RunSetup) (report : Report) (p : List ℕ) (x y : OutLog) : Type 0 where

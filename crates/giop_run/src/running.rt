@@ -7,7 +7,7 @@ ghost use Rattle.giop_stream.specs.EngineHolds.{Holds, rules_of};
 ghost use Rattle.giop_run.specs.SourceLog.{Gave, ReadFailed};
 ghost use Rattle.giop_run.specs.Flushing.{Flushes};
 ghost use Rattle.giop_run.specs.Running.{HasKept, Ran, Refused, setup_of};
-ghost use Rattle.giop_run.specs.RunSteps.{Fed, HasReadAndFed, Completed, Closed};
+ghost use Rattle.giop_run.specs.RunSteps.{Fed, FedAll, HasReadAndFed, Completed, Closed};
 
 use super::fault::{RunFault, SourceFault};
 use super::flush::{Between, Nothing};
@@ -83,14 +83,35 @@ pub(crate) fn run_by<'a, S: Source, O: Out, F: Between<O>>(
     ensures flushed { OnOk result (F.left out.new ≡ []) }
 {
     let mut engine = engine;
-    if !feed(&mut engine, &[], out)? {
-        return close::<O, F>(engine, out, ending);
+    feed_all::<S, O, F>(source, out, &mut engine)?;
+    close::<O, F>(engine, out, ending)
+}
+
+/// Feeds all that the source gives, up to its end or to a stream fault. A stream that has a fault already is fed nothing.
+fn feed_all<S: Source, O: Out, F: Between<O>>(
+    source: &mut S,
+    out: &mut O,
+    engine: &mut Engine,
+) -> Result<(), RunFault>
+    ensures fed { (p : List ℕ) → Holds engine.old p → (s : List ℕ)
+        × FedAll (rules_of engine.old) result p s engine.new
+        (S.log source.old) (S.log source.new) (O.log out.old) (O.log out.new) }
+    ensures failed { engine.old.failed ≡ true → (result ≡ Err RunFault.Failed)
+        × (S.log source.new ≡ S.log source.old) × (O.log out.new ≡ O.log out.old) }
+    ensures leaves { OnOk result (engine.new.failed ≡ false) }
+    ensures same { (engine.new.table ≡ engine.old.table)
+        × (engine.new.request_table ≡ engine.old.request_table) × (engine.new.most ≡ engine.old.most) }
+    ensures sound { result ≡ Err RunFault.Failed → engine.old.failed ≡ true }
+    ensures reads { (S.log source.new).reads ≤ (S.log source.old).reads + 2 ^ 40 }
+{
+    if !feed(engine, &[], out)? {
+        return Ok(());
     }
     let mut buffer = [0; ROOM];
     for _turn in 0..TURNS {
         flush::<O, F>(out)?;
-        if !read_and_feed(source, out, &mut engine, &mut buffer)? {
-            return close::<O, F>(engine, out, ending);
+        if !read_and_feed(source, out, engine, &mut buffer)? {
+            return Ok(());
         }
     }
     flush::<O, F>(out)?;

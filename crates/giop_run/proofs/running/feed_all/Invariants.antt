@@ -2,7 +2,7 @@
 use Rattle.std.proofs.Common.{◌≡◌, ◌+◌, ◌≤◌, List, ℕ, false}
 use Rattle.giop_stream.specs.EngineHolds.{Holds, rules_of}
 use Rattle.giop_run.specs.RunSteps.{Going}
-use Rattle.giop_run.proofs.running.run_by.Given as goal
+use Rattle.giop_run.proofs.running.feed_all.Given as goal
 
 abbrev pub invariant-loop-turn : goal.invariant-loop-turn
 invariant-loop-turn g l =
