@@ -1,4 +1,4 @@
--- Where the fields of a place stand in its octets.
+-- At which offsets the fields of a place are in its octets.
 use Rattle.std.proofs.Common.{◌≡◌, ℕ, ◌-◌, ◌^◌, ◌<◌, List, ◌∷◌, ◌++◌, length, drop, replicate, refl, sym, ap, ◌∙◌, append_assoc, arith}
 use Rattle.std.proofs.lemmas.List.{length-append, length-replicate}
 use Rattle.giop_octets.specs.Fields.{eight}

@@ -1,4 +1,4 @@
--- Where the fields of a record stand in its octets.
+-- At which offsets the fields of a record are in its octets.
 use Rattle.std.proofs.Common.{◌≡◌, ℕ, ◌*◌, ◌^◌, ◌<◌, List, [], ◌∷◌, ◌++◌, length, take, drop, get_or, replicate, refl, sym, ap, ◌∙◌, append_assoc, arith}
 use Rattle.std.proofs.lemmas.List.{drop-drop, length-append, take_at}
 use Rattle.giop_octets.specs.Fields.{four, eight}
@@ -87,7 +87,7 @@ front_of e s rest h is =
       rest_is = ap (drop (FRAME_SIZE * e.record_is.frames)) (drop-drop 224 32 s) ∙ (drop-drop (FRAME_SIZE * e.record_is.frames) 256 s ∙ behind 256 (FRAME_SIZE * e.record_is.frames) s e.frames rest at_frames h.frames);
     }
 
--- what is read behind a record's own octets, where it is this record
+-- what is read after a record's own octets, where it is this record
 pub by_frames : (n m : ℕ) (s t u : List ℕ) → n ≡ m → s ≡ t → take (FRAME_SIZE * m) t ≡ u → take (FRAME_SIZE * n) s ≡ u
 by_frames n m s t u a b h = rw (a, b) h
 

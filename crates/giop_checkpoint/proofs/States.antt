@@ -1,4 +1,4 @@
--- Where the fields behind the counts stand in their octets, and that they make the fixed part.
+-- At which offsets the fields after the counts are in their octets, and that they determine the fixed part.
 use Rattle.std.proofs.Common.{◌≡◌, ℕ, ◌^◌, ◌<◌, ◌≤◌, List, ◌∷◌, ◌++◌, drop, replicate, Option, Some, None, refl, sym, ap, ◌∙◌, append_assoc, arith}
 use Rattle.std.proofs.lemmas.List.{drop-drop}
 use Rattle.giop_octets.specs.Fields.{four, eight}
@@ -57,7 +57,7 @@ pub among_more : (records most : ℕ) (owner : Option ℕ) → records ≤ most 
 among_more records most None few h = h
 among_more records most (Some k) few h = omega (arith, few, h)
 
--- ---- behind the place, by layout 3
+-- ---- after the place, in layout 3
 
 pub number_is : (n : ℕ) (owner : Option ℕ) (s : List ℕ) → s ≡ limit_octets Third n owner → drop 4 s ≡ four (number_or 4294967295 owner) ++ replicate 8 0
 number_is n owner s e =

@@ -17,7 +17,7 @@ PlaceHasRange (Header held) = length held.items ≤ 11
 PlaceHasRange (Payload header left) = (length header ≡ 12) × (left < 2 ^ 32)
 PlaceHasRange (Stopped fault) = Unit {0}
 
--- the fields behind the counts
+-- the ranges of the fields after the counts
 pub record HasRange (layout : Layout) (f : Fixed) : Type 0 where
   pub most_open : OpenHasRange layout f.most_open
   pub records : f.records ≤ f.most_open + 1
@@ -41,7 +41,7 @@ fault_octet faults.Version = 2
 fault_octet faults.ByteOrder = 3
 fault_octet faults.StreamLimit = 5
 
--- Four octets for the place, the stream fault's number, how many header octets are held and, by layout 2, the payload's
+-- Four octets for the place, the stream fault's number, how many header octets are held and, in layout 2, the payload's
 -- record; the header octets; the payload octets still to come.
 abbrev pub place_octets : Place → ℕ → List ℕ
 place_octets (Header held) owner =
@@ -49,7 +49,7 @@ place_octets (Header held) owner =
 place_octets (Payload header left) owner = (1 ∷ 0 ∷ 0 ∷ owner ∷ []) ++ header ++ eight left
 place_octets (Stopped fault) owner = (2 ∷ fault_octet fault ∷ 0 ∷ owner ∷ []) ++ replicate 12 0 ++ eight 0
 
--- These fields by themselves.
+-- Each of these fields alone.
 abbrev pub place_octet : Place → ℕ
 place_octet (Header held) = 0
 place_octet (Payload header left) = 1
@@ -75,7 +75,7 @@ left_in (Header held) = 0
 left_in (Payload header left) = left
 left_in (Stopped fault) = 0
 
--- the octets behind the counts
+-- the octets after the counts
 unfoldable pub state_octets : Layout → Fixed → List ℕ
 state_octets layout f =
     four f.records ++ eight f.octets ++ eight f.messages ++ eight f.faults

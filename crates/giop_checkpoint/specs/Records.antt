@@ -13,7 +13,7 @@ RecordKindHasRange Current = Unit {0}
 RecordKindHasRange (Open id) = id < 2 ^ 32
 RecordKindHasRange (Over id) = id < 2 ^ 32
 
--- what any record of the code has
+-- the ranges of any record of the code, by its types
 pub record IsTyped (r : Record) : Type 0 where
   pub record_kind : RecordKindHasRange r.record_kind
   pub number : r.number < 2 ^ 64
@@ -35,7 +35,7 @@ id_of Current = 0
 id_of (Open id) = id
 id_of (Over id) = id
 
--- how many frames it has, and what its message is
+-- how many frames it has, and the kind of the record
 unfoldable pub kind_octets : Record → List ℕ
 kind_octets r = r.frames ∷ record_kind_octet r.record_kind ∷ []
 
@@ -43,7 +43,7 @@ kind_octets r = r.frames ∷ record_kind_octet r.record_kind ∷ []
 unfoldable pub own_octets : Record → List ℕ
 own_octets r = kind_octets r ++ eight r.number ++ r.header ++ four (id_of r.record_kind) ++ replicate 6 0
 
--- A record with what is kept of its message: so many octets, and its frames.
+-- A record with what is stored of its message: some octets, and its frames.
 pub record Entry : Type 0 where
   pub record_is : Record
   pub message : List ℕ
@@ -63,7 +63,7 @@ pub record EntryHasRange (e : Entry) : Type 0 where
 abbrev pub used : List ℕ → ℕ
 used s = RECORD_SIZE + FRAME_SIZE * get_or s 0 0
 
--- so many records, each as long as its first octet says, and nothing behind them
+-- so many records, each as long as its first octet gives, and nothing after them
 abbrev pub AreRecords : ℕ → List ℕ → Type 0
 AreRecords zero s = s ≡ []
 AreRecords (suc n) s = (used s ≤ length s) × AreRecords n (drop (used s) s)

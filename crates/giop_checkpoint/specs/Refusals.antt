@@ -1,4 +1,5 @@
--- The checks of a checkpoint in their order, and the first one that fails. Want of memory is none of them (docs/FORMATS.md, Checkpoints; state).
+-- The checks of a checkpoint in their order, and the first one that fails. Lack of memory is none of them (docs/FORMATS.md,
+-- Checkpoints; state).
 use Rattle.std.specs.Prelude.{◌≡◌, ◌≤◌, ◌⊎◌, ℕ, List, length, take, drop}
 use Rattle.giop_octets.specs.Fields.{four}
 use Rattle.giop_checkpoint.specs.declared.sizes.TheConstants.{FIXED_SIZE}
@@ -27,7 +28,7 @@ HasVersion s = (layout : Layout) × IsLaidOut s layout
 abbrev pub HasCounts : Counts → List ℕ → Type 0
 HasCounts c s = take 16 (drop 12 s) ≡ counts_octets c
 
--- these are its fields behind the counts, each in its range
+-- these are its fields after the counts, each in its range
 pub record HasState (c : Counts) (f : Fixed) (s : List ℕ) : Type 0 where
   pub layout : Layout
   pub laid_out : IsLaidOut s layout
@@ -38,7 +39,7 @@ pub record HasState (c : Counts) (f : Fixed) (s : List ℕ) : Type 0 where
 abbrev pub HasRecords : Fixed → List ℕ → Type 0
 HasRecords f s = AreRecords f.records (drop FIXED_SIZE s)
 
--- what is passed up to the counts
+-- all checks up to the counts are passed
 abbrev pub IsOurs : Counts → List ℕ → Type 0
 IsOurs c s = IsLong s × HasMagic s × HasVersion s × HasCounts c s
 
@@ -51,7 +52,7 @@ IsNotOurs c s faults.Catalogue = IsLong s × HasMagic s × HasVersion s × (HasC
 IsNotOurs c s faults.State = ⊥
 IsNotOurs c s faults.OutOfMemory = ⊥
 
--- and behind them: a field out of its range, and then octets that aren't those of the records
+-- the checks after them: a field out of its range, and then octets that aren't those of the records
 abbrev pub IsOutOfRange : Counts → List ℕ → LoadFault → Type 0
 IsOutOfRange c s faults.Magic = ⊥
 IsOutOfRange c s faults.Version = ⊥

@@ -15,8 +15,7 @@ use crate::sizes::FIXED_SIZE;
 use crate::state::{same, state_at};
 use arrayvec::ArrayVec;
 
-/// The layout, and what stands behind the counts, where all up to there is as it is written by this layout, with these
-/// counts.
+/// The layout and what follows the counts, where all up to there is as it is written in this layout with these counts.
 fn after_counts<'a>(octets: &'a [u8], counts: Counts) -> Result<(Layout, &'a [u8]), LoadFault>
     ensures ours { IfOk result (λ r. IsOurs counts octets.now) }
     ensures layout { IfOk result (λ r. IsLaidOut octets.now r.0) }
@@ -41,12 +40,12 @@ fn after_counts<'a>(octets: &'a [u8], counts: Counts) -> Result<(Layout, &'a [u8
     Ok((layout, behind))
 }
 
-/// The fixed part of a checkpoint, and the octets of its records, each of which is whole. These are the counts of the
+/// The fixed part of a checkpoint, and the octets of its records, each of which is whole. `counts` are those of the
 /// catalogue and the request list that it is read with.
 pub fn fixed_part<'a>(octets: &'a [u8], counts: Counts) -> Result<(Fixed, &'a [u8]), LoadFault>
     ensures passes { IfOk result (λ r. Passes counts octets.now r.0 r.1.now) }
     ensures refused { IfErr result (λ why. Refused counts octets.now why) }
-    // What is written by either layout is read.
+    // What is written in either layout is read.
     ensures again { (layout : LayoutOf) (f : FixedPart) (records : List ℕ) → f.counts ≡ counts →
         HasRange layout f → AreRecords f.records records →
         octets.now ≡ fixed_octets layout f ++ records → IsOkAnd result (λ r. (r.0 ≡ f)

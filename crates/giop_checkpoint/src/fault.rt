@@ -1,8 +1,8 @@
-//! What ends the reading of a stream, and why a checkpoint is refused.
+//! The faults that end the reading of a stream, and why a checkpoint is refused.
 
 use thiserror::Error;
 
-/// What ends the reading of a stream, at its offending octet. `Display` is the word of its line.
+/// Why the reading of a stream ends at an octet. `Display` is the word of its line.
 #[derive(Clone, Copy, Debug, PartialEq, Eq, Error)]
 pub enum StreamFault {
     /// One of the first four octets of a header isn't that of `GIOP`.
@@ -14,7 +14,7 @@ pub enum StreamFault {
     /// A byte order above 1 in a header of 1.0.
     #[error("byte-order")]
     ByteOrder = 3,
-    /// An octet behind the first 2^48.
+    /// An octet after the first 2^48.
     #[error("stream-limit")]
     StreamLimit = 5,
 }
@@ -28,7 +28,7 @@ pub enum LoadFault {
     /// Its layout is of a version that isn't read.
     #[error("version")]
     Version = 2,
-    /// It was saved with another catalogue or another request list, by what these have.
+    /// It was saved with another catalogue or another request list, going by their counts.
     #[error("catalogue")]
     Catalogue = 3,
     /// It has fewer octets than the fixed part, or not those of its records.
@@ -37,7 +37,7 @@ pub enum LoadFault {
     /// A field is out of its range.
     #[error("state")]
     State = 5,
-    /// There is no memory for as many open messages as it allows. No check of its octets answers this.
+    /// There is no memory for as many open messages as it allows. No check of its octets returns this.
     #[error("out-of-memory")]
     OutOfMemory = 6,
 }

@@ -1,4 +1,4 @@
-//! The fixed part of a checkpoint: what is remembered of the stream itself.
+//! The fixed part of a checkpoint: what it stores of the stream as a whole.
 
 ghost use Rattle.std.specs.Prelude.{◌≡◌, ℕ, List, ◌+◌, ◌≤◌, ◌∷◌, ◌++◌, length, Option, Some};
 ghost use Rattle.arrayvec.specs.ArrayVec.{array_vec_len};
@@ -11,8 +11,8 @@ use crate::layout::Layout;
 use arrayvec::ArrayVec;
 use giop_octets::{eight_at, four_at, put_eight, put_four, put_octets, put_zeros};
 
-/// What the catalogue and the request list of the reading have: how many types, operations and exceptions a signature file
-/// declares, and how many different request ids a list has.
+/// The counts of the catalogue and the request list that a stream is read by: how many types, operations and exceptions
+/// a signature file declares, and how many different request ids a list has.
 #[derive(Clone, Copy, Debug, PartialEq, Eq)]
 pub struct Counts {
     pub types: u32,
@@ -21,14 +21,14 @@ pub struct Counts {
     pub ids: u32,
 }
 
-/// Where in the stream the next octet stands.
+/// Where in the stream the next octet is.
 #[derive(Drop)]
 pub enum Place {
-    /// In a header of which these octets have come, or in front of one.
+    /// In a header of which these octets were read, or before one.
     Header(ArrayVec<u8, 11>),
     /// In the payload of the message with this header, of which so many octets are still to come.
     Payload { header: [u8; 12], left: u32 },
-    /// Behind this stream fault.
+    /// After this stream fault.
     Stopped(StreamFault),
 }
 
@@ -40,7 +40,7 @@ pub struct Fixed {
     pub most_open: u32,
     /// How many records there are, at most one more than that.
     pub records: u32,
-    /// The octets read, the offending one of a stream fault among them: at most 2^48 + 1.
+    /// The octets read, that of a stream fault included: at most 2^48 + 1.
     pub octets: u64,
     /// The messages that have begun, at most 2^45.
     pub messages: u64,
@@ -64,7 +64,7 @@ impl Fixed {
         self.write_state(Layout::Third, out);
     }
 
-    /// Writes what stands behind the counts.
+    /// Writes the fields after the counts.
     pub(crate) fn write_state<const N: usize>(&self, layout: Layout, out: &mut ArrayVec<u8, N>)
         requires room { array_vec_len out.old + 68 ≤ N }
         requires owner { OwnerFits layout self.now.owner }

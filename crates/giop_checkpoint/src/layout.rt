@@ -1,4 +1,4 @@
-//! The layouts of a checkpoint, and what they have in different places.
+//! The layouts of a checkpoint, and the fields in which they differ.
 
 ghost use Rattle.std.specs.Prelude.{◌≡◌, ◌↔◌, ◌+◌, ◌≤◌, ◌++◌, Option, Some, IsTrue};
 ghost use Rattle.arrayvec.specs.ArrayVec.{array_vec_len};
@@ -14,9 +14,9 @@ use giop_octets::{put_four, put_zeros};
 /// How the octets of a checkpoint are arranged. Both are read; only the third is written.
 #[derive(Clone, Copy, Debug, PartialEq, Eq)]
 pub enum Layout {
-    /// It doesn't say how many messages may be open at once: 16 may.
+    /// It doesn't store how many messages may be open at once: they are 16.
     Second = 2,
-    /// It says how many messages may be open at once.
+    /// It stores how many messages may be open at once.
     Third = 3,
 }
 
@@ -46,7 +46,7 @@ impl Layout {
         None
     }
 
-    /// Whether by it so many messages may be open at once.
+    /// Whether so many messages may be open at once in this layout.
     pub(crate) fn allows(self, most_open: u32) -> bool
         ensures { IsTrue result ↔ OpenHasRange self most_open }
     {
@@ -70,7 +70,7 @@ impl Layout {
         }
     }
 
-    /// Writes what stands behind the place.
+    /// Writes the fields after the place.
     pub(crate) fn write_limits<const N: usize>(
         self,
         most_open: u32,

@@ -1,4 +1,4 @@
-//! The checkpoint of a stream's reading, octet for octet: its fixed part, and its records (docs/FORMATS.md, Checkpoints).
+//! The checkpoint of an engine, octet for octet: its fixed part, and its records (docs/FORMATS.md, Checkpoints).
 #![tactic(auto)]
 
 mod checks;

@@ -1,4 +1,4 @@
-//! The records of a checkpoint: what is remembered of each message that has begun and not ended.
+//! The records of a checkpoint: what it stores of each message that has begun and not ended.
 
 ghost use Rattle.std.specs.Prelude.{◌≡◌, ◌↔◌, ℕ, List, ◌+◌, ◌*◌, ◌≤◌, ◌++◌, length, take, drop, Option, Some, IfSome, IsSomeAnd, IsTrue};
 ghost use Rattle.arrayvec.specs.ArrayVec.{array_vec_len};
@@ -13,10 +13,10 @@ use giop_octets::{
     eight_at, four_at, octet_at, octets_at, put_eight, put_four, put_octets, put_zeros,
 };
 
-/// What a message is to its stream.
+/// Which message of the stream a record is of.
 #[derive(Clone, Copy, Debug)]
 pub enum RecordKind {
-    /// The message whose payload comes, which is neither open nor over.
+    /// The current message, which is neither open nor over.
     Current,
     /// Open under this request id.
     Open(u32),
@@ -36,7 +36,7 @@ pub struct Record {
 }
 
 impl RecordKind {
-    /// Its octet.
+    /// The octet of this kind.
     fn octet(self) -> u8
         ensures { result ≡ record_kind_octet self }
     {
@@ -60,7 +60,7 @@ impl RecordKind {
 }
 
 impl Record {
-    /// Writes how many frames it has, and what its message is.
+    /// Writes how many frames it has, and its kind.
     #[tactic(auto, unfolding(crate::specs::Records::kind_octets))]
     fn write_kind<const N: usize>(&self, out: &mut ArrayVec<u8, N>)
         requires room { array_vec_len out.old + 2 ≤ N }
@@ -89,14 +89,14 @@ impl Record {
 #[derive(Clone, Copy, Debug)]
 pub struct FirstRecord<'a> {
     pub record: Record,
-    /// What is kept of its message, but for the frames.
+    /// What is stored of its message, without the frames.
     pub message: [u8; 224],
     pub frames: &'a [u8],
-    /// The octets of the records behind it.
+    /// The octets of the records after it.
     pub rest: &'a [u8],
 }
 
-/// The first of these records, where each field of its own is in its range, and zero where nothing is.
+/// The first of these records, where each field is in its range, and unused octets are zero.
 pub fn first_record<'a>(octets: &'a [u8]) -> Option<FirstRecord<'a>>
     requires whole { used octets.now ≤ length octets.now }
     ensures own { IfSome result (λ first. take 32 octets.now ≡ own_octets first.record) }
@@ -104,7 +104,7 @@ pub fn first_record<'a>(octets: &'a [u8]) -> Option<FirstRecord<'a>>
     ensures message { IfSome result (λ first. first.message ≡ take 224 (drop 32 octets.now)) }
     ensures frames { IfSome result (λ first. length first.frames.now ≡ FRAME_SIZE * first.record.frames) }
     ensures rest { IfSome result (λ first. first.rest.now ≡ drop (used octets.now) octets.now) }
-    // What was written is read.
+    // A record that was written is read.
     ensures again { (e : Entry) (rest : List ℕ) → EntryHasRange e →
         octets.now ≡ entry_octets e ++ rest →
         IsSomeAnd result (λ first. (first.record ≡ e.record_is) × (first.message ≡ e.message)
@@ -124,7 +124,7 @@ pub fn first_record<'a>(octets: &'a [u8]) -> Option<FirstRecord<'a>>
     })
 }
 
-/// The octets of a message, by themselves.
+/// The octets of a message, as an array.
 fn whole_message(octets: &[u8]) -> [u8; 224]
     requires { length octets.now ≡ 224 }
     ensures { result ≡ octets.now }
@@ -134,7 +134,7 @@ fn whole_message(octets: &[u8]) -> [u8; 224]
     message
 }
 
-/// The record whose own octets these are, where each field is in its range, and zero where nothing is.
+/// The record whose own octets these are, where each field is in its range, and unused octets are zero.
 fn record_at(octets: &[u8]) -> Option<Record>
     requires long { length octets.now ≡ 32 }
     ensures own { IfSome result (λ r. octets.now ≡ own_octets r) }
@@ -156,7 +156,7 @@ fn record_at(octets: &[u8]) -> Option<Record>
     Some(record)
 }
 
-/// What octets say, those without a use apart.
+/// The record that octets give; unused octets aren't checked.
 fn parsed(octets: &[u8]) -> Option<Record>
     requires long { length octets.now ≡ 32 }
     ensures record_kind { IfSome result (λ r. RecordKindHasRange r.record_kind) }
@@ -174,7 +174,7 @@ fn parsed(octets: &[u8]) -> Option<Record>
     })
 }
 
-/// What a message is, by its octet and its request id.
+/// The kind of a record, by its octet and its request id.
 fn record_kind_of(octet: u8, id: u32) -> Option<RecordKind>
     ensures range { IfSome result (λ s. RecordKindHasRange s) }
     ensures again { (s : StandingOf) → octet ≡ record_kind_octet s → id ≡ id_of s → result ≡ Some s }
@@ -187,7 +187,7 @@ fn record_kind_of(octet: u8, id: u32) -> Option<RecordKind>
     }
 }
 
-/// Whether octets are so many records, each as long as its first octet says.
+/// Whether octets are so many records, each as long as its first octet gives.
 pub fn are_records(records: u32, octets: &[u8]) -> bool
     ensures { IsTrue result ↔ AreRecords records octets.now }
 {

@@ -1,4 +1,4 @@
-//! The fields of the fixed part behind the counts, as they are read.
+//! Reads the fields of the fixed part that follow the counts.
 
 ghost use Rattle.std.specs.Prelude.{◌≡◌, ◌↔◌, ℕ, List, ◌+◌, ◌≤◌, ◌++◌, length, Option, Some, IfSome, IsTrue};
 ghost use Rattle.giop_checkpoint.specs.Layouts.{OpenHasRange, IsAmong, number_or, owner_octet, limit_octets};
@@ -14,8 +14,8 @@ use crate::sizes::LAYOUT_2_MOST_OPEN;
 use arrayvec::ArrayVec;
 use giop_octets::{eight_at, four_at, octet_at, octets_at};
 
-/// The fixed part with these counts, where the octets behind them are its fields by this layout: each in its range, and zero
-/// where nothing is.
+/// The fixed part with these counts, where the octets after them are its fields in this layout: each in its range, and
+/// unused octets zero.
 pub fn state_at(layout: Layout, counts: Counts, octets: &[u8]) -> Option<Fixed>
     requires long { length octets.now ≡ 68 }
     ensures counts { IfSome result (λ f. f.counts ≡ counts) }
@@ -38,7 +38,7 @@ pub fn state_at(layout: Layout, counts: Counts, octets: &[u8]) -> Option<Fixed>
     Some(fixed)
 }
 
-/// What octets say, those without a use and the ranges apart.
+/// The fixed part that octets give; unused octets and the ranges aren't checked.
 fn parsed(layout: Layout, counts: Counts, octets: &[u8]) -> Option<Fixed>
     requires long { length octets.now ≡ 68 }
     ensures counts { IfSome result (λ f. f.counts ≡ counts) }
@@ -63,7 +63,7 @@ fn parsed(layout: Layout, counts: Counts, octets: &[u8]) -> Option<Fixed>
     })
 }
 
-/// The place that stands at the front.
+/// The place that the first octets give.
 fn place_at(octets: &[u8]) -> Option<Place>
     requires long { 24 ≤ length octets.now }
     ensures range { IfSome result (λ place. PlaceHasRange place) }
@@ -79,7 +79,7 @@ fn place_at(octets: &[u8]) -> Option<Place>
     )
 }
 
-/// The place that these fields say.
+/// The place that these fields give.
 fn place_of(kind: u8, fault: u8, held: u8, header: [u8; 12], left: u64) -> Option<Place>
     ensures range { IfSome result (λ place. PlaceHasRange place) }
     ensures again { (place : PlaceOf) → PlaceHasRange place → kind ≡ place_octet place →
@@ -128,7 +128,7 @@ fn fault_of(number: u8) -> Option<StreamFault>
     }
 }
 
-/// How many messages may be open at once, by the octets behind the place.
+/// How many messages may be open at once, by the octets after the place.
 fn open_at(layout: Layout, octets: &[u8]) -> u32
     requires long { length octets.now ≡ 16 }
     ensures { (n : ℕ) (owner : Option ℕ) → OpenHasRange layout n →
@@ -140,7 +140,7 @@ fn open_at(layout: Layout, octets: &[u8]) -> u32
     }
 }
 
-/// The payload's record, by the octet of the place that names it and the octets behind the place.
+/// The payload's record, by the octet of the place that names it and the octets after the place.
 fn owner_at(layout: Layout, octet: u8, octets: &[u8]) -> Option<u32>
     requires long { length octets.now ≡ 16 }
     ensures { (n : ℕ) (owner : Option ℕ) → OpenHasRange layout n → IsAmong (n + 1) owner →
@@ -153,7 +153,7 @@ fn owner_at(layout: Layout, octet: u8, octets: &[u8]) -> Option<u32>
     }
 }
 
-/// The record that a number names, where this one names none.
+/// The record that a number names, where the number `nobody` names none.
 fn owner_of(number: u32, nobody: u32) -> Option<u32>
     ensures { (owner : Option ℕ) → IsAmong nobody owner → number ≡ number_or nobody owner →
         result ≡ owner }
@@ -169,7 +169,7 @@ pub fn same(octets: &[u8], others: &[u8]) -> bool
 }
 
 impl Fixed {
-    /// Whether each field is in its range, but for the place.
+    /// Whether each field except the place is in its range.
     fn is_in_range(&self, layout: Layout) -> bool
         requires { PlaceHasRange self.now.place }
         ensures { IsTrue result ↔ HasRange layout self.now }

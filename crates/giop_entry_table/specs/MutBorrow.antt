@@ -1,4 +1,4 @@
--- What a table becomes, where a `&mut` to one of its values is returned (steps).
+-- What a table becomes, where a `&mut` to one of its values is returned (meaning).
 use Rattle.std.specs.Prelude.{ℕ, Option}
 use Rattle.std.specs.Borrow.{Lends, LendsIf, Fml, RattleType, MutBor}
 use Rattle.giop_entry_table.specs.EntryTable.{Entries, with_value}

@@ -1,4 +1,4 @@
--- How many octets a field takes, what they spell, and what stands behind them.
+-- How many octets a field takes, what they spell, and what follows them.
 use Rattle.std.proofs.Common.{◌≡◌, ℕ, ◌+◌, ◌-◌, ◌^◌, ◌<◌, ◌≤◌, List, ◌++◌, length, drop, replicate, Option, Some, None, refl, sym, ap, ◌∙◌, arith}
 use Rattle.std.specs.Int.{w32, w64, from_be_bytes}
 use Rattle.std.proofs.lemmas.List.{drop_at, drop-drop, length-append, length-replicate}
@@ -30,6 +30,6 @@ pub held_long : (room : ℕ) (octets : List ℕ) → length octets ≤ room → 
 held_long room octets few =
     omega (arith, length-append octets (replicate (room - length octets) 0), length-replicate {A = ℕ} (room - length octets) 0)
 
--- what stands behind a field of so many octets that stands there
+-- what follows a field of so many octets at an offset
 pub behind : (at size : ℕ) (octets field rest : List ℕ) → drop at octets ≡ field ++ rest → length field ≡ size → drop (at + size) octets ≡ rest
 behind at size octets field rest is long = sym (drop-drop size at octets) ∙ ap (drop size) is ∙ drop_at field rest size long

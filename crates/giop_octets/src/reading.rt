@@ -1,12 +1,12 @@
-//! Readers of fields at offsets. Each reads what its writer wrote there; octets that no writer writes are read as any
-//! value, so whoever can't trust them writes anew what was read, and compares.
+//! Readers of fields at offsets. Each reads what its writer wrote there. Octets that no writer writes are read as some
+//! value; a caller that can't trust them writes again what was read, and compares.
 
 ghost use Rattle.std.specs.Prelude.{◌≡◌, ℕ, ◌+◌, ◌^◌, ◌<◌, ◌≤◌, List, ◌∷◌, ◌++◌, length, drop, Option, IfSome};
 ghost use Rattle.giop_octets.specs.Fields.{four, eight, optional, held};
 
 use arrayvec::ArrayVec;
 
-/// The octet that stands there.
+/// The octet at this offset.
 pub fn octet_at(octets: &[u8], at: usize) -> u8
     requires room { at < length octets.now }
     ensures { (n : ℕ) (rest : List ℕ) → drop at octets.now ≡ n ∷ rest → result ≡ n }
@@ -14,7 +14,7 @@ pub fn octet_at(octets: &[u8], at: usize) -> u8
     octets[at]
 }
 
-/// The octets that stand there.
+/// The octets at this offset.
 pub fn octets_at<const N: usize>(octets: &[u8], at: usize) -> [u8; N]
     requires room { at + N ≤ length octets.now }
     ensures { (inner rest : List ℕ) → length inner ≡ N → drop at octets.now ≡ inner ++ rest →
@@ -25,7 +25,7 @@ pub fn octets_at<const N: usize>(octets: &[u8], at: usize) -> [u8; N]
     inner
 }
 
-/// The number that stands there in four octets.
+/// The number in four octets at this offset.
 #[tactic(auto, using(crate::proofs::FieldLaws::four_long, crate::proofs::FieldLaws::four_again))]
 pub fn four_at(octets: &[u8], at: usize) -> u32
     requires room { at + 4 ≤ length octets.now }
@@ -35,7 +35,7 @@ pub fn four_at(octets: &[u8], at: usize) -> u32
     u32::from_be_bytes(octets_at(octets, at))
 }
 
-/// The number that stands there in eight octets.
+/// The number in eight octets at this offset.
 #[tactic(auto, using(crate::proofs::FieldLaws::eight_long, crate::proofs::FieldLaws::eight_again))]
 pub fn eight_at(octets: &[u8], at: usize) -> u64
     requires room { at + 8 ≤ length octets.now }
@@ -45,7 +45,7 @@ pub fn eight_at(octets: &[u8], at: usize) -> u64
     u64::from_be_bytes(octets_at(octets, at))
 }
 
-/// The number that stands there in five octets, or is missing there.
+/// The number that may be missing, in five octets at this offset.
 pub fn optional_at(octets: &[u8], at: usize) -> Option<u32>
     requires room { at + 5 ≤ length octets.now }
     ensures { (n : Option ℕ) (rest : List ℕ) → IfSome n (λ m. m < 2 ^ 32) →
@@ -57,7 +57,7 @@ pub fn optional_at(octets: &[u8], at: usize) -> Option<u32>
     Some(four_at(octets, at + 1))
 }
 
-/// The few octets that stand there, with room for N: N of them where the octet that counts them says more.
+/// The few octets at this offset, with room for N: N of them where the octet that counts them has a greater number.
 pub fn held_at<const N: usize>(octets: &[u8], at: usize) -> ArrayVec<u8, N>
     requires room { at + 1 + N ≤ length octets.now }
     ensures { (inner rest : List ℕ) → length inner ≤ N → drop at octets.now ≡ held N inner ++ rest →

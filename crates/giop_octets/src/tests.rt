@@ -1,4 +1,4 @@
-//! Each field at stated octets, written and read.
+//! Each kind of field, written to and read from given octets.
 
 use crate::{
     eight_at, four_at, held_at, octet_at, octets_at, optional_at, put_eight, put_four, put_held,
@@ -6,7 +6,7 @@ use crate::{
 };
 use arrayvec::ArrayVec;
 
-/// One field of each kind, behind three zeros.
+/// One field of each kind, after three zeros.
 const FIELDS: [u8; 33] = [
     0, 0, 0, 7, 8, 9, 1, 2, 3, 4, 255, 254, 253, 252, 251, 250, 249, 248, 1, 0, 0, 1, 0, 0, 0, 0,
     0, 0, 2, 65, 66, 0, 0,

@@ -1,4 +1,4 @@
-//! Writers of fields, each behind what was written before.
+//! Writers of fields, each of which appends to what was written before.
 
 ghost use Rattle.std.specs.Prelude.{◌≡◌, ◌+◌, ◌^◌, ◌<◌, ◌≤◌, ◌++◌, length, replicate, IfSome};
 ghost use Rattle.arrayvec.specs.ArrayVec.{array_vec_len};

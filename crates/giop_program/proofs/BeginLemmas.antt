@@ -1,4 +1,4 @@
--- What a run of an engine did, said of the streams that the checkpoint's file is of.
+-- What a run of an engine did, for each stream that the checkpoint's file is a checkpoint of.
 use Rattle.std.proofs.Common.{◌≡◌, ℕ, List, [], Option, Some, None, refl, subst}
 use Rattle.std.specs.Prelude.{IfSome, Result}
 use Rattle.giop_sig.specs.Table.{Table}
@@ -20,7 +20,7 @@ goes_on held (Some name) most C l Held Is (octets, front, ours, again) f =
 
 module _ (held : Folder) (asked : Asked) (C : Table) (l : RequestTable) (e : EngineView) (ending : Ending)
     (report_outcome given : Option (List ℕ)) where
-  -- the engine reads by the table and the list, and ends as the words ask
+  -- the engine reads by the table and the list, and ends as the arguments ask
   same_way : (n : ℕ) → e.table ≡ C → e.request_table ≡ l → e.most ≡ n → ending ≡ ending_of asked.save
       → setup_of e ending ≡ setup_by C l n asked
   same_way n table request_table most ends = rw (table, request_table, most, ends) refl

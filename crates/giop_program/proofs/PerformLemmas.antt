@@ -1,4 +1,4 @@
--- What the steps up to the run and the save behind it say of the program.
+-- What the program did, from what the steps up to the run and the save after it did.
 use Rattle.std.proofs.Common.{◌≡◌, ℕ, List, refl, Option, Some, None, Result, Ok, Err, IfSome, IfErr, OnOk, ◌⊎◌, inl, inr}
 use Rattle.giop_sig.specs.Table.{Table}
 use Rattle.giop_message.specs.Signatures.{RequestTable}
@@ -15,7 +15,7 @@ use Rattle.giop_run.specs.declared.fault.RunFault.TheVariants as fault
 use Rattle.giop_run.specs.declared.fault.ProgramFault.{ProgramFault}
 use Rattle.giop_run.specs.declared.fault.ProgramFault.TheVariants as faults
 
--- no step before the run says these
+-- no step before the run fails with these
 not_unwritable : (held : Folder) (asked : Asked) (name : _) → Refused held asked (faults.Unwritable name) → ⊥
 not_unwritable held asked name (inl q) = q
 not_unwritable held asked name (inr (inl (C, c, q))) = q
@@ -51,7 +51,7 @@ perform_run : (t : Task) (C : Table) (l : RequestTable) (r : Result Report RunFa
     → Performed t r x y
 perform_run t C l r x y of by d = record { table = C; request_table = l; of = of; reads = by; dumped = d }
 
--- by what the run did with a catalogue and a list, and the save behind it
+-- what the program did, by what the run did with a catalogue and a list, and the save after it
 pub did_by : (t : Task) (C : Table) (l : RequestTable) (ran : Result Report ProgramFault) (result : Result Totals ProgramFault)
     (x y : _) (a b : Option (List Saved)) → AreOf C l → ReadsBy t.held t.asked C l
     → IfSome (run_of ran) (λ r. GoesOn t.held t.asked.resume t.asked.most C l
@@ -72,7 +72,7 @@ did_by t C l (Err why) result x y a b of by d r u s k =
     performed_by None d = tt
     performed_by (Some r) d = perform_run t C l r x y of by d
 
--- the last step comes to its end only where the run did
+-- the last step succeeds only where the run did
 pub kept_ok : (asked : Option (List ℕ)) (ran : Result Report ProgramFault) (result : Result Totals ProgramFault)
     (a b : Option (List Saved)) (P : Type 0) → Kept asked ran result a b → OnOk ran P → OnOk result P
 kept_ok asked (Ok report) (Ok totals) a b P k p = p

@@ -1,4 +1,4 @@
--- What the words ask for, by the texts of the names in them (meaning).
+-- What the command line arguments ask for, with the names in them as texts (meaning).
 use Rattle.std.specs.Prelude.{option_map}
 use Rattle.giop_run.specs.Files.{Asked}
 use Rattle.giop_program.specs.declared.arguments.Arguments.{Arguments}

@@ -1,4 +1,5 @@
-//! The program's words: which files it reads, and how many messages may be open (docs/FORMATS.md, The program).
+//! The program's arguments: which files it reads and saves, and how many messages may be open (docs/FORMATS.md, The
+//! program).
 
 ghost use Rattle.std.specs.Prelude.{◌≡◌, ◌≤◌, ℕ, Some, None};
 ghost use Rattle.giop_stream.specs.Rules.{most_open};
@@ -8,7 +9,7 @@ use clap::{Arg, Command, Error};
 use giop_stream::MOST_OPEN;
 use std::alloc::{AllocError, Global};
 
-/// How many messages may be open where nothing is said.
+/// How many messages may be open where no argument gives it.
 const DEFAULT_OPEN: u32 = 16;
 
 const ABOUT: &str = "Dumps one direction of a GIOP connection, one text line per value";
@@ -51,16 +52,16 @@ A stream in parts is dumped one after the other, with the same two files:
 
 docs/FORMATS.md has every line, fault and status; docs/SIGNATURES.md says how IDL becomes a signature file.";
 
-/// What the words ask for: each file by its name, of which none has a special meaning.
+/// What the arguments ask for: each file by its name; no name has a special meaning.
 #[derive(Clone, Copy, Debug, Drop, PartialEq, Eq)]
 pub struct Arguments<'a> {
     /// The signature file; None for the built-in types alone.
     pub signatures: Option<&'a str>,
     /// The request list; None for the empty list.
     pub requests: Option<&'a str>,
-    /// The checkpoint that is gone on from; None for a new stream.
+    /// The checkpoint from which the stream is read on; None for a new stream.
     pub resume: Option<&'a str>,
-    /// The file that a checkpoint is saved in; None where the stream ends.
+    /// The file that a checkpoint is saved in; None where the stream is finished.
     pub save: Option<&'a str>,
     /// How many messages of a new stream may be open at once.
     pub most: u32,
@@ -77,7 +78,7 @@ fn file_option<'a>(alloc: Global, name: &'a str, help: &'a str) -> Arg<'a> {
         .help(help)
 }
 
-/// The option that takes how many messages may be open, 16 where it is missing.
+/// The option that takes how many messages may be open; 16 without it.
 fn open_option<'a>(alloc: Global) -> Arg<'a> {
     Arg::new(alloc, "open")
         .long("open")
@@ -102,8 +103,8 @@ fn command<'a>(alloc: Global) -> Result<Command<'a>, AllocError> {
 }
 
 impl<'a> Arguments<'a> {
-    /// Reads the words, the program's own name first. An `Err` holds the text to print and the status: of `--help`
-    /// and `--version` too, which have status 0.
+    /// Parses the arguments, the first of which is the program's name. An `Err` has the text to print and the status,
+    /// also for `--help` and `--version`, which have status 0.
     pub fn read(alloc: Global, words: &'a [String]) -> Result<Arguments<'a>, Error> {
         let matches = command(alloc)?.try_get_matches_from(words)?;
         Ok(Arguments {
@@ -117,7 +118,7 @@ impl<'a> Arguments<'a> {
     }
 }
 
-/// How many messages may be open, by the word for it, which `clap` has found in its range.
+/// How many messages may be open, by the argument for it, of which `clap` has checked the range.
 fn most_of(word: Option<u32>) -> u32
     ensures range { (1 ≤ result) × (result ≤ most_open) }
     ensures word { (n : ℕ) → word ≡ Some n → 1 ≤ n → n ≤ most_open → result ≡ n }

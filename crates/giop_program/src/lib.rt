@@ -1,4 +1,4 @@
-//! The program behind its `main`: its words, and the steps from what they ask for to a status.
+//! The program without its `main`: its arguments, and the steps from them to a status.
 #![tactic(auto)]
 
 mod arguments;

@@ -1,5 +1,5 @@
-//! The program's steps: words, signatures, requests, checkpoint, the opening of the stream, the run, the save. The first
-//! that fails decides the status.
+//! The program's steps: arguments, signatures, requests, checkpoint, the opening of the stream, the run, the save. The
+//! first that fails determines the status.
 
 ghost use Rattle.std.specs.Prelude.{◌≡◌, ◌≢◌, ◌≤◌, ◌⊎◌, ℕ, List, [], false, None, Some, IfSome, IfOk, IfErr, OnOk, option_map};
 ghost use Rattle.clap.specs.Values.{kind_of};
@@ -23,13 +23,13 @@ use giop_stream::{Engine, Totals};
 use std::env;
 use std::io::Read;
 
-/// The status of words that can't be read.
+/// The status where the arguments can't be read.
 const USAGE: u8 = 2;
 
 /// The status where the help can't be printed.
 const FAILED: u8 = 4;
 
-/// Runs the program, and answers its status.
+/// Runs the program, and returns its status.
 pub fn program(rt: &HostRuntime) -> u8
     ensures { result ≤ 5 }
 {
@@ -47,7 +47,7 @@ pub fn program(rt: &HostRuntime) -> u8
     }
 }
 
-/// The steps behind the words, with the lines on standard output: the program's status.
+/// The steps after the arguments, with the lines on standard output; returns the program's status.
 fn print_run(rt: &HostRuntime, asked: Arguments) -> u8
     ensures { result ≤ 5 }
 {
@@ -57,7 +57,7 @@ fn print_run(rt: &HostRuntime, asked: Arguments) -> u8
     report_outcome(rt, &perform_run(rt, asked, &mut lines, &mut Disk::new(rt)))
 }
 
-/// The steps behind the words.
+/// The steps after the arguments.
 pub fn perform_run<'a, R: Inputs + AllocGlobal, O: Flush, F: Saves>(
     rt: &R,
     asked: Arguments<'a>,
@@ -72,7 +72,7 @@ pub fn perform_run<'a, R: Inputs + AllocGlobal, O: Flush, F: Saves>(
     run_by_catalogue(rt, asked, out, files, &catalogue)
 }
 
-/// The steps behind the signatures.
+/// The steps after the signature file.
 fn run_by_catalogue<'a, R: Inputs + AllocGlobal, O: Flush, F: Saves>(
     rt: &R,
     asked: Arguments<'a>,
@@ -89,7 +89,7 @@ fn run_by_catalogue<'a, R: Inputs + AllocGlobal, O: Flush, F: Saves>(
     run_and_save(rt, asked, out, files, catalogue, &requests)
 }
 
-/// The steps behind the request list, and the save of what the run has kept.
+/// The steps after the request list, up to the save of the engine that the run has kept.
 fn run_and_save<'a, R: Inputs + AllocGlobal, O: Flush, F: Saves>(
     rt: &R,
     asked: Arguments<'a>,
@@ -108,7 +108,7 @@ fn run_and_save<'a, R: Inputs + AllocGlobal, O: Flush, F: Saves>(
     kept(files, asked.save, &report)
 }
 
-/// The steps up to the run's end.
+/// The checkpoint, the opening of the stream, and the run.
 fn begin_run<'a, 'c, R: Inputs + AllocGlobal, O: Flush>(
     rt: &R,
     asked: Arguments<'a>,
@@ -150,7 +150,7 @@ fn ending_for(save: Option<&str>) -> Ending
     }
 }
 
-/// Dumps a file.
+/// Opens the stream, a file or standard input, and runs the engine on it.
 fn open_stream<'a, 'c, R: Inputs, O: Flush>(
     rt: &R,
     name: &'a str,
@@ -174,7 +174,7 @@ fn open_stream<'a, 'c, R: Inputs, O: Flush>(
     }
 }
 
-/// Dumps what a reader gives.
+/// Runs the engine on what a reader gives.
 fn dumped<'a, 'c, R: Read + Drop, O: Flush>(
     reader: R,
     out: &mut O,
@@ -215,7 +215,7 @@ fn kept<'a, F: Saves>(
     }
 }
 
-/// Prints why the program came to no end, and answers its status.
+/// Prints why the program failed, if it did, and returns its status.
 fn report_outcome(rt: &HostRuntime, ended: &Result<Totals, ProgramFault>) -> u8
     ensures { result ≡ exit_status ended.now }
 {
@@ -225,7 +225,7 @@ fn report_outcome(rt: &HostRuntime, ended: &Result<Totals, ProgramFault>) -> u8
     status(ended)
 }
 
-/// Prints why the words can't be read, or the help that they ask for.
+/// Prints why the arguments can't be read, or the help that they ask for.
 fn refused(rt: &HostRuntime, error: &Error) -> u8
     ensures memory { kind_of error.now ≡ ErrorKind.OutOfMemory → result ≡ 5 }
     ensures shown { (kind_of error.now ≡ ErrorKind.DisplayHelp)

@@ -14,8 +14,8 @@ pub struct Checkpoints {
 }
 
 impl Checkpoints {
-    /// Parses a text: the hash in hexadecimal digits, and the lengths, each perhaps with `*` and a number after it. `None` for
-    /// another text, and for lack of memory.
+    /// Parses a text: the hash in hexadecimal digits, and the lengths, each perhaps with `*` and a number after it.
+    /// `None` for another text, and for lack of memory.
     pub fn read(alloc: Global, text: &str) -> Option<Checkpoints> {
         let (hash, words) = text.split_once(' ')?;
         let mut lengths = Vec::new(alloc);

@@ -62,7 +62,7 @@ impl fmt::Display for Difference<'_, '_> {
     }
 }
 
-/// Compares the lines that are wanted, without the last line feed, and the status, with what a dump wrote and its status.
+/// Compares the lines that are wanted, without the last line feed, and the status, with those of a dump.
 pub fn compare<'w, 'g>(
     wanted: &'w str,
     wanted_status: u8,

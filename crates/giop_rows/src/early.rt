@@ -1,8 +1,8 @@
-//! What is written where the stream of a row ends early.
+//! What is written where the stream of a row ends before its last octet.
 
 use std::alloc::Global;
 
-/// What is written where the stream ends behind so many octets: how many of the row's lines, and what its closing says.
+/// What is written where the stream ends after so many octets: how many of the row's lines, and which closing.
 #[derive(Clone, Copy)]
 pub struct Early<'a> {
     /// The lines of the octets up to there.
@@ -17,7 +17,7 @@ pub struct Early<'a> {
 }
 
 impl<'a> Early<'a> {
-    /// What a word spells, and for how many octets of the stream, one behind the other, it is so.
+    /// Parses a word; also returns for how many octets of the stream, one after the other, it holds.
     pub fn read(word: &'a str) -> Option<(Early<'a>, usize)> {
         let (word, count) = times(word)?;
         let (word, octets) = split(word, '@');
@@ -39,7 +39,7 @@ impl<'a> Early<'a> {
         Some((early, count))
     }
 
-    /// The lines that are written behind so many octets, the last one's end left out, of a stream that has these lines.
+    /// What is written of a stream with these lines where it ends after so many octets, without the last line feed.
     pub fn text(&self, alloc: Global, lines: &str, at: usize) -> Option<String> {
         let mut text = self.front(alloc, lines)?;
         if self.is_truncated {
@@ -66,7 +66,7 @@ impl<'a> Early<'a> {
         Some(text)
     }
 
-    /// Whether the stream has stopped there at a fault, so that no more of it is read.
+    /// Whether the stream has a stream fault up to there, so that no more of it is read.
     pub fn is_stopped(&self, lines: &str) -> bool {
         let Some(last) = self.lines.checked_sub(1) else {
             return false;
@@ -77,7 +77,7 @@ impl<'a> Early<'a> {
         }
     }
 
-    /// The status of the program behind such a closing.
+    /// The status of the program after such a closing.
     pub fn status(&self) -> u8 {
         if self.faults == "0" { 0 } else { 1 }
     }
@@ -90,7 +90,7 @@ fn unfinished(text: &mut String, number: &str) -> Option<()> {
     writeln!(text, "m{number} unfinished").ok()
 }
 
-/// A word in front of `*` and a number, or one alone, which stands for itself once.
+/// The word before `*` and a number, with that number; a word alone counts once.
 pub fn times(word: &str) -> Option<(&str, usize)> {
     match word.split_once('*') {
         Some((word, count)) => Some((word, count.parse().ok()?)),
@@ -98,7 +98,7 @@ pub fn times(word: &str) -> Option<(&str, usize)> {
     }
 }
 
-/// What stands in front of a letter, and what behind it, where it has that.
+/// What is before a letter in a word, and what is after it, where the word has that letter.
 fn split(word: &str, letter: char) -> (&str, Option<&str>) {
     match word.split_once(letter) {
         Some((front, behind)) => (front, Some(behind)),

@@ -1,4 +1,4 @@
-//! The engine of a row.
+//! Makes the engine of a row.
 
 ghost use Rattle.std.specs.Prelude.{IfOk, ◌≡◌, false};
 ghost use Rattle.giop_stream.specs.EngineHolds.{AreOf};
@@ -9,7 +9,7 @@ use giop_stream::{Engine, MOST_OPEN};
 use std::alloc::Global;
 use std::io;
 
-/// A new engine, of as many open messages as a row says.
+/// A new engine, for as many open messages as a row allows.
 pub fn engine_for<'a>(
     alloc: Global,
     catalogue: &'a Catalogue,

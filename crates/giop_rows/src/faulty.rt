@@ -4,7 +4,7 @@ use giop_print::{Sheet, put_all};
 use std::io;
 use std::io::{ErrorKind, Read, Write};
 
-/// Octets that are read whole, behind which a reader ends or fails.
+/// A reader of these octets, which ends or fails after them.
 #[derive(Drop)]
 pub struct Octets<'a> {
     left: &'a [u8],
@@ -12,7 +12,7 @@ pub struct Octets<'a> {
 }
 
 impl<'a> Octets<'a> {
-    /// A reader that ends behind these octets.
+    /// A reader that ends after these octets.
     pub fn whole(left: &'a [u8]) -> Octets<'a> {
         Octets {
             left,
@@ -20,7 +20,7 @@ impl<'a> Octets<'a> {
         }
     }
 
-    /// A reader that fails behind these octets.
+    /// A reader that fails after these octets.
     pub fn broken(left: &'a [u8]) -> Octets<'a> {
         Octets {
             left,

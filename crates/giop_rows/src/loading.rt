@@ -1,4 +1,4 @@
-//! A row, cut in two at each of its octets, and saved and loaded there.
+//! Dumps a row with one save and load, after each of its octets in turn.
 
 ghost use Rattle.giop_stream.specs.EngineHolds.{AreOf};
 
@@ -12,10 +12,10 @@ use giop_stream::Engine;
 use std::alloc::Global;
 use std::{fmt, io};
 
-/// The status of the program that refuses a checkpoint.
+/// The status of the program where a checkpoint is refused.
 const REFUSED: u8 = 3;
 
-/// The way in which a row is saved and loaded behind so many octets.
+/// The name of the way in which a row is saved and loaded after so many octets.
 #[derive(Clone, Copy)]
 struct Loaded(usize);
 
@@ -68,7 +68,7 @@ fn is_loaded_at(
     is_as_told(rt, row, &Loaded(at), sheet.held(), status)
 }
 
-/// Feeds so many octets to a new engine, and the others to one that is loaded from its checkpoint: the status of the program.
+/// Feeds so many octets to a new engine, and the others to one loaded from its checkpoint; returns the status.
 fn resumed(
     alloc: Global,
     engine: Engine,

@@ -1,25 +1,26 @@
-//! Dumps streams whose lines are known, each in every way, and names those whose lines or status are others.
+//! Dumps streams whose lines are known, each in several ways, and names those that give other lines or another status.
 //!
-//! `stdin` has sets of rows, and between two sets a line `=`. The parts of a set stand between empty lines. Its first
+//! `stdin` has sets of rows, and between two sets a line `=`. Empty lines separate the parts of a set. Its first
 //! part is the files of its rows: a signature file, or none, a line `requests` and a request list, in which `I..J NAME`
 //! stands for a line for each id from I to J. Each other part is a row: its name, `status` with 0 or 1, perhaps a line
 //! `open` with the number of messages that may be open (16 where it is missing), perhaps a line `early`, perhaps a line
 //! `checkpoints`, the octets of its stream in hexadecimal text, in any number of lines, a line `lines`, and the lines of
-//! its dump. The rows that are named `generated` were made by chance, and have their lines from a reference that was
-//! written apart from the dumper; so has what stands behind `early` and `checkpoints`. So have the rows whose names end
-//! with how many messages are open: those of 16 that have other lines where one may be, for 1, 2 and 4096.
+//! its dump. The rows that are named `generated` are random, and their lines are from a reference that is independent
+//! of the dumper; so is what follows `early` and `checkpoints`, and so are the rows whose names end with how many
+//! messages may be open: rows of 16 that have other lines where one may be open, for 1, 2 and 4096.
 //!
-//! `early` tells what is written where the stream ends behind 0, 1, 2, .. of its octets, in words `L:M.F`: the first L
-//! lines of the dump, and a closing with M messages and F faults. `t` behind that says that there is a truncated line,
-//! `u` and numbers with commas that these messages are unfinished, `@` and a number how many octets are counted where the
-//! stream has stopped before its end, and `*` and a number for how many octets, one behind the other, the word stands.
+//! `early` gives what is written where the stream ends after 0, 1, 2, .. of its octets, in words `L:M.F`: the first L
+//! lines of the dump, and a closing with M messages and F faults. After that, `t` stands for a truncated line, `u` and
+//! numbers with commas for messages that are unfinished, `@` and a number for how many octets are counted where the
+//! stream has stopped before its end, and `*` and a number for how many octets, one after the other, the word holds.
 //!
-//! `checkpoints` has the FNV-1a hash, of 32 bits, of the fixed parts of the checkpoints behind 0, 1, 2, .. octets, and then
-//! how many octets each of these has, with `*` and a number as above. Each is loaded, and what was loaded goes on.
+//! `checkpoints` has the FNV-1a hash, of 32 bits, of the fixed parts of the checkpoints after 0, 1, 2, .. octets, and
+//! then how many octets each of these has, with `*` and a number as above. Each is loaded, and the loaded engine reads
+//! on.
 //!
-//! Written is a line for each row, and at the end how many there were and how many differ. Of a row that differs there
-//! is the way in which it was dumped, and the first line that differs. The status is 0 where there are rows and none
-//! differs.
+//! The output has a line for each row, and at the end how many rows there were and how many differ. For a row that
+//! differs it has the way in which it was dumped, and the first line that differs. The status is 0 where there are rows
+//! and none differs.
 #![tactic(auto)]
 
 mod checkpoints;
@@ -40,7 +41,7 @@ use std::process::ExitCode;
 use tally::Tally;
 use telling::tell;
 
-/// The greatest number of octets of the rows.
+/// How many octets the rows have at most.
 const MOST: u64 = 16_777_216;
 
 fn main(rt: HostRuntime) -> ExitCode {

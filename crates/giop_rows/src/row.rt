@@ -1,9 +1,10 @@
-//! The rows, as their text spells them.
+//! Parses the text of a row.
 
 use std::alloc::Global;
 
-/// A row: its name, the status of the program, how many messages may be open, what is written where its stream ends early
-/// (or nothing), its checkpoints (or nothing), the octets in hexadecimal text, and the lines, the last one's end left out.
+/// A row: its name, the status of the program, how many messages may be open, what is written where its stream ends
+/// early (or nothing), its checkpoints (or nothing), the octets in hexadecimal text, and the lines without the last
+/// line feed.
 #[derive(Clone, Copy)]
 pub struct Row<'a> {
     pub name: &'a str,
@@ -16,7 +17,7 @@ pub struct Row<'a> {
 }
 
 impl<'a> Row<'a> {
-    /// The row that a text spells.
+    /// Parses a row.
     pub fn read(text: &'a str) -> Option<Row<'a>> {
         let (head, lines) = text.split_once("\nlines\n")?;
         let mut parts = head.splitn(3, '\n');
@@ -37,7 +38,7 @@ impl<'a> Row<'a> {
     }
 }
 
-/// How many messages may be open by this word, 16 where there is none.
+/// How many messages may be open by this word; 16 where it is empty.
 fn most_of(word: &str) -> Option<u32> {
     if word.is_empty() {
         return Some(16);
@@ -45,8 +46,8 @@ fn most_of(word: &str) -> Option<u32> {
     word.parse().ok()
 }
 
-/// What stands behind a name in the first line of a text, and the other lines. Nothing, and the text, where the name
-/// isn't there.
+/// What follows a name in the first line of a text, and the other lines. An empty text and the whole one, where the
+/// first line doesn't begin with the name.
 fn named<'a>(text: &'a str, name: &str) -> (&'a str, &'a str) {
     let Some(behind) = text.strip_prefix(name) else {
         return ("", text);
@@ -54,8 +55,7 @@ fn named<'a>(text: &'a str, name: &str) -> (&'a str, &'a str) {
     behind.split_once('\n').unwrap_or((behind, ""))
 }
 
-/// The octets of hexadecimal text, in which spaces and line ends stand anywhere. None where it is no such text, and for
-/// want of memory.
+/// The octets of hexadecimal text, with spaces and line feeds anywhere. `None` for another text and without memory.
 pub fn octets(alloc: Global, text: &str) -> Option<Vec<u8>> {
     let mut octets = Vec::new(alloc);
     let mut high = None;
@@ -63,7 +63,7 @@ pub fn octets(alloc: Global, text: &str) -> Option<Vec<u8>> {
         let digit = digit.to_digit(16)?;
         match high.take() {
             None => high = Some(digit),
-            // A digit is below 16: the remainders tell that to the check.
+            // A digit is below 16; the remainders show that to the check.
             Some(first) => octets.push((first % 16 * 16 + digit % 16) as u8).ok()?,
         }
     }

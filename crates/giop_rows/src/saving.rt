@@ -1,4 +1,4 @@
-//! A row, saved and loaded behind each of its octets.
+//! Dumps a row with a save and a load after each of its octets, and compares the checkpoints.
 
 ghost use Rattle.giop_stream.specs.EngineHolds.{AreOf};
 
@@ -13,13 +13,13 @@ use giop_stream::Engine;
 use std::alloc::Global;
 use std::io;
 
-/// The way in which it is dumped.
+/// The name of this way of dumping.
 const WAY: &str = "saved and loaded behind each octet";
 
-/// The octets of a checkpoint's fixed part.
+/// How many octets a checkpoint's fixed part has.
 const FIXED: usize = 96;
 
-/// Saves a row behind each of its octets, where it tells of its checkpoints, and loads what was saved.
+/// Saves a row after each of its octets, where it gives its checkpoints, and loads what was saved.
 pub fn is_saved(
     rt: &HostRuntime,
     catalogue: &Catalogue,
@@ -40,7 +40,7 @@ pub fn is_saved(
     }
 }
 
-/// Saves and loads a row behind each of its octets, up to the first checkpoint that differs, which is told.
+/// Saves and loads a row after each of its octets, up to the first checkpoint that differs, which is printed.
 fn is_saved_as_told(
     rt: &HostRuntime,
     catalogue: &Catalogue,
@@ -73,9 +73,9 @@ fn is_saved_as_told(
     }
 }
 
-/// The engine that goes on from a new one, fed a stream octet by octet, and saved and loaded in front of each and at the
-/// end; or the first checkpoint that differs in its length, or is above this one, or is refused, or how their fixed parts
-/// differ.
+/// Feeds a stream octet by octet to a new engine, which is saved and loaded before each octet and at the end, and
+/// returns the last engine; or the first checkpoint of another length, of more than `most` octets, or that is refused;
+/// or that the hash of the fixed parts differs.
 fn saved<'a>(
     alloc: Global,
     engine: Engine<'a>,
@@ -115,24 +115,24 @@ fn saved<'a>(
     })
 }
 
-/// The greatest length of a checkpoint by types of this depth, where so many messages may be open.
+/// The greatest length of a checkpoint with types of this depth, where so many messages may be open.
 fn most(open: u32, depth: u8) -> usize {
     let records = (open as usize).min(4096) + 1;
     FIXED + records * (256 + 24 * usize::from(depth))
 }
 
-/// So many octets, from the front.
+/// The first so many octets.
 fn front(octets: &[u8], length: usize) -> &[u8] {
     octets.split_at(length.min(octets.len())).0
 }
 
-/// The octet behind so many others, alone; none at the end of the stream.
+/// The octet after so many others, alone; empty at the end of the stream.
 fn octet(stream: &[u8], at: usize) -> &[u8] {
     let (_, left) = stream.split_at(at.min(stream.len()));
     left.split_at(left.len().min(1)).0
 }
 
-/// The status of the program where the stream of an engine ends.
+/// Finishes an engine; returns the status of the program.
 pub fn ended(engine: Engine, sheet: &mut Sheet) -> u8 {
     match engine.finish(sheet) {
         Ok(totals) if totals.faults == 0 => 0,

@@ -1,6 +1,6 @@
-//! How many rows there were.
+//! Counts the rows, and those that differ.
 
-/// How many rows were told, and how many of them differ.
+/// How many rows there were, and how many of them differ.
 #[derive(Clone, Copy)]
 pub struct Tally {
     pub rows: u64,

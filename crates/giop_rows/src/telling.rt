@@ -1,4 +1,4 @@
-//! Each row, dumped in every way.
+//! Reads the sets of rows, dumps each row, and prints whether it differs.
 
 ghost use Rattle.giop_stream.specs.EngineHolds.{AreOf};
 
@@ -9,7 +9,7 @@ use giop_sig::{Catalogue, Requests, SigFault};
 use std::alloc::Global;
 use std::io;
 
-/// Tells of each row whether it is dumped as it says, and at the end how many there were.
+/// Prints for each row whether it is dumped as expected, and at the end how many there were.
 pub fn tell(rt: &HostRuntime, text: &str, tally: &mut Tally) -> io::Result<()> {
     for set in text.strip_suffix('\n').unwrap_or("").split("\n=\n") {
         tell_set(rt, set, tally)?;
@@ -30,7 +30,7 @@ fn tell_set(rt: &HostRuntime, set: &str, tally: &mut Tally) -> io::Result<()> {
     }
 }
 
-/// Tells of a text that can't be read, and counts it.
+/// Prints a text that can't be read, and counts it as a row that differs.
 fn unread(rt: &HostRuntime, why: &str, text: &str, tally: &mut Tally) -> io::Result<()> {
     tally.count(false);
     println!(rt; "{why}:\n{text}")
@@ -119,7 +119,7 @@ fn tell_stream(
     told(rt, row.name, is_as_told)
 }
 
-/// Tells of a row that is as told; one that isn't was told already.
+/// Prints a row that is as expected; one that differs was printed already.
 fn told(rt: &HostRuntime, name: &str, is_as_told: bool) -> io::Result<()> {
     if is_as_told {
         println!(rt; "ok {name}")?;

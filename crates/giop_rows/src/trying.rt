@@ -1,4 +1,4 @@
-//! A row, dumped in every way.
+//! Dumps a row in every way: whole, in pieces, ended early, to outs that fail, saved and loaded.
 
 ghost use Rattle.giop_stream.specs.EngineHolds.{AreOf};
 
@@ -16,7 +16,7 @@ use giop_sig::{Catalogue, Requests};
 use giop_stream::{Engine, Totals};
 use std::{fmt, io};
 
-/// Dumps a row in every way, up to the first in which it differs, which is told.
+/// Dumps a row in every way, up to the first in which it differs, which is printed.
 pub fn is_dumped_each_way(
     rt: &HostRuntime,
     catalogue: &Catalogue,
@@ -46,7 +46,7 @@ pub fn is_dumped_each_way(
     )
 }
 
-/// Dumps a row in the ways that have a place, with each place.
+/// Dumps a row in the ways that depend on a place, at each place.
 fn is_dumped_cut(
     rt: &HostRuntime,
     catalogue: &Catalogue,
@@ -72,7 +72,7 @@ fn is_dumped_cut(
     Ok(true)
 }
 
-/// Ends the stream of a row behind each of its octets, in the order in which the row tells what is written then.
+/// Ends the stream of a row after each of its octets, in the order in which the row gives what is written then.
 fn is_dumped_early(
     rt: &HostRuntime,
     catalogue: &Catalogue,
@@ -101,7 +101,7 @@ fn is_dumped_early(
     Ok(true)
 }
 
-/// Ends the stream of a row at some places, one behind the other, that are alike in what is written then.
+/// Ends the stream of a row at some places, one after the other, for which the same word gives what is written.
 fn is_dumped_alike(
     rt: &HostRuntime,
     catalogue: &Catalogue,
@@ -139,7 +139,7 @@ fn is_dumped_alike(
     Ok(true)
 }
 
-/// Ends the stream of a row behind so many octets.
+/// Ends the stream of a row after so many octets.
 fn is_dumped_to(
     rt: &HostRuntime,
     engine: Engine,
@@ -159,7 +159,7 @@ fn is_dumped_to(
     is_dumped(rt, engine, &ended, stream, Way::Early(at))
 }
 
-/// Lets a read of the stream of a row fail behind so many octets. A stream that has stopped there isn't read on.
+/// Makes a read of the stream of a row fail after so many octets. A stream that has stopped there isn't read on.
 fn is_dumped_up_to(
     rt: &HostRuntime,
     engine: Engine,
@@ -182,7 +182,7 @@ fn is_dumped_up_to(
     is_dumped(rt, engine, &broken, stream, Way::Broken(at))
 }
 
-/// Dumps a row over an out of which each put fails in turn, up to a number of puts that isn't reached.
+/// Dumps a row to outs that fail at the first put, the second, and so on, up to a number of puts that isn't reached.
 fn is_dumped_over_failing(
     rt: &HostRuntime,
     catalogue: &Catalogue,
@@ -209,17 +209,17 @@ fn is_dumped_over_failing(
     Ok(true)
 }
 
-/// How a dump over a failing out went.
+/// How a dump to a failing out went.
 enum Failed {
-    /// A front of the lines was written, and nothing behind the put that failed.
+    /// A front of the lines was written, and nothing after the put that failed.
     Rightly,
-    /// As it should not, which is told.
+    /// Other lines or another status, which is printed.
     Wrongly,
-    /// No put failed, and all was written as the row says.
+    /// No put failed, and the lines of the row were written.
     Never,
 }
 
-/// Dumps a row over an out that fails.
+/// Dumps a row to an out that fails.
 fn dumped_over(
     rt: &HostRuntime,
     engine: Engine,
@@ -261,7 +261,7 @@ fn is_dumped(
     is_as_told(rt, row, &way, sheet.held(), status_of(ended))
 }
 
-/// Dumps a stream in one way, over a writer to a sheet. There is one sort of out, since the engine is built for each.
+/// Dumps a stream in one way, to a writer to a sheet. All ways use one type of out, as the engine is compiled for each.
 fn dump(engine: Engine, stream: &[u8], way: Way, sheet: &mut Sheet) -> Result<Totals, RunFault> {
     let (width, puts) = way.puts();
     way.dump(
@@ -293,7 +293,7 @@ pub fn is_as_told(
     }
 }
 
-/// Tells of a row that differs.
+/// Prints a row that differs.
 pub fn differs(
     rt: &HostRuntime,
     name: &str,
@@ -304,7 +304,7 @@ pub fn differs(
     Ok(false)
 }
 
-/// Tells of what a row says of ends or checkpoints and can't be read.
+/// Prints an `early` or `checkpoints` line of a row that can't be read.
 pub fn malformed(rt: &HostRuntime, name: &str, text: &str) -> io::Result<bool> {
     println!(rt; "MALFORMED {name}: {text}")?;
     Ok(false)

@@ -9,24 +9,24 @@ use std::fmt;
 /// A way of dumping a stream.
 #[derive(Clone, Copy)]
 pub enum Way {
-    /// A reader gives all that it has.
+    /// One read gives all octets.
     Whole,
-    /// Its first octets are fed, so many, and the others are run.
+    /// The first so many octets are fed, and the others are read by a run.
     Cut(usize),
     /// Each read gives so many octets.
     Pieces(usize),
     /// The out takes one octet at each put.
     Narrow,
-    /// The stream ends behind so many octets.
+    /// The stream ends after so many octets.
     Early(usize),
-    /// A read fails behind so many octets.
+    /// A read fails after so many octets.
     Broken(usize),
-    /// A put fails behind so many others.
+    /// A put fails after so many others.
     Failing(usize),
 }
 
 impl Way {
-    /// The ways that have this place.
+    /// The ways that depend on a place, at this one.
     pub fn at(at: usize) -> [Way; 2] {
         [Way::Cut(at), Way::Pieces(at.saturating_add(1))]
     }
@@ -72,12 +72,12 @@ impl fmt::Display for Way {
     }
 }
 
-/// So many octets of a stream, from its front.
+/// The first so many octets of a stream.
 fn front(stream: &[u8], at: usize) -> &[u8] {
     stream.split_at(at.min(stream.len())).0
 }
 
-/// Runs a source to the stream's end: its totals.
+/// Runs a source to the stream's end; returns the totals.
 fn finished<S: Source, O: Out>(
     source: &mut S,
     out: &mut O,
@@ -115,7 +115,7 @@ fn pieces<O: Out>(
     finished(&mut source, out, engine)
 }
 
-/// Feeds a stream. Where a put fails the engine is failed: it is fed once more, and run to its finish.
+/// Feeds a stream. Where a put fails the engine is failed; it is then fed once more and finished, which must fail too.
 fn failing<O: Out>(engine: Engine, stream: &[u8], out: &mut O) -> Result<Totals, RunFault> {
     let mut engine = engine;
     match engine.feed(stream, out) {

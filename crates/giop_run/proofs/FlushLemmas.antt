@@ -1,4 +1,4 @@
--- What a flush leaves of what was written.
+-- What was written before a flush stays written after it; a flush that fails writes none of what was due.
 use Rattle.std.proofs.Common.{ℕ, List, [], Option, Some, None, ◌∙◌, append-nil, sym, arith}
 use Rattle.std.specs.Io.KnownBytes.{Appends, Keeps}
 use Rattle.giop_print.specs.Output.{OutLog, Wrote, WroteFront}
@@ -15,7 +15,7 @@ appends_none None b k = tt
 appends_none (Some x) None k = absurd k
 appends_none (Some x) (Some y) k = rw k (sym (append-nil x))
 
--- what was written stays written behind a flush
+-- what was written stays written after a flush
 pub wrote_flushed : (x y z : OutLog) (due kept : List ℕ) → Wrote x y due → Flushed y z kept → Wrote x z due
 wrote_flushed x y z due kept w f =
     record {

@@ -1,4 +1,4 @@
--- Why no engine is made of the checkpoint in a file, and what one that is made of it holds.
+-- Why no engine is loaded from the checkpoint in a file, and what a loaded one holds.
 use Rattle.std.proofs.Common.{◌≡◌, ◌≢◌, ℕ, List, Some, Result, Ok, Err, IfOk, IfErr, Bor, refl}
 use Rattle.giop_checkpoint.specs.declared.fixed.Counts.{Counts}
 use Rattle.giop_checkpoint.specs.declared.fault.LoadFault.{LoadFault}
@@ -32,7 +32,7 @@ not_resumed (Err why) held name counts octets front (refusals.Length, memory, is
 not_resumed (Err why) held name counts octets front (refusals.State, memory, is, refused) =
     rw (is (λ e. cc)) (refl, (octets, front, refused))
 
--- and those of a file that aren't: the engine holds what they are a checkpoint of
+-- the octets of the file are loaded: the engine holds what they are a checkpoint of
 pub is_resumed : {E : Type 0} (r : Result EngineView E) (held : Folder) (name : Bor (List ℕ)) (most : ℕ) (C : Table) (l : RequestTable)
     (octets : List ℕ) → IsFront checkpoint_most (held name.now) octets
     → IfOk r (λ e. (n : ℕ) (p : List ℕ) → Spells octets C l n p → (e.most ≡ n) × Holds e p)

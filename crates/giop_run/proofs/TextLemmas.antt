@@ -1,4 +1,4 @@
--- What octets add to a stream's text, piece by piece, and what an engine's status says of the stream.
+-- What octets add to a stream's text, piece by piece, and what an engine's status means for the stream.
 use Rattle.std.proofs.Common.{◌≡◌, List, ℕ, [], ◌++◌, Option, Some, None, refl, append-nil, IsSome}
 use Rattle.std.proofs.Math.Seq.{drop-length}
 use Rattle.giop_print.specs.Output.{OutLog, Wrote}
@@ -18,7 +18,7 @@ pub added-nil : (R : Rules) (p : List ℕ) → added R p [] ≡ []
 unfolding added
 added-nil R p = rw append-nil (drop-length (text R p))
 
--- what octets add to the text of a stream, and then others
+-- what some octets, and then others, add to the text of a stream
 abbrev pub AddsUp : Rules → Type 0
 AddsUp R = (p s t : List ℕ) → added R p (s ++ t) ≡ added R p s ++ added R (p ++ s) t
 
@@ -37,11 +37,11 @@ stopped_fault : (o : Option (ℕ × StreamFault)) (f : _) → Stopped f ≡ stat
 stopped_fault None f e = cc
 stopped_fault (Some o) f e = refl
 
--- an engine that answers Running holds a stream with no fault
+-- an engine with status Running holds a stream without a fault
 pub is_running : (p : List ℕ) → Running ≡ status_of (fault_of (cut p).stop) → IsRunning p
 is_running p e = running_fault (cut p).stop e
 
--- an engine that answers Stopped holds a stream with a fault
+-- an engine with status Stopped holds a stream with a fault
 pub is_stopped : (p : List ℕ) (f : _) → Stopped f ≡ status_of (fault_of (cut p).stop) → IsStopped p
 is_stopped p f e = stopped_fault (cut p).stop f e
 
@@ -49,6 +49,6 @@ not_both : (o : Option (ℕ × StreamFault)) → o ≡ None → IsSome o → ⊥
 not_both None n s = cc
 not_both (Some o) n s = cc
 
--- no stream goes on and is stopped
+-- no stream is both running and stopped
 pub runs_or_stops : (p : List ℕ) → IsRunning p → IsStopped p → ⊥
 runs_or_stops p r s = not_both (cut p).stop r s

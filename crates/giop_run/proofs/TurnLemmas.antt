@@ -33,11 +33,11 @@ turned_on R (Err fault.Read) p s e a b x y n k l f = absurd f
 turned_on R (Err fault.Turns) p s e a b x y n k l f = absurd f
 turned_on R (Err fault.Failed) p s e a b x y n k l f = absurd f
 
--- an engine that reads messages by R did this by R
+-- the rules of a read and feed may be replaced by equal ones
 turned_by : (Q R : Rules) (r : Result Bool RunFault) (p s : List ℕ) (e : EngineView) (a b : SourceLog) (x y : OutLog) → Q ≡ R → HasReadAndFed Q r p s e a b x y → HasReadAndFed R r p s e a b x y
 turned_by Q R r p s e a b x y q t = subst (λ z. HasReadAndFed z r p s e a b x y) q t
 
--- an engine that reads by what a run reads by closed it
+-- an engine that reads by what a run reads by closed the run
 closed_by : (w : RunSetup) (d : EngineView) (r : Result Report RunFault) (p : List ℕ) (x y : OutLog) → (d.table ≡ w.table) × (d.request_table ≡ w.request_table) × (d.most ≡ w.most) → Closed (setup_of d w.ending) r p x y → Closed w r p x y
 closed_by w d r p x y (t, l, n) q = rw (t, l, n) at q
 
@@ -96,7 +96,7 @@ closed_kept e p x y kept h f =
 pub closed_unkept : (e : EngineView) (p : List ℕ) (x y : OutLog) → FlushFailed x y → Closed (setup_of e endings.Keep) (Err fault.Out) p x y
 closed_unkept e p x y f = flush_front x y [] f
 
--- all turns
+-- all reads and feeds
 
 given_none : (p : List ℕ) (a : SourceLog) → Given p [] a a
 given_none p a =
@@ -145,7 +145,7 @@ going_start R p e a x y f =
       ends = refl;
     }
 
--- octets that went in, and then others
+-- octets that were fed, and then others
 fed_both : (R : Rules) → AddsUp R → (p s t : List ℕ) (e d : EngineView) (x y z : OutLog) → HasFed R p s e x y → HasFed R (p ++ s) t d y z → HasFed R p (s ++ t) d x z
 fed_both R adds p s t e d x y z first second =
     record {
@@ -196,7 +196,7 @@ pub turn_failed : (R : Rules) → AddsUp R → (r : RunFault) (p s t : List ℕ)
 turn_failed R adds r p s t e d k a b c x y z g u h =
     failed_on R adds r p s t e d k a b c x y z g (turned_by (rules_of e) R (Err r) (p ++ s) t d b c y z g.took.reads u) h
 
--- the source gave what went in
+-- the source gave what was fed
 given_all : (R : Rules) (p s : List ℕ) (e : EngineView) (k : ℕ) (a b : SourceLog) (x y : OutLog) → Going R p s e k a b x y → k ≤ 2 ^ 40 → Given p s a b
 given_all R p s e k a b x y g h =
     record {
@@ -300,6 +300,6 @@ closed_on w (Err fault.Failed) p s e a b x y z f q = absurd q
 pub ran_closed : (w : RunSetup) (r : Result Report RunFault) (p s : List ℕ) (e : EngineView) (a b : SourceLog) (x y z : OutLog) → ReadToEnd (reads_by w) p s e a b x y → (e.table ≡ w.table) × (e.request_table ≡ w.request_table) × (e.most ≡ w.most) → Closed (setup_of e w.ending) r (p ++ s) y z → Ran w r p s a b x z
 ran_closed w r p s e a b x y z f same q = closed_on w r p s e a b x y z f (closed_by w e r (p ++ s) y z same q)
 
--- a run, by what the source tells that it has left
+-- a run, by the octets that the source has left
 pub dumped_by : (w : RunSetup) (r : Result Report RunFault) (p s : List ℕ) (a b : SourceLog) (x y : OutLog) (told : Option (List ℕ)) → a.left ≡ told → Ran w r p s a b x y → Dumped w r p told x y
 dumped_by w r p s a b x y told l ran = record { octets = s; before = a; after = b; reader = l; did = ran }

@@ -1,4 +1,4 @@
--- What the program did with a reader and an out, and the status that says so (meaning).
+-- What a run did with a reader and an out, and the status of the program (meaning).
 use Rattle.std.specs.Prelude.{◌≡◌, ℕ, ◌==◌, List, Option, Some, None, Result, Ok, Err, if◌then◌else◌}
 use Rattle.giop_print.specs.Output.{OutLog}
 use Rattle.giop_stream.specs.declared.status.Totals.{Totals}
@@ -9,7 +9,7 @@ use Rattle.giop_run.specs.declared.fault.RunFault.{RunFault}
 use Rattle.giop_run.specs.declared.fault.ProgramFault.{ProgramFault}
 use Rattle.giop_run.specs.declared.fault.ProgramFault.TheVariants as faults
 
--- a run of an engine that held p did this with a reader, where that tells its octets, and an out
+-- a run of an engine that held p did this with a reader, whose octets are known where `told` is Some, and an out
 pub record Dumped (w : RunSetup) (ran : Result Report RunFault) (p : List ℕ) (told : Option (List ℕ)) (x y : OutLog) : Type 0 where
   pub octets : List ℕ
   pub before : SourceLog
@@ -17,8 +17,8 @@ pub record Dumped (w : RunSetup) (ran : Result Report RunFault) (p : List ℕ) (
   pub reader : before.left ≡ told
   pub did : Ran w ran p octets before after x y
 
--- the status of what failed: no words, a file refused, a file that can't be read or written or a run that failed, no
--- memory
+-- the status of what failed: arguments that can't be read, a file that is refused, a file that can't be read or written or a
+-- run that failed, no memory
 abbrev pub fault_status : ProgramFault → ℕ
 fault_status faults.Words = 2
 fault_status (faults.Signatures name fault) = 3
@@ -40,12 +40,12 @@ run_fault (faults.Unreadable name) = None
 run_fault (faults.Unwritable name) = None
 run_fault faults.OutOfMemory = None
 
--- the answer of a run that failed
+-- the result of a run that failed
 abbrev pub ran_as : Option RunFault → Option (Result Report RunFault)
 ran_as (Some fault) = Some (Err fault)
 ran_as None = None
 
--- the answer of the run behind the program's; None where a step before it failed
+-- the result of the run in the result of the program; None where a step before the run failed
 abbrev pub run_of : Result Report ProgramFault → Option (Result Report RunFault)
 run_of (Ok report) = Some (Ok report)
 run_of (Err fault) = ran_as (run_fault fault)

@@ -1,5 +1,5 @@
--- What the files that the words name have to do with a run (meaning). `held` is what the file of a
--- name holds, where that is told; a name is its text, and none is None.
+-- What a run takes from the files that the arguments name (meaning). `held` is what the file of a name holds, where that is
+-- known; a name is its text, and None where there is no file.
 use Rattle.std.specs.Prelude.{◌≡◌, ℕ, ◌<◌, ◌≤◌, List, [], length, take, Option, None, Some, IfSome, ◌⊎◌}
 use Rattle.giop_print.specs.Output.{counted}
 use Rattle.giop_sig.specs.Builtin.{builtin_table}
@@ -19,11 +19,11 @@ use Rattle.giop_run.specs.declared.running.Ending.TheVariants as endings
 use Rattle.giop_run.specs.declared.fault.ProgramFault.{ProgramFault}
 use Rattle.giop_run.specs.declared.fault.ProgramFault.TheVariants as faults
 
--- what a file of a name holds, where that is told
+-- what the file of a name holds, where that is known
 abbrev pub Folder : Type 0
 Folder = List ℕ → Option (List ℕ)
 
--- a text is what is read of a file of which at most so many octets are wanted: one more, or all
+-- a text is what is read of a file that may have at most so many octets: all of it, or one octet more than that
 abbrev pub IsFront : ℕ → Option (List ℕ) → List ℕ → Type 0
 IsFront most held text = IfSome held (λ octets. text ≡ take (counted most) octets)
 
@@ -37,14 +37,14 @@ requests_most = 16777216
 abbrev pub checkpoint_most : ℕ
 checkpoint_most = 3408800
 
--- a text spells a valid file of signatures, of which this is the table
+-- a text is a valid signature file, and this is its table
 pub record Declares (text : List ℕ) (C : Table) : Type 0 where
   pub file : SignatureFile
   pub spelled : Declared text file
   pub valid : IsValid file
   pub is : C ≡ table file
 
--- a text is a list of requests, of which this is kept by the operations of a catalogue
+-- a text is a request list, and this is its request table for the operations of a catalogue
 pub record Requests (text : List ℕ) (C : Table) (kept : RequestTable) : Type 0 where
   pub entries : List Entry
   pub lists : Lists text entries
@@ -62,8 +62,8 @@ RequestsOf held None C kept = kept ≡ []
 RequestsOf held (Some name) C kept =
     (text : List ℕ) × IsFront requests_most (held name) text × Requests text C kept
 
--- Of each stream that the octets of the checkpoint's file are a checkpoint of, and of how many messages may be open in it,
--- this is so; without a file of no octets, and of as many as are asked for.
+-- `Is` holds of each stream that the octets of the checkpoint's file are a checkpoint of, and of how many messages may be
+-- open in it; without a file, of the empty stream and of as many as are asked for.
 abbrev pub GoesOn : Folder → Option (List ℕ) → ℕ → Table → RequestTable → (ℕ → List ℕ → Type 0) → Type 0
 GoesOn held None most C kept Is = Is most []
 GoesOn held (Some name) most C kept Is =
@@ -71,7 +71,7 @@ GoesOn held (Some name) most C kept Is =
     × IsOurs (counts_of C kept) octets
     × ((n : ℕ) (p : List ℕ) → Spells octets C kept n p → Is n p)
 
--- what the stream gives: that of the file, or without one of standard input
+-- the octets of the stream: those of the file; without one, those of standard input
 abbrev pub stream_of : Folder → Option (List ℕ) → Option (List ℕ) → Option (List ℕ)
 stream_of held given None = given
 stream_of held given (Some name) = held name
@@ -105,7 +105,7 @@ NoRequests held asked (faults.Checkpoint name why) = ⊥
 NoRequests held asked (faults.Unwritable name) = ⊥
 NoRequests held asked (faults.Run why) = ⊥
 
--- why no checkpoint is gone on from: no memory, or its file can't be read or is refused, by its name
+-- why no checkpoint is loaded: no memory, or its file can't be read or is refused, by its name
 abbrev pub NoCheckpoint : Folder → Option (List ℕ) → Counts → ProgramFault → Type 0
 NoCheckpoint held asked counts (faults.Checkpoint name why) =
     (asked ≡ Some name.now)
@@ -130,7 +130,7 @@ NoStream asked (faults.Checkpoint name why) = ⊥
 NoStream asked (faults.Unwritable name) = ⊥
 NoStream asked (faults.Run why) = ⊥
 
--- the texts of the names that the words give, and how many messages of a new stream may be open
+-- what the arguments ask for: the names of the files, and how many messages of a new stream may be open
 pub record Asked : Type 0 where
   pub signatures : Option (List ℕ)
   pub requests : Option (List ℕ)
@@ -144,7 +144,7 @@ abbrev pub ending_of : Option (List ℕ) → Ending
 ending_of None = endings.Finish
 ending_of (Some name) = endings.Keep
 
--- what it reads by, where so many messages may be open, and how it ends
+-- what a run reads by, where so many messages may be open, and how it ends
 abbrev pub setup_by : Table → RequestTable → ℕ → Asked → RunSetup
 setup_by C kept n asked =
     record { table = C; request_table = kept; most = n; ending = ending_of asked.save }
@@ -154,7 +154,7 @@ pub record ReadsBy (held : Folder) (asked : Asked) (C : Table) (kept : RequestTa
   pub catalogue : CatalogueOf held asked.signatures C
   pub requests : RequestsOf held asked.requests C kept
 
--- why a step before the run failed: the steps before it came to their end
+-- why a step before the run failed; the steps before that one succeeded
 abbrev pub Refused : Folder → Asked → ProgramFault → Type 0
 Refused held asked fault =
     NoCatalogue held asked.signatures fault

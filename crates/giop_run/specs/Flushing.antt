@@ -1,9 +1,9 @@
--- What sending on the octets that an out keeps back did (meaning).
+-- What a flush of an out does, which writes the octets that the out has buffered (meaning).
 use Rattle.std.specs.Prelude.{◌≡◌, ℕ, List, [], Result, MatchResult}
 use Rattle.std.specs.Io.KnownBytes.{Keeps}
 use Rattle.giop_print.specs.Output.{OutLog, counted}
 
--- what was written stays, and nothing of it is kept back
+-- what was written stays, and nothing of it is buffered
 pub record Flushed (before after : OutLog) (kept : List ℕ) : Type 0 where
   pub written : Keeps before.written after.written
   pub puts : after.puts ≡ before.puts
@@ -16,6 +16,6 @@ pub record FlushFailed (before after : OutLog) : Type 0 where
   pub puts : after.puts ≡ before.puts
   pub failures : after.failures ≡ counted before.failures
 
--- what a flush did, by its answer
+-- what a flush did, by its result
 abbrev pub Flushes : {A E : Type 0} → Result A E → OutLog → OutLog → List ℕ → Type 0
 Flushes r before after kept = MatchResult r (λ _. Flushed before after kept) (λ _. FlushFailed before after)

@@ -1,4 +1,4 @@
--- What the program did behind its words (meaning): x and y are its out before and after it, a and b the files saved.
+-- What the program did for its arguments (meaning): x and y are its out before and after, a and b the saved files.
 use Rattle.std.specs.Prelude.{◌≡◌, ℕ, List, Option, None, Some, Result, Ok, Err}
 use Rattle.giop_print.specs.Output.{OutLog}
 use Rattle.giop_sig.specs.Table.{Table}
@@ -15,7 +15,7 @@ use Rattle.giop_run.specs.declared.fault.RunFault.TheVariants as fault
 use Rattle.giop_run.specs.declared.fault.ProgramFault.{ProgramFault}
 use Rattle.giop_run.specs.declared.fault.ProgramFault.TheVariants as faults
 
--- what the words ask for, and what there is to read: files by their names and standard input, where these are told
+-- what the arguments ask for, and what there is to read, where it is known: files by their names, and standard input
 pub record Task : Type 0 where
   pub held : Folder
   pub given : Option (List ℕ)
@@ -24,7 +24,7 @@ pub record Task : Type 0 where
 abbrev pub task_of : Folder → Option (List ℕ) → Asked → Task
 task_of held given asked = record { held = held; given = given; asked = asked }
 
--- A run read what the words name: the stream, by the catalogue and the list of the files, from the checkpoint on.
+-- A run read what the arguments name: the stream, by the catalogue and the list of the files, from the checkpoint on.
 pub record Performed (t : Task) (ran : Result Report RunFault) (x y : OutLog) : Type 0 where
   pub table : Table
   pub request_table : RequestTable
@@ -34,14 +34,14 @@ pub record Performed (t : Task) (ran : Result Report RunFault) (x y : OutLog) : 
       (setup_by table request_table n t.asked) ran p
       (stream_of t.held t.given t.asked.stream) x y)
 
--- the checkpoint of the engine that was kept is saved in the file that was asked for, or nothing is
+-- the checkpoint of the engine that was kept is saved in the file that was asked for; without one, nothing is saved
 abbrev pub SavedIn : Option (List ℕ) → Option EngineView → Option (List Saved)
     → Option (List Saved) → Type 0
 SavedIn None kept a b = b ≡ a
 SavedIn (Some name) None a b = ⊥
 SavedIn (Some name) (Some e) a b = SavedMore a b name e
 
--- The run came to its end, and its checkpoint is saved where that was asked for.
+-- The run succeeded, and its checkpoint is saved where that was asked for.
 pub record Completed (t : Task) (totals : Totals) (x y : OutLog) (a b : Option (List Saved))
     : Type 0 where
   pub report : Report
@@ -53,7 +53,7 @@ pub record Completed (t : Task) (totals : Totals) (x y : OutLog) (a b : Option (
 pub record Broken (t : Task) (why : RunFault) (x y : OutLog) : Type 0 where
   pub run : Performed t (Err why) x y
 
--- The run came to its end, and the file for its checkpoint can't be written.
+-- The run succeeded, and the file for its checkpoint can't be written.
 pub record Unsaved (t : Task) (name : List ℕ) (x y : OutLog) : Type 0 where
   pub named : t.asked.save ≡ Some name
   pub report : Report
@@ -78,13 +78,13 @@ FailedBy t (faults.Checkpoint name why) x y = NotRun t (faults.Checkpoint name w
 FailedBy t (faults.Unreadable name) x y = NotRun t (faults.Unreadable name) x y
 FailedBy t faults.OutOfMemory x y = NotRun t faults.OutOfMemory x y
 
--- and by its answer; where it failed nothing is saved
+-- what the program did, by its result; where it failed nothing is saved
 abbrev pub Did : Task → Result Totals ProgramFault → OutLog → OutLog → Option (List Saved)
     → Option (List Saved) → Type 0
 Did t (Ok totals) x y a b = Completed t totals x y a b
 Did t (Err why) x y a b = FailedBy t why x y × (b ≡ a)
 
--- what the last step did: its answer is the run's, or that the file which was asked for can't be written
+-- what the last step did: its result is the run's, or that the file which was asked for can't be written
 abbrev pub Kept : Option (List ℕ) → Result Report ProgramFault → Result Totals ProgramFault
     → Option (List Saved) → Option (List Saved) → Type 0
 Kept asked (Ok report) (Ok totals) a b =

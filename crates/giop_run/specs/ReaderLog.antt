@@ -1,8 +1,8 @@
--- What a reader tells as a source (state).
+-- The log of a reader as a source (state).
 use Rattle.std.specs.Prelude.{ℕ, List, Option}
 use Rattle.giop_run.specs.declared.reading.Reading.{Reading}
 use Rattle.giop_run.specs.SourceLog.{SourceLog}
 
--- `remaining` is what the reader tells of the octets that it has left
+-- `remaining` gives the octets that the reader has left, where they are known
 abbrev pub reading_log : {R : Type 0} → (R → Option (List ℕ)) → Reading R → SourceLog
 reading_log remaining r = record { left = remaining r.reader; reads = r.reads; failures = r.failures; ends = r.ends }

@@ -1,6 +1,6 @@
--- What a patient reader or writer is (state).
+-- The reader or writer inside of a `Retrying` (state).
 use Rattle.giop_run.specs.declared.retrying.Retrying.{Retrying}
 
--- the one that it tries again
+-- the one whose calls are tried again
 abbrev pub retrying_inner : {S : Type 0} → Retrying S → S
 retrying_inner p = p.inner

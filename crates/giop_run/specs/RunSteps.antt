@@ -1,4 +1,4 @@
--- What each read and feed of a run did (steps): private clauses alone cite these.
+-- What each read and feed of a run did, and how a run ended (steps). Only private clauses cite these.
 use Rattle.std.specs.Prelude.{◌≡◌, ℕ, ◌+◌, ◌^◌, ◌≤◌, ◌<◌, List, ◌++◌, length, None, Result, Ok, Err, Bool, true, false}
 use Rattle.std.specs.Io.KnownBytes.{Consumes}
 use Rattle.giop_cdr.specs.Numbers.{AreOctets}
@@ -19,7 +19,7 @@ use Rattle.giop_run.specs.declared.fault.RunFault.TheVariants as fault
 abbrev pub IsRunning : List ℕ → Type 0
 IsRunning p = (cut p).stop ≡ None
 
--- the octets s went into an engine that held p and read messages by R, and their lines were written
+-- the octets s were fed to an engine that held p and read messages by R, and their lines were written
 pub record HasFed (R : Rules) (p s : List ℕ) (e : EngineView) (x y : OutLog) : Type 0 where
   pub reads : rules_of e ≡ R
   pub holds : Holds e (p ++ s)
@@ -67,7 +67,7 @@ pub record PutFailed (R : Rules) (p s : List ℕ) (before after : SourceLog) (x 
   pub failures : after.failures ≡ before.failures
   pub written : WroteFront x y (added R p s)
 
--- how it failed before the end
+-- how a run failed before its end
 abbrev pub FailedBefore : Rules → RunFault → List ℕ → List ℕ → SourceLog → SourceLog → OutLog → OutLog → Type 0
 FailedBefore R fault.Read p s before after x y = ReadStopped R p s before after x y
 FailedBefore R fault.Turns p s before after x y = ReadsSpent R p s before after x y
@@ -79,7 +79,7 @@ abbrev pub FedAll : {A : Type 0} → Rules → Result A RunFault → List ℕ �
 FedAll R (Ok done) p s e before after x y = ReadToEnd R p s e before after x y
 FedAll R (Err why) p s e before after x y = FailedBefore R why p s before after x y
 
--- what the ending writes behind the lines of p was written, and what it does is done
+-- what the ending writes after the lines of p was written, and the report is as the ending requires
 pub record Ended (w : RunSetup) (report : Report) (p : List ℕ) (x y : OutLog) : Type 0 where
   pub written : Wrote x y (end_text w.ending (reads_by w) p)
   pub ended : EndsAs w.ending w report p
@@ -92,7 +92,7 @@ Completed R (Err fault.Read) p x y = ⊥
 Completed R (Err fault.Turns) p x y = ⊥
 Completed R (Err fault.Failed) p x y = ⊥
 
--- what the end of a run did, of which the engine held p
+-- what the end of a run did whose engine held p
 abbrev pub Closed : RunSetup → Result Report RunFault → List ℕ → OutLog → OutLog → Type 0
 Closed w (Ok report) p x y = Ended w report p x y
 Closed w (Err fault.Out) p x y = WroteFront x y (end_text w.ending (reads_by w) p)
@@ -100,7 +100,7 @@ Closed w (Err fault.Read) p x y = ⊥
 Closed w (Err fault.Turns) p x y = ⊥
 Closed w (Err fault.Failed) p x y = ⊥
 
--- k turns, after all of which the stream goes on, did this to a stream p that the engine held
+-- k reads and feeds, after each of which the stream goes on, did this to an engine that held p
 pub record Going (R : Rules) (p s : List ℕ) (e : EngineView) (k : ℕ) (before after : SourceLog) (x y : OutLog) : Type 0 where
   pub began : IsRunning p
   pub running : IsRunning (p ++ s)

@@ -1,4 +1,4 @@
--- What a run did (meaning): p is the stream that its engine held, s are the octets that its source gave, w its way.
+-- What a run did (meaning): p is the stream that its engine held, s are the octets that its source gave, w its setup.
 use Rattle.std.specs.Prelude.{◌≡◌, ℕ, ◌+◌, ◌^◌, ◌≤◌, ◌<◌, List, [], ◌++◌, length, Option, None, Some, IsSome, Result, Ok, Err, ◌⊎◌}
 use Rattle.std.specs.Io.KnownBytes.{Consumes, IsAtEnd}
 use Rattle.giop_cdr.specs.Numbers.{AreOctets}
@@ -24,20 +24,20 @@ pub record RunSetup : Type 0 where
   pub most : ℕ  -- so many messages may be open at once
   pub ending : Ending
 
--- the way of a run of this engine
+-- the setup of a run of this engine
 abbrev pub setup_of : EngineView → Ending → RunSetup
 setup_of e ending = record { table = e.table; request_table = e.request_table; most = e.most; ending = ending }
 
--- how it reads a message
+-- the rules that it reads by
 abbrev pub reads_by : RunSetup → Rules
 reads_by w = rules w.table w.request_table w.most
 
--- what an ending writes behind the lines of the stream p: its closing, or nothing where the stream goes on later
+-- what an ending writes after the lines of the stream p: its closing, or nothing where the stream is read on later
 abbrev pub end_text : Ending → Rules → List ℕ → List ℕ
 end_text endings.Finish R p = closing R p
 end_text endings.Keep R p = []
 
--- an engine is kept where the ending says so
+-- whether an engine is kept, by the ending
 abbrev pub HasKept : Ending → Option EngineView → Type 0
 HasKept endings.Finish kept = kept ≡ None
 HasKept endings.Keep kept = IsSome kept
@@ -47,7 +47,7 @@ pub record IsFinish (w : RunSetup) (report : Report) (p : List ℕ) : Type 0 whe
   pub totals : report.totals ≡ final (reads_by w) p
   pub kept : report.kept ≡ None
 
--- the stream p goes on later: an engine is kept that holds it, and reads as the run did
+-- the stream p is read on later: an engine is kept that holds it, and that reads by the same setup
 pub record IsKept (w : RunSetup) (report : Report) (p : List ℕ) : Type 0 where
   pub totals : report.totals ≡ tally (reads_by w) p
   pub engine : EngineView
@@ -55,7 +55,7 @@ pub record IsKept (w : RunSetup) (report : Report) (p : List ℕ) : Type 0 where
   pub holds : Holds engine p
   pub same : setup_of engine w.ending ≡ w
 
--- what an ending says of the stream p, and keeps of it
+-- the report of an ending at the stream p
 abbrev pub EndsAs : Ending → RunSetup → Report → List ℕ → Type 0
 EndsAs endings.Finish w report p = IsFinish w report p
 EndsAs endings.Keep w report p = IsKept w report p
@@ -80,7 +80,7 @@ pub record Given (p s : List ℕ) (before after : SourceLog) : Type 0 where
   pub none : IsStopped p → (s ≡ []) × (after ≡ before)
   pub stops : ¬ IsStopped p → LastRead p s
 
--- a read answered 0, and nothing is left in the source
+-- a read returned 0, and nothing is left in the source
 pub record IsEnded (before after : SourceLog) : Type 0 where
   pub answered : after.ends ≡ counted before.ends
   pub none : IsAtEnd after.left
@@ -89,7 +89,7 @@ pub record IsEnded (before after : SourceLog) : Type 0 where
 abbrev pub IsOver : List ℕ → SourceLog → SourceLog → Type 0
 IsOver p before after = IsEnded before after ⊎ IsStopped p
 
--- the source came to its end: the lines are written, and what the ending does is done
+-- the source ended, or the stream has a fault: the lines are written, and the report is as the ending requires
 pub record Finished (w : RunSetup) (report : Report) (p s : List ℕ) (before after : SourceLog) (x y : OutLog) : Type 0 where
   pub given : Given p s before after
   pub over : IsOver (p ++ s) before after
@@ -118,7 +118,7 @@ pub record WriteStopped (w : RunSetup) (p s : List ℕ) (before after : SourceLo
   pub failures : after.failures ≡ before.failures
   pub written : WroteFront x y (added (reads_by w) p s ++ end_text w.ending (reads_by w) (p ++ s))
 
--- what a run did, by its answer; on an engine that holds a stream it is never Failed
+-- what a run did, by its result; with an engine that holds a stream it is never Failed
 abbrev pub Ran : RunSetup → Result Report RunFault → List ℕ → List ℕ → SourceLog → SourceLog → OutLog → OutLog → Type 0
 Ran w (Ok report) p s before after x y = Finished w report p s before after x y
 Ran w (Err fault.Read) p s before after x y = ReadStopped (reads_by w) p s before after x y

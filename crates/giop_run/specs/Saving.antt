@@ -1,4 +1,4 @@
--- What is saved in files (meaning).
+-- What a save writes to files (meaning).
 use Rattle.std.specs.Prelude.{◌≡◌, ℕ, List, [], ◌∷◌, ◌++◌, Option, None, Some, Result, MatchResult}
 use Rattle.giop_stream.specs.Checkpoint.{Spells}
 use Rattle.giop_stream.specs.EngineHolds.{Holds}
@@ -13,7 +13,7 @@ pub record Saved : Type 0 where
 abbrev pub SpellsAll : EngineView → List ℕ → Type 0
 SpellsAll e octets = (p : List ℕ) → Holds e p → Spells octets e.table e.request_table e.most p
 
--- a checkpoint of the engine was saved in the file of this name, where it is told what is saved
+-- a checkpoint of the engine was saved in the file of this name, where the saved files are known
 abbrev pub SavedMore : Option (List Saved) → Option (List Saved) → List ℕ → EngineView → Type 0
 SavedMore None after name e = Unit {0}
 SavedMore (Some before) after name e =

@@ -1,17 +1,17 @@
--- What a source tells of itself, and what a read does to it (meaning).
+-- The log of a source, and what a read does to it (meaning).
 use Rattle.std.specs.Prelude.{◌≡◌, ℕ, ◌≤◌, ◌<◌, List, length, take, Option, ◌==◌, ◌&&◌, nat_lt, if◌then◌else◌}
 use Rattle.std.specs.Io.KnownBytes.{Consumes, Keeps, IsAtEnd}
 use Rattle.giop_print.specs.Output.{counted}
 
--- the octets that are left, where they are told, and how many reads, failures and ends there were
+-- the octets that are left, where they are known, and how many reads, failures and ends there were
 pub record SourceLog : Type 0 where
   pub left : Option (List ℕ)
   pub reads : ℕ
   pub failures : ℕ
   pub ends : ℕ
 
--- a read put `given` octets at the front of what it was handed; of none into some room the count of ends rises, and
--- nothing is left then
+-- a read put `given` octets at the start of `into`; where it gave none and `into` isn't empty, the count of ends rises and
+-- nothing is left
 pub record Gave (before after : SourceLog) (into : List ℕ) (given : ℕ) : Type 0 where
   pub within : given ≤ length into
   pub left : Consumes before.left after.left (take given into)

@@ -1,4 +1,4 @@
-//! What the program does with a reader and an out, and its status.
+//! Runs an engine from a reader to an out that is flushed, and gives the program's status.
 
 ghost use Rattle.std.specs.Prelude.{◌≡◌, List, ℕ, [], true, Err, OnOk, IfOk};
 ghost use Rattle.giop_stream.specs.EngineHolds.{Holds};
@@ -12,7 +12,7 @@ use super::running::{Ending, Report, run_by};
 use giop_stream::{Engine, Totals};
 use std::io::Read;
 
-/// Dumps what the reader gives to an engine, and flushes the lines before each read and at the end.
+/// Feeds what the reader gives to an engine, and flushes the lines before each read and at the end.
 pub fn dump<'a, R: Read + Drop, O: Flush>(
     reader: R,
     out: &mut O,

@@ -1,4 +1,4 @@
-//! What can fail in a run and in the steps before it, as the program prints it.
+//! Why a run or a step of the program fails, as the program prints it.
 
 ghost use Rattle.std.specs.Prelude.{◌≡◌, ◌≢◌};
 ghost use Rattle.std.specs.IoError.{error_kind};
@@ -10,32 +10,32 @@ use std::io;
 use std::io::ErrorKind;
 use thiserror::Error;
 
-/// A read that failed. It gave nothing.
+/// A read failed, and gave no octets.
 #[derive(Clone, Copy, Debug, PartialEq, Eq, Error)]
 #[error("read failed")]
 pub struct SourceFault;
 
-/// Why a run came to no end. `Display` is what the program prints after its name.
+/// Why a run failed. `Display` is what the program prints after its name.
 #[derive(Clone, Copy, Debug, PartialEq, Eq, Error)]
 pub enum RunFault {
     /// The source failed.
     #[error("read failed")]
     Read = 1,
-    /// The source came to no end within the greatest number of reads.
+    /// The source didn't end within the greatest number of reads.
     #[error("too many reads")]
     Turns = 2,
     /// The out failed.
     #[error("write failed")]
     Out = 3,
-    /// The engine was handed in failed.
+    /// The engine was failed before the run.
     #[error("engine failed")]
     Failed = 4,
 }
 
-/// Why the program came to no end. `Display` is what it prints after its name (docs/FORMATS.md, The program).
+/// Why the program failed. `Display` is what it prints after its name (docs/FORMATS.md, The program).
 #[derive(Clone, Copy, Debug, Drop, PartialEq, Eq, Error)]
 pub enum ProgramFault<'a> {
-    /// A word of the command line is no text.
+    /// An argument of the command line is no text.
     #[error("a word of the command line is not UTF-8")]
     Words,
     /// The signature file is refused.
@@ -50,19 +50,19 @@ pub enum ProgramFault<'a> {
     /// A file can't be opened, or one that is read whole can't be read.
     #[error("{name}: cannot read")]
     Unreadable { name: &'a str },
-    /// The file for a checkpoint can't be written. What it held it holds.
+    /// The file for a checkpoint can't be written. It still holds what it held.
     #[error("{name}: cannot write")]
     Unwritable { name: &'a str },
     /// The run failed.
     #[error("{0}")]
     Run(RunFault),
-    /// No memory was left.
+    /// There wasn't enough memory.
     #[error("out of memory")]
     OutOfMemory,
 }
 
 impl<'a> ProgramFault<'a> {
-    /// Why the words of the command line can't be had.
+    /// The fault of arguments of the command line that can't be read.
     pub fn of_words(error: &io::Error) -> ProgramFault<'a>
         ensures text { error_kind error.now ≡ ErrorKind.InvalidData → result ≡ ProgramFault.Words }
         ensures memory { error_kind error.now ≢ ErrorKind.InvalidData
@@ -75,7 +75,7 @@ impl<'a> ProgramFault<'a> {
         }
     }
 
-    /// What the refusal of the signature file of this name is to the program.
+    /// The fault of a signature file of this name that is refused.
     pub fn of_signatures(name: &'a str, fault: SigFault) -> ProgramFault<'a>
         ensures memory { fault.kind ≡ SigFaultKind.OutOfMemory → result ≡ ProgramFault.OutOfMemory }
         ensures refused { fault.kind ≢ SigFaultKind.OutOfMemory
@@ -87,7 +87,7 @@ impl<'a> ProgramFault<'a> {
         ProgramFault::Signatures { name, fault }
     }
 
-    /// What the refusal of the request list of this name is to the program.
+    /// The fault of a request list of this name that is refused.
     pub fn of_requests(name: &'a str, fault: ListFault) -> ProgramFault<'a>
         ensures memory { fault.kind ≡ ListFaultKind.OutOfMemory → result ≡ ProgramFault.OutOfMemory }
         ensures refused { fault.kind ≢ ListFaultKind.OutOfMemory
@@ -99,7 +99,7 @@ impl<'a> ProgramFault<'a> {
         ProgramFault::Requests { name, fault }
     }
 
-    /// What the refusal of the checkpoint of this name is to the program.
+    /// The fault of a checkpoint of this name that is refused.
     pub fn of_checkpoint(name: &'a str, fault: LoadFault) -> ProgramFault<'a>
         ensures memory { fault ≡ LoadFault.OutOfMemory → result ≡ ProgramFault.OutOfMemory }
         ensures refused { fault ≢ LoadFault.OutOfMemory

@@ -17,13 +17,13 @@ use std::alloc::Global;
 use std::io;
 use std::io::{ErrorKind, Read};
 
-/// The greatest number of octets of a signature file. A longer text is refused by its reader.
+/// The greatest number of octets of a signature file. A longer text is refused by its parser.
 const SIGNATURES_MOST: u64 = 1_048_576;
 
-/// The greatest number of octets of a request list. A longer text is refused by its reader.
+/// The greatest number of octets of a request list. A longer text is refused by its parser.
 const REQUESTS_MOST: u64 = 16_777_216;
 
-/// What a reader gives up to its end, or the octets up to the first past the limit.
+/// What a reader gives up to its end, or up to the first octet past the limit.
 pub fn front<R: Read + Drop>(alloc: Global, reader: R, most: u64) -> io::Result<Vec<u8>>
     ensures { IfOk result (λ octets. IsFront most (R.remaining reader) octets.items) }
 {
@@ -33,7 +33,7 @@ pub fn front<R: Read + Drop>(alloc: Global, reader: R, most: u64) -> io::Result<
     Ok(octets)
 }
 
-/// Why a file of this name can't be read.
+/// The fault of a file of this name that can't be read.
 pub fn unreadable<'a>(name: &'a str, error: &io::Error) -> ProgramFault<'a>
     ensures memory { error_kind error.now ≡ ErrorKind.OutOfMemory → result ≡ ProgramFault.OutOfMemory }
     ensures named { error_kind error.now ≢ ErrorKind.OutOfMemory
@@ -46,7 +46,7 @@ pub fn unreadable<'a>(name: &'a str, error: &io::Error) -> ProgramFault<'a>
     }
 }
 
-/// What a file has, up to the first octet past the limit.
+/// What a file holds, up to the first octet past the limit.
 pub(crate) fn contents<'a, R: Inputs + AllocGlobal>(
     rt: &R,
     name: &'a str,
@@ -66,7 +66,7 @@ pub(crate) fn contents<'a, R: Inputs + AllocGlobal>(
     }
 }
 
-/// The catalogue of a signature file that has this text.
+/// The catalogue of a signature file with this text.
 fn catalogue_of<'a>(
     alloc: Global,
     name: &'a str,
@@ -85,7 +85,7 @@ fn catalogue_of<'a>(
     }
 }
 
-/// The catalogue of a signature file, or without one the built-in types.
+/// The catalogue of a signature file; without one, of the built-in types.
 pub fn catalogue<'a, R: Inputs + AllocGlobal>(
     rt: &R,
     name: Option<&'a str>,
@@ -105,7 +105,7 @@ pub fn catalogue<'a, R: Inputs + AllocGlobal>(
     catalogue_of(alloc, name, &text)
 }
 
-/// The list of a file that has this text.
+/// The request list of a file with this text.
 fn requests_of<'a>(
     alloc: Global,
     name: &'a str,
@@ -124,7 +124,7 @@ fn requests_of<'a>(
     }
 }
 
-/// The list of a file, or without one the empty list.
+/// The request list of a file; without one, the empty list.
 pub fn requests<'a, R: Inputs + AllocGlobal>(
     rt: &R,
     name: Option<&'a str>,

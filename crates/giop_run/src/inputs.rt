@@ -1,4 +1,4 @@
-//! Where the program's octets come from: files by their names, and standard input.
+//! Where the program reads octets from: files by their names, and standard input.
 
 ghost use Rattle.std.specs.Prelude.{◌≡◌, ℕ, List, Option, None, IfOk};
 
@@ -8,19 +8,19 @@ use std::io::{Read, Stdin};
 
 /// Files that can be opened by name, and standard input.
 pub trait Inputs {
-    /// A file that was opened.
+    /// An open file.
     type File: Read + Drop;
 
     /// Standard input.
     type Standard: Read + Drop;
 
-    /// What the file of a name holds, where that is told.
+    /// What the file of a name holds, where the contracts know it.
     ghost held: { Self → List ℕ → Option (List ℕ) };
 
-    /// What standard input gives, where that is told.
+    /// What standard input gives, where the contracts know it.
     ghost given: { Self → Option (List ℕ) };
 
-    /// Opens a file, of which nothing was read.
+    /// Opens a file; nothing was read of it.
     fn open(&self, name: &str) -> io::Result<Self::File>
         ensures { IfOk result (λ file. Self.File.remaining file ≡ held self.now name.now) };
 
@@ -29,7 +29,7 @@ pub trait Inputs {
         ensures { Self.Standard.remaining result ≡ given self.now };
 }
 
-/// The system's, which tells nothing of what they hold.
+/// Those of the system; the contracts don't know what they hold.
 impl Inputs for HostRuntime {
     type File = File;
 

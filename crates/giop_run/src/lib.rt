@@ -1,4 +1,4 @@
-//! Runs: octets from a source through an engine to an out, with the files that say how they are read.
+//! Runs: octets from a source through an engine to an out; and the files that a run reads and saves.
 #![tactic(auto)]
 
 mod console;

@@ -1,4 +1,4 @@
-//! Lines on their way to a writer, in a buffer.
+//! An out that buffers lines for a writer.
 
 ghost use Rattle.std.specs.Prelude.{◌≡◌, [], IfOk};
 ghost use Rattle.std.specs.Io.KnownBytes.{append_known};
@@ -9,11 +9,11 @@ use giop_print::{Out, OutFault};
 use std::alloc::{AllocError, Global};
 use std::io::{BufWriter, Write};
 
-// How many octets of lines a buffer holds.
+// How many octets the buffer holds.
 const ROOM: usize = 65_536;
 
-/// Lines on their way to a writer, which a buffer keeps back until they are flushed. It fails where its writer does, and
-/// where that takes nothing of some octets.
+/// An out that buffers lines for a writer until they are flushed. It fails where its writer does, and where that takes
+/// none of some octets.
 #[derive(Drop)]
 pub struct Lines<W: Write + Drop> {
     buffer: BufWriter<W>,
@@ -24,7 +24,7 @@ pub struct Lines<W: Write + Drop> {
 impl<W: Write + Drop> Lines<W> {
     ghost use Rattle.giop_run.specs.Buffered.{lines_log, lines_kept};
 
-    /// An empty buffer in front of the writer.
+    /// An empty buffer for this writer.
     pub fn new(alloc: Global, writer: W) -> Result<Lines<W>, AllocError>
         ensures log { IfOk result (λ lines. lines_log W.contents lines
             ≡ record { written = W.contents writer; puts = 0; failures = 0 }) }
@@ -40,7 +40,7 @@ impl<W: Write + Drop> Lines<W> {
         })
     }
 
-    /// The writer, which has what was written but for what the buffer keeps back.
+    /// The writer, which has what was put except for what is buffered.
     pub fn writer(&self) -> &W
         ensures { append_known (W.contents result.now) (lines_kept self.now)
             ≡ (lines_log W.contents self.now).written }

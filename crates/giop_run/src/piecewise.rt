@@ -1,4 +1,4 @@
-//! Octets in memory as a source, which gives a few at a time.
+//! Octets in memory as a source that gives a few at each read.
 
 ghost use Rattle.std.specs.Prelude.{◌≡◌, ◌≤◌, MatchResult, Ok, Some, length, min, take};
 ghost use Rattle.giop_run.specs.SourceLog.{Gave, ReadFailed};
@@ -6,7 +6,7 @@ ghost use Rattle.giop_run.specs.SourceLog.{Gave, ReadFailed};
 use super::fault::SourceFault;
 use super::source::{Source, one_more};
 
-/// A slice that is read from its front, at most `step` octets a read.
+/// A slice that is read from its start, at most `step` octets a read.
 #[derive(Drop)]
 pub struct Piecewise<'a> {
     left: &'a [u8],
@@ -44,7 +44,7 @@ impl<'a> Source for Piecewise<'a> {
         ensures read { MatchResult result
             (λ given. Gave (piecewise_log self.old) (piecewise_log self.new) into.new given)
             (λ _. ReadFailed (piecewise_log self.old) (piecewise_log self.new)) }
-        // It never fails, and gives as many octets as the rest, the step and the room allow.
+        // It never fails, and gives as many octets as the rest, the step and the length of `into` allow.
         ensures given { result ≡ Ok (min
             (min (length (piecewise_left self.old)) (piecewise_step self.old))
             (length into.old)) }
@@ -62,7 +62,7 @@ impl<'a> Source for Piecewise<'a> {
     }
 }
 
-/// Copies the octets to the front of a slice.
+/// Copies the octets to the start of a slice.
 fn copy_front(into: &mut [u8], octets: &[u8])
     requires { length octets.now ≤ length into.old }
     ensures { take (length octets.now) into.new ≡ octets.now }

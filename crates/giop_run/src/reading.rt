@@ -10,10 +10,10 @@ use super::source::{Source, one_more};
 use std::io;
 use std::io::{ErrorKind, Read};
 
-/// How often a read or a write is tried before it has failed: 2^16.
+/// How often a read or a write is tried until it fails: 2^16.
 pub(crate) const TRIES: u32 = 1 << 16;
 
-/// A reader, whose octets are told where the reader tells them.
+/// A reader as a source. The contracts know its octets where they know those of the reader.
 #[derive(Drop)]
 pub struct Reading<R: Read> {
     reader: R,
@@ -61,7 +61,7 @@ impl<R: Read> Source for Reading<R> {
     }
 }
 
-/// One read. It is tried again where it is interrupted, and gives up where it always is.
+/// One read. It is tried again where it is interrupted, and fails where every try is.
 pub(crate) fn retried<R: Read>(reader: &mut R, into: &mut [u8]) -> io::Result<usize>
     ensures within { ReadsAtMost result into.new }
     ensures octets { ReadConsumes (R.remaining reader.old) (R.remaining reader.new)

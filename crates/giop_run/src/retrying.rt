@@ -1,4 +1,4 @@
-//! Readers and writers of which a call may be interrupted.
+//! A reader or a writer whose interrupted calls are tried again.
 
 ghost use Rattle.std.specs.Prelude.{◌≡◌, ◌≢◌, IfErr};
 ghost use Rattle.std.specs.IoError.{error_kind};
@@ -9,8 +9,8 @@ use super::reading::{TRIES, retried};
 use std::io;
 use std::io::{ErrorKind, Read, Write};
 
-/// A reader or a writer that is tried again where it is interrupted, and fails where it always is, so that a call of the
-/// standard library that reads or writes all returns: of an interrupted call it gives up none.
+/// A reader or a writer that is tried again where it is interrupted, and fails where every try is. So a function of the
+/// standard library that reads or writes all, and that tries without end where a call is interrupted, returns.
 #[derive(Drop)]
 pub struct Retrying<S> {
     inner: S,
@@ -19,7 +19,7 @@ pub struct Retrying<S> {
 impl<S> Retrying<S> {
     ghost use Rattle.giop_run.specs.Retrying.{retrying_inner};
 
-    /// A patient reader or writer over one that may not be.
+    /// Wraps a reader or a writer.
     pub fn new(inner: S) -> Retrying<S>
         ensures { retrying_inner result ≡ inner }
     {

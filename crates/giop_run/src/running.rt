@@ -21,29 +21,29 @@ const TURNS: u64 = 1 << 40;
 /// How many octets a read may give.
 const ROOM: usize = 4096;
 
-/// What a run does at the stream's end.
+/// What a run does at its end.
 #[derive(Clone, Copy, Debug, PartialEq, Eq)]
 pub enum Ending {
     /// It writes the closing lines.
     Finish,
-    /// It writes none, and gives its engine back: the stream goes on with it, or with a checkpoint that it saves.
+    /// It writes none, and returns its engine: the stream is read on with it, or with a checkpoint that it saves.
     Keep,
 }
 
-/// What a run did.
+/// What a run returns.
 #[derive(Drop)]
 pub struct Report<'a> {
-    /// The totals of the stream: those of what was read by `Ending::Keep`.
+    /// The totals of the stream; with `Ending::Keep` those of what was read so far.
     pub totals: Totals,
-    /// The engine, which holds all that was read: none by `Ending::Finish`.
+    /// The engine, which holds all that was read; none with `Ending::Finish`.
     pub kept: Option<Engine<'a>>,
 }
 
 /// Reads the source to its end or to a stream fault, writes the lines of what it gave, and ends the stream, or keeps its
 /// engine.
 ///
-/// A stream that has a fault already is ended with no read. After a fault of the run what was written stays: the lines
-/// of all that was read, or after a failed put a front of them.
+/// A stream that has a stream fault already is ended without a read. Where the run fails, what was written stays: the
+/// lines of all that was read, or after a failed put a front of them.
 pub fn run<'a, S: Source, O: Out>(
     source: &mut S,
     out: &mut O,
@@ -63,7 +63,7 @@ pub fn run<'a, S: Source, O: Out>(
     run_by::<S, O, Nothing>(source, out, engine, ending)
 }
 
-/// A run that does `F` to its out before each read, so that a live stream shows its lines as they come, and at the end.
+/// A run that does `F` to its out before each read and at the end, so that the lines of a live stream are seen at once.
 /// A flush that fails is a failed put.
 pub(crate) fn run_by<'a, S: Source, O: Out, F: Between<O>>(
     source: &mut S,
@@ -87,7 +87,7 @@ pub(crate) fn run_by<'a, S: Source, O: Out, F: Between<O>>(
     close::<O, F>(engine, out, ending)
 }
 
-/// Feeds all that the source gives, up to its end or to a stream fault. A stream that has a fault already is fed nothing.
+/// Feeds all that the source gives, up to its end or to a stream fault; nothing to a stream that has a fault already.
 fn feed_all<S: Source, O: Out, F: Between<O>>(
     source: &mut S,
     out: &mut O,
@@ -129,7 +129,7 @@ fn flush<O: Out, F: Between<O>>(out: &mut O) -> Result<(), RunFault>
     }
 }
 
-/// One read, and the feed of what it gave: whether the stream goes on.
+/// Reads once, and feeds what the read gave; returns whether the stream goes on.
 fn read_and_feed<S: Source, O: Out>(
     source: &mut S,
     out: &mut O,
@@ -154,7 +154,7 @@ fn read_and_feed<S: Source, O: Out>(
     feed(engine, &buffer[..given], out)
 }
 
-/// One read, with what the type of the buffer says of its octets.
+/// Reads once, with a contract that the buffer has octets, which follows from its type.
 fn read<S: Source>(source: &mut S, buffer: &mut [u8]) -> Result<usize, SourceFault>
     ensures gave { MatchResult result
         (λ given. Gave (S.log source.old) (S.log source.new) buffer.new given)
@@ -164,7 +164,7 @@ fn read<S: Source>(source: &mut S, buffer: &mut [u8]) -> Result<usize, SourceFau
     source.read(buffer)
 }
 
-/// Feeds a piece: whether the stream goes on.
+/// Feeds a piece; returns whether the stream goes on.
 fn feed<O: Out>(engine: &mut Engine, piece: &[u8], out: &mut O) -> Result<bool, RunFault>
     ensures fed { (p : List ℕ) → Holds engine.old p
         → Fed (rules_of engine.old) result p piece.now engine.new (O.log out.old) (O.log out.new) }
@@ -183,7 +183,7 @@ fn feed<O: Out>(engine: &mut Engine, piece: &[u8], out: &mut O) -> Result<bool, 
     }
 }
 
-/// Ends a run as it is to end.
+/// Ends a run, by its `Ending`.
 fn close<'a, O: Out, F: Between<O>>(
     engine: Engine<'a>,
     out: &mut O,

@@ -1,4 +1,4 @@
-//! Where checkpoints are saved: files by their names.
+//! Saves checkpoints in files.
 
 ghost use Rattle.std.specs.Prelude.{List, Option, None};
 ghost use Rattle.giop_run.specs.Saving.{Saved, SavesOne};
@@ -10,17 +10,17 @@ use std::fs::{File, Permissions};
 use std::io::ErrorKind;
 use std::{fs, io};
 
-/// Files that checkpoints are saved in.
+/// Files in which checkpoints can be saved.
 pub trait Saves {
-    /// The files that were saved, where that is told.
+    /// The files that were saved, where the contracts know them.
     ghost saved: { Self → Option (List Saved) };
 
-    /// Saves the checkpoint of an engine in the file of a name. An `Err` leaves a plain file of that name as it was.
+    /// Saves the checkpoint of an engine in the file of this name. An `Err` leaves a plain file of that name as it was.
     fn save(&mut self, name: &str, engine: &Engine) -> io::Result<()>
         ensures { SavesOne result (saved self.old) (saved self.new) name.now engine.now };
 }
 
-/// The system's files, which tell nothing.
+/// The files of the system; the contracts don't know what they hold.
 #[derive(Drop)]
 pub struct Disk<'a> {
     rt: &'a HostRuntime,
@@ -44,20 +44,20 @@ impl Saves for Disk<'_> {
                 engine,
                 Some(found.permissions()),
             ),
-            // A device or a pipe has no old octets, and keeps its name.
+            // A device or a pipe holds no old octets, and can't be replaced by another file.
             Ok(_) => put_into(&File::create(self.rt, name)?, engine),
             Err(_) => replaced(self.rt, name, engine, None),
         }
     }
 }
 
-/// How many octets the name of a file may have for the system, with the zero behind it.
+/// How many octets the system allows in the name of a file, with the zero after it.
 const NAME_ROOM: usize = 4096;
 
-/// What stands behind a file's name in the name of the file that takes its place.
+/// What is added to a file's name in the name of the file that replaces it.
 const SUFFIX: [u8; 14] = *b".giopdump-part";
 
-/// Writes the checkpoint beside the file, and then gives it its name.
+/// Writes the checkpoint to another file, and renames that to the name of this one.
 fn replaced(
     rt: &HostRuntime,
     name: &str,
@@ -68,7 +68,7 @@ fn replaced(
     let Some(beside) = beside(name, &mut room) else {
         return Err(io::Error::from(ErrorKind::InvalidInput));
     };
-    // One that is left of a save that was broken off.
+    // An interrupted save may have left such a file.
     let _ = fs::remove_file(rt, beside);
     let renamed = match written(rt, beside, engine, permissions) {
         Ok(()) => fs::rename(rt, beside, name),
@@ -80,7 +80,7 @@ fn replaced(
     renamed
 }
 
-/// Writes a new file.
+/// Writes the checkpoint to a new file.
 fn written(
     rt: &HostRuntime,
     name: &str,
@@ -104,7 +104,7 @@ fn put_into(file: &File, engine: &Engine) -> io::Result<()> {
     }
 }
 
-/// The name of the file beside one.
+/// The name of the file that replaces another.
 fn beside<'r>(name: &str, room: &'r mut [u8; NAME_ROOM]) -> Option<&'r str> {
     let octets = name.as_bytes();
     if octets.len() > NAME_ROOM - SUFFIX.len() {

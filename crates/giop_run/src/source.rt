@@ -1,4 +1,4 @@
-//! Where a run gets its octets: a source gives some at each read, and counts its reads.
+//! Where a run reads its octets: a source gives some at each read, and counts its reads.
 
 ghost use Rattle.std.specs.Prelude.{◌≡◌, MatchResult};
 ghost use Rattle.giop_print.specs.Output.{counted};
@@ -6,19 +6,19 @@ ghost use Rattle.giop_run.specs.SourceLog.{SourceLog, Gave, ReadFailed};
 
 use super::fault::SourceFault;
 
-/// Something that gives octets, read by read.
+/// Gives octets, some at each read.
 pub trait Source {
-    /// The octets that are left, where the source tells them, and how many reads, failures and ends there were.
+    /// The octets that are left, where the contracts know them, and how many reads, failures and ends there were.
     ghost log: { Self → SourceLog };
 
-    /// Puts the next octets at the front of `into`, and says how many. None into some room is the end.
+    /// Puts the next octets at the start of `into`, and returns how many. None where `into` isn't empty is the end.
     fn read(&mut self, into: &mut [u8]) -> Result<usize, SourceFault>
         ensures read { MatchResult result
             (λ given. Gave (log self.old) (log self.new) into.new given)
             (λ _. ReadFailed (log self.old) (log self.new)) };
 }
 
-/// One more, in a count that stays at its greatest.
+/// A count plus one; the greatest count stays the same.
 #[tactic(auto, unfolding(giop_print::specs::Output::counted))]
 pub(crate) fn one_more(count: u64) -> u64
     ensures { result ≡ counted count }

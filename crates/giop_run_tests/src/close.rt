@@ -1,5 +1,5 @@
 //! What the tests have in common: the types by which streams are read, octets of hexadecimal text, and a
-//! CloseConnection.
+//! CloseConnection with its lines.
 
 ghost use Rattle.std.specs.Prelude.{◌≡◌, false, IfOk};
 ghost use Rattle.giop_stream.specs.EngineHolds.{AreOf};
@@ -9,7 +9,7 @@ use giop_stream::Engine;
 use std::alloc::{AllocError, Global};
 use std::test::Fail;
 
-/// The built-in types, and the list of no request.
+/// The built-in types, and an empty request list.
 pub fn built_in(alloc: Global) -> Result<(Catalogue, Requests), Fail>
     ensures { IfOk result (λ known. AreOf known.0 known.1) }
 {
@@ -18,7 +18,7 @@ pub fn built_in(alloc: Global) -> Result<(Catalogue, Requests), Fail>
     Ok((catalogue, requests))
 }
 
-/// A new engine, of 16 open messages.
+/// A new engine, for at most 16 open messages.
 pub fn engine<'a>(
     alloc: Global,
     catalogue: &'a Catalogue,
@@ -31,7 +31,7 @@ pub fn engine<'a>(
     Ok(engine)
 }
 
-/// The octets of hexadecimal text, in which spaces stand anywhere.
+/// The octets of hexadecimal text, with spaces anywhere.
 pub fn octets(alloc: Global, text: &str) -> Result<Vec<u8>, AllocError> {
     let mut octets = Vec::new(alloc);
     let mut high = None;
@@ -39,7 +39,7 @@ pub fn octets(alloc: Global, text: &str) -> Result<Vec<u8>, AllocError> {
         let digit = digit.to_digit(16).unwrap_or(0);
         match high.take() {
             None => high = Some(digit),
-            // A digit is below 16: the remainders tell that to the check.
+            // A digit is below 16; the remainders show that to the check.
             Some(first) => octets.push((first % 16 * 16 + digit % 16) as u8)?,
         }
     }
@@ -54,7 +54,7 @@ pub const CLOSED: &[u8] = b"m1 start 1.0 big CloseConnection size 0\n\
 m1 end\n\
 total messages 1 faults 0 octets 12\n";
 
-/// How many octets the lines before the closing have.
+/// How many octets its lines before the closing have.
 pub const COMPLETED: usize = 47;
 
 /// What can't be the start of a header.
@@ -64,5 +64,5 @@ pub const WRONG: &[u8] = b"GIOQ";
 pub const REFUSED: &[u8] = b"stream fault magic at 4\n\
 total messages 0 faults 1 octets 4\n";
 
-/// The lines of no octets.
+/// The lines of a stream without octets.
 pub const NOTHING: &[u8] = b"total messages 0 faults 0 octets 0\n";

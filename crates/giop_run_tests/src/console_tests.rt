@@ -1,4 +1,4 @@
-//! Lines that are buffered: when they are flushed, and what a flush or a read that fails leaves.
+//! Buffered lines: when they are flushed, and what is written where a flush or a read fails.
 
 ghost use Rattle.giop_stream.specs.EngineHolds.{AreOf};
 
@@ -21,7 +21,7 @@ fn status_of(dumped: Result<Totals, RunFault>) -> u8 {
     }
 }
 
-/// Dumps what a reader gives to the stream's end: its totals.
+/// Dumps what a reader gives up to the stream's end; returns the totals.
 fn finished<R: Read + Drop, O: Flush>(
     reader: R,
     out: &mut O,
@@ -33,8 +33,8 @@ fn finished<R: Read + Drop, O: Flush>(
     }
 }
 
-/// A reader that gives a CloseConnection whole at its first read, and fails at its second unless its lines are
-/// written then.
+/// A reader that gives a whole CloseConnection at its first read, and fails at its second unless the lines are written
+/// by then.
 #[derive(Drop)]
 struct WatchingReader<'a> {
     reads: usize,
@@ -56,7 +56,7 @@ impl Read for WatchingReader<'_> {
     }
 }
 
-/// Dumps what a reader gives that watches the lines: whether it saw them in time.
+/// Dumps what such a reader gives; returns whether it saw the lines in time.
 fn is_watched(
     rt: &impl AllocGlobal,
     catalogue: &Catalogue,
@@ -125,7 +125,7 @@ fn the_status_says_whether_a_fault_was_counted(rt: HostRuntime) -> Result<(), Fa
     each_status(&rt, &known.0, &known.1)
 }
 
-/// Dumps a CloseConnection by reads of an octet, of which one may fail, over a writer of which one write may.
+/// Dumps a CloseConnection by reads of an octet, of which one may fail, to a writer of which one write may fail.
 fn dump_by_octets(
     rt: &impl AllocGlobal,
     catalogue: &Catalogue,

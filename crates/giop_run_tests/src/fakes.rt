@@ -1,5 +1,4 @@
-//! A reader and a writer that fail at a call of the test's choice, a reader that is interrupted, and one without an
-//! end.
+//! A reader and a writer that fail at a chosen call, a reader that is interrupted, and one without an end.
 
 use std::cell::{Cell, RefCell};
 use std::io;
@@ -41,7 +40,7 @@ impl Read for FailingReader<'_> {
     }
 }
 
-/// A reader that counts its reads, and is interrupted at so many of them before it gives all that it has.
+/// A reader that counts its reads, and of which the first so many are interrupted; the next gives all that it has.
 #[derive(Drop)]
 pub struct InterruptedReader<'a> {
     left: &'a [u8],

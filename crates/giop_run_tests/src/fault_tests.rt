@@ -1,4 +1,4 @@
-//! What the program says of what it refuses or can't read.
+//! The texts and the statuses of the program's faults.
 
 use giop_run::{ProgramFault, RunFault, unreadable};
 use giop_sig::{ListFault, ListFaultKind, SigFault, SigFaultKind};

@@ -1,4 +1,4 @@
-//! How much is read of a file.
+//! How much of a file is read, and what a failing or interrupted read of it does.
 
 use super::fakes::{EndlessReader, FailingReader, InterruptedReader};
 use giop_run::front;
@@ -39,7 +39,7 @@ fn a_file_of_which_a_read_fails_is_not_read(rt: HostRuntime) {
     }
 }
 
-/// Reads a text of three octets from a reader of which the first reads are interrupted.
+/// Reads a text of three octets from a reader whose first reads are interrupted.
 fn tries_again(rt: &(impl Abort + AllocGlobal), interrupts: usize) {
     let reads = Cell::new(0);
     let reader = InterruptedReader::new(b"abc", &reads, interrupts);

@@ -1,4 +1,4 @@
-//! Tests of runs, of the files that are read whole, and of the program's words and steps.
+//! Tests of runs, of the files that are read whole, and of the program's arguments and steps.
 #![tactic(auto)]
 
 #[cfg(test)]

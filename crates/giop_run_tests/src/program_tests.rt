@@ -1,4 +1,4 @@
-//! The program's steps on files: its lines, what it says, and its status.
+//! The program's steps on files: its lines, what it prints of a fault, and its status.
 
 ghost use Rattle.std.specs.Prelude.{None};
 
@@ -14,7 +14,7 @@ use std::process::Abort;
 use std::test::Fail;
 use std::{fs, io};
 
-/// The texts of files: the name in a line, and the text up to a line of `=`.
+/// The files: the name of each in a line, and its text up to a line of `=`.
 static FILES: &str = "\
 lab.sig
 signatures 1;
@@ -38,7 +38,7 @@ empty.txt
 =
 ";
 
-/// The octets of streams in hexadecimal text, behind their names.
+/// The octets of streams in hexadecimal text, each after its name.
 static STREAMS: &str = "\
 set.giop 47494f50 0100 00 00 00000024 00000000 00000007 01 000000 00000002 6b31 0000 \
     00000004 73657400 00000000 fffffffb
@@ -64,10 +64,10 @@ limit.check 47494f50 44554d50 00000002 00000000 00000000 00000000 00000000 00000
     00000000 00000000 00000000 00000000
 ";
 
-/// Cases: the signature file, the request list, the checkpoint to go on from, the file to save and the stream that are
-/// asked for; the status, and what is printed behind the program's name; the lines, up to a line of `=`. Files that can't
-/// be opened are missing, and a directory can be opened and not read. The first step that fails decides. What a case
-/// saves the later ones go on from.
+/// Cases: the signature file, the request list, the checkpoint to load, the file to save and the stream that are asked
+/// for; the status, and what is printed after the program's name; the lines, up to a line of `=`. Files that can't be
+/// opened are missing, and a directory can be opened and not read. The first step that fails determines the status.
+/// Later cases load what earlier ones saved.
 static CASES: &str = "\
 lab.sig _ _ _ set.giop
 0
@@ -252,7 +252,7 @@ fn asked(line: &str) -> Arguments {
     }
 }
 
-/// Whether the program ended with this status, and said this.
+/// Whether the program ended with this status, and printed this.
 fn is_told(
     alloc: Global,
     ended: &Result<Totals, ProgramFault>,
@@ -269,7 +269,7 @@ fn is_told(
 
 const STATUSES: [&str; 6] = ["0", "1", "2", "3", "4", "5"];
 
-/// Whether a case ends as it says: its lines, its status, and what is printed.
+/// Whether a case has its lines, its status and what it prints.
 fn is_performed(rt: &HostRuntime, case: &str) -> Result<bool, Fail> {
     let mut parts = case.splitn(3, '\n');
     let asked = asked(parts.next().unwrap_or(""));
@@ -352,7 +352,7 @@ impl Saves for Unwritable {
     }
 }
 
-/// Performs the steps on an empty stream, and says how many octets were to be saved.
+/// Performs the steps on an empty stream; returns whether they succeeded, and how many octets were to be saved.
 fn tries_to_save(rt: &HostRuntime, save: Option<&str>) -> Result<(bool, usize), Fail> {
     fs::write(rt, "nothing.giop", b"".as_slice())?;
     let asked = Arguments {

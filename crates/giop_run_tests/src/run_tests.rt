@@ -1,4 +1,4 @@
-//! Runs over sources and outs that fail at each call in turn.
+//! Runs from sources and to outs that fail at one call, for each call.
 
 ghost use Rattle.giop_stream.specs.EngineHolds.{AreOf};
 
@@ -12,7 +12,7 @@ use std::cell::{Cell, RefCell};
 use std::process::Abort;
 use std::test::Fail;
 
-/// Runs a source to the stream's end: its totals.
+/// Runs a source to the stream's end; returns the totals.
 fn finished<S: Source, O: Out>(
     source: &mut S,
     out: &mut O,
@@ -24,7 +24,7 @@ fn finished<S: Source, O: Out>(
     }
 }
 
-/// Runs what a reader gives, all of it at its first read.
+/// Runs what a reader gives, which gives all of it at its first read.
 fn reads(rt: &impl Abort, engine: Engine, stream: &[u8], want: &[u8]) {
     let mut room = [0; 512];
     let mut sheet = Sheet::new(&mut room);
@@ -134,7 +134,7 @@ fn interrupt_differs(
     }
 }
 
-/// Runs a CloseConnection from a reader of which the first reads are interrupted.
+/// Runs a CloseConnection from a reader whose first reads are interrupted.
 fn tries_again(rt: &impl Abort, engine: Engine, interrupts: usize) {
     let mut room = [0; 512];
     let mut sheet = Sheet::new(&mut room);
@@ -176,7 +176,7 @@ fn put_differs(ran: Result<Totals, RunFault>, held: &[u8]) -> &'static str {
     }
 }
 
-/// Runs a CloseConnection over an out of which one write fails, and says whether the run came to its end.
+/// Runs a CloseConnection to an out of which one write fails; returns whether the run succeeded.
 fn fails_at_a_put(rt: &(impl Abort + AllocGlobal), engine: Engine, fails_at: usize) -> bool {
     let held = RefCell::new(Vec::new(rt.alloc()));
     let mut out = Written::new(FailingWriter::new(&held, fails_at));
@@ -213,7 +213,7 @@ fn a_failing_put_ends_the_run_and_keeps_a_front(rt: HostRuntime) -> Result<(), F
     each_put_fails(&rt, &known.0, &known.1)
 }
 
-/// What differs in an engine of which a put failed.
+/// What differs in an engine after a failed put.
 fn failed_differs(engine: &Engine, fed: Result<Status, Stop>) -> &'static str {
     if !matches!(fed, Err(Stop::Out(_))) {
         return "the answer";
@@ -230,7 +230,7 @@ const NO_TOTALS: Totals = Totals {
     octets: 0,
 };
 
-/// Feeds a CloseConnection to an engine over too little room, and then runs that engine over a wide sheet.
+/// Feeds a CloseConnection to an engine with too little room for its lines, and then runs that engine with enough.
 fn fails_for_good(rt: &impl Abort, engine: Engine, room: usize) {
     let mut engine = engine;
     let mut octets = [0; COMPLETED];
@@ -243,7 +243,7 @@ fn fails_for_good(rt: &impl Abort, engine: Engine, room: usize) {
     reads_nothing(rt, engine);
 }
 
-/// Runs an engine that is failed.
+/// Runs a failed engine.
 fn reads_nothing(rt: &impl Abort, engine: Engine) {
     let mut wide = [0; 512];
     let mut sheet = Sheet::new(&mut wide);

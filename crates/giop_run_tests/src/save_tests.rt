@@ -1,4 +1,4 @@
-//! Runs that keep their engine in place of ending their stream, and what it saves.
+//! Runs that keep their engine instead of ending the stream, and what the engine saves.
 
 ghost use Rattle.giop_stream.specs.EngineHolds.{AreOf};
 
@@ -12,7 +12,7 @@ use std::cell::Cell;
 use std::process::Abort;
 use std::test::Fail;
 
-/// What is read, the lines of it, how many faults it has, and the checkpoint.
+/// A row: the octets that are read, their lines, how many faults they have, and the checkpoint.
 type Row = (&'static [u8], &'static [u8], u64, &'static str);
 
 /// No octets, half a header, a message, and a stream fault.
@@ -103,7 +103,7 @@ fn a_saved_stream_has_its_lines_and_no_closing(rt: HostRuntime) -> Result<(), Fa
     each_row(&rt, &known.0, &known.1)
 }
 
-/// Runs a CloseConnection that is to be kept over an out with so little room.
+/// Runs a CloseConnection to an out with so little room, where the engine should be kept.
 fn keeps_nothing(rt: &impl Abort, engine: Engine, room: usize) {
     let mut octets = [0; COMPLETED];
     let mut sheet = Sheet::new(&mut octets[..room.min(COMPLETED)]);
@@ -131,7 +131,7 @@ fn a_failing_put_keeps_nothing(rt: HostRuntime) -> Result<(), Fail> {
     each_room(&rt, &known.0, &known.1)
 }
 
-/// Runs a CloseConnection that is to be kept by reads of an octet, of which one of thirteen fails.
+/// Runs a CloseConnection by reads of an octet, of which one of thirteen fails, where the engine should be kept.
 fn reads_nothing(rt: &impl Abort, engine: Engine, fails_at: usize) {
     let mut room = [0; 512];
     let mut sheet = Sheet::new(&mut room);
@@ -163,7 +163,7 @@ fn a_failing_read_keeps_nothing(rt: HostRuntime) -> Result<(), Fail> {
     each_read(&rt, &known.0, &known.1)
 }
 
-/// Runs a CloseConnection in two parts, with a checkpoint between them.
+/// Runs a CloseConnection in two parts, and saves and loads a checkpoint between them.
 fn goes_on(
     rt: &(impl Abort + AllocGlobal),
     catalogue: &Catalogue,

@@ -1,4 +1,4 @@
-//! The program's words.
+//! The program's arguments: what they ask for, and why they are refused.
 
 ghost use Rattle.std.specs.Prelude.{◌≤◌};
 ghost use Rattle.giop_stream.specs.Rules.{most_open};
@@ -10,8 +10,8 @@ use std::alloc::{AllocError, Global};
 use std::process::Abort;
 use std::test::Fail;
 
-/// Words behind the program's name, and behind `>` the signature file, the request list, the checkpoint to go on from, the
-/// file to save, the stream and perhaps the number of open messages that they ask for, or why nothing is read.
+/// Arguments after the program's name, and after `>` the signature file, the request list, the checkpoint to load, the
+/// file to save, the stream and perhaps the number of open messages that they ask for, or why they are refused.
 static WORDS: &str = "\
 > _ _ _ _ _
 one.giop > _ _ _ _ one.giop
@@ -52,7 +52,7 @@ one.giop --open=4096 > _ _ _ _ one.giop 4096
 --open 1 --open 2 > conflict
 ";
 
-/// The file that a word names.
+/// The file that a word of a row names.
 fn file_of<'a>(word: Option<&'a str>) -> Option<&'a str> {
     match word {
         Some("_") => None,
@@ -60,7 +60,7 @@ fn file_of<'a>(word: Option<&'a str>) -> Option<&'a str> {
     }
 }
 
-/// How many messages may be open by a word, 16 where there is none.
+/// How many messages may be open by a word of a row; 16 without one.
 pub fn number_of(word: Option<&str>) -> u32
     ensures { (1 ≤ result) × (result ≤ most_open) }
 {
@@ -70,7 +70,7 @@ pub fn number_of(word: Option<&str>) -> u32
     }
 }
 
-/// What is wanted of some words: the files, or the kind of what is printed and the status.
+/// What is expected of some arguments: what they ask for, or the kind of what is printed and the status.
 fn wanted(text: &str) -> Result<Arguments, (WordsKind, i32)> {
     match text {
         "help" => Err((WordsKind::DisplayHelp, 0)),
@@ -83,7 +83,7 @@ fn wanted(text: &str) -> Result<Arguments, (WordsKind, i32)> {
     }
 }
 
-/// The files that a row wants, in order, and the number.
+/// The files that a row expects, in order, and the number of open messages.
 fn files_of(text: &str) -> Arguments {
     let mut words = text.split(' ');
     Arguments {
@@ -96,7 +96,7 @@ fn files_of(text: &str) -> Arguments {
     }
 }
 
-/// The program's name, and the words behind it.
+/// The program's name, and the arguments after it.
 fn named(alloc: Global, given: &str) -> Result<Vec<String>, AllocError> {
     let mut words = Vec::new(alloc);
     words.push(String::from_str(alloc, "giopdump")?)?;
@@ -106,7 +106,7 @@ fn named(alloc: Global, given: &str) -> Result<Vec<String>, AllocError> {
     Ok(words)
 }
 
-/// Whether words ask for what is wanted.
+/// Whether arguments ask for what is expected.
 fn asks(alloc: Global, words: &[String], want: &str) -> bool {
     let asked = match Arguments::read(alloc, words) {
         Ok(asked) => Ok(asked),

@@ -124,7 +124,7 @@ no_effect c = record { tracked = c; lines = [] }
 abbrev pub then_effect : Effect → Effect → Effect
 then_effect one more = record { tracked = more.tracked; lines = one.lines ++ more.lines }
 
--- a line in front of an effect
+-- an effect with this line before its own
 abbrev pub line_effect : Line → Effect → Effect
 line_effect line effect = record { tracked = effect.tracked; lines = line ∷ effect.lines }
 

@@ -15,7 +15,7 @@ use Rattle.giop_stream.specs.Events.{MessageKey, Event, Open, Rising, id, messag
 use Rattle.giop_stream.specs.Effects.{Tracked, tracked_after, with_octet}
 use Rattle.giop_stream.specs.SlotsRepresent.{SlotsRepresent}
 
--- the first message of an open one
+-- the message that an open joined message begins with
 abbrev pub opener_key : Option Open → Option MessageKey
 opener_key None = None
 opener_key (Some o) = Some o.opener

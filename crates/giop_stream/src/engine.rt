@@ -25,7 +25,7 @@ use std::marker::Model;
 
 /// Reads one direction of a connection in pieces of any size, and writes its lines, each at the octet that completes it:
 /// by the types of a catalogue, and by what is known of the requests that its replies answer. Once it is made or loaded it
-/// takes no memory.
+/// allocates nothing.
 #[derive(Drop)]
 pub struct Engine<'a> {
     catalogue: &'a Catalogue,
@@ -84,8 +84,8 @@ impl<'a> Engine<'a> {
         })
     }
 
-    /// The engine that a checkpoint was saved of, by the same types and the same list: it goes on from there. From any
-    /// other octets that pass the checks it is an engine that is safe to use (docs/FORMATS.md, Checkpoints). Room for as
+    /// The engine that a checkpoint was saved of, with the same types and the same list; it reads on from there. From
+    /// other octets that pass the checks, an engine that is safe to use (docs/FORMATS.md, Checkpoints). Room for as
     /// many open messages as it allows is made here, after the check of its length.
     pub fn load(
         alloc: Global,
@@ -164,7 +164,7 @@ impl<'a> Engine<'a> {
             → StopWrites result (O.log out.old) (O.log out.new) (closing (rules_of self.entry) p) }
         ensures totals { (p : List ℕ) → Holds self.entry p →
             IfOk result (λ t. t ≡ final (rules_of self.entry) p) }
-        // A failed engine writes nothing, and no other answers that it was failed.
+        // A failed engine writes nothing, and only a failed one returns `Failed`.
         ensures failed { self.entry.failed ≡ true →
             (result ≡ Err Stop.Failed) × (O.log out.new ≡ O.log out.old) }
         ensures sound { result ≡ Err Stop.Failed → self.entry.failed ≡ true }
@@ -178,8 +178,8 @@ impl<'a> Engine<'a> {
         }
     }
 
-    /// Writes the checkpoint of what was read, and returns how many octets it has (docs/FORMATS.md, Checkpoints). A failed
-    /// put leaves the engine as it was.
+    /// Writes the checkpoint of what was read, and returns how many octets it has (docs/FORMATS.md, Checkpoints). A
+    /// failed put leaves the engine as it was.
     pub fn save<O: Out>(&self, out: &mut O) -> Result<u64, Stop>
         // It is a checkpoint of each stream that the engine holds; if a put fails, a front of it was written.
         ensures saves { (p : List ℕ) → Holds self.now p →
@@ -237,7 +237,7 @@ pub fn any_pieces()
 
 /// A stream is read on from a checkpoint of its front as if the reading had never ended, and each checkpoint is small.
 pub fn remaining()
-    // The text of the front, and what is written of the octets after it and at their end, are all that is written of both.
+    // The text of the front, and what is written of the octets after it and at their end, are all that is written.
     ensures text { (C : Table) (l : RequestTable) (n : ℕ) (octets p q : List ℕ) → Spells octets C l n p →
         text (rules C l n) p ++ remaining (rules C l n) p q
         ≡ whole_text (rules C l n) (p ++ q) }

@@ -22,7 +22,7 @@ impl Framing {
     ghost use Rattle.giop_stream.specs.ViewOfState.{Shows, IsReached, Does};
     ghost use Rattle.giop_stream.specs.EngineHolds.{AreOf};
 
-    /// How many of the next octets only add to a message's contents: none is the last of its request id, or of the message.
+    /// How many of the next octets only add to a message's contents: none is the last of its request id or of it.
     fn payload_run(&self, room: usize) -> usize
         ensures within { result ≤ room }
         ensures full { 0 < result → length self.now.header.items ≡ 12 }
@@ -165,8 +165,8 @@ impl Framing {
     }
 }
 
-/// How many of so many octets of a payload, after so many others, come before the last one of its request id: all of them
-/// where the request id is complete.
+/// How many of the next octets of a payload, after so many others, come before the last one of its request id: all of
+/// them where the request id is complete.
 fn before_id(payload_count: u32, room: usize) -> usize
     ensures within { result ≤ room }
     ensures apart { payload_count < 4 → payload_count + result < 4 }

@@ -1,4 +1,4 @@
-//! The messages that have begun and not ended: the open ones in their slots, and the current one, whose payload comes.
+//! The messages that have begun and not ended: the open ones in their slots, and the current one, which is being read.
 
 ghost use Rattle.std.specs.Prelude.{◌≡◌, ◌+◌, ◌≤◌, ◌^◌, ℕ, [], length, Option, Some, None, OnOk, IfOk, if◌then◌else◌};
 ghost use Rattle.giop_print.specs.Output.{Writes};

@@ -12,7 +12,7 @@ CloseConnection = Row (read_by builtin [])
     ∷ [])
     (codes "total messages 1 faults 0 octets 12" ∷ [])
 
--- a Request of 1.2 in little order, with a double
+-- a little-endian 1.2 Request with a double
 abbrev pub LittleRequest : Type 0
 LittleRequest = Row (read_by puts [])
     (stream (codes "47494f50 0102 01 00 2c000000"

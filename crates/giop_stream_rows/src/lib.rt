@@ -10,7 +10,7 @@ ghost use Rattle.giop_stream_rows.specs.Checkpoints.{InAHeader, InAnOldHeader, I
 pub fn worked_streams()
     // A message without a header type ends at its own header.
     ensures close_connection { CloseConnection }
-    // A Request of 1.2 and little order, whose body is aligned to 8.
+    // A little-endian 1.2 Request, whose body is aligned to 8.
     ensures little_request { LittleRequest }
     // Two Requests whose fragments are interleaved.
     ensures interleaved { Interleaved }

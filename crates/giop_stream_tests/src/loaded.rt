@@ -94,7 +94,7 @@ fn saved(
     Ok(())
 }
 
-/// What is wrong with the text of a stream that is read by one engine up to `at`, and on from its checkpoint by another.
+/// What is wrong with the text of a stream that one engine reads up to `at`, and another from its checkpoint on.
 fn differs(
     alloc: Global,
     known: &(Catalogue, Requests),

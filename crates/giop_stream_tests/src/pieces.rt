@@ -37,7 +37,7 @@ m1 end
 total messages 1 faults 0 octets 116
 ";
 
-/// After how many octets it is cut: within the first part of the sequence, before and after its last octet, and one later.
+/// After how many octets it is cut: within the first part of the sequence, around its last octet, and one later.
 const CUTS: &[&[usize]] = &[&[], &[53], &[83], &[84], &[85], &[53, 83, 84, 85]];
 
 /// Feeds octets up to each of these places, and then the others.

@@ -1,4 +1,4 @@
--- What the run did, and the save behind it.
+-- What the run did, and the save after it.
 use Rattle.std.proofs.Common.{Ok, Err, refl, ap, ◌∙◌}
 use Rattle.std.proofs.lemmas.Result.{err_from_is_err_and}
 use Rattle.giop_run.specs.Performing.{task_of}

@@ -1,4 +1,4 @@
--- A run, by what its source tells that it has left.
+-- A run, by the octets that its source has left.
 use Rattle.std.proofs.Common.{ap}
 use Rattle.giop_run.proofs.TurnLemmas.{dumped_by}
 use Rattle.giop_run.proofs.console.dump.Goals as goal

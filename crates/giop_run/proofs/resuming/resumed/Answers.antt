@@ -1,4 +1,4 @@
--- The octets of the checkpoint's file are refused, or are gone on from.
+-- The octets of the checkpoint's file are refused, or loaded.
 use Rattle.giop_run.proofs.ResumeLemmas.{not_resumed, is_resumed}
 use Rattle.giop_run.proofs.resuming.resumed.Goals as goal
 

@@ -1,4 +1,4 @@
--- What the engine's clauses say of a piece, answer by answer.
+-- What the engine's clauses give for a piece, result by result.
 use Rattle.std.proofs.Common.{refl, ◌++◌, sym, ◌∙◌}
 use Rattle.giop_stream.specs.EngineHolds.{added}
 use Rattle.giop_run.proofs.TextLemmas.{is_running, is_stopped}

@@ -1,4 +1,4 @@
--- Each way out of the feed of all that a source gives, by the turns before it.
+-- Each outcome of feeding all that a source gives, from the reads and feeds before it.
 use Rattle.std.proofs.Common.{◌+◌, [], ◌++◌, ◌∙◌, refl, arith}
 use Rattle.std.proofs.lemmas.Result.{err_from_is_err_and}
 use Rattle.giop_run.proofs.TextLemmas.{adds_up}

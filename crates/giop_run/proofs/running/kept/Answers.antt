@@ -1,4 +1,4 @@
--- What the flush says of the end.
+-- What follows from the flush for the end of a run.
 use Rattle.std.proofs.lemmas.Result.{err_from_is_err_and}
 use Rattle.giop_run.proofs.TurnLemmas.{closed_kept, closed_unkept}
 use Rattle.giop_run.proofs.running.kept.Goals as goal

@@ -1,4 +1,4 @@
--- The type of the buffer says that its elements are octets.
+-- The elements of the buffer are octets, by its type.
 use Rattle.std.proofs.Common.{arith}
 use Rattle.giop_run.proofs.ReadLemmas.{octets-from}
 use Rattle.giop_run.proofs.running.read.Goals as goal

@@ -1,4 +1,4 @@
--- A run, by the feed of all that its source gave and the close behind it.
+-- A run, from the feed of all that its source gave and the close after it.
 use Rattle.std.proofs.lemmas.Result.{err_from_is_err_and}
 use Rattle.std.proofs.Common.{◌++◌}
 use Rattle.giop_run.proofs.TurnLemmas.{ran_failed, ran_closed}
