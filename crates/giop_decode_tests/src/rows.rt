@@ -1,12 +1,10 @@
-//! A row of a table: a value's octets, and what is expected of the decoder.
+//! A row of the table: a value's octets, and what is told of it.
 
 use giop_cdr::Order;
 use giop_print::Root;
 use giop_sig::TypeId;
 
-/// A value from its first octet to its last, at an offset of message 1, and what is expected. Each line of that has a
-/// number of octets taken first, and then a line, an answer other than that the value goes on, or the notes where these
-/// have changed.
+/// A value from its first octet to its last, at an offset of message 1.
 #[derive(Clone, Copy)]
 pub struct Row<'a> {
     pub name: &'a str,
@@ -16,28 +14,43 @@ pub struct Row<'a> {
     pub root: Root,
     /// In hexadecimal digits, where `xx*n` is n times.
     pub octets: &'a str,
-    pub want: &'a str,
+    /// Lines, each with how many octets were taken, the answer at the last of these, and what the readers tell from then
+    /// on: the request id, the status and the name, each `-` where there is none. The answer at any other octet is
+    /// `more`.
+    pub told: &'a str,
+    pub lines: &'a str,
 }
 
 /// The row that a text spells: a line with its name, one with its type's number, its byte order, its offset and its
-/// root, one with its octets, and what is expected.
+/// root, one with its octets, what is told, a line `lines`, and its lines.
 pub fn row_of(text: &str) -> Row {
     let mut parts = text.splitn(4, '\n');
     let name = parts.next().unwrap_or("");
     let mut place = parts.next().unwrap_or("").split(' ');
+    let of = TypeId(u32::from_str_radix(place.next().unwrap_or(""), 10).unwrap_or(0));
+    let order = order_of(place.next().unwrap_or(""));
+    let offset = u64::from_str_radix(place.next().unwrap_or(""), 10).unwrap_or(0);
+    let root = root_of(place.next().unwrap_or(""));
+    let octets = parts.next().unwrap_or("");
+    let (told, lines) = parts
+        .next()
+        .unwrap_or("")
+        .split_once("lines\n")
+        .unwrap_or(("", ""));
     Row {
         name,
-        of: TypeId(u32::from_str_radix(place.next().unwrap_or(""), 10).unwrap_or(0)),
-        order: order_of(place.next().unwrap_or("")),
-        offset: u64::from_str_radix(place.next().unwrap_or(""), 10).unwrap_or(0),
-        root: root_of(place.next().unwrap_or("")),
-        octets: parts.next().unwrap_or(""),
-        want: parts.next().unwrap_or(""),
+        of,
+        order,
+        offset,
+        root,
+        octets,
+        told,
+        lines,
     }
 }
 
 /// The byte order that a word names.
-pub fn order_of(word: &str) -> Order {
+fn order_of(word: &str) -> Order {
     if word == "little" {
         Order::Little
     } else {
@@ -46,7 +59,7 @@ pub fn order_of(word: &str) -> Order {
 }
 
 /// The root that a word names.
-pub fn root_of(word: &str) -> Root {
+fn root_of(word: &str) -> Root {
     if word == "header" {
         Root::Header
     } else if word == "exception" {

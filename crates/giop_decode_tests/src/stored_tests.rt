@@ -1,15 +1,12 @@
 //! Decoders in mid-value, stored in octets and restored from them.
-ghost use Rattle.std.specs.Prelude.{IfOk, IfSome, OnOk};
+ghost use Rattle.std.specs.Prelude.{IfSome};
 ghost use Rattle.giop_decode.specs.DecoderState.{Fits};
 
-use crate::declared_tests::parameters_of;
-use crate::octets::octets_of;
+use crate::octets::{front, spelled};
 use giop_cdr::Order;
 use giop_decode::{Decoder, Progress};
 use giop_print::{Root, Sheet};
 use giop_sig::{Catalogue, TypeId};
-use std::alloc::Global;
-use std::process::Abort;
 use std::test::Fail;
 
 /// A sequence of structs whose one member is an array: its parameters' type is numbered 44, the sequence 43, the struct
@@ -47,188 +44,201 @@ const HELD_TAKEN: &str = "00000010 01 07 ee*6 05 00*6";
 const HELD_STORED: &str =
     "00 02 0000000000000001 03 00 00000008 00000000 00000000 07 05 00*7 00 00*32 00*5 00*5 00 00 00*128 00*2 0000002b 00000000 00000001 00*12 0000002a 0000000f 00000010 02 00*11 00000029 00000001 00000002 00*12 00000008 00*20";
 
-/// A decoder of a value at offset 48 of message 1 that has taken octets.
-fn taken(catalogue: &Catalogue, of: TypeId, root: Root, octets: &[u8]) -> Result<Decoder, Fail>
-    ensures { IfOk result (λ d. Fits catalogue.now d) }
+/// The octets of a value that are taken first, what is stored then, and the answer and the lines at an octet more.
+#[derive(Clone, Copy)]
+struct Stored<'a> {
+    taken: &'a str,
+    stored: &'a str,
+    octet: u8,
+    answer: Progress,
+    lines: &'a str,
+}
+
+/// The struct of an operation's parameters.
+fn parameters_of(catalogue: &Catalogue, operation: &str) -> Option<TypeId> {
+    let operation = catalogue.operation(operation.as_bytes())?;
+    Some(catalogue.request_of(operation))
+}
+
+/// A decoder of a value at offset 48 of message 1 that has taken octets, and goes on.
+fn taken(catalogue: &Catalogue, of: TypeId, root: Root, octets: &[u8]) -> Option<Decoder>
+    ensures { IfSome result (λ d. Fits catalogue.now d) }
 {
     if !catalogue.has(of) {
-        return Err(Fail::from("no such type"));
+        return None;
     }
     let mut decoder = Decoder::start(catalogue, of, Order::Big, 48, 1, root);
     if decoder.is_done() {
-        return Err(Fail::from("done before any octet"));
+        return None;
     }
     let mut room = [0; 512];
     let mut sheet = Sheet::new(&mut room);
     match decoder.take_run(catalogue, octets, &mut sheet) {
-        Ok((_, Progress::More)) => Ok(decoder),
-        _ => Err(Fail::from("over before the last octet")),
+        Ok((_, Progress::More)) => Some(decoder),
+        _ => None,
     }
 }
 
-/// Takes an octet after which the value goes on.
-fn take(catalogue: &Catalogue, decoder: &mut Decoder, octet: u8) -> Result<(), Fail>
-    requires { Fits catalogue.now decoder.old }
-    ensures { OnOk result (Fits catalogue.now decoder.new) }
-{
-    let mut room = [0; 512];
-    let mut sheet = Sheet::new(&mut room);
-    match decoder.take(catalogue, octet, &mut sheet) {
-        Ok(Progress::More) => Ok(()),
-        _ => Err(Fail::from("over before its last octet")),
-    }
-}
-
-/// What is stored of a decoder: its own octets and those of its frames.
-fn stored_of(alloc: Global, decoder: &Decoder) -> Result<Vec<u8>, Fail> {
+/// Whether this is stored of a decoder: its own octets and those of its frames.
+fn is_stored_as(decoder: &Decoder, stored: &[u8]) -> bool {
     let mut fixed = [0; 208];
     let mut frames = [0; 576];
     let count = usize::from(decoder.store(&mut fixed, &mut frames));
-    let mut stored = Vec::new(alloc);
-    stored.extend_from_slice(&fixed)?;
-    stored.extend_from_slice(&frames[..24 * count])?;
-    Ok(stored)
+    match stored.split_first_chunk::<208>() {
+        Some((own, behind)) => fixed == *own && &frames[..24 * count] == behind,
+        None => false,
+    }
 }
 
 /// The decoder that is stored in octets.
-fn restored(catalogue: &Catalogue, stored: &[u8]) -> Result<Option<Decoder>, Fail>
-    ensures { IfOk result (λ o. IfSome o (λ d. Fits catalogue.now d)) }
+fn restored(catalogue: &Catalogue, stored: &[u8]) -> Option<Decoder>
+    ensures { IfSome result (λ d. Fits catalogue.now d) }
 {
-    if stored.len() < 208 {
-        return Err(Fail::from("too few octets"));
-    }
-    let mut fixed = [0; 208];
-    fixed.copy_from_slice(&stored[..208]);
-    Ok(Decoder::restore(catalogue, &fixed, &stored[208..]))
+    let (fixed, frames) = stored.split_first_chunk::<208>()?;
+    Decoder::restore(catalogue, fixed, frames)
 }
 
-/// Compares what is stored after octets with what is expected, and goes on from there by one octet more.
-fn goes_on(
-    rt: &(impl Abort + AllocGlobal),
-    catalogue: &Catalogue,
-    decoder: &Decoder,
-    want: &str,
-    octet: u8,
-    line: &str,
-) -> Result<(), Fail> {
-    let want = octets_of(rt.alloc(), want)?;
-    let stored = stored_of(rt.alloc(), decoder)?;
-    assert_eq!(rt;
-        stored.as_slice(),
-        want.as_slice(),
-        "stored in front of {line}"
-    );
-    let mut again = restored(catalogue, &stored)?.ok_or("a decoder")?;
-    let stored = stored_of(rt.alloc(), &again)?;
-    assert_eq!(rt;
-        stored.as_slice(),
-        want.as_slice(),
-        "stored again in front of {line}"
-    );
+/// What differs of a decoder that is stored and restored, or nothing.
+fn differs(catalogue: &Catalogue, of: TypeId, root: Root, wanted: &Stored) -> &'static str {
+    let mut room = [0; 512];
+    let count = spelled(wanted.taken, &mut room);
+    let Some(decoder) = taken(catalogue, of, root, front(&room, count)) else {
+        return "the answer to the octets";
+    };
+    let mut room = [0; 512];
+    let count = spelled(wanted.stored, &mut room);
+    let stored = front(&room, count);
+    if !is_stored_as(&decoder, stored) {
+        return "what is stored";
+    }
+    restored_differs(catalogue, stored, wanted)
+}
+
+/// What differs of the decoder that is restored from octets, or nothing.
+fn restored_differs(catalogue: &Catalogue, stored: &[u8], wanted: &Stored) -> &'static str {
+    let Some(mut again) = restored(catalogue, stored) else {
+        return "nothing is restored";
+    };
+    if !is_stored_as(&again, stored) {
+        return "what is stored again";
+    }
     let mut room = [0; 512];
     let mut sheet = Sheet::new(&mut room);
-    assert_eq!(rt;
-        again.take(catalogue, octet, &mut sheet),
-        Ok(Progress::Done),
-        "{line}"
-    );
-    assert_eq!(rt; str::from_utf8(sheet.held())?, line);
-    Ok(())
+    if again.take(catalogue, wanted.octet, &mut sheet) != Ok(wanted.answer) {
+        return "the answer to an octet more";
+    }
+    if sheet.held() != wanted.lines.as_bytes() {
+        return "the lines";
+    }
+    ""
+}
+
+/// What differs of the decoder of an operation's parameters, or nothing.
+fn parameters_differ(catalogue: &Catalogue, operation: &str, wanted: &Stored) -> &'static str {
+    match parameters_of(catalogue, operation) {
+        Some(of) => differs(catalogue, of, Root::Body, wanted),
+        None => "the operation",
+    }
 }
 
 #[test]
 fn a_decoder_in_an_array_in_a_sequence_is_restored(rt: HostRuntime) -> Result<(), Fail> {
     let catalogue = Catalogue::parse(rt.alloc(), DOTS)?;
-    let octets = octets_of(rt.alloc(), TAKEN)?;
-    let of = parameters_of(&catalogue, "add")?;
-    let decoder = taken(&catalogue, of, Root::Body, &octets)?;
-    goes_on(
-        &rt,
+    let differs = parameters_differ(
         &catalogue,
-        &decoder,
-        DOTS_STORED,
-        8,
-        "m1 body.dots[1].spot[1] short 8\n",
-    )
+        "add",
+        &Stored {
+            taken: TAKEN,
+            stored: DOTS_STORED,
+            octet: 8,
+            answer: Progress::Done,
+            lines: "m1 body.dots[1].spot[1] short 8\n",
+        },
+    );
+    assert!(rt; differs.is_empty(), "{differs}");
+    Ok(())
 }
 
 #[test]
 fn a_decoder_in_an_encapsulation_is_restored(rt: HostRuntime) -> Result<(), Fail> {
     let catalogue = Catalogue::parse(rt.alloc(), HELD)?;
-    let octets = octets_of(rt.alloc(), HELD_TAKEN)?;
-    let of = parameters_of(&catalogue, "enc")?;
-    let decoder = taken(&catalogue, of, Root::Body, &octets)?;
-    goes_on(
-        &rt,
+    let differs = parameters_differ(
         &catalogue,
-        &decoder,
-        HELD_STORED,
-        0,
-        "m1 body.e.b ulonglong 5\n",
-    )
+        "enc",
+        &Stored {
+            taken: HELD_TAKEN,
+            stored: HELD_STORED,
+            octet: 0,
+            answer: Progress::Done,
+            lines: "m1 body.e.b ulonglong 5\n",
+        },
+    );
+    assert!(rt; differs.is_empty(), "{differs}");
+    Ok(())
 }
 
 #[test]
 fn a_decoder_in_a_piece_is_restored(rt: HostRuntime) -> Result<(), Fail> {
     let catalogue = Catalogue::builtin(rt.alloc())?;
-    let octets = octets_of(rt.alloc(), NAMED)?;
-    let decoder = taken(&catalogue, TypeId(11), Root::Exception, &octets)?;
-    let stored = stored_of(rt.alloc(), &decoder)?;
-    let want = octets_of(rt.alloc(), NAMED_STORED)?;
-    assert_eq!(rt; stored.as_slice(), want.as_slice());
-    let mut again = restored(&catalogue, &stored)?.ok_or("a decoder")?;
-    take(&catalogue, &mut again, 98)?;
+    let differs = differs(
+        &catalogue,
+        TypeId(11),
+        Root::Exception,
+        &Stored {
+            taken: NAMED,
+            stored: NAMED_STORED,
+            octet: 98,
+            answer: Progress::More,
+            lines: "",
+        },
+    );
+    assert!(rt; differs.is_empty(), "{differs}");
     Ok(())
 }
 
-/// An octet that no decoder stores at that index, instead of the one of the decoder in an array.
-static REFUSED: [(&str, usize, u8); 29] = [
-    ("a byte order", 0, 2),
-    ("a root", 1, 3),
-    ("an offset", 10, 8),
-    ("an innermost part", 11, 2),
-    ("a content of a short", 11, 1),
-    ("a type that isn't in the table", 12, 1),
-    ("a type that isn't that of the last part", 15, 6),
-    ("octets of a content, in a number", 19, 1),
-    ("a piece's place, in a number", 23, 1),
-    ("a number that is whole", 24, 2),
-    ("more octets of a number than there is room for", 24, 9),
-    ("an octet behind those of a number", 26, 1),
-    ("a piece, in a number", 33, 1),
-    ("an octet behind a piece", 34, 1),
-    ("a request id of a body", 66, 1),
-    ("whether there is an id", 66, 2),
-    ("an id that isn't there", 70, 1),
-    ("whether there is a status", 71, 2),
-    ("a name buffer", 76, 3),
-    ("more octets than a name has", 77, 129),
-    ("an octet behind a name", 78, 1),
-    ("the last octet", 207, 1),
-    ("a frame of another type", 211, 43),
-    ("a place behind the last member", 215, 1),
-    ("a count that isn't the struct's", 219, 2),
-    ("a byte order of a struct", 220, 1),
-    ("the last octet of a frame", 231, 1),
-    ("a place behind the last element", 287, 2),
-    ("a place in the innermost part", 311, 1),
-];
+/// Octets that no decoder stores, each in a line: its index, and its value instead of the one of the decoder in an array.
+static REFUSED: &str = r#"0 2 a byte order
+1 3 a root
+10 8 an offset
+11 2 an innermost part
+11 1 a content of a short
+12 1 a type that isn't in the table
+15 6 a type that isn't that of the last part
+19 1 octets of a content, in a number
+23 1 a piece's place, in a number
+24 2 a number that is whole
+24 9 more octets of a number than there is room for
+26 1 an octet behind those of a number
+33 1 a piece, in a number
+34 1 an octet behind a piece
+66 1 a request id of a body
+66 2 whether there is an id
+70 1 an id that isn't there
+71 2 whether there is a status
+76 3 a name buffer
+77 129 more octets than a name has
+78 1 an octet behind a name
+207 1 the last octet
+211 43 a frame of another type
+215 1 a place behind the last member
+219 2 a count that isn't the struct's
+220 1 a byte order of a struct
+231 1 the last octet of a frame
+287 2 a place behind the last element
+311 1 a place in the innermost part"#;
 
 /// The same of the decoder in an encapsulation.
-static REFUSED_HELD: [(&str, usize, u8); 5] = [
-    ("no byte order", 244, 0),
-    ("a third byte order", 244, 3),
-    ("an octet behind a byte order", 245, 1),
-    ("an encapsulation of which no octet was taken", 239, 0),
-    ("more octets than an encapsulation has", 239, 17),
-];
+static REFUSED_HELD: &str = r#"244 0 no byte order
+244 3 a third byte order
+245 1 an octet behind a byte order
+239 0 an encapsulation of which no octet was taken
+239 17 more octets than an encapsulation has"#;
 
 #[test]
 fn octets_that_no_decoder_stores_are_refused(rt: HostRuntime) -> Result<(), Fail> {
     let catalogue = Catalogue::parse(rt.alloc(), DOTS)?;
-    for (name, at, octet) in &REFUSED {
-        is_refused(&rt, &catalogue, DOTS_STORED, name, *at, *octet)?;
-    }
+    let differs = not_refused(&catalogue, DOTS_STORED, REFUSED);
+    assert!(rt; differs.is_empty(), "{differs}");
     Ok(())
 }
 
@@ -237,47 +247,74 @@ fn octets_that_no_decoder_in_an_encapsulation_stores_are_refused(
     rt: HostRuntime,
 ) -> Result<(), Fail> {
     let catalogue = Catalogue::parse(rt.alloc(), HELD)?;
-    for (name, at, octet) in &REFUSED_HELD {
-        is_refused(&rt, &catalogue, HELD_STORED, name, *at, *octet)?;
-    }
+    let differs = not_refused(&catalogue, HELD_STORED, REFUSED_HELD);
+    assert!(rt; differs.is_empty(), "{differs}");
     Ok(())
 }
 
-/// Checks that stored octets with another instead of one of them are refused.
-fn is_refused(
-    rt: &(impl Abort + AllocGlobal),
-    catalogue: &Catalogue,
-    stored_in: &str,
-    name: &str,
-    at: usize,
-    octet: u8,
-) -> Result<(), Fail> {
-    let mut stored = octets_of(rt.alloc(), stored_in)?;
-    if at >= stored.len() {
-        return Err(Fail::from("no such octet"));
+/// The first line of a table whose octet isn't refused, or nothing.
+fn not_refused<'a>(catalogue: &Catalogue, stored: &str, table: &'a str) -> &'a str {
+    for line in table.split('\n') {
+        if !is_refused(catalogue, stored, line) {
+            return line;
+        }
     }
-    stored[at] = octet;
-    assert!(rt; restored(catalogue, &stored)?.is_none(), "{name}");
-    Ok(())
+    ""
+}
+
+/// Whether stored octets are restored, and refused with the octet of a line instead of one of them.
+fn is_refused(catalogue: &Catalogue, stored: &str, line: &str) -> bool {
+    let mut room = [0; 512];
+    let count = spelled(stored, &mut room);
+    if restored(catalogue, front(&room, count)).is_none() {
+        return false;
+    }
+    let mut words = line.split(' ');
+    let at = usize::from_str_radix(words.next().unwrap_or(""), 10);
+    let octet = u8::from_str_radix(words.next().unwrap_or(""), 10);
+    let (Ok(at), Ok(octet)) = (at, octet) else {
+        return false;
+    };
+    match room.get_mut(at) {
+        Some(place) => *place = octet,
+        None => return false,
+    }
+    restored(catalogue, front(&room, count)).is_none()
 }
 
 #[test]
 fn frames_too_few_or_too_many_are_refused(rt: HostRuntime) -> Result<(), Fail> {
     let catalogue = Catalogue::parse(rt.alloc(), DOTS)?;
-    for more in ["00", "00*24", "00000003 00*20"] {
-        let mut stored = octets_of(rt.alloc(), DOTS_STORED)?;
-        stored.extend_from_slice(&octets_of(rt.alloc(), more)?)?;
-        assert!(rt; restored(&catalogue, &stored)?.is_none(), "{more}");
-    }
-    let stored = octets_of(rt.alloc(), DOTS_STORED)?;
-    for count in [208, 232, 304, 327] {
-        if count > stored.len() {
-            return Err(Fail::from("fewer octets"));
-        }
-        assert!(rt;
-            restored(&catalogue, &stored[..count])?.is_none(),
-            "{count}"
-        );
-    }
+    let differs = frames_differ(&catalogue);
+    assert!(rt; differs.is_empty(), "{differs}");
     Ok(())
+}
+
+/// Where the octets of the decoder in an array are restored with others behind them, or without their last ones, or
+/// nothing.
+fn frames_differ(catalogue: &Catalogue) -> &'static str {
+    let mut room = [0; 512];
+    let count = spelled(DOTS_STORED, &mut room);
+    if restored(catalogue, front(&room, count)).is_none() {
+        return "neither";
+    }
+    for fewer in [208, 232, 304, 327] {
+        if fewer >= count || restored(catalogue, front(&room, fewer)).is_some() {
+            return "fewer octets";
+        }
+    }
+    for more in [1, 24] {
+        // Behind them the room has zeros.
+        if restored(catalogue, front(&room, count.saturating_add(more))).is_some() {
+            return "zeros behind them";
+        }
+    }
+    match room.get_mut(count.saturating_add(3)) {
+        Some(place) => *place = 3,
+        None => return "the room",
+    }
+    if restored(catalogue, front(&room, count.saturating_add(24))).is_some() {
+        return "a short's frame behind them";
+    }
+    ""
 }

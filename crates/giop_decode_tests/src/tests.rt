@@ -1,50 +1,108 @@
-//! The decoder on values of the built-in types, octet by octet.
+//! What the readers of a decoder tell of a value, octet by octet; the numbers of faults; laws.
 
-use crate::octets::octets_of;
-use crate::rows::{Row, row_of};
-use crate::tracing::is_told;
-use crate::{content_rows, header_rows, value_rows};
+use crate::rows::row_of;
+use crate::tracing::differs;
 use giop_decode::{Kind, reading_laws};
 use giop_sig::Catalogue;
 use std::process::Abort;
 use std::test::Fail;
 
-/// Compares the decoder's results with those expected, for each row of a table.
-fn are_told(
-    rt: &(impl Abort + AllocGlobal),
-    catalogue: &Catalogue,
-    rows: &str,
-) -> Result<(), Fail> {
-    for text in rows.split("=\n") {
-        is_row_told(rt, catalogue, row_of(text))?;
-    }
+/// Values of the built-in types, one or two below each root.
+static ROWS: &str = r#"Request 1.2, its target an object reference
+33 big 12 header
+00000002 03 000000 0002 ee*2 00000000 00000003 546e00 ee 00000000 00000003 616400 ee 00000000
+4 more 2 - -
+23 more 2 - Tn
+32 more 2 - -
+35 named 2 - ad
+40 done 2 - ad
+lines
+m1 header.request_id ulong 2
+m1 header.response_flags octet 3
+m1 header.reserved[0] octet 0
+m1 header.reserved[1] octet 0
+m1 header.reserved[2] octet 0
+m1 header.target.switch short 2
+m1 header.target.ior.selected_profile_index ulong 0
+m1 header.target.ior.ior.type_id string @0 "Tn"
+m1 header.target.ior.ior.profiles count 0
+m1 header.operation string @0 "ad"
+m1 header.service_contexts count 0
+=
+Reply 1.2
+35 little 12 header
+2a000000 05000000 01000000 00000000 00000000
+4 more 42 - -
+8 more 42 5 -
+20 done 42 5 -
+lines
+m1 header.request_id ulong 42
+m1 header.reply_status enum NEEDS_ADDRESSING_MODE
+m1 header.service_contexts count 1
+m1 header.service_contexts[0].context_id ulong 0
+m1 header.service_contexts[0].context_data octets @0
+=
+Request 1.2 in a body
+33 big 12 body
+00000001 03 000000 0000 ee*2 00000000 00000002 6100 ee*2 00000000
+22 more - - a
+28 done - - a
+lines
+m1 body.request_id ulong 1
+m1 body.response_flags octet 3
+m1 body.reserved[0] octet 0
+m1 body.reserved[1] octet 0
+m1 body.reserved[2] octet 0
+m1 body.target.switch short 0
+m1 body.target.object_key octets @0
+m1 body.operation string @0 "a"
+m1 body.service_contexts count 0
+=
+system exception
+25 little 24 body
+02000000 4500 ee*2 07000000 01000000
+6 more - - E
+16 done - 1 E
+lines
+m1 body.exception_id string @0 "E"
+m1 body.minor ulong 7
+m1 body.completed enum COMPLETED_NO
+=
+a string of 128 octets
+11 big 48 exception
+00000081 61*128 00
+133 done - - aaaaaaaaaaaaaaaaaaaaaaaaaaaaaaaaaaaaaaaaaaaaaaaaaaaaaaaaaaaaaaaaaaaaaaaaaaaaaaaaaaaaaaaaaaaaaaaaaaaaaaaaaaaaaaaaaaaaaaaaaaaaaaaa
+lines
+m1 exception string @0 "aaaaaaaaaaaaaaaaaaaaaaaaaaaaaaaa" more
+m1 exception string @32 "aaaaaaaaaaaaaaaaaaaaaaaaaaaaaaaa" more
+m1 exception string @64 "aaaaaaaaaaaaaaaaaaaaaaaaaaaaaaaa" more
+m1 exception string @96 "aaaaaaaaaaaaaaaaaaaaaaaaaaaaaaaa"
+=
+a string of 129 octets
+11 big 48 exception
+00000082 61*129 00
+134 done - - -
+lines
+m1 exception string @0 "aaaaaaaaaaaaaaaaaaaaaaaaaaaaaaaa" more
+m1 exception string @32 "aaaaaaaaaaaaaaaaaaaaaaaaaaaaaaaa" more
+m1 exception string @64 "aaaaaaaaaaaaaaaaaaaaaaaaaaaaaaaa" more
+m1 exception string @96 "aaaaaaaaaaaaaaaaaaaaaaaaaaaaaaaa" more
+m1 exception string @128 "a"
+"#;
+
+#[test]
+fn readers_tell_what_was_read(rt: HostRuntime) -> Result<(), Fail> {
+    let catalogue = Catalogue::builtin(rt.alloc())?;
+    each_is_told(&rt, &catalogue);
     Ok(())
 }
 
-fn is_row_told(
-    rt: &(impl Abort + AllocGlobal),
-    catalogue: &Catalogue,
-    row: Row,
-) -> Result<(), Fail> {
-    let octets = octets_of(rt.alloc(), row.octets)?;
-    is_told(rt, catalogue, row, &octets)
-}
-
-#[test]
-fn values_are_told_at_their_last_octet(rt: HostRuntime) -> Result<(), Fail> {
-    are_told(&rt, &Catalogue::builtin(rt.alloc())?, value_rows::ROWS)
-}
-
-#[test]
-fn contents_are_told_in_pieces_of_32_octets(rt: HostRuntime) -> Result<(), Fail> {
-    are_told(&rt, &Catalogue::builtin(rt.alloc())?, content_rows::ROWS)
-}
-
-#[test]
-fn headers_leave_their_id_their_status_and_their_operation_in_mind(
-    rt: HostRuntime,
-) -> Result<(), Fail> {
-    are_told(&rt, &Catalogue::builtin(rt.alloc())?, header_rows::ROWS)
+fn each_is_told(rt: &impl Abort, catalogue: &Catalogue) {
+    for text in ROWS.split("=\n") {
+        let row = row_of(text);
+        let differs = differs(catalogue, &row);
+        assert!(rt; differs.is_empty(), "{}: {differs}", row.name);
+    }
 }
 
 static FAULTS: [(Kind, u32); 7] = [

@@ -1,150 +1,125 @@
-//! The trace of a value's octets, each entry after the number of octets taken: its lines, the answers other than that
-//! the value goes on, and the notes where these have changed.
-ghost use Rattle.std.specs.Prelude.{IfOk, IsTrue};
+//! A value octet by octet: what the decoder answers at each, and what its readers tell behind it.
 ghost use Rattle.giop_decode.specs.DecoderState.{Fits};
 
+use crate::octets::{front, spelled};
 use crate::rows::Row;
 use giop_decode::{Decoder, Progress};
 use giop_print::Sheet;
 use giop_sig::Catalogue;
-use std::alloc::Global;
-use std::fmt::Write;
-use std::process::Abort;
-use std::test::Fail;
 
-/// The notes before a value's first octet.
-const NOTHING: &str = "request_id None, status None, name None";
-
-/// Compares the trace of octets, instead of the row's own, with what the row expects.
-pub fn is_told(
-    rt: &(impl Abort + AllocGlobal),
-    catalogue: &Catalogue,
-    row: Row,
-    octets: &[u8],
-) -> Result<(), Fail> {
-    let mut trace = String::new(rt.alloc());
-    add_trace(rt.alloc(), catalogue, row, octets, &mut trace)?;
-    assert_eq!(rt; trace.as_str(), row.want, "{} at {}", row.name, row.offset);
-    Ok(())
-}
-
-fn add_trace(
-    alloc: Global,
-    catalogue: &Catalogue,
-    row: Row,
-    octets: &[u8],
-    trace: &mut String,
-) -> Result<(), Fail> {
-    let mut mind = String::from_str(alloc, NOTHING)?;
-    follow(alloc, catalogue, row, octets, &mut mind, trace)
-}
-
-fn follow(
-    alloc: Global,
-    catalogue: &Catalogue,
-    row: Row,
-    octets: &[u8],
-    mind: &mut String,
-    trace: &mut String,
-) -> Result<(), Fail> {
+/// What differs of a row, or nothing.
+pub fn differs(catalogue: &Catalogue, row: &Row) -> &'static str {
     if !catalogue.has(row.of) {
-        return Err(Fail::from("no such type"));
+        return "the type";
     }
     let mut decoder = Decoder::start(catalogue, row.of, row.order, row.offset, 1, row.root);
-    hear(alloc, &decoder, 0, mind, trace)?;
-    if decoder.is_done() {
-        return Err(Fail::from("done before any octet"));
+    if decoder.is_done() || !tells(&decoder, "0 more - - -") {
+        return "before any octet";
     }
-    take_all(alloc, catalogue, &mut decoder, octets, mind, trace)
+    let mut octets = [0; 256];
+    let count = spelled(row.octets, &mut octets);
+    let mut room = [0; 1024];
+    let mut sheet = Sheet::new(&mut room);
+    let differs = take_all(
+        catalogue,
+        &mut decoder,
+        front(&octets, count),
+        row.told,
+        &mut sheet,
+    );
+    if differs.is_empty() && sheet.held() != row.lines.as_bytes() {
+        return "the lines";
+    }
+    differs
 }
 
+/// Takes octets, up to the first at which something else is answered or told.
 fn take_all(
-    alloc: Global,
     catalogue: &Catalogue,
     decoder: &mut Decoder,
     octets: &[u8],
-    mind: &mut String,
-    trace: &mut String,
-) -> Result<(), Fail>
+    told: &str,
+    out: &mut Sheet,
+) -> &'static str
     requires { Fits catalogue.now decoder.old }
 {
     for taken in 0..octets.len() {
-        let goes_on = take(catalogue, decoder, octets[taken], taken + 1, trace)?;
-        hear(alloc, decoder, taken + 1, mind, trace)?;
-        if !goes_on && taken + 1 < octets.len() {
-            return Err(Fail::from("over before its last octet"));
-        }
-        if !goes_on {
-            return Ok(());
+        let line = told_at(told, taken + 1);
+        match decoder.take(catalogue, octets[taken], out) {
+            Ok(Progress::More) => if !is_as_told(decoder, line, taken + 1, "more") {
+                return "what is told where the value goes on";
+            },
+            Ok(Progress::Named) => if !is_as_told(decoder, line, taken + 1, "named") {
+                return "what is told at its name";
+            },
+            Ok(Progress::Done) => if is_as_told(decoder, line, taken + 1, "done") {
+                return left(octets.len() - taken - 1);
+            } else {
+                return "what is told at its end";
+            },
+            Ok(Progress::Fault(_)) => return "a fault",
+            Err(_) => return "a put failed",
         }
     }
-    Ok(())
+    "not over at the last octet"
 }
 
-/// Adds what is written at an octet.
-fn add_lines(taken: usize, lines: &[u8], trace: &mut String) -> Result<(), Fail> {
-    if !lines.is_empty() {
-        let lines = str::from_utf8(lines)?;
-        write!(trace, "{taken} {lines}")?;
-    }
-    Ok(())
-}
-
-/// Takes an octet, adds what is written and answered, and answers whether the value goes on.
-fn take(
-    catalogue: &Catalogue,
-    decoder: &mut Decoder,
-    octet: u8,
-    taken: usize,
-    trace: &mut String,
-) -> Result<bool, Fail>
-    requires { Fits catalogue.now decoder.old }
-    ensures { IfOk result (λ goes_on. IsTrue goes_on → Fits catalogue.now decoder.new) }
-{
-    let mut room = [0; 512];
-    let mut sheet = Sheet::new(&mut room);
-    let answer = decoder.take(catalogue, octet, &mut sheet);
-    add_lines(taken, sheet.held(), trace)?;
-    match answer {
-        Ok(Progress::More) => Ok(true),
-        Ok(Progress::Named) => {
-            writeln!(trace, "{taken} named")?;
-            Ok(true)
-        }
-        Ok(Progress::Done) => {
-            writeln!(trace, "{taken} done")?;
-            Ok(false)
-        }
-        Ok(Progress::Fault(kind)) => {
-            writeln!(trace, "{taken} fault {kind}")?;
-            Ok(false)
-        }
-        Err(_) => Err(Fail::from("a put failed")),
+/// What differs where a value is over and so many octets are left.
+fn left(count: usize) -> &'static str {
+    if count == 0 {
+        ""
+    } else {
+        "over before the last octet"
     }
 }
 
-/// Adds the notes, if they aren't those of the last time.
-fn hear(
-    alloc: Global,
-    decoder: &Decoder,
-    taken: usize,
-    mind: &mut String,
-    trace: &mut String,
-) -> Result<(), Fail> {
-    let now = mind_of(alloc, decoder)?;
-    if now.as_str() != mind.as_str() {
-        writeln!(trace, "{taken} {now}")?;
-        *mind = now;
+/// The last line that tells of so many octets or fewer.
+fn told_at(told: &str, taken: usize) -> &str {
+    let mut last = "0 more - - -";
+    for line in told.split('\n') {
+        if number(line) <= Some(taken) && !line.is_empty() {
+            last = line;
+        }
     }
-    Ok(())
+    last
 }
 
-fn mind_of(alloc: Global, decoder: &Decoder) -> Result<String, Fail> {
-    let id = decoder.request_id();
-    let status = decoder.status();
-    let name = match decoder.name() {
-        Some(name) => Some(str::from_utf8(name)?),
-        None => None,
+/// The number in front of a line.
+fn number(line: &str) -> Option<usize> {
+    let (number, _) = line.split_once(' ')?;
+    usize::from_str_radix(number, 10).ok()
+}
+
+/// Whether this was the answer to tell at the last of so many octets, and the readers tell what the line says.
+fn is_as_told(decoder: &Decoder, line: &str, taken: usize, answer: &str) -> bool {
+    let wanted = if number(line) == Some(taken) {
+        line.split(' ').nth(1).unwrap_or("")
+    } else {
+        "more"
     };
-    Ok(format!(in alloc; "request_id {id:?}, status {status:?}, name {name:?}")?)
+    wanted == answer && tells(decoder, line)
+}
+
+/// Whether the readers tell what the line says.
+fn tells(decoder: &Decoder, line: &str) -> bool {
+    let mut words = line.splitn(5, ' ').skip(2);
+    let request_id = words.next().unwrap_or("");
+    let status = words.next().unwrap_or("");
+    let name = words.next().unwrap_or("");
+    decoder.request_id() == told_number(request_id)
+        && decoder.status() == told_number(status)
+        && is_name(decoder, name)
+}
+
+/// The number of a word, or none.
+fn told_number(word: &str) -> Option<u32> {
+    u32::from_str_radix(word, 10).ok()
+}
+
+/// Whether this is the name, or `-` where there is none.
+fn is_name(decoder: &Decoder, word: &str) -> bool {
+    match decoder.name() {
+        Some(name) => name == word.as_bytes(),
+        None => word == "-",
+    }
 }
