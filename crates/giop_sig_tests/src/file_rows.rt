@@ -25,6 +25,7 @@ pub static ACCEPTED: &[u8] = b"\
     2 0 0 9|signatures 1;\nenum E { a }; enum F { a };=\
     1 0 0 9|signatures 1;\nstruct A { string<4294967295> s; };=\
     1 0 0 9|signatures 1;\nstruct A { sequence<sequence<octet>,2> s[3]; };=\
+    4 7 2 9|signatures 1;\n// One declaration for each feature of a signature file.\n// Every object answers this one.\noperation boolean _is_a(in string logical_type_id);\n// An attribute `name` travels as two operations.\noperation string _get_name();\noperation void _set_name(in string name);\nenum Colour { red, green, blue };\nstruct Point { long x; long y; };\nunion Mark switch (Colour) {\ncase red: Point point;\ncase green: case blue: sequence<Point, 16> line;\ndefault: string<32> note;\n};\nunion Choice switch (short) {\ncase -1: boolean flag;\ncase 0: case 1: char letter;\n};\nexception NotFound \"IDL:Plotter/NotFound:1.0\" { string what; };\nexception Busy \"IDL:Plotter/Busy:1.0\" { };\noperation Object find(in sequence<octet> key, inout Mark mark, out ulong hits[3]);\noperation double scale(in float by, in sequence<sequence<ushort>, 8> rows, out longlong sum, out ulonglong squares);\noperation octet choose(in Choice choice);\noperation void ping();\n=\
     0 0 0 9|signatures 1;=\
     0 0 0 9|signatures 1;\n=\
     0 0 0 9|\n\nsignatures 1;=\

@@ -4,8 +4,6 @@
 #[cfg(test)]
 mod builtin_tests;
 #[cfg(test)]
-mod example_tests;
-#[cfg(test)]
 mod file_rows;
 #[cfg(test)]
 mod file_tests;

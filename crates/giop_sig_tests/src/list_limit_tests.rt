@@ -1,35 +1,24 @@
 //! Request lists of as much as they may have, and of more.
 
-use crate::rows::told_of_list;
-use giop_sig::{Catalogue, OpId, Requests};
-use std::alloc::Global;
+use crate::rows::list_differs;
+use giop_sig::{Catalogue, OpId, Requests, SigFault};
+use std::alloc::{AllocError, Global};
+use std::fmt;
 use std::fmt::Write;
 use std::process::Abort;
 use std::test::Fail;
 
 /// The catalogue of the lists.
-static NOP: &[u8] = b"signatures 1; operation void op0();";
-
-fn expect_told(
-    rt: &(impl Abort + AllocGlobal),
-    catalogue: &Catalogue,
-    text: &[u8],
-    want: &str,
-) -> Result<(), Fail> {
-    let told = told_of_list(rt.alloc(), text, catalogue)?;
-    assert!(rt; told.as_str() == want, "{told}, not {want}");
-    Ok(())
+fn nop(alloc: Global) -> Result<Catalogue, SigFault> {
+    Catalogue::parse(alloc, b"signatures 1; operation void op0();")
 }
 
-/// So many times this text, and then that one.
-fn repeated(alloc: Global, text: &[u8], times: usize, last: &[u8]) -> Result<Vec<u8>, Fail> {
-    let mut all = Vec::new(alloc);
-    add_times(text, times, &mut all)?;
-    all.extend_from_slice(last)?;
-    Ok(all)
+fn expect_told(rt: &(impl Abort + AllocGlobal), catalogue: &Catalogue, text: &[u8], want: &str) {
+    let differs = list_differs(rt.alloc(), text, catalogue, want);
+    assert!(rt; differs.is_empty(), "{differs}, not {want}");
 }
 
-fn add_times(text: &[u8], times: usize, all: &mut Vec<u8>) -> Result<(), Fail> {
+fn add_times(text: &[u8], times: usize, all: &mut Vec<u8>) -> Result<(), AllocError> {
     for _ in 0..times {
         all.extend_from_slice(text)?;
     }
@@ -47,29 +36,31 @@ static ENTRIES: [(usize, &[u8], &str); 5] = [
 
 #[test]
 fn a_list_has_at_most_65536_entries(rt: HostRuntime) -> Result<(), Fail> {
-    let catalogue = Catalogue::parse(rt.alloc(), NOP)?;
+    expect_each(&rt, &nop(rt.alloc())?)
+}
+
+fn expect_each(rt: &(impl Abort + AllocGlobal), catalogue: &Catalogue) -> Result<(), Fail> {
     for (times, last, want) in &ENTRIES {
-        expect_entries(&rt, &catalogue, *times, last, want)?;
+        let mut text = Vec::new(rt.alloc());
+        add_entries(*times, last, &mut text)?;
+        expect_told(rt, catalogue, &text, want);
     }
     Ok(())
 }
 
-fn expect_entries(
-    rt: &(impl Abort + AllocGlobal),
-    catalogue: &Catalogue,
-    times: usize,
-    last: &[u8],
-    want: &str,
-) -> Result<(), Fail> {
-    let text = repeated(rt.alloc(), b"1 op0\n", times, last)?;
-    expect_told(rt, catalogue, &text, want)
+fn add_entries(times: usize, last: &[u8], text: &mut Vec<u8>) -> Result<(), AllocError> {
+    add_times(b"1 op0\n", times, text)?;
+    text.extend_from_slice(last)
 }
 
 #[test]
 fn a_name_has_at_most_128_octets(rt: HostRuntime) -> Result<(), Fail> {
-    let catalogue = Catalogue::parse(rt.alloc(), NOP)?;
-    expect_name(&rt, &catalogue, 128, "1")?;
-    expect_name(&rt, &catalogue, 129, "1 syntax")
+    expect_names(&rt, &nop(rt.alloc())?)
+}
+
+fn expect_names(rt: &(impl Abort + AllocGlobal), catalogue: &Catalogue) -> Result<(), Fail> {
+    expect_name(rt, catalogue, 128, "1")?;
+    expect_name(rt, catalogue, 129, "1 syntax")
 }
 
 fn expect_name(
@@ -78,45 +69,71 @@ fn expect_name(
     size: usize,
     want: &str,
 ) -> Result<(), Fail> {
-    let mut text = Vec::from_slice(rt.alloc(), b"1 ")?;
-    add_times(b"n", size, &mut text)?;
+    let mut text = Vec::new(rt.alloc());
+    add_name(size, &mut text)?;
+    expect_told(rt, catalogue, &text, want);
+    Ok(())
+}
+
+/// Adds an entry with a name of so many octets.
+fn add_name(size: usize, text: &mut Vec<u8>) -> Result<(), AllocError> {
+    text.extend_from_slice(b"1 ")?;
+    add_times(b"n", size, text)?;
     text.push(b'\n')?;
-    expect_told(rt, catalogue, &text, want)
+    Ok(())
 }
 
 #[test]
 fn a_text_has_at_most_16777216_octets(rt: HostRuntime) -> Result<(), Fail> {
-    let catalogue = Catalogue::parse(rt.alloc(), NOP)?;
-    expect_lines(&rt, &catalogue)
+    expect_lines(&rt, &nop(rt.alloc())?)
 }
 
 fn expect_lines(rt: &(impl Abort + AllocGlobal), catalogue: &Catalogue) -> Result<(), Fail> {
-    let mut text = repeated(rt.alloc(), b"\n", 16_777_216, b"")?;
-    expect_told(rt, catalogue, &text, "1 syntax")?;
-    text.push(b'\n')?;
-    expect_told(rt, catalogue, &text, "1 limit")
+    let mut text = Vec::new(rt.alloc());
+    expect_most(rt, catalogue, &mut text)
 }
 
-/// A list of `op0` for so many ids, 0 the first.
-fn ids(alloc: Global, count: u32) -> Result<String, Fail> {
-    let mut text = String::new(alloc);
+fn expect_most(
+    rt: &(impl Abort + AllocGlobal),
+    catalogue: &Catalogue,
+    text: &mut Vec<u8>,
+) -> Result<(), Fail> {
+    add_times(b"\n", 16_777_216, text)?;
+    expect_told(rt, catalogue, text, "1 syntax");
+    text.push(b'\n')?;
+    expect_told(rt, catalogue, text, "1 limit");
+    Ok(())
+}
+
+/// Adds entries of `op0` for so many ids, 0 the first.
+fn add_ids(count: u32, text: &mut String) -> fmt::Result {
     for id in 0..count {
         writeln!(text, "{id} op0")?;
     }
-    Ok(text)
+    Ok(())
 }
 
 #[test]
 fn a_list_has_65536_ids(rt: HostRuntime) -> Result<(), Fail> {
-    let catalogue = Catalogue::parse(rt.alloc(), NOP)?;
-    expect_ids(&rt, &catalogue)
+    expect_ids(&rt, &nop(rt.alloc())?)
 }
 
 fn expect_ids(rt: &(impl Abort + AllocGlobal), catalogue: &Catalogue) -> Result<(), Fail> {
-    let mut text = ids(rt.alloc(), 65_536)?;
+    let mut text = String::new(rt.alloc());
+    expect_id_more(rt, catalogue, &mut text)
+}
+
+/// Expects all of 65,536 ids, and that one more is refused.
+fn expect_id_more(
+    rt: &(impl Abort + AllocGlobal),
+    catalogue: &Catalogue,
+    text: &mut String,
+) -> Result<(), Fail> {
+    add_ids(65_536, text)?;
     expect_all(rt, catalogue, text.as_bytes())?;
     text.push_str("65536 op0\n")?;
-    expect_told(rt, catalogue, text.as_bytes(), "65537 limit")
+    expect_told(rt, catalogue, text.as_bytes(), "65537 limit");
+    Ok(())
 }
 
 fn expect_all(

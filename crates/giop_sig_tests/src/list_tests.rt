@@ -1,7 +1,7 @@
 //! Request lists: which texts are lists, what they say, and which line of the others is refused.
 
 use crate::list_rows::{READ, REFUSED};
-use crate::rows::{row_of, told_of_list};
+use crate::rows::{LIST_RULES, are_numbers, list_differs, row_of};
 use giop_sig::{Catalogue, ListFault, ListFaultKind, OpId, Requests, SigFault, one_list};
 use std::alloc::Global;
 use std::process::Abort;
@@ -17,67 +17,59 @@ fn ask_and_nop(alloc: Global) -> Result<Catalogue, SigFault> {
 
 #[test]
 fn a_list_says_the_operation_of_each_id(rt: HostRuntime) -> Result<(), Fail> {
-    let catalogue = ask_and_nop(rt.alloc())?;
+    are_read(&rt, &ask_and_nop(rt.alloc())?)
+}
+
+fn are_read(rt: &(impl Abort + AllocGlobal), catalogue: &Catalogue) -> Result<(), Fail> {
     for row in READ.split(|octet| *octet == b'=') {
-        is_read(&rt, &catalogue, row)?;
+        let (want, text) = row_of(row)?;
+        is_read(rt, catalogue, text, want)?;
     }
     Ok(())
 }
 
-fn is_read(rt: &(impl Abort + AllocGlobal), catalogue: &Catalogue, row: &[u8]) -> Result<(), Fail> {
-    let (want, text) = row_of(row)?;
+fn is_read(
+    rt: &(impl Abort + AllocGlobal),
+    catalogue: &Catalogue,
+    text: &[u8],
+    want: &str,
+) -> Result<(), Fail> {
     let list = Requests::parse(rt.alloc(), text, catalogue)?;
-    says(rt, &list, str::from_utf8(want)?)
-}
-
-/// Compares what a list says of an id: the id, how many ids there are, and its operation.
-fn says(rt: &(impl Abort + AllocGlobal), list: &Requests, want: &str) -> Result<(), Fail> {
-    let id = u32::from_str_radix(want.split_once(' ').ok_or("an id")?.0, 10)?;
-    let told = told_of_id(rt.alloc(), list, id)?;
-    assert!(rt; told.as_str() == want, "{told}, not {want}");
+    assert!(rt; says(&list, want), "{want}: {text:?}");
     Ok(())
 }
 
-fn told_of_id(alloc: Global, list: &Requests, id: u32) -> Result<String, Fail> {
-    let count = list.count();
+/// Whether a list says this of an id: the id, how many ids there are, and its operation.
+fn says(list: &Requests, want: &str) -> bool {
+    let Ok(id) = u32::from_str_radix(want.split_once(' ').unwrap_or(("", "")).0, 10) else {
+        return false;
+    };
     match list.operation(id) {
-        Some(operation) => {
-            let number = operation.0;
-            Ok(format!(in alloc; "{id} {count} {number}")?)
-        }
-        None => Ok(format!(in alloc; "{id} {count} none")?),
+        Some(operation) => are_numbers(&[id, list.count(), operation.0], want),
+        None => match want.strip_suffix(" none") {
+            Some(numbers) => are_numbers(&[id, list.count()], numbers),
+            None => false,
+        },
     }
 }
 
 #[test]
 fn the_first_line_that_is_no_entry_is_refused(rt: HostRuntime) -> Result<(), Fail> {
-    let catalogue = ask_and_nop(rt.alloc())?;
+    are_refused(&rt, &ask_and_nop(rt.alloc())?)
+}
+
+fn are_refused(rt: &(impl Abort + AllocGlobal), catalogue: &Catalogue) -> Result<(), Fail> {
     for row in REFUSED.split(|octet| *octet == b'=') {
-        is_refused(&rt, &catalogue, row)?;
+        let (want, text) = row_of(row)?;
+        let differs = list_differs(rt.alloc(), text, catalogue, want);
+        assert!(rt; differs.is_empty(), "{differs}, not {want}: {text:?}");
     }
     Ok(())
 }
 
-fn is_refused(
-    rt: &(impl Abort + AllocGlobal),
-    catalogue: &Catalogue,
-    row: &[u8],
-) -> Result<(), Fail> {
-    let (want, text) = row_of(row)?;
-    let told = told_of_list(rt.alloc(), text, catalogue)?;
-    assert!(rt; told.as_bytes() == want, "{told}: {text:?}");
-    Ok(())
-}
-
-static WORDS: [(ListFaultKind, u8, &str); 3] = [
-    (ListFaultKind::Syntax, 1, "syntax"),
-    (ListFaultKind::Limit, 2, "limit"),
-    (ListFaultKind::OutOfMemory, 3, "out-of-memory"),
-];
-
 #[test]
 fn the_word_of_a_refusal_is_printed(rt: HostRuntime) -> Result<(), Fail> {
-    for (kind, number, word) in &WORDS {
+    for (kind, number, word) in &LIST_RULES {
         reads_as(&rt, *kind, *number, word)?;
     }
     Ok(())

@@ -1,44 +1,104 @@
-//! Rows of a table of texts.
+//! Rows of a table of texts, and what differs from them in what is told of a signature file and of a request list.
 
-use giop_sig::{Catalogue, Requests};
+use giop_sig::{Catalogue, ListFault, ListFaultKind, Requests, SigFault, SigFaultKind};
 use std::alloc::Global;
 use std::test::Fail;
 
+/// The number and the word of each rule of a signature file.
+pub static FILE_RULES: [(SigFaultKind, u32, &str); 9] = [
+    (SigFaultKind::Token, 1, "token"),
+    (SigFaultKind::Syntax, 2, "syntax"),
+    (SigFaultKind::UnknownType, 3, "unknown-type"),
+    (SigFaultKind::Duplicate, 4, "duplicate"),
+    (SigFaultKind::Limit, 5, "limit"),
+    (SigFaultKind::Depth, 6, "depth"),
+    (SigFaultKind::Label, 7, "label"),
+    (SigFaultKind::Empty, 8, "empty"),
+    (SigFaultKind::OutOfMemory, 9, "out-of-memory"),
+];
+
+/// The number and the word of each rule of a request list.
+pub static LIST_RULES: [(ListFaultKind, u8, &str); 3] = [
+    (ListFaultKind::Syntax, 1, "syntax"),
+    (ListFaultKind::Limit, 2, "limit"),
+    (ListFaultKind::OutOfMemory, 3, "out-of-memory"),
+];
+
 /// What a row wants, and its text: `|` stands between.
-pub fn row_of(row: &[u8]) -> Result<(&[u8], &[u8]), Fail> {
+pub fn row_of(row: &[u8]) -> Result<(&str, &[u8]), Fail> {
     let end = row.iter().position(|octet| *octet == b'|').ok_or("a row")?;
-    Ok((&row[..end], &row[end + 1..]))
+    Ok((str::from_utf8(&row[..end])?, &row[end + 1..]))
 }
 
-/// What is told of a signature file: how many types, operations and exceptions it has and its depth; or the line and the
-/// word of its refusal.
-pub fn told_of_file(alloc: Global, text: &[u8]) -> Result<String, Fail> {
+/// What differs in what is told of a signature file: how many types, operations and exceptions it has and its depth; or
+/// the line and the word of its refusal.
+pub fn file_differs(alloc: Global, text: &[u8], want: &str) -> &'static str {
     match Catalogue::parse(alloc, text) {
-        Ok(catalogue) => counted(alloc, &catalogue),
-        Err(fault) => {
-            let line = fault.line;
-            Ok(format!(in alloc; "{line} {fault}")?)
-        }
+        Ok(catalogue) => counts_differ(&catalogue, want),
+        Err(fault) => file_refusal_differs(fault, want),
     }
 }
 
-fn counted(alloc: Global, catalogue: &Catalogue) -> Result<String, Fail> {
+fn counts_differ(catalogue: &Catalogue, want: &str) -> &'static str {
     let has = catalogue.counts();
-    let (types, operations, exceptions) = (has.types, has.operations, has.exceptions);
-    let depth = catalogue.depth();
-    Ok(format!(in alloc; "{types} {operations} {exceptions} {depth}")?)
+    let depth = u32::from(catalogue.depth());
+    if are_numbers(&[has.types, has.operations, has.exceptions, depth], want) {
+        ""
+    } else {
+        "accepted, with other counts"
+    }
 }
 
-/// What is told of a request list: how many ids it has; or the line and the word of its refusal.
-pub fn told_of_list(alloc: Global, text: &[u8], catalogue: &Catalogue) -> Result<String, Fail> {
-    match Requests::parse(alloc, text, catalogue) {
-        Ok(list) => {
-            let count = list.count();
-            Ok(format!(in alloc; "{count}")?)
-        }
-        Err(fault) => {
-            let line = fault.line;
-            Ok(format!(in alloc; "{line} {fault}")?)
+fn file_refusal_differs(fault: SigFault, want: &str) -> &'static str {
+    let (line, rule) = want.split_once(' ').unwrap_or(("", want));
+    if !are_numbers(&[fault.line], line) {
+        return "refused at another line";
+    }
+    for (kind, _, word) in &FILE_RULES {
+        if fault.kind == *kind && *word == rule {
+            return "";
         }
     }
+    "refused by another rule"
+}
+
+/// What differs in what is told of a request list: how many ids it has; or the line and the word of its refusal.
+pub fn list_differs(alloc: Global, text: &[u8], catalogue: &Catalogue, want: &str) -> &'static str {
+    match Requests::parse(alloc, text, catalogue) {
+        Ok(list) => ids_differ(&list, want),
+        Err(fault) => list_refusal_differs(fault, want),
+    }
+}
+
+fn ids_differ(list: &Requests, want: &str) -> &'static str {
+    if are_numbers(&[list.count()], want) {
+        ""
+    } else {
+        "read, with another count of ids"
+    }
+}
+
+fn list_refusal_differs(fault: ListFault, want: &str) -> &'static str {
+    let (line, rule) = want.split_once(' ').unwrap_or(("", want));
+    if !are_numbers(&[fault.line], line) {
+        return "refused at another line";
+    }
+    for (kind, _, word) in &LIST_RULES {
+        if fault.kind == *kind && *word == rule {
+            return "";
+        }
+    }
+    "refused by another rule"
+}
+
+/// Whether these numbers are wanted, one space between two of them.
+pub fn are_numbers(told: &[u32], want: &str) -> bool {
+    let mut words = want.split(' ');
+    for number in told {
+        match u32::from_str_radix(words.next().unwrap_or(""), 10) {
+            Ok(wanted) if wanted == *number => {}
+            _ => return false,
+        }
+    }
+    words.next().is_none()
 }

@@ -4,10 +4,9 @@ ghost use Rattle.giop_sig.specs.Types.{shape_in, HasMember, HasPlace};
 ghost use Rattle.giop_sig.specs.Trees.{tree};
 
 use giop_cdr::Prim;
+use giop_print::{OutFault, Sheet, put_all};
 use giop_sig::{Catalogue, Shape, TypeId};
-use std::alloc::AllocError;
 use std::process::Abort;
-use std::test::Fail;
 
 /// The word of a primitive in a signature file.
 fn word_of(prim: Prim) -> &'static [u8] {
@@ -27,24 +26,19 @@ fn word_of(prim: Prim) -> &'static [u8] {
 }
 
 /// Adds the names of an enum.
-fn add_names(
-    catalogue: &Catalogue,
-    t: TypeId,
-    count: u32,
-    row: &mut Vec<u8>,
-) -> Result<(), AllocError>
+fn add_names(catalogue: &Catalogue, t: TypeId, count: u32, row: &mut Sheet) -> Result<(), OutFault>
     requires { t.0 < length catalogue.now.types }
 {
-    row.extend_from_slice(b"enum")?;
+    put_all(row, b"enum")?;
     for number in 0..count {
-        row.extend_from_slice(b" ")?;
-        row.extend_from_slice(catalogue.enum_name(t, number).unwrap_or(b"?"))?;
+        put_all(row, b" ")?;
+        put_all(row, catalogue.enum_name(t, number).unwrap_or(b"?"))?;
     }
     Ok(())
 }
 
 /// Adds how a type reads by its outermost form; an enum by its names.
-fn add_kind(catalogue: &Catalogue, t: TypeId, row: &mut Vec<u8>) -> Result<(), AllocError>
+fn add_kind(catalogue: &Catalogue, t: TypeId, row: &mut Sheet) -> Result<(), OutFault>
     requires { t.0 < length catalogue.now.types }
 {
     let word: &[u8] = match catalogue.shape(t) {
@@ -60,32 +54,27 @@ fn add_kind(catalogue: &Catalogue, t: TypeId, row: &mut Vec<u8>) -> Result<(), A
         Shape::Encapsulation => b"encapsulation",
         Shape::Tagged => b"tagged",
     };
-    row.extend_from_slice(word)
+    put_all(row, word)
 }
 
-fn add_parts(
-    catalogue: &Catalogue,
-    t: TypeId,
-    count: u32,
-    row: &mut Vec<u8>,
-) -> Result<(), AllocError>
+fn add_parts(catalogue: &Catalogue, t: TypeId, count: u32, row: &mut Sheet) -> Result<(), OutFault>
     requires known { t.0 < length catalogue.now.types }
     requires names { (i : ℕ) → i < count → HasMember (shape_in (tree catalogue.now t.0)) i }
     requires parts { (i : ℕ) → i < count → HasPlace (shape_in (tree catalogue.now t.0)) i }
 {
     for place in 0..count {
         if place > 0 {
-            row.extend_from_slice(b", ")?;
+            put_all(row, b", ")?;
         }
-        row.extend_from_slice(catalogue.part_name(t, place))?;
-        row.extend_from_slice(b" ")?;
+        put_all(row, catalogue.part_name(t, place))?;
+        put_all(row, b" ")?;
         add_kind(catalogue, catalogue.part(t, place), row)?;
     }
     Ok(())
 }
 
 /// Adds the members, cases or tagged parts of a type.
-fn add_row(catalogue: &Catalogue, t: TypeId, row: &mut Vec<u8>) -> Result<(), AllocError>
+fn add_row(catalogue: &Catalogue, t: TypeId, row: &mut Sheet) -> Result<(), OutFault>
     requires { t.0 < length catalogue.now.types }
 {
     match catalogue.shape(t) {
@@ -96,19 +85,14 @@ fn add_row(catalogue: &Catalogue, t: TypeId, row: &mut Vec<u8>) -> Result<(), Al
     }
 }
 
-/// Whether a type has these members, cases or tagged parts.
-pub fn expect_row(
-    rt: &(impl Abort + AllocGlobal),
-    catalogue: &Catalogue,
-    t: TypeId,
-    want: &str,
-) -> Result<(), Fail>
+/// Expects that a type has these members, cases or tagged parts.
+pub fn expect_row(rt: &impl Abort, catalogue: &Catalogue, t: TypeId, want: &str)
     requires { t.0 < length catalogue.now.types }
 {
-    let mut row = Vec::new(rt.alloc());
-    add_row(catalogue, t, &mut row)?;
-    assert!(rt; row.as_slice() == want.as_bytes(), "{want}");
-    Ok(())
+    let mut room = [0; 512];
+    let mut row = Sheet::new(&mut room);
+    let is_added = add_row(catalogue, t, &mut row).is_ok();
+    assert!(rt; is_added && row.held() == want.as_bytes(), "{want}");
 }
 
 /// The part at a place, where there is one.

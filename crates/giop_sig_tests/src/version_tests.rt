@@ -27,15 +27,16 @@ fn an_encapsulation_holds_its_type(rt: HostRuntime) -> Result<(), Fail> {
     expect_held(&rt, &Catalogue::parse(rt.alloc(), HELD)?)
 }
 
-fn expect_held(rt: &(impl Abort + AllocGlobal), catalogue: &Catalogue) -> Result<(), Fail> {
+fn expect_held(rt: &impl Abort, catalogue: &Catalogue) -> Result<(), Fail> {
     let enc = catalogue.operation(b"enc").ok_or("enc")?;
     let request = catalogue.request_of(enc);
     let want = "e encapsulation, o encapsulation, s sequence";
-    expect_row(rt, catalogue, request, want)?;
+    expect_row(rt, catalogue, request, want);
     let held = inner(rt, catalogue, inner(rt, catalogue, request, 0), 0);
-    expect_row(rt, catalogue, held, "a octet, b ulonglong")?;
+    expect_row(rt, catalogue, held, "a octet, b ulonglong");
     let octet = inner(rt, catalogue, inner(rt, catalogue, request, 1), 0);
-    expect_row(rt, catalogue, octet, "octet")?;
+    expect_row(rt, catalogue, octet, "octet");
     let element = inner(rt, catalogue, inner(rt, catalogue, request, 2), 0);
-    expect_row(rt, catalogue, element, "encapsulation")
+    expect_row(rt, catalogue, element, "encapsulation");
+    Ok(())
 }
