@@ -15,7 +15,8 @@ status is 0 where each edited function has a failed goal of its own and no other
 fault is told by name: an edit that isn't refused, one whose text is missing or stands there twice, one in no function, two
 of one function, and a function that has no edit and fails.
 
-The libraries below a crate are used as `rt ci` or `rt check` leaves them in out/. Nothing but a temporary copy is changed.
+The libraries below a crate are used as `rt ci` leaves them in out/; `rt check` would prove them once more, since it takes
+only what checks have kept. Nothing but a temporary copy is changed.
 """
 
 import argparse
@@ -166,45 +167,65 @@ def failed(said: str, crate: str) -> dict[str, str]:
     return found
 
 
-def below(crates: Path, name: str) -> set[str]:
-    """The crates of the repository that a crate stands on, by the lines of crates.txt."""
+def uses_of(top: Path) -> dict[str, list[str]]:
+    """What each crate stands on, by the lines of crates.txt."""
     uses = {}
-    for line in (crates.parent / "crates.txt").read_text(encoding="utf-8").split("\n"):
+    for line in (top / "crates.txt").read_text(encoding="utf-8").split("\n"):
         head, _, tail = line.partition("#")[0].partition(":")
         if head.strip():
-            uses[head.split()[0]] = {it for it in tail.split() if (crates / it).is_dir()}
-    found: set[str] = set()
-    left = {name}
+            uses[head.split()[0]] = tail.split()
+    return uses
+
+
+def words_of(name: str, top: Path) -> list[str]:
+    """The words by which `rt check` has the crate checked, over the libraries that stand in the repository."""
+    said = subprocess.run(["rt", "doc"], check=True, stdin=subprocess.DEVNULL, stdout=subprocess.PIPE, encoding="utf-8")
+    kit = Path(said.stdout.strip()).parent
+    uses = uses_of(top)
+
+    def library(it: str) -> Path:
+        return top / "crates" / it / "out" / "rlib"
+
+    ours = [it for it in uses[name] if it in uses]
+    kits = ["std"] + [it for it in uses[name] if it not in uses]
+    below: list[str] = []
+    left = list(ours)
     while left:
-        left = set().union(*(uses.get(it, set()) for it in left)) - found
-        found |= left
-    return found
+        it = left.pop()
+        if it not in below:
+            below.append(it)
+            left += [deeper for deeper in uses[it] if deeper in uses]
+    for it in below:
+        if not (library(it) / f"{it}.rlib").is_dir():
+            raise Fault(f"{it} has no library in out/: run `rt ci` first")
+    words = [str(kit / "bin" / "rattle"), "check", "--crate-name", name, "src/lib.rt"]
+    words += [word for it in kits for word in ("--extern", f"{it}={kit}/rlibs/{it}.rlib")]
+    words += ["-L", f"dependency={kit}/rlibs"]
+    words += [word for it in ours for word in ("--extern", f"{it}={library(it)}/{it}.rlib")]
+    words += [word for it in below for word in ("-L", f"dependency={library(it)}")]
+    words += ["--antt-project", f"{kit}/rattle/logic/antt-project.json", "--logic-built", f"{kit}/logic_built"]
+    return words + ["--links", f"{name}=", "--jobs", "1", "--incremental", "out/incremental"]
 
 
 def checked(name: str, edits: list[Edit], top: Path) -> str:
     """What one check says of a copy of the crate with all its edits."""
     with tempfile.TemporaryDirectory(prefix=f"edits-{name}-") as made:
-        room = Path(made)
-        shutil.copy(top / "crates.txt", room)
-        if (top / "HANDLES").is_file():
-            shutil.copy(top / "HANDLES", room)
-        listed = below(top / "crates", name) | {name}
-        kept = shutil.ignore_patterns("incremental", "*.o", "wrong", "must-fail")
-        for it in listed:
-            shutil.copytree(top / "crates" / it, room / "crates" / it, ignore=kept)
-        (room / "crates.txt").write_text("".join(
-            line + "\n" for line in (top / "crates.txt").read_text(encoding="utf-8").split("\n")
-            if line.partition(":")[0].split()[:1] and line.partition(":")[0].split()[0] in listed), encoding="utf-8")
-        apply(edits, room / "crates" / name)
+        crate = Path(made) / name
+        shutil.copytree(top / "crates" / name, crate, ignore=shutil.ignore_patterns("out", "wrong", "must-fail"))
+        (crate / "out").mkdir()
+        apply(edits, crate)
         ran = subprocess.run(
-            ["rt", "check", "--jobs", "1"], cwd=room / "crates" / name, check=False, stdin=subprocess.DEVNULL,
+            words_of(name, top), cwd=crate, check=False, stdin=subprocess.DEVNULL,
             stdout=subprocess.PIPE, stderr=subprocess.STDOUT, encoding="utf-8", errors="replace")
         return ran.stdout
 
 
 def tried(name: str, edits: list[Edit], top: Path) -> tuple[list[str], list[str]]:
     """What refuses each edit of a crate, a line each, and what is wrong."""
-    said = checked(name, edits, top)
+    try:
+        said = checked(name, edits, top)
+    except Fault as why:
+        return [], [f"{name}: {why}"]
     if not re.search(r"(?m)^logic=(?:not-)?proved", said):
         return [], [f"{name}: the check did not come to its end:\n{said[-1500:]}"]
     left = failed(said, name)
