@@ -2,6 +2,7 @@
 ghost use Rattle.std.specs.Prelude.{IfOk};
 ghost use Rattle.giop_message.specs.MessageState.{AreOf};
 
+use giop_print::{Sheet, put_all};
 use giop_sig::{Catalogue, Requests};
 use std::alloc::Global;
 use std::test::Fail;
@@ -15,38 +16,50 @@ pub fn built_in(alloc: Global) -> Result<(Catalogue, Requests), Fail>
     Ok((catalogue, requests))
 }
 
-/// The octets that hexadecimal digits spell, where `xx*n` is n times.
-pub fn octets_of(alloc: Global, text: &str) -> Result<Vec<u8>, Fail> {
-    let mut octets = Vec::new(alloc);
+/// Writes the octets of words of hexadecimal digits, where `xx*n` is n times, and says how many they are: 0 where it is
+/// no such text, or there is no room for them.
+pub fn spelled(text: &str, room: &mut [u8]) -> usize {
+    let mut sheet = Sheet::new(room);
+    match put_words(text, &mut sheet) {
+        Some(()) => sheet.held().len(),
+        None => 0,
+    }
+}
+
+/// So many octets, from the front.
+pub fn front(octets: &[u8], count: usize) -> &[u8] {
+    octets.split_at(count.min(octets.len())).0
+}
+
+fn put_words(text: &str, out: &mut Sheet) -> Option<()> {
     for word in text.split(' ') {
-        add_word(word, &mut octets)?;
+        put_word(word, out)?;
     }
-    Ok(octets)
+    Some(())
 }
 
-fn add_word(word: &str, octets: &mut Vec<u8>) -> Result<(), Fail> {
+fn put_word(word: &str, out: &mut Sheet) -> Option<()> {
     let Some((digits, times)) = word.split_once('*') else {
-        return add_octets(word, octets);
+        return put_octets(word, out);
     };
-    for _ in 0..u32::from_str_radix(times, 10)? {
-        add_octets(digits, octets)?;
+    for _ in 0..u32::from_str_radix(times, 10).ok()? {
+        put_octets(digits, out)?;
     }
-    Ok(())
+    Some(())
 }
 
-fn add_octets(digits: &str, octets: &mut Vec<u8>) -> Result<(), Fail> {
+fn put_octets(digits: &str, out: &mut Sheet) -> Option<()> {
     let mut high = None;
     for digit in digits.chars() {
-        let digit = digit.to_digit(16).ok_or("a hexadecimal digit")?;
+        let digit = digit.to_digit(16)?;
         match high.take() {
             None => high = Some(digit),
             // A digit is below 16: with the remainders that is provable.
-            Some(first) => octets.push((first % 16 * 16 + digit % 16) as u8)?,
+            Some(first) => put_all(out, &[(first % 16 * 16 + digit % 16) as u8]).ok()?,
         }
     }
     if high.is_some() {
-        Err(Fail::from("an odd number of digits"))
-    } else {
-        Ok(())
+        return None;
     }
+    Some(())
 }

@@ -1,10 +1,8 @@
-//! Tests of messages: their lines, taken whole and in two pieces, how they close, and outs that fail.
+//! Tests of messages: what is known of their headers, and messages that are stored and restored.
 #![tactic(auto)]
 
 #[cfg(test)]
 mod known;
-#[cfg(test)]
-mod pieces;
 #[cfg(test)]
 mod rows;
 #[cfg(test)]

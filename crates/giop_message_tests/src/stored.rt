@@ -2,12 +2,11 @@
 ghost use Rattle.std.specs.Prelude.{◌≡◌, ◌≤◌, length, IfSome};
 ghost use Rattle.giop_message.specs.MessageState.{AreOf, Fits};
 
-use crate::known::{built_in, octets_of};
+use crate::known::{built_in, front, spelled};
 use crate::rows::{Closing, Row, row_of, rows};
 use giop_message::Message;
 use giop_print::{OutFault, Sheet};
 use giop_sig::{Catalogue, Requests};
-use std::alloc::Global;
 use std::process::Abort;
 use std::test::Fail;
 
@@ -61,40 +60,26 @@ fn takes_restored(
 #[test]
 fn a_restored_message_goes_on_as_the_stored_one(rt: HostRuntime) -> Result<(), Fail> {
     let known = built_in(rt.alloc())?;
-    each_row_is_restored(&rt, &known.0, &known.1)
+    each_row_is_restored(&rt, &known.0, &known.1);
+    Ok(())
 }
 
-fn each_row_is_restored(
-    rt: &(impl Abort + AllocGlobal),
-    catalogue: &Catalogue,
-    requests: &Requests,
-) -> Result<(), Fail>
+fn each_row_is_restored(rt: &impl Abort, catalogue: &Catalogue, requests: &Requests)
     requires of { AreOf catalogue.now requests.now }
 {
     for text in rows() {
         let row = row_of(text);
-        let octets = octets_of(rt.alloc(), row.octets)?;
-        is_restored_anywhere(rt, catalogue, requests, row, &octets);
-    }
-    Ok(())
-}
-
-fn is_restored_anywhere(
-    rt: &impl Abort,
-    catalogue: &Catalogue,
-    requests: &Requests,
-    row: Row,
-    octets: &[u8],
-)
-    requires of { AreOf catalogue.now requests.now }
-{
-    for cut in 12..octets.len() + 1 {
-        let differs = restored_differs(catalogue, requests, row, octets, cut);
-        assert!(rt;
-            differs.is_empty(),
-            "{}, stored at {cut}: {differs}",
-            row.name
-        );
+        let mut room = [0; 256];
+        let count = spelled(row.octets, &mut room);
+        let octets = front(&room, count);
+        for cut in 12..count.saturating_add(1) {
+            let differs = restored_differs(catalogue, requests, row, octets, cut);
+            assert!(rt;
+                differs.is_empty(),
+                "{}, stored at {cut}: {differs}",
+                row.name
+            );
+        }
     }
 }
 
@@ -168,25 +153,36 @@ const CASES: [Case; 3] = [
 #[test]
 fn a_message_is_stored_in_these_octets(rt: HostRuntime) -> Result<(), Fail> {
     let known = built_in(rt.alloc())?;
-    each_case_is_stored(&rt, &known.0, &known.1)
+    each_case_is_stored(&rt, &known.0, &known.1);
+    Ok(())
 }
 
-fn each_case_is_stored(
-    rt: &(impl Abort + AllocGlobal),
-    catalogue: &Catalogue,
-    requests: &Requests,
-) -> Result<(), Fail>
+fn each_case_is_stored(rt: &impl Abort, catalogue: &Catalogue, requests: &Requests)
     requires of { AreOf catalogue.now requests.now }
 {
-    for case in CASES {
-        let octets = octets_of(rt.alloc(), case.octets)?;
-        let own = octets_of(rt.alloc(), case.own)?;
-        let part = octets_of(rt.alloc(), case.part)?;
-        let frames = octets_of(rt.alloc(), case.frames)?;
-        let differs = stored_differs(catalogue, requests, &octets, &own, &part, &frames);
+    for case in &CASES {
+        let differs = case_differs(catalogue, requests, case);
         assert!(rt; differs.is_empty(), "{}: {differs}", case.name);
     }
-    Ok(())
+}
+
+/// What differs of what is stored of a case.
+fn case_differs(catalogue: &Catalogue, requests: &Requests, case: &Case) -> &'static str
+    requires of { AreOf catalogue.now requests.now }
+{
+    let (mut octets, mut own, mut part, mut frames) = ([0; 256], [0; 16], [0; 208], [0; 256]);
+    let count = spelled(case.octets, &mut octets);
+    let _sixteen = spelled(case.own, &mut own);
+    let _others = spelled(case.part, &mut part);
+    let held = spelled(case.frames, &mut frames);
+    stored_differs(
+        catalogue,
+        requests,
+        front(&octets, count),
+        &own,
+        &part,
+        front(&frames, held),
+    )
 }
 
 /// What differs of what is stored of a message of these octets.
@@ -227,66 +223,86 @@ fn stored_differs(
     ""
 }
 
-/// One octet of a case that is changed, so that no message is stored so: its name, the case, the octet's index, and its
-/// value.
-#[derive(Clone, Copy)]
-struct Wrong(&'static str, usize, usize, u8);
-
-const WRONG: [Wrong; 11] = [
-    Wrong("a part of no kind", 0, 0, 5),
-    Wrong("a next octet in the message header", 0, 8, 11),
-    Wrong("a request id that was neither said nor not", 0, 9, 2),
-    Wrong("an octet without a use behind the id", 0, 15, 1),
-    Wrong("a body of no kind", 0, 16, 3),
-    Wrong("a type that the catalogue doesn't have", 0, 20, 41),
-    Wrong("an octet without a use behind a type", 0, 223, 1),
-    Wrong("more octets of a rest than there were", 1, 23, 45),
-    Wrong("a last part that is full", 1, 24, 32),
-    Wrong("an octet without a use behind a last part", 1, 28, 1),
-    Wrong("a request id beside that of the header's decoder", 2, 0, 0),
-];
+/// Octets that no message stores, each in a line: the case, the octet's index, and its value instead of the one there.
+static WRONG: &str = r#"0 0 5 a part of no kind
+0 8 11 a next octet in the message header
+0 9 2 a request id that was neither said nor not
+0 15 1 an octet without a use behind the id
+0 16 3 a body of no kind
+0 20 41 a type that the catalogue doesn't have
+0 223 1 an octet without a use behind a type
+1 23 45 more octets of a rest than there were
+1 24 32 a last part that is full
+1 28 1 an octet without a use behind a last part
+2 0 0 a request id beside that of the header's decoder"#;
 
 #[test]
 fn octets_that_no_message_stores_are_refused(rt: HostRuntime) -> Result<(), Fail> {
-    let known = built_in(rt.alloc())?;
-    for Wrong(name, case, at, octet) in WRONG {
-        let right = octets_of_case(rt.alloc(), case)?;
-        let frames = octets_of(rt.alloc(), CASES[case % 3].frames)?;
-        assert!(rt;
-            is_restored(&known.0, &right, &frames),
-            "{name}: the right octets"
-        );
-        let mut octets = right;
-        if let Some(place) = octets.get_mut(at) {
-            *place = octet;
-        }
-        assert!(rt; !is_restored(&known.0, &octets, &frames), "{name}");
-    }
+    let catalogue = Catalogue::builtin(rt.alloc())?;
+    let differs = not_refused(&catalogue);
+    assert!(rt; differs.is_empty(), "{differs}");
     Ok(())
 }
 
-/// The octets that are stored of a case.
-fn octets_of_case(alloc: Global, case: usize) -> Result<Vec<u8>, Fail> {
-    let case = &CASES[case % 3];
-    let mut octets = octets_of(alloc, case.own)?;
-    octets.extend_from_slice(&octets_of(alloc, case.part)?)?;
-    Ok(octets)
+/// The first line of the table whose octet isn't refused, or nothing.
+fn not_refused(catalogue: &Catalogue) -> &'static str {
+    for line in WRONG.split('\n') {
+        if !is_refused(catalogue, line) {
+            return line;
+        }
+    }
+    ""
+}
+
+/// Whether the octets of a line's case are restored, and refused with another instead of one of them.
+fn is_refused(catalogue: &Catalogue, line: &str) -> bool {
+    let mut words = line.split(' ');
+    let case = usize::from_str_radix(words.next().unwrap_or(""), 10);
+    let at = usize::from_str_radix(words.next().unwrap_or(""), 10);
+    let octet = u8::from_str_radix(words.next().unwrap_or(""), 10);
+    let (Ok(case), Ok(at), Ok(octet)) = (case, at, octet) else {
+        return false;
+    };
+    let mut fixed = fixed_of(&CASES[case % 3]);
+    let mut room = [0; 256];
+    let held = spelled(CASES[case % 3].frames, &mut room);
+    let frames = front(&room, held);
+    if !is_restored(catalogue, &fixed, frames) {
+        return false;
+    }
+    match fixed.get_mut(at) {
+        Some(place) => *place = octet,
+        None => return false,
+    }
+    !is_restored(catalogue, &fixed, frames)
+}
+
+/// The octets that are stored of a case in front of its frames.
+fn fixed_of(case: &Case) -> [u8; 224] {
+    let (mut own, mut part, mut fixed) = ([0; 16], [0; 208], [0; 224]);
+    let _sixteen = spelled(case.own, &mut own);
+    let _others = spelled(case.part, &mut part);
+    fixed[..16].copy_from_slice(&own);
+    fixed[16..].copy_from_slice(&part);
+    fixed
 }
 
 /// Whether a message is stored in these octets and frames.
-fn is_restored(catalogue: &Catalogue, octets: &[u8], frames: &[u8]) -> bool {
-    match octets.first_chunk::<224>() {
-        Some(fixed) => Message::restore(catalogue, 1, [0; 12], fixed, frames).is_some(),
-        None => false,
-    }
+fn is_restored(catalogue: &Catalogue, fixed: &[u8; 224], frames: &[u8]) -> bool {
+    Message::restore(catalogue, 1, [0; 12], fixed, frames).is_some()
 }
 
 #[test]
 fn padding_and_a_rest_have_no_frames(rt: HostRuntime) -> Result<(), Fail> {
-    let known = built_in(rt.alloc())?;
+    let catalogue = Catalogue::builtin(rt.alloc())?;
     for case in 0..2 {
-        let octets = octets_of_case(rt.alloc(), case)?;
-        assert!(rt; !is_restored(&known.0, &octets, &[0; 24]));
+        assert!(rt; has_no_frame(&catalogue, case), "{case}");
     }
     Ok(())
+}
+
+/// Whether a case is restored without a frame, and refused with one.
+fn has_no_frame(catalogue: &Catalogue, case: usize) -> bool {
+    let fixed = fixed_of(&CASES[case % 3]);
+    is_restored(catalogue, &fixed, &[]) && !is_restored(catalogue, &fixed, &[0; 24])
 }
