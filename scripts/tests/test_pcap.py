@@ -25,6 +25,10 @@ CLIENT, SERVER = ("10.0.0.1", 40000), ("10.0.0.2", PORT)
 ASK = ("47494f50 01020000 0000002c 00000005 03000000 0000 0000 00000003 6b6579 00 "
        "0000000e 5f6e6f6e5f6578697374656e7400 0000 00000000")
 ANSWER = "47494f50 01020001 0000000d 00000005 00000000 00000000 01"
+# `destroy` with request id 5, and its reply, which has no body.
+CALL_BACK = ("47494f50 01020000 00000024 00000005 03000000 0000 0000 00000003 6b6579 00 "
+             "00000008 64657374726f7900 00000000")
+DONE = "47494f50 01020001 0000000c 00000005 00000000 00000000"
 
 
 def octets(text: str) -> bytes:
@@ -67,14 +71,23 @@ def pcap(parts: Sequence[Segment], snap: int = 65535, port: int = CLIENT[1]) -> 
     return made
 
 
+def packet_behind(capture: bytes, packet: bytes) -> bytes:
+    """A capture with one more packet."""
+    return capture + struct.pack("<IIII", 1700000001, 0, len(packet), len(packet)) + packet
+
+
 def ip_packet(part: Segment, port: int) -> bytes:
     """A segment in TCP and IPv4."""
     ends = [(CLIENT[0], port), SERVER]
     source, target = ends if part.client else ends[::-1]
     head = struct.pack(">HHIIBBHHH", source[1], target[1], 1 + part.place, 1 + part.got, 5 << 4, 0x18, 8192, 0, 0)
-    tcp = head + part.octets
-    addresses = socket.inet_aton(source[0]) + socket.inet_aton(target[0])
-    return struct.pack(">BBHHHBBH", 0x45, 0, 20 + len(tcp), 0, 0, 64, 6, 0) + addresses + tcp
+    return in_ip(source[0], target[0], 6, head + part.octets)
+
+
+def in_ip(source: str, target: str, protocol: int, octets: bytes) -> bytes:
+    """Octets in IPv4."""
+    addresses = socket.inet_aton(source) + socket.inet_aton(target)
+    return struct.pack(">BBHHHBBH", 0x45, 0, 20 + len(octets), 0, 0, 64, protocol, 0) + addresses + octets
 
 
 def run(*words: str, path: str = os.environ["PATH"]) -> subprocess.CompletedProcess[str]:
@@ -83,13 +96,14 @@ def run(*words: str, path: str = os.environ["PATH"]) -> subprocess.CompletedProc
     return subprocess.run([str(SCRIPT), *words], env=environment, capture_output=True, text=True, timeout=120)
 
 
-def dumped(capture: bytes, status: int = 0) -> List[str]:
-    """The lines over a capture, without those of headers; heads have no time."""
+def dumped(capture: bytes, status: int = 0, said: str = "") -> List[str]:
+    """The lines over a capture, c.pcap, without those of headers; heads have no time."""
     with tempfile.TemporaryDirectory() as folder:
         path = os.path.join(folder, "c.pcap")
         Path(path).write_bytes(capture)
         done = run(path, str(PORT), str(SIGNATURES))
-    assert done.returncode == status, (done.returncode, done.stderr)
+    told = done.stderr.replace(path, "c.pcap")
+    assert (done.returncode, told) == (status, said), (done.returncode, told)
     lines = [line for line in done.stdout.splitlines() if not re.match(r"m\d+ (start|header)", line)]
     return [re.sub(r" at 2023-11-14 22:13:20\.\d{6} UTC", "", line) for line in lines]
 
@@ -168,6 +182,45 @@ class Cases(unittest.TestCase):
             dumped(pcap(segments(("c", a), ("s", b)), snap=90), status=1),
             [BOTH + ", 1 packets cut short: not dumped"],
         )
+
+    def test_both_ends_call(self) -> None:
+        a, b = pair(5)
+        asked, done = octets(CALL_BACK), octets(DONE)
+        rows = [  # the server's call, the client's reply, and what these show
+            ("one id", asked, done, "m1 call 5 destroy", []),
+            ("two ids", *pair(6), "m1 call 6 _non_existent", ["m2 body.return boolean true"]),
+        ]
+        for name, call, reply, called, shown in rows:
+            with self.subTest(name):
+                parts = segments(("c", a), ("s", call), ("s", b[:20]), ("c", reply), ("s", b[20:]))
+                self.assertEqual(
+                    dumped(pcap(parts)),
+                    [THERE, *CALL_5, *shown, "m2 end", f"total messages 2 faults 0 octets {len(a + reply)}",
+                     BACK, called, "m1 end", *as_message(2, TRUE), f"total messages 2 faults 0 octets {len(call + b)}"],
+                )
+
+    def test_the_capture_ends_inside_its_last_packet(self) -> None:
+        (a, b), (c, d) = pair(5), pair(6)
+        whole, parts = pcap(segments(("c", a), ("s", b), ("c", c))), segments(("c", a), ("s", b), ("c", c), ("s", d))
+        lines = [BOTH, *CALL_5, *as_message(2, TRUE), *as_message(3, CALL_6), "total messages 3 faults 0 octets 137"]
+        said = "giopdump-pcap: c.pcap: cut short in its last packet: dumped up to there\n"
+        self.assertEqual(dumped(whole), lines)
+        for name, length in [("its head", len(whole) + 5), ("its first octet", len(whole) + 17),
+                             ("its last octet", len(pcap(parts)) - 1)]:
+            with self.subTest(name):
+                self.assertEqual(dumped(pcap(parts)[:length], 1, said), lines)
+        none = said + "giopdump-pcap: c.pcap: no connection with port 12809\n"
+        self.assertEqual(dumped(whole[:60], 4, none), [])
+
+    def test_a_frame_of_no_connection(self) -> None:
+        parts = segments(*zip("cs", pair(5)))
+        lines = [BOTH, *CALL_5, *as_message(2, TRUE), "total messages 2 faults 0 octets 81"]
+        segment = ip_packet(parts[0], CLIENT[1])
+        unreachable = in_ip(SERVER[0], CLIENT[0], 1, struct.pack(">BBHI", 3, 1, 0, 0) + segment[:28])
+        ports = in_ip(CLIENT[0], SERVER[0], 6, segment[20:24])
+        for name, packet in [("an ICMP error", unreachable), ("ports alone", ports)]:
+            with self.subTest(name):
+                self.assertEqual(dumped(packet_behind(pcap(parts), packet)), lines)
 
     def test_it_is_no_giop(self) -> None:
         lines = dumped(pcap(segments(("c", b"GET / HTTP/1.0\r\n"))), status=1)
