@@ -247,7 +247,8 @@ def size_of(crate: Path) -> int:
 
 def lanes_of() -> int:
     """As many checks side by side as there are processors, and memory."""
-    memory = os.sysconf("SC_AVPHYS_PAGES") * os.sysconf("SC_PAGE_SIZE")
+    found = re.search(r"(?m)^MemAvailable: *(\d+) kB$", Path("/proc/meminfo").read_text(encoding="utf-8"))
+    memory = int(found[1]) << 10 if found else LANE_BYTES
     return max(1, min(len(os.sched_getaffinity(0)), memory // LANE_BYTES))
 
 
