@@ -1,6 +1,7 @@
 signatures 1;
 
 // Written by giopdump_signatures from CosNotifyChannelAdmin.idl.
+// whole: 114 operations, 17 exceptions, 7 types; by half: 12 operations; left out: 18 operations, 4 exceptions.
 
 // Every object
 operation boolean _is_a(in string logical_type_id);
@@ -64,8 +65,10 @@ operation void disconnect_sequence_push_consumer();
 operation void disconnect_sequence_pull_consumer();
 
 // CosNotifyComm::SequencePullSupplier (CosNotifyComm.idl:102)
-// left out: CosNotifyComm::SequencePullSupplier::pull_structured_events (CosNotifyComm.idl:104): return value: needs CosNotification::StructuredEvent
-// left out: CosNotifyComm::SequencePullSupplier::try_pull_structured_events (CosNotifyComm.idl:108): return value: needs CosNotification::StructuredEvent
+// the return value: rest (needs CosNotification::StructuredEvent)
+operation void pull_structured_events(in long max_number);
+// the return value: rest (needs CosNotification::StructuredEvent)
+operation void try_pull_structured_events(in long max_number);
 operation void disconnect_sequence_pull_supplier();
 
 // CosNotifyComm::SequencePushSupplier (CosNotifyComm.idl:117)
@@ -85,9 +88,15 @@ operation sequence<ConstraintInfo> get_constraints(in sequence<long> id_list);
 operation sequence<ConstraintInfo> get_all_constraints();
 operation void remove_all_constraints();
 operation void destroy();
-// left out: CosNotifyFilter::Filter::match (CosNotifyFilter.idl:84): parameter filterable_data: any
-// left out: CosNotifyFilter::Filter::match_structured (CosNotifyFilter.idl:87): parameter filterable_data: needs CosNotification::StructuredEvent
-// left out: CosNotifyFilter::Filter::match_typed (CosNotifyFilter.idl:91): parameter filterable_data: needs CosNotification::Property
+// parameter filterable_data of the request: rest (any)
+// what follows in the reply: rest (unequal parameters: CosNotifyFilter::MappingFilter::match (CosNotifyFilter.idl:133))
+operation boolean match();
+// parameter filterable_data of the request: rest (needs CosNotification::StructuredEvent)
+// what follows in the reply: rest (unequal parameters: CosNotifyFilter::MappingFilter::match_structured (CosNotifyFilter.idl:137))
+operation boolean match_structured();
+// parameter filterable_data of the request: rest (needs CosNotification::Property)
+// what follows in the reply: rest (unequal parameters: CosNotifyFilter::MappingFilter::match_typed (CosNotifyFilter.idl:142))
+operation boolean match_typed();
 operation long attach_callback(in Object callback);
 operation void detach_callback(in long callback);
 operation sequence<long> get_callbacks();
@@ -98,19 +107,22 @@ operation sequence<long> get_callbacks();
 // left out: CosNotifyFilter::MappingFilter::_get_value_type (CosNotifyFilter.idl:109): return value: TypeCode
 // left out: CosNotifyFilter::MappingFilter::_get_default_value (CosNotifyFilter.idl:111): return value: any
 // left out: CosNotifyFilter::MappingFilter::add_mapping_constraints (CosNotifyFilter.idl:113): parameter pair_list: needs CosNotifyFilter::MappingConstraintPair
-// left out: CosNotifyFilter::MappingFilter::modify_mapping_constraints (CosNotifyFilter.idl:117): parameter modify_list: needs CosNotifyFilter::MappingConstraintInfo
-// left out: CosNotifyFilter::MappingFilter::get_mapping_constraints (CosNotifyFilter.idl:123): return value: needs CosNotifyFilter::MappingConstraintInfo
+// parameter modify_list of the request: rest (needs CosNotifyFilter::MappingConstraintInfo)
+operation void modify_mapping_constraints(in sequence<long> del_list);
+// the return value: rest (needs CosNotifyFilter::MappingConstraintInfo)
+operation void get_mapping_constraints(in sequence<long> id_list);
 // left out: CosNotifyFilter::MappingFilter::get_all_mapping_constraints (CosNotifyFilter.idl:127): return value: needs CosNotifyFilter::MappingConstraintInfo
 operation void remove_all_mapping_constraints();
 // destroy (CosNotifyFilter.idl:131) travels like CosNotifyFilter::Filter::destroy (CosNotifyFilter.idl:82)
-// left out: CosNotifyFilter::MappingFilter::match (CosNotifyFilter.idl:133): parameter filterable_data: any
-// left out: CosNotifyFilter::MappingFilter::match_structured (CosNotifyFilter.idl:137): parameter filterable_data: needs CosNotification::StructuredEvent
-// left out: CosNotifyFilter::MappingFilter::match_typed (CosNotifyFilter.idl:142): parameter filterable_data: needs CosNotification::Property
+// match (CosNotifyFilter.idl:133) travels like CosNotifyFilter::Filter::match (CosNotifyFilter.idl:84) as far as that has types
+// match_structured (CosNotifyFilter.idl:137) travels like CosNotifyFilter::Filter::match_structured (CosNotifyFilter.idl:87) as far as that has types
+// match_typed (CosNotifyFilter.idl:142) travels like CosNotifyFilter::Filter::match_typed (CosNotifyFilter.idl:91) as far as that has types
 
 // CosNotifyFilter::FilterFactory (CosNotifyFilter.idl:149)
 exception InvalidGrammar "IDL:omg.org/CosNotifyFilter/InvalidGrammar:1.0" { };
 operation Object create_filter(in string constraint_grammar);
-// left out: CosNotifyFilter::FilterFactory::create_mapping_filter (CosNotifyFilter.idl:155): parameter default_value: any
+// parameter default_value of the request: rest (any)
+operation Object create_mapping_filter(in string constraint_grammar);
 
 // CosNotifyFilter::FilterAdmin (CosNotifyFilter.idl:167)
 exception FilterNotFound "IDL:omg.org/CosNotifyFilter/FilterNotFound:1.0" { };
@@ -270,7 +282,8 @@ operation sequence<long> get_all_supplieradmins();
 
 // CosNotifyChannelAdmin::EventChannelFactory (CosNotifyChannelAdmin.idl:374)
 exception ChannelNotFound "IDL:omg.org/CosNotifyChannelAdmin/ChannelNotFound:1.0" { };
-// left out: CosNotifyChannelAdmin::EventChannelFactory::create_channel (CosNotifyChannelAdmin.idl:376): parameter initial_qos: needs CosNotification::Property
+// parameter initial_qos of the request: rest (needs CosNotification::Property)
+operation Object create_channel(out long id);
 operation sequence<long> get_all_channels();
 operation Object get_event_channel(in long id);
 
@@ -279,10 +292,11 @@ exception DuplicateConstraintID "IDL:omg.org/CosNotifyFilter/DuplicateConstraint
 
 // Types that can't be said, or that need one
 // left out: CosNotification::Property (CosNotification.idl:18): member value: any
+// left out: CosNotification::PropertyRange (CosNotification.idl:36): member low_val: any
+// left out: CosNotification::NamedPropertyRange (CosNotification.idl:41): member range: needs CosNotification::PropertyRange
 // left out: CosNotification::EventHeader (CosNotification.idl:73): member variable_header: needs CosNotification::Property
 // left out: CosNotification::StructuredEvent (CosNotification.idl:78): member header: needs CosNotification::EventHeader
-// left out: CosNotifyFilter::MappingConstraintPair (CosNotifyFilter.idl:33): member result_to_set: any
 // left out: CosNotifyFilter::MappingConstraintInfo (CosNotifyFilter.idl:40): member value: any
-// left out: CosNotification::PropertyRange (CosNotification.idl:36): member low_val: any
+// left out: CosNotifyFilter::MappingConstraintPair (CosNotifyFilter.idl:33): member result_to_set: any
 // left out: CosNotification::PropertyError (CosNotification.idl:57): member available_range: needs CosNotification::PropertyRange
 // left out: CosNotifyChannelAdmin::AdminLimit (CosNotifyChannelAdmin.idl:263): member value: any

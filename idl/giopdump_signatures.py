@@ -3,8 +3,9 @@
     omniidl -p idl -bgiopdump_signatures orders.idl > orders.sig
 
 The file has the operations and exceptions of orders.idl and of what it includes, and the types that they need.
-What the signature language has no form for is left out with a comment, and so is what needs it: such a body is
-shown as rest, never as wrong values. The end of standard error says what was written and what was left out.
+A request or a reply has types up to its first value that the signature language has no form for: the others are
+shown as rest, never as wrong values. What has no type at all is left out. Comments say why, and the end of standard
+error what is whole, what is by half and what is left out.
 
 -Wbonly=Module::Interface takes one interface and what it inherits; it may be given more than once.
 
@@ -35,12 +36,22 @@ def counted(counts: Counter[str], kinds: Sequence[str]) -> str:
     return ", ".join(f"{counts[kind]} {kind}{'' if counts[kind] == 1 else 's'}" for kind in kinds)
 
 
+def counts(selection: Selection) -> List[str]:
+    """What is whole, by half and left out, a text for each."""
+    return [
+        f"whole: {counted(selection.whole, ['operation', 'exception', 'type'])}",
+        f"by half: {counted(selection.by_half, ['operation'])}",
+        f"left out: {counted(selection.left_out, ['operation', 'exception'])}",
+    ]
+
+
 def summary(selection: Selection) -> str:
-    """What was written and what was left out, for standard error."""
-    text = f"{PROGRAM}: written: {counted(selection.written, ['operation', 'exception', 'type'])}\n"
-    text += f"{PROGRAM}: left out: {counted(selection.left_out, ['operation', 'exception'])}"
-    causes = ", ".join(f"{number} for {cause}" for cause, number in sorted(selection.causes.items()))
-    return text + (f" ({causes})\n" if causes else "\n")
+    """The counts with what they are for, for standard error."""
+    lines = []
+    for text, causes in zip(counts(selection), (Counter(), selection.why_half, selection.why_left_out)):
+        told = ", ".join(f"{number} for {cause}" for cause, number in sorted(causes.items()))
+        lines.append(f"{PROGRAM}: {text}" + (f" ({told})\n" if told else "\n"))
+    return "".join(lines)
 
 
 def wanted_interfaces(arguments: Sequence[str]) -> List[str]:
@@ -65,7 +76,7 @@ def run(tree: idlast.AST, arguments: Sequence[str]) -> None:
     sys.setrecursionlimit(max(sys.getrecursionlimit(), 100000))
     only = wanted_interfaces(arguments)
     selection = Selection(tree, only)
-    text = Sheet(selection.sections).text(tree.file(), only)
+    text = Sheet(selection.sections).text(tree.file(), only, "; ".join(counts(selection)))
     if len(text) > MOST_OCTETS:
         sys.exit(f"{PROGRAM}: {len(text)} octets, {MOST_OCTETS} at most: choose interfaces with -Wbonly")
     sys.stdout.write(text)

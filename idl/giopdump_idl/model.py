@@ -20,6 +20,12 @@ MOST_LABELS = 1024
 MOST_DECLARATIONS = 4096
 MOST_OCTETS = 1048576
 
+RETURNED = "return value"
+
+
+# How deep a type is looked through. What is nested deeper is far beyond MOST_DEPTH.
+MOST_NESTING = 100
+
 
 class Unsayable(Exception):
     """What the signature language has no form for: `cause` is counted in the summary, `text` told in a comment."""
@@ -32,6 +38,17 @@ class Unsayable(Exception):
     def within(self, where: str) -> Unsayable:
         """The same, told of a part of something."""
         return Unsayable(self.cause, f"{where}: {self.text}")
+
+
+class TooDeep(Unsayable):
+    """A type that is nested too deep to be looked through. It is told of the whole, and not kept of what is within,
+    which may have a form by itself."""
+
+    def __init__(self) -> None:
+        super().__init__(f"more than {MOST_DEPTH} levels", f"{MOST_NESTING} levels deep or more, {MOST_DEPTH} at most")
+
+    def within(self, where: str) -> Unsayable:
+        return self
 
 
 @dataclass(frozen=True)
@@ -187,31 +204,118 @@ class Parameter:
 
 
 @dataclass(frozen=True)
+class Slot:
+    """What an operation declares: its direction, its name in words, and its name and type or why it has none. The
+    value that is returned is the first of those that go `out`."""
+
+    direction: str
+    title: str
+    made: Either[Item, Unsayable]
+
+
+@dataclass(frozen=True)
+class Member:
+    """A typed value of a request or a reply: which of an operation's parameters it is, 0 for what is returned."""
+
+    position: int
+    title: str
+    item: Item
+
+
+@dataclass(frozen=True)
+class Cut:
+    """Where the types of a request or a reply end before its values do: `cause` is counted, `why` is told of what has
+    no type, and `told` of an operation that is left out for it."""
+
+    where: str
+    cause: str
+    why: str
+    told: str
+
+
+@dataclass(frozen=True)
+class Half:
+    """A request or a reply: its values up to the first without a type, and where that cuts it."""
+
+    members: Tuple[Member, ...]
+    cut: Optional[Cut] = None
+
+    @staticmethod
+    def of(kind: str, slots: Iterable[Tuple[int, Slot]]) -> Half:
+        """The slots that travel in it, up to the first without a form: what follows that has no known offset."""
+        members: List[Member] = []
+        for position, slot in slots:
+            if isinstance(slot.made, Unsayable):
+                why = slot.made
+                return Half(
+                    tuple(members),
+                    Cut(place_in(kind, slot.title), why.cause, why.text, why.within(slot.title).text),
+                )
+            members.append(Member(position, slot.title, slot.made))
+        return Half(tuple(members))
+
+    @property
+    def types(self) -> List[Type]:
+        """The types of what is typed."""
+        return [each.item.type for each in self.members]
+
+
+@dataclass(frozen=True)
 class Operation:
     """An operation as it travels; an attribute is one or two of them."""
 
     name: str
-    result: Optional[Type]
-    parameters: Tuple[Parameter, ...]
+    request: Half
+    reply: Half
+
+    @staticmethod
+    def of(name: str, slots: Sequence[Slot]) -> Operation:
+        """The operation of these slots, its request and its reply each as far as it has types. Where nothing is
+        returned the first slot is a parameter."""
+        first = 0 if slots and slots[0].title == RETURNED else 1
+        placed = list(enumerate(slots, first))
+        return Operation(
+            name,
+            Half.of("request", [each for each in placed if each[1].direction != "out"]),
+            Half.of("reply", [each for each in placed if each[1].direction != "in"]),
+        )
+
+    @staticmethod
+    def refused(name: str, why: Unsayable) -> Operation:
+        """An operation that has no form at all."""
+        cut = Cut("the whole", why.cause, why.text, why.text)
+        return Operation(name, Half((), cut), Half((), cut))
 
     @property
-    def request(self) -> List[Type]:
-        """The types that a Request carries."""
-        return [each.item.type for each in self.parameters if each.direction != "out"]
+    def cuts(self) -> List[Cut]:
+        """Where its request and its reply are cut."""
+        return [half.cut for half in (self.request, self.reply) if half.cut]
 
     @property
-    def reply(self) -> List[Type]:
-        """The types that a Reply carries."""
-        returned = [] if self.result is None else [self.result]
-        return returned + [each.item.type for each in self.parameters if each.direction != "in"]
+    def says_nothing(self) -> bool:
+        """Whether it has values, and none has a type."""
+        return bool(self.cuts) and not self.types
 
     @property
-    def depth(self) -> int:
-        return 1 + max((each.depth for each in self.request + self.reply), default=0)
+    def types(self) -> List[Type]:
+        """The types that a Request carries, and then those that a Reply carries."""
+        return self.request.types + self.reply.types
 
-    def travels_like(self, other: Operation) -> bool:
-        """Whether requests and replies of both are the same octets."""
-        return self.request == other.request and self.reply == other.reply
+    @property
+    def result(self) -> Optional[Type]:
+        """The type of what is returned, where there is one."""
+        returned = [each for each in self.reply.members if each.position == 0]
+        return returned[0].item.type if returned else None
+
+    @property
+    def parameters(self) -> List[Parameter]:
+        """Its typed parameters: `inout` where both the request and the reply have one."""
+        asked = {each.position: each.item for each in self.request.members}
+        told = {each.position: each.item for each in self.reply.members if each.position}
+        return [
+            Parameter(("in" if at in asked else "") + ("out" if at in told else ""), asked.get(at) or told[at])
+            for at in sorted({**asked, **told})
+        ]
 
 
 def at_most(count: int, most: int, what: str) -> None:
@@ -229,3 +333,8 @@ def checked_depth(depth: int) -> None:
 def spelled(scoped: Iterable[str]) -> str:
     """A scoped name as IDL writes it."""
     return "::".join(scoped)
+
+
+def place_in(kind: str, title: str) -> str:
+    """A value of a request or a reply, in words."""
+    return f"the {RETURNED}" if title == RETURNED else f"{title} of the {kind}"

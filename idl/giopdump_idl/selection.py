@@ -5,23 +5,25 @@ from __future__ import annotations
 import sys
 from collections import Counter
 from dataclasses import dataclass, replace
-from typing import Callable, Dict, Iterable, Iterator, List, Optional, Sequence, Set, Tuple, Union as Either
+from typing import Dict, Iterable, Iterator, List, Optional, Sequence, Set, Tuple, Union as Either
 
 from omniidl import idlast
 
 from .model import (
-    MOST_DECLARATIONS, Array, Declared, Item, Operation, Parameter, Place, Raised, Scalar, Series, Text, Type,
-    Unsayable, at_most, spelled,
+    MOST_DECLARATIONS, RETURNED, Array, Cut, Declared, Half, Item, Operation, Place, Raised, Scalar, Series, Slot, Text,
+    Type, Unsayable, at_most, place_in, spelled,
 )  # fmt: skip
 from .translator import Translator
 
 UNEQUAL = "equal names, unequal parameters"
 UNEQUAL_IDS = "equal repository ids, unequal members"
+MOST_NAMED = 8  # interfaces that one comment names
 
 
 @dataclass
 class Call:
-    """An operation that an interface declares, with what became of it: a refusal where it can't be written."""
+    """An operation that an interface declares, with what became of it: a refusal where it can't be written, and the
+    call that is written for it where another of its name is."""
 
     owner: str
     name: str
@@ -46,12 +48,14 @@ class Section:
 
 Entry = Either[Declared, Operation, str]  # a str is a comment
 
+YES_OR_NO = Slot("out", RETURNED, Item("return", Scalar("boolean")))
 EVERY_OBJECT = Section(
     "Every object",
     [
-        Call("Object", "_is_a", None, Operation(
-            "_is_a", Scalar("boolean"), (Parameter("in", Item("logical_type_id", Text(0))),))),
-        Call("Object", "_non_existent", None, Operation("_non_existent", Scalar("boolean"), ())),
+        Call("Object", "_is_a", None, Operation.of(
+            "_is_a",
+            [YES_OR_NO, Slot("in", "parameter logical_type_id", Item("logical_type_id", Text(0)))])),
+        Call("Object", "_non_existent", None, Operation.of("_non_existent", [YES_OR_NO])),
     ],
     [],
 )
@@ -89,46 +93,72 @@ def calls_of(interface: idlast.Interface, translator: Translator) -> Iterator[Ca
     for decl in interface.callables():
         place = Place.of(decl)
         if isinstance(decl, idlast.Operation):
-            yield attempt(owner, decl.identifier(), place, lambda: translator.operation(decl))
+            yield Call(owner, decl.identifier(), place, translator.operation(decl))
             continue
         for name in decl.identifiers():
-            yield attempt(owner, f"_get_{name}", place, lambda: translator.getter(name, decl.attrType()))
+            yield Call(owner, f"_get_{name}", place, translator.getter(name, decl.attrType()))
             if not decl.readonly():
-                yield attempt(owner, f"_set_{name}", place, lambda: translator.setter(name, decl.attrType()))
-
-
-def attempt(owner: str, name: str, place: Place, make: Callable[[], Operation]) -> Call:
-    """A call with the operation, or with why there is none."""
-    try:
-        return Call(owner, name, place, make())
-    except Unsayable as refusal:
-        return Call(owner, name, place, refusal)
+                yield Call(owner, f"_set_{name}", place, translator.setter(name, decl.attrType()))
 
 
 def settle(calls: Sequence[Call]) -> None:
-    """Of calls of one name, which a message can't tell apart: lets the first be written where all travel alike."""
-    first = calls[0]
-    refused = [call for call in calls if isinstance(call.outcome, Unsayable)]
-    unequal = [call for call in calls if not refused and not call.outcome.travels_like(first.outcome)]
-    for call in calls:
-        if refused and call not in refused:
-            call.outcome = Unsayable(refused[0].outcome.cause, f"{refused[0].title} has this name and is left out")
-        elif unequal:
-            others = ", ".join(other.title for other in calls if other is not call)
-            call.outcome = Unsayable(UNEQUAL, f"unequal parameters: {others}")
-        elif not refused and call is not first:
+    """Of calls of one name, which a message can't tell apart: lets the first be written as far as all travel alike."""
+    first, own = calls[0], [call.outcome for call in calls]
+    others = unequal_to([call for call in calls if not same(call.outcome, first.outcome)])
+    first.outcome = Operation(
+        first.name,
+        common("request", [each.request for each in own], others),
+        common("reply", [each.reply for each in own], others),
+    )
+    if not first.outcome.says_nothing:
+        for call in calls[1:]:
             call.written_by = first
+        return
+    for call, operation in zip(calls, own):
+        if operation.says_nothing:
+            call.outcome = Unsayable(operation.cuts[0].cause, operation.cuts[0].told)
+        else:
+            call.outcome = Unsayable(UNEQUAL, others if call is first else unequal_to([first]))
+
+
+def common(kind: str, halves: Sequence[Half], others: str) -> Half:
+    """The requests, or the replies, of calls of one name as far as all have the same types, and what cuts that."""
+    first, count = halves[0], 0
+    while all(each.types[: count + 1] == first.types[: count + 1] != first.types[:count] for each in halves):
+        count += 1
+    if all(each.cut is None and len(each.members) == count for each in halves):
+        return first
+    if len(first.members) == count and first.cut:
+        return first
+    here = place_in(kind, first.members[count].title) if count < len(first.members) else f"what follows in the {kind}"
+    return Half(first.members[:count], Cut(here, UNEQUAL, others, others))
+
+
+def same(one: Operation, other: Operation) -> bool:
+    """Whether requests and replies of both are the same octets as far as they have types, and end or are cut there."""
+    pairs = [(one.request, other.request), (one.reply, other.reply)]
+    return all(a.types == b.types and (a.cut is None) == (b.cut is None) for a, b in pairs)
+
+
+def unequal_to(calls: Sequence[Call]) -> str:
+    """Words that name the calls of one name that have other types than one, or some of them where they are many."""
+    more = f" and {len(calls) - MOST_NAMED} more" if len(calls) > MOST_NAMED else ""
+    return f"unequal parameters: {', '.join(call.title for call in calls[:MOST_NAMED])}{more}"
 
 
 class Selection:
-    """Decides what is written, in order: sections of entries, and the counts of what is left out."""
+    """Decides what is written, in order: sections of entries, and the counts: what is whole, what is by half, which is
+    written as far as it has types, and what is left out. An operation counts wherever it is declared."""
 
     def __init__(self, tree: idlast.AST, only: Sequence[str]) -> None:
         self.translator = Translator()
         self.sections: List[Tuple[str, List[Entry]]] = []
-        self.causes: Counter[str] = Counter()
-        self.written: Counter[str] = Counter()
+        self.whole: Counter[str] = Counter()
+        self.by_half: Counter[str] = Counter()
         self.left_out: Counter[str] = Counter()
+        self.why_half: Counter[str] = Counter()
+        self.why_left_out: Counter[str] = Counter()
+        self._lines: Counter[str] = Counter()
         self._placed: Set[Declared] = set()
         self._exceptions: Dict[str, Either[Raised, Unsayable]] = {}
         self._named: List[idlast.Exception] = []
@@ -193,36 +223,57 @@ class Selection:
                 entries.append(f"{title} has the repository id of one above")
             self._named.append(decl)
         for call in part.calls:
-            if call.written_by:
-                entries.append(f"{call.name} ({call.place}) travels like {call.written_by.title}")
-            else:
-                self._add(entries, "operation", call.title, call.outcome)
+            self._call(entries, call)
         if entries:
             self.sections.append((part.title, entries))
 
+    def _call(self, entries: List[Entry], call: Call) -> None:
+        """Adds an operation, or a comment where the line of another call is its line too."""
+        by = call.written_by
+        if not by:
+            call.outcome = self._add(entries, "operation", call.title, call.outcome)
+        elif isinstance(by.outcome, Unsayable):
+            self._add(entries, "operation", call.title, by.outcome)
+        else:
+            how_far = " as far as that has types" if by.outcome.cuts else ""
+            entries.append(f"{call.name} ({call.place}) travels like {by.title}{how_far}")
+            self._count("operation", by.outcome.cuts)
+
     def _add(
         self, entries: List[Entry], kind: str, title: str, outcome: Either[Operation, Raised, Unsayable]
-    ) -> None:
-        """Adds an operation or an exception, or a comment on why it is left out."""
+    ) -> Either[Operation, Raised, Unsayable]:
+        """Adds an operation or an exception, or a comment on why it is left out; gives which."""
         if not isinstance(outcome, Unsayable):
             outcome = self._within_limits(kind, outcome)
         if isinstance(outcome, Unsayable):
             entries.append(f"left out: {title}: {outcome.text}")
             self.left_out[kind] += 1
-            self.causes[outcome.cause] += 1
-            return
+            self.why_left_out[outcome.cause] += 1
+            return outcome
         for declared in self._new_types(outcome):
             self._placed.add(declared)
             entries.append(declared)
-            self.written["type"] += 1
+            self.whole["type"] += 1
+        cuts = outcome.cuts if isinstance(outcome, Operation) else []
+        entries.extend(f"{cut.where}: rest ({cut.why})" for cut in cuts)
         entries.append(outcome)
-        self.written[kind] += 1
+        self._lines[kind] += 1
+        self._count(kind, cuts)
+        return outcome
+
+    def _count(self, kind: str, cuts: Sequence[Cut]) -> None:
+        """Counts what is written: by half where something cuts it."""
+        if cuts:
+            self.by_half[kind] += 1
+            self.why_half[cuts[0].cause] += 1
+        else:
+            self.whole[kind] += 1
 
     def _within_limits(self, kind: str, made: Either[Operation, Raised]) -> Either[Operation, Raised, Unsayable]:
         """What is to be added, where there is room for it and the types that it needs."""
         try:
-            at_most(self.written[kind] + 1, MOST_DECLARATIONS, f"{kind}s")
-            at_most(self.written["type"] + len(self._new_types(made)), MOST_DECLARATIONS, "types")
+            at_most(self._lines[kind] + 1, MOST_DECLARATIONS, f"{kind}s")
+            at_most(self.whole["type"] + len(self._new_types(made)), MOST_DECLARATIONS, "types")
         except Unsayable as refusal:
             return refusal
         return made
@@ -244,7 +295,7 @@ class Selection:
                     visit(part)
                 found[each] = None
 
-        for part in made.parts if isinstance(made, Raised) else made.request + made.reply:
+        for part in made.parts if isinstance(made, Raised) else made.types:
             visit(part)
         return list(found)
 

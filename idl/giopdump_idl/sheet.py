@@ -19,11 +19,11 @@ class Sheet:
         self._sections = sections
         self._names = names_for([each for _, entries in sections for each in entries if isinstance(each, Declared)])
 
-    def text(self, source: str, only: Sequence[str]) -> str:
-        """The whole signature file."""
+    def text(self, source: str, only: Sequence[str], counts: str) -> str:
+        """The whole signature file; its head says how much of the source is in it."""
         wanted = f", of it {' and '.join(only)}" if only else ""
         origin = f"Written by giopdump_signatures from {os.path.basename(source)}{wanted}."
-        lines = ["signatures 1;", "", comment(origin)]
+        lines = ["signatures 1;", "", comment(origin), comment(f"{counts}.")]
         for title, entries in self._sections:
             lines += ["", comment(title)] + [self._entry(entry) for entry in entries]
         return "\n".join(lines) + "\n"

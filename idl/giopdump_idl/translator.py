@@ -2,14 +2,14 @@
 
 from __future__ import annotations
 
-from typing import Callable, Dict, Iterable, Optional, Sequence, Set, Tuple
+from typing import Callable, Dict, Iterable, List, Optional, Sequence, Set, Tuple
 
 from omniidl import idlast, idltype
 
 from .model import (
-    MOST_ENUMERATORS, MOST_LABELS, MOST_MEMBERS, MOST_OPERATION_NAME, MOST_PARAMETERS, Array, Case, Enum, Item,
-    Operation, Parameter, Place, Raised, Reference, Scalar, Series, Struct, Text, Type, Union, Unsayable, at_most,
-    checked_depth, spelled,
+    MOST_ENUMERATORS, MOST_LABELS, MOST_MEMBERS, MOST_NESTING, MOST_OPERATION_NAME, MOST_PARAMETERS, RETURNED, Array,
+    Case, Enum, Item, Operation, Place, Raised, Reference, Scalar, Series, Slot, Struct, Text, TooDeep, Type, Union,
+    Unsayable, at_most, checked_depth, spelled,
 )  # fmt: skip
 from .names import fresh_names
 
@@ -56,9 +56,33 @@ class Translator:
         self._made: Dict[Tuple[str, ...], Type] = {}
         self._begun: Set[Tuple[str, ...]] = set()
         self._around: Dict[Array, Struct] = {}
+        self._aliases: Dict[Tuple[str, ...], Type] = {}
+        self._nesting = 0
 
     def type_of(self, idl: idltype.Type) -> Type:
         """The type that an IDL type is, behind all its typedefs."""
+        if self._nesting == MOST_NESTING:
+            raise TooDeep()
+        self._nesting += 1
+        try:
+            return self.behind(idl) if idl.kind() == idltype.tk_alias else self.plain(idl)
+        finally:
+            self._nesting -= 1
+
+    def behind(self, idl: idltype.Type) -> Type:
+        """The type behind a typedef and those that it is made of: a loop, since they may be many."""
+        chain: List[idlast.Declarator] = []
+        while idl.kind() == idltype.tk_alias and tuple(idl.scopedName()) not in self._aliases:
+            chain.append(idl.decl())
+            idl = chain[-1].alias().aliasType()
+        made = self._aliases[tuple(idl.scopedName())] if idl.kind() == idltype.tk_alias else self.plain(idl)
+        for declarator in reversed(chain):
+            made = self.array_of(made, declarator.sizes())
+            self._aliases[tuple(declarator.scopedName())] = made
+        return made
+
+    def plain(self, idl: idltype.Type) -> Type:
+        """The type that an IDL type is which no typedef made."""
         kind = idl.kind()
         if kind in SCALARS:
             return Scalar(SCALARS[kind])
@@ -70,9 +94,6 @@ class Translator:
             return Reference()
         if kind == idltype.tk_sequence:
             return Series(self.element_of(self.type_of(idl.seqType())), unsigned(idl.bound()))
-        if kind == idltype.tk_alias:
-            declarator = idl.decl()
-            return self.array_of(self.type_of(declarator.alias().aliasType()), declarator.sizes())
         return self.declared(idl.decl(), idl.scopedName())
 
     def array_of(self, element: Type, sizes: Sequence[int]) -> Type:
@@ -80,6 +101,8 @@ class Translator:
         made = element
         for length in reversed(sizes or []):
             made = Array(self.element_of(made), unsigned(length))
+            if made.depth > MOST_NESTING:
+                raise TooDeep()
         return made
 
     def element_of(self, made: Type) -> Type:
@@ -103,6 +126,8 @@ class Translator:
             try:
                 self._made[scoped] = self.made(decl.fullDecl())
                 return self._made[scoped]
+            except TooDeep:
+                raise
             except Unsayable as refusal:
                 self.refused[scoped] = (Place.of(decl.fullDecl() or decl), refusal)
             finally:
@@ -187,39 +212,45 @@ class Translator:
         """An operation. Its context, where it has one, travels behind its parameters as pairs of strings."""
         wishes = [each.identifier() for each in decl.parameters()] + (["context"] if decl.contexts() else [])
         names = fresh_names(wishes)
-        parameters = [
-            Parameter(DIRECTIONS[each.direction()], self.item(name, f"parameter {each.identifier()}", each.paramType()))
-            for name, each in zip(names, decl.parameters())
-        ]
+        slots = self.returned(decl.returnType())
+        for name, each in zip(names, decl.parameters()):
+            title = f"parameter {each.identifier()}"
+            slots.append(self.slot(DIRECTIONS[each.direction()], title, name, each.paramType()))
         if decl.contexts():
-            parameters.append(Parameter("in", Item(names[-1], Series(Text(0), 0))))
-        return self.checked(Operation(decl.identifier(), self.result(decl.returnType()), tuple(parameters)))
+            slots.append(Slot("in", "the context", Item(names[-1], Series(Text(0), 0))))
+        return self.limited(decl.identifier(), len(names), slots)
 
-    def result(self, idl: idltype.Type) -> Optional[Type]:
-        """What an operation returns; nothing where that is void."""
-        if idl.kind() == idltype.tk_void:
-            return None
+    def slot(self, direction: str, title: str, name: str, idl: idltype.Type) -> Slot:
+        """A parameter, or what is returned. A request or a reply is a level more."""
         try:
-            return self.element_of(self.type_of(idl))
+            made = self.type_of(idl)
+            made = self.element_of(made) if title == RETURNED else made
+            checked_depth(1 + made.depth)
+            return Slot(direction, title, Item(name, made))
         except Unsayable as refusal:
-            raise refusal.within("return value") from None
+            return Slot(direction, title, refusal)
+
+    def returned(self, idl: idltype.Type) -> List[Slot]:
+        """What an operation returns; nothing where that is void."""
+        return [] if idl.kind() == idltype.tk_void else [self.slot("out", RETURNED, "return", idl)]
 
     def getter(self, name: str, idl: idltype.Type) -> Operation:
         """The operation that reads an attribute."""
-        return self.checked(Operation(f"_get_{name}", self.result(idl), ()))
+        return self.limited(f"_get_{name}", 0, self.returned(idl))
 
     def setter(self, name: str, idl: idltype.Type) -> Operation:
         """The operation that writes an attribute."""
-        value = Parameter("in", self.item("value", "value", idl))
-        return self.checked(Operation(f"_set_{name}", None, (value,)))
+        return self.limited(f"_set_{name}", 1, [self.slot("in", "value", "value", idl)])
 
     @staticmethod
-    def checked(operation: Operation) -> Operation:
-        """The operation, where it keeps to the limits of a signature file."""
-        at_most(len(operation.name), MOST_OPERATION_NAME, "octets in an operation's name")
-        at_most(len(operation.parameters), MOST_PARAMETERS, "parameters")
-        checked_depth(operation.depth)
-        return operation
+    def limited(name: str, parameters: int, slots: Sequence[Slot]) -> Operation:
+        """The operation of these slots, without any form where it goes beyond the limits of a signature file."""
+        try:
+            at_most(len(name), MOST_OPERATION_NAME, "octets in an operation's name")
+            at_most(parameters, MOST_PARAMETERS, "parameters")
+        except Unsayable as refusal:
+            return Operation.refused(name, refusal)
+        return Operation.of(name, slots)
 
 
 def word_of(made: Type) -> str:

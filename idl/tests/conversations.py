@@ -1,4 +1,4 @@
-"""Conversations encoded by hand over three of the IDL texts, with the lines of their bodies."""
+"""Conversations encoded by hand over five of the IDL texts, with the lines of their bodies."""
 
 from __future__ import annotations
 
@@ -185,4 +185,147 @@ m8 end
 """,
 )
 
-CONVERSATIONS = [UNIONS, ARRAYS, ATTRIBUTES]
+# An any is a TypeCode, here of a basic type and so one ulong, and the value behind it: rest, padding and all.
+HALF = Conversation(
+    "half",
+    [
+        request(1, "query", ("string", "cd")),
+        reply(1, ("ulong", 5), ("ulong", 9)),
+        request(2, "put", ("string", "k"), ("ulong", 3), ("long", -2), ("long", 7)),
+        reply(2, ("long", 42)),
+        reply(2, ("string", "IDL:H/Odd:1.0"), ("string", "no"), status=1),
+        request(3, "store", ("string", "n"), ("ulong", 0), ("long", 5)),
+        reply(3, ("long", 3), ("string", "w")),
+        request(4, "list", ("ulong", 0), big=False),
+        reply(
+            4,
+            ("string", "x"), ("long", 1), ("boolean", True),
+            ("ulong", 1), ("string", "y"), ("ulong", 2), ("short", 4), ("long", 8),
+            big=False,
+        ),
+        request(5, "swap", ("short", -3), ("ulong", 3), ("long", 1), ("long", 4)),
+        reply(5, ("ulong", 3), ("long", 2), ("long", 5)),
+        request(6, "carry", ("long", 6), ("ulong", 10), ("octet", 255), ("string", "s")),
+        reply(6, ("long", 1), ("long", 6), ("string", "t")),
+        request(7, "fill", ("string", "a"), ("long", 2)),
+        reply(7, ("string", "b"), ("string", "c"), ("ulong", 8), ("boolean", True), ("long", 3)),
+    ],
+    "1 query\n2 put\n3 store\n4 list\n5 swap\n6 carry\n7 fill\n",
+    """\
+m1 call 1 query
+m1 body.what string @0 "cd"
+m1 end
+m2 rest @0 0000000500000009
+m2 end
+m3 call 2 put
+m3 body.key string @0 "k"
+m3 rest @0 000000000003fffffffe00000007
+m3 end
+m4 body.return long 42
+m4 end
+m5 exception string @0 "IDL:H/Odd:1.0"
+m5 body.why string @0 "no"
+m5 end
+m6 call 3 store
+m6 rest @0 000000026e0000000000000000000005
+m6 end
+m7 body.return long 3
+m7 body.where string @0 "w"
+m7 end
+m8 call 4 list
+m8 rest @0 00000000
+m8 end
+m9 body.return.what string @0 "x"
+m9 body.return.most long 1
+m9 body.more boolean true
+m9 rest @0 000000010000000200000079000000020000000400000008000000
+m9 end
+m10 call 5 swap
+m10 body.n short -3
+m10 rest @0 0000000000030000000100000004
+m10 end
+m11 rest @0 000000030000000200000005
+m11 end
+m12 call 6 carry
+m12 body.n long 6
+m12 rest @0 0000000aff000000000000027300
+m12 end
+m13 body.return long 1
+m13 body.n long 6
+m13 body.s string @0 "t"
+m13 end
+m14 call 7 fill
+m14 body.s string @0 "a"
+m14 body.last long 2
+m14 end
+m15 body.return string @0 "b"
+m15 body.s string @0 "c"
+m15 rest @0 0000000000080100000000000003
+m15 end
+""",
+)
+
+HALF_EQUAL = Conversation(
+    "half_equal",
+    [
+        request(1, "upto", ("long", 1), ("long", 2), ("short", 3)),
+        request(2, "upto", ("long", 1), ("long", 2), ("string", "z")),
+        reply(2, ("long", 9)),
+        request(3, "longer", ("long", 1)),
+        request(4, "longer", ("long", 1), ("long", 2)),
+        reply(4),
+        request(5, "empty"),
+        request(6, "empty", ("long", 7)),
+        reply(6, ("long", 8)),
+        request(7, "reply_only", ("ulong", 8), ("boolean", True)),
+        reply(7, ("long", -1)),
+        reply(8, ("long", 5)),
+        request(9, "bare", ("string", "a")),
+        reply(10, ("long", 1), ("short", 2)),
+    ],
+    "2 upto\n4 longer\n6 empty\n7 reply_only\n8 other_left_out\n10 both_typed\n",
+    """\
+m1 call 1 upto
+m1 body.k.n long 1
+m1 body.a long 2
+m1 rest @0 0003
+m1 end
+m2 call 2 upto
+m2 body.k.n long 1
+m2 body.a long 2
+m2 rest @0 000000027a00
+m2 end
+m3 body.return long 9
+m3 end
+m4 call 3 longer
+m4 body.a long 1
+m4 end
+m5 call 4 longer
+m5 body.a long 1
+m5 rest @0 00000002
+m5 end
+m6 end
+m7 call 5 empty
+m7 end
+m8 call 6 empty
+m8 rest @0 00000007
+m8 end
+m9 body.return long 8
+m9 end
+m10 call 7 reply_only
+m10 rest @0 0000000801
+m10 end
+m11 body.return long -1
+m11 end
+m12 rest @0 00000005
+m12 end
+m13 call 9 bare
+m13 rest @0 000000026100
+m13 end
+m14 body.return long 1
+m14 rest @0 0002
+m14 end
+""",
+)
+
+CONVERSATIONS = [UNIONS, ARRAYS, ATTRIBUTES, HALF, HALF_EQUAL]

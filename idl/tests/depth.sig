@@ -1,6 +1,7 @@
 signatures 1;
 
 // Written by giopdump_signatures from depth.idl.
+// whole: 4 operations, 0 exceptions, 22 types; by half: 0 operations; left out: 3 operations, 0 exceptions.
 
 // Every object
 operation boolean _is_a(in string logical_type_id);
@@ -30,10 +31,10 @@ struct D21 { D20 v; };
 struct D22 { D21 v; };
 struct D23 { D22 v; };
 operation void fits(in D23 d);
-// left out: D::Well::too_deep (depth.idl:30): 25 levels deep, 24 at most
+// left out: D::Well::too_deep (depth.idl:30): parameter d: 25 levels deep, 24 at most
 // left out: D::Well::much_too_deep (depth.idl:31): parameter d: needs D::D25
 operation void reply_fits(out D23 d);
-// left out: D::Well::reply_too_deep (depth.idl:33): 25 levels deep, 24 at most
+// left out: D::Well::reply_too_deep (depth.idl:33): return value: 25 levels deep, 24 at most
 
 // Types that can't be said, or that need one
 // left out: D::D25 (depth.idl:26): 25 levels deep, 24 at most

@@ -1,6 +1,7 @@
 signatures 1;
 
 // Written by giopdump_signatures from left_out.idl.
+// whole: 4 operations, 1 exception, 0 types; by half: 0 operations; left out: 13 operations, 1 exception.
 
 // Every object
 operation boolean _is_a(in string logical_type_id);

@@ -56,7 +56,7 @@ class Texts(unittest.TestCase):
 
     def test_each_text(self) -> None:
         texts = sorted(HERE.glob("*.idl"))
-        self.assertGreaterEqual(len(texts), 13)
+        self.assertGreaterEqual(len(texts), 15)
         for text in texts:
             with self.subTest(text.name):
                 done = omniidl(*ARGUMENTS.get(text.stem, []), text.name)
@@ -75,12 +75,24 @@ class Errors(unittest.TestCase):
 
     def test_summary(self) -> None:
         self.assertEqual(
-            omniidl("left_out.idl").stderr.splitlines()[-2:],
+            omniidl("left_out.idl").stderr.splitlines()[-3:],
             [
-                "giopdump_signatures: written: 4 operations, 1 exception, 0 types",
+                "giopdump_signatures: whole: 4 operations, 1 exception, 0 types",
+                "giopdump_signatures: by half: 0 operations",
                 "giopdump_signatures: left out: 13 operations, 1 exception (1 for TypeCode, 1 for abstract interface, "
                 "5 for any, 1 for fixed, 1 for long double, 1 for type within itself, 2 for value type, 1 for wchar, "
                 "1 for wstring)",
+            ],
+        )
+
+    def test_summary_by_half(self) -> None:
+        self.assertEqual(
+            omniidl("half_equal.idl").stderr.splitlines()[-3:],
+            [
+                "giopdump_signatures: whole: 2 operations, 0 exceptions, 1 type",
+                "giopdump_signatures: by half: 16 operations (4 for any, 12 for equal names, unequal parameters)",
+                "giopdump_signatures: left out: 6 operations, 0 exceptions (2 for any, 4 for equal names, unequal "
+                "parameters)",
             ],
         )
 
@@ -170,6 +182,35 @@ class Limits(unittest.TestCase):
                     self.assertEqual(bool(re.search(r"(?m)^operation void o", text)), count == most)
                     self.assertEqual(refusal_of("signatures 1; " + by_hand).strip().endswith(": depth"), count != most)
 
+    def test_typedefs_of_each_other(self) -> None:
+        rows = [
+            ("typedef T{0} T{1};", False), ("typedef sequence<T{0}> T{1};", True), ("typedef T{0} T{1}[2];", True),
+            ("struct T{1} {{ T{0} v; }};", True),
+        ]  # fmt: skip
+        for template, refused in rows:
+            with self.subTest(template):
+                chain = " ".join(template.format(n, n + 1) for n in range(8000))
+                uses = "interface I { void o(in T8000 x); void p(in T5 x); };"
+                text = self.converted(f"typedef long T0; {chain} {uses}")
+                refusal = "// left out: I::o (limits.idl:1): 100 levels deep or more, 24 at most"
+                self.assertEqual(refusal in text, refused)
+                self.assertEqual(bool(re.search(r"(?m)^operation void o\(in long x\);$", text)), not refused)
+                self.assertRegex(text, r"(?m)^operation void p\(in ")
+                self.assertLess(len(text), 1500)
+
+    def test_a_name_of_many_interfaces(self) -> None:
+        kinds = ("long", "string", "double", "any")
+        rows = [(f"I{n}", kinds[n % 4]) for n in range(146)]
+        idl = " ".join(f"interface {name} {{ void f(in {kind} x); long g(in {kind} x); }};" for name, kind in rows)
+        text = self.converted(idl)
+        named = [f"I{n}::f (limits.idl:1)" for n in (1, 2, 3, 5, 6, 7, 9, 10)]
+        self.assertIn(f"// left out: I0::f (limits.idl:1): unequal parameters: {', '.join(named)} and 101 more\n", text)
+        self.assertIn("// left out: I2::f (limits.idl:1): unequal parameters: I0::f (limits.idl:1)\n", text)
+        self.assertIn("// g (limits.idl:1) travels like I0::g (limits.idl:1) as far as that has types\n", text)
+        self.assertEqual(re.findall(r"(?m)^operation .* [fg]\(.*$", text), ["operation long g();"])
+        self.assertLess(max(map(len, text.splitlines())), 300)
+        self.assertLess(len(text), 146 * 300)
+
     def test_an_operations_name(self) -> None:
         for length, there in ((128, True), (129, False)):
             name = "n" * length
@@ -232,10 +273,11 @@ class CosFiles(unittest.TestCase):
     def test_each(self) -> None:
         rows = [self.row(path) for path in sorted((IDL / "COS").glob("*.idl"))]
         table = "\n".join(rows) + "\n"
-        figures = re.findall(r"written: (\d+) op.*left out: (\d+) op", table)
+        figures = re.findall(r"whole: (\d+) op.*by half: (\d+) op.*left out: (\d+) op", table)
         print(f"{len(rows)} COS files: {len(figures)} written and taken by giopdump, "
-              f"{len(rows) - len(figures)} refused by omniidl itself; operations written "
-              f"{sum(int(each[0]) for each in figures)}, left out {sum(int(each[1]) for each in figures)}")
+              f"{len(rows) - len(figures)} refused by omniidl itself; operations whole "
+              f"{sum(int(each[0]) for each in figures)}, by half {sum(int(each[1]) for each in figures)}, "
+              f"left out {sum(int(each[2]) for each in figures)}")
         self.assertEqual(table, (HERE / "cos.txt").read_text())
 
 
