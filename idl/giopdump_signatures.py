@@ -1,6 +1,6 @@
 """Back end of omniORB's IDL compiler that writes a signature file for giopdump.
 
-    omniidl -p idl -bgiopdump_signatures orders.idl > orders.sig
+    omniidl -bgiopdump_signatures orders.idl > orders.sig
 
 The file has the operations and exceptions of orders.idl and of what it includes, and the types that they need.
 A request or a reply has types up to its first value that the signature language has no form for: the others are

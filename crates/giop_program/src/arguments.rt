@@ -91,7 +91,7 @@ fn open_option<'a>(alloc: Global) -> Arg<'a> {
 /// The command as `clap` reads it, with its help.
 fn command<'a>(alloc: Global) -> Result<Command<'a>, AllocError> {
     Command::new(alloc, "giopdump")
-        .version("0.1.0")
+        .version("1.0.0")
         .about(ABOUT)
         .after_help(EXAMPLES)
         .arg(file_option(alloc, "signatures", SIGNATURES_HELP))?
