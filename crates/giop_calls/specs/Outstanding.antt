@@ -1,0 +1,18 @@
+-- What becomes of outstanding calls, which are entries under request ids, oldest first (meaning).
+use Rattle.std.specs.Prelude.{◌≡◌, ℕ, ◌==◌, ◌-◌, not, false, List, [], ◌∷◌, length, drop}
+use Rattle.std.specs.List.{AllByRecursion as Each, filter}
+use Rattle.giop_entry_table.specs.declared.entry_table.Entry.{Entry}
+
+module _ {V : Type 0} where
+  -- the calls of other ids
+  abbrev pub without : ℕ → List (Entry V) → List (Entry V)
+  without id calls = filter (λ e. not (e.key == id)) calls
+
+  -- the newest of the calls, at most so many
+  abbrev pub newest : ℕ → List (Entry V) → List (Entry V)
+  newest most calls = drop (length calls - most) calls
+
+  -- each call has an id of its own
+  abbrev pub AreApart : List (Entry V) → Type 0
+  AreApart [] = Unit
+  AreApart (e ∷ es) = Each (λ other. (other.key == e.key) ≡ false) es × AreApart es

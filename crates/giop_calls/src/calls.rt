@@ -1,0 +1,115 @@
+//! The outstanding calls of one direction, by their request ids.
+
+ghost use Rattle.std.specs.Prelude.{◌≡◌, ◌==◌, ◌-◌, [], ◌∷◌, ◌++◌, option_copied, IfOk};
+ghost use Rattle.std.specs.List.{find};
+ghost use Rattle.std.specs.Option.{option_map};
+ghost use Rattle.giop_calls.specs.Outstanding.{without, newest};
+
+use arrayvec::ArrayVec;
+use giop_entry_table::EntryTable;
+use giop_sig::OpId;
+use std::alloc::{AllocError, Global};
+use std::marker::Model;
+
+/// How many octets of an operation's name are kept at most.
+pub const NAME_ROOM: usize = 128;
+
+/// A Request whose reply is outstanding (ISO/IEC 19500-2, 9.4.2 and 9.4.3).
+#[derive(Drop)]
+pub struct Call {
+    /// The operation, where the signatures have its name.
+    pub operation: Option<OpId>,
+    /// The octets of the operation's name.
+    pub name: ArrayVec<u8, 128>,
+    /// The number of the stream that the Request came in, from 1.
+    pub stream: u64,
+    /// The number of the Request in its stream, from 1.
+    pub message: u64,
+    /// When the Request's header was complete, in nanoseconds since 1970-01-01 UTC.
+    pub time: Option<u64>,
+}
+
+/// The outstanding calls of one direction, oldest first, one an id. Where as many are outstanding as may be, the oldest
+/// is forgotten for a new one.
+#[derive(Drop)]
+pub struct Calls {
+    table: EntryTable<Call>,
+}
+
+impl Model for Calls {
+    ghost use Rattle.std.specs.Prelude.{◌≤◌, length};
+    ghost use Rattle.giop_calls.specs.declared.calls.Call.{Call};
+    ghost use Rattle.giop_calls.specs.Outstanding.{AreApart};
+    ghost use Rattle.giop_entry_table.specs.EntryTable.{Entries};
+
+    ghost Value = { Entries Call };
+
+    ghost view = { λ c. c.table };
+
+    ghost invariant = { λ c. AreApart c.table.entries × (length c.table.entries ≤ c.table.most) };
+}
+
+impl Calls {
+    /// No call, and memory for so many.
+    pub fn new(alloc: Global, most: u32) -> Result<Calls, AllocError>
+        ensures none { IfOk result (λ c. c.entries ≡ []) }
+        ensures most { IfOk result (λ c. c.most ≡ most) }
+    {
+        Ok(Calls {
+            table: EntryTable::new(alloc, most as usize)?,
+        })
+    }
+
+    /// The call that a Reply with this request id answers.
+    pub fn find(&self, id: u32) -> Option<&Call>
+        ensures { option_copied result
+            ≡ option_map (λ e. e.value) (find (λ e. e.key == id) self.now.entries) }
+    {
+        match self.table.find(id) {
+            Some(place) => self.table.get(place),
+            None => None,
+        }
+    }
+
+    /// Adds a call as the newest. An older one of its id is no longer outstanding; where as many are as may be, the oldest
+    /// is forgotten.
+    pub fn add(&mut self, id: u32, call: Call)
+        ensures entries { self.new.entries ≡ newest self.old.most
+            (without id self.old.entries ++ record { key = id; value = call } ∷ []) }
+        ensures most { self.new.most ≡ self.old.most }
+    {
+        self.remove(id);
+        self.make_room();
+        if !self.table.is_full() {
+            self.table.add(id, call);
+        }
+    }
+
+    /// Forgets the oldest call where as many are outstanding as may be.
+    fn make_room(&mut self)
+        ensures entries { self.new.entries ≡ newest (self.old.most - 1) self.old.entries }
+        ensures most { self.new.most ≡ self.old.most }
+    {
+        if self.table.is_full() {
+            self.table.take(0);
+        }
+    }
+
+    /// The call of this id, if there is one, is no longer outstanding.
+    pub fn remove(&mut self, id: u32)
+        ensures entries { self.new.entries ≡ without id self.old.entries }
+        ensures most { self.new.most ≡ self.old.most }
+    {
+        if let Some(place) = self.table.find(id) {
+            self.table.take(place);
+        }
+    }
+
+    /// No call is outstanding any more. The memory is kept.
+    pub fn clear(&mut self)
+        ensures entries { self.new.entries ≡ [] }
+        ensures most { self.new.most ≡ self.old.most }
+    {
+        self.table.clear();
+    }
+}
