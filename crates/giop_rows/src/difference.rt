@@ -28,6 +28,16 @@ pub enum Difference<'w, 'g> {
         at: usize,
         why: LoadFault,
     },
+    /// The octet at this place of what is saved.
+    Saved {
+        at: usize,
+    },
+    /// What a checkpoint leads to of which the octet at this place is complemented.
+    Outcome {
+        at: usize,
+        wanted: &'w str,
+        got: &'g str,
+    },
     /// The hash of the fixed parts of the checkpoints.
     FixedParts {
         wanted: u32,
@@ -53,6 +63,13 @@ impl fmt::Display for Difference<'_, '_> {
                 write!(
                     f,
                     "checkpoint behind {at}\n  wanted: an engine\n  got: {why}"
+                )
+            }
+            Difference::Saved { at } => write!(f, "octet {at} of the checkpoint"),
+            Difference::Outcome { at, wanted, got } => {
+                write!(
+                    f,
+                    "octet {at} complemented\n  wanted: {wanted}\n  got: {got}"
                 )
             }
             Difference::FixedParts { wanted, got } => {

@@ -3,22 +3,21 @@
 ghost use Rattle.std.specs.Prelude.{IfOk, ◌≡◌, false};
 ghost use Rattle.giop_stream.specs.EngineHolds.{AreOf};
 
-use super::row::Row;
 use giop_sig::{Catalogue, Requests};
 use giop_stream::{Engine, MOST_OPEN};
 use std::alloc::Global;
 use std::io;
 
-/// A new engine, for as many open messages as a row allows.
+/// A new engine, for as many open messages as are asked for, 1 to 4,096.
 pub fn engine_for<'a>(
     alloc: Global,
     catalogue: &'a Catalogue,
     requests: &'a Requests,
-    row: &Row,
+    most: u32,
 ) -> io::Result<Engine<'a>>
     requires of { AreOf catalogue.now requests.now }
 {
-    let most = row.most.max(1).min(MOST_OPEN);
+    let most = most.max(1).min(MOST_OPEN);
     match Engine::new(alloc, catalogue, requests, most) {
         Ok(engine) => Ok(engine),
         Err(_) => Err(io::Error::from(io::ErrorKind::OutOfMemory)),

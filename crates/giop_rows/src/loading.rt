@@ -3,6 +3,7 @@
 ghost use Rattle.giop_stream.specs.EngineHolds.{AreOf};
 
 use super::engine::engine_for;
+use super::resuming::REFUSED;
 use super::row::Row;
 use super::saving::ended;
 use super::trying::is_as_told;
@@ -11,9 +12,6 @@ use giop_sig::{Catalogue, Requests};
 use giop_stream::Engine;
 use std::alloc::Global;
 use std::{fmt, io};
-
-/// The status of the program where a checkpoint is refused.
-const REFUSED: u8 = 3;
 
 /// The name of the way in which a row is saved and loaded after so many octets.
 #[derive(Clone, Copy)]
@@ -55,7 +53,7 @@ fn is_loaded_at(
 {
     let mut room = [0; 16_384];
     let mut sheet = Sheet::new(&mut room);
-    let engine = engine_for(rt.alloc(), catalogue, requests, row)?;
+    let engine = engine_for(rt.alloc(), catalogue, requests, row.most)?;
     let status = resumed(
         rt.alloc(),
         engine,

@@ -48,7 +48,7 @@ fn most_of(word: &str) -> Option<u32> {
 
 /// What follows a name in the first line of a text, and the other lines. An empty text and the whole one, where the
 /// first line doesn't begin with the name.
-fn named<'a>(text: &'a str, name: &str) -> (&'a str, &'a str) {
+pub fn named<'a>(text: &'a str, name: &str) -> (&'a str, &'a str) {
     let Some(behind) = text.strip_prefix(name) else {
         return ("", text);
     };

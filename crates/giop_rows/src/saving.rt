@@ -53,7 +53,7 @@ fn is_saved_as_told(
 {
     let mut room = [0; 16_384];
     let mut sheet = Sheet::new(&mut room);
-    let engine = engine_for(rt.alloc(), catalogue, requests, row)?;
+    let engine = engine_for(rt.alloc(), catalogue, requests, row.most)?;
     let most = most(row.most, catalogue.depth());
     match saved(
         rt.alloc(),

@@ -2,6 +2,8 @@
 
 ghost use Rattle.giop_stream.specs.EngineHolds.{AreOf};
 
+use super::kept::Kept;
+use super::resuming::is_resumed;
 use super::row::{Row, list, octets};
 use super::tally::Tally;
 use super::trying::is_dumped_each_way;
@@ -98,6 +100,11 @@ fn tell_row(
 ) -> io::Result<()>
     requires of { AreOf catalogue.now requests.now }
 {
+    if let Some(kept) = Kept::read(row.stream) {
+        let is_as_told = is_resumed(rt, catalogue, requests, row, &kept)?;
+        tally.count(is_as_told);
+        return told(rt, row.name, is_as_told);
+    }
     match octets(rt.alloc(), row.stream) {
         Some(stream) => tell_stream(rt, catalogue, requests, row, &stream, tally),
         None => unread(rt, "MALFORMED octets", row.stream, tally),

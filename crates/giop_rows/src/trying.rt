@@ -29,7 +29,7 @@ pub fn is_dumped_each_way(
     for way in [Way::Whole, Way::Narrow] {
         if !is_dumped(
             rt,
-            engine_for(rt.alloc(), catalogue, requests, row)?,
+            engine_for(rt.alloc(), catalogue, requests, row.most)?,
             row,
             stream,
             way,
@@ -60,7 +60,7 @@ fn is_dumped_cut(
         for way in Way::at(at) {
             if !is_dumped(
                 rt,
-                engine_for(rt.alloc(), catalogue, requests, row)?,
+                engine_for(rt.alloc(), catalogue, requests, row.most)?,
                 row,
                 stream,
                 way,
@@ -117,7 +117,7 @@ fn is_dumped_alike(
     for at in from..from.saturating_add(count) {
         let ended = is_dumped_to(
             rt,
-            engine_for(rt.alloc(), catalogue, requests, row)?,
+            engine_for(rt.alloc(), catalogue, requests, row.most)?,
             row,
             stream,
             early,
@@ -126,7 +126,7 @@ fn is_dumped_alike(
         if !ended
             || !is_dumped_up_to(
                 rt,
-                engine_for(rt.alloc(), catalogue, requests, row)?,
+                engine_for(rt.alloc(), catalogue, requests, row.most)?,
                 row,
                 stream,
                 early,
@@ -196,7 +196,7 @@ fn is_dumped_over_failing(
         let way = Way::Failing(puts);
         match dumped_over(
             rt,
-            engine_for(rt.alloc(), catalogue, requests, row)?,
+            engine_for(rt.alloc(), catalogue, requests, row.most)?,
             row,
             stream,
             way,

@@ -1,4 +1,4 @@
-//! What an engine saves of a stream: the checkpoint's length and its fixed part.
+//! Saves that fail: of an engine that is failed, and to an out that has less room than the checkpoint needs.
 
 ghost use Rattle.giop_stream.specs.EngineHolds.{AreOf};
 
@@ -6,9 +6,7 @@ use super::known::declared;
 use giop_print::Sheet;
 use giop_sig::{Catalogue, Requests};
 use giop_stream::{Engine, Stop};
-use hex::FromHex;
 use std::alloc::Global;
-use std::process::Abort;
 use std::test::Fail;
 
 /// The operations of the stream.
@@ -16,100 +14,44 @@ const DECLARED: &[u8] =
     b"signatures 1;\noperation void big(in ulonglong n);\noperation void nop();\n";
 
 /// Two Requests with fragments to follow: 5 for `big`, with the first half of its number, and 6 for `nop`.
-const STREAM: &str =
-    "47494f50010202000000002800000005030000000000000000000001410000000000000462696700\
-000000000000000001020304\
-47494f5001020200000000240000000603000000000000000000000141000000000000046e6f70000000000000000000";
+const STREAM: &[u8] =
+    b"GIOP\x01\x02\x02\x00\x00\x00\x00\x28\x00\x00\x00\x05\x03\x00\x00\x00\x00\x00\x00\x00\
+\x00\x00\x00\x01A\x00\x00\x00\x00\x00\x00\x04big\x00\x00\x00\x00\x00\x01\x02\x03\x04\
+GIOP\x01\x02\x02\x00\x00\x00\x00\x24\x00\x00\x00\x06\x03\x00\x00\x00\x00\x00\x00\x00\
+\x00\x00\x00\x01A\x00\x00\x00\x00\x00\x00\x04nop\x00\x00\x00\x00\x00";
 
-/// A row: how many octets of the stream are fed, how many octets the checkpoint has, and its fixed part.
-type Row = (usize, u64, &'static str);
+/// How many octets its checkpoint has.
+const LENGTH: usize = 656;
 
-/// Before a header, within one, before a payload, within the second message, and after both.
-const ROWS: &[Row] = &[
-    (
-        0,
-        96,
-        "47494f5044554d5000000003000000000000000200000000000000000000000000000000000000000000000000000000\
-000000000000000000000000000000000000000000000000000000000000000000000010ffffffff0000000000000000",
-    ),
-    (
-        5,
-        96,
-        "47494f5044554d5000000003000000000000000200000000000000000000000000000000000000050000000000000000\
-00000000000000000000050047494f500100000000000000000000000000000000000010ffffffff0000000000000000",
-    ),
-    (
-        12,
-        400,
-        "47494f5044554d50000000030000000000000002000000000000000000000001000000000000000c0000000000000001\
-00000000000000000100000047494f500102020000000028000000000000002800000010000000000000000000000000",
-    ),
-    (
-        90,
-        704,
-        "47494f5044554d50000000030000000000000002000000000000000000000002000000000000005a0000000000000002\
-00000000000000000100000047494f500102020000000024000000000000000a00000010000000010000000000000000",
-    ),
-    (
-        100,
-        656,
-        "47494f5044554d5000000003000000000000000200000000000000000000000200000000000000640000000000000002\
-000000000000000000000000000000000000000000000000000000000000000000000010ffffffff0000000000000000",
-    ),
-];
+/// A header of CloseConnection in 1.0, big endian, without a payload: its line has more than 20 octets.
+const CLOSED: &[u8] = b"GIOP\x01\x00\x00\x05\x00\x00\x00\x00";
 
-/// What differs in the checkpoint after these octets; empty if nothing does.
-fn differs(
-    alloc: Global,
-    catalogue: &Catalogue,
-    requests: &Requests,
-    stream: &[u8],
-    length: u64,
-    fixed: &[u8],
-) -> Result<&'static str, Fail>
+/// What differs where an engine is saved whose out had no room; empty if nothing does.
+fn failed_differs(alloc: Global, catalogue: &Catalogue, requests: &Requests) -> &'static str
     requires { AreOf catalogue.now requests.now }
 {
-    let mut room = [0; 2048];
+    let mut room = [0; 20];
     let mut sheet = Sheet::new(&mut room);
-    let mut engine = Engine::new(alloc, catalogue, requests, 16)?;
-    if engine.feed(stream, &mut sheet).is_err() {
-        return Ok("the lines");
-    }
-    let mut octets = [0; 2048];
-    let mut out = Sheet::new(&mut octets);
-    let differs = match engine.save(&mut out) {
-        Ok(saved) if saved != length || saved != out.held().len() as u64 => "the length",
-        Ok(_) if !out.held().starts_with(fixed) => "the fixed part",
-        Ok(_) => "",
-        Err(_) => "the answer",
+    let Ok(mut engine) = Engine::new(alloc, catalogue, requests, 16) else {
+        return "the memory";
     };
-    Ok(differs)
-}
-
-#[test]
-fn a_checkpoint_has_its_length_and_fixed_part(rt: HostRuntime) -> Result<(), Fail> {
-    let known = declared(rt.alloc(), DECLARED)?;
-    let stream = <[u8; 100] as FromHex>::from_hex(STREAM).map_err(|_| Fail::from("the stream"))?;
-    for (fed, length, text) in ROWS {
-        let fixed = <[u8; 96] as FromHex>::from_hex(text).map_err(|_| Fail::from("the row"))?;
-        let (front, _) = stream.split_at(stream.len().min(*fed));
-        let differs = differs(rt.alloc(), &known.0, &known.1, front, *length, &fixed)?;
-        assert!(rt; differs.is_empty(), "behind {fed} octets: {differs}");
+    if engine.feed(CLOSED, &mut sheet).is_ok() {
+        return "the feed";
     }
-    Ok(())
+    let mut octets = [0; 96];
+    let mut out = Sheet::new(&mut octets);
+    if engine.save(&mut out) == Err(Stop::Failed) && out.held().is_empty() {
+        ""
+    } else {
+        "the save"
+    }
 }
 
 #[test]
 fn a_failed_engine_saves_nothing(rt: HostRuntime) -> Result<(), Fail> {
     let known = declared(rt.alloc(), DECLARED)?;
-    let mut room = [0; 20];
-    let mut sheet = Sheet::new(&mut room);
-    let mut engine = Engine::new(rt.alloc(), &known.0, &known.1, 16)?;
-    let fed = engine.feed(b"GIOP\x01\x00\x00\x05\x00\x00\x00\x00", &mut sheet);
-    assert!(rt; fed.is_err(), "a line of more than 20 octets");
-    let mut octets = [0; 96];
-    let mut out = Sheet::new(&mut octets);
-    assert!(rt; engine.save(&mut out) == Err(Stop::Failed) && out.held().is_empty());
+    let differs = failed_differs(rt.alloc(), &known.0, &known.1);
+    assert!(rt; differs.is_empty(), "{differs}");
     Ok(())
 }
 
@@ -131,25 +73,41 @@ fn stopped_differs(engine: &Engine, whole: &[u8], room: usize) -> &'static str {
     ""
 }
 
-/// Saves a stream to outs that each have less room than its checkpoint needs.
-fn stops(rt: &impl Abort, engine: &Engine) {
+/// What differs in saves to outs that each have less room than the checkpoint needs; empty if nothing does.
+fn stops_differ(engine: &Engine) -> &'static str {
     let mut octets = [0; 2048];
     let mut out = Sheet::new(&mut octets);
-    assert!(rt; engine.save(&mut out) == Ok(656));
-    for room in 0..656 {
-        let differs = stopped_differs(engine, out.held(), room);
-        assert!(rt; differs.is_empty(), "room {room}: {differs}");
+    if engine.save(&mut out) != Ok(LENGTH as u64) {
+        return "the length";
     }
+    for room in 0..LENGTH {
+        let differs = stopped_differs(engine, out.held(), room);
+        if !differs.is_empty() {
+            return differs;
+        }
+    }
+    ""
+}
+
+/// What differs in such saves of an engine that has read the stream; empty if nothing does.
+fn read_differs(alloc: Global, catalogue: &Catalogue, requests: &Requests) -> &'static str
+    requires { AreOf catalogue.now requests.now }
+{
+    let mut room = [0; 2048];
+    let mut sheet = Sheet::new(&mut room);
+    let Ok(mut engine) = Engine::new(alloc, catalogue, requests, 16) else {
+        return "the memory";
+    };
+    if engine.feed(STREAM, &mut sheet).is_err() {
+        return "the feed";
+    }
+    stops_differ(&engine)
 }
 
 #[test]
 fn a_put_that_fails_leaves_the_engine_and_a_front(rt: HostRuntime) -> Result<(), Fail> {
     let known = declared(rt.alloc(), DECLARED)?;
-    let stream = <[u8; 100] as FromHex>::from_hex(STREAM).map_err(|_| Fail::from("the stream"))?;
-    let mut room = [0; 2048];
-    let mut sheet = Sheet::new(&mut room);
-    let mut engine = Engine::new(rt.alloc(), &known.0, &known.1, 16)?;
-    assert!(rt; engine.feed(&stream, &mut sheet).is_ok());
-    stops(&rt, &engine);
+    let differs = read_differs(rt.alloc(), &known.0, &known.1);
+    assert!(rt; differs.is_empty(), "{differs}");
     Ok(())
 }
