@@ -2,7 +2,7 @@
 
 use super::row::named;
 
-/// What comes before `checkpoint A`, in a row of a checkpoint, and behind it; each in hexadecimal text but `damaged`.
+/// The parts of a row of a checkpoint, octets in hexadecimal text.
 #[derive(Clone, Copy)]
 pub struct Kept<'a> {
     /// The octets that were read before it was saved; empty where it isn't saved again.
@@ -31,8 +31,8 @@ impl<'a> Kept<'a> {
     }
 }
 
-/// The first and the last of the places at which the octet is complemented, and what that may lead to, with ` or `
-/// between two.
+/// The first of the places at which the octet is complemented, the place behind the last, and what that may lead to, with
+/// ` or ` between two.
 pub fn complement(text: &str) -> Option<(usize, usize, &str)> {
     let (first, rest) = text.split_once("..")?;
     let (last, wanted) = rest.split_once(' ')?;

@@ -1,4 +1,5 @@
-//! Dumps streams whose lines are known, each in several ways, and names those that give other lines or another status.
+//! Dumps streams whose lines are known, each in several ways, and loads checkpoints; names those that give other lines or
+//! another status.
 //!
 //! `stdin` has sets of rows, and between two sets a line `=`. Empty lines separate the parts of a set. Its first
 //! part is the files of its rows: a signature file, or none, a line `requests` and a request list, in which `I..J NAME`
@@ -17,6 +18,17 @@
 //! `checkpoints` has the FNV-1a hash, of 32 bits, of the fixed parts of the checkpoints after 0, 1, 2, .. octets, and
 //! then how many octets each of these has, with `*` and a number as above. Each is loaded, and the loaded engine reads
 //! on.
+//!
+//! A row of a checkpoint has in the place of a stream: perhaps a line `front` with the octets that were read before it was
+//! saved, a line `checkpoint`, its octets, and where it isn't refused perhaps lines `complement`, a line `behind`, and the
+//! octets that follow in the stream. It is loaded and gives the lines of those and of the end; one that is refused has
+//! status 3, and in the place of lines `refused` and the word. With `front` an engine that has read those octets saves the
+//! same ones, for as many open messages as `open` says, and so does the one that is loaded.
+//!
+//! `complement A..B` names all places from 0 on, in order, and the words behind it say what the checkpoint leads to where
+//! the octet at one of them, from A to before B, is complemented: `refused` and a word, or `lines` where an engine is
+//! loaded, reads what follows and ends; ` or ` stands between two that may be. The reference gives them too: it knows the
+//! fixed part and the lengths of the records, and leaves open which octets of a record are refused.
 //!
 //! The output has a line for each row, and at the end how many rows there were and how many differ. For a row that
 //! differs it has the way in which it was dumped, and the first line that differs. The status is 0 where there are rows
