@@ -1,0 +1,2 @@
+mod Tags
+mod Extensions

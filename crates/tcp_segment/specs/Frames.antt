@@ -1,0 +1,101 @@
+-- What is in a frame, by the link type of the capture: an IP packet and its version (IEEE 802.3, IEEE 802.1Q, the link-layer
+-- header types of tcpdump; meaning).
+use Rattle.std.specs.Prelude.{ℕ, zero, suc, ◌/◌, Bool, ◌||◌, List, length, drop, slice_index, Option, Some, None, nat_le, ◌==◌, if◌then◌else◌}
+use Rattle.std.specs.Int.{w32, from_le_bytes}
+use Rattle.tcp_segment.specs.declared.frame.Version.{Version}
+use Rattle.tcp_segment.specs.declared.frame.Version.TheVariants.{V4, V6}
+use Rattle.tcp_segment.specs.declared.frame.Packet as code
+use Rattle.tcp_segment.specs.Octets.{◌>>=◌, provided, octets_at, two_at, four_at}
+
+-- a packet as a frame has it: what is behind the packet is still there
+pub record Packet : Type 0 where
+  pub version : Version
+  pub octets : List ℕ
+
+-- ---- Ethernet types and tags.
+
+-- the types of a customer's and of a service's tag (IEEE 802.1Q), and of a service's tag before it had one
+abbrev pub is_tag : ℕ → Bool
+is_tag kind = kind == 0x8100 || kind == 0x88a8 || kind == 0x9100
+
+-- the type behind a tag, and what follows it; a tag is two octets and the next type
+unfoldable pub behind_tag : List ℕ → Option (ℕ × List ℕ)
+behind_tag octets = provided (nat_le 4 (length octets)) (Some (two_at 2 octets, drop 4 octets))
+
+-- the type behind at most so many tags, and what follows it
+unfoldable pub behind_tags : ℕ → ℕ → List ℕ → Option (ℕ × List ℕ)
+behind_tags zero kind octets = Some (kind, octets)
+behind_tags (suc more) kind octets =
+    if is_tag kind
+    then (behind_tag octets >>= (λ next. behind_tags more next.0 next.1))
+    else Some (kind, octets)
+
+abbrev pub version_of_type : ℕ → Option Version
+version_of_type kind = if kind == 0x0800 then Some V4 else (if kind == 0x86dd then Some V6 else None)
+
+-- the packet behind a type and its tags
+unfoldable pub typed : ℕ → List ℕ → Option Packet
+typed kind octets = do
+  behind ← behind_tags 4 kind octets
+  version ← version_of_type behind.0
+  Some (record { version = version; octets = behind.1 })
+
+-- ---- Link types.
+
+-- two addresses of six octets, and the type
+abbrev pub ethernet : List ℕ → Option Packet
+ethernet octets = provided (nat_le 14 (length octets)) (typed (two_at 12 octets) (drop 14 octets))
+
+-- the type is the last field of 16 octets
+abbrev pub cooked : List ℕ → Option Packet
+cooked octets = provided (nat_le 16 (length octets)) (typed (two_at 14 octets) (drop 16 octets))
+
+-- the type is the first field of 20 octets
+abbrev pub cooked_2 : List ℕ → Option Packet
+cooked_2 octets = provided (nat_le 20 (length octets)) (typed (two_at 0 octets) (drop 20 octets))
+
+-- an address family in four octets, in the byte order of the host that captured
+abbrev pub is_family : ℕ → List ℕ → Bool
+is_family family octets =
+    four_at 0 octets == family || from_le_bytes w32 (octets_at 0 4 octets) == family
+
+-- 2 is IPv4, and each of the others IPv6 on some system
+abbrev pub version_of_family : List ℕ → Option Version
+version_of_family octets =
+    if is_family 2 octets then Some V4
+    else (if is_family 10 octets || is_family 24 octets || is_family 28 octets || is_family 30 octets
+    then Some V6
+    else None)
+
+abbrev pub loopback : List ℕ → Option Packet
+loopback octets = provided (nat_le 4 (length octets)) (do
+  version ← version_of_family octets
+  Some (record { version = version; octets = drop 4 octets }))
+
+-- nothing is before the packet, and its first four bits are its version
+abbrev pub version_of_raw : List ℕ → Option Version
+version_of_raw octets =
+    let version = slice_index octets 0 / 16 in
+    if version == 4 then Some V4 else (if version == 6 then Some V6 else None)
+
+abbrev pub raw : List ℕ → Option Packet
+raw octets = do
+  version ← version_of_raw octets
+  Some (record { version = version; octets = octets })
+
+-- the packet in a frame of a link type
+unfoldable pub packet_of : ℕ → List ℕ → Option Packet
+packet_of link octets =
+    if link == 1 then ethernet octets
+    else (if link == 113 then cooked octets
+    else (if link == 276 then cooked_2 octets
+    else (if link == 0 || link == 108 then loopback octets
+    else (if link == 12 || link == 14 || link == 101 then raw octets
+    else (if link == 228 then Some (record { version = V4; octets = octets })
+    else (if link == 229 then Some (record { version = V6; octets = octets })
+    else None))))))
+
+-- ---- What the code has.
+
+abbrev pub packet_view : code.Packet → Packet
+packet_view p = record { version = p.version; octets = p.octets.now }

@@ -1,0 +1,4 @@
+pub mod Octets
+pub mod Frames
+pub mod Datagrams
+pub mod Segments

@@ -1,0 +1,176 @@
+//! What an IP packet carries for TCP (RFC 791, RFC 8200), with the addresses of its header.
+
+ghost use Rattle.std.specs.Prelude.{◌≡◌, ◌≤◌, length, option_map, option_copied};
+ghost use Rattle.tcp_segment.specs.Datagrams.{limited, is_fragment, carries_whole_tcp, ipv4, is_extension, extension_size, is_cut_extension, behind_extension, behind_extensions, payload_of, behind_headers, ipv6, datagram_of, datagram_view};
+ghost use Rattle.tcp_segment.specs.Frames.{packet_view};
+
+use crate::endpoint::Address;
+use crate::frame::{Packet, Version};
+use crate::octets::{octets_at, two_at};
+
+/// The TCP segment of an IP packet, and between whom it goes.
+#[derive(Clone, Copy)]
+pub struct Datagram<'a> {
+    pub source: Address,
+    pub destination: Address,
+    pub octets: &'a [u8],
+}
+
+/// The protocol number of TCP.
+const TCP: u8 = 6;
+
+/// The most extension headers in a row that are read.
+const EXTENSIONS: usize = 8;
+
+/// What a length field leaves of octets. 0 stands for all: a segment that the sender's hardware is still to cut has a
+/// packet whose length fits no field.
+#[tactic(auto, unfolding(crate::specs::Datagrams::limited))]
+fn limited(length: u16, octets: &[u8]) -> &[u8]
+    ensures { result.now ≡ limited length octets.now }
+{
+    let length = usize::from(length);
+    if length == 0 || octets.len() <= length {
+        return octets;
+    }
+    &octets[..length]
+}
+
+/// Whether flags and fragment offset are those of a fragment: there are more, or it isn't the first.
+fn is_fragment(flags_and_offset: u16) -> bool
+    ensures { result ≡ is_fragment flags_and_offset }
+{
+    flags_and_offset / 0x2000 % 2 == 1 || flags_and_offset % 0x2000 != 0
+}
+
+/// Whether a header is that of a whole IPv4 packet of TCP.
+fn carries_whole_tcp(octets: &[u8]) -> bool
+    requires { 20 ≤ length octets.now }
+    ensures { result ≡ carries_whole_tcp octets.now }
+{
+    octets[0] / 16 == 4 && octets[9] == TCP && !is_fragment(two_at(octets, 6))
+}
+
+/// What an IPv4 packet carries.
+#[tactic(auto, unfolding(crate::specs::Datagrams::ipv4))]
+fn ipv4(octets: &[u8]) -> Option<Datagram<'_>>
+    ensures { option_map datagram_view result ≡ ipv4 octets.now }
+{
+    if octets.len() < 20 || !carries_whole_tcp(octets) {
+        return None;
+    }
+    let header = usize::from(octets[0] % 16) * 4;
+    let packet = limited(two_at(octets, 2), octets);
+    if header < 20 || packet.len() < header {
+        return None;
+    }
+    Some(Datagram {
+        source: Address::V4(octets_at(octets, 12)),
+        destination: Address::V4(octets_at(octets, 16)),
+        octets: &packet[header..],
+    })
+}
+
+/// Whether a next header is an extension header: hop-by-hop options, routing, fragment, authentication or destination
+/// options.
+fn is_extension(header: u8) -> bool
+    ensures { result ≡ is_extension header }
+{
+    matches!(header, 0 | 43 | 44 | 51 | 60)
+}
+
+/// How many octets an extension header has.
+fn extension_size(header: u8, octets: &[u8]) -> usize
+    requires { 2 ≤ length octets.now }
+    ensures { result ≡ extension_size header octets.now }
+{
+    let length = usize::from(octets[1]);
+    match header {
+        44 => 8,
+        51 => (length + 2) * 4,
+        _ => (length + 1) * 8,
+    }
+}
+
+/// Whether an extension header is that of a fragment that isn't the whole packet: its offset isn't 0, or there are more.
+fn is_cut_extension(header: u8, octets: &[u8]) -> bool
+    requires { 4 ≤ length octets.now }
+    ensures { result ≡ is_cut_extension header octets.now }
+{
+    let offset_and_more = two_at(octets, 2);
+    header == 44 && (offset_and_more / 8 != 0 || offset_and_more % 2 == 1)
+}
+
+/// The header behind an extension header, and its octets.
+#[tactic(auto, using(crate::proofs::Extensions::extensions_are_long), unfolding(crate::specs::Datagrams::behind_extension))]
+fn behind_extension(header: u8, octets: &[u8]) -> Option<(u8, &[u8])>
+    ensures { option_map (λ x. (x.0, x.1.now)) result ≡ behind_extension header octets.now }
+{
+    if octets.len() < 8 || is_cut_extension(header, octets) {
+        return None;
+    }
+    let size = extension_size(header, octets);
+    if octets.len() < size {
+        return None;
+    }
+    Some((octets[0], &octets[size..]))
+}
+
+/// The header behind the extension headers that begin with this one, and its octets.
+fn behind_extensions(header: u8, octets: &[u8]) -> Option<(u8, &[u8])>
+    ensures { option_map (λ x. (x.0, x.1.now)) result ≡ behind_extensions 8 header octets.now }
+{
+    let mut next = header;
+    let mut behind = octets;
+    for _ in 0..EXTENSIONS {
+        if !is_extension(next) {
+            return Some((next, behind));
+        }
+        (next, behind) = behind_extension(next, behind)?;
+    }
+    Some((next, behind))
+}
+
+/// What is behind the header of an IPv6 packet, as far as its payload length says.
+#[tactic(auto, unfolding(crate::specs::Datagrams::payload_of))]
+fn payload_of(octets: &[u8]) -> &[u8]
+    requires { 40 ≤ length octets.now }
+    ensures { result.now ≡ payload_of octets.now }
+{
+    limited(two_at(octets, 4), &octets[40..])
+}
+
+/// What is behind the last header of an IPv6 packet, where that names TCP.
+#[tactic(auto, unfolding(crate::specs::Datagrams::behind_headers))]
+fn behind_headers(octets: &[u8]) -> Option<&[u8]>
+    requires { 40 ≤ length octets.now }
+    ensures { option_copied result ≡ behind_headers octets.now }
+{
+    let (protocol, upper) = behind_extensions(octets[6], payload_of(octets))?;
+    if protocol == TCP { Some(upper) } else { None }
+}
+
+/// What an IPv6 packet carries.
+#[tactic(auto, unfolding(crate::specs::Datagrams::ipv6))]
+fn ipv6(octets: &[u8]) -> Option<Datagram<'_>>
+    ensures { option_map datagram_view result ≡ ipv6 octets.now }
+{
+    if octets.len() < 40 || octets[0] / 16 != 6 {
+        return None;
+    }
+    let upper = behind_headers(octets)?;
+    Some(Datagram {
+        source: Address::V6(octets_at(octets, 8)),
+        destination: Address::V6(octets_at(octets, 24)),
+        octets: upper,
+    })
+}
+
+/// What a packet carries for TCP.
+pub fn datagram_of(packet: Packet<'_>) -> Option<Datagram<'_>>
+    ensures { option_map datagram_view result ≡ datagram_of (packet_view packet.entry) }
+{
+    match packet.version {
+        Version::V4 => ipv4(packet.octets),
+        Version::V6 => ipv6(packet.octets),
+    }
+}

@@ -1,0 +1,14 @@
+//! TCP segments in the packets of a capture: who sends to whom, the numbers and flags, and the payload as a slice of the
+//! packet.
+#![tactic(auto)]
+
+mod datagram;
+mod endpoint;
+mod frame;
+mod octets;
+mod segments;
+mod tcp;
+
+pub use endpoint::{Address, Endpoint, Flow};
+pub use segments::segment;
+pub use tcp::Segment;
