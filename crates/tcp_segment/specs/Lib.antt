@@ -2,3 +2,4 @@ pub mod Octets
 pub mod Frames
 pub mod Datagrams
 pub mod Segments
+pub mod EndpointText

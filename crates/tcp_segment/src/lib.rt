@@ -8,7 +8,9 @@ mod frame;
 mod octets;
 mod segments;
 mod tcp;
+mod text;
 
 pub use endpoint::{Address, Endpoint, Flow};
 pub use segments::segment;
 pub use tcp::Segment;
+pub use text::{EndpointText, endpoint_text};
