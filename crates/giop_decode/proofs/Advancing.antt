@@ -21,6 +21,7 @@ use Rattle.giop_decode.specs.declared.leaf.Leaf.TheVariants as innermost
 use Rattle.giop_decode.specs.declared.frame.Frame.{Frame}
 use Rattle.giop_decode.specs.Fits.{FitsIn, OpenFrom, Sound, leaf_ty}
 use Rattle.giop_decode.specs.Transitions.{open_parts, has_ended, is_inside, leaf_of, leaf_type, ticked, after_transition, AreKnown, HaveOctetsLeft, Link, IsClean}
+use Rattle.giop_decode.specs.NameBuffer.{FitsName, string_offset}
 use Rattle.giop_decode.specs.Noted.{is_header_root, names_operation}
 use Rattle.giop_decode.specs.DecoderState.{Fits, GoesOn, CanStandAt, read_by_fields, read_by_leaf}
 use Rattle.giop_decode.specs.DecoderSteps.{transition_result, decoder_step, stopped, leaf_in, Comes, IsGoing, IsProgress, IsNotRefused}
@@ -106,8 +107,9 @@ fits_in T end at C d lines leaf r sound is goes_on = (subst (Sound T end) (is �
 -- What a step leaves of a decoder that fits, fits as well.
 pub step_fits : (C : Table) (d new : Decoder) (f : Fits C d) (octet : ℕ) (g : Goes C new (f.here + 1) (decoder_step C d f.here octet)) → CanStandAt new (f.here + 1) → HaveOctetsLeft new.outer.items →
     new.inside ≡ is_inside new.outer.items → Link C f.root new.outer.items (leaf_type g.leaf) → AreKnown C new.outer.items → leaf_type g.leaf < length C.types → IsClean g.leaf new.carry new.piece.items →
-    (is_header_root new.root ≡ false → new.notes.request_id ≡ None) → Fits C new
-step_fits C d new f octet g here ahead inside link known_outer known clean id_in_header_only =
+    (is_header_root new.root ≡ false → new.notes.request_id ≡ None) →
+    FitsName new.root (string_offset (tree C (leaf_type g.leaf)) g.leaf) new.notes.buffer new.notes.name.items → Fits C new
+step_fits C d new f octet g here ahead inside link known_outer known clean id_in_header_only name =
     let sound : Sound (tree C f.root) (f.here + 1) (decoder_step C d f.here octet) =
     subst (λ l. Sound (tree C f.root) (f.here + 1) (step (plain d.order) [] (open_parts C f.here d.outer.items) (leaf_in C d l) f.here octet)) (sym f.goes_on)
     (step_keeps 24 (plain d.order) [] (tree C f.root) (open_parts C f.here d.outer.items) (leaf_of C f.leaf d.carry d.piece.items) f.here octet f.fit f.fits
@@ -129,6 +131,7 @@ step_fits C d new f octet g here ahead inside link known_outer known clean id_in
       clean = clean;
       at = omega (arith, here.0);
       id_in_header_only = id_in_header_only;
+      name = name;
     }
 
 lines_entered : (C : Table) (coding : Coding) (path : List PathSegment) (frames : List Frame) (test : Bool) (inner : List OpenPart) (leaf : Leaf) (lines : List Line) (at : ℕ) → AreKnown C frames →

@@ -69,6 +69,7 @@ module _ (C : Table) (d new : Decoder) where
       clean = rw (carry, piece) f.clean;
       at = omega (arith, on.at);
       id_in_header_only = rw (on.root, on.notes) f.id_in_header_only;
+      name = rw (on.root, on.notes) f.name;
     },
     λ T order at message root s r.
         let same : read_by_leaf C d d.leaf r.lines (at + length s) ≡ read_by_leaf C new new.leaf r.lines (at + length s) =

@@ -16,7 +16,7 @@ use Rattle.giop_decode.specs.ReadingSteps.{advance, after, block_step, leading_w
 use Rattle.giop_decode.specs.declared.progress.Kind.{Kind}
 use Rattle.giop_sig.specs.Types.{Choice, Enum, Octets, Plain, Scalar, Sequence, Single, Text, Ty, Union, part_of, width, tag_of}
 use Rattle.giop_sig.specs.declared.types.Selected.{Selected}
-use Rattle.giop_sig.specs.declared.types.Selected.TheVariants.{Case, Nothing, Refused}
+use Rattle.giop_sig.specs.declared.types.Selected.TheVariants.{Case}
 use Rattle.giop_cdr.specs.declared.prim.Primitive.TheVariants as prims
 use Rattle.giop_decode.specs.ReadResult
 

@@ -27,6 +27,7 @@ mod Advancing
 mod PartialBlocks
 mod Starting
 mod Noting
+mod NameBuffer
 mod WholeStrings
 mod OneCut
 mod LastNoted

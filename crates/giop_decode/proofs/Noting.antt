@@ -10,7 +10,7 @@ use Rattle.giop_decode.specs.declared.leaf.Output.{Output}
 use Rattle.giop_decode.specs.declared.leaf.Output.TheVariants as outputs
 use Rattle.giop_decode.specs.Noted.{Noted, note_value, ended, with_piece, noted_piece, is_member, noted, noted_of, without_name_if, in_content, ends_in_string, is_text, nothing_noted}
 use Rattle.giop_decode.specs.NotingSteps.{OutputFitsString, clears_name, leaf_in_string, transition_in_string}
-use Rattle.giop_decode.specs.ReadResult.{Leaf, LeadingNumber, Opening, Held, PathSegment, Name, Index, Switch, Line, line, Value, Piece, OpenPart, Content, Read, Done, Short, Fault, lines_of, with_front}
+use Rattle.giop_decode.specs.ReadResult.{Leaf, Held, PathSegment, Name, Index, Switch, Line, line, Value, Piece, OpenPart, Content, Read, Done, lines_of, with_front}
 use Rattle.giop_decode.specs.declared.frame.Frame.{Frame}
 use Rattle.giop_decode.specs.ReadingSteps.{path_in, segment_in}
 use Rattle.giop_decode.specs.Transitions.{has_ended, leaf_of, leaf_type, open_part, part_in, open_parts, IsOutput}

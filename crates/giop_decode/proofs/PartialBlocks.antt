@@ -79,6 +79,7 @@ module _ (C : Table) (d new : Decoder) (leaf : Innermost) (octet : ℕ)
       step_fits C d new f octet (record { lines = []; is = held_stands f.here f.stands holds; leaf = leaf; goes_on = e' })
       (held_here f.here at f.stands) (rw counts on) (rw (encloses, counts, inside_ticked d.outer.items) f.inside)
       (rw (counts, ← it) (link_ticked C f.root d.outer.items (leaf_type f.leaf) f.link)) (rw counts known_on) (rw (← it) f.known) clean (rw (root, notes) f.id_in_header_only)
+      (rw (root, notes, ← it) f.name)
 
   pub held_keeps_noted : (here : ℕ) (front : List Line) → new.notes ≡ d.notes → CanStandAt d here →
       Holds C d new leaf here octet → KeepsNoted d.root d (read_by_fields C d front here) →

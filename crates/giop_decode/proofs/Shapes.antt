@@ -1,5 +1,5 @@
 -- What follows for a type from its shape.
-use Rattle.std.proofs.Common.{◌≡◌, ℕ, zero, suc, Option, refl, inl, inr}
+use Rattle.std.proofs.Common.{◌≡◌, ℕ, zero, Option, refl, inl, inr}
 use Rattle.giop_cdr.specs.Alignment.{IsAlignment}
 use Rattle.giop_cdr.specs.Primitives.{size_of}
 use Rattle.giop_cdr.specs.declared.prim.Primitive.{Primitive}

@@ -15,7 +15,7 @@ use Rattle.giop_decode.specs.declared.progress.Kind.{Kind}
 use Rattle.giop_sig.specs.Fits.{IsFit, SelectsBelow}
 use Rattle.giop_sig.specs.Types.{places_of, Choice, Array, Octets, Scalar, Sequence, Single, Struct, Text, Ty, Union, part_of, tag_of, Encapsulation}
 use Rattle.giop_sig.specs.declared.types.Selected.{Selected}
-use Rattle.giop_sig.specs.declared.types.Selected.TheVariants.{Case, Nothing, Refused}
+use Rattle.giop_sig.specs.declared.types.Selected.TheVariants.{Case}
 use Rattle.giop_decode.proofs.Law.{headed_by, block_waits, block_got, number_waits, number_blocks, width_pos}
 
 abbrev pub Keeps : Ty → (ℕ → List ℕ → Read) → Type 0

@@ -1,11 +1,12 @@
 -- A decoder before the first octet.
-use Rattle.std.proofs.Common.{◌≡◌, ℕ, ◌+◌, ◌%◌, ◌<◌, [], length, Some, refl, sym, ◌∙◌, ap, subst, add-zero, inl, inr, arith, None}
+use Rattle.std.proofs.Common.{◌≡◌, ℕ, ◌+◌, ◌%◌, ◌<◌, [], length, Some, refl, sym, ◌∙◌, ap, subst, add-zero, inl, inr, arith}
 use Rattle.giop_cdr.specs.declared.order.Order.{Order}
 use Rattle.giop_decode.specs.declared.decoder.Decoder.{Decoder}
 use Rattle.giop_decode.specs.declared.leaf.Leaf.TheVariants as innermost
 use Rattle.giop_decode.specs.Begins.{start_outer, start_leaf}
 use Rattle.giop_decode.specs.Fits.{Sound}
 use Rattle.giop_decode.specs.Noted.{nothing_noted}
+use Rattle.giop_decode.proofs.NameBuffer.{nothing_fits}
 use Rattle.giop_decode.specs.DecoderState.{Fits, Reads, HoldsNoted, read_by_leaf}
 use Rattle.giop_decode.specs.Reading.{read}
 use Rattle.giop_decode.specs.ReadResult.{plain, LeadingNumber, Short}
@@ -45,8 +46,8 @@ pub first_fits : (C : Table) (of : ℕ) (d : Decoder) (first : TypeId) → of < 
     StandAt d.at d.outer.items → HaveOctetsLeft d.outer.items → d.inside ≡ is_inside d.outer.items →
     start_leaf (tree C of) ≡ LeadingNumber (tree C first.0) [] → Link C of d.outer.items first.0 →
     AreKnown C d.outer.items → first.0 < length C.types → d.at < 8 →
-    d.notes.request_id ≡ None → Fits C d
-first_fits C of d first known_root fit goes_on empty none are stand ahead inside leaf link known_outer known at none_said =
+    HoldsNoted d.notes nothing_noted → Fits C d
+first_fits C of d first known_root fit goes_on empty none are stand ahead inside leaf link known_outer known at none_noted =
     let T = tree C of in
     let sound : Sound T (0 + 0) (Short [] 0 (start_outer T) (start_leaf T)) =
     subst (Sound T (0 + 0)) (read_none (plain d.order) [] 24 T 0 fit) (read_keeps 24 (plain d.order) [] T fit 0 []) in
@@ -66,7 +67,8 @@ first_fits C of d first known_root fit goes_on empty none are stand ahead inside
       known = known;
       clean = none;
       at = at;
-      id_in_header_only = λ other. none_said;
+      id_in_header_only = λ other. none_noted.request_id;
+      name = nothing_fits d.root d.notes none_noted;
     }
 
 -- what can stand at the root, and isn't the empty struct, fits

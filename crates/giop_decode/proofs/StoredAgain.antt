@@ -6,7 +6,10 @@ use Rattle.giop_decode.specs.declared.leaf.Leaf.{Leaf as Innermost}
 use Rattle.giop_decode.specs.declared.notes.Buffer.{Buffer}
 use Rattle.giop_decode.specs.declared.notes.Buffer.TheVariants as buffers
 use Rattle.giop_decode.specs.declared.notes.Notes.{Notes}
+use Rattle.giop_decode.specs.NameBuffer.{FitsName, string_offset}
 use Rattle.giop_decode.specs.Noted.{Noted}
+use Rattle.giop_decode.specs.Transitions.{leaf_type}
+use Rattle.giop_sig.specs.Trees.{tree}
 use Rattle.giop_decode.specs.DecoderState.{Fits, IsHeld, KeepsNoted, Reads, HoldsNoted, read_by_fields, read_by_leaf}
 use Rattle.giop_decode.specs.Reading.{read}
 use Rattle.giop_decode.specs.ReadResult.{plain, Line, Read}
@@ -14,6 +17,13 @@ use Rattle.giop_decode.specs.Stored.{IsKept, IsRestored, Stored, fixed_octets, k
 use Rattle.giop_print.specs.declared.path.Root.{Root}
 use Rattle.giop_sig.specs.Table.{Table}
 use Rattle.giop_sig.specs.Types.{Ty}
+
+kept_fits : (root : Root) (at : Option ℕ) (b : Buffer) (octets : List ℕ) →
+    FitsName root at b octets → FitsName root at b (kept_name b octets)
+kept_fits root None buffers.TooLong octets fits = fits
+kept_fits root (Some offset) buffers.TooLong octets fits = (fits.0, refl)
+kept_fits root at buffers.Begun octets fits = fits
+kept_fits root at buffers.Whole octets fits = fits
 
 pub restored_fits : (C : Table) (d e : Decoder) → IsRestored d e → Fits C d → Fits C e
 restored_fits C d e r h = record {
@@ -33,6 +43,8 @@ restored_fits C d e r h = record {
   clean = rw (r.carry, r.piece) h.clean;
   at = rw r.at h.at;
   id_in_header_only = rw (r.root, r.notes.request_id) h.id_in_header_only;
+  name = rw (r.root, r.notes.buffer, r.notes.name)
+      (kept_fits d.root (string_offset (tree C (leaf_type h.leaf)) h.leaf) d.notes.buffer d.notes.name.items h.name);
 }
 
 -- ---- readings

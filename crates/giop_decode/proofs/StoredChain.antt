@@ -1,6 +1,6 @@
 -- The test of a restored decoder is exact: it passes exactly if the decoder fits the table; how many parts that are
 -- begun fit in a type.
-use Rattle.std.proofs.Common.{◌≡◌, ℕ, zero, suc, ◌+◌, ◌*◌, ◌<◌, ◌≤◌, List, [], ◌∷◌, length, Option, Some, None, refl, sym, subst, arith}
+use Rattle.std.proofs.Common.{◌≡◌, ℕ, zero, ◌+◌, ◌*◌, ◌<◌, ◌≤◌, List, [], ◌∷◌, length, Option, Some, None, refl, sym, subst, arith}
 use Rattle.std.specs.Prelude.{IfSome}
 use Rattle.giop_cdr.specs.declared.order.Order.{Order}
 use Rattle.giop_decode.specs.declared.decoder.Decoder.{Decoder}
@@ -224,6 +224,7 @@ chains_fits C d laws h =
       clean = h.fits.1;
       at = h.at;
       id_in_header_only = h.id_in_header_only;
+      name = h.name;
     }
 
 pub fits_chains : (C : Table) (d : Decoder) → IsTable C → Fits C d → Chains C d
@@ -241,6 +242,7 @@ fits_chains C d laws h =
       fits = (c.inner, h.clean);
       at = h.at;
       id_in_header_only = h.id_in_header_only;
+      name = h.name;
     }
 
 -- ---- how many

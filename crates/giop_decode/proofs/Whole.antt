@@ -1,5 +1,5 @@
 -- Octets that are taken together do what they do one after another: those of a number, or the rest of a piece.
-use Rattle.std.proofs.Common.{◌≡◌, ℕ, ◌+◌, ◌-◌, ◌%◌, ◌^◌, true, false, ◌<◌, ◌≤◌, List, [], ◌∷◌, ◌++◌, length, take, drop, get_or, Some, refl, sym, ◌∙◌, ap, subst, arith, length-append, length-drop, take-add, append_assoc}
+use Rattle.std.proofs.Common.{◌≡◌, ℕ, ◌+◌, ◌-◌, ◌%◌, ◌^◌, true, false, ◌<◌, ◌≤◌, List, [], ◌∷◌, ◌++◌, length, take, drop, get_or, Some, None, refl, sym, ◌∙◌, ap, subst, arith, length-append, length-drop, take-add, append_assoc}
 use Rattle.std.proofs.Math.Bool.{and-true, and-false}
 use Rattle.std.proofs.lemmas.List.{get_or-drop, length-take-le}
 use Rattle.giop_cdr.proofs.NumberLaws.{num_bound}
@@ -20,10 +20,13 @@ use Rattle.giop_decode.specs.declared.leaf.Output.TheVariants as outputs
 use Rattle.giop_decode.specs.Fits.{ContentFits, IsBare}
 use Rattle.giop_decode.specs.Noted.{Noted, noted, without_name_if, ends_in_string, is_header_root, is_text, nothing_noted}
 use Rattle.giop_decode.specs.DecoderState.{Fits, CanStandAt, KeepsNoted, HoldsNoted, read_by_fields}
-use Rattle.giop_decode.specs.DecoderSteps.{IsAround, leaf_in, decoder_step, emitted}
+use Rattle.giop_decode.specs.DecoderSteps.{IsAround, IsNotRefused, leaf_in, decoder_step, emitted}
 use Rattle.giop_decode.specs.Pieces.{tail}
 use Rattle.giop_decode.specs.Reading.{after_leading_number}
-use Rattle.giop_decode.specs.NotingSteps.{OutputFitsString, clears_name, leaf_in_string, transition_in_string}
+use Rattle.giop_decode.proofs.NameBuffer.{name_kept, none_either}
+use Rattle.giop_decode.specs.NameBuffer.{FitsName, string_offset}
+use Rattle.giop_decode.specs.declared.notes.Notes.{Notes}
+use Rattle.giop_decode.specs.NotingSteps.{transition_offset, StringGoesOn, OutputFitsString, clears_name, leaf_in_string, transition_in_string}
 use Rattle.giop_decode.specs.Runs.{Adds, AllGathered, TakenTogether}
 use Rattle.giop_decode.specs.ReadResult.{plain, line, Coding, Line, PathSegment, Piece, lines_of, with_front}
 use Rattle.giop_decode.specs.ReadingSteps.{AreHeld, after, around, leading_width, leaf_step, path_in, step}
@@ -111,10 +114,11 @@ module _ (C : Table) (d : Decoder) (of : TypeId) (octets : List ℕ) (count : �
       StandsWhole (leading_width (tree C of.0)) d.at octets count all →
       TransitionFits (tree C of.0) of.0 s.transition [] [] → HasOutput (tree C of.0) s.output →
       OutputFitsString (tree C of.0) false s.transition s.output →
+      ((n : ℕ) → StringGoesOn (tree C of.0) None s.transition s.output n) →
       ((coding : Coding) (path : List PathSegment) (at : ℕ) → TransitionGives C (tree C of.0) s.transition s.output [] [] path at
       (after coding path (tree C of.0) (num d.order all) at [])) →
       TakenTogether C d octets of count s []
-  comes_head all s stands transition_fits has_output output_fits_string transitions =
+  comes_head all s stands transition_fits has_output output_fits_string string_goes_on transitions =
       let T = tree C of.0 in
       let nothing_held : still_held s.output d.piece.items ≡ [] = ap (still_held s.output) no_piece ∙ still_nothing s.output in
       record {
@@ -131,6 +135,7 @@ module _ (C : Table) (d : Decoder) (of : TypeId) (octets : List ℕ) (count : �
         transition_fits = rw (empty, nothing_held) transition_fits;
         has_output = has_output;
         output_fits_string = output_fits_string;
+        string_goes_on = string_goes_on (length (d.piece.items ++ []));
         lines = λ path here. (transitions (plain d.order) path (here + 1)).lines;
         comes = λ path here at.
             let t = transitions (plain d.order) path (here + 1) in
@@ -144,7 +149,7 @@ module _ (C : Table) (d : Decoder) (of : TypeId) (octets : List ℕ) (count : �
       IsWholeNumber (tree C of.0) d.order d.at octets count number →
       TakenTogether C d octets of count (record { transition = transitions.Ended; output = outputs.Number number }) []
   comes_number number h =
-      comes_head h.all (record { transition = transitions.Ended; output = outputs.Number number }) h.stands tt h.is (refl, refl)
+      comes_head h.all (record { transition = transitions.Ended; output = outputs.Number number }) h.stands tt h.is (refl, refl) (λ n. (refl, refl))
       (λ coding path at. subst (λ n. TransitionGives C (tree C of.0) transitions.Ended (outputs.Number number) [] [] path at (after coding path (tree C of.0) n at []))
       h.spelled (turns_number C coding path (tree C of.0) at number h.is))
 
@@ -199,6 +204,7 @@ module _ (C : Table) (d : Decoder) (of : TypeId) (total offset : ℕ) (octets : 
         transition_fits = (refl, no_carry);
         has_output = content.kind;
         output_fits_string = sym (and-true (is_text T));
+        string_goes_on = (refl, refl, held_size count within ∙ omega (arith, counted, room));
         lines = λ path here. line (here + 1) path (Piece T offset (d.piece.items ++ take count octets) true) ∷ [];
         comes = λ path here at. rw (← with_last some within) (full_whole T path total offset here piece b large (omega (arith, size)));
         says = λ path here. refl;
@@ -230,6 +236,7 @@ module _ (C : Table) (d : Decoder) (of : TypeId) (total offset : ℕ) (octets : 
         transition_fits = tt;
         has_output = content.kind;
         output_fits_string = sym (and-false (is_text T));
+        string_goes_on = (none_either (is_text T) (Some offset), refl);
         lines = λ path here. line (here + 1) path (Piece T offset (d.piece.items ++ take count octets) false) ∷ [];
         comes = λ path here at. rw (← with_last some within) (octets_last T path total offset here piece b bare small size);
         says = λ path here. refl;
@@ -266,6 +273,7 @@ module _ (C : Table) (d : Decoder) (of : TypeId) (total offset : ℕ) (octets : 
         transition_fits = tt;
         has_output = content.kind;
         output_fits_string = sym (and-false (is_text T));
+        string_goes_on = (none_either (is_text T) (Some offset), refl);
         lines = λ path here. line (here + 1) path (Piece T offset piece false) ∷ [];
         comes = λ path here at. rw n (text_last T path total offset here piece b bound is small all zero_end);
         says = λ path here. refl;
@@ -364,3 +372,16 @@ module _ (C : Table) (d : Decoder) (octets : List ℕ) (of : TypeId) (count : �
       (subst (λ t. ends_in_string r ≡ transition_in_string (tree C t) s.transition) back (ap ends_in_string (told_whole at here e stands) ∙ inside))
       (lines_whole at here e stands) in
       subst (HoldsNoted new.notes) on (notes (without_name_if (leaf_in_string T h.leaf) (noted header nothing_noted front)) before)
+
+  pub name_whole : (here : ℕ) (next : Innermost) (new : Notes) → IsNotRefused s.transition →
+      string_offset (tree C (leaf_type next)) next ≡ transition_offset (tree C of.0) s.transition →
+      ((o : Noted) → HoldsNoted d.notes o → HoldsNoted new (without_name_if (clears_name s.output)
+      (noted (is_header_root d.root) o (lines_at here)))) →
+      FitsName d.root (string_offset (tree C (leaf_type next)) next) new.buffer new.name.items
+  name_whole here next new going leads notes =
+      let T = tree C of.0 in
+      let same = same_some f.leaf h.leaf (sym f.goes_on ∙ h.goes_on) in
+      name_kept (is_header_root d.root) d.root T (string_offset T h.leaf) (string_offset (tree C (leaf_type next)) next) s.transition s.output
+      (path_in [] (open_parts C here d.outer.items)) (here + 1) (d.piece.items ++ rest) (lines_at here) d.notes new going h.string_goes_on leads (says_at here)
+      (subst (λ n. FitsName d.root (string_offset (tree C n) h.leaf) d.notes.buffer d.notes.name.items) h.same
+      (subst (λ l. FitsName d.root (string_offset (tree C (leaf_type l)) l) d.notes.buffer d.notes.name.items) same f.name)) notes

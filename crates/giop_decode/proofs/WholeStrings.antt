@@ -18,7 +18,7 @@ use Rattle.giop_decode.specs.declared.progress.Kind.{Kind}
 use Rattle.giop_decode.specs.declared.progress.Kind.TheVariants as kinds
 use Rattle.giop_sig.specs.Types.{tag_of, Array, Encapsulation, Octets, Scalar, Sequence, Single, Struct, Text, Ty, Union}
 use Rattle.giop_sig.specs.declared.types.Selected.{Selected}
-use Rattle.giop_sig.specs.declared.types.Selected.TheVariants.{Case, Nothing, Refused}
+use Rattle.giop_sig.specs.declared.types.Selected.TheVariants.{Case}
 use Rattle.giop_decode.proofs.Noting.{cut_inside, front_inside}
 use Rattle.giop_decode.proofs.Law.{block_got, block_waits}
 use Rattle.giop_decode.proofs.Resuming.{lines_front}

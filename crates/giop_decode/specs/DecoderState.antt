@@ -11,6 +11,7 @@ use Rattle.giop_decode.specs.declared.progress.Progress.TheVariants as progress
 use Rattle.giop_decode.specs.ReadResult.{plain, Line, Read, Done, Short, Fault, lines_of}
 use Rattle.giop_decode.specs.Reading.{read}
 use Rattle.giop_decode.specs.Fits.{FitsIn}
+use Rattle.giop_decode.specs.NameBuffer.{FitsName, string_offset}
 use Rattle.giop_decode.specs.Noted.{Noted, noted_of, is_header_root, names_operation}
 use Rattle.giop_decode.specs.Transitions.{open_parts, AreKnown, HaveOctetsLeft, StandAt, is_inside, Link, leaf_of, leaf_type, IsClean}
 use Rattle.giop_print.specs.declared.path.Root.{Root}
@@ -47,6 +48,7 @@ pub record Fits (C : Table) (d : Decoder) : Type 0 where
   pub at : d.at < 8
   -- none but a header has a request id
   pub id_in_header_only : is_header_root d.root ≡ false → d.notes.request_id ≡ None
+  pub name : FitsName d.root (string_offset (tree C (leaf_type leaf)) leaf) d.notes.buffer d.notes.name.items
 
 -- the value has ended
 abbrev pub IsDone : Decoder → Type 0

@@ -12,6 +12,8 @@ use Rattle.giop_decode.specs.ReadResult.{plain, Line, Leaf, LeadingNumber, Read,
 use Rattle.giop_decode.specs.declared.progress.Kind.TheVariants as kinds
 use Rattle.giop_decode.specs.Fits.{OpenFrom}
 use Rattle.giop_decode.specs.ReadingSteps.{around, step}
+use Rattle.giop_decode.specs.NameBuffer.{string_offset}
+use Rattle.giop_decode.specs.NotingSteps.{transition_offset}
 use Rattle.giop_decode.specs.Noted.{is_header_root, names_operation}
 use Rattle.giop_decode.specs.DecoderState.{read_by_fields}
 use Rattle.giop_decode.specs.Transitions.{open_parts, gone_to, leaf_of, leaf_type, after_transition, still_held, is_inside, AreKnown, HaveOctetsLeft, IsClean, Link}
@@ -95,7 +97,7 @@ emitted C d of transition output lines here = around (plain d.order) [] (open_pa
     (after_transition C (tree C of) transition d.carry (still_held output d.piece.items) lines (here + 1))
 
 -- the decoder after that transition: the innermost part that comes next, and the parts around it
-pub record IsNext (C : Table) (d new : Decoder) (of : ℕ) : Type 0 where
+pub record IsNext (C : Table) (d new : Decoder) (of : ℕ) (transition : Transition) : Type 0 where
   pub known_outer : AreKnown C new.outer.items
   pub inside : new.inside ≡ is_inside new.outer.items
   pub ahead : HaveOctetsLeft new.outer.items
@@ -103,3 +105,6 @@ pub record IsNext (C : Table) (d new : Decoder) (of : ℕ) : Type 0 where
   pub clean : (leaf : Innermost) → new.leaf ≡ Some leaf → IsClean leaf new.carry new.piece.items
   pub link : (root : ℕ) (leaf : Innermost) → Link C root d.outer.items of → new.leaf ≡ Some leaf →
       Link C root new.outer.items (leaf_type leaf)
+  pub going : IsNotRefused transition
+  pub offset : (leaf : Innermost) → new.leaf ≡ Some leaf →
+      string_offset (tree C (leaf_type leaf)) leaf ≡ transition_offset (tree C of) transition

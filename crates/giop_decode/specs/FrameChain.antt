@@ -6,6 +6,7 @@ use Rattle.giop_decode.specs.declared.decoder.Decoder.{Decoder}
 use Rattle.giop_decode.specs.declared.frame.Frame.{Frame}
 use Rattle.giop_decode.specs.declared.leaf.Leaf.{Leaf as Innermost}
 use Rattle.giop_decode.specs.Fits.{HasParts, FitsIn, IsEncapsulation}
+use Rattle.giop_decode.specs.NameBuffer.{FitsName, string_offset}
 use Rattle.giop_decode.specs.Noted.{is_header_root}
 use Rattle.giop_decode.specs.Transitions.{leaf_of, leaf_type, is_inside, part_index, IsClean}
 use Rattle.giop_sig.specs.Fits.{IsEmptyStruct}
@@ -50,3 +51,4 @@ pub record Chains (C : Table) (d : Decoder) : Type 0 where
   pub fits : LeafFits C leaf d.carry d.piece.items
   pub at : d.at < 8
   pub id_in_header_only : is_header_root d.root ≡ false → d.notes.request_id ≡ None
+  pub name : FitsName d.root (string_offset (tree C (leaf_type leaf)) leaf) d.notes.buffer d.notes.name.items

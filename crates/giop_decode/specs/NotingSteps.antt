@@ -1,5 +1,5 @@
 -- What an octet that completes a line changes in the notes (steps).
-use Rattle.std.specs.Prelude.{◌≡◌, ◌&&◌, Bool, true, false}
+use Rattle.std.specs.Prelude.{◌≡◌, ℕ, ◌+◌, ◌&&◌, Bool, true, false, cond, Option, Some, None}
 use Rattle.giop_decode.specs.declared.leaf.Leaf.{Leaf as Innermost}
 use Rattle.giop_decode.specs.declared.leaf.Leaf.TheVariants as innermost
 use Rattle.giop_decode.specs.declared.leaf.Transition.{Transition}
@@ -7,6 +7,7 @@ use Rattle.giop_decode.specs.declared.leaf.Transition.TheVariants as transitions
 use Rattle.giop_decode.specs.declared.leaf.Output.{Output}
 use Rattle.giop_decode.specs.declared.leaf.Output.TheVariants as outputs
 use Rattle.giop_decode.specs.Noted.{is_text}
+use Rattle.giop_decode.specs.NameBuffer.{string_offset}
 use Rattle.giop_cdr.specs.declared.number.Number.{Number as Taken}
 use Rattle.giop_cdr.specs.declared.prim.Primitive.{Primitive}
 use Rattle.giop_sig.specs.Types.{Plain, Single, Ty}
@@ -34,6 +35,27 @@ OutputFitsString T was transition outputs.Nothing = transition_in_string T trans
 OutputFitsString T was transition outputs.Length = transition_in_string T transition ≡ true
 OutputFitsString T was transition (outputs.Piece offset more) = transition_in_string T transition ≡ is_text T && more
 OutputFitsString T was transition output = (was ≡ false) × (transition_in_string T transition ≡ false)
+
+-- where in its string the unfinished piece begins after a transition, if it leads into a string or goes on in one
+abbrev pub transition_offset : Ty → Transition → Option ℕ
+transition_offset T (transitions.More leaf) = string_offset T leaf
+transition_offset T transition = None
+
+-- Where in its string the unfinished piece begins before and after an octet with this output, whose piece has so many
+-- octets: a length leads into a string, a piece that isn't the last goes on behind its 32 octets, and the last leads out.
+abbrev pub OffsetMoves : Ty → Option ℕ → Option ℕ → Output → ℕ → Type 0
+OffsetMoves T was next outputs.Nothing n = next ≡ was
+OffsetMoves T was next outputs.Length n = (was ≡ None) × (next ≡ Some 0)
+OffsetMoves T was next (outputs.Piece offset true) n =
+    (was ≡ cond (is_text T) (Some offset) None) × (next ≡ cond (is_text T) (Some (offset + 32)) None) × (n ≡ 32)
+OffsetMoves T was next (outputs.Piece offset false) n =
+    (cond (is_text T) None was ≡ None) × (next ≡ None)
+OffsetMoves T was next output n = (was ≡ None) × (next ≡ None)
+
+-- the same of a transition; where a rule is broken nothing is said
+abbrev pub StringGoesOn : Ty → Option ℕ → Transition → Output → ℕ → Type 0
+StringGoesOn T was (transitions.Refused kind) output n = Unit {0}
+StringGoesOn T was transition output n = OffsetMoves T was (transition_offset T transition) output n
 
 -- a type of one primitive
 abbrev pub IsPrim : Ty → Type 0

@@ -19,7 +19,8 @@ use Rattle.giop_decode.specs.declared.leaf.Leaf.{Leaf as Innermost}
 use Rattle.giop_decode.specs.declared.leaf.Leaf.TheVariants as innermost
 use Rattle.giop_decode.specs.declared.leaf.Step.{Step}
 use Rattle.giop_decode.specs.Pieces.{tail}
-use Rattle.giop_decode.specs.NotingSteps.{OutputFitsString, leaf_in_string}
+use Rattle.giop_decode.specs.NameBuffer.{string_offset}
+use Rattle.giop_decode.specs.NotingSteps.{OutputFitsString, StringGoesOn, leaf_in_string}
 use Rattle.giop_decode.specs.ReadingSteps.{AreHeld, leading_width, leaf_step}
 use Rattle.giop_decode.specs.Transitions.{HasOutput, IsOutput, TransitionFits, leaf_of, leaf_type, still_held, after_transition}
 
@@ -118,6 +119,8 @@ pub record TakenTogether (C : Table) (d : Decoder) (octets : List ℕ) (of : Typ
       (still_held step.output d.piece.items)
   pub has_output : HasOutput (tree C of.0) step.output
   pub output_fits_string : OutputFitsString (tree C of.0) (leaf_in_string (tree C of.0) leaf) step.transition step.output
+  pub string_goes_on : StringGoesOn (tree C of.0) (string_offset (tree C of.0) leaf) step.transition step.output
+      (length (d.piece.items ++ rest))
   pub lines : List PathSegment → ℕ → List Line
   pub comes : (path : List PathSegment) (here : ℕ) → here % 8 ≡ (d.at + (count - 1)) % 8 →
       leaf_step (plain d.order) path (leaf_of C leaf carry piece) here

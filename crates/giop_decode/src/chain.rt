@@ -3,6 +3,7 @@
 ghost use Rattle.std.specs.Prelude.{◌≡◌, ◌↔◌, IsTrue, ℕ, ◌+◌, ◌-◌, ◌<◌, ◌≤◌, List, [], length};
 ghost use Rattle.giop_decode.specs.FrameChain.{HasFrame, HasPart, LeafFits, Chained, Chains, root_of};
 ghost use Rattle.giop_decode.specs.Fits.{HasLeadingNumber, IsEncapsulation};
+ghost use Rattle.giop_decode.specs.NameBuffer.{FitsName, IsNotedOf, string_offset};
 ghost use Rattle.giop_decode.specs.Transitions.{leaf_type, part_index};
 ghost use Rattle.giop_sig.specs.Trees.{tree};
 
@@ -10,8 +11,9 @@ use crate::decoder::Decoder;
 use crate::frame::{Frame, is_empty, is_inside, whole};
 use crate::leading_numbers::width;
 use crate::leaf::Leaf;
-use crate::notes::is_header;
+use crate::notes::{Buffer, Notes, is_header};
 use giop_cdr::Carry;
+use giop_print::Root;
 use giop_sig::{Catalogue, Shape, TypeId};
 
 impl Decoder {
@@ -31,6 +33,7 @@ impl Decoder {
             && self.inside == is_inside(true, self.outer.as_slice())
             && follow(catalogue, root, self.outer.as_slice(), leaf)
             && leaf_fits(catalogue, leaf, &self.carry, self.piece.as_slice())
+            && name_fits(self.root, string_offset(catalogue, leaf), &self.notes)
     }
 }
 
@@ -175,5 +178,45 @@ fn content_fits(total: u32, offset: u32, held: usize, tail: usize) -> bool
         held < 32
     } else {
         held < left + tail
+    }
+}
+
+/// Where in its string the unfinished piece begins, if the innermost part is in a string.
+fn string_offset(catalogue: &Catalogue, leaf: Leaf) -> Option<u32>
+    requires { leaf_type leaf < length catalogue.now.types }
+    ensures { result ≡ string_offset (tree catalogue.now (leaf_type leaf)) leaf }
+{
+    match leaf {
+        Leaf::Content { of, offset, .. } => match catalogue.shape(of) {
+            Shape::Text(_) => Some(offset),
+            _ => None,
+        },
+        Leaf::Number(_) => None,
+        Leaf::Opening { .. } => None,
+    }
+}
+
+/// Whether the name buffer is one that can be in no string, or in one whose unfinished piece begins at this offset.
+fn name_fits(root: Root, offset: Option<u32>, notes: &Notes) -> bool
+    ensures { IsTrue result ↔ FitsName root offset notes.now.buffer notes.now.name.items }
+{
+    match (offset, notes.buffer) {
+        (None, Buffer::Begun) => notes.name.is_empty(),
+        (None, Buffer::Whole) => true,
+        (None, Buffer::TooLong) => false,
+        (Some(offset), Buffer::Begun) => is_noted_of(root, offset, notes.name.len()),
+        (Some(_), Buffer::Whole) => false,
+        (Some(offset), Buffer::TooLong) => 128 < offset && notes.name.is_empty(),
+    }
+}
+
+/// Whether so many octets can be noted of a string whose unfinished piece begins at this offset.
+fn is_noted_of(root: Root, offset: u32, count: usize) -> bool
+    ensures { IsTrue result ↔ IsNotedOf root offset count }
+{
+    match root {
+        Root::Header => count == offset as usize,
+        Root::Exception => count == offset as usize,
+        Root::Body => count <= offset as usize,
     }
 }

@@ -6,7 +6,8 @@ ghost use Rattle.arrayvec.specs.ArrayVec.{array_vec_len};
 ghost use Rattle.giop_decode.specs.ReadResult.{PathSegment};
 ghost use Rattle.giop_decode.specs.Noted.{is_text};
 ghost use Rattle.giop_decode.specs.Pieces.{tail};
-ghost use Rattle.giop_decode.specs.NotingSteps.{OutputFitsString};
+ghost use Rattle.giop_decode.specs.NameBuffer.{string_offset};
+ghost use Rattle.giop_decode.specs.NotingSteps.{OutputFitsString, StringGoesOn};
 ghost use Rattle.giop_decode.specs.ReadingSteps.{content_step};
 ghost use Rattle.giop_decode.specs.Fits.{HasContent, IsBare};
 ghost use Rattle.giop_decode.specs.Transitions.{TransitionGives, TransitionFits, HasOutput, still_held};
@@ -55,6 +56,9 @@ pub(crate) fn take_content(
     ensures has_output { HasOutput (tree catalogue.now of.0) result.output }
     ensures output_fits_string { OutputFitsString (tree catalogue.now of.0) (is_text (tree catalogue.now of.0))
         result.transition result.output }
+    ensures string_goes_on { StringGoesOn (tree catalogue.now of.0)
+        (string_offset (tree catalogue.now of.0) (Leaf.Content of total offset)) result.transition result.output
+        (length piece.new.items) }
     ensures transitions { (path : List PathSegment) (at : ℕ) →
         TransitionGives catalogue.now (tree catalogue.now of.0) result.transition result.output []
         piece.new.items path (at + 1)
@@ -117,6 +121,9 @@ fn take_last(
     ensures has_output { HasOutput (tree catalogue.now of.0) result.output }
     ensures output_fits_string { OutputFitsString (tree catalogue.now of.0) (is_text (tree catalogue.now of.0))
         result.transition result.output }
+    ensures string_goes_on { StringGoesOn (tree catalogue.now of.0)
+        (string_offset (tree catalogue.now of.0) (Leaf.Content of total offset)) result.transition result.output
+        (length piece.new.items) }
     ensures transitions { (path : List PathSegment) (at : ℕ) →
         TransitionGives catalogue.now (tree catalogue.now of.0) result.transition result.output []
         piece.new.items path (at + 1)

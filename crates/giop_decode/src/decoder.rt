@@ -12,7 +12,8 @@ ghost use Rattle.giop_decode.specs.ReadingSteps.{around, path_in};
 ghost use Rattle.giop_decode.specs.Fits.{OpenFrom};
 ghost use Rattle.giop_decode.specs.Transitions.{open_parts, AreKnown, Link, TransitionFits, HasOutput, IsOutput, after_transition, still_held, leaf_type, IsClean, StandAt, is_inside};
 ghost use Rattle.giop_decode.specs.Noted.{Noted, noted, noted_of, without_name_if, ends_in_string, is_header_root};
-ghost use Rattle.giop_decode.specs.NotingSteps.{IsPlain, clears_name, transition_in_string};
+ghost use Rattle.giop_decode.specs.NameBuffer.{string_offset};
+ghost use Rattle.giop_decode.specs.NotingSteps.{IsPlain, clears_name, transition_in_string, transition_offset};
 ghost use Rattle.giop_decode.specs.DecoderState.{Fits, IsDone, CanStandAt, Reads, HoldsNoted, Takes, KeepsNoted, GoesOn, read_by_fields, added_lines};
 ghost use Rattle.giop_decode.specs.DecoderSteps.{transition_result, decoder_step, emitted, Comes, IsAround, IsNext, IsNotRefused};
 ghost use Rattle.giop_sig.specs.Types.{Ty};
@@ -159,6 +160,9 @@ impl Decoder {
         ensures link { (root : ℕ) (leaf : Innermost) → IsNotRefused transition →
             Link catalogue.now root self.old.outer.items of.0 → self.new.leaf ≡ Some leaf →
             Link catalogue.now root self.new.outer.items (leaf_type leaf) }
+        ensures offset { (leaf : Innermost) → IsNotRefused transition → self.new.leaf ≡ Some leaf →
+            string_offset (tree catalogue.now (leaf_type leaf)) leaf
+            ≡ transition_offset (tree catalogue.now of.0) transition }
         ensures order { self.new.order ≡ self.old.order }
         ensures root { self.new.root ≡ self.old.root }
         ensures message { self.new.message ≡ self.old.message }
@@ -292,7 +296,7 @@ impl Decoder {
         ensures message { OnOk result (self.new.message ≡ self.old.message) }
         ensures here { OnOk result ((here : ℕ) → CanStandAt self.old here →
             CanStandAt self.new (here + 1)) }
-        ensures next { IfOk result (λ p. GoesOn p → IsNext catalogue.now self.old self.new of.0) }
+        ensures next { IfOk result (λ p. GoesOn p → IsNext catalogue.now self.old self.new of.0 step.transition) }
         ensures writes { (here at : ℕ) (lines : List Line) →
             IsOutput (tree catalogue.now of.0)
             (path_in [] (open_parts catalogue.now here self.old.outer.items))

@@ -5,7 +5,7 @@ ghost use Rattle.giop_cdr.specs.Alignment.{IsAlignment, padding};
 ghost use Rattle.giop_cdr.specs.Numbers.{num};
 ghost use Rattle.giop_decode.specs.ReadResult.{Coding, PathSegment};
 ghost use Rattle.giop_decode.specs.Pieces.{over};
-ghost use Rattle.giop_decode.specs.NotingSteps.{OutputFitsString};
+ghost use Rattle.giop_decode.specs.NotingSteps.{OutputFitsString, StringGoesOn};
 ghost use Rattle.giop_decode.specs.ReadingSteps.{after, leading_width, number_step, AreHeld};
 ghost use Rattle.giop_decode.specs.Fits.{HasLeadingNumber};
 ghost use Rattle.giop_decode.specs.Transitions.{TransitionGives, TransitionFits, HasOutput, IsNumberOf, over_by, block_of};
@@ -151,6 +151,8 @@ pub(crate) fn take_value(catalogue: &Catalogue, order: Order, of: TypeId, octets
     ensures transition_fits { TransitionFits (tree catalogue.now of.0) of.0 result.transition [] [] }
     ensures has_output { HasOutput (tree catalogue.now of.0) result.output }
     ensures output_fits_string { OutputFitsString (tree catalogue.now of.0) false result.transition result.output }
+    ensures string_goes_on { (n : ℕ) →
+        StringGoesOn (tree catalogue.now of.0) None result.transition result.output n }
     ensures transitions { (coding : Coding) (path : List PathSegment) (at : ℕ) →
         TransitionGives catalogue.now (tree catalogue.now of.0) result.transition result.output [] [] path at
         (after coding path (tree catalogue.now of.0) (num order octets.now) at []) }
@@ -194,6 +196,8 @@ fn take_switch(catalogue: &Catalogue, order: Order, of: TypeId, octets: &[u8]) -
     ensures transition_fits { TransitionFits (tree catalogue.now of.0) of.0 result.transition [] [] }
     ensures has_output { HasOutput (tree catalogue.now of.0) result.output }
     ensures output_fits_string { OutputFitsString (tree catalogue.now of.0) false result.transition result.output }
+    ensures string_goes_on { (n : ℕ) →
+        StringGoesOn (tree catalogue.now of.0) None result.transition result.output n }
     ensures transitions { (coding : Coding) (path : List PathSegment) (at : ℕ) →
         TransitionGives catalogue.now (tree catalogue.now of.0) result.transition result.output [] [] path at
         (after coding path (tree catalogue.now of.0) (num order octets.now) at []) }
@@ -224,6 +228,8 @@ fn take_selected(catalogue: &Catalogue, of: TypeId, number: Number) -> Step
     ensures transition_fits { TransitionFits (tree catalogue.now of.0) of.0 result.transition [] [] }
     ensures has_output { HasOutput (tree catalogue.now of.0) result.output }
     ensures output_fits_string { OutputFitsString (tree catalogue.now of.0) false result.transition result.output }
+    ensures string_goes_on { (n : ℕ) →
+        StringGoesOn (tree catalogue.now of.0) None result.transition result.output n }
     ensures transitions { (is : IsNumberOf (switch_of (tree catalogue.now of.0)) number) (coding : Coding)
         (path : List PathSegment) (at : ℕ) →
         TransitionGives catalogue.now (tree catalogue.now of.0) result.transition result.output [] [] path at
@@ -249,6 +255,8 @@ fn take_length(catalogue: &Catalogue, of: TypeId, bound: Option<u32>, n: u32) ->
     ensures transition_fits { TransitionFits (tree catalogue.now of.0) of.0 result.transition [] [] }
     ensures has_output { HasOutput (tree catalogue.now of.0) result.output }
     ensures output_fits_string { OutputFitsString (tree catalogue.now of.0) false result.transition result.output }
+    ensures string_goes_on { (n : ℕ) →
+        StringGoesOn (tree catalogue.now of.0) None result.transition result.output n }
     ensures transitions { (coding : Coding) (path : List PathSegment) (at : ℕ) →
         TransitionGives catalogue.now (tree catalogue.now of.0) result.transition result.output [] [] path at
         (after coding path (tree catalogue.now of.0) n at []) }
@@ -283,6 +291,8 @@ fn take_size(catalogue: &Catalogue, of: TypeId, bound: Option<u32>, n: u32) -> S
     ensures transition_fits { TransitionFits (tree catalogue.now of.0) of.0 result.transition [] [] }
     ensures has_output { HasOutput (tree catalogue.now of.0) result.output }
     ensures output_fits_string { OutputFitsString (tree catalogue.now of.0) false result.transition result.output }
+    ensures string_goes_on { (n : ℕ) →
+        StringGoesOn (tree catalogue.now of.0) None result.transition result.output n }
     ensures transitions { (coding : Coding) (path : List PathSegment) (at : ℕ) →
         TransitionGives catalogue.now (tree catalogue.now of.0) result.transition result.output [] [] path at
         (after coding path (tree catalogue.now of.0) n at []) }
@@ -315,6 +325,8 @@ fn take_count(catalogue: &Catalogue, of: TypeId, bound: Option<u32>, n: u32) -> 
     ensures transition_fits { TransitionFits (tree catalogue.now of.0) of.0 result.transition [] [] }
     ensures has_output { HasOutput (tree catalogue.now of.0) result.output }
     ensures output_fits_string { OutputFitsString (tree catalogue.now of.0) false result.transition result.output }
+    ensures string_goes_on { (n : ℕ) →
+        StringGoesOn (tree catalogue.now of.0) None result.transition result.output n }
     ensures transitions { (coding : Coding) (path : List PathSegment) (at : ℕ) →
         TransitionGives catalogue.now (tree catalogue.now of.0) result.transition result.output [] [] path at
         (after coding path (tree catalogue.now of.0) n at []) }

@@ -2,7 +2,8 @@
 
 ghost use Rattle.std.specs.Prelude.{◌≡◌, ℕ, ◌+◌, ◌-◌, ◌%◌, ◌<◌, List, [], length};
 ghost use Rattle.giop_decode.specs.ReadResult.{Coding, PathSegment};
-ghost use Rattle.giop_decode.specs.NotingSteps.{OutputFitsString, leaf_in_string};
+ghost use Rattle.giop_decode.specs.NameBuffer.{string_offset};
+ghost use Rattle.giop_decode.specs.NotingSteps.{OutputFitsString, StringGoesOn, leaf_in_string};
 ghost use Rattle.giop_decode.specs.ReadingSteps.{leaf_step};
 ghost use Rattle.giop_decode.specs.Fits.{FitsIn};
 ghost use Rattle.giop_decode.specs.Transitions.{leaf_of, leaf_type, TransitionGives, TransitionFits, HasOutput, IsClean, still_held};
@@ -136,6 +137,9 @@ pub(crate) fn take_octet(
     ensures has_output { HasOutput (tree catalogue.now (leaf_type leaf)) result.output }
     ensures output_fits_string { OutputFitsString (tree catalogue.now (leaf_type leaf))
         (leaf_in_string (tree catalogue.now (leaf_type leaf)) leaf) result.transition result.output }
+    ensures string_goes_on { StringGoesOn (tree catalogue.now (leaf_type leaf))
+        (string_offset (tree catalogue.now (leaf_type leaf)) leaf) result.transition result.output
+        (length piece.new.items) }
     ensures transitions { (coding : Coding) (path : List PathSegment) (here : ℕ) →
         coding.order ≡ order → (here - coding.origin) % 8 ≡ at →
         TransitionGives catalogue.now (tree catalogue.now (leaf_type leaf)) result.transition result.output

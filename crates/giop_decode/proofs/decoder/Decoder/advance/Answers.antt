@@ -3,9 +3,11 @@ use Rattle.giop_decode.proofs.Advancing.{stands_at, same_some, goes, step_fits, 
 use Rattle.giop_decode.proofs.Surrounding.{IsCoded, coded_in}
 use Rattle.giop_print.proofs.Writing.{writes_failed}
 use Rattle.giop_decode.proofs.Noting.{noted_on, leaf_inside}
-use Rattle.giop_decode.specs.Noted.{noted, without_name_if, ends_in_string, is_header_root, nothing_noted}
+use Rattle.giop_decode.proofs.NameBuffer.{name_kept}
+use Rattle.giop_decode.specs.NameBuffer.{FitsName, string_offset}
+use Rattle.giop_decode.specs.Noted.{Noted, noted, without_name_if, ends_in_string, is_header_root, nothing_noted}
 use Rattle.giop_decode.specs.DecoderState.{HoldsNoted}
-use Rattle.giop_decode.specs.NotingSteps.{leaf_in_string}
+use Rattle.giop_decode.specs.NotingSteps.{clears_name, leaf_in_string, transition_offset}
 use Rattle.giop_decode.specs.DecoderSteps.{decoder_step, leaf_in}
 use Rattle.giop_decode.specs.ReadResult.{plain, lines_of}
 use Rattle.giop_decode.specs.ReadingSteps.{around, path_in, step, coding_in}
@@ -91,13 +93,30 @@ returns-clause-fits g c goes_on =
     let d = c.args.self.now in
     let new = c.emit.new.self in
     let f = c.requires.fits in
+    let leaf = c.in-Some.leaf in
+    let T = tree C (leaf_type leaf) in
+    let ps = open_parts C f.here d.outer.items in
+    let coding = coding_in (plain d.order) ps in
+    let by : coding_by d.order d.at d.outer.items ≡ c.coding-order.result = rw (← c.as_slice.ensures.value) (sym c.coding-order.ensures) in
+    let stands = f.stands in
+    let coded = subst (IsCoded f.here coding) by (coded_in C f.here (plain d.order) d.order d.at d.outer.items stands.1 (record { order = refl; at = omega (arith, stands.0) })) in
+    let t = c.take_octet-step.ensures.transitions coding (path_in [] ps) f.here coded.order coded.at in
+    let step = c.take_octet-step.result in
+    let piece = c.take_octet-step.new.piece.items in
     let k = goes C new c.in_ok-progress.progress (f.here + 1) (decoder_step C d f.here c.args.octet) (returns-clause-steps g c f.here f.stands) goes_on in
     let next = c.in_ok-progress.ensures.next goes_on in
-    let same = same_some f.leaf c.in-Some.leaf (sym f.goes_on ∙ c.in-Some.is) in
+    let same = same_some f.leaf leaf (sym f.goes_on ∙ c.in-Some.is) in
     let before : Link C f.root d.outer.items c.of-of.result.0 = rw (c.of-of.ensures, ← same) f.link in
+    let notes : (h : Noted) → HoldsNoted d.notes h → HoldsNoted new.notes (without_name_if (clears_name step.output) (noted (is_header_root d.root) h t.lines)) =
+    λ h held. (rw (c.of-of.ensures, append-nil piece) at (c.in_ok-progress.ensures.notes h f.here (f.here + 1) t.lines held)) t.says in
+    let name = name_kept (is_header_root d.root) d.root T (string_offset T leaf) (string_offset (tree C (leaf_type k.leaf)) k.leaf) step.transition step.output
+    (path_in [] ps) (f.here + 1) piece t.lines d.notes new.notes next.going c.take_octet-step.ensures.string_goes_on
+    (next.offset k.leaf k.goes_on ∙ ap (λ n. transition_offset (tree C n) step.transition) c.of-of.ensures) t.says
+    (subst (λ l. FitsName d.root (string_offset (tree C (leaf_type l)) l) d.notes.buffer d.notes.name.items) same f.name) notes in
     step_fits C d new f c.args.octet k (c.in_ok-progress.ensures.here f.here f.stands) next.ahead next.inside
     (next.link f.root k.leaf before k.goes_on) next.known_outer (next.known k.leaf k.goes_on) (next.clean k.leaf k.goes_on)
     (λ other. let was = rw c.in_ok-progress.ensures.root at other in c.in_ok-progress.ensures.id was ∙ f.id_in_header_only was)
+    (subst (λ r. FitsName r (string_offset (tree C (leaf_type k.leaf)) k.leaf) new.notes.buffer new.notes.name.items) (sym c.in_ok-progress.ensures.root) name)
 
 pub returns-clause-keeps_noted : goal.returns-clause-keeps_noted
 returns-clause-keeps_noted g c here front h old_keeps_noted =

@@ -49,6 +49,8 @@ returns-clause-next g c goes_on =
       link = λ root leaf before is.
           let old : Link C root c.tick.new.outer.items c.args.of.0 = rw c.tick.ensures.ticked (link_ticked C root c.args.self.now.outer.items c.args.of.0 before) in
           c.advance_frames.ensures.link root leaf m old is;
+      going = m;
+      offset = λ leaf is. c.advance_frames.ensures.offset leaf m is;
     }
 
 pub returns-in_err-write_line-clause-writes : goal.returns-in_err-write_line-clause-writes

@@ -34,4 +34,4 @@ returns-in-Some c =
     comes_head C d c.in-Some-Number.of c.args.octets.now c.in-Some.count c.requires e c.if-self.false
     (c.if-not-is_empty.ensures.0 refl) c.in-Some.whole.now c.take_value.result
     (subst (λ w. StandsWhole w d.at c.args.octets.now c.in-Some.count c.in-Some.whole.now) (c.width.ensures.width head) c.in-Some.ensures.stands)
-    v.transition_fits v.has_output v.output_fits_string v.transitions
+    v.transition_fits v.has_output v.output_fits_string v.string_goes_on v.transitions

@@ -17,4 +17,4 @@ returns-clause-fits c some =
     let T = tree C c.args.of.0 in
     first_fits C c.args.of.0 _ c.begin-first.result c.requires (fit_some T c.if-is_empty.ensures.root some) refl
     c.new-2.ensures c.new-3.ensures (λ here. c.begin-first.ensures.open_parts here ∙ rw c.new.ensures refl) (c.begin-first.ensures.stand _ (rw c.new.ensures tt)) (ahead_by C _ c.begin-first.ensures.known_outer (c.begin-first.ensures.ended ∙ rw c.new.ensures refl)) (sym (c.begin-first.ensures.inside ∙ rw c.new.ensures refl)) c.begin-first.ensures.leaf
-    (c.begin-first.ensures.linked c.args.of.0 (rw c.new.ensures refl)) c.begin-first.ensures.known_outer c.begin-first.ensures.known (omega arith) c.new-4.ensures.request_id
+    (c.begin-first.ensures.linked c.args.of.0 (rw c.new.ensures refl)) c.begin-first.ensures.known_outer c.begin-first.ensures.known (omega arith) c.new-4.ensures

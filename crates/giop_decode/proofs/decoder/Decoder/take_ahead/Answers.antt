@@ -3,8 +3,10 @@ use Rattle.giop_decode.proofs.Advancing.{goes, same_some, step_fits}
 use Rattle.giop_decode.proofs.Runs.{text_more, takes_more, breaks_off, writes_broken}
 use Rattle.giop_decode.proofs.Segments.{said_none}
 use Rattle.giop_decode.proofs.Taking.{takes_to, due_is, done}
-use Rattle.giop_decode.proofs.Whole.{around_whole, before_last, gathered_whole, lines_at, lines_whole, keeps_noted_whole, says_at, told_whole}
+use Rattle.giop_decode.proofs.Whole.{around_whole, before_last, gathered_whole, lines_at, lines_whole, name_whole, keeps_noted_whole, says_at, told_whole}
 use Rattle.giop_decode.specs.DecoderSteps.{decoder_step}
+use Rattle.giop_decode.specs.NameBuffer.{FitsName, string_offset}
+use Rattle.giop_sig.specs.Trees.{tree}
 use Rattle.giop_decode.specs.Runs.{added_lines_of_run, TakesRun}
 use Rattle.giop_decode.specs.Spelling.{lines_text}
 use Rattle.giop_decode.specs.Transitions.{leaf_type, Link}
@@ -124,6 +126,9 @@ returns-clause-fits g c goes_on =
     step_fits C before new g' b k (e.here g'.here g'.stands) next.ahead next.inside
     (next.link g'.root k.leaf link k.goes_on) next.known_outer (next.known k.leaf k.goes_on) (next.clean k.leaf k.goes_on)
     (λ other. let was = rw e.root at other in e.id was ∙ f.id_in_header_only was)
+    (subst (λ r. FitsName r (string_offset (tree C (leaf_type k.leaf)) k.leaf) new.notes.buffer new.notes.name.items) (sym e.root) (name_whole C d octets a.of a.count a.step a.rest.now f h g'.here k.leaf new.notes next.going (next.offset k.leaf k.goes_on)
+    (λ o held. e.notes o g'.here (g'.here + 1) (lines_at C d octets a.of a.count a.step a.rest.now f h g'.here) held
+    (says_at C d octets a.of a.count a.step a.rest.now f h g'.here))))
 
 pub returns-clause-done : goal.returns-clause-done
 returns-clause-done g c is =
