@@ -30,6 +30,11 @@ const NAMED: &str = "00000023 61*33";
 const NAMED_STORED: &str =
     "00 01 0000000000000001 05 01 0000000b 00000022 00000020 00 00*8 01 61 00*31 00*5 00*5 00 20 61*32 00*96 00*2 0000000b 00*20";
 
+/// The decoder of the same string in a body, as a checkpoint has it that was saved before bodies were heard: without the
+/// first 32 octets of the name.
+const UNNOTED_STORED: &str =
+    "00 02 0000000000000001 05 01 0000000b 00000022 00000020 00 00*8 01 61 00*31 00*5 00*5 00 00*129 00*2 0000000b 00*20";
+
 /// A struct in an encapsulation: the parameters' type is numbered 43, the encapsulation 42, the struct 41, and the
 /// built-in ulonglong 8.
 const HELD: &[u8] =
@@ -196,6 +201,28 @@ fn a_decoder_in_a_piece_is_restored(rt: HostRuntime) -> Result<(), Fail> {
     Ok(())
 }
 
+/// What differs of a decoder that was saved before bodies were heard, or nothing: it goes on, and its line is right.
+fn unnoted_differs(catalogue: &Catalogue) -> &'static str {
+    let mut room = [0; 512];
+    let count = spelled(UNNOTED_STORED, &mut room);
+    let stored = front(&room, count);
+    let Some(mut decoder) = restored(catalogue, stored) else {
+        return "nothing is restored";
+    };
+    if !is_stored_as(&decoder, stored) {
+        return "what is stored again";
+    }
+    let mut room = [0; 512];
+    let mut sheet = Sheet::new(&mut room);
+    let Ok((2, Progress::Done)) = decoder.take_run(catalogue, b"b\0", &mut sheet) else {
+        return "the answer to the rest";
+    };
+    if sheet.held() != "m1 body string @32 \"ab\"\n".as_bytes() {
+        return "the line";
+    }
+    ""
+}
+
 /// Octets that no decoder stores, each in a line: its index, and its value instead of the one of the decoder in an array.
 static REFUSED: &str = r#"0 2 a byte order
 1 3 a root
@@ -215,7 +242,9 @@ static REFUSED: &str = r#"0 2 a byte order
 66 2 whether there is an id
 70 1 an id that isn't there
 71 2 whether there is a status
+76 2 a name that is too long, in no string
 76 3 a name buffer
+77 1 a name that has begun, in no string
 77 129 more octets than a name has
 78 1 an octet behind a name
 207 1 the last octet
@@ -240,6 +269,39 @@ fn octets_that_no_decoder_stores_are_refused(rt: HostRuntime) -> Result<(), Fail
     let differs = not_refused(&catalogue, DOTS_STORED, REFUSED);
     assert!(rt; differs.is_empty(), "{differs}");
     Ok(())
+}
+
+/// The same of the decoder in a piece of a repository id.
+static REFUSED_NAMED: &str = r#"76 1 a whole name, in a string
+76 2 no name where 32 octets of it were read
+77 33 more octets of a name than were read"#;
+
+/// The same of the decoder in a piece of a string in a body, of which nothing was noted.
+static REFUSED_UNNOTED: &str = r#"1 0 a header of which nothing was noted
+1 1 a repository id of which nothing was noted
+76 1 a whole name, in a string
+76 2 no name where 32 octets of it were read
+77 33 more octets of a name than were read"#;
+
+#[test]
+fn names_that_no_decoder_in_a_string_notes_are_refused(rt: HostRuntime) -> Result<(), Fail> {
+    let catalogue = Catalogue::builtin(rt.alloc())?;
+    let differs = names_differ(&catalogue);
+    assert!(rt; differs.is_empty(), "{differs}");
+    Ok(())
+}
+
+/// The first line of these tables whose octet isn't refused, what differs of the decoder that noted nothing, or nothing.
+fn names_differ(catalogue: &Catalogue) -> &'static str {
+    let line = not_refused(catalogue, NAMED_STORED, REFUSED_NAMED);
+    if !line.is_empty() {
+        return line;
+    }
+    let line = not_refused(catalogue, UNNOTED_STORED, REFUSED_UNNOTED);
+    if !line.is_empty() {
+        return line;
+    }
+    unnoted_differs(catalogue)
 }
 
 #[test]

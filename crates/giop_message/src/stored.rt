@@ -1,7 +1,7 @@
 //! What a checkpoint keeps of a message, written as octets (docs/FORMATS.md): 16 of its own, and 208 of the part that
 //! it is in.
 
-ghost use Rattle.std.specs.Prelude.{◌≡◌, ℕ, ◌*◌, ◌≤◌, take};
+ghost use Rattle.std.specs.Prelude.{◌≡◌, ℕ, ◌*◌, ◌≤◌, take, drop};
 ghost use Rattle.giop_sig.specs.Table.{Table};
 ghost use Rattle.giop_sig.specs.Trees.{depth_of};
 ghost use Rattle.giop_decode.specs.Stored.{frame_size};
@@ -89,6 +89,8 @@ impl Part {
         ensures depth { (C : Table) (at : ℕ) → FitsPart C at self.now → result ≤ depth_of C.types }
         ensures stored { (C : Table) (at : ℕ) → FitsPart C at self.now →
             PartStored self.now octets.new (take (frame_size * result) frames.new) }
+        ensures behind { drop (frame_size * result) frames.new
+            ≡ drop (frame_size * result) frames.old }
     {
         match self {
             Part::Typed(_, decoder) => decoder.store(octets, frames),
@@ -122,6 +124,9 @@ impl Message {
         ensures depth { (C : Table) → Fits C self.now → result ≤ depth_of C.types }
         ensures stored { (C : Table) → Fits C self.now →
             Stored self.now fixed.new (take (frame_size * result) frames.new) }
+        // The octets after them are unchanged.
+        ensures behind { drop (frame_size * result) frames.new
+            ≡ drop (frame_size * result) frames.old }
     {
         let mut part = [0; 208];
         let count = self.part.store(&mut part, frames);
