@@ -1,4 +1,4 @@
-//! Tests of runs, of the files that are read whole, and of the program's arguments and steps.
+//! Tests of runs, of the files that are read whole, and of what is told of the program's faults.
 #![tactic(auto)]
 
 #[cfg(test)]
@@ -12,10 +12,6 @@ mod fault_tests;
 #[cfg(test)]
 mod files_tests;
 #[cfg(test)]
-mod program_tests;
-#[cfg(test)]
 mod run_tests;
 #[cfg(test)]
 mod save_tests;
-#[cfg(test)]
-mod words_tests;
