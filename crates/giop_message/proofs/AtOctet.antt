@@ -5,12 +5,11 @@ use Rattle.std.specs.List.{filter, list_any, AllByRecursion as Each}
 use Rattle.std.proofs.Math.Seq.{drop-append_seam}
 use Rattle.std.proofs.lemmas.Bool.{eq-eqb, ne_eqb}
 use Rattle.std.proofs.lemmas.List.Elements.{filter-append}
-use Rattle.giop_message.specs.MessageReader as said
 use Rattle.giop_message.specs.MessageReader.{TimedLine, is_fault}
 use Rattle.giop_message.specs.Text.{line_class_text, numbered_lines}
 use Rattle.giop_message.specs.Signatures.{Signatures}
 use Rattle.giop_message.specs.Messages.{MessageLine, ValueLine, CallLine, RestLine, FaultLine, ShortLine, EndLine, LineAt, body_may_be_missing, Stage, In_typed, In_padding, In_rest, Over, message, message_lines, stage_of, close}
-use Rattle.giop_message.specs.ReaderOfTable.{line_class_of, text_of, timed_line_of, closing_of, reader_by, is_over, is_wrong}
+use Rattle.giop_message.specs.ReaderOfTable.{line_class_of, text_of, timed_line_of, closing_of, remarks_by, closes_by, due_by, is_over, is_wrong}
 use Rattle.giop_message.specs.MessageState.{message_line_text, message_lines_text, due, due_text, is_short, closing_text, timed_lines_text, closes_text}
 use Rattle.giop_message.proofs.Going.{message_goes}
 use Rattle.giop_message.proofs.Causal.{ToldAt, map_both, stands, one_more, ordered}
@@ -36,10 +35,10 @@ record One (S : Signatures) (header xs : List ℕ) (x : ℕ) : Type 0 where
   emitted : message_lines (message S header (xs ++ x ∷ []))
       ≡ message_lines (message S header xs) ++ due S header xs (x ∷ [])
   here : ToldAt ((12 + length xs) + 1) (due S header xs (x ∷ []))
-  said : said.due (reader_by S) header xs x ≡ map timed_line_of (due S header xs (x ∷ []))
+  said : due_by S header xs x ≡ map timed_line_of (due S header xs (x ∷ []))
 
 one_octet : (S : Signatures) (header xs : List ℕ) (x : ℕ) → One S header xs x
-unfolding due reader_by
+unfolding due remarks_by
 one_octet S header xs x =
     let one = one_more S header (12 + length xs) (message S header xs) x (stands S header xs) in
     let old = message_lines (message S header xs) in
@@ -60,7 +59,7 @@ one_octet S header xs x =
 
 -- the lines of one octet more in the reading
 pub due_said_is : (S : Signatures) (header xs : List ℕ) (x : ℕ) →
-    said.due (reader_by S) header xs x ≡ map timed_line_of (due S header xs (x ∷ []))
+    due_by S header xs x ≡ map timed_line_of (due S header xs (x ∷ []))
 due_said_is S header xs x = (one_octet S header xs x).said
 
 told_here : (number place offset : ℕ) (emitted : List LineAt) → ToldAt (offset + 1) emitted →
@@ -74,7 +73,7 @@ told_here number place offset (t ∷ ts) h =
 -- The text of an octet is that of its lines in the reading.
 pub octet_text : (S : Signatures) (number place : ℕ) (header xs : List ℕ) (x : ℕ) →
     due_text S number place header xs (x ∷ [])
-    ≡ numbered_lines (suc place) number (said.due (reader_by S) header xs x)
+    ≡ numbered_lines (suc place) number (due_by S header xs x)
 unfolding due_text
 octet_text S number place header xs x =
     let one = one_octet S header xs x in
@@ -115,7 +114,7 @@ any_both (x ∷ xs) ys = or_of (is_wrong x) (list_any is_wrong (xs ++ ys)) (list
 over_more : (S : Signatures) (header xs : List ℕ) (x : ℕ) →
     is_over (stage_of (message S header (xs ++ x ∷ [])))
     ≡ (is_over (stage_of (message S header xs)) || list_any (λ r. is_fault r.line_class)
-    (said.due (reader_by S) header xs x))
+    (due_by S header xs x))
 over_more S header xs x =
     let one = one_octet S header xs x in
     let old = message_lines (message S header xs) in
@@ -128,7 +127,7 @@ over_more S header xs x =
 pub octet_over : (S : Signatures) (header xs : List ℕ) (x : ℕ) →
     is_over (stage_of (message S header xs)) ≡ false →
     is_over (stage_of (message S header (xs ++ x ∷ [])))
-    ≡ list_any (λ r. is_fault r.line_class) (said.due (reader_by S) header xs x)
+    ≡ list_any (λ r. is_fault r.line_class) (due_by S header xs x)
 octet_over S header xs x h = over_more S header xs x ∙ rw h refl
 
 -- ---- a close
@@ -136,8 +135,8 @@ octet_over S header xs x h = over_more S header xs x ∙ rw h refl
 -- A close has the line of a fault exactly if it is short.
 pub close_short : (S : Signatures) (header xs : List ℕ) →
     is_short (close (stage_of (message S header xs)))
-    ≡ list_any (λ l. is_fault l.0) ((reader_by S).closes header xs)
-unfolding reader_by is_short line_class_of close
+    ≡ list_any (λ l. is_fault l.0) (closes_by S header xs)
+unfolding closes_by is_short line_class_of close
 close_short S header xs = go (stage_of (message S header xs))
   where
     lack : (test : Bool) → is_short (if test then EndLine ∷ [] else ShortLine ∷ [])
@@ -165,8 +164,8 @@ each_timed_line number place n (t ∷ ts) =
 
 pub text_is : (S : Signatures) (number place : ℕ) (header s more : List ℕ) →
     due_text S number place header s more ≡ timed_lines_text number place (length s)
-    (drop (length ((reader_by S).reads header s)) ((reader_by S).reads header (s ++ more)))
-unfolding due_text message_lines_text due reader_by
+    (drop (length (remarks_by S header s)) (remarks_by S header (s ++ more)))
+unfolding due_text message_lines_text due remarks_by
 text_is S number place header s more =
     each_timed_line number place (length s) (drop (length (message_lines (message S header s))) (message_lines (message S header (s ++ more))))
     ∙ ap (timed_lines_text number place (length s))
@@ -182,6 +181,6 @@ each_close number place (s ∷ ss) = ap (λ z. line_class_text place number (lin
 
 pub close_is : (S : Signatures) (number place : ℕ) (header s : List ℕ) →
     closing_text number place (close (stage_of (message S header s)))
-    ≡ closes_text number place ((reader_by S).closes header s)
-unfolding closing_text reader_by
+    ≡ closes_text number place (closes_by S header s)
+unfolding closing_text closes_by
 close_is S number place header s = each_close number place (close (stage_of (message S header s)))

@@ -21,7 +21,7 @@ use Rattle.giop_message.specs.MessageReader.{LineClass, TimedLine, AreInLineOrde
 use Rattle.giop_message.specs.Signatures.{Signatures}
 use Rattle.giop_message.specs.Messages.{ValueLine, CallLine, RestLine, FaultLine, LineAt, line_at, is_shown, call_of, calls, section_lines, BodyType, Stage, In_typed, In_padding, In_rest, Over, Message, ReadTo, with_front, section_then, rest_in, rest, body, padded, message, message_lines, root_of, may_call, after, section_and_rest}
 use Rattle.giop_message.specs.StageSteps.{rest_step, message_step, advance}
-use Rattle.giop_message.specs.ReaderOfTable.{line_class_of, timed_line_of, reader_by}
+use Rattle.giop_message.specs.ReaderOfTable.{line_class_of, timed_line_of, remarks_by, reader_by}
 use Rattle.giop_message.proofs.LastParts.{CallsNone, step_none}
 use Rattle.giop_message.proofs.StepLines.{one_faulted}
 use Rattle.giop_message.proofs.Going.{front_none, body_has, after_has, message_has, message_goes}
@@ -252,17 +252,17 @@ later_none n k [] h below = refl
 later_none n k (t ∷ ts) h below = rw (ne_eqb (t.at - 12) k (λ e. omega (arith, h.0))) (later_none n k ts h.1 below)
 
 -- More octets change no lines of those before them.
-pub is_causal : (S : Signatures) → IsCausal (reader_by S)
-unfolding reader_by
+pub is_causal : (S : ℕ → Signatures) → IsCausal (reader_by S)
+unfolding remarks_by
 is_causal S = record {
-  earlier = λ header xs more k below.
-      let all = told_begins S header xs more in
+  earlier = λ number header xs more k below.
+      let all = told_begins (S number) header xs more in
       let at_k : TimedLine → Bool = λ r. r.at == k in
       ap (λ ts. filter at_k (map timed_line_of ts)) all.1
-      ∙ (ap (filter at_k) (map_both timed_line_of (message_lines (message S header xs)) all.0)
-      ∙ (filter-append at_k (map timed_line_of (message_lines (message S header xs))) (map timed_line_of all.0)
-      ∙ (ap (λ ls. filter at_k (map timed_line_of (message_lines (message S header xs))) ++ ls) (later_none (length xs) k all.0 all.2 below)
-      ∙ append-nil (filter at_k (map timed_line_of (message_lines (message S header xs)))))));
+      ∙ (ap (filter at_k) (map_both timed_line_of (message_lines (message (S number) header xs)) all.0)
+      ∙ (filter-append at_k (map timed_line_of (message_lines (message (S number) header xs))) (map timed_line_of all.0)
+      ∙ (ap (λ ls. filter at_k (map timed_line_of (message_lines (message (S number) header xs))) ++ ls) (later_none (length xs) k all.0 all.2 below)
+      ∙ append-nil (filter at_k (map timed_line_of (message_lines (message (S number) header xs)))))));
 }
 
 -- ---- the lines of one octet
@@ -340,6 +340,6 @@ module _ (k : ℕ) where
     ordered xs = grown Ordered ordered_more [] xs (ordered_none (message S header []) (message_silent S header))
 
 -- The lines of one octet come in their order, and no two are of one class.
-pub is_ordered : (S : Signatures) → IsOrdered (reader_by S)
-unfolding reader_by
-is_ordered S = record { ordered = λ header xs k. (ordered k S header xs).1 }
+pub is_ordered : (S : ℕ → Signatures) → IsOrdered (reader_by S)
+unfolding remarks_by
+is_ordered S = record { ordered = λ number header xs k. (ordered k (S number) header xs).1 }

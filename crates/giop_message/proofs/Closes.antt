@@ -5,7 +5,7 @@ use Rattle.std.specs.Prelude.{if◌then◌else◌}
 use Rattle.giop_message.specs.MessageReader.{LineClass, Rest, End, AtClose, IsClosing, Value, Call, Fault, AreInLineOrder, is_fault}
 use Rattle.giop_message.specs.Signatures.{Signatures}
 use Rattle.giop_message.specs.Messages.{MessageLine, ShortLine, EndLine, body_may_be_missing, Stage, In_typed, In_padding, In_rest, Over, message, stage_of, close}
-use Rattle.giop_message.specs.ReaderOfTable.{line_class_of, closing_of, reader_by}
+use Rattle.giop_message.specs.ReaderOfTable.{line_class_of, closing_of, closes_by, reader_by}
 use Rattle.giop_message.proofs.Leaving.{octet_leaves, Leaves}
 use Rattle.std.specs.List.{list_any}
 use Rattle.giop_message.specs.Apart.{AreApart, IsApart}
@@ -32,13 +32,13 @@ ends_only : (stage : Stage) → LineClasses (close stage) ≡ End ∷ [] →
     LineClasses (close stage) ≡ Rest ∷ End ∷ [] → ⊥
 ends_only stage e f = absurd cc
 
-pub is_closing : (S : Signatures) → IsClosing (reader_by S)
-unfolding reader_by line_class_of close
+pub is_closing : (S : ℕ → Signatures) → IsClosing (reader_by S)
+unfolding closes_by line_class_of close
 is_closing S = record {
-  closed = λ header xs. closes_say (stage_of (message S header xs));
-  over = λ header xs x faulted. ap (λ stage. LineClasses (close stage)) ((octet_leaves S header xs x).1 faulted);
-  one_rest = λ header xs x rested.
-      ends_only (stage_of (message S header (xs ++ x ∷ []))) (ap (λ stage. LineClasses (close stage)) ((octet_leaves S header xs x).0 rested).1);
+  closed = λ number header xs. closes_say (stage_of (message (S number) header xs));
+  over = λ number header xs x faulted. ap (λ stage. LineClasses (close stage)) ((octet_leaves (S number) header xs x).1 faulted);
+  one_rest = λ number header xs x rested.
+      ends_only (stage_of (message (S number) header (xs ++ x ∷ []))) (ap (λ stage. LineClasses (close stage)) ((octet_leaves (S number) header xs x).0 rested).1);
 }
 
 leaves_end : (line_classes : List LineClass) (stage : Stage) → Leaves line_classes stage →
@@ -81,15 +81,15 @@ turn_apart line_classes stage (inr (inr (inr (inr (inl e))))) h closed =
 turn_apart line_classes stage (inr (inr (inr (inr (inr e))))) h closed =
     rw (leaves_end line_classes stage h (inr (ap (list_any is_fault) e)), e) (((λ k. cc), ((λ k. cc), tt)), other Fault End (λ k. cc))
 
-octet_apart : (S : Signatures) (header xs : List ℕ) (x : ℕ) → AreApart
-    (map (λ r. r.line_class) (said.due (reader_by S) header xs x)
-    ++ map (λ l. l.0) ((reader_by S).closes header (xs ++ x ∷ [])))
-unfolding reader_by
-octet_apart S header xs x =
-    turn_apart (map (λ r. r.line_class) (said.due (reader_by S) header xs x)) (stage_of (message S header (xs ++ x ∷ [])))
-    ((is_ordered S).ordered header (xs ++ x ∷ []) (suc (length xs))) (octet_leaves S header xs x)
-    ((is_closing S).closed header (xs ++ x ∷ []))
+octet_apart : (S : ℕ → Signatures) (number : ℕ) (header xs : List ℕ) (x : ℕ) → AreApart
+    (map (λ r. r.line_class) (said.due (reader_by S) number header xs x)
+    ++ map (λ l. l.0) ((reader_by S).closes number header (xs ++ x ∷ [])))
+unfolding closes_by
+octet_apart S number header xs x =
+    turn_apart (map (λ r. r.line_class) (said.due (reader_by S) number header xs x)) (stage_of (message (S number) header (xs ++ x ∷ [])))
+    ((is_ordered S).ordered number header (xs ++ x ∷ []) (suc (length xs))) (octet_leaves (S number) header xs x)
+    ((is_closing S).closed number header (xs ++ x ∷ []))
 
 -- No octet has two lines of one class, with those of a close at it.
-pub is_apart : (S : Signatures) → IsApart (reader_by S)
+pub is_apart : (S : ℕ → Signatures) → IsApart (reader_by S)
 is_apart S = record { apart = octet_apart S }

@@ -20,7 +20,7 @@ use Rattle.giop_message.specs.declared.part.Rest.{Rest}
 use Rattle.giop_message.specs.declared.body_type.BodyTypeId.{BodyTypeId}
 use Rattle.giop_message.specs.Headers.{order}
 use Rattle.giop_message.specs.Text.{numbered_line}
-use Rattle.giop_message.specs.Signatures.{Signatures, RequestTable, signatures_of}
+use Rattle.giop_message.specs.Signatures.{Signatures, Answers, signatures_of}
 use Rattle.giop_message.specs.Messages.{MessageLine, RestLine, ShortLine, EndLine, BodyType, Typed, body_may_be_missing, Stage, In_typed, In_padding, In_rest, Over, section_then, message, stage_of, close, section_and_rest}
 use Rattle.giop_message.specs.ReaderOfTable.{line_class_of, text_of}
 use Rattle.giop_message.specs.MessageState.{message_line_text, closing_text, is_short, body_type, FitsPart, Fits, Stands, Follows}
@@ -64,17 +64,17 @@ short_stage : (S : Signatures) (header : List ℕ) (section : Section) (h : Note
 unfolding section_then stage_of close
 short_stage S header section h lines at outer leaf = refl
 
-module _ {C : Table} {request_table : RequestTable} {number : ℕ} {header : List ℕ} {m : Struct_of} {s : List ℕ}
-    (f : Follows C request_table number header m s) (fits : Fits C m) where
+module _ {C : Table} {answers : Answers} {number : ℕ} {header : List ℕ} {m : Struct_of} {s : List ℕ}
+    (f : Follows C answers number header m s) (fits : Fits C m) where
   abbrev At : Stage
-  At = stage_of (message (signatures_of C request_table) header s)
+  At = stage_of (message (signatures_of C (answers number)) header s)
 
   -- inside a section it is short
   pub section_short : {section : Section} {d : Decoder} → m.part ≡ parts.Typed section d →
       close At ≡ ShortLine ∷ []
   section_short {section} {d} is =
-      let S = signatures_of C request_table in
-      let e = subst (Stands C request_table number header s) is f.stands in
+      let S = signatures_of C (answers number) in
+      let e = subst (Stands C answers number header s) is f.stands in
       let fit = subst (FitsPart C m.at) is fits in
       let r = read (plain (order header)) [] e.T (12 + length e.front) e.octets in
       let stage : At ≡ stage_of (section_and_rest S header section nothing_noted r) = ap stage_of e.is ∙ stage_front e.before (section_and_rest S header section nothing_noted r) in
@@ -85,11 +85,11 @@ module _ {C : Table} {request_table : RequestTable} {number : ℕ} {header : Lis
   pub padding_stage : {body_type_id : BodyTypeId} → m.part ≡ parts.Padding body_type_id →
       At ≡ In_padding (body_type C body_type_id)
   unfolding stage_of
-  padding_stage is = let x = subst (Stands C request_table number header s) is f.stands in ap stage_of x.1
+  padding_stage is = let x = subst (Stands C answers number header s) is f.stands in ap stage_of x.1
 
   pub rest_stage : {r : Rest} → m.part ≡ parts.Rest r → At ≡ In_rest r.offset r.held.items
   unfolding stage_of
-  rest_stage is = let x = subst (Stands C request_table number header s) is f.stands in ap stage_of x.1
+  rest_stage is = let x = subst (Stands C answers number header s) is f.stands in ap stage_of x.1
 
 -- ---- its text
 
@@ -150,10 +150,10 @@ unfolding close
 rest_ends number place offset [] = ends_text_is number place
 rest_ends number place offset (x ∷ held) = last_then number place offset (x ∷ held)
 
-module _ {C : Table} {request_table : RequestTable} {number : ℕ} {header : List ℕ} {m : Struct_of} {s : List ℕ}
-    (f : Follows C request_table number header m s) (fits : Fits C m) (place : ℕ) where
+module _ {C : Table} {answers : Answers} {number : ℕ} {header : List ℕ} {m : Struct_of} {s : List ℕ}
+    (f : Follows C answers number header m s) (fits : Fits C m) (place : ℕ) where
   abbrev Close : List MessageLine
-  Close = close (stage_of (message (signatures_of C request_table) header s))
+  Close = close (stage_of (message (signatures_of C (answers number)) header s))
 
   ended_by : (p : Part) → m.part ≡ p → is_short Close ≡ false →
       closing_text number place Close ≡ last_rest_text number p ++ end_line number

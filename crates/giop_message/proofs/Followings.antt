@@ -19,7 +19,7 @@ use Rattle.giop_message.specs.declared.part.Section.TheVariants as sections
 use Rattle.giop_message.specs.declared.part.Part.{Part}
 use Rattle.giop_message.specs.declared.part.Part.TheVariants as parts
 use Rattle.giop_message.specs.Headers.{order}
-use Rattle.giop_message.specs.Signatures.{Signatures, RequestTable, signatures_of}
+use Rattle.giop_message.specs.Signatures.{Signatures, Answers, signatures_of}
 use Rattle.giop_message.specs.Messages.{ValueLine, LineAt, line_at, calls, section_lines, Message, ReadTo, section_then, message, message_lines, stage_of, root_of, may_call, after, section_and_rest}
 use Rattle.giop_message.specs.ReaderOfTable.{id_in, first_id, first_request_id, is_over}
 use Rattle.giop_message.specs.MessageState.{due, IsFirst, Decodes, Stands, is_header, in_header, Follows}
@@ -75,14 +75,14 @@ section_over {C} {S} {number} {header} {s} {section} {d} e =
     ∙ (ap (λ r. is_over (stage_of (section_and_rest S header section nothing_noted r))) e.reads.is
     ∙ standing_over S header section C d e.reads.lines _ d.leaf))
 
-pub follows_goes : {C : Table} {request_table : RequestTable} {number : ℕ} {header : List ℕ} {m : Struct_of}
-    {s : List ℕ} → Follows C request_table number header m s →
-    is_over (stage_of (message (signatures_of C request_table) header s)) ≡ false
+pub follows_goes : {C : Table} {answers : Answers} {number : ℕ} {header : List ℕ} {m : Struct_of}
+    {s : List ℕ} → Follows C answers number header m s →
+    is_over (stage_of (message (signatures_of C (answers number)) header s)) ≡ false
 unfolding is_over stage_of
-follows_goes {C} {request_table} {number} {header} {m} {s} f = go m.part f.stands
+follows_goes {C} {answers} {number} {header} {m} {s} f = go m.part f.stands
   where
-    go : (p : Part) → Stands C request_table number header s p →
-        is_over (stage_of (message (signatures_of C request_table) header s)) ≡ false
+    go : (p : Part) → Stands C answers number header s p →
+        is_over (stage_of (message (signatures_of C (answers number)) header s)) ≡ false
     go (parts.Typed section d) e = section_over e
     go (parts.Padding body_type_id) (emitted, e) = rw e refl
     go (parts.Rest r) (emitted, e) = rw e refl
@@ -209,7 +209,7 @@ module _ {C : Table} {S : Signatures} {number : ℕ} {header s : List ℕ} {sect
   header_told : section ≡ sections.Header → message_lines (message S header s)
       ≡ section_lines (root_of section) (may_call header section) nothing_noted e.reads.lines
   header_told in_it =
-      let first = subst (λ x. IsFirst header x e.T e.before) in_it e.first in
+      let first = subst (λ x. IsFirst header x e.T e.before e.front) in_it e.first in
       ap message_lines e.is ∙ (told_front e.before (section_and_rest S header section nothing_noted noted_reading)
       ∙ (ap (λ ts. ts ++ message_lines (section_and_rest S header section nothing_noted noted_reading)) first.1
       ∙ (ap (λ r. message_lines (section_and_rest S header section nothing_noted r)) e.reads.is ∙ standing_told S header section C d e.reads.lines _ d.leaf)))
@@ -225,20 +225,20 @@ module _ {C : Table} {S : Signatures} {number : ℕ} {header s : List ℕ} {sect
       ∙ (lines_noted (may_call header sections.Header) nothing_noted e.reads.lines ∙ ap first_request_id (sym emitted)))
 
 -- the request id that a message answers inside a section
-pub id_read : {C : Table} {request_table : RequestTable} {number : ℕ} {header : List ℕ} {m : Struct_of}
+pub id_read : {C : Table} {answers : Answers} {number : ℕ} {header : List ℕ} {m : Struct_of}
     {s : List ℕ} {section : Section}
-    {d : Decoder} → Follows C request_table number header m s → m.part ≡ parts.Typed section d →
+    {d : Decoder} → Follows C answers number header m s → m.part ≡ parts.Typed section d →
     (r : Read) × decoders.KeepsNoted (root_of section) d r
     × (cond (is_header section) (noted_of true r).request_id m.id
-    ≡ first_request_id (message_lines (message (signatures_of C request_table) header s)))
-id_read {C} {request_table} {number} {header} {m} {s} {section} {d} f is = (noted_reading stands, stands.reads.keeps_noted, go (is_header section) refl)
+    ≡ first_request_id (message_lines (message (signatures_of C (answers number)) header s)))
+id_read {C} {answers} {number} {header} {m} {s} {section} {d} f is = (noted_reading stands, stands.reads.keeps_noted, go (is_header section) refl)
   where
-    stands : Decodes C (signatures_of C request_table) number header s section d
-    stands = subst (Stands C request_table number header s) is f.stands
+    stands : Decodes C (signatures_of C (answers number)) number header s section d
+    stands = subst (Stands C answers number header s) is f.stands
 
     go : (inside : Bool) → is_header section ≡ inside →
         cond inside (noted_of true (noted_reading stands)).request_id m.id
-        ≡ first_request_id (message_lines (message (signatures_of C request_table) header s))
+        ≡ first_request_id (message_lines (message (signatures_of C (answers number)) header s))
     go true e = id_noted stands (header_only section e)
     go false e = f.id ∙ rw (is, e) refl
 
@@ -258,29 +258,29 @@ at_more {s = s} more is move = record {
   at = omega (arith, length-append s more, is.at, move.at);
 }
 
-module _ {C : Table} {request_table : RequestTable} {number : ℕ} {header : List ℕ} {m : Struct_of} {s : List ℕ}
-    (f : Follows C request_table number header m s) (more : List ℕ) where
+module _ {C : Table} {answers : Answers} {number : ℕ} {header : List ℕ} {m : Struct_of} {s : List ℕ}
+    (f : Follows C answers number header m s) (more : List ℕ) where
   pub is_at : {n : Struct_of} → Moved m n (length more) → IsAt number header n (s ++ more)
   is_at move = at_more more (record { same_number = f.same_number; same_header = f.same_header; at = f.at }) move
 
   pub follows_on : {n : Struct_of} → Moved m n (length more) → n.id ≡ cond (in_header n.part) None
-      (first_request_id (message_lines (message (signatures_of C request_table) header (s ++ more)))) →
-      Stands C request_table number header (s ++ more) n.part →
-      Follows C request_table number header n (s ++ more)
+      (first_request_id (message_lines (message (signatures_of C (answers number)) header (s ++ more)))) →
+      Stands C answers number header (s ++ more) n.part →
+      Follows C answers number header n (s ++ more)
   follows_on move id stands =
       let is = is_at move in
       record { same_number = is.same_number; same_header = is.same_header; id = id; at = is.at; stands = stands }
 
   -- where no line has a request id the message keeps the one that it has
-  pub id_kept : first_request_id (due (signatures_of C request_table) header s more) ≡ None → in_header m.part ≡ false →
-      m.id ≡ first_request_id (message_lines (message (signatures_of C request_table) header (s ++ more)))
-  id_kept none past = f.id ∙ rw past (sym (id_stays (signatures_of C request_table) header s more none))
+  pub id_kept : first_request_id (due (signatures_of C (answers number)) header s more) ≡ None → in_header m.part ≡ false →
+      m.id ≡ first_request_id (message_lines (message (signatures_of C (answers number)) header (s ++ more)))
+  id_kept none past = f.id ∙ rw past (sym (id_stays (signatures_of C (answers number)) header s more none))
 
 -- a message of the same fields follows what it does
-pub same_fields : {C : Table} {request_table : RequestTable} {number : ℕ} {header : List ℕ} {m n : Struct_of}
+pub same_fields : {C : Table} {answers : Answers} {number : ℕ} {header : List ℕ} {m n : Struct_of}
     {s : List ℕ} →
-    Follows C request_table number header m s → n.number ≡ m.number → n.header ≡ m.header → n.id ≡ m.id →
-    n.at ≡ m.at → n.part ≡ m.part → Follows C request_table number header n s
+    Follows C answers number header m s → n.number ≡ m.number → n.header ≡ m.header → n.id ≡ m.id →
+    n.at ≡ m.at → n.part ≡ m.part → Follows C answers number header n s
 same_fields f same_number same_header id at part = record {
   same_number = same_number ∙ f.same_number;
   same_header = same_header ∙ f.same_header;

@@ -15,7 +15,7 @@ use Rattle.giop_message.specs.declared.part.Section.{Section}
 use Rattle.giop_message.specs.Headers.{order}
 use Rattle.giop_message.specs.MessageState.{due}
 use Rattle.giop_message.specs.Messages.{RestLine, LineAt, line_at, calls, section_lines, Stage, In_typed, In_padding, In_rest, Over, Message, ReadTo, with_front, section_then, body, message, message_lines, stage_of, root_of, may_call, after}
-use Rattle.giop_message.specs.ReaderOfTable.{line_class_of, timed_line_of, reader_by}
+use Rattle.giop_message.specs.ReaderOfTable.{line_class_of, timed_line_of, due_by}
 use Rattle.giop_message.specs.MessageReader as said
 use Rattle.giop_message.specs.MessageReader.{LineClass, Value, Call, Rest, Fault, End, TimedLine, AreInLineOrder, AtClose, is_fault}
 use Rattle.giop_message.specs.Signatures.{Signatures}
@@ -117,7 +117,7 @@ classes_of_lines [] = refl
 classes_of_lines (t ∷ ts) = ap (λ ss. line_class_of t.message_line ∷ ss) (classes_of_lines ts)
 
 pub octet_leaves : (S : Signatures) (header xs : List ℕ) (x : ℕ) →
-    Leaves (map (λ r. r.line_class) (said.due (reader_by S) header xs x))
+    Leaves (map (λ r. r.line_class) (due_by S header xs x))
     (stage_of (message S header (xs ++ x ∷ [])))
 unfolding due
 octet_leaves S header xs x =

@@ -16,6 +16,8 @@ mod Runs
 mod SectionRuns
 mod Rests
 mod Dues
+mod HeaderEndLaws
+mod MessageAgreement
 mod Closing
 mod Leaving
 mod Closes

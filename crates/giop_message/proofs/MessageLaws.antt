@@ -4,7 +4,7 @@ use Rattle.std.proofs.Common.{false, ◌≡◌, ℕ, List}
 use Rattle.giop_sig.specs.Table.{Table}
 use Rattle.giop_message.specs.declared.message.Message.{Message as MessageValue}
 use Rattle.giop_message.specs.MessageReader.{HasOnlyValuesInId}
-use Rattle.giop_message.specs.Signatures.{RequestTable, signatures_of}
+use Rattle.giop_message.specs.Signatures.{Answers, signatures_of}
 use Rattle.giop_message.specs.Messages.{message, stage_of}
 use Rattle.giop_message.specs.ReaderOfTable.{message_reader, is_over}
 use Rattle.giop_message.specs.MessageState.{Follows}
@@ -25,13 +25,17 @@ pub use Rattle.giop_message.proofs.Dues.{text_both, text_none, text_over}
 -- one octet, and the close, by the reading alone (`message_reader_laws`)
 pub use Rattle.giop_message.proofs.AtOctet.{octet_text, octet_over, close_short}
 pub use Rattle.giop_message.proofs.AtOctet.{close_is}
+-- where headers end, and what is told of some and then of others
+pub use Rattle.giop_message.proofs.HeaderEndLaws.{header_ends_both, header_ends_none, over_none, told_both, answers_first, answers_then}
+pub use Rattle.giop_message.proofs.HeaderEndLaws.{header_noted_before, alike_remarks, alike_closes}
+pub use Rattle.giop_message.proofs.MessageAgreement.{follows_agree}
 
--- and by a catalogue's table and a request table
+-- and by a catalogue's table and the operations that the ids of each message answer
 
-pub is_named : (C : Table) (request_table : RequestTable) → HasOnlyValuesInId (message_reader C request_table)
-is_named C request_table = named.is_named (signatures_of C request_table) (named.has_ids C request_table)
+pub is_named : (C : Table) (answers : Answers) → HasOnlyValuesInId (message_reader C answers)
+is_named C answers = named.is_named (λ number. signatures_of C (answers number)) (λ number. named.has_ids C (answers number))
 
-pub follows_goes : (C : Table) (request_table : RequestTable) (number : ℕ) (header : List ℕ) (m : MessageValue)
-    (s : List ℕ) → Follows C request_table number header m s →
-    is_over (stage_of (message (signatures_of C request_table) header s)) ≡ false
-follows_goes C request_table number header m s f = followings.follows_goes f
+pub follows_goes : (C : Table) (answers : Answers) (number : ℕ) (header : List ℕ) (m : MessageValue)
+    (s : List ℕ) → Follows C answers number header m s →
+    is_over (stage_of (message (signatures_of C (answers number)) header s)) ≡ false
+follows_goes C answers number header m s f = followings.follows_goes f

@@ -23,18 +23,18 @@ use Rattle.giop_decode.proofs.ReadingLaws.{quiet_parts, part_quiet}
 use Rattle.giop_message.specs.declared.part.Section.TheVariants as sections
 use Rattle.giop_message.specs.Headers.{minor, kind, order, has_more, may_be_fragmented, is_opener, is_fragment, is_cancel, has_name}
 use Rattle.giop_message.specs.MessageReader.{Value, is_last, IsEnding, HasOnlyValuesInId}
-use Rattle.giop_message.specs.Signatures.{Signatures, RequestTable, signatures_of}
+use Rattle.giop_message.specs.Signatures.{Signatures, Answer, signatures_of}
 use Rattle.giop_message.specs.Messages.{ValueLine, ShortLine, EndLine, LineAt, line_at, calls, section_lines, body_may_be_missing, Stage, In_typed, In_padding, In_rest, Over, Message, ReadTo, with_front, section_then, rest_in, rest, is_request, after_header, of_header, message, message_lines, stage_of, close}
-use Rattle.giop_message.specs.ReaderOfTable.{line_class_of, timed_line_of, closing_of, reader_by, HasIds, id_in, first_id, first_request_id}
+use Rattle.giop_message.specs.ReaderOfTable.{line_class_of, timed_line_of, closing_of, remarks_by, closes_by, reader_by, HasIds, id_in, first_id, first_request_id}
 use Rattle.giop_message.proofs.Going.{passes_front}
 use Rattle.giop_message.proofs.Octets.{told_front, told_silent}
 use Rattle.giop_message.proofs.Causal.{Silent, passes_silent, after_silent, told_begins}
 
 -- ---- the close
 
-pub is_ending : (S : Signatures) → IsEnding (reader_by S)
-unfolding reader_by line_class_of close
-is_ending S = record { ends = λ header xs. go (stage_of (message S header xs)) }
+pub is_ending : (S : ℕ → Signatures) → IsEnding (reader_by S)
+unfolding closes_by line_class_of close
+is_ending S = record { ends = λ number header xs. go (stage_of (message (S number) header xs)) }
   where
     lack : (test : Bool) →
         list_any (λ l. is_last l.0) (map closing_of (if test then EndLine ∷ [] else ShortLine ∷ []))
@@ -171,9 +171,9 @@ module _ (S : Signatures) (header : List ℕ) where
   unfolding first_request_id id_in first_id line_at id_told
   id_four T begins a b c d later = rw (four_by T begins a b c d) refl
 
-pub is_named : (S : Signatures) → HasIds S → HasOnlyValuesInId (reader_by S)
-unfolding reader_by message are_values
-is_named S ids = record { named = λ header xs by few. named_by S header (S.header (minor header) (kind header)) (ids.begins header by) xs few }
+pub is_named : (S : ℕ → Signatures) → ((number : ℕ) → HasIds (S number)) → HasOnlyValuesInId (reader_by S)
+unfolding remarks_by message are_values
+is_named S ids = record { named = λ number header xs by few. named_by (S number) header ((S number).header (minor header) (kind header)) ((ids number).begins header by) xs few }
 
 -- The request id of the header is the number of the first four octets.
 pub id_is_said : (S : Signatures) (header : List ℕ) (T : Ty) →
@@ -206,6 +206,6 @@ pub begins_with_id : (header : List ℕ) → has_name header ≡ true →
     IfSome (header_type (minor header) (kind header)) BeginsWithId
 begins_with_id header by = id_first (minor header) (kind header) (goes_first header by)
 
-pub has_ids : (C : Table) (request_table : RequestTable) → HasIds (signatures_of C request_table)
+pub has_ids : (C : Table) (answer : Answer) → HasIds (signatures_of C answer)
 unfolding signatures_of
-has_ids C request_table = record { begins = λ header by. begins_with_id header by }
+has_ids C answer = record { begins = λ header by. begins_with_id header by }

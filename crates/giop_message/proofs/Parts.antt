@@ -60,7 +60,7 @@ module _ (w : Begun) where
   pub record Inside (s octets : List ℕ) : Type 0 where
     pub since : s ≡ front ++ octets
     pub is : message S header s ≡ comes (reading octets)
-    pub first : IsFirst header section T before
+    pub first : IsFirst header section T before front
     pub lines : List Line
     pub outer : List OpenPart
     pub leaf : Leaf

@@ -11,7 +11,7 @@ use Rattle.giop_message.specs.declared.message.Message.{Message as Struct_of}
 use Rattle.giop_message.specs.declared.part.Part.TheVariants as parts
 use Rattle.giop_message.specs.declared.part.Rest.{Rest}
 use Rattle.giop_message.specs.declared.body_type.BodyTypeId.{BodyTypeId}
-use Rattle.giop_message.specs.Signatures.{Signatures, RequestTable, signatures_of}
+use Rattle.giop_message.specs.Signatures.{Signatures, Answers, signatures_of}
 use Rattle.giop_message.specs.Messages.{RestLine, LineAt, line_at, BodyType, Stage, In_padding, In_rest, Message, ReadTo, with_front, body, message, message_lines, stage_of}
 use Rattle.giop_message.specs.StageSteps.{rest_step, message_step, advance, goes_on}
 use Rattle.giop_message.specs.ReaderOfTable.{line_class_of, text_of, id_in, first_id, first_request_id}
@@ -66,11 +66,11 @@ pub no_text : (S : Signatures) (number place : ℕ) (header s more : List ℕ) �
 unfolding due_text message_lines_text
 no_text S number place header s more e = rw e refl
 
-module _ {C : Table} {request_table : RequestTable} {number : ℕ} {header : List ℕ} {m : Struct_of} {s : List ℕ}
+module _ {C : Table} {answers : Answers} {number : ℕ} {header : List ℕ} {m : Struct_of} {s : List ℕ}
     {body_type_id : BodyTypeId}
-    (f : Follows C request_table number header m s) (is : m.part ≡ parts.Padding body_type_id) (b : ℕ) where
+    (f : Follows C answers number header m s) (is : m.part ≡ parts.Padding body_type_id) (b : ℕ) where
   abbrev S : Signatures
-  S = signatures_of C request_table
+  S = signatures_of C (answers number)
 
   abbrev T : BodyType
   T = body_type C body_type_id
@@ -82,7 +82,7 @@ module _ {C : Table} {request_table : RequestTable} {number : ℕ} {header : Lis
   further = s ++ b ∷ []
 
   padded : (emitted : List LineAt) × (message S header s ≡ ReadTo emitted Here (In_padding T))
-  padded = subst (Stands C request_table number header s) is f.stands
+  padded = subst (Stands C answers number header s) is f.stands
 
   one_due : (x : Message) → message_step S header Here (In_padding T) b ≡ x →
       due S header s (b ∷ []) ≡ message_lines x
@@ -105,17 +105,17 @@ module _ {C : Table} {request_table : RequestTable} {number : ℕ} {header : Lis
   same_id none = id_kept f (b ∷ []) (none_said _ none) (rw is refl)
 
   pub padding_follows : (1 < padding Here 8) → {n : Struct_of} → Moved m n 1 → n.id ≡ m.id →
-      n.part ≡ m.part → Follows C request_table number header n further
+      n.part ≡ m.part → Follows C answers number header n further
   padding_follows h move id part =
       let comes = one_comes (ReadTo [] (Here + 1) (In_padding T)) (padding_on S header Here b T h) in
       let at = comes_next padded.0 [] (Here + 1) (12 + length further) (In_padding T) (next_at s b) in
       follows_on f (b ∷ []) move (id ∙ rw (part, is) (same_id (padding_told h)))
-      (subst (Stands C request_table number header further) (sym (part ∙ is)) (padded.0 ++ [], comes ∙ at))
+      (subst (Stands C answers number header further) (sym (part ∙ is)) (padded.0 ++ [], comes ∙ at))
 
   pub last_follows : padding Here 8 ≤ 1 → {k n : Struct_of} → Moved m k 1 →
-      Arrives C request_table number header k n further (body S header T (12 + length further) []) →
+      Arrives C answers number header k n further (body S header T (12 + length further) []) →
       Moved m n 1 → n.id ≡ m.id → in_header n.part ≡ false →
-      Follows C request_table number header n further
+      Follows C answers number header n further
   last_follows h move_k arrives move_n id past =
       let comes = one_comes (body S header T (Here + 1) []) (padding_last S header Here b T h) in
       follows_on f (b ∷ []) move_n (id ∙ rw past (same_id (last_told h)))
@@ -154,9 +154,9 @@ part_goes S header emitted at offset held b (b' ∷ bs) h =
     ∙ (part_goes S header emitted (at + 1) offset (held ++ b ∷ []) b' bs (omega (arith, length_one_more held b, h))
     ∙ rw (n, append_assoc held (b ∷ []) (b' ∷ bs)) refl))
 
-module _ {C : Table} {request_table : RequestTable} {number : ℕ} {header : List ℕ} {m : Struct_of} {s : List ℕ}
+module _ {C : Table} {answers : Answers} {number : ℕ} {header : List ℕ} {m : Struct_of} {s : List ℕ}
     {r : Rest}
-    {room n : ℕ} (f : Follows C request_table number header m s) (is : m.part ≡ parts.Rest r)
+    {room n : ℕ} (f : Follows C answers number header m s) (is : m.part ≡ parts.Rest r)
     (octets : List ℕ)
     (some : 0 < length octets) (left : room ≡ 32 - length r.held.items)
     (taken : n ≡ min room (length octets)) where
@@ -175,39 +175,39 @@ module _ {C : Table} {request_table : RequestTable} {number : ℕ} {header : Lis
   abbrev Stood : List LineAt → Message
   Stood emitted = ReadTo emitted At (In_rest r.offset r.held.items)
 
-  stood : (emitted : List LineAt) × (message (signatures_of C request_table) header s ≡ Stood emitted)
-  stood = subst (Stands C request_table number header s) is f.stands
+  stood : (emitted : List LineAt) × (message (signatures_of C (answers number)) header s ≡ Stood emitted)
+  stood = subst (Stands C answers number header s) is f.stands
 
-  rest_comes : message (signatures_of C request_table) header (s ++ xs) ≡ with_front stood.0 Step
+  rest_comes : message (signatures_of C (answers number)) header (s ++ xs) ≡ with_front stood.0 Step
   rest_comes =
-      message_resumes (signatures_of C request_table) header s xs ∙ (ap (λ m. goes_on (signatures_of C request_table) header m xs) stood.1
+      message_resumes (signatures_of C (answers number)) header s xs ∙ (ap (λ m. goes_on (signatures_of C (answers number)) header m xs) stood.1
       ∙ go xs (omega (arith, size, taken, left, r.room, some)) (omega (arith, size, taken, left, r.room)))
     where
       go : (xs : List ℕ) → 0 < length xs → length r.held.items + length xs ≤ 32 →
-          goes_on (signatures_of C request_table) header (Stood stood.0) xs
+          goes_on (signatures_of C (answers number)) header (Stood stood.0) xs
           ≡ with_front stood.0 (rest_step r.offset (r.held.items ++ xs) (At + length xs))
       go [] some room = absurd (omega arith)
-      go (b ∷ bs) some room = part_goes (signatures_of C request_table) header stood.0 At r.offset r.held.items b bs room
+      go (b ∷ bs) some room = part_goes (signatures_of C (answers number)) header stood.0 At r.offset r.held.items b bs room
 
-  rest_due : due (signatures_of C request_table) header s xs ≡ message_lines Step
+  rest_due : due (signatures_of C (answers number)) header s xs ≡ message_lines Step
   unfolding message_lines
-  rest_due = due_is (signatures_of C request_table) header s xs stood.0 (Stood stood.0) Step stood.1 rest_comes refl
+  rest_due = due_is (signatures_of C (answers number)) header s xs stood.0 (Stood stood.0) Step stood.1 rest_comes refl
 
-  pub rest_text : (place : ℕ) → due_text (signatures_of C request_table) number place header s xs
+  pub rest_text : (place : ℕ) → due_text (signatures_of C (answers number)) number place header s xs
       ≡ message_lines_text m.number place At (message_lines Step)
   unfolding due_text
   rest_text place = ap (message_lines_text number place At) rest_due ∙ ap (λ n. message_lines_text n place At (message_lines Step)) (sym f.same_number)
 
   pub rest_follows : {m' : Struct_of} {r' : Rest} → Moved m m' n → m'.id ≡ m.id →
       m'.part ≡ parts.Rest r' →
-      stage_of Step ≡ In_rest r'.offset r'.held.items → Follows C request_table number header m' (s ++ xs)
+      stage_of Step ≡ In_rest r'.offset r'.held.items → Follows C answers number header m' (s ++ xs)
   rest_follows {r' = r'} move id part stage =
       let step = rested r.offset (r.held.items ++ xs) (At + length xs) in
       let e : At + length xs ≡ 12 + length (s ++ xs) = omega (arith, length-append s xs) in
       let next = comes_next stood.0 (message_lines Step) (At + length xs) (12 + length (s ++ xs)) (In_rest r'.offset r'.held.items) e in
       let comes = ap (with_front stood.0) (step.comes ∙ ap (ReadTo (message_lines Step) (At + length xs)) stage) in
       follows_on f xs (rw size move) (id ∙ rw part (id_kept f xs (ap first_request_id rest_due ∙ step.no_id) (rw is refl)))
-      (subst (Stands C request_table number header (s ++ xs)) (sym part) (stood.0 ++ message_lines Step, rest_comes ∙ (comes ∙ next)))
+      (subst (Stands C answers number header (s ++ xs)) (sym part) (stood.0 ++ message_lines Step, rest_comes ∙ (comes ∙ next)))
 
 -- the text of a step in the rest
 pub few_told : (number place offset at : ℕ) (from : ℕ) (held : List ℕ) → length held < 32 →

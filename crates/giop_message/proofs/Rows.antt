@@ -16,9 +16,9 @@ use Rattle.giop_decode.specs.Spelling.{path_text}
 use Rattle.giop_message.specs.Headers.{minor, kind, order}
 use Rattle.giop_message.specs.MessageReader.{LineClass, Value, Call, Rest, Fault, End, TimedLine, MessageReader}
 use Rattle.giop_message.specs.Text.{value_line_text, call_text, rest_text}
-use Rattle.giop_message.specs.Signatures.{RequestTable, signatures_of}
+use Rattle.giop_message.specs.Signatures.{RequestTable, by_list, signatures_of}
 use Rattle.giop_message.specs.Messages.{line_at, is_shown, call_of, calls, section_lines, with_front, section_then, rest_in, rest, typed, option_typed, members_of, after_exception, body, type_if, request_body, result_body, reply_body, is_request, body_of, has_body, padded, after_header, of_header, message, body_may_be_missing, close, message_lines, stage_of}
-use Rattle.giop_message.specs.ReaderOfTable.{line_class_of, text_of, reader_by, message_reader}
+use Rattle.giop_message.specs.ReaderOfTable.{line_class_of, text_of, remarks_by, closes_by, message_reader}
 
 -- an operation by its structs, counted from the first type after the built-in ones
 called : List ℕ → ℕ → ℕ → Operation
@@ -60,14 +60,14 @@ request_table = (1, Some (op_id 0)) ∷ (2, None) ∷ []
 
 r : MessageReader
 unfolding table request_table
-r = message_reader table request_table
+r = message_reader table (by_list request_table)
 
 says : ℕ → List ℕ → TimedLine
 says at text = record { at = at; line_class = Value; text = text }
 
 -- it names the definitions that the rows unfold
 rows : ℕ
-unfolding digits num twos_complement padding block number path_text hex hex_number escaped type_in trees_after builtin_types minor kind order value_line_text call_text rest_text signatures_of line_at is_shown call_of calls section_lines with_front section_then rest_in rest typed option_typed members_of after_exception body type_if request_body result_body reply_body is_request body_of has_body padded after_header of_header message body_may_be_missing close message_lines stage_of line_class_of text_of reader_by called late table request_table r says
+unfolding digits num twos_complement padding block number path_text hex hex_number escaped type_in trees_after builtin_types minor kind order value_line_text call_text rest_text signatures_of line_at is_shown call_of calls section_lines with_front section_then rest_in rest typed option_typed members_of after_exception body type_if request_body result_body reply_body is_request body_of has_body padded after_header of_header message body_may_be_missing close message_lines stage_of line_class_of text_of remarks_by closes_by called late table request_table r says
 rows = 0
 
 -- minor version and type
@@ -113,7 +113,7 @@ short = (Fault, codes "short") ∷ []
 
 -- the lines of a message's octets, and those of its close
 abbrev Row : List ℕ → List ℕ → List TimedLine → List (LineClass × List ℕ) → Type 0
-Row header s reads closes = (r.reads header s ≡ reads) × (r.closes header s ≡ closes)
+Row header s reads closes = (r.reads 1 header s ≡ reads) × (r.closes 1 header s ≡ closes)
 
 -- A Request without parameters: its message ends at the header's end, within the padding, and at its end; then a rest of two
 -- octets behind it.

@@ -257,7 +257,7 @@ module _ (w : Begun) (s octets : List ℕ) (i : Inside w s octets) where
 
   -- ---- where the message is after them
 
-  last_answer : (xs : List ℕ) (p : Progress) → Last w octets xs p →
+  pub last_answer : (xs : List ℕ) (p : Progress) → Last w octets xs p →
       (end : ℕ) × (named : Bool) × decoders.IsAnswer end named p (With xs)
   last_answer xs p l =
       let end = start w + length ((octets ++ l.front) ++ l.octet ∷ []) in

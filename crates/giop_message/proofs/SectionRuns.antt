@@ -1,6 +1,6 @@
 -- A message that follows a list, in a section whose decoder took a run of octets: what it wrote, and where the message
 -- is after them.
-use Rattle.std.proofs.Common.{◌≡◌, Result, Ok, Err, IsErr, ℕ, ◌+◌, ◌<◌, ◌≤◌, Bool, true, false, List, [], ◌∷◌, ◌++◌, length, take, drop, get_or, Option, None, refl, sym, ap, subst, ◌∙◌, arith}
+use Rattle.std.proofs.Common.{◌≡◌, append-nil, Result, Ok, Err, IsErr, ℕ, ◌+◌, ◌<◌, ◌≤◌, Bool, true, false, List, [], ◌∷◌, ◌++◌, length, take, drop, get_or, Option, Some, None, refl, sym, ap, subst, ◌∙◌, arith}
 use Rattle.std.specs.Prelude.{cond}
 use Rattle.std.proofs.lemmas.List.{length-take-le, take-append-drop}
 use Rattle.std.proofs.lemmas.Bool.{false≢true}
@@ -16,24 +16,31 @@ use Rattle.giop_decode.specs.declared.decoder.Decoder.{Decoder}
 use Rattle.giop_decode.specs.declared.progress.Kind.{Kind}
 use Rattle.giop_decode.specs.declared.progress.Progress.{Progress}
 use Rattle.giop_decode.specs.declared.progress.Progress.TheVariants as progress
-use Rattle.giop_decode.specs.ReadResult.{Read}
-use Rattle.giop_decode.specs.Noted.{noted_of, is_header_root}
+use Rattle.giop_decode.specs.ReadResult.{plain, Line, OpenPart, Leaf, Read, Done, Short, Fault}
+use Rattle.giop_decode.specs.Reading.{read}
+use Rattle.giop_decode.specs.Noted.{Noted, nothing_noted, noted_of, is_header_root}
 use Rattle.giop_decode.specs.DecoderState as decoders
 use Rattle.giop_decode.specs.Runs.{TakesRun, BreaksOff}
 use Rattle.giop_message.specs.declared.message.Message.{Message as Struct_of}
 use Rattle.giop_message.specs.declared.part.Section.{Section}
 use Rattle.giop_message.specs.declared.part.Part.TheVariants as parts
+use Rattle.giop_message.specs.declared.part.Section.TheVariants as sections
+use Rattle.giop_message.specs.declared.part.Rest.{Rest}
+use Rattle.giop_message.specs.declared.body_type.BodyTypeId.{BodyTypeId}
 use Rattle.giop_message.specs.Headers.{order}
-use Rattle.giop_message.specs.Signatures.{Signatures, RequestTable, signatures_of}
-use Rattle.giop_message.specs.Messages.{message, message_lines, root_of, after}
+use Rattle.giop_message.specs.Signatures.{Signatures, Answer, Answers, signatures_of}
+use Rattle.giop_message.specs.Messages.{section_then, section_and_rest, message, message_lines, stage_of, root_of, after}
+use Rattle.giop_message.specs.HeaderEnds.{CallEvent, header_end, noted_if_whole, noted_by_type, header_noted, ends_between, header_ends, call_event, after_event, after_ends, AgreesAtEnds}
 use Rattle.giop_message.specs.ReaderOfTable.{first_request_id}
 use Rattle.giop_message.specs.Text.{fault_word}
-use Rattle.giop_message.specs.MessageState.{due_text, Decodes, Stands, FitsPart, Fits, is_header, in_header, Follows, FaultedAt}
+use Rattle.giop_message.specs.MessageState.{due_text, IsFirst, Decodes, Stands, FitsPart, Fits, is_header, in_header, Follows, FaultedAt}
 use Rattle.giop_message.specs.MessageSteps.{request_call, Arrives, WritesRun}
 use Rattle.giop_message.proofs.Dues.{text_both}
+use Rattle.giop_message.proofs.HeaderEndLaws.{waits, past_none, header_ends_both, answers_first}
+use Rattle.giop_message.proofs.Octets.{stage_front}
 use Rattle.giop_message.proofs.Parts.{Begun, start, reading, Inside}
 use Rattle.giop_message.proofs.Followings.{header_only, id_noted, Moved, is_at, follows_on}
-use Rattle.giop_message.proofs.Runs.{Last, LinesOf, last_one, run_more, run_done, run_named_in, run_named, run_wrong, run_broken, decodes, same_id, done_comes, fault_comes}
+use Rattle.giop_message.proofs.Runs.{Last, LinesOf, last_one, run_more, run_done, run_named_in, run_named, run_wrong, run_broken, decodes, same_id, last_answer, done_comes, fault_comes}
 
 -- ---- what one call over a run wrote
 
@@ -64,33 +71,33 @@ first_alone (x ∷ xs) some = refl
 -- the message is in this section, which its decoder reads
 pub record Standing : Type 0 where
   pub C : Table
-  pub request_table : RequestTable
+  pub answers : Answers
   pub number : ℕ
   pub header : List ℕ
   pub m : Struct_of
   pub s : List ℕ
-  pub follows : Follows C request_table number header m s
+  pub follows : Follows C answers number header m s
   pub section : Section
   pub d : Decoder
   pub is : m.part ≡ parts.Typed section d
   pub fits : decoders.Fits C d
 
-abbrev pub standing : {C : Table} {request_table : RequestTable} {number : ℕ} {header : List ℕ} {m : Struct_of}
+abbrev pub standing : {C : Table} {answers : Answers} {number : ℕ} {header : List ℕ} {m : Struct_of}
     {s : List ℕ} {section : Section}
-    {d : Decoder} → Follows C request_table number header m s → m.part ≡ parts.Typed section d → Fits C m →
+    {d : Decoder} → Follows C answers number header m s → m.part ≡ parts.Typed section d → Fits C m →
     Standing
 standing {C} {m = m} f is fits =
     let e = subst (FitsPart C m.at) is fits in
-    record { C = C; request_table = _; number = _; header = _; m = m; s = _; follows = f; section = _; d = _; is = is; fits = e }
+    record { C = C; answers = _; number = _; header = _; m = m; s = _; follows = f; section = _; d = _; is = is; fits = e }
 
 module _ (t : Standing) where
-  open t use {C, request_table, number, header, m, s, follows, section, d, is}
+  open t use {C, answers, number, header, m, s, follows, section, d, is}
 
   abbrev S : Signatures
-  S = signatures_of C request_table
+  S = signatures_of C (answers number)
 
   abbrev opened : Decodes C S number header s section d
-  opened = subst (Stands C request_table number header s) is follows.stands
+  opened = subst (Stands C answers number header s) is follows.stands
 
   abbrev octets_of : List ℕ
   octets_of = opened.octets
@@ -130,10 +137,10 @@ module _ (t : Standing) where
   -- it goes on
   section_on : (xs : List ℕ) (p : Progress) → LastOf xs p → (n : Struct_of) (d' : Decoder) →
       Moved m n (length xs) → n.id ≡ m.id → n.part ≡ parts.Typed section d' → ReadsWith d' xs →
-      Follows C request_table number header n (s ++ xs)
+      Follows C answers number header n (s ++ xs)
   section_on xs p l n d' move id part reads =
       follows_on follows xs move (id ∙ rw part (kept_id xs p l (is_header section) refl))
-      (subst (Stands C request_table number header (s ++ xs)) (sym part) (decodes begun s octets_of inside C xs d' reads))
+      (subst (Stands C answers number header (s ++ xs)) (sym part) (decodes begun s octets_of inside C xs d' reads))
 
   ended_id : (xs : List ℕ) → LastOf xs progress.Done → (d' : Decoder) → ReadsWith d' xs →
       (id : Option ℕ) (inside : Bool) →
@@ -180,7 +187,7 @@ abbrev ValueLine : Standing → List ℕ → ℕ → List ℕ
 ValueLine t octets n = LinesOf (begun t) (octets_of t) (take n octets)
 
 module _ {t : Standing} {octets : List ℕ} {n : ℕ} {d' : Decoder} where
-  open t use {C, request_table, number, header, m, s, follows, section}
+  open t use {C, answers, number, header, m, s, follows, section}
 
   last : (p : Progress) → Took t octets n d' p → LastOf t (take n octets) p
   last p k =
@@ -238,16 +245,16 @@ module _ {t : Standing} {octets : List ℕ} {n : ℕ} {d' : Decoder} where
 
   pub went_on : {p : Progress} → Took t octets n d' p → (decoders.IsFault p → ⊥) →
       (m' : Struct_of) → Moved m m' n → m'.id ≡ m.id →
-      m'.part ≡ parts.Typed section d' → Follows C request_table number header m' (s ++ (take n octets))
+      m'.part ≡ parts.Typed section d' → Follows C answers number header m' (s ++ (take n octets))
   went_on {p} k going m' move id part = section_on t (take n octets) p (last p k) m' d' (moved p k m' move) id part (k.takes.reads going)
 
   pub went_done : Took t octets n d' progress.Done → (m1 m2 : Struct_of) → Moved m m1 n →
-      m1.id ≡ m.id → Arrives C request_table number header m1 m2 (s ++ (take n octets))
+      m1.id ≡ m.id → Arrives C answers number header m1 m2 (s ++ (take n octets))
       (after (S t) header section
       (noted_of (is_header_root (root_of section)) (ReadWith t (take n octets)))
       (12 + length (s ++ (take n octets))) []) → Moved m m2 n → m2.id ≡ cond (is_header section)
       (noted_of true (ReadWith t (take n octets))).request_id m1.id →
-      in_header m2.part ≡ false → Follows C request_table number header m2 (s ++ (take n octets))
+      in_header m2.part ≡ false → Follows C answers number header m2 (s ++ (take n octets))
   went_done k m1 m2 move_1 id_1 arrives move_2 id_2 past =
       let l = last progress.Done k in
       let g = done_comes (begun t) s (octets_of t) (inside t) (take n octets) l in
@@ -259,3 +266,127 @@ module _ {t : Standing} {octets : List ℕ} {n : ℕ} {d' : Decoder} where
   pub went_wrong : (why : Kind) → Took t octets n d' (progress.Fault why) →
       FaultedAt (S t) header s octets n
   went_wrong why k = fault_comes (begun t) s (octets_of t) (inside t) octets n why k.within (last (progress.Fault why) k)
+
+-- ---- where a header ends
+
+waits_short : (S : Signatures) (header : List ℕ) (section : Section) (h : Noted) (lines : List Line)
+    (at : ℕ) (outer : List OpenPart) (leaf : Leaf) →
+    waits (stage_of (section_and_rest S header section h (Short lines at outer leaf))) ≡ is_header section
+unfolding section_then stage_of waits
+waits_short S header section h lines at outer leaf = refl
+
+module _ (t : Standing) where
+  open t use {C, answers, number, header, m, s, follows, section, d, is}
+
+  -- what is noted of a header is what its decoder reads
+  header_is : section ≡ sections.Header → (xs : List ℕ) → header_noted header (s ++ xs) ≡ noted_if_whole (ReadWith t xs)
+  unfolding header_noted
+  header_is in_it xs =
+      let o = opened t in
+      let first = subst (λ x. IsFirst header x o.T o.before o.front) in_it o.first in
+      let P = plain (order header) in
+      ap (λ f. noted_by_type header f (s ++ xs)) first.0
+      ∙ (ap (λ (z : List ℕ). noted_if_whole (read P [] o.T 12 (z ++ xs))) (o.since ∙ ap (λ (f : List ℕ). f ++ o.octets) first.2)
+      ∙ ap (λ (f : List ℕ). noted_if_whole (read P [] o.T (12 + length f) (o.octets ++ xs))) (sym first.2))
+
+  header_short : section ≡ sections.Header → header_noted header s ≡ None
+  header_short in_it =
+      let i = inside t in
+      ap (header_noted header) (sym (append-nil s))
+      ∙ (header_is in_it [] ∙ (ap (λ (z : List ℕ). noted_if_whole (reading (begun t) z)) (append-nil (octets_of t)) ∙ ap noted_if_whole i.was_short))
+
+  -- another section ends none
+  section_none : is_header section ≡ false → (more : List ℕ) → header_ends number header s more ≡ []
+  section_none past more =
+      let i = inside t in
+      let w = begun t in
+      past_none C (answers number) number header s more
+      (ap (λ z. waits (stage_of z)) i.is
+      ∙ (ap waits (stage_front w.before (section_and_rest (S t) header section nothing_noted (reading w (octets_of t))))
+      ∙ (ap (λ r. waits (stage_of (section_and_rest (S t) header section nothing_noted r))) i.was_short
+      ∙ (waits_short (S t) header section nothing_noted i.lines _ i.outer i.leaf ∙ past))))
+
+-- an answer other than the end
+abbrev IsNoEnd : Progress → Type 0
+IsNoEnd progress.Done = ⊥
+IsNoEnd p = Unit {0}
+
+answer_none : (end : ℕ) (named : Bool) (p : Progress) (r : Read) → decoders.IsAnswer end named p r → IsNoEnd p → noted_if_whole r ≡ None
+answer_none end named p (Short lines at outer leaf) a other = refl
+answer_none end named p (Fault lines at why T) a other = refl
+answer_none end named progress.More (Done lines at rest) a other = absurd a
+answer_none end named progress.Named (Done lines at rest) a other = absurd a
+answer_none end named progress.Done (Done lines at rest) a other = absurd other
+answer_none end named (progress.Fault kind) (Done lines at rest) a other = absurd a
+
+answer_whole : (end : ℕ) (named : Bool) (r : Read) → decoders.IsAnswer end named progress.Done r → noted_if_whole r ≡ Some (noted_of true r)
+answer_whole end named (Done lines at rest) a = refl
+answer_whole end named (Short lines at outer leaf) a = absurd a
+answer_whole end named (Fault lines at why T) a = absurd a
+
+module _ {t : Standing} {octets : List ℕ} {n : ℕ} {d' : Decoder} where
+  open t use {C, answers, number, header, m, s, follows, section}
+
+  -- octets that end no section end no header
+  pub none_ends : {p : Progress} → Took t octets n d' p → IsNoEnd p → header_ends number header s (take n octets) ≡ []
+  unfolding header_ends
+  none_ends {p} k other = go (is_header section) refl
+    where
+      go : (b : Bool) → is_header section ≡ b →
+          ends_between number header (header_noted header s) (header_noted header (s ++ take n octets)) ≡ []
+      go false e = section_none t e (take n octets)
+      go true e =
+          let in_it = header_only section e in
+          let a = last_answer (begun t) s (octets_of t) (inside t) (take n octets) p (last p k) in
+          let none = header_is t in_it (take n octets) ∙ answer_none a.0 a.1 p (ReadWith t (take n octets)) a.2 other in
+          rw (header_short t in_it, none) refl
+
+  one_ends : Took t octets n d' progress.Done → section ≡ sections.Header →
+      header_ends number header s (take n octets) ≡ header_end number header (noted_of true (ReadWith t (take n octets))) ∷ []
+  unfolding header_ends
+  one_ends k in_it =
+      let a = last_answer (begun t) s (octets_of t) (inside t) (take n octets) progress.Done (last progress.Done k) in
+      let some = header_is t in_it (take n octets) ∙ answer_whole a.0 a.1 (ReadWith t (take n octets)) a.2 in
+      rw (header_short t in_it, some) refl
+
+  module _ {St : Type 0} (answer : St → Answer) (notified : St → CallEvent → St) (st : St) where
+    -- a header that ends is answered by the state before it,
+    pub answered_here : (a : Answers) → Took t octets n d' progress.Done →
+        AgreesAtEnds answer notified C st a (header_ends number header s octets) → is_header section ≡ true → a number ≡ answer st
+    answered_here a k h e =
+        let split = ap (header_ends number header s) (sym (take-append-drop n octets)) ∙ header_ends_both number header s (take n octets) (drop n octets) in
+        let whole_list = subst (AgreesAtEnds answer notified C st a) split h in
+        let front = answers_first answer notified C st a (header_ends number header s (take n octets)) (header_ends number header (s ++ take n octets) (drop n octets)) whole_list in
+        let here = subst (AgreesAtEnds answer notified C st a) (one_ends k (header_only section e)) front in
+        here.0
+
+    -- which is told of it
+    pub told_here : (now : St) → Took t octets n d' progress.Done →
+        now ≡ cond (is_header section) (after_event notified st (call_event C m.header (noted_of true (ReadWith t (take n octets))))) st →
+        now ≡ after_ends notified C st (header_ends number header s (take n octets))
+    told_here now k told = go (is_header section) refl
+      where
+        go : (b : Bool) → is_header section ≡ b → now ≡ after_ends notified C st (header_ends number header s (take n octets))
+        go false e =
+            told ∙ (ap (λ x. cond x (after_event notified st (call_event C m.header (noted_of true (ReadWith t (take n octets))))) st) e
+            ∙ sym (ap (after_ends notified C st) (section_none t e (take n octets))))
+        go true e =
+            told ∙ (ap (λ x. cond x (after_event notified st (call_event C m.header (noted_of true (ReadWith t (take n octets))))) st) e
+            ∙ (ap (λ x. after_event notified st (call_event C x (noted_of true (ReadWith t (take n octets))))) follows.same_header
+            ∙ sym (ap (after_ends notified C st) (one_ends k (header_only section e)))))
+
+-- ---- padding, and a rest
+
+module _ {C : Table} {answers : Answers} {number : ℕ} {header : List ℕ} {m : Struct_of} {s : List ℕ}
+    (f : Follows C answers number header m s) where
+  pub padding_none : {body_type_id : BodyTypeId} → m.part ≡ parts.Padding body_type_id → (more : List ℕ) → header_ends number header s more ≡ []
+  unfolding waits stage_of
+  padding_none {body_type_id} is more =
+      let x = subst (Stands C answers number header s) is f.stands in
+      past_none C (answers number) number header s more (ap (λ z. waits (stage_of z)) x.1)
+
+  pub rest_none : {r : Rest} → m.part ≡ parts.Rest r → (more : List ℕ) → header_ends number header s more ≡ []
+  unfolding waits stage_of
+  rest_none {r} is more =
+      let x = subst (Stands C answers number header s) is f.stands in
+      past_none C (answers number) number header s more (ap (λ z. waits (stage_of z)) x.1)

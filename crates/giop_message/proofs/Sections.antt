@@ -195,7 +195,7 @@ sound_by w s octets i found =
 -- the encapsulations that are begun are of types of encapsulations
 holds_by : (w : Begun) (s octets : List ℕ) (i : Inside w s octets) → w.section ≡ sections.Header →
     AllHold i.outer
-holds_by w s octets i e = fits_hold i.outer w.T i.leaf (sound_by w s octets i (subst (λ x. IsFirst w.header x w.T w.before) e i.first).0)
+holds_by w s octets i e = fits_hold i.outer w.T i.leaf (sound_by w s octets i (subst (λ x. IsFirst w.header x w.T w.before w.front) e i.first).0)
 
 -- ---- an octet of a message
 
@@ -242,7 +242,7 @@ module _ (w : Begun) (s octets : List ℕ) (i : Inside w s octets) (b : ℕ) whe
   ends_by : done_test St ≡ true → Silences
   ends_by done = go section i.first
     where
-      go : (x : Section) → IsFirst header x T w.before →
+      go : (x : Section) → IsFirst header x T w.before w.front →
           Each (λ l. ends_operation (may_call header x) l ≡ false) (lines_of St)
       go sections.Header first = of_header (is_request header) refl
         where

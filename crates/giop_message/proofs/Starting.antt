@@ -1,5 +1,5 @@
 -- A message whose header has come, and what begins after a part of it.
-use Rattle.std.proofs.Common.{◌≡◌, ℕ, zero, suc, ◌<◌, Bool, true, false, List, [], Option, Some, None, refl, sym, ap, ◌∙◌, append-nil, add-zero, arith}
+use Rattle.std.proofs.Common.{◌≡◌, ℕ, zero, suc, ◌<◌, Bool, true, false, List, [], Option, option_map, option_and_then, Some, None, refl, sym, ap, ◌∙◌, append-nil, add-zero, arith}
 use Rattle.std.specs.Prelude.{◌&&◌, ◌||◌, ◌==◌, nat_lt, if◌then◌else◌}
 use Rattle.std.proofs.lemmas.Bool.{ltb-false, ne_eqb, false≢true}
 use Rattle.giop_cdr.specs.Alignment.{padding}
@@ -12,7 +12,10 @@ use Rattle.giop_decode.specs.Noted.{Noted, nothing_noted}
 use Rattle.giop_message.specs.declared.part.Section.{Section}
 use Rattle.giop_message.specs.declared.part.Section.TheVariants as sections
 use Rattle.giop_message.specs.Headers.{minor, kind, order}
-use Rattle.giop_message.specs.Signatures.{Signatures}
+use Rattle.giop_sig.specs.Table.{Table, operation_in}
+use Rattle.giop_message.specs.Signatures.{Signatures, Answer, request_type, signatures_of}
+use Rattle.giop_message.specs.HeaderEnds.{operation_of}
+use Rattle.giop_message.specs.MessageState.{is_header}
 use Rattle.giop_message.specs.Messages.{LineAt, section_lines, Stage, ReadTo, In_rest, In_padding, with_front, section_then, rest, rest_in, typed, body, body_of, has_body, padded, option_typed, members_of, type_if, after_exception, BodyType, Untyped, Typed, body_may_be_missing, is_request, request_body, reply_body, after_header, of_header, message_lines, message, after, section_and_rest}
 use Rattle.giop_message.specs.MessageSteps.{is_unaligned, is_padded, body_type_after}
 use Rattle.giop_message.proofs.Going.{front_none}
@@ -144,3 +147,27 @@ reply_wants S header h e = rw e refl
 pub others_want : (S : Signatures) (header : List ℕ) (h : Noted) → (kind header ≡ 0 → ⊥) →
     (kind header ≡ 1 → ⊥) → body_type_after S header sections.Header h ≡ Untyped
 others_want S header h f g = rw (has_none header f g) refl
+
+-- the body of a Request, by the operation that it names
+pub named_body : (C : Table) (answer : Answer) (header : List ℕ) (n : Noted) → kind header ≡ 0 →
+    type_if (option_map (request_type C) (operation_of C header n)) ≡ request_body (signatures_of C answer) n.name
+unfolding operation_of signatures_of request_body type_if
+named_body C answer header n request = rw request (go n.name)
+  where
+    go : (name : Option (List ℕ)) → type_if (option_map (request_type C) (option_and_then (operation_in C) name)) ≡ request_body (signatures_of C answer) name
+    go None = refl
+    go (Some name) = refl
+
+-- What follows a section depends on what the ids answer after a header alone.
+pub wanted_agree : (C : Table) (a b : Answer) (header : List ℕ) (section : Section) (h : Noted) →
+    (is_header section ≡ true → a ≡ b) →
+    body_type_after (signatures_of C a) header section h ≡ body_type_after (signatures_of C b) header section h
+unfolding signatures_of members_of
+wanted_agree C a b header sections.Header h same =
+    ap (λ (x : Answer). body_type_after (signatures_of C x) header sections.Header h) (same refl)
+wanted_agree C a b header sections.Exception h same = go h.name
+  where
+    go : (name : Option (List ℕ)) → type_if (members_of (signatures_of C a) name) ≡ type_if (members_of (signatures_of C b) name)
+    go None = refl
+    go (Some name) = refl
+wanted_agree C a b header sections.Body h same = refl

@@ -11,7 +11,7 @@ use Rattle.giop_message.specs.declared.part.Part.TheVariants as parts
 use Rattle.giop_message.specs.declared.part.Rest.{Rest}
 use Rattle.giop_message.specs.declared.body_type.BodyTypeId.{BodyTypeId}
 use Rattle.giop_message.specs.declared.body_type.BodyTypeId.TheVariants as body_type_ids
-use Rattle.giop_message.specs.Signatures.{RequestTable}
+use Rattle.giop_message.specs.Signatures.{Answers}
 use Rattle.giop_message.specs.MessageState.{FitsPart, Fits, in_header, Stands}
 use Rattle.giop_message.specs.Stored.{part_octet, kept_id, own_octets, padding_octets, rest_octets, IsOwnOf, IsPaddingOf, IsRestOf, PartStored, Stored, IsSameRest, GoesOn}
 
@@ -168,9 +168,9 @@ id_on C p q id given said on is was =
     ∙ cond_again (in_header p) None said
     ∙ sym (ap (λ (b : Bool). cond b None said) (same_place C p q on))
 
-pub stands_on : (C : Table) (request_table : RequestTable) (number : ℕ) (header s : List ℕ) (p q : Part)
-    → GoesOn C p q → Stands C request_table number header s p → Stands C request_table number header s q
-stands_on C request_table number header s (parts.Typed section d) (parts.Typed other e) on is =
+pub stands_on : (C : Table) (answers : Answers) (number : ℕ) (header s : List ℕ) (p q : Part)
+    → GoesOn C p q → Stands C answers number header s p → Stands C answers number header s q
+stands_on C answers number header s (parts.Typed section d) (parts.Typed other e) on is =
     rw on.0 record {
       T = is.T;
       before = is.before;
@@ -181,6 +181,6 @@ stands_on C request_table number header s (parts.Typed section d) (parts.Typed o
       first = is.first;
       reads = on.1.reads _ _ _ _ _ _ is.reads;
     }
-stands_on C request_table number header s (parts.Padding body_type_id) (parts.Padding other) on is = rw on is
-stands_on C request_table number header s (parts.Rest r) (parts.Rest other) on is = rw (on.offset, on.held) is
-stands_on C request_table number header s p q on is = absurd on
+stands_on C answers number header s (parts.Padding body_type_id) (parts.Padding other) on is = rw on is
+stands_on C answers number header s (parts.Rest r) (parts.Rest other) on is = rw (on.offset, on.held) is
+stands_on C answers number header s p q on is = absurd on

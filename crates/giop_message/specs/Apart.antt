@@ -10,6 +10,6 @@ AreApart (s ∷ ss) = Each (λ t. s ≢ t) ss × AreApart ss
 
 -- no octet has two lines of one class, with those of a close at it
 pub record IsApart (R : MessageReader) : Type 0 where
-  pub apart : (header xs : List ℕ) (x : ℕ) →
-      AreApart (map (λ r. r.line_class) (due R header xs x)
-      ++ map (λ l. l.0) (R.closes header (xs ++ x ∷ [])))
+  pub apart : (number : ℕ) (header xs : List ℕ) (x : ℕ) →
+      AreApart (map (λ r. r.line_class) (due R number header xs x)
+      ++ map (λ l. l.0) (R.closes number header (xs ++ x ∷ [])))

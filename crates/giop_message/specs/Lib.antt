@@ -4,6 +4,7 @@ pub mod Apart
 pub mod Text
 pub mod Signatures
 pub mod Messages
+pub mod HeaderEnds
 pub mod StageSteps
 pub mod ReaderOfTable
 pub mod MessageState

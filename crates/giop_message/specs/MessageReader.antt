@@ -14,10 +14,10 @@ pub record TimedLine : Type 0 where
   pub line_class : LineClass
   pub text : List ℕ
 
--- of a message with this header and these octets after it
+-- of a message of this number, with this header and these octets after it
 pub record MessageReader : Type 0 where
-  pub reads : List ℕ → List ℕ → List TimedLine
-  pub closes : List ℕ → List ℕ → List (LineClass × List ℕ)
+  pub reads : ℕ → List ℕ → List ℕ → List TimedLine
+  pub closes : ℕ → List ℕ → List ℕ → List (LineClass × List ℕ)
 
 -- A message has no line after its fault or its end.
 abbrev pub is_last : LineClass → Bool
@@ -29,19 +29,19 @@ is_last End = true
 
 -- More octets change no lines of those before them.
 pub record IsCausal (R : MessageReader) : Type 0 where
-  pub earlier : (header xs more : List ℕ) (k : ℕ) → k ≤ length xs →
-      filter (λ r. r.at == k) (R.reads header (xs ++ more)) ≡ filter (λ r. r.at == k) (R.reads header xs)
+  pub earlier : (number : ℕ) (header xs more : List ℕ) (k : ℕ) → k ≤ length xs →
+      filter (λ r. r.at == k) (R.reads number header (xs ++ more)) ≡ filter (λ r. r.at == k) (R.reads number header xs)
 
 -- A message that closes has ended, or is faulted.
 pub record IsEnding (R : MessageReader) : Type 0 where
-  pub ends : (header xs : List ℕ) → list_any (λ l. is_last l.0) (R.closes header xs) ≡ true
+  pub ends : (number : ℕ) (header xs : List ℕ) → list_any (λ l. is_last l.0) (R.closes number header xs) ≡ true
 
 -- ---- What else the stream needs of a reading, where it finds messages by their request ids.
 
 -- The first four octets of a message that begins with its request id have no lines but those of values.
 pub record HasOnlyValuesInId (R : MessageReader) : Type 0 where
-  pub named : (header xs : List ℕ) → has_name header ≡ true → length xs ≤ 4 →
-      Each (λ r. r.line_class ≡ Value) (R.reads header xs)
+  pub named : (number : ℕ) (header xs : List ℕ) → has_name header ≡ true → length xs ≤ 4 →
+      Each (λ r. r.line_class ≡ Value) (R.reads number header xs)
 
 -- the lines of one octet: none, a value, a value and its call, a part of the rest, a fault, or a value and a fault
 abbrev pub AreInLineOrder : List LineClass → Type 0
@@ -50,12 +50,12 @@ AreInLineOrder line_classes =
     ⊎ (line_classes ≡ Fault ∷ []) ⊎ (line_classes ≡ Value ∷ Fault ∷ [])
 
 pub record IsOrdered (R : MessageReader) : Type 0 where
-  pub ordered : (header xs : List ℕ) (k : ℕ) →
-      AreInLineOrder (map (λ r. r.line_class) (filter (λ r. r.at == k) (R.reads header xs)))
+  pub ordered : (number : ℕ) (header xs : List ℕ) (k : ℕ) →
+      AreInLineOrder (map (λ r. r.line_class) (filter (λ r. r.at == k) (R.reads number header xs)))
 
 -- the lines of one octet more
-abbrev pub due : MessageReader → List ℕ → List ℕ → ℕ → List TimedLine
-due R header xs x = filter (λ r. r.at == suc (length xs)) (R.reads header (xs ++ x ∷ []))
+abbrev pub due : MessageReader → ℕ → List ℕ → List ℕ → ℕ → List TimedLine
+due R number header xs x = filter (λ r. r.at == suc (length xs)) (R.reads number header (xs ++ x ∷ []))
 
 -- a fault
 abbrev pub is_fault : LineClass → Bool
@@ -72,12 +72,12 @@ AtClose line_classes = (line_classes ≡ Fault ∷ []) ⊎ (line_classes ≡ End
 -- A close ends the message, once. After a fault at its last octet a message has only the line of its end, and if its
 -- last octet ends a part of its rest, no rest is left.
 pub record IsClosing (R : MessageReader) : Type 0 where
-  pub closed : (header xs : List ℕ) → AtClose (map (λ l. l.0) (R.closes header xs))
-  pub over : (header xs : List ℕ) (x : ℕ) →
-      list_any is_fault (map (λ r. r.line_class) (due R header xs x)) ≡ true →
-      map (λ l. l.0) (R.closes header (xs ++ x ∷ [])) ≡ End ∷ []
-  pub one_rest : (header xs : List ℕ) (x : ℕ) → map (λ r. r.line_class) (due R header xs x) ≡ Rest ∷ [] →
-      map (λ l. l.0) (R.closes header (xs ++ x ∷ [])) ≡ Rest ∷ End ∷ [] → ⊥
+  pub closed : (number : ℕ) (header xs : List ℕ) → AtClose (map (λ l. l.0) (R.closes number header xs))
+  pub over : (number : ℕ) (header xs : List ℕ) (x : ℕ) →
+      list_any is_fault (map (λ r. r.line_class) (due R number header xs x)) ≡ true →
+      map (λ l. l.0) (R.closes number header (xs ++ x ∷ [])) ≡ End ∷ []
+  pub one_rest : (number : ℕ) (header xs : List ℕ) (x : ℕ) → map (λ r. r.line_class) (due R number header xs x) ≡ Rest ∷ [] →
+      map (λ l. l.0) (R.closes number header (xs ++ x ∷ [])) ≡ Rest ∷ End ∷ [] → ⊥
 
 -- what a reading needs so that its lines can be written as they come
 pub record IsStreamable (R : MessageReader) : Type 0 where

@@ -1,6 +1,6 @@
 -- What a message holds of the octets that it has taken after its header, one field a clause; and what its calls write
 -- (state).
-use Rattle.std.specs.Prelude.{◌≡◌, ℕ, ◌+◌, ◌-◌, ◌<◌, ◌≤◌, Bool, true, false, cond, List, [], ◌∷◌, ◌++◌, length, take, drop, flat_map, Option, Some, None}
+use Rattle.std.specs.Prelude.{◌≡◌, ℕ, ◌+◌, ◌-◌, ◌<◌, ◌≤◌, Bool, true, false, cond, List, [], ◌∷◌, ◌++◌, length, take, drop, flat_map, Option, Some, None, IfSome}
 use Rattle.giop_sig.specs.Types.{Ty}
 use Rattle.giop_sig.specs.Table.{Table, operation_number}
 use Rattle.giop_sig.specs.Trees.{tree}
@@ -21,7 +21,7 @@ use Rattle.giop_message.specs.declared.body_type.BodyTypeId.TheVariants as body_
 use Rattle.giop_message.specs.Headers.{minor, kind, order}
 use Rattle.giop_message.specs.MessageReader.{LineClass, TimedLine}
 use Rattle.giop_message.specs.Text.{line_class_text}
-use Rattle.giop_message.specs.Signatures.{Signatures, RequestTable, signatures_of}
+use Rattle.giop_message.specs.Signatures.{Signatures, RequestTable, Answer, Answers, signatures_of}
 use Rattle.giop_message.specs.Messages.{MessageLine, ShortLine, LineAt, BodyType, Untyped, Typed, UserException, In_padding, In_rest, ReadTo, with_front, section_and_rest, root_of, message, message_lines, stage_of}
 use Rattle.giop_message.specs.ReaderOfTable.{line_class_of, text_of, first_request_id, is_over}
 
@@ -64,6 +64,10 @@ is_short speeches = false
 abbrev pub AreOf : Table → RequestTable → Type 0
 AreOf C request_table = (entries : List Entry) × IsOf (operation_number C) entries request_table
 
+-- operations of this table
+abbrev pub AreKnown : Table → Answer → Type 0
+AreKnown C answer = (id : ℕ) → IfSome (answer id) (λ o. o.0 < length C.operations)
+
 abbrev pub body_type : Table → BodyTypeId → BodyType
 body_type C body_type_ids.Nothing = Untyped
 body_type C (body_type_ids.Type of) = Typed (tree C of.0)
@@ -91,11 +95,12 @@ reach m = m.at
 
 -- ---- a message of a list
 
--- The header is the first section of a message: there is no line before it, and its type is the header's.
-abbrev pub IsFirst : List ℕ → Section → Ty → List LineAt → Type 0
-IsFirst header sections.Header T before = (header_type (minor header) (kind header) ≡ Some T) × (before ≡ [])
-IsFirst header sections.Exception T before = Unit {0}
-IsFirst header sections.Body T before = Unit {0}
+-- The header is the first section of a message: there is no line before it, no octet, and its type is the header's.
+abbrev pub IsFirst : List ℕ → Section → Ty → List LineAt → List ℕ → Type 0
+IsFirst header sections.Header T before front =
+    (header_type (minor header) (kind header) ≡ Some T) × (before ≡ []) × (front ≡ [])
+IsFirst header sections.Exception T before front = Unit {0}
+IsFirst header sections.Body T before front = Unit {0}
 
 -- Lines, and then a section that begins after them: a decoder reads its octets as a value of a type.
 pub record Decodes (C : Table) (S : Signatures) (number : ℕ) (header s : List ℕ) (section : Section) (d : Decoder)
@@ -107,17 +112,17 @@ pub record Decodes (C : Table) (S : Signatures) (number : ℕ) (header s : List 
   pub since : s ≡ front ++ octets
   pub is : message S header s ≡ with_front before
       (section_and_rest S header section nothing_noted (read (plain (order header)) [] T (12 + length front) octets))
-  pub first : IsFirst header section T before
+  pub first : IsFirst header section T before front
   pub reads : decoder.Reads C T (order header) (12 + length front) number (root_of section) d octets
 
 -- where a message of this number and header is after these octets, by the part that the next octet belongs to
-abbrev pub Stands : Table → RequestTable → ℕ → List ℕ → List ℕ → Part → Type 0
-Stands C request_table number header s (parts.Typed section d) = Decodes C (signatures_of C request_table) number header s section d
-Stands C request_table number header s (parts.Padding body_type_id) =
-    (emitted : List LineAt) × (message (signatures_of C request_table) header s
+abbrev pub Stands : Table → Answers → ℕ → List ℕ → List ℕ → Part → Type 0
+Stands C answers number header s (parts.Typed section d) = Decodes C (signatures_of C (answers number)) number header s section d
+Stands C answers number header s (parts.Padding body_type_id) =
+    (emitted : List LineAt) × (message (signatures_of C (answers number)) header s
     ≡ ReadTo emitted (12 + length s) (In_padding (body_type C body_type_id)))
-Stands C request_table number header s (parts.Rest r) =
-    (emitted : List LineAt) × (message (signatures_of C request_table) header s ≡ ReadTo emitted (12 + length s) (In_rest r.offset r.held.items))
+Stands C answers number header s (parts.Rest r) =
+    (emitted : List LineAt) × (message (signatures_of C (answers number)) header s ≡ ReadTo emitted (12 + length s) (In_rest r.offset r.held.items))
 
 -- in the header
 abbrev pub is_header : Section → Bool
@@ -132,12 +137,12 @@ in_header (parts.Rest r) = false
 
 -- The message's fields are those of a reading of its header and these octets after it. While the header is read its
 -- decoder has the request id.
-pub record Follows (C : Table) (request_table : RequestTable) (number : ℕ) (header : List ℕ) (m : Message) (s : List ℕ) : Type 0 where
+pub record Follows (C : Table) (answers : Answers) (number : ℕ) (header : List ℕ) (m : Message) (s : List ℕ) : Type 0 where
   pub same_number : m.number ≡ number
   pub same_header : m.header ≡ header
-  pub id : m.id ≡ cond (in_header m.part) None (first_request_id (message_lines (message (signatures_of C request_table) header s)))
+  pub id : m.id ≡ cond (in_header m.part) None (first_request_id (message_lines (message (signatures_of C (answers number)) header s)))
   pub at : m.at ≡ 12 + length s
-  pub stands : Stands C request_table number header s m.part
+  pub stands : Stands C answers number header s m.part
 
 -- ---- its calls
 
@@ -148,6 +153,6 @@ pub record FaultedAt (S : Signatures) (header s more : List ℕ) (n : ℕ) : Typ
   pub here : is_over (stage_of (message S header (s ++ take n more))) ≡ true
   pub not_before : is_over (stage_of (message S header (s ++ take (n - 1) more))) ≡ false
 
-abbrev pub TookAll : Table → RequestTable → ℕ → List ℕ → Message → List ℕ → List ℕ → Option ℕ → Type 0
-TookAll C request_table number header m s more None = Follows C request_table number header m (s ++ more)
-TookAll C request_table number header m s more (Some n) = FaultedAt (signatures_of C request_table) header s more n
+abbrev pub TookAll : Table → Answers → ℕ → List ℕ → Message → List ℕ → List ℕ → Option ℕ → Type 0
+TookAll C answers number header m s more None = Follows C answers number header m (s ++ more)
+TookAll C answers number header m s more (Some n) = FaultedAt (signatures_of C (answers number)) header s more n

@@ -17,7 +17,7 @@ use Rattle.giop_message.specs.declared.part.Part.{Part}
 use Rattle.giop_message.specs.declared.part.Part.TheVariants as parts
 use Rattle.giop_message.specs.Headers.{minor, order}
 use Rattle.giop_message.specs.Text.{fault_word}
-use Rattle.giop_message.specs.Signatures.{Signatures, RequestTable, signatures_of}
+use Rattle.giop_message.specs.Signatures.{Signatures, Answers, signatures_of}
 use Rattle.giop_message.specs.Messages
 use Rattle.giop_message.specs.Messages.{LineAt, BodyType, Untyped, is_shown, is_request, has_body, body_of, members_of, type_if, with_front, section_and_rest, root_of, message}
 use Rattle.giop_message.specs.MessageState.{due_text, IsFirst, Stands, Follows, FaultedAt}
@@ -60,19 +60,19 @@ pub record IsAt (number : ℕ) (header : List ℕ) (m : Message) (s : List ℕ) 
   pub at : m.at ≡ 12 + length s
 
 -- a message that is read to these lines and then as `m` has the part that fits `m`
-abbrev pub Arrives : Table → RequestTable → ℕ → List ℕ → Message → Message → List ℕ → Messages.Message → Type 0
-Arrives C request_table number header old new s m =
-    IsAt number header old s → (before : List LineAt) → message (signatures_of C request_table) header s ≡ with_front before m →
-    Stands C request_table number header s new.part
+abbrev pub Arrives : Table → Answers → ℕ → List ℕ → Message → Message → List ℕ → Messages.Message → Type 0
+Arrives C answers number header old new s m =
+    IsAt number header old s → (before : List LineAt) → message (signatures_of C (answers number)) header s ≡ with_front before m →
+    Stands C answers number header s new.part
 
 -- A message that is read to these lines, and then to a section of this type of which no octet has come, is in that
 -- section.
-abbrev pub Enters : Table → RequestTable → ℕ → List ℕ → Message → Message → List ℕ → Section → Ty → Type 0
-Enters C request_table number header old new s section T =
-    IsAt number header old s → (before : List LineAt) → IsFirst header section T before →
-    message (signatures_of C request_table) header s
-    ≡ with_front before (section_and_rest (signatures_of C request_table) header section nothing_noted (read (plain (order header)) [] T (12 + length s) [])) →
-    Stands C request_table number header s new.part
+abbrev pub Enters : Table → Answers → ℕ → List ℕ → Message → Message → List ℕ → Section → Ty → Type 0
+Enters C answers number header old new s section T =
+    IsAt number header old s → (before : List LineAt) → IsFirst header section T before s →
+    message (signatures_of C (answers number)) header s
+    ≡ with_front before (section_and_rest (signatures_of C (answers number)) header section nothing_noted (read (plain (order header)) [] T (12 + length s) [])) →
+    Stands C answers number header s new.part
 
 -- a part that is read as a value
 abbrev pub IsTyped : Part → Type 0
@@ -97,9 +97,9 @@ last_rest_text number (parts.Rest r) = held_text number r.offset r.held.items
 -- ---- one call over a run of octets
 
 -- it took so many of them: the message is over at the last, or follows the longer list
-abbrev pub TookSome : Table → RequestTable → ℕ → List ℕ → Message → List ℕ → List ℕ → ℕ → Bool → Type 0
-TookSome C request_table number header m s octets n false = Follows C request_table number header m (s ++ take n octets)
-TookSome C request_table number header m s octets n true = FaultedAt (signatures_of C request_table) header s octets n
+abbrev pub TookSome : Table → Answers → ℕ → List ℕ → Message → List ℕ → List ℕ → ℕ → Bool → Type 0
+TookSome C answers number header m s octets n false = Follows C answers number header m (s ++ take n octets)
+TookSome C answers number header m s octets n true = FaultedAt (signatures_of C (answers number)) header s octets n
 
 -- the lines of the octets that it took; or a front of those of the run, after which a put failed
 abbrev pub WritesRun : {E : Type 0} → Result (ℕ × Bool) E → Signatures → ℕ → ℕ → List ℕ → List ℕ → List ℕ →

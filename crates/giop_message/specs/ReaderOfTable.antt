@@ -1,6 +1,7 @@
--- The reading of one message as the stream takes it, by a catalogue's table and a request table; and the message's
--- request id (meaning).
-use Rattle.std.specs.Prelude.{◌≡◌, ℕ, ◌-◌, Bool, true, false, cond, List, [], ◌∷◌, map, Option, Some, None, codes, IfSome}
+-- The reading of one message as the stream takes it, by a catalogue's table and the operations that the ids of each
+-- message answer; and the message's request id (meaning).
+use Rattle.std.specs.Prelude.{◌≡◌, ℕ, suc, ◌-◌, ◌==◌, Bool, true, false, cond, List, [], ◌∷◌, ◌++◌, length, map, Option, Some, None, codes, IfSome}
+use Rattle.std.specs.List.{filter}
 use Rattle.giop_cdr.specs.declared.prim.Primitive.TheVariants as prims
 use Rattle.giop_print.specs.declared.path.Root.TheVariants as roots
 use Rattle.giop_decode.specs.ReadResult.{Number}
@@ -12,7 +13,7 @@ use Rattle.giop_sig.specs.HeaderTypes.{BeginsWithId}
 use Rattle.giop_message.specs.Headers.{minor, kind, has_name}
 use Rattle.giop_message.specs.MessageReader.{LineClass, Value, Call, Rest, Fault, End, TimedLine, MessageReader}
 use Rattle.giop_message.specs.Text.{value_line_text, call_text, rest_text, fault_word}
-use Rattle.giop_message.specs.Signatures.{Signatures, RequestTable, signatures_of}
+use Rattle.giop_message.specs.Signatures.{Signatures, Answers, signatures_of}
 use Rattle.giop_message.specs.Messages.{MessageLine, ValueLine, CallLine, RestLine, FaultLine, ShortLine, EndLine, LineAt, Stage, Over, message, message_lines, stage_of, close}
 
 unfoldable pub line_class_of : MessageLine → LineClass
@@ -39,15 +40,27 @@ timed_line_of t = record { at = t.at - 12; line_class = line_class_of t.message_
 abbrev pub closing_of : MessageLine → LineClass × List ℕ
 closing_of s = (line_class_of s, text_of s)
 
-unfoldable pub reader_by : Signatures → MessageReader
+-- of a message of this header, by what is said of it
+unfoldable pub remarks_by : Signatures → List ℕ → List ℕ → List TimedLine
+remarks_by S header xs = map timed_line_of (message_lines (message S header xs))
+
+unfoldable pub closes_by : Signatures → List ℕ → List ℕ → List (LineClass × List ℕ)
+closes_by S header xs = map closing_of (close (stage_of (message S header xs)))
+
+-- of each message, by its number
+abbrev pub reader_by : (ℕ → Signatures) → MessageReader
 reader_by S = record {
-  reads = λ header xs. map timed_line_of (message_lines (message S header xs));
-  closes = λ header xs. map closing_of (close (stage_of (message S header xs)));
+  reads = λ number. remarks_by (S number);
+  closes = λ number. closes_by (S number);
 }
 
--- by this table and these requests
-abbrev pub message_reader : Table → RequestTable → MessageReader
-message_reader C request_table = reader_by (signatures_of C request_table)
+-- what one octet more lets be said
+abbrev pub due_by : Signatures → List ℕ → List ℕ → ℕ → List TimedLine
+due_by S header xs x = filter (λ r. r.at == suc (length xs)) (remarks_by S header (xs ++ x ∷ []))
+
+-- by this table, and what the ids of each message answer
+abbrev pub message_reader : Table → Answers → MessageReader
+message_reader C answers = reader_by (λ number. signatures_of C (answers number))
 
 -- The headers of the messages that the stream finds by their request ids begin with them.
 pub record HasIds (S : Signatures) : Type 0 where

@@ -1,5 +1,5 @@
--- The types of a message's parts, by a catalogue and a request list: those of headers, and those that bodies can have
--- (meaning).
+-- The types of a message's parts, by a catalogue and the operations that the ids of replies answer: those of headers,
+-- and those that bodies can have (meaning).
 use Rattle.std.specs.Prelude.{ℕ, List, Option}
 use Rattle.std.specs.Option.{option_map}
 use Rattle.giop_sig.specs.declared.types.OpId.{OpId}
@@ -28,17 +28,29 @@ pub record Signatures : Type 0 where
 abbrev pub RequestTable : Type 0
 RequestTable = List (ℕ × Option OpId)
 
+-- the operation that an id answers: in a Reply, the id of its request
+abbrev pub Answer : Type 0
+Answer = ℕ → Option OpId
+
+-- of each message, by its number
+abbrev pub Answers : Type 0
+Answers = ℕ → Answer
+
+-- a list says the same in each message
+abbrev pub by_list : RequestTable → Answers
+by_list request_table number id = kept_operation request_table id
+
 abbrev pub request_type : Table → OpId → Ty
 request_type C o = tree C (operation_at C o.0).request
 
 abbrev pub reply_type : Table → OpId → Ty
 reply_type C o = tree C (operation_at C o.0).reply
 
-unfoldable pub signatures_of : Table → RequestTable → Signatures
-signatures_of C request_table = record {
+unfoldable pub signatures_of : Table → Answer → Signatures
+signatures_of C answer = record {
   header = header_type;
   request = λ name. option_map (request_type C) (operation_in C name);
-  reply = λ id. option_map (reply_type C) (kept_operation request_table id);
+  reply = λ id. option_map (reply_type C) (answer id);
   members = λ repository. option_map (λ t. tree C t.0) (exception_in C repository);
   exception_id = fixed_type ExceptionId;
   system_exception = fixed_type SystemException;

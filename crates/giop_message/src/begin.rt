@@ -10,12 +10,14 @@ ghost use Rattle.giop_message.specs.Messages.{root_of};
 ghost use Rattle.giop_message.specs.MessageState.{is_header};
 
 use crate::body_type::{BodyTypeId, body_type_after, is_empty};
+use crate::correspondent::Correspondent;
 use crate::header::{kind_of, minor_of, order_of};
 use crate::message::Message;
+use crate::notifying::{notify_of_section, operation_of};
 use crate::part::{Part, Rest, Section};
 use giop_cdr::pad;
 use giop_decode::Decoder;
-use giop_sig::{Catalogue, Fixed, Requests, TypeId};
+use giop_sig::{Catalogue, Fixed, TypeId};
 
 /// The request id after what has come of a section: a header's own, or the one from before.
 pub(crate) fn id_behind(section: Section, decoder: &Decoder, before: Option<u32>) -> Option<u32>
@@ -32,10 +34,11 @@ pub(crate) fn id_behind(section: Section, decoder: &Decoder, before: Option<u32>
 impl Message {
     ghost use Rattle.giop_sig.specs.Table.{Table};
     ghost use Rattle.giop_message.specs.declared.part.Section.{Section as Within};
-    ghost use Rattle.giop_message.specs.Signatures.{RequestTable, signatures_of};
+    ghost use Rattle.giop_message.specs.Signatures.{Answers, signatures_of};
     ghost use Rattle.giop_message.specs.Headers.{order};
     ghost use Rattle.giop_message.specs.Messages.{body, rest, typed, after};
-    ghost use Rattle.giop_message.specs.MessageState.{AreOf, IsKnown, Fits, in_header, body_type};
+    ghost use Rattle.giop_message.specs.MessageState.{AreKnown, IsKnown, Fits, in_header, body_type};
+    ghost use Rattle.giop_message.specs.HeaderEnds.{after_event, call_event};
     ghost use Rattle.giop_message.specs.MessageSteps.{is_padded, is_unaligned, Arrives, Enters, IsTyped, Ended};
 
     /// Begins the rest.
@@ -46,8 +49,8 @@ impl Message {
         ensures at { self.new.at ≡ self.old.at }
         ensures past { in_header self.new.part ≡ false }
         ensures fits { (C : Table) → Fits C self.new }
-        ensures arrives { (C : Table) (request_table : RequestTable) (number : ℕ) (header s : List ℕ) →
-            Arrives C request_table number header self.old self.new s (rest (12 + length s) []) }
+        ensures arrives { (C : Table) (answers : Answers) (number : ℕ) (header s : List ℕ) →
+            Arrives C answers number header self.old self.new s (rest (12 + length s) []) }
     {
         self.part = Part::Rest(Rest::new());
     }
@@ -62,8 +65,8 @@ impl Message {
         ensures at { self.new.at ≡ self.old.at }
         ensures within { in_header self.new.part ≡ is_header section }
         ensures fits { Fits catalogue.now self.new }
-        ensures enters { (request_table : RequestTable) (number : ℕ) (header s : List ℕ) →
-            Enters catalogue.now request_table number header self.old self.new s section
+        ensures enters { (answers : Answers) (number : ℕ) (header s : List ℕ) →
+            Enters catalogue.now answers number header self.old self.new s section
             (tree catalogue.now of.0) }
     {
         let order = order_of(&self.header);
@@ -81,8 +84,8 @@ impl Message {
         ensures at { self.new.at ≡ self.old.at }
         ensures past { in_header self.new.part ≡ false }
         ensures fits { Fits catalogue.now self.new }
-        ensures arrives { (request_table : RequestTable) (number : ℕ) (header s : List ℕ) →
-            Arrives catalogue.now request_table number header self.old self.new s (typed (order header)
+        ensures arrives { (answers : Answers) (number : ℕ) (header s : List ℕ) →
+            Arrives catalogue.now answers number header self.old self.new s (typed (order header)
             (tree catalogue.now of.0) (12 + length s) []) }
     {
         if is_empty(catalogue, of) {
@@ -101,9 +104,9 @@ impl Message {
         ensures at { self.new.at ≡ self.old.at }
         ensures past { in_header self.new.part ≡ false }
         ensures fits { Fits catalogue.now self.new }
-        ensures arrives { (request_table : RequestTable) (number : ℕ) (header s : List ℕ) →
-            Arrives catalogue.now request_table number header self.old self.new s (body
-            (signatures_of catalogue.now request_table) header (body_type catalogue.now body_type_id)
+        ensures arrives { (answers : Answers) (number : ℕ) (header s : List ℕ) →
+            Arrives catalogue.now answers number header self.old self.new s (body
+            (signatures_of catalogue.now (answers number)) header (body_type catalogue.now body_type_id)
             (12 + length s) []) }
     {
         match body_type_id {
@@ -118,9 +121,10 @@ impl Message {
 
     /// Goes on after its section, which has ended.
     #[inline(never)]
-    pub(crate) fn leave(&mut self, catalogue: &Catalogue, requests: &Requests)
+    pub(crate) fn leave<Q: Correspondent>(&mut self, catalogue: &Catalogue, correspondent: &mut Q)
         requires typed { IsTyped self.old.part }
-        requires of { AreOf catalogue.now requests.now }
+        requires known { AreKnown catalogue.now (Q.answer (Q.state correspondent.old)) }
+        ensures known { AreKnown catalogue.now (Q.answer (Q.state correspondent.new)) }
         ensures number { self.new.number ≡ self.old.number }
         ensures header { self.new.header ≡ self.old.header }
         ensures at { self.new.at ≡ self.old.at }
@@ -128,17 +132,32 @@ impl Message {
         ensures fits { Fits catalogue.now self.new }
         ensures id { (section : Within) (r : MessageReader) → Ended self.old.part section r →
             self.new.id ≡ cond (is_header section) (noted_of true r).request_id self.old.id }
-        ensures arrives { (number : ℕ) (header s : List ℕ) (section : Within) (r : MessageReader) →
-            Ended self.old.part section r →
-            Arrives catalogue.now requests.now number header self.old self.new s (after
-            (signatures_of catalogue.now requests.now) header section
+        ensures told { (section : Within) (r : MessageReader) → Ended self.old.part section r →
+            Q.state correspondent.new ≡ cond (is_header section)
+            (after_event Q.notified (Q.state correspondent.old)
+            (call_event catalogue.now self.old.header (noted_of true r)))
+            (Q.state correspondent.old) }
+        ensures arrives { (answers : Answers) (number : ℕ) (header s : List ℕ) (section : Within)
+            (r : MessageReader) → Ended self.old.part section r →
+            (is_header section ≡ true → answers number ≡ Q.answer (Q.state correspondent.old)) →
+            Arrives catalogue.now answers number header self.old self.new s (after
+            (signatures_of catalogue.now (answers number)) header section
             (noted_of (is_header_root (root_of section)) r) (12 + length s) []) }
     {
         let Part::Typed(section, decoder) = &self.part else {
             unreachable!();
         };
         let section = *section;
-        let body_type_id = body_type_after(catalogue, requests, &self.header, section, decoder);
+        let operation = operation_of(catalogue, &self.header, section, decoder);
+        let body_type_id = body_type_after(
+            catalogue,
+            correspondent,
+            &self.header,
+            section,
+            decoder,
+            operation,
+        );
+        notify_of_section(correspondent, &self.header, section, decoder, operation);
         self.id = id_behind(section, decoder, self.id);
         if self.is_padded(section) {
             self.part = Part::Padding(body_type_id);

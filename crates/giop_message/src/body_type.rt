@@ -3,19 +3,21 @@
 ghost use Rattle.std.specs.Prelude.{◌≡◌, ◌<◌, length, true};
 ghost use Rattle.std.specs.Option.{option_map};
 ghost use Rattle.giop_sig.specs.Trees.{tree};
-ghost use Rattle.giop_message.specs.Signatures.{RequestTable, signatures_of};
+ghost use Rattle.giop_message.specs.Signatures.{Answer, request_type, signatures_of};
 ghost use Rattle.giop_decode.specs.ReadResult.{Read};
 ghost use Rattle.giop_decode.specs.Noted.{noted_of, is_header_root};
 ghost use Rattle.giop_decode.specs.DecoderState.{KeepsNoted};
-ghost use Rattle.giop_message.specs.Messages.{Typed, root_of, body_may_be_missing, members_of, type_if, request_body, result_body, reply_body};
-ghost use Rattle.giop_message.specs.MessageState.{AreOf, IsKnown, body_type};
+ghost use Rattle.giop_message.specs.Messages.{Typed, root_of, body_may_be_missing, members_of, type_if, result_body, reply_body};
+ghost use Rattle.giop_message.specs.MessageState.{AreKnown, IsKnown, body_type, is_header};
+ghost use Rattle.giop_message.specs.HeaderEnds.{IsKnownOperation, operation_of};
 ghost use Rattle.giop_message.specs.MessageSteps.{body_type_after};
 
+use crate::correspondent::Correspondent;
 use crate::header::kind_of;
 use crate::part::Section;
 use giop_decode::Decoder;
 use giop_print::Root;
-use giop_sig::{Catalogue, Fixed, Requests, Shape, TypeId};
+use giop_sig::{Catalogue, Fixed, OpId, Shape, TypeId};
 
 /// The type of a body: none, this one, or that of the exception whose repository id comes first.
 #[derive(Clone, Copy, Debug, PartialEq, Eq)]
@@ -26,46 +28,57 @@ pub enum BodyTypeId {
 }
 
 /// The type of what follows a section, by what its decoder has noted.
-pub fn body_type_after(
+pub fn body_type_after<Q: Correspondent>(
     catalogue: &Catalogue,
-    requests: &Requests,
+    correspondent: &Q,
     header: &[u8],
     section: Section,
     decoder: &Decoder,
+    operation: Option<OpId>,
 ) -> BodyTypeId
     requires header { length header.now ≡ 12 }
-    requires of { AreOf catalogue.now requests.now }
+    requires of { AreKnown catalogue.now (Q.answer (Q.state correspondent.now)) }
+    requires operation { IsKnownOperation catalogue.now operation }
     ensures is { (r : Read) → KeepsNoted (root_of section) decoder.now r →
-        body_type catalogue.now result ≡ body_type_after (signatures_of catalogue.now requests.now)
+        (is_header section ≡ true → operation ≡ operation_of catalogue.now header.now (noted_of true r)) →
+        body_type catalogue.now result ≡ body_type_after (signatures_of catalogue.now (Q.answer (Q.state correspondent.now)))
         header.now section (noted_of (is_header_root (root_of section)) r) }
     ensures known { IsKnown catalogue.now result }
 {
     match section {
-        Section::Header => header_body(catalogue, requests, header, decoder),
+        Section::Header => header_body(catalogue, correspondent, header, decoder, operation),
         Section::Exception => members_body(catalogue, decoder.name()),
         Section::Body => BodyTypeId::Nothing,
     }
 }
 
 /// The type of a message's body, by the message type and by what the decoder of its header has noted.
-fn header_body(
+fn header_body<Q: Correspondent>(
     catalogue: &Catalogue,
-    requests: &Requests,
+    correspondent: &Q,
     header: &[u8],
     decoder: &Decoder,
+    operation: Option<OpId>,
 ) -> BodyTypeId
     requires header { length header.now ≡ 12 }
-    requires of { AreOf catalogue.now requests.now }
+    requires of { AreKnown catalogue.now (Q.answer (Q.state correspondent.now)) }
+    requires operation { IsKnownOperation catalogue.now operation }
     ensures is { (r : Read) → KeepsNoted Root.Header decoder.now r →
-        body_type catalogue.now result ≡ body_type_after (signatures_of catalogue.now requests.now)
+        operation ≡ operation_of catalogue.now header.now (noted_of true r) →
+        body_type catalogue.now result ≡ body_type_after (signatures_of catalogue.now (Q.answer (Q.state correspondent.now)))
         header.now Section.Header (noted_of true r) }
     ensures known { IsKnown catalogue.now result }
 {
     if kind_of(header) == 0 {
-        return request_body(catalogue, decoder.name());
+        return request_body(catalogue, operation);
     }
     if kind_of(header) == 1 {
-        return reply_body(catalogue, requests, decoder.request_id(), decoder.status());
+        return reply_body(
+            catalogue,
+            correspondent,
+            decoder.request_id(),
+            decoder.status(),
+        );
     }
     BodyTypeId::Nothing
 }
@@ -73,8 +86,8 @@ fn header_body(
 /// The type of an exception's members, by its repository id.
 #[tactic(auto, unfolding(crate::specs::Messages::members_of, crate::specs::Messages::type_if, crate::specs::Signatures::signatures_of))]
 fn members_body(catalogue: &Catalogue, repository: Option<&[u8]>) -> BodyTypeId
-    ensures is { (request_table : RequestTable) → body_type catalogue.now result ≡ type_if (members_of
-        (signatures_of catalogue.now request_table) (option_map (λ x. x.now) repository.entry)) }
+    ensures is { (answer : Answer) → body_type catalogue.now result ≡ type_if (members_of
+        (signatures_of catalogue.now answer) (option_map (λ x. x.now) repository.entry)) }
     ensures known { IsKnown catalogue.now result }
 {
     let Some(repository) = repository else {
@@ -87,16 +100,14 @@ fn members_body(catalogue: &Catalogue, repository: Option<&[u8]>) -> BodyTypeId
 }
 
 /// The type of a Request's body, by its operation.
-#[tactic(auto, unfolding(crate::specs::Messages::request_body, crate::specs::Messages::type_if, crate::specs::Signatures::signatures_of))]
-fn request_body(catalogue: &Catalogue, name: Option<&[u8]>) -> BodyTypeId
-    ensures is { (request_table : RequestTable) → body_type catalogue.now result ≡ request_body
-        (signatures_of catalogue.now request_table) (option_map (λ x. x.now) name.entry) }
+#[tactic(auto, unfolding(crate::specs::Messages::type_if))]
+fn request_body(catalogue: &Catalogue, operation: Option<OpId>) -> BodyTypeId
+    requires { IsKnownOperation catalogue.now operation }
+    ensures is { body_type catalogue.now result
+        ≡ type_if (option_map (request_type catalogue.now) operation) }
     ensures known { IsKnown catalogue.now result }
 {
-    let Some(name) = name else {
-        return BodyTypeId::Nothing;
-    };
-    match catalogue.operation(name) {
+    match operation {
         Some(operation) => BodyTypeId::Type(catalogue.request_of(operation)),
         None => BodyTypeId::Nothing,
     }
@@ -104,16 +115,20 @@ fn request_body(catalogue: &Catalogue, name: Option<&[u8]>) -> BodyTypeId
 
 /// The type of a Reply's results, by its request id.
 #[tactic(auto, unfolding(crate::specs::Messages::result_body, crate::specs::Messages::type_if, crate::specs::Signatures::signatures_of))]
-fn result_body(catalogue: &Catalogue, requests: &Requests, id: Option<u32>) -> BodyTypeId
-    requires { AreOf catalogue.now requests.now }
+fn result_body<Q: Correspondent>(
+    catalogue: &Catalogue,
+    correspondent: &Q,
+    id: Option<u32>,
+) -> BodyTypeId
+    requires { AreKnown catalogue.now (Q.answer (Q.state correspondent.now)) }
     ensures is { body_type catalogue.now result ≡ result_body
-        (signatures_of catalogue.now requests.now) id }
+        (signatures_of catalogue.now (Q.answer (Q.state correspondent.now))) id }
     ensures known { IsKnown catalogue.now result }
 {
     let Some(id) = id else {
         return BodyTypeId::Nothing;
     };
-    match requests.operation(id) {
+    match correspondent.operation(id) {
         Some(operation) => BodyTypeId::Type(catalogue.reply_of(operation)),
         None => BodyTypeId::Nothing,
     }
@@ -121,22 +136,22 @@ fn result_body(catalogue: &Catalogue, requests: &Requests, id: Option<u32>) -> B
 
 /// The type of a Reply's body, by its status and its request id.
 #[tactic(auto, unfolding(crate::specs::Messages::reply_body, crate::specs::Signatures::signatures_of))]
-fn reply_body(
+fn reply_body<Q: Correspondent>(
     catalogue: &Catalogue,
-    requests: &Requests,
+    correspondent: &Q,
     id: Option<u32>,
     status: Option<u32>,
 ) -> BodyTypeId
-    requires { AreOf catalogue.now requests.now }
+    requires { AreKnown catalogue.now (Q.answer (Q.state correspondent.now)) }
     ensures is { body_type catalogue.now result ≡ reply_body
-        (signatures_of catalogue.now requests.now) id status }
+        (signatures_of catalogue.now (Q.answer (Q.state correspondent.now))) id status }
     ensures known { IsKnown catalogue.now result }
 {
     let Some(status) = status else {
         return BodyTypeId::Nothing;
     };
     match status {
-        0 => result_body(catalogue, requests, id),
+        0 => result_body(catalogue, correspondent, id),
         1 => BodyTypeId::Exception,
         2 => BodyTypeId::Type(catalogue.fixed(Fixed::SystemException)),
         3 | 4 => BodyTypeId::Type(catalogue.fixed(Fixed::Forward)),

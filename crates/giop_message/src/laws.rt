@@ -9,56 +9,56 @@ ghost use Rattle.giop_sig.specs.HeaderTypes.{BeginsWithId, header_type};
 ghost use Rattle.giop_message.specs.Headers.{minor, kind, order};
 ghost use Rattle.giop_message.specs.Apart.{IsApart};
 ghost use Rattle.giop_message.specs.MessageReader.{IsCausal, IsEnding, HasOnlyValuesInId, IsOrdered, IsClosing};
-ghost use Rattle.giop_message.specs.Signatures.{RequestTable, signatures_of};
+ghost use Rattle.giop_message.specs.Signatures.{Answer, Answers, signatures_of};
 ghost use Rattle.giop_message.specs.Messages.{message, message_lines, stage_of, close};
 ghost use Rattle.giop_message.specs.MessageState.{due_text, timed_lines_text, closing_text, closes_text};
 ghost use Rattle.giop_message.specs.StageSteps.{advance, goes_on};
 ghost use Rattle.giop_message.specs.ReaderOfTable.{message_reader, first_request_id, is_over, is_wrong};
 
-/// A message of any header, by any table and any requests, is read as its octets come. It has no body, and is called
-/// for its contract.
+/// A message of any header, by any table and whatever the ids answer, is read as its octets come. It has no body, and is
+/// called for its contract.
 pub fn message_laws()
     // One octet more is one step from where the message is.
-    ensures step { (C : Table) (request_table : RequestTable) (header s : List ℕ) (b : ℕ) →
-        message (signatures_of C request_table) header (s ++ b ∷ [])
-        ≡ advance (signatures_of C request_table) header (message (signatures_of C request_table) header s) b }
+    ensures step { (C : Table) (answer : Answer) (header s : List ℕ) (b : ℕ) →
+        message (signatures_of C answer) header (s ++ b ∷ [])
+        ≡ advance (signatures_of C answer) header (message (signatures_of C answer) header s) b }
     // Many octets more are as many steps: a message may be left and resumed anywhere.
-    ensures many { (C : Table) (request_table : RequestTable) (header s t : List ℕ) →
-        message (signatures_of C request_table) header (s ++ t)
-        ≡ goes_on (signatures_of C request_table) header (message (signatures_of C request_table) header s) t }
+    ensures many { (C : Table) (answer : Answer) (header s t : List ℕ) →
+        message (signatures_of C answer) header (s ++ t)
+        ≡ goes_on (signatures_of C answer) header (message (signatures_of C answer) header s) t }
     // A message is over exactly if its lines have a fault.
-    ensures over { (C : Table) (request_table : RequestTable) (header s : List ℕ) →
-        is_over (stage_of (message (signatures_of C request_table) header s))
-        ≡ list_any is_wrong (message_lines (message (signatures_of C request_table) header s)) }
+    ensures over { (C : Table) (answer : Answer) (header s : List ℕ) →
+        is_over (stage_of (message (signatures_of C answer) header s))
+        ≡ list_any is_wrong (message_lines (message (signatures_of C answer) header s)) }
     // What the stream needs of a reading: more octets change no lines of those before them,
-    ensures causal { (C : Table) (request_table : RequestTable) → IsCausal (message_reader C request_table) }
+    ensures causal { (C : Table) (answers : Answers) → IsCausal (message_reader C answers) }
     // a close ends a message,
-    ensures ending { (C : Table) (request_table : RequestTable) → IsEnding (message_reader C request_table) }
+    ensures ending { (C : Table) (answers : Answers) → IsEnding (message_reader C answers) }
     // the first four octets of a message that begins with its request id have only lines of values,
-    ensures named { (C : Table) (request_table : RequestTable) → HasOnlyValuesInId (message_reader C request_table) }
+    ensures named { (C : Table) (answers : Answers) → HasOnlyValuesInId (message_reader C answers) }
     // the lines of one octet come in their order, and a message that is faulted at its last octet has no rest left.
-    ensures ordered { (C : Table) (request_table : RequestTable) → IsOrdered (message_reader C request_table) }
-    ensures closing { (C : Table) (request_table : RequestTable) → IsClosing (message_reader C request_table) }
+    ensures ordered { (C : Table) (answers : Answers) → IsOrdered (message_reader C answers) }
+    ensures closing { (C : Table) (answers : Answers) → IsClosing (message_reader C answers) }
     // The request id of a header that begins with it is the number of the first four octets.
-    ensures id { (C : Table) (request_table : RequestTable) (header : List ℕ) (T : Ty) →
+    ensures id { (C : Table) (answer : Answer) (header : List ℕ) (T : Ty) →
         header_type (minor header) (kind header) ≡ Some T → BeginsWithId T →
         (a b c d : ℕ) (xs : List ℕ) →
-        first_request_id (message_lines (message (signatures_of C request_table) header (a ∷ b ∷ c ∷ d ∷ xs)))
+        first_request_id (message_lines (message (signatures_of C answer) header (a ∷ b ∷ c ∷ d ∷ xs)))
         ≡ Some (num (order header) (a ∷ b ∷ c ∷ d ∷ [])) }
     // What a message writes of more octets, and at its close, are the lines of the reading: with the number, and of a
     // fault with its place in the stream.
-    ensures writes { (C : Table) (request_table : RequestTable) (number place : ℕ) (header s more : List ℕ) →
-        due_text (signatures_of C request_table) number place header s more
+    ensures writes { (C : Table) (answers : Answers) (number place : ℕ) (header s more : List ℕ) →
+        due_text (signatures_of C (answers number)) number place header s more
         ≡ timed_lines_text number place (length s)
-        (drop (length ((message_reader C request_table).reads header s))
-        ((message_reader C request_table).reads header (s ++ more))) }
-    ensures closes { (C : Table) (request_table : RequestTable) (number place : ℕ) (header s : List ℕ) →
-        closing_text number place (close (stage_of (message (signatures_of C request_table) header s)))
-        ≡ closes_text number place ((message_reader C request_table).closes header s) }
+        (drop (length ((message_reader C answers).reads number header s))
+        ((message_reader C answers).reads number header (s ++ more))) }
+    ensures closes { (C : Table) (answers : Answers) (number place : ℕ) (header s : List ℕ) →
+        closing_text number place (close (stage_of (message (signatures_of C (answers number)) header s)))
+        ≡ closes_text number place ((message_reader C answers).closes number header s) }
 {}
 
 /// No octet of a message has two lines of one class, with those of a close at it. It has no body, and is called for its
 /// contract.
 pub fn apart_laws()
-    ensures { (C : Table) (request_table : RequestTable) → IsApart (message_reader C request_table) }
+    ensures { (C : Table) (answers : Answers) → IsApart (message_reader C answers) }
 {}

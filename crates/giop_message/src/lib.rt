@@ -4,9 +4,11 @@
 
 mod begin;
 mod body_type;
+mod correspondent;
 mod header;
 mod laws;
 mod message;
+mod notifying;
 mod part;
 mod reader_laws;
 mod restored;
@@ -14,6 +16,7 @@ mod stored;
 mod taking;
 mod word;
 
+pub use correspondent::Correspondent;
 pub use header::{kind_of, minor_of, order_of};
 pub use laws::{apart_laws, message_laws};
 pub use message::Message;

@@ -5,10 +5,11 @@ ghost use Rattle.giop_print.specs.Output.{Writes};
 
 use crate::begin::id_behind;
 use crate::body_type::body_may_be_missing;
+use crate::correspondent::Correspondent;
 use crate::header::{kind_of, minor_of};
 use crate::part::{Part, Rest, Section};
 use giop_print::{Out, OutFault, end_line, fault_line};
-use giop_sig::{Catalogue, Requests};
+use giop_sig::Catalogue;
 
 /// One joined message that isn't faulted.
 #[derive(Drop)]
@@ -24,16 +25,17 @@ pub struct Message {
 }
 
 impl Message {
-    ghost use Rattle.giop_message.specs.Signatures.{RequestTable, signatures_of};
+    ghost use Rattle.giop_message.specs.Signatures.{Answers, signatures_of};
     ghost use Rattle.giop_sig.specs.Table.{Table};
     ghost use Rattle.giop_message.specs.Messages.{message, message_lines, stage_of, close};
     ghost use Rattle.giop_message.specs.MessageSteps.{last_rest_text};
     ghost use Rattle.giop_message.specs.ReaderOfTable.{first_request_id};
-    ghost use Rattle.giop_message.specs.MessageState.{AreOf, Fits, Follows, due_text, TookAll, reach, closing_text, is_short};
+    ghost use Rattle.giop_message.specs.HeaderEnds.{AgreesAtEnds, header_ends, after_ends};
+    ghost use Rattle.giop_message.specs.MessageState.{AreKnown, Fits, Follows, due_text, TookAll, reach, closing_text, is_short};
 
     /// A message of this number whose header has come.
     pub fn start(catalogue: &Catalogue, number: u64, header: [u8; 12]) -> Message
-        ensures follows { (request_table : RequestTable) → Follows catalogue.now request_table number header result [] }
+        ensures follows { (answers : Answers) → Follows catalogue.now answers number header result [] }
         ensures fits { Fits catalogue.now result }
         ensures reach { reach result ≡ 12 }
     {
@@ -53,25 +55,40 @@ impl Message {
 
     /// Takes octets, after so many octets of the stream. Some(n) means that the n-th of these octets, from 1, is
     /// faulted: then its fault is written, and the message takes no more.
-    pub fn take<O: Out>(
+    pub fn take<O: Out, Q: Correspondent>(
         &mut self,
         catalogue: &Catalogue,
-        requests: &Requests,
+        correspondent: &mut Q,
         octets: &[u8],
         place: u64,
         out: &mut O,
     ) -> Result<Option<usize>, OutFault>
         requires fits { Fits catalogue.now self.old }
-        requires of { AreOf catalogue.now requests.now }
+        requires known { AreKnown catalogue.now (Q.answer (Q.state correspondent.old)) }
         requires before { reach self.old ≤ place }
         requires limit { place + length octets.now ≤ 2 ^ 48 }
-        ensures writes { (number : ℕ) (header s : List ℕ) →
-            Follows catalogue.now requests.now number header self.old s →
+        ensures known { AreKnown catalogue.now (Q.answer (Q.state correspondent.new)) }
+        // Let `answers` give the operations that the ids of each message answer, and agree with the correspondent where
+        // the header ends in these octets. The lines that they complete are written,
+        ensures writes { (answers : Answers) (number : ℕ) (header s : List ℕ) →
+            Follows catalogue.now answers number header self.old s →
+            AgreesAtEnds Q.answer Q.notified catalogue.now (Q.state correspondent.old) answers
+            (header_ends number header s octets.now) →
             Writes result (O.log out.old) (O.log out.new) (due_text
-            (signatures_of catalogue.now requests.now) number place header s octets.now) }
-        ensures took { IfOk result (λ found. (number : ℕ) (header s : List ℕ) →
-            Follows catalogue.now requests.now number header self.old s →
-            TookAll catalogue.now requests.now number header self.new s octets.now found) }
+            (signatures_of catalogue.now (answers number)) number place header s octets.now) }
+        // the message follows the octets that it has taken, with these,
+        ensures took { IfOk result (λ found. (answers : Answers) (number : ℕ) (header s : List ℕ) →
+            Follows catalogue.now answers number header self.old s →
+            AgreesAtEnds Q.answer Q.notified catalogue.now (Q.state correspondent.old) answers
+            (header_ends number header s octets.now) →
+            TookAll catalogue.now answers number header self.new s octets.now found) }
+        // and the correspondent was told of the header.
+        ensures told { IfOk result (λ found. (answers : Answers) (number : ℕ) (header s : List ℕ) →
+            Follows catalogue.now answers number header self.old s →
+            AgreesAtEnds Q.answer Q.notified catalogue.now (Q.state correspondent.old) answers
+            (header_ends number header s octets.now) →
+            Q.state correspondent.new ≡ after_ends Q.notified catalogue.now
+            (Q.state correspondent.old) (header_ends number header s octets.now)) }
         ensures within { IfOk result (λ found. IfSome found (λ n. (0 < n) ×
             (n ≤ length octets.now))) }
         ensures fits { IfOk result (λ found. found ≡ None → Fits catalogue.now self.new) }
@@ -83,7 +100,7 @@ impl Message {
             let before = place + taken as u64;
             let (count, is_over) = self.take_some(
                 catalogue,
-                requests,
+                correspondent,
                 &octets[taken..],
                 before,
                 out,
@@ -105,13 +122,13 @@ impl Message {
         out: &mut O,
     ) -> Result<bool, OutFault>
         requires fits { Fits catalogue.now self }
-        ensures writes { (request_table : RequestTable) (number : ℕ) (header s : List ℕ) →
-            Follows catalogue.now request_table number header self s →
+        ensures writes { (answers : Answers) (number : ℕ) (header s : List ℕ) →
+            Follows catalogue.now answers number header self s →
             Writes result (O.log out.old) (O.log out.new) (closing_text number place (close
-            (stage_of (message (signatures_of catalogue.now request_table) header s)))) }
-        ensures short { IfOk result (λ short. (request_table : RequestTable) (number : ℕ) (header s : List ℕ) →
-            Follows catalogue.now request_table number header self s →
-            short ≡ is_short (close (stage_of (message (signatures_of catalogue.now request_table) header s)))) }
+            (stage_of (message (signatures_of catalogue.now (answers number)) header s)))) }
+        ensures short { IfOk result (λ short. (answers : Answers) (number : ℕ) (header s : List ℕ) →
+            Follows catalogue.now answers number header self s →
+            short ≡ is_short (close (stage_of (message (signatures_of catalogue.now (answers number)) header s)))) }
     {
         if self.is_short(catalogue) {
             fault_line(out, self.number, "short", place)?;
@@ -125,9 +142,9 @@ impl Message {
     /// Whether a close would be inside its header, a repository id or its body, or without a body that it needs.
     fn is_short(&self, catalogue: &Catalogue) -> bool
         requires { Fits catalogue.now self.now }
-        ensures { (request_table : RequestTable) (number : ℕ) (header s : List ℕ) →
-            Follows catalogue.now request_table number header self.now s →
-            result ≡ is_short (close (stage_of (message (signatures_of catalogue.now request_table) header s))) }
+        ensures { (answers : Answers) (number : ℕ) (header s : List ℕ) →
+            Follows catalogue.now answers number header self.now s →
+            result ≡ is_short (close (stage_of (message (signatures_of catalogue.now (answers number)) header s))) }
     {
         match &self.part {
             Part::Typed(_, _) => true,
@@ -164,9 +181,9 @@ impl Message {
 
     /// The request id of its header, once that has come.
     pub fn request_id(&self) -> Option<u32>
-        ensures { (C : Table) (request_table : RequestTable) (number : ℕ) (header s : List ℕ) →
-            Follows C request_table number header self.now s
-            → result ≡ first_request_id (message_lines (message (signatures_of C request_table) header s)) }
+        ensures { (C : Table) (answers : Answers) (number : ℕ) (header s : List ℕ) →
+            Follows C answers number header self.now s
+            → result ≡ first_request_id (message_lines (message (signatures_of C (answers number)) header s)) }
     {
         match &self.part {
             Part::Typed(section, decoder) => id_behind(*section, decoder, self.id),

@@ -195,7 +195,7 @@ impl Part {
 
 impl Message {
     ghost use Rattle.giop_message.specs.declared.message.Message.{Message as StoredMessage};
-    ghost use Rattle.giop_message.specs.Signatures.{RequestTable};
+    ghost use Rattle.giop_message.specs.Signatures.{Answers};
     ghost use Rattle.giop_message.specs.MessageState.{Fits, Follows};
     ghost use Rattle.giop_message.specs.Stored.{Stored};
 
@@ -217,8 +217,8 @@ impl Message {
         // It follows whatever list the stored one follows.
         ensures follows { IfSome result (λ e. (m : StoredMessage) → Fits catalogue.now m →
             m.number ≡ number → m.header ≡ header → Stored m fixed.now frames.now →
-            (request_table : RequestTable) (n : ℕ) (h s : List ℕ) → Follows catalogue.now request_table n h m s →
-            Follows catalogue.now request_table n h e s) }
+            (answers : Answers) (n : ℕ) (h s : List ℕ) → Follows catalogue.now answers n h m s →
+            Follows catalogue.now answers n h e s) }
     {
         let at = eight_at(fixed, 1);
         if !is_after_header(at) {

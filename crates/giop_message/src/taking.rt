@@ -8,6 +8,7 @@ ghost use Rattle.giop_decode.specs.DecoderState.{KeepsNoted};
 ghost use Rattle.giop_message.specs.MessageSteps.{request_call};
 
 use crate::body_type::BodyTypeId;
+use crate::correspondent::Correspondent;
 use crate::header::kind_of;
 use crate::message::Message;
 use crate::part::Part;
@@ -15,7 +16,7 @@ use crate::word::{fault_word, is_shown};
 use giop_cdr::pad;
 use giop_decode::{Decoder, Progress};
 use giop_print::{Out, OutFault, Root, call_line, fault_line};
-use giop_sig::{Catalogue, Requests};
+use giop_sig::Catalogue;
 
 /// Writes the call line of a Request, whose operation has just ended in its header.
 #[tactic(auto, unfolding(crate::specs::MessageSteps::request_call, crate::specs::MessageSteps::called_text))]
@@ -42,8 +43,10 @@ fn call<O: Out>(decoder: &Decoder, number: u64, header: &[u8], out: &mut O) -> R
 }
 
 impl Message {
-    ghost use Rattle.giop_message.specs.Signatures.{RequestTable, signatures_of};
-    ghost use Rattle.giop_message.specs.MessageState.{AreOf, IsKnown, Fits, Follows, due};
+    ghost use Rattle.giop_message.specs.Signatures.{Answers, signatures_of};
+    ghost use Rattle.giop_message.specs.MessageState.{AreKnown, IsKnown, Fits, Follows, due};
+    ghost use Rattle.std.specs.Prelude.{take};
+    ghost use Rattle.giop_message.specs.HeaderEnds.{AgreesAtEnds, header_ends, after_ends};
     ghost use Rattle.giop_message.specs.MessageSteps.{TookSome, WritesRun};
 
     /// Takes an octet of the padding in front of a body of this type.
@@ -51,12 +54,12 @@ impl Message {
         requires part { self.old.part ≡ Part.Padding body_type_id }
         requires known { IsKnown catalogue.now body_type_id }
         requires limit { self.old.at ≤ 2 ^ 48 }
-        ensures emitted { (request_table : RequestTable) (number : ℕ) (header s : List ℕ) (octet : ℕ) →
-            Follows catalogue.now request_table number header self.old s →
-            due (signatures_of catalogue.now request_table) header s (octet ∷ []) ≡ [] }
-        ensures follows { (request_table : RequestTable) (number : ℕ) (header s : List ℕ) (octet : ℕ) →
-            Follows catalogue.now request_table number header self.old s →
-            Follows catalogue.now request_table number header self.new (s ++ octet ∷ []) }
+        ensures told { (answers : Answers) (number : ℕ) (header s : List ℕ) (octet : ℕ) →
+            Follows catalogue.now answers number header self.old s →
+            due (signatures_of catalogue.now (answers number)) header s (octet ∷ []) ≡ [] }
+        ensures follows { (answers : Answers) (number : ℕ) (header s : List ℕ) (octet : ℕ) →
+            Follows catalogue.now answers number header self.old s →
+            Follows catalogue.now answers number header self.new (s ++ octet ∷ []) }
         ensures fits { Fits catalogue.now self.new }
         ensures at { self.new.at ≡ self.old.at + 1 }
     {
@@ -71,26 +74,33 @@ impl Message {
     /// or as many as there are up to one that ends an operation or the section, or breaks a rule; of padding one; of
     /// the rest those of one part. Answers how many it took, and whether the last of them is faulted.
     #[inline]
-    pub(crate) fn take_some<O: Out>(
+    pub(crate) fn take_some<O: Out, Q: Correspondent>(
         &mut self,
         catalogue: &Catalogue,
-        requests: &Requests,
+        correspondent: &mut Q,
         octets: &[u8],
         place: u64,
         out: &mut O,
     ) -> Result<(usize, bool), OutFault>
         requires fits { Fits catalogue.now self.old }
-        requires of { AreOf catalogue.now requests.now }
+        requires known { AreKnown catalogue.now (Q.answer (Q.state correspondent.old)) }
         requires some { 0 < length octets.now }
         requires before { self.old.at ≤ place }
         requires limit { place + length octets.now ≤ 2 ^ 48 }
-        ensures writes { (number : ℕ) (header s : List ℕ) →
-            Follows catalogue.now requests.now number header self.old s →
-            WritesRun result (signatures_of catalogue.now requests.now) number place header s octets.now
-            (O.log out.old) (O.log out.new) }
-        ensures went { IfOk result (λ went. (number : ℕ) (header s : List ℕ) →
-            Follows catalogue.now requests.now number header self.old s →
-            TookSome catalogue.now requests.now number header self.new s octets.now went.0 went.1) }
+        ensures known { AreKnown catalogue.now (Q.answer (Q.state correspondent.new)) }
+        ensures writes { (answers : Answers) (number : ℕ) (header s : List ℕ) →
+            Follows catalogue.now answers number header self.old s →
+            WritesRun result (signatures_of catalogue.now (answers number)) number place header s
+            octets.now (O.log out.old) (O.log out.new) }
+        ensures went { IfOk result (λ went. (answers : Answers) (number : ℕ) (header s : List ℕ) →
+            Follows catalogue.now answers number header self.old s →
+            AgreesAtEnds Q.answer Q.notified catalogue.now (Q.state correspondent.old) answers
+            (header_ends number header s octets.now) →
+            TookSome catalogue.now answers number header self.new s octets.now went.0 went.1) }
+        ensures told { IfOk result (λ went. (answers : Answers) (number : ℕ) (header s : List ℕ) →
+            Follows catalogue.now answers number header self.old s →
+            Q.state correspondent.new ≡ after_ends Q.notified catalogue.now
+            (Q.state correspondent.old) (header_ends number header s (take went.0 octets.now))) }
         ensures some { IfOk result (λ went. 0 < went.0) }
         ensures within { IfOk result (λ went. went.0 ≤ length octets.now) }
         ensures fits { IfOk result (λ went. went.1 ≡ false → Fits catalogue.now self.new) }
@@ -107,7 +117,7 @@ impl Message {
                         Ok((taken, false))
                     }
                     Progress::Done => {
-                        self.leave(catalogue, requests);
+                        self.leave(catalogue, correspondent);
                         Ok((taken, false))
                     }
                     Progress::Fault(kind) => {

@@ -35,8 +35,9 @@ fn takes_restored(
     requires front { length front.now ≤ 1000 }
     requires back { length back.now ≤ 1000 }
 {
+    let mut requests = requests;
     let mut message = Message::start(catalogue, 1, header);
-    if let Some(n) = message.take(catalogue, requests, front, 12, out)? {
+    if let Some(n) = message.take(catalogue, &mut requests, front, 12, out)? {
         return Ok(Some(Closing::Fault(12 + n)));
     }
     let place = 12 + front.len();
@@ -46,7 +47,7 @@ fn takes_restored(
     if message.reach() != place as u64 {
         return Ok(None);
     }
-    if let Some(n) = message.take(catalogue, requests, back, place as u64, out)? {
+    if let Some(n) = message.take(catalogue, &mut requests, back, place as u64, out)? {
         return Ok(Some(Closing::Fault(place + n)));
     }
     let place = place + back.len();
@@ -196,6 +197,7 @@ fn stored_differs(
 ) -> &'static str
     requires of { AreOf catalogue.now requests.now }
 {
+    let mut requests = requests;
     let Some((header, behind)) = octets.split_first_chunk::<12>() else {
         return "the header";
     };
@@ -205,7 +207,7 @@ fn stored_differs(
     let mut room = [0; 1024];
     let mut sheet = Sheet::new(&mut room);
     let mut message = Message::start(catalogue, 1, *header);
-    if message.take(catalogue, requests, behind, 12, &mut sheet) != Ok(None) {
+    if message.take(catalogue, &mut requests, behind, 12, &mut sheet) != Ok(None) {
         return "the answer";
     }
     let mut fixed = [0; 224];

@@ -36,6 +36,7 @@ fn the_request_id_comes_with_its_last_octet(rt: HostRuntime) -> Result<(), Fail>
 fn id_differs(catalogue: &Catalogue, requests: &Requests) -> &'static str
     requires of { AreOf catalogue.now requests.now }
 {
+    let mut requests = requests;
     let mut room = [0; 256];
     let mut sheet = Sheet::new(&mut room);
     // A little-endian Reply of 1.0, with one service context in front of its id.
@@ -45,13 +46,13 @@ fn id_differs(catalogue: &Catalogue, requests: &Requests) -> &'static str
     if message.request_id().is_some() {
         return "the id before any octet";
     }
-    if message.take(catalogue, requests, front, 12, &mut sheet) != Ok(None) {
+    if message.take(catalogue, &mut requests, front, 12, &mut sheet) != Ok(None) {
         return "the octets before the last";
     }
     if message.request_id().is_some() {
         return "the id before its last octet";
     }
-    if message.take(catalogue, requests, b"\x02", 27, &mut sheet) != Ok(None) {
+    if message.take(catalogue, &mut requests, b"\x02", 27, &mut sheet) != Ok(None) {
         return "the last octet";
     }
     if message.request_id() == Some(0x0203_0405) {

@@ -11,3 +11,5 @@ pub mod PayloadRunSteps
 pub mod Runs
 pub mod OutsideMessages
 pub mod HeaderRuns
+pub mod HeaderEndSteps
+pub mod StreamAgreement

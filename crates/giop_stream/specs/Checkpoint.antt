@@ -10,7 +10,7 @@ use Rattle.giop_message.specs.declared.message.Message.{Message}
 use Rattle.giop_message.specs.MessageState.{Fits}
 use Rattle.giop_message.specs.Headers.{size}
 use Rattle.giop_stream.specs.Rules.{rules}
-use Rattle.giop_message.specs.Signatures.{RequestTable}
+use Rattle.giop_message.specs.Signatures.{RequestTable, by_list}
 use Rattle.giop_checkpoint.specs.declared.sizes.TheConstants.{FIXED_SIZE, RECORD_SIZE, MESSAGE_SIZE, FRAME_SIZE}
 use Rattle.giop_checkpoint.specs.declared.layout.Layout.{Layout}
 use Rattle.giop_checkpoint.specs.declared.layout.Layout.TheVariants.{Third}
@@ -178,7 +178,7 @@ pub record Spells (octets : List ℕ) (C : Table) (l : RequestTable) (most : ℕ
   pub limit : memory.slots.slots.most ≡ most
   pub entries_are : AreEntries memory.slots.slots.entries memory.slots.own entries
   pub stream : AreOctets p
-  pub shows : Shows C l memory (state_of (rules C l most) p)
+  pub shows : Shows C (by_list l) memory (state_of (rules C l most) p)
   pub ready : AreReady C (memory.totals.octets + 1) memory.slots
 
 -- the size of the greatest checkpoint where so many messages may be open, for a catalogue of this depth

@@ -4,7 +4,7 @@ use Rattle.std.specs.Prelude.{◌≡◌, ℕ, Bool, List, Option, Result, OnOk, 
 use Rattle.giop_print.specs.Output.{OutLog, Writes}
 use Rattle.giop_sig.specs.Table.{Table}
 use Rattle.giop_message.specs.declared.message.Message.{Message as CodeMessage}
-use Rattle.giop_message.specs.Signatures.{RequestTable}
+use Rattle.giop_message.specs.Signatures.{Answers}
 use Rattle.giop_stream.specs.declared.slots.Slots.{Slots}
 use Rattle.giop_stream.specs.Events.{MessageKey}
 use Rattle.giop_stream.specs.Lines.{Line}
@@ -32,12 +32,12 @@ abbrev pub never : {A : Type 0} → A → ℕ
 never x = 0
 
 -- The slots then represent what the effect leaves tracked, and the payload's next octets belong to this message.
-abbrev pub DoesEffect : {A E : Type 0} → Table → RequestTable → (A → ℕ) → Result A E → OutLog → OutLog → Slots → Effect → Option MessageKey → Type 0
+abbrev pub DoesEffect : {A E : Type 0} → Table → Answers → (A → ℕ) → Result A E → OutLog → OutLog → Slots → Effect → Option MessageKey → Type 0
 DoesEffect C l count result before after slots effect owner_of_next =
     WritesAndLeaves count result before after effect.lines (SlotsRepresent C l slots effect.tracked owner_of_next)
 
 -- The code's message of this number and header then represents what this part of an effect leaves.
-abbrev pub DoesPart : {A E : Type 0} → Table → RequestTable → (A → ℕ) → Result A E → OutLog → OutLog → Option CodeMessage → MessageKey → Part → Type 0
+abbrev pub DoesPart : {A E : Type 0} → Table → Answers → (A → ℕ) → Result A E → OutLog → OutLog → Option CodeMessage → MessageKey → Part → Type 0
 DoesPart C l count result before after message w part =
     WritesAndLeaves count result before after part.lines (RepresentsMessage C l message w part.octets)
 

@@ -3,8 +3,8 @@ use Rattle.std.specs.Prelude.{◌≡◌, ℕ, List, length, drop, ◌++◌, true
 use Rattle.giop_cdr.specs.Numbers.{AreOctets}
 use Rattle.giop_print.specs.Output.{OutLog, Wrote, WroteFront}
 use Rattle.giop_sig.specs.Table.{Table}
-use Rattle.giop_message.specs.Signatures.{RequestTable}
-use Rattle.giop_stream.specs.Rules.{Rules, rules}
+use Rattle.giop_message.specs.Signatures.{RequestTable, Answers, by_list}
+use Rattle.giop_stream.specs.Rules.{Rules, rules, rules_by}
 use Rattle.giop_message.specs.MessageState as messages
 use Rattle.giop_checkpoint.specs.declared.fault.StreamFault.{StreamFault}
 use Rattle.giop_stream.specs.declared.status.Status.{Status}
@@ -20,7 +20,12 @@ use Rattle.giop_stream.specs.EngineView.{EngineView}
 abbrev pub AreOf : Table → RequestTable → Type 0
 AreOf C l = messages.AreOf C l
 
--- the rules that an engine reads by: its table, its request table, and how many messages may be open
+-- the rules that an engine reads by: its table, the operations that the ids of each message answer, and how many
+-- messages may be open
+abbrev pub rules_with : EngineView → Answers → Rules
+rules_with e a = rules_by e.table a e.most
+
+-- the same where its request table has the operations
 abbrev pub rules_of : EngineView → Rules
 rules_of e = rules e.table e.request_table e.most
 
@@ -28,11 +33,15 @@ rules_of e = rules e.table e.request_table e.most
 unfoldable pub added : Rules → List ℕ → List ℕ → List ℕ
 added R p more = drop (length (text R p)) (text R (p ++ more))
 
--- The engine holds the stream p: its fields show the state of p.
-pub record Holds (e : EngineView) (p : List ℕ) : Type 0 where
+-- The engine holds the stream p, where the ids of each message answer these operations: its fields show the state of p.
+pub record HoldsBy (e : EngineView) (a : Answers) (p : List ℕ) : Type 0 where
   pub sound : e.failed ≡ false
   pub octets : AreOctets p
-  pub shows : Shows e.table e.request_table e.stream (state_of (rules_of e) p)
+  pub shows : Shows e.table a e.stream (state_of (rules_with e a) p)
+
+-- by its request table
+abbrev pub Holds : EngineView → List ℕ → Type 0
+Holds e p = HoldsBy e (by_list e.request_table) p
 
 abbrev pub status_of : Option StreamFault → Status
 status_of None = Running

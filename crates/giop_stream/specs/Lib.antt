@@ -13,6 +13,8 @@ pub mod SlotsRepresent
 pub mod DoesEffect
 pub mod PayloadRuns
 pub mod PayloadOwner
+pub mod HeaderEndsOfStream
+pub mod AnswersAgree
 pub mod EngineView
 pub mod FramingView
 pub mod FramingSteps

@@ -66,12 +66,12 @@ line e content = record { place = e.place; number = e.subject.number; content = 
 -- The lines of one event, of a message that has the octets `so_far` before it and the octets `all` in the whole stream.
 unfoldable pub lines_of_event : MessageReader → Event → List ℕ → List ℕ → EventKind → List Line
 lines_of_event R e so_far all Begins = line e (Started e.subject.header) ∷ []
-lines_of_event R e so_far all (Takes x) = map (λ r. line e (Said r.line_class r.text)) (filter (λ r. r.at == suc (length so_far)) (R.reads e.subject.header all))
+lines_of_event R e so_far all (Takes x) = map (λ r. line e (Said r.line_class r.text)) (filter (λ r. r.at == suc (length so_far)) (R.reads e.subject.number e.subject.header all))
 lines_of_event R e so_far all (Opens id) = []
 lines_of_event R e so_far all (Continues i) = line e (ContinuesMessage i) ∷ []
 lines_of_event R e so_far all (Cancelled j) = line e (CancelledBy j) ∷ []
 lines_of_event R e so_far all (Faults fault) = line e (Faulted fault) ∷ []
-lines_of_event R e so_far all Closes = map (λ l. line e (Said l.0 l.1)) (R.closes e.subject.header so_far)
+lines_of_event R e so_far all Closes = map (λ l. line e (Said l.0 l.1)) (R.closes e.subject.number e.subject.header so_far)
 
 -- The lines of these events, where `past` are the events before them, and `all` those of the whole stream.
 unfoldable pub lines_of_events : MessageReader → List Event → List Event → List Event → List Line

@@ -4,8 +4,8 @@ use Rattle.std.specs.List.{AllByRecursion as Each}
 use Rattle.giop_sig.specs.Types.{Ty}
 use Rattle.giop_sig.specs.Table.{Table}
 use Rattle.giop_sig.specs.HeaderTypes.{BeginsWithId, header_type}
-use Rattle.giop_message.specs.Signatures.{RequestTable}
-use Rattle.giop_stream.specs.Rules.{rules}
+use Rattle.giop_message.specs.Signatures.{Answers}
+use Rattle.giop_stream.specs.Rules.{rules_by}
 use Rattle.giop_message.specs.Headers.{minor, kind, size, is_fragment, has_name}
 use Rattle.giop_stream.specs.declared.slots.Slots.{Slots}
 use Rattle.giop_stream.specs.declared.slots.Payload.TheVariants.{Own}
@@ -40,7 +40,7 @@ SaysId header = (T : Ty) × (header_type (minor header) (kind header) ≡ Some T
 
 -- The request id of a message is complete. Where the message begins with it, its octets were the message's own, and the
 -- message isn't over.
-pub record IsAtRequestId (C : Table) (l : RequestTable) (s : Slots) (c : Tracked) (m : Message) (now : Current) (i : ℕ) : Type 0 where
+pub record IsAtRequestId (C : Table) (l : Answers) (s : Slots) (c : Tracked) (m : Message) (now : Current) (i : ℕ) : Type 0 where
   pub keeps : SlotsRepresent C l s c (Some (message_key m))
   pub rising : Rising c.still_open
   pub current : IsCurrent now m
@@ -49,7 +49,7 @@ pub record IsAtRequestId (C : Table) (l : RequestTable) (s : Slots) (c : Tracked
   pub alive : has_name m.header ≡ true → (xs : List ℕ) × (c.known m.number ≡ Some xs)
 
 -- The slots represent what is tracked at an octet of a message, the last that came.
-pub record IsAtOctet (C : Table) (l : RequestTable) (s : Slots) (c : Tracked) (m : Message) (now : Current) : Type 0 where
+pub record IsAtOctet (C : Table) (l : Answers) (s : Slots) (c : Tracked) (m : Message) (now : Current) : Type 0 where
   pub keeps : SlotsRepresent C l s c (owner_of_next c.still_open m)
   pub rising : Rising c.still_open
   pub current : IsCurrent now m
@@ -74,7 +74,7 @@ abbrev pub IsNewest : ℕ → List Open → Type 0
 IsNewest n still_open = Each (λ o. o.opener.number < n) still_open
 
 -- The slots represent what is tracked once the octet's owner has taken it.
-pub record IsAfterTake (C : Table) (l : RequestTable) (s : Slots) (c : Tracked) (m : Message) (now : Current) : Type 0 where
+pub record IsAfterTake (C : Table) (l : Answers) (s : Slots) (c : Tracked) (m : Message) (now : Current) : Type 0 where
   pub keeps : SlotsRepresent C l s c (owner_of_octet c.still_open m)
   pub rising : Rising c.still_open
   pub current : IsCurrent now m
@@ -84,7 +84,7 @@ pub record IsAfterTake (C : Table) (l : RequestTable) (s : Slots) (c : Tracked) 
   pub says : has_name m.header ≡ true → SaysId m.header
 
 -- The slots represent what is tracked before this octet of a message comes.
-pub record IsBeforeOctet (C : Table) (l : RequestTable) (s : Slots) (c : Tracked) (m : Message) (now : Current) (x : ℕ) : Type 0 where
+pub record IsBeforeOctet (C : Table) (l : Answers) (s : Slots) (c : Tracked) (m : Message) (now : Current) (x : ℕ) : Type 0 where
   pub keeps : SlotsRepresent C l s c (owner_of_next c.still_open m)
   pub rising : Rising c.still_open
   pub current : IsCurrent now (with_octet m x)
@@ -94,7 +94,7 @@ pub record IsBeforeOctet (C : Table) (l : RequestTable) (s : Slots) (c : Tracked
   pub says : has_name m.header ≡ true → SaysId m.header
 
 -- The slots represent what is tracked before a message begins, at the last octet of its header.
-pub record IsBeforeMessage (C : Table) (l : RequestTable) (s : Slots) (c : Tracked) (who : Option MessageKey) (m : Message) (now : Current) : Type 0 where
+pub record IsBeforeMessage (C : Table) (l : Answers) (s : Slots) (c : Tracked) (who : Option MessageKey) (m : Message) (now : Current) : Type 0 where
   pub keeps : SlotsRepresent C l s c who
   pub rising : Rising c.still_open
   pub current : IsCurrent now m
@@ -110,6 +110,6 @@ owner_of_next_in still_open None = None
 owner_of_next_in still_open (Some m) = owner_of_next still_open m
 
 -- The slots represent what is tracked of the messages of this stream.
-abbrev pub SlotsRepresentStream : Table → RequestTable → ℕ → Slots → List ℕ → Type 0
+abbrev pub SlotsRepresentStream : Table → Answers → ℕ → Slots → List ℕ → Type 0
 SlotsRepresentStream C l most s p =
-    SlotsRepresent C l s (tracked_after (rules C l most) p) (owner_of_next_in (open_after most p) (cut p).current)
+    SlotsRepresent C l s (tracked_after (rules_by C l most) p) (owner_of_next_in (open_after most p) (cut p).current)

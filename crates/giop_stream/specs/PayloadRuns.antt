@@ -1,21 +1,21 @@
 -- What a run of octets does that only add to one message's contents: what its octets do, one after the other (steps).
 use Rattle.std.specs.Prelude.{ℕ, suc, List, [], ◌∷◌, Option}
 use Rattle.giop_sig.specs.Table.{Table}
-use Rattle.giop_message.specs.Signatures.{RequestTable}
+use Rattle.giop_message.specs.Signatures.{Answers}
 use Rattle.giop_message.specs.ReaderOfTable.{message_reader}
 use Rattle.giop_stream.specs.Events.{MessageKey, Takes}
 use Rattle.giop_stream.specs.Effects.{Tracked, Effect, no_effect, then_effect, Part, no_part, then_part, part_of}
 use Rattle.giop_stream.specs.SlotsRepresent.{event, effect_to}
 
 -- The octets come after so many of the stream, and are contents of their owner.
-unfoldable pub run_effect : Table → RequestTable → ℕ → Tracked → Option MessageKey → List ℕ → Effect
+unfoldable pub run_effect : Table → Answers → ℕ → Tracked → Option MessageKey → List ℕ → Effect
 run_effect C l before c owner_of_next [] = no_effect c
 run_effect C l before c owner_of_next (x ∷ xs) =
     let one = effect_to C l (suc before) c owner_of_next (Takes x) in
     then_effect one (run_effect C l (suc before) one.tracked owner_of_next xs)
 
 -- the same of the owner alone, which has read the octets `o`, unless it is over
-unfoldable pub run_part : Table → RequestTable → ℕ → MessageKey → Option (List ℕ) → List ℕ → Part
+unfoldable pub run_part : Table → Answers → ℕ → MessageKey → Option (List ℕ) → List ℕ → Part
 run_part C l before w o [] = no_part o
 run_part C l before w o (x ∷ xs) =
     let one = part_of (message_reader C l) (event (suc before) w (Takes x)) o in

@@ -3,7 +3,7 @@ use Rattle.std.specs.Prelude.{◌≡◌, ◌⊎◌, ℕ, ◌-◌, Bool, false, n
 use Rattle.std.specs.List.{AllByRecursion as Each}
 use Rattle.giop_sig.specs.Table.{Table}
 use Rattle.giop_message.specs.Headers.{size, is_fragment}
-use Rattle.giop_message.specs.Signatures.{RequestTable}
+use Rattle.giop_message.specs.Signatures.{Answers}
 use Rattle.giop_message.specs.declared.message.Message.{Message}
 use Rattle.giop_checkpoint.specs.declared.fault.StreamFault.{StreamFault}
 use Rattle.giop_checkpoint.specs.declared.fixed.Place.{Place}
@@ -67,7 +67,7 @@ pushed first id message =
     open_entry id first.«record».number first.«record».header message
 
 -- It is the entry of an open message with these octets.
-pub record IsOpenEntry (C : Table) (l : RequestTable) (at : ℕ) (first : FirstRecord) (held : Held) : Type 0 where
+pub record IsOpenEntry (C : Table) (l : Answers) (at : ℕ) (first : FirstRecord) (held : Held) : Type 0 where
   pub kept : OpenEntry
   pub entry : Entry
   pub entry_is : IsOpen kept entry
@@ -76,7 +76,7 @@ pub record IsOpenEntry (C : Table) (l : RequestTable) (at : ℕ) (first : FirstR
   pub ready : IsReady C at kept.value.message
 
 -- It is the entry of the current message with these octets.
-pub record IsCurrentEntry (C : Table) (l : RequestTable) (at : ℕ) (first : FirstRecord) (own : Own) : Type 0 where
+pub record IsCurrentEntry (C : Table) (l : Answers) (at : ℕ) (first : FirstRecord) (own : Own) : Type 0 where
   pub message : Message
   pub entry : Entry
   pub entry_is : IsCurrent message entry
@@ -87,7 +87,7 @@ pub record IsCurrentEntry (C : Table) (l : RequestTable) (at : ℕ) (first : Fir
 -- ---- the records that are left
 
 -- These octets are so many entries, of these open messages and this current one.
-pub record AreLeft (C : Table) (l : RequestTable) (at count : ℕ) (octets : List ℕ) (held : List Held) (own : Option Own)
+pub record AreLeft (C : Table) (l : Answers) (at count : ℕ) (octets : List ℕ) (held : List Held) (own : Option Own)
     : Type 0 where
   pub kept : List OpenEntry
   pub current : Option Message
@@ -101,13 +101,13 @@ pub record AreLeft (C : Table) (l : RequestTable) (at count : ℕ) (octets : Lis
   pub own_ready : IsReady C at current
 
 -- These open messages were added.
-pub record HasAdded (C : Table) (l : RequestTable) (before after : Slots) (held : List Held) : Type 0 where
+pub record HasAdded (C : Table) (l : Answers) (before after : Slots) (held : List Held) : Type 0 where
   pub kept : List OpenEntry
   pub are : AreSlots C l kept held
   pub put : after.slots.entries ≡ before.slots.entries ++ kept
 
 -- The first of so many records was added, that of an open message; `rest` are the others.
-pub record HasAddedOpen (C : Table) (l : RequestTable) (at count : ℕ) (before after : Slots)
+pub record HasAddedOpen (C : Table) (l : Answers) (at count : ℕ) (before after : Slots)
     (rest : List ℕ) (held : List Held) (own : Option Own) : Type 0 where
   pub here : Held
   pub others : List Held
@@ -117,7 +117,7 @@ pub record HasAddedOpen (C : Table) (l : RequestTable) (at count : ℕ) (before 
   pub left : AreLeft C l at (count - 1) rest others own
 
 -- It was that of the current message, which is the last.
-pub record HasAddedOwn (C : Table) (l : RequestTable) (count : ℕ) (before after : Slots)
+pub record HasAddedOwn (C : Table) (l : Answers) (count : ℕ) (before after : Slots)
     (held : List Held) (own : Option Own) : Type 0 where
   pub here : Own
   pub no_held : held ≡ []
@@ -127,7 +127,7 @@ pub record HasAddedOwn (C : Table) (l : RequestTable) (count : ℕ) (before afte
   pub last : count - 1 ≡ 0
 
 -- The first record was one or the other.
-abbrev pub HasAddedFirst : Table → RequestTable → ℕ → ℕ → Slots → Slots → List ℕ → List Held → Option Own
+abbrev pub HasAddedFirst : Table → Answers → ℕ → ℕ → Slots → Slots → List ℕ → List Held → Option Own
     → Type 0
 HasAddedFirst C l at count before after rest held own =
     HasAddedOpen C l at count before after rest held own

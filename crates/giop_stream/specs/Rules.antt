@@ -2,7 +2,7 @@
 use Rattle.std.specs.Prelude.{ℕ}
 use Rattle.giop_sig.specs.Table.{Table}
 use Rattle.giop_message.specs.MessageReader.{MessageReader}
-use Rattle.giop_message.specs.Signatures.{RequestTable}
+use Rattle.giop_message.specs.Signatures.{RequestTable, Answers, by_list}
 use Rattle.giop_message.specs.ReaderOfTable.{message_reader}
 use Rattle.giop_stream.specs.declared.slots.TheConstants.{MOST_OPEN}
 
@@ -10,9 +10,13 @@ pub record Rules : Type 0 where
   pub reading : MessageReader
   pub most : ℕ
 
--- the rules of a table, of what is known of requests, and of so many open messages
+-- the rules of a table, of the operations that the ids of each message answer, and of so many open messages
+abbrev pub rules_by : Table → Answers → ℕ → Rules
+rules_by C a most = record { reading = message_reader C a; most = most }
+
+-- the same where a request table has the operations, in each message alike
 abbrev pub rules : Table → RequestTable → ℕ → Rules
-rules C l most = record { reading = message_reader C l; most = most }
+rules C l most = rules_by C (by_list l) most
 
 -- how many messages an engine may allow to be open at most
 abbrev pub most_open : ℕ

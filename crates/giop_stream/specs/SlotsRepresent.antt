@@ -3,7 +3,7 @@ use Rattle.std.specs.Prelude.{◌≡◌, ◌<◌, ℕ, List, [], ◌∷◌, Opti
 use Rattle.std.specs.List.{AllByRecursion as Each}
 use Rattle.giop_sig.specs.Table.{Table}
 use Rattle.giop_message.specs.declared.message.Message.{Message as CodeMessage}
-use Rattle.giop_message.specs.Signatures.{RequestTable}
+use Rattle.giop_message.specs.Signatures.{Answers}
 use Rattle.giop_message.specs.ReaderOfTable.{message_reader}
 use Rattle.giop_message.specs.MessageState.{Follows, Fits, reach}
 use Rattle.giop_entry_table.specs.declared.entry_table.Entry.{Entry}
@@ -29,7 +29,7 @@ abbrev pub with_message : OpenEntry → Option CodeMessage → OpenEntry
 with_message slot message = open_entry slot.key slot.value.number slot.value.header message
 
 -- The code's message has read these octets; there is none where the message is over.
-abbrev pub RepresentsMessage : Table → RequestTable → Option CodeMessage → MessageKey → Option (List ℕ) → Type 0
+abbrev pub RepresentsMessage : Table → Answers → Option CodeMessage → MessageKey → Option (List ℕ) → Type 0
 RepresentsMessage C l (Some m) w (Some xs) = Follows C l w.number w.header m xs
 RepresentsMessage C l None w None = Unit {0}
 RepresentsMessage C l (Some m) w None = ⊥
@@ -45,20 +45,20 @@ pub record AreReady (C : Table) (at : ℕ) (s : Slots) : Type 0 where
   pub own_ready : IsReady C at s.own
   pub each_ready : Each (λ slot. IsReady C at slot.value.message) s.slots.entries
 
-pub record IsSlot (C : Table) (l : RequestTable) (kept : OpenEntry) (slot : Slot) : Type 0 where
+pub record IsSlot (C : Table) (l : Answers) (kept : OpenEntry) (slot : Slot) : Type 0 where
   pub number : kept.value.number ≡ slot.open_as.opener.number
   pub header : kept.value.header ≡ slot.open_as.opener.header
   pub id : kept.key ≡ slot.open_as.id
   pub message : RepresentsMessage C l kept.value.message slot.open_as.opener slot.octets
 
-abbrev pub AreSlots : Table → RequestTable → List OpenEntry → List Slot → Type 0
+abbrev pub AreSlots : Table → Answers → List OpenEntry → List Slot → Type 0
 AreSlots C l [] [] = Unit {0}
 AreSlots C l (kept ∷ more) (slot ∷ slots) = IsSlot C l kept slot × AreSlots C l more slots
 AreSlots C l [] (slot ∷ slots) = ⊥
 AreSlots C l (kept ∷ more) [] = ⊥
 
 -- the owner of the payload's octets
-abbrev pub PayloadBelongs : Table → RequestTable → Payload → Option CodeMessage → Tracked → Option MessageKey → Type 0
+abbrev pub PayloadBelongs : Table → Answers → Payload → Option CodeMessage → Tracked → Option MessageKey → Type 0
 PayloadBelongs C l Own own c (Some w) = Each (λ o. o.opener.number ≡ w.number → ⊥) c.still_open × RepresentsMessage C l own w (c.known w.number)
 PayloadBelongs C l (Open k) own c (Some w) = (own ≡ None) × ((o : events.Open) × (slice_get c.still_open k ≡ Some o) × (o.opener ≡ w))
 PayloadBelongs C l Nobody own c None = own ≡ None
@@ -66,7 +66,7 @@ PayloadBelongs C l Own own c None = ⊥
 PayloadBelongs C l (Open k) own c None = ⊥
 PayloadBelongs C l Nobody own c (Some w) = ⊥
 
-pub record SlotsRepresent (C : Table) (l : RequestTable) (s : Slots) (c : Tracked) (owner_of_next : Option MessageKey) : Type 0 where
+pub record SlotsRepresent (C : Table) (l : Answers) (s : Slots) (c : Tracked) (owner_of_next : Option MessageKey) : Type 0 where
   pub slots : AreSlots C l s.slots.entries (slots_of c.known c.still_open)
   pub payload : PayloadBelongs C l s.payload s.own c owner_of_next
 
@@ -81,6 +81,6 @@ abbrev pub event : ℕ → MessageKey → EventKind → Event
 event at subject what = record { place = at; subject = subject; what = what }
 
 -- its effect on what is tracked, and its lines; none where the octets belong to no message
-abbrev pub effect_to : Table → RequestTable → ℕ → Tracked → Option MessageKey → EventKind → Effect
+abbrev pub effect_to : Table → Answers → ℕ → Tracked → Option MessageKey → EventKind → Effect
 effect_to C l at c None what = no_effect c
 effect_to C l at c (Some w) what = one_effect (message_reader C l) c at w what

@@ -6,8 +6,8 @@ use Rattle.giop_sig.specs.Table.{Table}
 use Rattle.giop_message.specs.declared.message.Message.{Message as CodeMessage}
 use Rattle.giop_message.specs.Headers.{size, is_fragment}
 use Rattle.giop_message.specs.MessageState.{Follows}
-use Rattle.giop_stream.specs.Rules.{rules}
-use Rattle.giop_message.specs.Signatures.{RequestTable}
+use Rattle.giop_stream.specs.Rules.{rules_by}
+use Rattle.giop_message.specs.Signatures.{Answers}
 use Rattle.giop_stream.specs.EngineView.{FramingView}
 use Rattle.giop_stream.specs.declared.slots.Payload.{Payload}
 use Rattle.giop_stream.specs.declared.slots.Payload.TheVariants as payload
@@ -17,7 +17,7 @@ use Rattle.giop_stream.specs.SlotsRepresent.{AreSlots}
 use Rattle.giop_stream.specs.EngineState.{State, Own, state_of}
 use Rattle.giop_stream.specs.EngineStep.{Step}
 
-abbrev pub IsOwn : Table → RequestTable → Option CodeMessage → Option Own → Type 0
+abbrev pub IsOwn : Table → Answers → Option CodeMessage → Option Own → Type 0
 IsOwn C l None None = Unit {0}
 IsOwn C l (Some m) (Some o) = Follows C l o.message_key.number o.message_key.header m o.octets
 IsOwn C l (Some m) None = ⊥
@@ -45,7 +45,7 @@ IsTurn (payload.Open k) s = Unit {0}
 IsTurn payload.Nobody s = comes_itself s ≡ false
 
 -- The fields show this state; `turn` is asked only before a stream fault, while there are octets to come.
-pub record Shows (C : Table) (l : RequestTable) (f : FramingView) (s : State) : Type 0 where
+pub record Shows (C : Table) (l : Answers) (f : FramingView) (s : State) : Type 0 where
   pub totals : f.totals ≡ s.totals
   pub stopped : f.stopped ≡ s.stop
   pub header : f.header ≡ s.held
@@ -56,12 +56,12 @@ pub record Shows (C : Table) (l : RequestTable) (f : FramingView) (s : State) : 
   pub turn : s.stop ≡ None → IsTurn f.slots.payload s
 
 -- An engine that has read some stream of octets holds this state.
-pub record IsReached (C : Table) (l : RequestTable) (most : ℕ) (s : State) : Type 0 where
+pub record IsReached (C : Table) (l : Answers) (most : ℕ) (s : State) : Type 0 where
   pub stream : List ℕ
   pub octets : AreOctets stream
-  pub held : s ≡ state_of (rules C l most) stream
+  pub held : s ≡ state_of (rules_by C l most) stream
 
 -- a call writes the lines of this step, and leaves its state
-pub record Does {A E : Type 0} (C : Table) (l : RequestTable) (result : Result A E) (before after : OutLog) (f : FramingView) (one : Step) : Type 0 where
+pub record Does {A E : Type 0} (C : Table) (l : Answers) (result : Result A E) (before after : OutLog) (f : FramingView) (one : Step) : Type 0 where
   pub text : Writes result before after (lines_text one.lines)
   pub shows : OnOk result (Shows C l f one.state)

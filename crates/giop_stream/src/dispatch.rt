@@ -1,10 +1,10 @@
 //! What an octet of a message does: it feeds, opens, continues, cancels, faults or closes a message.
 
-ghost use Rattle.std.specs.Prelude.{Option, ◌≡◌, ◌+◌, ◌<◌, ◌≤◌, ◌^◌, ℕ, length, true, false, Some, None, OnOk, IfOk, if◌then◌else◌, slice_get};
+ghost use Rattle.std.specs.Prelude.{Option, [], ◌∷◌, ◌≡◌, ◌+◌, ◌<◌, ◌≤◌, ◌^◌, ℕ, length, true, false, Some, None, OnOk, IfOk, if◌then◌else◌, slice_get};
 ghost use Rattle.giop_sig.specs.Table.{Table};
-ghost use Rattle.giop_message.specs.Signatures.{RequestTable};
+ghost use Rattle.giop_message.specs.Signatures.{Answers};
 ghost use Rattle.giop_message.specs.ReaderOfTable.{message_reader};
-ghost use Rattle.giop_message.specs.MessageState.{AreOf};
+ghost use Rattle.giop_message.specs.MessageState.{AreKnown};
 ghost use Rattle.giop_message.specs.Headers.{size, is_fragment, is_opener, is_cancel};
 ghost use Rattle.giop_stream.specs.Rules.{most_open};
 ghost use Rattle.giop_stream.specs.Framing.{Message};
@@ -12,6 +12,8 @@ ghost use Rattle.giop_stream.specs.Events.{MessageKey, Open, events_at_header, e
 ghost use Rattle.giop_stream.specs.Effects.{Tracked, effects, with_octet};
 ghost use Rattle.giop_stream.specs.SlotsRepresent.{AreReady};
 ghost use Rattle.giop_stream.specs.DoesEffect.{DoesEffect, one_if, never, all};
+ghost use Rattle.giop_stream.specs.HeaderEndsOfStream.{owner_header_ends};
+ghost use Rattle.giop_message.specs.HeaderEnds.{AgreesAtEnds, after_ends};
 ghost use Rattle.giop_stream.specs.PayloadOwner.{IsAtRequestId, IsBeforeMessage, IsBeforeOctet, IsAfterTake, IsAtOctet, opener_key, owner_after_id, owner_of_next, owner_after, id_events, end_events};
 
 use crate::current::Current;
@@ -22,13 +24,13 @@ use crate::kinds::{
 };
 use crate::lines::start_line;
 use crate::slots::Slots;
-use giop_message::order_of;
+use giop_message::{Correspondent, order_of};
 use giop_print::{Out, OutFault, continues_line};
-use giop_sig::{Catalogue, Requests};
+use giop_sig::Catalogue;
 
 /// At the request id of a message with fragments: it becomes open, or is faulted.
 fn opens<O: Out>(slots: &mut Slots, now: Current, id: u32, out: &mut O) -> Result<bool, OutFault>
-    ensures does { (C : Table) (l : RequestTable) (c : Tracked) (m : Message) →
+    ensures does { (C : Table) (l : Answers) (c : Tracked) (m : Message) →
         IsAtRequestId C l slots.old c m now id →
         is_fragment m.header ≡ false → is_opener m.header ≡ true →
         DoesEffect C l one_if result (O.log out.old) (O.log out.new) slots.new
@@ -48,7 +50,7 @@ fn opens<O: Out>(slots: &mut Slots, now: Current, id: u32, out: &mut O) -> Resul
 
 /// At a CancelRequest's request id: closes the open message with that id.
 fn cancels<O: Out>(slots: &mut Slots, now: Current, id: u32, out: &mut O) -> Result<(), OutFault>
-    ensures does { (C : Table) (l : RequestTable) (c : Tracked) (m : Message) →
+    ensures does { (C : Table) (l : Answers) (c : Tracked) (m : Message) →
         IsAtRequestId C l slots.old c m now id →
         is_fragment m.header ≡ false → is_opener m.header ≡ false → is_cancel m.header ≡ true →
         DoesEffect C l never result (O.log out.old) (O.log out.new) slots.new
@@ -67,7 +69,7 @@ fn cancels<O: Out>(slots: &mut Slots, now: Current, id: u32, out: &mut O) -> Res
 
 /// Faults a Fragment of no open message; the rest of its payload belongs to no message.
 fn fault_unopened<O: Out>(slots: &mut Slots, now: Current, out: &mut O) -> Result<bool, OutFault>
-    ensures does { (C : Table) (l : RequestTable) (c : Tracked) (m : Message) (id : ℕ) →
+    ensures does { (C : Table) (l : Answers) (c : Tracked) (m : Message) (id : ℕ) →
         IsAtRequestId C l slots.old c m now id →
         is_fragment m.header ≡ true → opener_of c.still_open m ≡ None →
         DoesEffect C l one_if result (O.log out.old) (O.log out.new) slots.new
@@ -84,7 +86,7 @@ fn fault_unopened<O: Out>(slots: &mut Slots, now: Current, out: &mut O) -> Resul
 #[tactic(auto, using(giop_print::proofs::Writing::writes_then, giop_print::proofs::Writing::writes_err))]
 fn passes<O: Out>(slots: &mut Slots, k: usize, now: Current, out: &mut O) -> Result<bool, OutFault>
     requires { k < length slots.old.slots.entries }
-    ensures does { (C : Table) (l : RequestTable) (c : Tracked) (m : Message) (id : ℕ) (o : Open) →
+    ensures does { (C : Table) (l : Answers) (c : Tracked) (m : Message) (id : ℕ) (o : Open) →
         IsAtRequestId C l slots.old c m now id →
         is_fragment m.header ≡ true → opener_of c.still_open m ≡ Some o → slice_get c.still_open k ≡ Some o →
         DoesEffect C l one_if result (O.log out.old) (O.log out.new) slots.new
@@ -109,7 +111,7 @@ fn continues<O: Out>(
     id: u32,
     out: &mut O,
 ) -> Result<bool, OutFault>
-    ensures does { (C : Table) (l : RequestTable) (c : Tracked) (m : Message) →
+    ensures does { (C : Table) (l : Answers) (c : Tracked) (m : Message) →
         IsAtRequestId C l slots.old c m now id → is_fragment m.header ≡ true →
         DoesEffect C l one_if result (O.log out.old) (O.log out.new) slots.new
         (effects (message_reader C l) c (events_at_request_id slots.old.slots.most c.still_open m))
@@ -130,7 +132,7 @@ pub fn named<O: Out>(
     id: u32,
     out: &mut O,
 ) -> Result<bool, OutFault>
-    ensures does { (C : Table) (l : RequestTable) (c : Tracked) (m : Message) →
+    ensures does { (C : Table) (l : Answers) (c : Tracked) (m : Message) →
         IsAtRequestId C l slots.old c m now id →
         DoesEffect C l one_if result (O.log out.old) (O.log out.new) slots.new
         (effects (message_reader C l) c (events_at_request_id slots.old.slots.most c.still_open m))
@@ -159,7 +161,7 @@ pub fn ends<O: Out>(
     out: &mut O,
 ) -> Result<bool, OutFault>
     requires ready { AreReady catalogue.now (now.place + 1) slots.old }
-    ensures does { (l : RequestTable) (c : Tracked) (m : Message) →
+    ensures does { (l : Answers) (c : Tracked) (m : Message) →
         IsAtOctet catalogue.now l slots.old c m now → length m.payload ≡ size m.header →
         DoesEffect catalogue.now l one_if result (O.log out.old) (O.log out.new) slots.new
         (effects (message_reader catalogue.now l) c (events_at_end c.still_open m)) None }
@@ -180,7 +182,7 @@ pub fn ends<O: Out>(
 
 /// What an octet does where it is the last of a request id.
 fn at_fourth_octet<O: Out>(slots: &mut Slots, now: Current, out: &mut O) -> Result<bool, OutFault>
-    ensures does { (C : Table) (l : RequestTable) (c : Tracked) (m : Message) →
+    ensures does { (C : Table) (l : Answers) (c : Tracked) (m : Message) →
         IsAfterTake C l slots.old c m now →
         DoesEffect C l one_if result (O.log out.old) (O.log out.new) slots.new
         (effects (message_reader C l) c (id_events slots.old.slots.most c.still_open m))
@@ -203,7 +205,7 @@ fn at_last_octet<O: Out>(
     out: &mut O,
 ) -> Result<bool, OutFault>
     requires ready { AreReady catalogue.now (now.place + 1) slots.old }
-    ensures does { (l : RequestTable) (c : Tracked) (m : Message) →
+    ensures does { (l : Answers) (c : Tracked) (m : Message) →
         IsAtOctet catalogue.now l slots.old c m now → length m.payload ≡ now.payload_count →
         DoesEffect catalogue.now l one_if result (O.log out.old) (O.log out.new) slots.new
         (effects (message_reader catalogue.now l) c (end_events c.still_open m)) (owner_after c.still_open m) }
@@ -225,29 +227,38 @@ fn count(a: bool, b: bool, c: bool) -> u8
 }
 
 /// An octet of a message's payload; returns how many messages it faults.
-pub fn octet<O: Out>(
+pub fn octet<O: Out, Q: Correspondent>(
     slots: &mut Slots,
     catalogue: &Catalogue,
-    requests: &Requests,
+    correspondent: &mut Q,
     octet: u8,
     now: Current,
     out: &mut O,
 ) -> Result<u8, OutFault>
     requires ready { AreReady catalogue.now now.place slots.old }
-    requires of { AreOf catalogue.now requests.now }
+    requires known { AreKnown catalogue.now (Q.answer (Q.state correspondent.old)) }
     requires limit { now.place ≤ 2 ^ 48 }
-    ensures does { (c : Tracked) (m : Message) →
-        IsBeforeOctet catalogue.now requests.now slots.old c m now octet →
-        (let R = message_reader catalogue.now requests.now in
+    ensures known { AreKnown catalogue.now (Q.answer (Q.state correspondent.new)) }
+    ensures does { (a : Answers) (c : Tracked) (m : Message) →
+        IsBeforeOctet catalogue.now a slots.old c m now octet →
+        AgreesAtEnds Q.answer Q.notified catalogue.now (Q.state correspondent.old) a
+        (owner_header_ends c (owner_of_next c.still_open m) (octet ∷ [])) →
+        (let R = message_reader catalogue.now a in
         let effect = effects R c (events_of_octet slots.old.slots.most c.still_open (with_octet m octet)) in
-        DoesEffect catalogue.now requests.now all result (O.log out.old) (O.log out.new) slots.new
+        DoesEffect catalogue.now a all result (O.log out.old) (O.log out.new) slots.new
         effect (owner_after effect.tracked.still_open (with_octet m octet))) }
+    ensures told { IfOk result (λ _. (a : Answers) (c : Tracked) (m : Message) →
+        IsBeforeOctet catalogue.now a slots.old c m now octet →
+        AgreesAtEnds Q.answer Q.notified catalogue.now (Q.state correspondent.old) a
+        (owner_header_ends c (owner_of_next c.still_open m) (octet ∷ [])) →
+        Q.state correspondent.new ≡ after_ends Q.notified catalogue.now
+        (Q.state correspondent.old) (owner_header_ends c (owner_of_next c.still_open m) (octet ∷ []))) }
     ensures few { IfOk result (λ faults. faults ≤ 3) }
     ensures ready { OnOk result (AreReady catalogue.now (now.place + 1) slots.new) }
     ensures most { slots.new.slots.most ≡ slots.old.slots.most }
 {
     let before = now.place - 1;
-    let taken = slots.take(catalogue, requests, &[octet], before, out)?;
+    let taken = slots.take(catalogue, correspondent, &[octet], before, out)?;
     let named = at_fourth_octet(slots, now, out)?;
     let ended = at_last_octet(slots, catalogue, now, out)?;
     Ok(count(taken, named, ended))
@@ -262,7 +273,7 @@ fn starts<O: Out>(
     out: &mut O,
 ) -> Result<bool, OutFault>
     requires ready { AreReady catalogue.now now.place slots.old }
-    ensures does { (l : RequestTable) (c : Tracked) (who : Option MessageKey) (m : Message) →
+    ensures does { (l : Answers) (c : Tracked) (who : Option MessageKey) (m : Message) →
         IsBeforeMessage catalogue.now l slots.old c who m now →
         DoesEffect catalogue.now l one_if result (O.log out.old) (O.log out.new) slots.new
         (effects (message_reader catalogue.now l) c (events_at_header m)) (Some (message_key m)) }
@@ -285,7 +296,7 @@ pub fn header<O: Out>(
     out: &mut O,
 ) -> Result<u8, OutFault>
     requires ready { AreReady catalogue.now now.place slots.old }
-    ensures does { (l : RequestTable) (c : Tracked) (who : Option MessageKey) (m : Message) →
+    ensures does { (l : Answers) (c : Tracked) (who : Option MessageKey) (m : Message) →
         IsBeforeMessage catalogue.now l slots.old c who m now →
         (let R = message_reader catalogue.now l in
         let effect = effects R c (events_of_octet slots.old.slots.most c.still_open m) in

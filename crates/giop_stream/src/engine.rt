@@ -6,11 +6,14 @@ ghost use Rattle.giop_print.specs.Output.{counted};
 ghost use Rattle.giop_sig.specs.Table.{Table};
 ghost use Rattle.giop_sig.specs.Trees.{depth_of};
 ghost use Rattle.giop_checkpoint.specs.Refusals.{IsOurs};
-ghost use Rattle.giop_message.specs.Signatures.{RequestTable};
+ghost use Rattle.giop_message.specs.Signatures.{RequestTable, Answers};
+ghost use Rattle.giop_message.specs.HeaderEnds.{AgreesAtEnds, after_ends};
+ghost use Rattle.giop_stream.specs.HeaderEndsOfStream.{header_ends_from};
+ghost use Rattle.giop_message.specs.MessageState.{AreKnown};
 ghost use Rattle.giop_stream.specs.Rules.{rules, most_open};
 ghost use Rattle.giop_stream.specs.Framing.{cut, fault_of};
 ghost use Rattle.giop_stream.specs.Stream.{text, closing, final};
-ghost use Rattle.giop_stream.specs.EngineHolds.{AreOf, Holds, StopWrites, Leaves, added, rules_of, status_of};
+ghost use Rattle.giop_stream.specs.EngineHolds.{AreOf, Holds, HoldsBy, StopWrites, Leaves, added, rules_of, rules_with, status_of};
 ghost use Rattle.giop_stream.specs.Pieces.{fed, remaining, whole_text};
 ghost use Rattle.giop_stream.specs.Checkpoint.{counts_of, checkpoint_limit, Allows, IsRefused, OrNoMemory, Saves, Spells};
 
@@ -18,6 +21,7 @@ use crate::fault::{LoadFault, NewFault, Stop};
 use crate::framing::Framing;
 use crate::status::{Status, Totals};
 use crate::{loading, saving};
+use giop_message::Correspondent;
 use giop_print::Out;
 use giop_sig::{Catalogue, Requests};
 use std::alloc::Global;
@@ -119,7 +123,68 @@ impl<'a> Engine<'a> {
         }
     }
 
+    /// Reads a piece of the stream, and writes the lines that it completes: the results of a reply have the type of the
+    /// operation that the correspondent answers. After a stream fault it reads nothing.
+    pub fn feed_by<O: Out, Q: Correspondent>(
+        &mut self,
+        correspondent: &mut Q,
+        piece: &[u8],
+        out: &mut O,
+    ) -> Result<Status, Stop>
+        // Each operation that the correspondent answers is one of the types' table.
+        requires known { AreKnown self.old.table (Q.answer (Q.state correspondent.old)) }
+        ensures known { AreKnown self.old.table (Q.answer (Q.state correspondent.new)) }
+        // Let `a` give the operations that the ids of each message answer, and agree with the correspondent at each header
+        // that ends in the piece, as it stands after it was told of the headers before. The engine then holds the stream
+        // that it held, with the piece added.
+        ensures held { (a : Answers) (p : List ℕ) → HoldsBy self.old a p →
+            AgreesAtEnds Q.answer Q.notified self.old.table (Q.state correspondent.old) a
+            (header_ends_from (rules_with self.old a) p piece.now) →
+            OnOk result (HoldsBy self.new a (p ++ piece.now)) }
+        // What the piece adds to the text is written.
+        ensures text { (a : Answers) (p : List ℕ) → HoldsBy self.old a p →
+            AgreesAtEnds Q.answer Q.notified self.old.table (Q.state correspondent.old) a
+            (header_ends_from (rules_with self.old a) p piece.now) →
+            StopWrites result (O.log out.old) (O.log out.new)
+            (added (rules_with self.old a) p piece.now) }
+        // The correspondent was told of these headers, in their order.
+        ensures told { (a : Answers) (p : List ℕ) → HoldsBy self.old a p →
+            AgreesAtEnds Q.answer Q.notified self.old.table (Q.state correspondent.old) a
+            (header_ends_from (rules_with self.old a) p piece.now) →
+            IfOk result (λ _. Q.state correspondent.new ≡ after_ends Q.notified self.old.table
+            (Q.state correspondent.old) (header_ends_from (rules_with self.old a) p piece.now)) }
+        // The status gives whether the stream has a fault.
+        ensures status { (a : Answers) (p : List ℕ) → HoldsBy self.old a p →
+            AgreesAtEnds Q.answer Q.notified self.old.table (Q.state correspondent.old) a
+            (header_ends_from (rules_with self.old a) p piece.now) →
+            IfOk result (λ s. s ≡ status_of (fault_of (cut (p ++ piece.now)).stop)) }
+        // After a failed put the engine is failed, with the totals from before the call.
+        ensures leaves { Leaves result self.old self.new }
+        // A failed engine writes nothing.
+        ensures failed { self.old.failed ≡ true → O.log out.new ≡ O.log out.old }
+        // The types, the requests and the limit of open messages stay the same.
+        ensures same { (self.new.table ≡ self.old.table) × (self.new.request_table ≡ self.old.request_table) }
+        ensures most { self.new.most ≡ self.old.most }
+    {
+        if self.failed {
+            return Err(Stop::Failed);
+        }
+        let (totals, stopped) = (self.framing.totals, self.framing.stopped);
+        match self
+            .framing
+            .steps(self.catalogue, correspondent, piece, out)
+        {
+            Ok(()) => Ok(self.framing.status()),
+            Err(fault) => {
+                self.failed = true;
+                self.framing.fail(totals, stopped);
+                Err(Stop::Out(fault))
+            }
+        }
+    }
+
     /// Reads a piece of the stream, and writes the lines that it completes. After a stream fault it reads nothing.
+    #[tactic(auto, unfolding(crate::specs::EngineHolds::added))]
     pub fn feed<O: Out>(&mut self, piece: &[u8], out: &mut O) -> Result<Status, Stop>
         // It then holds the stream that it held, with the piece added.
         ensures held { (p : List ℕ) → Holds self.old p →
@@ -140,21 +205,8 @@ impl<'a> Engine<'a> {
         ensures same { (self.new.table ≡ self.old.table) × (self.new.request_table ≡ self.old.request_table) }
         ensures most { self.new.most ≡ self.old.most }
     {
-        if self.failed {
-            return Err(Stop::Failed);
-        }
-        let (totals, stopped) = (self.framing.totals, self.framing.stopped);
-        match self
-            .framing
-            .steps(self.catalogue, self.requests, piece, out)
-        {
-            Ok(()) => Ok(self.framing.status()),
-            Err(fault) => {
-                self.failed = true;
-                self.framing.fail(totals, stopped);
-                Err(Stop::Out(fault))
-            }
-        }
+        let mut requests = self.requests;
+        self.feed_by(&mut requests, piece, out)
     }
 
     /// Ends the stream: writes its closing, and returns its totals, with a truncated end counted as a fault.
@@ -164,6 +216,12 @@ impl<'a> Engine<'a> {
             → StopWrites result (O.log out.old) (O.log out.new) (closing (rules_of self.entry) p) }
         ensures totals { (p : List ℕ) → Holds self.entry p →
             IfOk result (λ t. t ≡ final (rules_of self.entry) p) }
+        // The same whatever operations the ids of messages answered.
+        ensures text_by { (a : Answers) (p : List ℕ) → HoldsBy self.entry a p
+            → StopWrites result (O.log out.old) (O.log out.new)
+            (closing (rules_with self.entry a) p) }
+        ensures totals_by { (a : Answers) (p : List ℕ) → HoldsBy self.entry a p →
+            IfOk result (λ t. t ≡ final (rules_with self.entry a) p) }
         // A failed engine writes nothing, and only a failed one returns `Failed`.
         ensures failed { self.entry.failed ≡ true →
             (result ≡ Err Stop.Failed) × (O.log out.new ≡ O.log out.old) }

@@ -12,7 +12,7 @@ impl Framing {
     ghost use Rattle.giop_print.specs.Output.{Writes};
     ghost use Rattle.giop_print.specs.Lines.{unfinished_line, total_line};
     ghost use Rattle.giop_sig.specs.Table.{Table};
-    ghost use Rattle.giop_message.specs.Signatures.{RequestTable};
+    ghost use Rattle.giop_message.specs.Signatures.{Answers};
     ghost use Rattle.giop_stream.specs.Text.{truncated_line};
     ghost use Rattle.giop_stream.specs.EngineState.{State};
     ghost use Rattle.giop_stream.specs.EngineStep as one;
@@ -43,7 +43,7 @@ impl Framing {
     #[tactic(auto, unfolding(crate::specs::FramingSteps::final_totals))]
     pub fn final_totals(&self) -> Totals
         ensures state { result ≡ final_totals (framing_view self.now) }
-        ensures value { (C : Table) (l : RequestTable) (s : State) → Shows C l (framing_view self.now) s →
+        ensures value { (C : Table) (l : Answers) (s : State) → Shows C l (framing_view self.now) s →
             result ≡ one.final_totals s }
     {
         let mut totals = self.totals;
@@ -55,7 +55,7 @@ impl Framing {
 
     /// The line of a stream that ends inside a message or a header.
     fn truncation<O: Out>(&self, out: &mut O) -> Result<(), OutFault>
-        ensures { (C : Table) (l : RequestTable) (s : State) → Shows C l (framing_view self.now) s →
+        ensures { (C : Table) (l : Answers) (s : State) → Shows C l (framing_view self.now) s →
             Writes result (O.log out.old) (O.log out.new)
             (if one.is_cut_short s then truncated_line s.totals.octets else []) }
     {
@@ -67,7 +67,7 @@ impl Framing {
 
     /// The line of the current message where it isn't open, unless it is a Fragment.
     fn own_unfinished<O: Out>(&self, out: &mut O) -> Result<(), OutFault>
-        ensures { (C : Table) (l : RequestTable) (s : State) → Shows C l (framing_view self.now) s →
+        ensures { (C : Table) (l : Answers) (s : State) → Shows C l (framing_view self.now) s →
             Writes result (O.log out.old) (O.log out.new)
             (flat_map unfinished_line (one.left_own s.own)) }
     {
@@ -82,7 +82,7 @@ impl Framing {
 
     /// The lines of the messages that have neither ended nor been faulted, by number.
     fn unfinished<O: Out>(&self, out: &mut O) -> Result<(), OutFault>
-        ensures { (C : Table) (l : RequestTable) (s : State) → Shows C l (framing_view self.now) s →
+        ensures { (C : Table) (l : Answers) (s : State) → Shows C l (framing_view self.now) s →
             Writes result (O.log out.old) (O.log out.new)
             (flat_map unfinished_line (one.left_over s)) }
     {
@@ -93,7 +93,7 @@ impl Framing {
     /// What follows the line of a truncation.
     #[tactic(auto, using(giop_print::proofs::Writing::writes_then, giop_print::proofs::Writing::writes_err))]
     fn ending<O: Out>(&self, out: &mut O) -> Result<(), OutFault>
-        ensures { (C : Table) (l : RequestTable) (s : State) → Shows C l (framing_view self.now) s →
+        ensures { (C : Table) (l : Answers) (s : State) → Shows C l (framing_view self.now) s →
             (let t = one.final_totals s in
             Writes result (O.log out.old) (O.log out.new)
             (flat_map unfinished_line (one.left_over s)
@@ -107,7 +107,7 @@ impl Framing {
     /// The lines of the finish.
     #[tactic(auto, using(giop_print::proofs::Writing::writes_then, giop_print::proofs::Writing::writes_err))]
     pub fn finish<O: Out>(&self, out: &mut O) -> Result<(), OutFault>
-        ensures { (C : Table) (l : RequestTable) (s : State) → Shows C l (framing_view self.now) s →
+        ensures { (C : Table) (l : Answers) (s : State) → Shows C l (framing_view self.now) s →
             Writes result (O.log out.old) (O.log out.new) (one.finish s) }
     {
         self.truncation(out)?;

@@ -12,8 +12,9 @@ use crate::lines::stream_fault_line;
 use crate::slots::Slots;
 use crate::status::Totals;
 use arrayvec::ArrayVec;
+use giop_message::Correspondent;
 use giop_print::{Out, OutFault};
-use giop_sig::{Catalogue, Requests};
+use giop_sig::Catalogue;
 use std::alloc::{AllocError, Global};
 
 /// How many octets are read of a stream at most.
@@ -41,8 +42,8 @@ pub struct Framing {
 impl Framing {
     ghost use Rattle.giop_print.specs.Output.{Writes};
     ghost use Rattle.giop_sig.specs.Table.{Table};
-    ghost use Rattle.giop_message.specs.Signatures.{RequestTable};
-    ghost use Rattle.giop_stream.specs.Rules.{rules};
+    ghost use Rattle.giop_message.specs.Signatures.{Answers};
+    ghost use Rattle.giop_stream.specs.Rules.{rules_by};
     ghost use Rattle.giop_message.specs.Headers.{size};
     ghost use Rattle.giop_stream.specs.HeaderOctets.{wrong};
     ghost use Rattle.giop_stream.specs.Text.{stop_text};
@@ -52,15 +53,18 @@ impl Framing {
     ghost use Rattle.giop_stream.specs.EngineStep as one;
     ghost use Rattle.giop_stream.specs.FramingView.{framing_view};
     ghost use Rattle.giop_stream.specs.ViewOfState.{Shows, IsReached, Does};
-    ghost use Rattle.giop_stream.specs.EngineHolds.{AreOf};
+    ghost use Rattle.giop_message.specs.MessageState.{AreKnown};
     ghost use Rattle.giop_stream.specs.FramingSteps.{held_on, stop, end_message};
+    ghost use Rattle.giop_stream.specs.Framing.{cut};
+    ghost use Rattle.giop_stream.specs.HeaderEndsOfStream.{current_header_ends, header_ends_at};
+    ghost use Rattle.giop_message.specs.HeaderEnds.{AgreesAtEnds, after_ends};
 
     /// The state before the first octet, where so many messages may be open.
     pub fn new(alloc: Global, most: usize) -> Result<Framing, AllocError>
         requires room { most ≤ most_open }
         requires some { 1 ≤ most }
         ensures most { IfOk result (λ f. f.slots.slots.most ≡ most) }
-        ensures shows { IfOk result (λ f. (C : Table) (l : RequestTable) →
+        ensures shows { IfOk result (λ f. (C : Table) (l : Answers) →
             Shows C l (framing_view f) one.fresh) }
         ensures ready { IfOk result (λ f. (C : Table) →
             AreReady C (f.totals.octets + 1) f.slots) }
@@ -153,11 +157,11 @@ impl Framing {
         requires faults { self.old.totals.faults + 3 ≤ 3 * self.old.totals.octets }
         requires ready { AreReady catalogue.now self.old.totals.octets self.old.slots }
         // It does the step of the octet that was added to the header last.
-        ensures does { (l : RequestTable) (s : State) (m : FramingView) (x : ℕ) →
+        ensures does { (l : Answers) (s : State) (m : FramingView) (x : ℕ) →
             IsReached catalogue.now l self.old.slots.slots.most s →
             Shows catalogue.now l m s → framing_view self.old ≡ held_on m x →
             Does catalogue.now l result (O.log out.old) (O.log out.new) (framing_view self.new)
-            (one.step (rules catalogue.now l self.old.slots.slots.most) s x) }
+            (one.step (rules_by catalogue.now l self.old.slots.slots.most) s x) }
         ensures ready { OnOk result
             (AreReady catalogue.now (self.new.totals.octets + 1) self.new.slots) }
         ensures most { self.new.slots.slots.most ≡ self.old.slots.slots.most }
@@ -181,11 +185,11 @@ impl Framing {
         requires running { self.old.stopped ≡ None }
         requires limit { self.old.totals.octets < 2 ^ 48 }
         requires ready { AreReady catalogue.now (self.old.totals.octets + 1) self.old.slots }
-        ensures does { (l : RequestTable) (s : State) →
+        ensures does { (l : Answers) (s : State) →
             IsReached catalogue.now l self.old.slots.slots.most s →
             Shows catalogue.now l (framing_view self.old) s →
             Does catalogue.now l result (O.log out.old) (O.log out.new) (framing_view self.new)
-            (one.step (rules catalogue.now l self.old.slots.slots.most) s octet) }
+            (one.step (rules_by catalogue.now l self.old.slots.slots.most) s octet) }
         ensures ready { OnOk result
             (AreReady catalogue.now (self.new.totals.octets + 1) self.new.slots) }
         ensures most { self.new.slots.slots.most ≡ self.old.slots.slots.most }
@@ -202,23 +206,36 @@ impl Framing {
     }
 
     /// An octet of a payload.
-    fn payload_octet<O: Out>(
+    fn payload_octet<O: Out, Q: Correspondent>(
         &mut self,
         catalogue: &Catalogue,
-        requests: &Requests,
+        correspondent: &mut Q,
         octet: u8,
         out: &mut O,
     ) -> Result<(), OutFault>
         requires full { length self.old.header.items ≡ 12 }
         requires running { self.old.stopped ≡ None }
         requires limit { self.old.totals.octets < 2 ^ 48 }
-        requires of { AreOf catalogue.now requests.now }
+        requires known { AreKnown catalogue.now (Q.answer (Q.state correspondent.old)) }
         requires ready { AreReady catalogue.now (self.old.totals.octets + 1) self.old.slots }
-        ensures does { (s : State) →
-            IsReached catalogue.now requests.now self.old.slots.slots.most s →
-            Shows catalogue.now requests.now (framing_view self.old) s →
-            Does catalogue.now requests.now result (O.log out.old) (O.log out.new) (framing_view self.new)
-            (one.step (rules catalogue.now requests.now self.old.slots.slots.most) s octet) }
+        ensures known { AreKnown catalogue.now (Q.answer (Q.state correspondent.new)) }
+        ensures does { (a : Answers) (s : State)
+            (r : IsReached catalogue.now a self.old.slots.slots.most s) →
+            Shows catalogue.now a (framing_view self.old) s →
+            AgreesAtEnds Q.answer Q.notified catalogue.now (Q.state correspondent.old) a
+            (current_header_ends (rules_by catalogue.now a self.old.slots.slots.most)
+            r.stream (cut r.stream).current (octet ∷ [])) →
+            Does catalogue.now a result (O.log out.old) (O.log out.new) (framing_view self.new)
+            (one.step (rules_by catalogue.now a self.old.slots.slots.most) s octet) }
+        ensures told { IfOk result (λ _. (a : Answers) (s : State)
+            (r : IsReached catalogue.now a self.old.slots.slots.most s) →
+            Shows catalogue.now a (framing_view self.old) s →
+            AgreesAtEnds Q.answer Q.notified catalogue.now (Q.state correspondent.old) a
+            (current_header_ends (rules_by catalogue.now a self.old.slots.slots.most)
+            r.stream (cut r.stream).current (octet ∷ [])) →
+            Q.state correspondent.new ≡ after_ends Q.notified catalogue.now
+            (Q.state correspondent.old) (current_header_ends (rules_by catalogue.now a self.old.slots.slots.most)
+            r.stream (cut r.stream).current (octet ∷ []))) }
         ensures ready { OnOk result
             (AreReady catalogue.now (self.new.totals.octets + 1) self.new.slots) }
         ensures most { self.new.slots.slots.most ≡ self.old.slots.slots.most }
@@ -226,27 +243,40 @@ impl Framing {
         self.totals.octets += 1;
         self.payload_count = self.payload_count.saturating_add(1);
         let now = self.current();
-        let faults = dispatch::octet(&mut self.slots, catalogue, requests, octet, now, out)?;
+        let faults = dispatch::octet(&mut self.slots, catalogue, correspondent, octet, now, out)?;
         self.totals.faults += u64::from(faults);
         self.end_message(size_of(&now.header));
         Ok(())
     }
 
     /// An octet of the stream.
-    pub fn step<O: Out>(
+    pub fn step<O: Out, Q: Correspondent>(
         &mut self,
         catalogue: &Catalogue,
-        requests: &Requests,
+        correspondent: &mut Q,
         octet: u8,
         out: &mut O,
     ) -> Result<(), OutFault>
-        requires of { AreOf catalogue.now requests.now }
+        requires known { AreKnown catalogue.now (Q.answer (Q.state correspondent.old)) }
         requires ready { AreReady catalogue.now (self.old.totals.octets + 1) self.old.slots }
-        ensures does { (s : State) →
-            IsReached catalogue.now requests.now self.old.slots.slots.most s →
-            Shows catalogue.now requests.now (framing_view self.old) s →
-            Does catalogue.now requests.now result (O.log out.old) (O.log out.new) (framing_view self.new)
-            (one.step (rules catalogue.now requests.now self.old.slots.slots.most) s octet) }
+        ensures known { AreKnown catalogue.now (Q.answer (Q.state correspondent.new)) }
+        ensures does { (a : Answers) (s : State)
+            (r : IsReached catalogue.now a self.old.slots.slots.most s) →
+            Shows catalogue.now a (framing_view self.old) s →
+            AgreesAtEnds Q.answer Q.notified catalogue.now (Q.state correspondent.old) a
+            (header_ends_at (rules_by catalogue.now a self.old.slots.slots.most)
+            r.stream octet) →
+            Does catalogue.now a result (O.log out.old) (O.log out.new) (framing_view self.new)
+            (one.step (rules_by catalogue.now a self.old.slots.slots.most) s octet) }
+        ensures told { IfOk result (λ _. (a : Answers) (s : State)
+            (r : IsReached catalogue.now a self.old.slots.slots.most s) →
+            Shows catalogue.now a (framing_view self.old) s →
+            AgreesAtEnds Q.answer Q.notified catalogue.now (Q.state correspondent.old) a
+            (header_ends_at (rules_by catalogue.now a self.old.slots.slots.most)
+            r.stream octet) →
+            Q.state correspondent.new ≡ after_ends Q.notified catalogue.now
+            (Q.state correspondent.old) (header_ends_at (rules_by catalogue.now a self.old.slots.slots.most)
+            r.stream octet)) }
         ensures ready { OnOk result
             (AreReady catalogue.now (self.new.totals.octets + 1) self.new.slots) }
         ensures most { self.new.slots.slots.most ≡ self.old.slots.slots.most }
@@ -260,7 +290,7 @@ impl Framing {
         if self.header.len() < 12 {
             self.header_octet(catalogue, octet, out)
         } else {
-            self.payload_octet(catalogue, requests, octet, out)
+            self.payload_octet(catalogue, correspondent, octet, out)
         }
     }
 }

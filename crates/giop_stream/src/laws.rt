@@ -4,7 +4,10 @@ ghost use Rattle.std.specs.Prelude.{◌≡◌, ◌≤◌, ◌<◌, ◌==◌, ◌
 ghost use Rattle.std.specs.List.{remove};
 ghost use Rattle.giop_checkpoint.specs.declared.fault.StreamFault.{StreamFault};
 ghost use Rattle.giop_message.specs.MessageReader.{MessageReader, IsCausal, IsEnding, IsStreamable};
-ghost use Rattle.giop_stream.specs.Rules.{Rules};
+ghost use Rattle.giop_sig.specs.Table.{Table};
+ghost use Rattle.giop_message.specs.Signatures.{Answers};
+ghost use Rattle.giop_stream.specs.AnswersAgree.{AnswersAgree};
+ghost use Rattle.giop_stream.specs.Rules.{Rules, rules_by};
 ghost use Rattle.giop_stream.specs.Framing.{cut, limit, messages};
 ghost use Rattle.giop_stream.specs.Events.{Event, Open, Opens, Continues, events, open_after, joined, Rising};
 ghost use Rattle.giop_stream.specs.Shares.{shares};
@@ -13,6 +16,8 @@ ghost use Rattle.giop_stream.specs.Text.{lines_text};
 ghost use Rattle.giop_stream.specs.Stream.{text, tally, final, closing};
 ghost use Rattle.giop_stream.specs.Effects.{Tracked, tracked_at, octets_then, stays, goes, IsNotOpen, slots_at};
 ghost use Rattle.giop_stream.specs.EngineState.{state_of};
+ghost use Rattle.giop_stream.specs.EngineView.{EngineView};
+ghost use Rattle.giop_stream.specs.EngineHolds.{HoldsBy};
 ghost use Rattle.giop_stream.specs.EngineStep.{fresh, step, run, run_state, finish, final_totals};
 
 // The functions here have no body, and are called for their contracts.
@@ -117,4 +122,15 @@ pub fn counts_are_bounded()
     // and the stream one, its stream fault or the truncated end.
     ensures all_faults { (R : Rules) → IsCausal R.reading → IsStreamable R.reading → (p : List ℕ) →
         (final R p).faults ≤ suc (final R p).messages }
+{}
+
+/// What the ids of a message answer makes no difference before its header ends. By answers that agree for the others, a
+/// stream has the same text and the same state, and an engine that holds it by the ones holds it by the others.
+pub fn answers_agree()
+    ensures text { (C : Table) (a b : Answers) (n : ℕ) (p : List ℕ) → AnswersAgree n p a b →
+        text (rules_by C a n) p ≡ text (rules_by C b n) p }
+    ensures state { (C : Table) (a b : Answers) (n : ℕ) (p : List ℕ) → AnswersAgree n p a b →
+        state_of (rules_by C a n) p ≡ state_of (rules_by C b n) p }
+    ensures held { (e : EngineView) (a b : Answers) (p : List ℕ) → AnswersAgree e.most p a b →
+        HoldsBy e a p → HoldsBy e b p }
 {}

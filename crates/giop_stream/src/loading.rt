@@ -3,7 +3,7 @@
 ghost use Rattle.std.specs.Prelude.{◌≡◌, ℕ, List, ◌+◌, ◌<◌, ◌≤◌, ◌^◌, ◌*◌, length, drop, true, Option, Some, None, IfOk, IfErr, IfSome, IsSomeAnd, [], ◌∷◌, ◌++◌, flat_map, replicate};
 ghost use Rattle.giop_sig.specs.Table.{Table};
 ghost use Rattle.giop_message.specs.MessageState.{Follows};
-ghost use Rattle.giop_message.specs.Signatures.{RequestTable};
+ghost use Rattle.giop_message.specs.Signatures.{RequestTable, Answers, by_list};
 ghost use Rattle.giop_message.specs.Stored.{Stored};
 ghost use Rattle.giop_message.specs.declared.message.Message.{Message as CodeMessage};
 ghost use Rattle.giop_checkpoint.specs.Records.{AreRecords, entry_octets, used};
@@ -48,7 +48,7 @@ pub fn read(
     ensures again { (n : ℕ) (p : List ℕ) →
         Spells octets.now catalogue.now requests.now n p →
         OrNoMemory result (λ f. (f.slots.slots.most ≡ n)
-        × Shows catalogue.now requests.now (framing_view f)
+        × Shows catalogue.now (by_list requests.now) (framing_view f)
         (state_of (rules catalogue.now requests.now n) p)) }
 {
     let (fixed, records) = match fixed_part(octets, counts_of(catalogue, requests)) {
@@ -77,7 +77,7 @@ fn framing_of(catalogue: &Catalogue, fixed: Fixed, records: &[u8], slots: Slots)
         (s : Spells octets catalogue.now l n p) →
         fixed ≡ fixed_of catalogue.now l s.memory →
         records.now ≡ flat_map entry_octets s.entries →
-        IsSomeAnd result (λ f. Shows catalogue.now l (framing_view f)
+        IsSomeAnd result (λ f. Shows catalogue.now (by_list l) (framing_view f)
         (state_of (rules catalogue.now l n) p)) }
 {
     let mut slots = slots;
@@ -195,7 +195,7 @@ fn add_all(
     requires ready { AreReady catalogue.now (octets + 1) slots.old }
     ensures ready { result ≡ true → AreReady catalogue.now (octets + 1) slots.new }
     ensures none { count ≡ 0 → (result ≡ true) × (slots.new ≡ slots.old) }
-    ensures again { (l : RequestTable) (held : List Held) (own : Option Own) →
+    ensures again { (l : Answers) (held : List Held) (own : Option Own) →
         AreLeft catalogue.now l (octets + 1) count records.now held own →
         length slots.old.slots.entries + length held ≤ slots.old.slots.most → slots.old.own ≡ None →
         (result ≡ true) × HasAdded catalogue.now l slots.old slots.new held
@@ -225,7 +225,7 @@ fn add_first<'a>(
     requires ready { AreReady catalogue.now (octets + 1) slots.old }
     ensures ready { IfSome result (λ rest. AreReady catalogue.now (octets + 1) slots.new) }
     ensures rest { IfSome result (λ rest. rest.now ≡ drop (used records.now) records.now) }
-    ensures again { (l : RequestTable) (count : ℕ) (held : List Held) (own : Option Own) →
+    ensures again { (l : Answers) (count : ℕ) (held : List Held) (own : Option Own) →
         (count ≡ 0 → ⊥) → AreLeft catalogue.now l (octets + 1) count records.now held own →
         length slots.old.slots.entries + length held ≤ slots.old.slots.most →
         IsSomeAnd result (λ rest. HasAddedFirst catalogue.now l (octets + 1) count
@@ -246,12 +246,12 @@ fn add(slots: &mut Slots, catalogue: &Catalogue, octets: u64, first: &FirstRecor
     requires range { octets ≤ 2 ^ 48 + 1 }
     requires ready { AreReady catalogue.now (octets + 1) slots.old }
     ensures ready { result ≡ true → AreReady catalogue.now (octets + 1) slots.new }
-    ensures one_open { (l : RequestTable) (held : Held) →
+    ensures one_open { (l : Answers) (held : Held) →
         IsOpenEntry catalogue.now l (octets + 1) first.now held →
         length slots.old.slots.entries < slots.old.slots.most →
         (result ≡ true) × HasAdded catalogue.now l slots.old slots.new (held ∷ [])
         × (slots.new.own ≡ slots.old.own) }
-    ensures one_current { (l : RequestTable) (own : Own) →
+    ensures one_current { (l : Answers) (own : Own) →
         IsCurrentEntry catalogue.now l (octets + 1) first.now own →
         (result ≡ true) × (slots.new.slots ≡ slots.old.slots)
         × IsOwn catalogue.now l slots.new.own (Some own) }
@@ -275,7 +275,7 @@ fn add_current(
     requires ready { AreReady catalogue.now (octets + 1) slots.old }
     ensures ready { result ≡ true → AreReady catalogue.now (octets + 1) slots.new }
     ensures same { slots.new.slots ≡ slots.old.slots }
-    ensures again { (l : RequestTable) (own : Own) →
+    ensures again { (l : Answers) (own : Own) →
         IsCurrentEntry catalogue.now l (octets + 1) first.now own →
         (result ≡ true) × IsOwn catalogue.now l slots.new.own (Some own) }
     ensures most { slots.new.slots.most ≡ slots.old.slots.most }
@@ -296,7 +296,7 @@ fn add_open(
     requires ready { AreReady catalogue.now (octets + 1) slots.old }
     ensures ready { result ≡ true → AreReady catalogue.now (octets + 1) slots.new }
     ensures own { slots.new.own ≡ slots.old.own }
-    ensures again { (l : RequestTable) (held : Held) →
+    ensures again { (l : Answers) (held : Held) →
         IsOpenEntry catalogue.now l (octets + 1) first.now held →
         first.now.record.record_kind ≡ record_kinds.Open id →
         length slots.old.slots.entries < slots.old.slots.most →
@@ -311,7 +311,7 @@ fn add_open(
 fn add_over(slots: &mut Slots, first: &FirstRecord<'_>, id: u32) -> bool
     ensures ready { (C : Table) (n : ℕ) → AreReady C n slots.old → AreReady C n slots.new }
     ensures own { slots.new.own ≡ slots.old.own }
-    ensures again { (C : Table) (l : RequestTable) (n : ℕ) (held : Held) →
+    ensures again { (C : Table) (l : Answers) (n : ℕ) (held : Held) →
         IsOpenEntry C l n first.now held →
         first.now.record.record_kind ≡ record_kinds.Over id →
         length slots.old.slots.entries < slots.old.slots.most →
@@ -345,7 +345,7 @@ fn push(slots: &mut Slots, first: &FirstRecord<'_>, id: u32, message: Option<Mes
 /// The message that a record stores, where its fields are valid and it has no more octets than the stream.
 fn message_of(catalogue: &Catalogue, octets: u64, first: &FirstRecord<'_>) -> Option<Message>
     ensures ready { IsReady catalogue.now (octets + 1) result }
-    ensures again { (m : CodeMessage) (l : RequestTable) (n : ℕ) (h xs : List ℕ) →
+    ensures again { (m : CodeMessage) (l : Answers) (n : ℕ) (h xs : List ℕ) →
         IsReady catalogue.now (octets + 1) (Some m) →
         m.number ≡ first.now.record.number → m.header ≡ first.now.record.header →
         Stored m first.now.message first.now.frames.now → Follows catalogue.now l n h m xs →

@@ -2,20 +2,22 @@
 
 ghost use Rattle.std.specs.Prelude.{◌≡◌, ◌+◌, ◌≤◌, ◌^◌, ℕ, List, length, Option, None, OnOk, IfOk, if◌then◌else◌};
 ghost use Rattle.giop_sig.specs.Table.{Table};
-ghost use Rattle.giop_message.specs.Signatures.{RequestTable};
+ghost use Rattle.giop_message.specs.Signatures.{Answers};
 ghost use Rattle.giop_message.specs.ReaderOfTable.{message_reader};
-ghost use Rattle.giop_message.specs.MessageState.{AreOf};
+ghost use Rattle.giop_message.specs.MessageState.{AreKnown};
 ghost use Rattle.giop_stream.specs.Events.{MessageKey, Faults, Closes};
 ghost use Rattle.giop_stream.specs.Effects.{part_of, lines_of};
 ghost use Rattle.giop_stream.specs.SlotsRepresent.{RepresentsMessage, IsReady, event};
 ghost use Rattle.giop_stream.specs.DoesEffect.{DoesPart, WritesLines, one_if};
 ghost use Rattle.giop_stream.specs.PayloadRuns.{run_part};
+ghost use Rattle.giop_stream.specs.HeaderEndsOfStream.{run_header_ends};
+ghost use Rattle.giop_message.specs.HeaderEnds.{AgreesAtEnds, after_ends};
 
 use crate::fault::FramingFault;
 use crate::lines::framing_fault_line;
-use giop_message::Message;
+use giop_message::{Correspondent, Message};
 use giop_print::{Out, OutFault};
-use giop_sig::{Catalogue, Requests};
+use giop_sig::Catalogue;
 
 /// Drops a message that is over. It is a function of its own, so that what runs at every octet needs no stack for it.
 fn forget(message: &mut Option<Message>)
@@ -25,28 +27,39 @@ fn forget(message: &mut Option<Message>)
 }
 
 /// Feeds octets to a message, after so many of the stream; returns whether one of them faults it.
-pub fn take_octets<O: Out>(
+pub fn take_octets<O: Out, Q: Correspondent>(
     message: &mut Option<Message>,
     catalogue: &Catalogue,
-    requests: &Requests,
+    correspondent: &mut Q,
     octets: &[u8],
     before: u64,
     out: &mut O,
 ) -> Result<bool, OutFault>
     requires ready { IsReady catalogue.now (before + 1) message.old }
-    requires of { AreOf catalogue.now requests.now }
+    requires known { AreKnown catalogue.now (Q.answer (Q.state correspondent.old)) }
     requires limit { before + length octets.now ≤ 2 ^ 48 }
-    ensures does { (w : MessageKey) (o : Option (List ℕ)) →
-        RepresentsMessage catalogue.now requests.now message.old w o →
-        DoesPart catalogue.now requests.now one_if result (O.log out.old) (O.log out.new)
-        message.new w (run_part catalogue.now requests.now before w o octets.now) }
+    ensures known { AreKnown catalogue.now (Q.answer (Q.state correspondent.new)) }
+    ensures does { (a : Answers) (w : MessageKey) (o : Option (List ℕ)) →
+        RepresentsMessage catalogue.now a message.old w o →
+        AgreesAtEnds Q.answer Q.notified catalogue.now (Q.state correspondent.old) a
+        (run_header_ends w o octets.now) →
+        DoesPart catalogue.now a one_if result (O.log out.old) (O.log out.new)
+        message.new w (run_part catalogue.now a before w o octets.now) }
+    ensures told { IfOk result (λ _. (a : Answers) (w : MessageKey) (o : Option (List ℕ)) →
+        RepresentsMessage catalogue.now a message.old w o →
+        AgreesAtEnds Q.answer Q.notified catalogue.now (Q.state correspondent.old) a
+        (run_header_ends w o octets.now) →
+        Q.state correspondent.new ≡ after_ends Q.notified catalogue.now
+        (Q.state correspondent.old) (run_header_ends w o octets.now)) }
     ensures ready { OnOk result
         (IsReady catalogue.now (before + length octets.now + 1) message.new) }
 {
     let Some(m) = message else {
         return Ok(false);
     };
-    if m.take(catalogue, requests, octets, before, out)?.is_none() {
+    if m.take(catalogue, correspondent, octets, before, out)?
+        .is_none()
+    {
         return Ok(false);
     }
     forget(message);
@@ -61,7 +74,7 @@ pub fn fault_message<O: Out>(
     place: u64,
     out: &mut O,
 ) -> Result<bool, OutFault>
-    ensures does { (C : Table) (l : RequestTable) (w : MessageKey) (o : Option (List ℕ)) →
+    ensures does { (C : Table) (l : Answers) (w : MessageKey) (o : Option (List ℕ)) →
         RepresentsMessage C l message.old w o → w.number ≡ number →
         DoesPart C l one_if result (O.log out.old) (O.log out.new) message.new w
         (part_of (message_reader C l) (event place w (Faults fault)) o) }
@@ -82,7 +95,7 @@ pub fn close_message<O: Out>(
     out: &mut O,
 ) -> Result<bool, OutFault>
     requires ready { IsReady catalogue.now (place + 1) message }
-    ensures { (l : RequestTable) (w : MessageKey) (o : Option (List ℕ)) → RepresentsMessage catalogue.now l message w o →
+    ensures { (l : Answers) (w : MessageKey) (o : Option (List ℕ)) → RepresentsMessage catalogue.now l message w o →
         WritesLines one_if result (O.log out.old) (O.log out.new)
         (lines_of (message_reader catalogue.now l) (event place w Closes) o) }
 {

@@ -1,26 +1,30 @@
 //! Takes a piece of a stream in runs: octets that only add to a header, or only to the contents of a message.
 
-ghost use Rattle.std.specs.Prelude.{◌≡◌, ◌+◌, ◌*◌, ◌++◌, ◌^◌, ◌≤◌, ◌<◌, ℕ, List, length, take, [], None, OnOk, if◌then◌else◌};
+ghost use Rattle.std.specs.Prelude.{◌≡◌, ◌+◌, ◌*◌, ◌++◌, ◌^◌, ◌≤◌, ◌<◌, ℕ, List, length, take, [], None, OnOk, IfOk, if◌then◌else◌};
 
 use crate::framing::{Framing, LIMIT};
 use crate::header::{begins_right, size_of, wrong_in};
 use arrayvec::ArrayVec;
+use giop_message::Correspondent;
 use giop_print::{Out, OutFault};
-use giop_sig::{Catalogue, Requests};
+use giop_sig::Catalogue;
 
 impl Framing {
     ghost use Rattle.giop_print.specs.Output.{Writes};
     ghost use Rattle.giop_sig.specs.Table.{Table};
-    ghost use Rattle.giop_message.specs.Signatures.{RequestTable};
-    ghost use Rattle.giop_stream.specs.Rules.{rules};
+    ghost use Rattle.giop_message.specs.Signatures.{Answers};
+    ghost use Rattle.giop_stream.specs.Rules.{rules_by};
     ghost use Rattle.giop_message.specs.Headers.{size};
     ghost use Rattle.giop_stream.specs.HeaderOctets.{wrong};
     ghost use Rattle.giop_stream.specs.SlotsRepresent.{AreReady};
     ghost use Rattle.giop_stream.specs.EngineState.{State};
     ghost use Rattle.giop_stream.specs.EngineStep as one;
     ghost use Rattle.giop_stream.specs.FramingView.{framing_view};
+    ghost use Rattle.giop_stream.specs.Framing.{cut};
+    ghost use Rattle.giop_stream.specs.HeaderEndsOfStream.{current_header_ends, header_ends_from};
+    ghost use Rattle.giop_message.specs.HeaderEnds.{AgreesAtEnds, after_ends};
     ghost use Rattle.giop_stream.specs.ViewOfState.{Shows, IsReached, Does};
-    ghost use Rattle.giop_stream.specs.EngineHolds.{AreOf};
+    ghost use Rattle.giop_message.specs.MessageState.{AreKnown};
 
     /// How many of the next octets only add to a message's contents: none is the last of its request id or of it.
     fn payload_run(&self, room: usize) -> usize
@@ -42,10 +46,10 @@ impl Framing {
     }
 
     /// Takes octets that only add to a message's contents.
-    fn run<O: Out>(
+    fn run<O: Out, Q: Correspondent>(
         &mut self,
         catalogue: &Catalogue,
-        requests: &Requests,
+        correspondent: &mut Q,
         octets: &[u8],
         out: &mut O,
     ) -> Result<(), OutFault>
@@ -55,13 +59,26 @@ impl Framing {
         requires before_last { self.old.payload_count + length octets.now < size self.old.header.items }
         requires limit { self.old.totals.octets + length octets.now ≤ 2 ^ 48 }
         requires some { 0 < length octets.now }
-        requires of { AreOf catalogue.now requests.now }
+        requires known { AreKnown catalogue.now (Q.answer (Q.state correspondent.old)) }
         requires ready { AreReady catalogue.now (self.old.totals.octets + 1) self.old.slots }
-        ensures does { (s : State) →
-            IsReached catalogue.now requests.now self.old.slots.slots.most s →
-            Shows catalogue.now requests.now (framing_view self.old) s →
-            Does catalogue.now requests.now result (O.log out.old) (O.log out.new) (framing_view self.new)
-            (one.runs (rules catalogue.now requests.now self.old.slots.slots.most) s octets.now) }
+        ensures known { AreKnown catalogue.now (Q.answer (Q.state correspondent.new)) }
+        ensures does { (a : Answers) (s : State)
+            (r : IsReached catalogue.now a self.old.slots.slots.most s) →
+            Shows catalogue.now a (framing_view self.old) s →
+            AgreesAtEnds Q.answer Q.notified catalogue.now (Q.state correspondent.old) a
+            (current_header_ends (rules_by catalogue.now a self.old.slots.slots.most)
+            r.stream (cut r.stream).current octets.now) →
+            Does catalogue.now a result (O.log out.old) (O.log out.new) (framing_view self.new)
+            (one.runs (rules_by catalogue.now a self.old.slots.slots.most) s octets.now) }
+        ensures told { IfOk result (λ _. (a : Answers) (s : State)
+            (r : IsReached catalogue.now a self.old.slots.slots.most s) →
+            Shows catalogue.now a (framing_view self.old) s →
+            AgreesAtEnds Q.answer Q.notified catalogue.now (Q.state correspondent.old) a
+            (current_header_ends (rules_by catalogue.now a self.old.slots.slots.most)
+            r.stream (cut r.stream).current octets.now) →
+            Q.state correspondent.new ≡ after_ends Q.notified catalogue.now
+            (Q.state correspondent.old) (current_header_ends (rules_by catalogue.now a self.old.slots.slots.most)
+            r.stream (cut r.stream).current octets.now)) }
         ensures ready { OnOk result
             (AreReady catalogue.now (self.new.totals.octets + 1) self.new.slots) }
         ensures most { self.new.slots.slots.most ≡ self.old.slots.slots.most }
@@ -70,7 +87,9 @@ impl Framing {
         self.totals.octets += octets.len() as u64;
         let payload_count = u32::try_from(octets.len()).unwrap_or(u32::MAX);
         self.payload_count = self.payload_count.saturating_add(payload_count);
-        let faulted = self.slots.take(catalogue, requests, octets, before, out)?;
+        let faulted = self
+            .slots
+            .take(catalogue, correspondent, octets, before, out)?;
         self.totals.faults += u64::from(faulted);
         Ok(())
     }
@@ -114,11 +133,11 @@ impl Framing {
         requires limit { self.old.totals.octets + length octets.now ≤ 2 ^ 48 }
         requires right { (k : ℕ) → k < length octets.now →
             wrong (self.old.header.items ++ take (k + 1) octets.now) ≡ None }
-        ensures shows { (C : Table) (l : RequestTable) (s : State) → Shows C l (framing_view self.old) s →
+        ensures shows { (C : Table) (l : Answers) (s : State) → Shows C l (framing_view self.old) s →
             Shows C l (framing_view self.new)
-            (one.run_state (rules C l self.old.slots.slots.most) s octets.now) }
-        ensures lines { (C : Table) (l : RequestTable) (s : State) → Shows C l (framing_view self.old) s →
-            one.run (rules C l self.old.slots.slots.most) s octets.now ≡ [] }
+            (one.run_state (rules_by C l self.old.slots.slots.most) s octets.now) }
+        ensures lines { (C : Table) (l : Answers) (s : State) → Shows C l (framing_view self.old) s →
+            one.run (rules_by C l self.old.slots.slots.most) s octets.now ≡ [] }
         ensures ready { (C : Table) → AreReady C (self.old.totals.octets + 1) self.old.slots →
             AreReady C (self.new.totals.octets + 1) self.new.slots }
         ensures most { self.new.slots.slots.most ≡ self.old.slots.slots.most }
@@ -128,20 +147,33 @@ impl Framing {
     }
 
     /// Takes the octets of a piece, in runs where that is possible.
-    pub fn steps<O: Out>(
+    pub fn steps<O: Out, Q: Correspondent>(
         &mut self,
         catalogue: &Catalogue,
-        requests: &Requests,
+        correspondent: &mut Q,
         piece: &[u8],
         out: &mut O,
     ) -> Result<(), OutFault>
-        requires of { AreOf catalogue.now requests.now }
+        requires known { AreKnown catalogue.now (Q.answer (Q.state correspondent.old)) }
         requires ready { AreReady catalogue.now (self.old.totals.octets + 1) self.old.slots }
-        ensures does { (s : State) →
-            IsReached catalogue.now requests.now self.old.slots.slots.most s →
-            Shows catalogue.now requests.now (framing_view self.old) s →
-            Does catalogue.now requests.now result (O.log out.old) (O.log out.new) (framing_view self.new)
-            (one.runs (rules catalogue.now requests.now self.old.slots.slots.most) s piece.now) }
+        ensures known { AreKnown catalogue.now (Q.answer (Q.state correspondent.new)) }
+        ensures does { (a : Answers) (s : State)
+            (r : IsReached catalogue.now a self.old.slots.slots.most s) →
+            Shows catalogue.now a (framing_view self.old) s →
+            AgreesAtEnds Q.answer Q.notified catalogue.now (Q.state correspondent.old) a
+            (header_ends_from (rules_by catalogue.now a self.old.slots.slots.most)
+            r.stream piece.now) →
+            Does catalogue.now a result (O.log out.old) (O.log out.new) (framing_view self.new)
+            (one.runs (rules_by catalogue.now a self.old.slots.slots.most) s piece.now) }
+        ensures told { IfOk result (λ _. (a : Answers) (s : State)
+            (r : IsReached catalogue.now a self.old.slots.slots.most s) →
+            Shows catalogue.now a (framing_view self.old) s →
+            AgreesAtEnds Q.answer Q.notified catalogue.now (Q.state correspondent.old) a
+            (header_ends_from (rules_by catalogue.now a self.old.slots.slots.most)
+            r.stream piece.now) →
+            Q.state correspondent.new ≡ after_ends Q.notified catalogue.now
+            (Q.state correspondent.old) (header_ends_from (rules_by catalogue.now a self.old.slots.slots.most)
+            r.stream piece.now)) }
         ensures ready { OnOk result
             (AreReady catalogue.now (self.new.totals.octets + 1) self.new.slots) }
         ensures most { self.new.slots.slots.most ≡ self.old.slots.slots.most }
@@ -154,10 +186,10 @@ impl Framing {
                 self.take_header_octets(&rest[..header_run]);
                 rest = &rest[header_run..];
             } else if payload_run == 0 {
-                self.step(catalogue, requests, *octet, out)?;
+                self.step(catalogue, correspondent, *octet, out)?;
                 rest = &rest[1..];
             } else {
-                self.run(catalogue, requests, &rest[..payload_run], out)?;
+                self.run(catalogue, correspondent, &rest[..payload_run], out)?;
                 rest = &rest[payload_run..];
             }
         }

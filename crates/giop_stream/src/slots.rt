@@ -3,8 +3,8 @@
 ghost use Rattle.std.specs.Prelude.{◌≡◌, ◌+◌, ◌≤◌, ◌^◌, ℕ, [], length, Option, Some, None, OnOk, IfOk, if◌then◌else◌};
 ghost use Rattle.giop_print.specs.Output.{Writes};
 ghost use Rattle.giop_sig.specs.Table.{Table};
-ghost use Rattle.giop_message.specs.Signatures.{RequestTable};
-ghost use Rattle.giop_message.specs.MessageState.{AreOf};
+ghost use Rattle.giop_message.specs.Signatures.{Answers};
+ghost use Rattle.giop_message.specs.MessageState.{AreKnown};
 ghost use Rattle.giop_stream.specs.Events.{MessageKey, Faults, Closes};
 ghost use Rattle.giop_stream.specs.Rules.{most_open};
 ghost use Rattle.giop_stream.specs.Effects.{Tracked, IsNotOpen};
@@ -12,9 +12,9 @@ ghost use Rattle.giop_stream.specs.Effects.{Tracked, IsNotOpen};
 use crate::fault::FramingFault;
 use crate::open_message::{close_message, fault_message, take_octets};
 use giop_entry_table::EntryTable;
-use giop_message::Message;
+use giop_message::{Correspondent, Message};
 use giop_print::{Out, OutFault, cancelled_line, unfinished_line};
-use giop_sig::{Catalogue, Requests};
+use giop_sig::Catalogue;
 use std::alloc::{AllocError, Global};
 
 /// How many messages may be open at once, at most.
@@ -61,6 +61,8 @@ impl Slots {
     ghost use Rattle.giop_stream.specs.DoesEffect.{DoesEffect, one_if, never};
     ghost use Rattle.giop_stream.specs.OpenSlots.{Slot as Held, left_open};
     ghost use Rattle.giop_stream.specs.PayloadRuns.{run_effect};
+    ghost use Rattle.giop_stream.specs.HeaderEndsOfStream.{owner_header_ends};
+    ghost use Rattle.giop_message.specs.HeaderEnds.{AgreesAtEnds, after_ends};
 
     /// No message, where so many may be open.
     pub fn new(alloc: Global, most: usize) -> Result<Slots, AllocError>
@@ -112,7 +114,7 @@ impl Slots {
 
     /// The lines of the open messages that have neither ended nor been faulted, by number.
     pub fn unfinished<O: Out>(&self, out: &mut O) -> Result<(), OutFault>
-        ensures { (C : Table) (l : RequestTable) (slots : List Held) →
+        ensures { (C : Table) (l : Answers) (slots : List Held) →
             AreSlots C l self.now.slots.entries slots →
             Writes result (O.log out.old) (O.log out.new)
             (flat_map unfinished_line (flat_map left_open slots)) }
@@ -127,30 +129,53 @@ impl Slots {
     }
 
     /// Feeds octets of the payload, after so many of the stream, to their owner; returns whether one of them faults it.
-    pub fn take<O: Out>(
+    pub fn take<O: Out, Q: Correspondent>(
         &mut self,
         catalogue: &Catalogue,
-        requests: &Requests,
+        correspondent: &mut Q,
         octets: &[u8],
         before: u64,
         out: &mut O,
     ) -> Result<bool, OutFault>
         requires ready { AreReady catalogue.now (before + 1) self.old }
-        requires of { AreOf catalogue.now requests.now }
+        requires known { AreKnown catalogue.now (Q.answer (Q.state correspondent.old)) }
         requires limit { before + length octets.now ≤ 2 ^ 48 }
-        ensures does { (c : Tracked) (owner_of_next : Option MessageKey) →
-            SlotsRepresent catalogue.now requests.now self.old c owner_of_next → Rising c.still_open →
-            DoesEffect catalogue.now requests.now one_if result (O.log out.old) (O.log out.new)
-            self.new (run_effect catalogue.now requests.now before c owner_of_next octets.now) owner_of_next }
+        ensures known { AreKnown catalogue.now (Q.answer (Q.state correspondent.new)) }
+        ensures does { (a : Answers) (c : Tracked) (owner_of_next : Option MessageKey) →
+            SlotsRepresent catalogue.now a self.old c owner_of_next → Rising c.still_open →
+            AgreesAtEnds Q.answer Q.notified catalogue.now (Q.state correspondent.old) a
+            (owner_header_ends c owner_of_next octets.now) →
+            DoesEffect catalogue.now a one_if result (O.log out.old) (O.log out.new)
+            self.new (run_effect catalogue.now a before c owner_of_next octets.now) owner_of_next }
+        ensures told { IfOk result (λ _. (a : Answers) (c : Tracked) (owner_of_next : Option MessageKey) →
+            SlotsRepresent catalogue.now a self.old c owner_of_next →
+            AgreesAtEnds Q.answer Q.notified catalogue.now (Q.state correspondent.old) a
+            (owner_header_ends c owner_of_next octets.now) →
+            Q.state correspondent.new ≡ after_ends Q.notified catalogue.now
+            (Q.state correspondent.old) (owner_header_ends c owner_of_next octets.now)) }
         ensures ready { OnOk result
             (AreReady catalogue.now (before + length octets.now + 1) self.new) }
         ensures most { self.new.slots.most ≡ self.old.slots.most }
     {
         match self.payload {
-            Payload::Own => take_octets(&mut self.own, catalogue, requests, octets, before, out),
+            Payload::Own => take_octets(
+                &mut self.own,
+                catalogue,
+                correspondent,
+                octets,
+                before,
+                out,
+            ),
             Payload::Open(k) => match self.slots.get_mut(k) {
                 Some(slot) => {
-                    take_octets(&mut slot.message, catalogue, requests, octets, before, out)
+                    take_octets(
+                        &mut slot.message,
+                        catalogue,
+                        correspondent,
+                        octets,
+                        before,
+                        out,
+                    )
                 }
                 None => Ok(false),
             },
@@ -166,7 +191,7 @@ impl Slots {
         place: u64,
         out: &mut O,
     ) -> Result<bool, OutFault>
-        ensures does { (C : Table) (l : RequestTable) (c : Tracked) (w : MessageKey) →
+        ensures does { (C : Table) (l : Answers) (c : Tracked) (w : MessageKey) →
             SlotsRepresent C l self.old c (Some w) → w.number ≡ number → Rising c.still_open →
             DoesEffect C l one_if result (O.log out.old) (O.log out.new) self.new
             (effect_to C l place c (Some w) (Faults fault)) (Some w) }
@@ -191,7 +216,7 @@ impl Slots {
         out: &mut O,
     ) -> Result<bool, OutFault>
         requires ready { AreReady catalogue.now (place + 1) self.old }
-        ensures does { (l : RequestTable) (c : Tracked) (owner_of_next : Option MessageKey) →
+        ensures does { (l : Answers) (c : Tracked) (owner_of_next : Option MessageKey) →
             SlotsRepresent catalogue.now l self.old c owner_of_next → Rising c.still_open →
             DoesEffect catalogue.now l one_if result (O.log out.old) (O.log out.new) self.new
             (effect_to catalogue.now l place c owner_of_next Closes) None }
@@ -220,7 +245,7 @@ impl Slots {
     /// Makes the current message an open one, under this request id.
     pub fn open(&mut self, number: u64, header: [u8; 12], id: u32)
         requires { length self.old.slots.entries < self.old.slots.most }
-        ensures kept { (C : Table) (l : RequestTable) (c : Tracked) (w : MessageKey) (place : ℕ) →
+        ensures kept { (C : Table) (l : Answers) (c : Tracked) (w : MessageKey) (place : ℕ) →
             SlotsRepresent C l self.old c (Some w) → self.old.payload ≡ Payload.Own →
             w.number ≡ number → w.header ≡ header →
             SlotsRepresent C l self.new (effect_to C l place c (Some w) (Opens id)).tracked (Some w) }
@@ -239,7 +264,7 @@ impl Slots {
 
     /// From now on the payload belongs to the open message at this index.
     pub fn set_open_owner(&mut self, k: usize)
-        ensures kept { (C : Table) (l : RequestTable) (c : Tracked) (owner_of_next : Option MessageKey) (o : Open) →
+        ensures kept { (C : Table) (l : Answers) (c : Tracked) (owner_of_next : Option MessageKey) (o : Open) →
             SlotsRepresent C l self.old c owner_of_next → slice_get c.still_open k ≡ Some o →
             SlotsRepresent C l self.new c (Some o.opener) }
         ensures ready { (C : Table) (n : ℕ) → AreReady C n self.old → AreReady C n self.new }
@@ -251,7 +276,7 @@ impl Slots {
 
     /// From now on the payload belongs to no message.
     pub fn set_no_owner(&mut self)
-        ensures kept { (C : Table) (l : RequestTable) (c : Tracked) (owner_of_next : Option MessageKey) →
+        ensures kept { (C : Table) (l : Answers) (c : Tracked) (owner_of_next : Option MessageKey) →
             SlotsRepresent C l self.old c owner_of_next → SlotsRepresent C l self.new c None }
         ensures ready { (C : Table) (n : ℕ) → AreReady C n self.old → AreReady C n self.new }
         ensures most { self.new.slots.most ≡ self.old.slots.most }
@@ -264,7 +289,7 @@ impl Slots {
 
     /// A message begins: it is the current one, and not open.
     pub fn begin(&mut self, catalogue: &Catalogue, number: u64, header: [u8; 12])
-        ensures kept { (l : RequestTable) (c : Tracked) (owner_of_next : Option MessageKey) (w : MessageKey) →
+        ensures kept { (l : Answers) (c : Tracked) (owner_of_next : Option MessageKey) (w : MessageKey) →
             SlotsRepresent catalogue.now l self.old c owner_of_next → w.number ≡ number → w.header ≡ header →
             c.known w.number ≡ Some [] → IsNotOpen w.number c.still_open →
             SlotsRepresent catalogue.now l self.new c (Some w) }
@@ -278,9 +303,9 @@ impl Slots {
 
     /// The request id of the current message, once its own octets have completed it.
     pub fn request_id(&self) -> u32
-        ensures { (C : Table) (l : RequestTable) (w : MessageKey) (xs : List ℕ) (i : ℕ) →
+        ensures { (C : Table) (l : Answers) (w : MessageKey) (xs : List ℕ) (i : ℕ) →
             RepresentsMessage C l self.now.own w (Some xs) →
-            first_request_id (message_lines (message (signatures_of C l) w.header xs)) ≡ Some i → result ≡ i }
+            first_request_id (message_lines (message (signatures_of C (l w.number)) w.header xs)) ≡ Some i → result ≡ i }
     {
         match &self.own {
             Some(message) => message.request_id().unwrap_or(0),
@@ -304,7 +329,7 @@ impl Slots {
         place: u64,
         out: &mut O,
     ) -> Result<(), OutFault>
-        ensures does { (C : Table) (l : RequestTable) (c : Tracked) (w : MessageKey) (o : Open) →
+        ensures does { (C : Table) (l : Answers) (c : Tracked) (w : MessageKey) (o : Open) →
             SlotsRepresent C l self.old c (Some w) → self.old.payload ≡ Payload.Own →
             slice_get c.still_open k ≡ Some o → Rising c.still_open →
             DoesEffect C l never result (O.log out.old) (O.log out.new) self.new

@@ -26,7 +26,7 @@ use Rattle.giop_message.specs.declared.part.Rest.{Rest}
 use Rattle.giop_message.specs.declared.part.Section.TheVariants as sections
 use Rattle.giop_message.specs.Messages.{message, message_lines}
 use Rattle.giop_message.specs.ReaderOfTable.{id_in, first_id, first_request_id}
-use Rattle.giop_message.specs.Signatures.{signatures_of}
+use Rattle.giop_message.specs.Signatures.{signatures_of, by_list}
 use Rattle.giop_message.specs.MessageState.{Follows}
 use Rattle.giop_message.specs.Stored as messages
 use Rattle.giop_message.specs.Stored.{Stored}
@@ -260,7 +260,7 @@ first_reads = record {
   offset = (refl, (tt, tt));
 }
 
-first_follows : Follows bigs [] 1 (header 40) first (first_front ++ some_octets)
+first_follows : Follows bigs (by_list []) 1 (header 40) first (first_front ++ some_octets)
 unfolding one_message told_with kept_messages first_front some_octets
 first_follows = record {
   same_number = refl;
@@ -269,7 +269,7 @@ first_follows = record {
   at = refl;
   stands = record {
     T = tree bigs parameters;
-    before = message_lines (message (signatures_of bigs []) (header 40) first_front);
+    before = message_lines (message (signatures_of bigs (by_list [] 1)) (header 40) first_front);
     front = first_front;
     octets = some_octets;
     since = refl;
@@ -279,14 +279,14 @@ first_follows = record {
   };
 }
 
-second_follows : Follows bigs [] 2 (header 36) second second_octets
+second_follows : Follows bigs (by_list []) 2 (header 36) second second_octets
 unfolding one_message told_with kept_messages second_octets
 second_follows = record {
   same_number = refl;
   same_header = refl;
   id = refl;
   at = refl;
-  stands = (message_lines (message (signatures_of bigs []) (header 36) second_octets), refl);
+  stands = (message_lines (message (signatures_of bigs (by_list [] 2)) (header 36) second_octets), refl);
 }
 
 -- ---- They fit their table.

@@ -91,21 +91,21 @@ alive R causal laws p = (kept R causal laws p).alive
 -- ---- What does not depend on the reader of messages, shown with one that gives no lines but an end.
 
 mute : MessageReader
-mute = record { reads = λ header xs. []; closes = λ header xs. (End, []) ∷ [] }
+mute = record { reads = λ number header xs. []; closes = λ number header xs. (End, []) ∷ [] }
 
 abbrev mute_rules : ℕ → Rules
 mute_rules most = record { reading = mute; most = most }
 
 mute_causal : IsCausal mute
 unfolding mute
-mute_causal = record { earlier = λ header xs more k h. refl }
+mute_causal = record { earlier = λ number header xs more k h. refl }
 
 silent_streamable : IsStreamable mute
 unfolding mute
 silent_streamable = record {
-  named = record { named = λ header xs name few. tt };
-  ordered = record { ordered = λ header xs k. inl refl };
-  closing = record { closed = λ header xs. inr (inl refl); over = λ header xs x no. absurd cc; one_rest = λ header xs x no. absurd cc };
+  named = record { named = λ number header xs name few. tt };
+  ordered = record { ordered = λ number header xs k. inl refl };
+  closing = record { closed = λ number header xs. inr (inl refl); over = λ number header xs x no. absurd cc; one_rest = λ number header xs x no. absurd cc };
 }
 
 pub few_open : (most : ℕ) (p : List ℕ) → length (open_after most p) ≤ most

@@ -2,9 +2,9 @@
 use Rattle.std.proofs.Common.{◌≡◌, ℕ, suc, ◌+◌, ◌^◌, ◌<◌, ◌≤◌, List, [], ◌∷◌, ◌++◌, length, take, refl, sym, ap, subst, ◌∙◌, append_assoc, append-nil, None, arith}
 use Rattle.std.proofs.lemmas.List.{length_push}
 use Rattle.giop_sig.specs.Table.{Table}
-use Rattle.giop_message.specs.Signatures.{RequestTable}
+use Rattle.giop_message.specs.Signatures.{Answers}
 use Rattle.giop_stream.specs.HeaderOctets.{wrong}
-use Rattle.giop_stream.specs.Rules.{Rules, rules}
+use Rattle.giop_stream.specs.Rules.{Rules, rules_by}
 use Rattle.giop_stream.specs.EngineView.{FramingView}
 use Rattle.giop_stream.specs.EngineState.{State}
 use Rattle.giop_stream.specs.EngineStep.{held_on, run, run_state}
@@ -61,9 +61,9 @@ fit_more m x xs f = record {
   right = right_more m.header x xs f.right;
 }
 
-module _ (C : Table) (l : RequestTable) (most : ℕ) where
+module _ (C : Table) (l : Answers) (most : ℕ) where
   abbrev R : Rules
-  R = rules C l most
+  R = rules_by C l most
 
   pub heads_show : (xs : List ℕ) (m : FramingView) (s : State) → Shows C l m s → Fit m xs →
       Shows C l (held_all m xs) (run_state R s xs)

@@ -6,9 +6,9 @@ use Rattle.std.proofs.lemmas.List.{append_cancel_left}
 use Rattle.giop_print.specs.Output.{OutLog, Writes}
 use Rattle.giop_sig.specs.Table.{Table}
 use Rattle.giop_message.specs.Headers.{size}
-use Rattle.giop_message.specs.Signatures.{RequestTable}
+use Rattle.giop_message.specs.Signatures.{Answers}
 use Rattle.giop_checkpoint.specs.declared.fault.StreamFault.{StreamFault}
-use Rattle.giop_stream.specs.Rules.{rules}
+use Rattle.giop_stream.specs.Rules.{rules_by}
 use Rattle.giop_stream.specs.Framing.{Message, fault_of}
 use Rattle.giop_stream.specs.Events.{Open}
 use Rattle.giop_stream.specs.Lines.{Line, lines}
@@ -25,12 +25,12 @@ use Rattle.giop_stream.proofs.Cuts.CutFrom.{end_message}
 
 -- ---- A call does a step: by the lines and the state of the longer stream.
 
-pub does_by : {A E : Type 0} (C : Table) (l : RequestTable) (most : ℕ) (p q : List ℕ) (one : Step) (ls : List Line) (result : Result A E) (before after : OutLog) (f : FramingView)
-    → (let R = rules C l most in state_of R q ≡ one.state → lines R q ≡ lines R p ++ one.lines
+pub does_by : {A E : Type 0} (C : Table) (l : Answers) (most : ℕ) (p q : List ℕ) (one : Step) (ls : List Line) (result : Result A E) (before after : OutLog) (f : FramingView)
+    → (let R = rules_by C l most in state_of R q ≡ one.state → lines R q ≡ lines R p ++ one.lines
     → lines R q ≡ lines R p ++ ls → Writes result before after (lines_text ls) → OnOk result (Shows C l f (state_of R q))
     → Does C l result before after f one)
 does_by C l most p q one ls result before after f state more grows text shows =
-    let R = rules C l most in
+    let R = rules_by C l most in
     let same : one.lines ≡ ls = append_cancel_left (lines R p) one.lines ls (sym more ∙ grows) in
     record { text = rw same text; shows = subst (λ (s : State). OnOk result (Shows C l f s)) state shows }
 

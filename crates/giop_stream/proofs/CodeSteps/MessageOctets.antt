@@ -9,13 +9,13 @@ use Rattle.giop_print.specs.Output.{OutLog, Writes}
 use Rattle.giop_sig.specs.Table.{Table}
 use Rattle.giop_message.specs.Headers.{size}
 use Rattle.giop_message.specs.MessageReader.{IsCausal}
-use Rattle.giop_message.specs.Signatures.{RequestTable, signatures_of}
+use Rattle.giop_message.specs.Signatures.{Answers, signatures_of}
 use Rattle.giop_message.proofs.MessageLaws.{is_causal}
 use Rattle.giop_stream.specs.declared.status.Totals.{Totals}
 use Rattle.giop_stream.specs.declared.slots.Slots.{Slots}
 use Rattle.giop_stream.specs.declared.current.Current.{Current}
 use Rattle.giop_stream.specs.HeaderOctets.{wrong, first_wrong_octet}
-use Rattle.giop_stream.specs.Rules.{Rules, rules}
+use Rattle.giop_stream.specs.Rules.{Rules, rules_by}
 use Rattle.giop_stream.specs.Framing.{Message, Cut, cut, messages}
 use Rattle.giop_stream.specs.Events.{events_of_octet, open_after}
 use Rattle.giop_stream.specs.Lines.{Line, lines}
@@ -51,28 +51,32 @@ use Rattle.giop_stream.proofs.CodeSteps.MessageEnds.{does_by, settled_on, settle
 -- ---- States that a stream reaches.
 
 -- with more octets
-pub reached_on : (C : Table) (l : RequestTable) (most : ℕ) (s : State) (q : List ℕ) → AreOctets q → IsReached C l most s → IsReached C l most (run_state (rules C l most) s q)
+abbrev pub reached_on : (C : Table) (l : Answers) (most : ℕ) (s : State) (q : List ℕ) → AreOctets q → IsReached C l most s → IsReached C l most (run_state (rules_by C l most) s q)
 reached_on C l most s q octets r =
-    let R = rules C l most in
+    let R = rules_by C l most in
     record {
       stream = r.stream ++ q;
       octets = All-append (λ x. x < 256) r.stream q r.octets octets;
-      held = ap (λ (t : State). run_state R t q) r.held ∙ sym (run_holds R (is_causal (signatures_of C l)) (in_turn C l) r.stream q);
+      held = ap (λ (t : State). run_state R t q) r.held ∙ sym (run_holds R (is_causal (λ number. signatures_of C (l number))) (in_turn C l) r.stream q);
     }
 
 -- with an equal limit of open messages
-pub reached_at : (C : Table) (l : RequestTable) (n most : ℕ) (s : State) → n ≡ most → IsReached C l n s → IsReached C l most s
-reached_at C l n most s same r = subst (λ (k : ℕ). IsReached C l k s) same r
+abbrev pub reached_at : (C : Table) (l : Answers) (n most : ℕ) (s : State) → n ≡ most → IsReached C l n s → IsReached C l most s
+reached_at C l n most s same r = record {
+  stream = r.stream;
+  octets = r.octets;
+  held = r.held ∙ ap (λ (k : ℕ). state_of (rules_by C l k) r.stream) same;
+}
 
-module _ (C : Table) (l : RequestTable) (most : ℕ) (s : State) (reached : IsReached C l most s) (m : FramingView) (h : Shows C l m s) where
+module _ (C : Table) (l : Answers) (most : ℕ) (s : State) (reached : IsReached C l most s) (m : FramingView) (h : Shows C l m s) where
   abbrev R : Rules
-  R = rules C l most
+  R = rules_by C l most
 
   abbrev pub p : List ℕ
   p = reached.stream
 
   causal : IsCausal R.reading
-  causal = is_causal (signatures_of C l)
+  causal = is_causal (λ number. signatures_of C (l number))
 
   so : IsSound R p
   so = sound R causal (in_turn C l) p
@@ -105,7 +109,7 @@ module _ (C : Table) (l : RequestTable) (most : ℕ) (s : State) (reached : IsRe
     unfolding state_of
     runs_on = none_stops (cut p).stop (sym at_p.stopped ∙ free)
 
-    header_at : m.header ≡ header_of (cut p).current (cut p).held
+    pub header_at : m.header ≡ header_of (cut p).current (cut p).held
     unfolding state_of
     header_at = at_p.header ∙ rw runs_on refl
 
@@ -123,7 +127,7 @@ module _ (C : Table) (l : RequestTable) (most : ℕ) (s : State) (reached : IsRe
     knows_at = knows_it C l most p m runs_on at_p
 
     -- while the header is incomplete there is no current message
-    no_current : length m.header < 12 → (cut p).current ≡ None
+    pub no_current : length m.header < 12 → (cut p).current ≡ None
     no_current few = go (cut p).current refl
       where
         go : (o : Option Message) → (cut p).current ≡ o → o ≡ None

@@ -5,14 +5,14 @@ use Rattle.std.proofs.lemmas.Bool.{cases_eq, lt-ltb, le-ltb, lt-leb, ne_eqb, fal
 use Rattle.std.proofs.lemmas.List.{length_push}
 use Rattle.giop_sig.specs.Table.{Table}
 use Rattle.giop_message.specs.Headers.{size}
-use Rattle.giop_message.specs.Signatures.{RequestTable}
+use Rattle.giop_message.specs.Signatures.{Answers}
 use Rattle.giop_checkpoint.specs.declared.fault.StreamFault.{StreamFault}
 use Rattle.giop_checkpoint.specs.declared.fault.StreamFault.TheVariants.{StreamLimit}
 use Rattle.giop_stream.specs.declared.status.Totals.{Totals}
 use Rattle.giop_stream.specs.declared.slots.Payload.{Payload}
 use Rattle.giop_stream.specs.declared.slots.Payload.TheVariants as payload
 use Rattle.giop_stream.specs.HeaderOctets.{wrong}
-use Rattle.giop_stream.specs.Rules.{Rules, rules}
+use Rattle.giop_stream.specs.Rules.{Rules, rules_by}
 use Rattle.giop_stream.specs.Framing.{limit}
 use Rattle.giop_stream.specs.Lines.{stop_line}
 use Rattle.giop_stream.specs.Text.{stop_text, lines_text}
@@ -67,7 +67,7 @@ not_itself s short = rw (lt-leb 12 (length s.held) short) refl
 
 -- ---- Before the first octet.
 
-pub nothing_shown : (C : Table) (l : RequestTable) (m : FramingView) → m.totals ≡ record { messages = 0; faults = 0; octets = 0 }
+pub nothing_shown : (C : Table) (l : Answers) (m : FramingView) → m.totals ≡ record { messages = 0; faults = 0; octets = 0 }
     → m.stopped ≡ None → m.header ≡ [] → m.payload_count ≡ 0 → IsBare m.slots → Shows C l m fresh
 unfolding fresh payload_count_in comes_itself
 nothing_shown C l m totals stopped header payload_count bare =
@@ -82,9 +82,9 @@ nothing_shown C l m totals stopped header payload_count bare =
       turn = λ free. rw bare.nobody refl;
     }
 
-module _ (C : Table) (l : RequestTable) (most : ℕ) (m : FramingView) (s : State) (h : Shows C l m s) where
+module _ (C : Table) (l : Answers) (most : ℕ) (m : FramingView) (s : State) (h : Shows C l m s) where
   abbrev R : Rules
-  R = rules C l most
+  R = rules_by C l most
 
   octets_are : m.totals.octets ≡ s.totals.octets
   octets_are = ap (λ (t : Totals). t.octets) h.totals

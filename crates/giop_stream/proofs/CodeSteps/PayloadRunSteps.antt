@@ -9,12 +9,12 @@ use Rattle.std.proofs.lemmas.List.{length_push, get_or_push}
 use Rattle.giop_print.specs.Output.{OutLog, Writes}
 use Rattle.giop_sig.specs.Table.{Table}
 use Rattle.giop_message.specs.Headers.{size}
-use Rattle.giop_message.specs.Signatures.{RequestTable, signatures_of}
+use Rattle.giop_message.specs.Signatures.{Answers, signatures_of}
 use Rattle.giop_message.specs.ReaderOfTable.{message_reader}
 use Rattle.giop_message.specs.MessageReader.{IsCausal, IsStreamable}
 use Rattle.giop_message.proofs.MessageLaws.{is_causal}
 use Rattle.giop_stream.specs.declared.slots.Slots.{Slots}
-use Rattle.giop_stream.specs.Rules.{Rules, rules}
+use Rattle.giop_stream.specs.Rules.{Rules, rules_by}
 use Rattle.giop_stream.specs.Framing.{Message, Cut, with_payload, limit, cut, messages, read_of}
 use Rattle.giop_stream.specs.Events.{Takes, MessageKey, Open, Rising, events_of_octet, events_at_octet, changed, open_after}
 use Rattle.giop_stream.specs.Lines.{lines}
@@ -69,7 +69,7 @@ not_named p m x n h e =
     let three : length m.payload ≡ 3 = omega (arith, e, length_push m.payload x) in
     omega (arith, three, h.apart (omega (arith, three)))
 
-within_on : (p : List ℕ) (m : Message) (x n : ℕ) → Within p m (suc n) → Within (p ++ x ∷ []) (with_octet m x) n
+pub within_on : (p : List ℕ) (m : Message) (x n : ℕ) → Within p m (suc n) → Within (p ++ x ∷ []) (with_octet m x) n
 unfolding of_parts
 within_on p m x n h =
     let grown = within_grows p m x n h in
@@ -100,7 +100,7 @@ owner_on : (still_open : List Open) (m : Message) (x : ℕ) → length (m.payloa
 owner_on still_open m x other =
     owner_elsewhere still_open (with_octet m x) (ne_eqb (length (m.payload ++ x ∷ [])) 4 other) ∙ owner_next still_open m x
 
-module _ (C : Table) (l : RequestTable) where
+module _ (C : Table) (l : Answers) where
   takes_still_open : (at : ℕ) (c : Tracked) (w : Option MessageKey) (x : ℕ) → (effect_to C l at c w (Takes x)).tracked.still_open ≡ c.still_open
   unfolding tracked_at changed
   takes_still_open at c None x = refl
@@ -110,13 +110,13 @@ module _ (C : Table) (l : RequestTable) where
     at_hand : CurrentFits (length p) (cut p) m
     at_hand =
         if_some (CurrentFits (length p) (cut p)) (cut p).current m h.current
-        ((sound (rules C l most) (is_causal (signatures_of C l)) (in_turn C l) p).fits h.free).current
+        ((sound (rules_by C l most) (is_causal (λ number. signatures_of C (l number))) (in_turn C l) p).fits h.free).current
 
     -- the octet's effect on the message that it belongs to
-    abbrev taken : Effect
-    taken = effect_to C l (suc (length p)) (tracked_after (rules C l most) p) (owner_of_next (open_after most p) m) (Takes x)
+    abbrev pub taken : Effect
+    taken = effect_to C l (suc (length p)) (tracked_after (rules_by C l most) p) (owner_of_next (open_after most p) m) (Takes x)
 
-    octet_takes : effects (message_reader C l) (tracked_after (rules C l most) p) (events_of_octet most (open_after most p) (with_octet m x)) ≡ taken
+    octet_takes : effects (message_reader C l) (tracked_after (rules_by C l most) p) (events_of_octet most (open_after most p) (with_octet m x)) ≡ taken
     unfolding tracked_after
     octet_takes =
         let last : get_or (m.payload ++ x ∷ []) (length (m.payload ++ x ∷ []) - 1) 0 ≡ x =
@@ -125,38 +125,38 @@ module _ (C : Table) (l : RequestTable) where
         comes_alone most (open_after most p) (with_octet m x) (omega (arith, length_push m.payload x)) (not_named p m x n h)
         (omega (arith, h.before_last, length_push m.payload x)) in
         rw (alone, ← owner_next (open_after most p) m x)
-        (octet_does C l (tracked_after (rules C l most) p) (with_octet m x) x (suc (length p)) last
+        (octet_does C l (tracked_after (rules_by C l most) p) (with_octet m x) x (suc (length p)) last
         (place_more m x (length p) at_hand.place_is))
 
-    octet_adds : Adds (rules C l most) p (p ++ x ∷ []) (end_message (cut p).whole (with_octet m x)) taken.lines taken.tracked
+    pub octet_adds : Adds (rules_by C l most) p (p ++ x ∷ []) (end_message (cut p).whole (with_octet m x)) taken.lines taken.tracked
     octet_adds =
-        let so = sound (rules C l most) (is_causal (signatures_of C l)) (in_turn C l) p in
+        let so = sound (rules_by C l most) (is_causal (λ number. signatures_of C (l number))) (in_turn C l) p in
         let room = le-ltb limit (suc (length p)) (omega (arith, h.room)) in
-        rw octet_takes at (paid_is (rules C l most) (is_causal (signatures_of C l)) (in_turn C l) p x so m h.free h.current room)
+        rw octet_takes at (paid_is (rules_by C l most) (is_causal (λ number. signatures_of C (l number))) (in_turn C l) p x so m h.free h.current room)
 
-    octet_owner : owner_of_next (open_after most (p ++ x ∷ [])) (with_octet m x) ≡ owner_of_next (open_after most p) m
+    pub octet_owner : owner_of_next (open_after most (p ++ x ∷ [])) (with_octet m x) ≡ owner_of_next (open_after most p) m
     unfolding tracked_after
     octet_owner =
         let still_open : open_after most (p ++ x ∷ []) ≡ open_after most p =
         ap (λ (c : Tracked). c.still_open) octet_adds.tracked_after
-        ∙ takes_still_open (suc (length p)) (tracked_after (rules C l most) p) (owner_of_next (open_after most p) m) x in
+        ∙ takes_still_open (suc (length p)) (tracked_after (rules_by C l most) p) (owner_of_next (open_after most p) m) x in
         ap (λ (open' : List Open). owner_of_next open' (with_octet m x)) still_open ∙ owner_on (open_after most p) m x (not_named p m x n h)
 
 -- ---- All of them.
 
 -- the stream p with these octets, where m is its current message
-pub record IsRun (C : Table) (l : RequestTable) (most : ℕ) (p : List ℕ) (m : Message) (q : List ℕ) : Type 0 where
+pub record IsRun (C : Table) (l : Answers) (most : ℕ) (p : List ℕ) (m : Message) (q : List ℕ) : Type 0 where
   pub within : Within (p ++ q) (with_payload m (m.payload ++ q)) 0
-  pub lines : lines (rules C l most) (p ++ q) ≡ lines
-      (rules C l most) p ++ (run_effect C l (length p) (tracked_after (rules C l most) p) (owner_of_next (open_after most p) m) q).lines
-  pub tracked_after : tracked_after (rules C l most) (p ++ q) ≡ (run_effect C l (length p) (tracked_after (rules C l most) p) (owner_of_next (open_after most p) m) q).tracked
+  pub lines : lines (rules_by C l most) (p ++ q) ≡ lines
+      (rules_by C l most) p ++ (run_effect C l (length p) (tracked_after (rules_by C l most) p) (owner_of_next (open_after most p) m) q).lines
+  pub tracked_after : tracked_after (rules_by C l most) (p ++ q) ≡ (run_effect C l (length p) (tracked_after (rules_by C l most) p) (owner_of_next (open_after most p) m) q).tracked
   pub owner_of_next : owner_of_next (open_after most (p ++ q)) (with_payload m (m.payload ++ q)) ≡ owner_of_next (open_after most p) m
 
-module _ (C : Table) (l : RequestTable) where
+module _ (C : Table) (l : Answers) where
   pub run_is : (most : ℕ) (q p : List ℕ) (m : Message) → Within p m (length q) → IsRun C l most p m q
   unfolding run_effect
   run_is most [] p m h =
-      let R = rules C l most in
+      let R = rules_by C l most in
       let same = append-nil p in
       let none = append-nil m.payload in
       record {
@@ -166,7 +166,7 @@ module _ (C : Table) (l : RequestTable) where
         owner_of_next = λ j. owner_of_next (open_after most (same j)) (with_payload m (none j));
       }
   run_is most (x ∷ q) p m h =
-      let R = rules C l most in
+      let R = rules_by C l most in
       let p' = p ++ x ∷ [] in
       let more = run_is most q p' (with_octet m x) (within_on p m x (length q) h) in
       let all : p' ++ q ≡ p ++ x ∷ q = append_assoc p (x ∷ []) q in
@@ -205,20 +205,20 @@ started_last R causal laws p m free current =
     let count : length (messages (cut p)) ≡ length (cut p).whole + 1 = rw current (length_push (cut p).whole m) in
     omega (arith, so.starts, count, at_hand.number_is)
 
-module _ (C : Table) (l : RequestTable) (most : ℕ) (s : State) (reached : IsReached C l most s) (m : FramingView) (h : Shows C l m s)
+module _ (C : Table) (l : Answers) (most : ℕ) (s : State) (reached : IsReached C l most s) (m : FramingView) (h : Shows C l m s)
     (free : m.stopped ≡ None) (c : Message) (current : (cut reached.stream).current ≡ Some c) (q : List ℕ)
     (apart : m.payload_count < 4 → m.payload_count + length q < 4)
     (before_last : m.payload_count + length q < size m.header) (room : m.totals.octets + length q ≤ 2 ^ 48) where
   abbrev R : Rules
-  R = rules C l most
+  R = rules_by C l most
 
   abbrev p : List ℕ
   p = reached.stream
 
-  all : m.totals.octets ≡ length p
+  pub all : m.totals.octets ≡ length p
   all = all_read C l most s reached m h free
 
-  begins : Within p c (length q)
+  pub begins : Within p c (length q)
   unfolding limit
   begins =
       let payload_count = come_is C l most s reached m h free c current in
@@ -250,7 +250,7 @@ module _ (C : Table) (l : RequestTable) (most : ℕ) (s : State) (reached : IsRe
 
   pub run_rises : Rising (tracked_after R p).still_open
   unfolding tracked_after
-  run_rises = (sound R (is_causal (signatures_of C l)) (in_turn C l) p).rising
+  run_rises = (sound R (is_causal (λ number. signatures_of C (l number))) (in_turn C l) p).rising
 
   pub run_does : {A E : Type 0} (result : Result A E) (before after : OutLog) (f : FramingView)
       → Writes result before after (lines_text ran.lines) → OnOk result (Shows C l f (state_of R (p ++ q)))
@@ -274,7 +274,7 @@ module _ (C : Table) (l : RequestTable) (most : ℕ) (s : State) (reached : IsRe
       let then = run.within.current in
       let started : b.totals.messages ≡ start_count (lines R (p ++ q)) =
       messages ∙ (sym (number_is C l most s reached m h free c current)
-      ∙ sym (started_last R (is_causal (signatures_of C l)) (in_turn C l) (p ++ q)
+      ∙ sym (started_last R (is_causal (λ number. signatures_of C (l number))) (in_turn C l) (p ++ q)
       (with_payload c (c.payload ++ q)) run.within.free then)) in
       let grown : fault_count (lines R (p ++ q)) ≡ fault_count (lines R p) + fault_count ran.lines =
       ap fault_count grows_by_run ∙ count_append (lines R p) ran.lines in

@@ -6,7 +6,7 @@ use Rattle.std.proofs.lemmas.List.{take-append-drop}
 use Rattle.giop_print.specs.Output.{OutLog, Wrote}
 use Rattle.giop_sig.specs.Table.{Table}
 use Rattle.giop_message.specs.declared.message.Message.{Message}
-use Rattle.giop_message.specs.Signatures.{Signatures, RequestTable, signatures_of}
+use Rattle.giop_message.specs.Signatures.{Signatures, Answers, signatures_of}
 use Rattle.giop_message.specs.Messages.{message, message_lines, stage_of}
 use Rattle.giop_message.specs.ReaderOfTable.{message_reader, is_over, is_wrong}
 use Rattle.giop_message.specs.MessageState.{due, due_text, Follows, TookAll, FaultedAt}
@@ -30,27 +30,27 @@ use Rattle.giop_stream.proofs.SlotSteps.Performing.{text_append, does_nothing}
 use Rattle.giop_stream.proofs.SlotSteps.EventsOnSlots.{Alters, still_takes, still_alters, own_effects, slot_effects, own_has, slot_has, nobody_has}
 
 -- A message that is over stays so.
-over_stays : (S : Signatures) (header s more : List ℕ) → is_over (stage_of (message S header s)) ≡ true
+pub over_stays : (S : Signatures) (header s more : List ℕ) → is_over (stage_of (message S header s)) ≡ true
     → is_over (stage_of (message S header (s ++ more))) ≡ true
 over_stays S header s more e =
     let old : list_any is_wrong (message_lines (message S header s)) ≡ true = sym (over_where_faulted S header s) ∙ e in
     over_where_faulted S header (s ++ more) ∙ (ap (list_any is_wrong) (told_more S header s more)
     ∙ (any_append is_wrong (message_lines (message S header s)) (due S header s more) ∙ ap (λ (b : Bool). b || list_any is_wrong (due S header s more)) old))
 
-module _ (C : Table) (l : RequestTable) where
+module _ (C : Table) (l : Answers) where
   abbrev Over : MessageKey → List ℕ → Bool
-  Over w s = is_over (stage_of (message (signatures_of C l) w.header s))
+  Over w s = is_over (stage_of (message (signatures_of C (l w.number)) w.header s))
 
   -- ---- One octet, of a message that isn't over.
 
   then_is : (at : ℕ) (w : MessageKey) (s : List ℕ) (x : ℕ) → Over w s ≡ false
       → octets_then (message_reader C l) (event at w (Takes x)) (Some s)
       ≡ (if Over w (s ++ x ∷ []) then None else Some (s ++ x ∷ []))
-  then_is at w s x e = then_by C l at w s x ∙ ap (λ (b : Bool). if b then None else Some (s ++ x ∷ [])) (sym (octet_over (signatures_of C l) w.header s x e))
+  then_is at w s x e = then_by C l at w s x ∙ ap (λ (b : Bool). if b then None else Some (s ++ x ∷ [])) (sym (octet_over (signatures_of C (l w.number)) w.header s x e))
 
   count_is : (at : ℕ) (w : MessageKey) (s : List ℕ) (x : ℕ) → Over w s ≡ false
       → fault_count (lines_of (message_reader C l) (event at w (Takes x)) (Some s)) ≡ (if Over w (s ++ x ∷ []) then 1 else 0)
-  count_is at w s x e = faults_by C l at w s x ∙ ap (λ (b : Bool). if b then 1 else 0) (sym (octet_over (signatures_of C l) w.header s x e))
+  count_is at w s x e = faults_by C l at w s x ∙ ap (λ (b : Bool). if b then 1 else 0) (sym (octet_over (signatures_of C (l w.number)) w.header s x e))
 
   -- ---- A message that is over.
 
@@ -65,11 +65,11 @@ module _ (C : Table) (l : RequestTable) where
   -- ---- A message that isn't over.
 
   run_text : (w : MessageKey) (xs : List ℕ) (before : ℕ) (s : List ℕ) → Over w s ≡ false
-      → lines_text (run_part C l before w (Some s) xs).lines ≡ due_text (signatures_of C l) w.number before w.header s xs
+      → lines_text (run_part C l before w (Some s) xs).lines ≡ due_text (signatures_of C (l w.number)) w.number before w.header s xs
   unfolding run_part part_of lines_text
-  run_text w [] before s e = sym (text_none (signatures_of C l) w.number before w.header s)
+  run_text w [] before s e = sym (text_none (signatures_of C (l w.number)) w.number before w.header s)
   run_text w (x ∷ xs) before s e =
-      let S = signatures_of C l in
+      let S = signatures_of C (l w.number) in
       let ev = event (suc before) w (Takes x) in
       let first = lines_of (message_reader C l) ev (Some s) in
       let after : List Line = (run_part C l (suc before) w (octets_then (message_reader C l) ev (Some s)) xs).lines in
@@ -81,18 +81,18 @@ module _ (C : Table) (l : RequestTable) where
       ∙ (ap (λ (t : List ℕ). due ++ t) (rest (run_text w xs (suc before) (s ++ x ∷ [])) (Over w (s ++ x ∷ [])) refl) ∙ sym both))
     where
       Rest : Option (List ℕ) → Type 0
-      Rest o = lines_text (run_part C l (suc before) w o xs).lines ≡ due_text (signatures_of C l) w.number (suc before) w.header (s ++ x ∷ []) xs
+      Rest o = lines_text (run_part C l (suc before) w o xs).lines ≡ due_text (signatures_of C (l w.number)) w.number (suc before) w.header (s ++ x ∷ []) xs
 
       rest : (Over w (s ++ x ∷ []) ≡ false → Rest (Some (s ++ x ∷ []))) → (b : Bool) → Over w (s ++ x ∷ []) ≡ b
           → Rest (octets_then (message_reader C l) (event (suc before) w (Takes x)) (Some s))
       rest ih true o =
           rw (then_is (suc before) w s x e, o, none_run w None (suc before) xs tt)
-          (sym (text_over (signatures_of C l) w.number (suc before) w.header (s ++ x ∷ []) xs o))
+          (sym (text_over (signatures_of C (l w.number)) w.number (suc before) w.header (s ++ x ∷ []) xs o))
       rest ih false o = rw (then_is (suc before) w s x e, o) (ih o)
 
   -- a message that is over after one octet is over after all of them
   over_with : (w : MessageKey) (s xs : List ℕ) (x : ℕ) → Over w (s ++ x ∷ []) ≡ true → Over w (s ++ x ∷ xs) ≡ true
-  over_with w s xs x o = subst (λ (z : List ℕ). Over w z ≡ true) (append_assoc s (x ∷ []) xs) (over_stays (signatures_of C l) w.header (s ++ x ∷ []) xs o)
+  over_with w s xs x o = subst (λ (z : List ℕ). Over w z ≡ true) (append_assoc s (x ∷ []) xs) (over_stays (signatures_of C (l w.number)) w.header (s ++ x ∷ []) xs o)
 
   run_then : (w : MessageKey) (xs : List ℕ) (before : ℕ) (s : List ℕ) → Over w s ≡ false
       → (run_part C l before w (Some s) xs).octets ≡ (if Over w (s ++ xs) then None else Some (s ++ xs))
@@ -133,35 +133,35 @@ module _ (C : Table) (l : RequestTable) where
   -- ---- A message of which the code keeps a value.
 
   -- what a message took of these octets, whatever it follows
-  abbrev pub TellsAll : Message → Message → List ℕ → Option ℕ → Type 0
-  TellsAll m m' octets found = (number : ℕ) (header s : List ℕ) → Follows C l number header m s → TookAll C l number header m' s octets found
+  abbrev pub TellsAll : Message → Message → MessageKey → Option (List ℕ) → List ℕ → Option ℕ → Type 0
+  TellsAll m m' w o octets found = (s : List ℕ) → o ≡ Some s → Follows C l w.number w.header m s → TookAll C l w.number w.header m' s octets found
 
   -- P holds of the text that these octets add
-  abbrev pub DueOf : (List ℕ → Type 0) → Message → ℕ → List ℕ → Type 0
-  DueOf P m before xs = (number : ℕ) (header s : List ℕ) → Follows C l number header m s → P (due_text (signatures_of C l) number before header s xs)
+  abbrev pub DueOf : (List ℕ → Type 0) → Message → MessageKey → Option (List ℕ) → ℕ → List ℕ → Type 0
+  DueOf P m w o before xs = (s : List ℕ) → o ≡ Some s → Follows C l w.number w.header m s → P (due_text (signatures_of C (l w.number)) w.number before w.header s xs)
 
   goes : (m : Message) (w : MessageKey) (s : List ℕ) → Follows C l w.number w.header m s → Over w s ≡ false
   goes m w s k = follows_goes C l w.number w.header m s k
 
-  faulted : (w : MessageKey) (s xs : List ℕ) (n : ℕ) → FaultedAt (signatures_of C l) w.header s xs n → Over w (s ++ xs) ≡ true
+  faulted : (w : MessageKey) (s xs : List ℕ) (n : ℕ) → FaultedAt (signatures_of C (l w.number)) w.header s xs n → Over w (s ++ xs) ≡ true
   faulted w s xs n f =
       let all : (s ++ take n xs) ++ drop n xs ≡ s ++ xs = append_assoc s (take n xs) (drop n xs) ∙ ap (λ (z : List ℕ). s ++ z) (take-append-drop n xs) in
-      subst (λ (z : List ℕ). Over w z ≡ true) all (over_stays (signatures_of C l) w.header (s ++ take n xs) (drop n xs) f.here)
+      subst (λ (z : List ℕ). Over w z ≡ true) all (over_stays (signatures_of C (l w.number)) w.header (s ++ take n xs) (drop n xs) f.here)
 
   pub given_text : (P : List ℕ → Type 0) (m : Message) (w : MessageKey) (o : Option (List ℕ)) (before : ℕ) (xs : List ℕ)
-      → RepresentsMessage C l (Some m) w o → DueOf P m before xs
+      → RepresentsMessage C l (Some m) w o → DueOf P m w o before xs
       → P (lines_text (run_part C l before w o xs).lines)
-  given_text P m w (Some s) before xs k f = subst P (sym (run_text w xs before s (goes m w s k))) (f w.number w.header s k)
+  given_text P m w (Some s) before xs k f = subst P (sym (run_text w xs before s (goes m w s k))) (f s refl k)
   given_text P m w None before xs k f = absurd k
 
   -- where none of them faults it, and where one does
   pub given_on : {E : Type 0} (m m' : Message) (w : MessageKey) (o : Option (List ℕ)) (before : ℕ) (xs : List ℕ)
-      (found : Option ℕ) (a b : OutLog) → is_some found ≡ false → RepresentsMessage C l (Some m) w o → DueOf (Wrote a b) m before xs
-      → TellsAll m m' xs found
+      (found : Option ℕ) (a b : OutLog) → is_some found ≡ false → RepresentsMessage C l (Some m) w o → DueOf (Wrote a b) m w o before xs
+      → TellsAll m m' w o xs found
       → DoesPart {E = E} C l one_if (Ok false) a b (Some m') w (run_part C l before w o xs)
   given_on m m' w (Some s) before xs None a b e k writes took =
       let goes_before = goes m w s k in
-      let k' = took w.number w.header s k in
+      let k' = took s refl k in
       let still = goes m' w (s ++ xs) k' in
       record {
         text = given_text (Wrote a b) m w (Some s) before xs k writes;
@@ -172,12 +172,12 @@ module _ (C : Table) (l : RequestTable) where
   given_on m m' w None before xs found a b e k writes took = absurd k
 
   pub given_over : {E : Type 0} (m m' : Message) (w : MessageKey) (o : Option (List ℕ)) (before : ℕ) (xs : List ℕ)
-      (found : Option ℕ) (a b : OutLog) → is_some found ≡ true → RepresentsMessage C l (Some m) w o → DueOf (Wrote a b) m before xs
-      → TellsAll m m' xs found
+      (found : Option ℕ) (a b : OutLog) → is_some found ≡ true → RepresentsMessage C l (Some m) w o → DueOf (Wrote a b) m w o before xs
+      → TellsAll m m' w o xs found
       → DoesPart {E = E} C l one_if (Ok true) a b None w (run_part C l before w o xs)
   given_over m m' w (Some s) before xs (Some n) a b e k writes took =
       let goes_before = goes m w s k in
-      let over = faulted w s xs n (took w.number w.header s k) in
+      let over = faulted w s xs n (took s refl k) in
       record {
         text = given_text (Wrote a b) m w (Some s) before xs k writes;
         faults = rw (run_count w xs before s goes_before, over) refl;
@@ -215,29 +215,31 @@ module _ (C : Table) (l : RequestTable) where
     abbrev Makes : Option Message → MessageKey → Type 0
     Makes message w = DoesPart C l one_if r a b message w (run_part C l before w (c.known w.number) xs)
 
-    pub own_runs : (own' : Option Message) → s.payload ≡ payload.Own → ((w : MessageKey) → RepresentsMessage C l s.own w (c.known w.number) → Makes own' w)
+    pub own_runs : (own' : Option Message) → s.payload ≡ payload.Own → ((w : MessageKey) → owner_of_next ≡ Some w → RepresentsMessage C l s.own w (c.known w.number) → Makes own' w)
         → DoesEffect C l one_if r a b (record { slots = s.slots; own = own'; payload = s.payload }) (run_effect C l before c owner_of_next xs) owner_of_next
     own_runs own' e f =
-        own_has C l (λ owner_of_next. DoesEffect C l one_if r a b (record { slots = s.slots; own = own'; payload = s.payload })
-        (run_effect C l before c owner_of_next xs) owner_of_next) s c owner_of_next e h
-        (λ w k. own_effects C l r a b s own' c w _ _ e k (run_alters w xs before c) (f w))
+        own_has C l (λ who. ((w : MessageKey) → who ≡ Some w → RepresentsMessage C l s.own w (c.known w.number) → Makes own' w)
+        → DoesEffect C l one_if r a b (record { slots = s.slots; own = own'; payload = s.payload })
+        (run_effect C l before c who xs) who) s c owner_of_next e h
+        (λ w k f. own_effects C l r a b s own' c w _ _ e k (run_alters w xs before c) (f w refl)) f
 
     pub slot_runs : (v : Contents) (message : Option Message) (k : ℕ) → s.payload ≡ payload.Open k
         → option_map (λ e. e.value) (slice_get s.slots.entries k) ≡ Some v → Rising c.still_open
-        → ((w : MessageKey) → RepresentsMessage C l v.message w (c.known w.number) → Makes message w)
+        → ((w : MessageKey) → owner_of_next ≡ Some w → RepresentsMessage C l v.message w (c.known w.number) → Makes message w)
         → DoesEffect C l one_if r a b (record {
           slots = with_value s.slots k (record v { message = message });
           own = s.own;
           payload = s.payload;
         }) (run_effect C l before c owner_of_next xs) owner_of_next
     slot_runs v message k e get rising f =
-        slot_has C l (λ owner_of_next. DoesEffect C l one_if r a b
+        slot_has C l (λ who. ((w : MessageKey) → who ≡ Some w → RepresentsMessage C l v.message w (c.known w.number) → Makes message w)
+        → DoesEffect C l one_if r a b
         (record {
           slots = with_value s.slots k (record v { message = message });
           own = s.own;
           payload = s.payload;
-        }) (run_effect C l before c owner_of_next xs) owner_of_next) s c owner_of_next k e h
-        (λ w kept. slot_effects C l r a b s v message c w _ _ k e get rising kept (run_alters w xs before c) (λ n. f w))
+        }) (run_effect C l before c who xs) who) s c owner_of_next k e h
+        (λ w kept f. slot_effects C l r a b s v message c w _ _ k e get rising kept (run_alters w xs before c) (λ n. f w refl)) f
 
   pub nobody_runs : {E : Type 0} (log : OutLog) (s : Slots) (c : Tracked) (owner_of_next : Option MessageKey) (before : ℕ) (xs : List ℕ)
       → s.payload ≡ payload.Nobody → SlotsRepresent C l s c owner_of_next

@@ -6,12 +6,12 @@ use Rattle.std.proofs.lemmas.Bool.{lt-ltb, le-ltb, lt-leb, le-leb, eq-eqb, false
 use Rattle.giop_sig.specs.Table.{Table}
 use Rattle.giop_message.specs.declared.message.Message.{Message as CodeMessage}
 use Rattle.giop_message.specs.Headers.{size, is_fragment}
-use Rattle.giop_message.specs.Signatures.{RequestTable, signatures_of}
+use Rattle.giop_message.specs.Signatures.{Answers, signatures_of}
 use Rattle.giop_message.proofs.MessageLaws.{is_causal}
 use Rattle.giop_checkpoint.specs.declared.fault.StreamFault.{StreamFault}
 use Rattle.giop_stream.specs.declared.slots.Payload.{Payload}
 use Rattle.giop_stream.specs.declared.slots.Payload.TheVariants as payload
-use Rattle.giop_stream.specs.Rules.{Rules, rules}
+use Rattle.giop_stream.specs.Rules.{Rules, rules_by}
 use Rattle.giop_stream.specs.Framing.{Message, Cut, cut, fault_of}
 use Rattle.giop_stream.specs.Events.{MessageKey, Open, Rising, message_key, id, opener_of, has_named, Now, now_of}
 use Rattle.giop_stream.specs.Stream.{tally}
@@ -126,12 +126,12 @@ all_apart (o ∷ still_open) n h = go (o.opener.number == n) refl h (λ k. all_a
     go true e h ih = absurd cc
     go false e h ih = (λ same. false≢true (sym e ∙ eq-eqb o.opener.number n same), ih h)
 
-none_own : (C : Table) (l : RequestTable) (own : Option CodeMessage) (o : Option Own) → o ≡ None → IsOwn C l own o → own ≡ None
+none_own : (C : Table) (l : Answers) (own : Option CodeMessage) (o : Option Own) → o ≡ None → IsOwn C l own o → own ≡ None
 none_own C l None o e h = refl
 none_own C l (Some m) None e h = absurd h
 none_own C l (Some m) (Some o) e h = absurd cc
 
-kept_own : (C : Table) (l : RequestTable) (own : Option CodeMessage) (w : MessageKey) (o : Option (List ℕ))
+kept_own : (C : Table) (l : Answers) (own : Option CodeMessage) (w : MessageKey) (o : Option (List ℕ))
     → IsOwn C l own (option_map (λ xs. record { message_key = w; octets = xs }) o) → RepresentsMessage C l own w o
 kept_own C l None w None h = tt
 kept_own C l None w (Some xs) h = absurd h
@@ -140,7 +140,7 @@ kept_own C l (Some m) w (Some xs) h = h
 
 -- ---- The owner of the payload, by message.
 
-module _ (C : Table) (l : RequestTable) (s : State) (c : Tracked) (own : Option CodeMessage) where
+module _ (C : Table) (l : Answers) (s : State) (c : Tracked) (own : Option CodeMessage) where
   -- no current message
   none_turn : (of : Payload) → comes_itself s ≡ false → PayloadBelongs C l of own c None → IsTurn of s
   none_turn payload.Nobody t h = t
@@ -249,12 +249,12 @@ module _ (C : Table) (l : RequestTable) (s : State) (c : Tracked) (own : Option 
 
 -- ---- Of a stream.
 
-module _ (C : Table) (l : RequestTable) (most : ℕ) (p : List ℕ) where
+module _ (C : Table) (l : Answers) (most : ℕ) (p : List ℕ) where
   abbrev R : Rules
-  R = rules C l most
+  R = rules_by C l most
 
   so : IsSound R p
-  so = sound R (is_causal (signatures_of C l)) (in_turn C l) p
+  so = sound R (is_causal (λ number. signatures_of C (l number))) (in_turn C l) p
 
   lines_of_event : Tells (state_of R p) (tracked_after R p) (cut p).current
   unfolding state_of tracked_after
@@ -285,6 +285,6 @@ module _ (C : Table) (l : RequestTable) (most : ℕ) (p : List ℕ) where
   knows_it m st h = record {
     slots = h.slots;
     payload = back C l (state_of R p) (tracked_after R p) m.slots.own m.slots.payload (cut p).current lines_of_event
-        (itself_state R p so st) so.rising (λ c cur. message_key_is R (is_causal (signatures_of C l))
+        (itself_state R p so st) so.rising (λ c cur. message_key_is R (is_causal (λ number. signatures_of C (l number)))
         (in_turn C l) p st c cur) h.own h.owner (h.turn (ap fault_of st));
   }

@@ -137,13 +137,13 @@ unfolding lines_of_event
 one_each R n e h so_far all Begins = (one_line n e h (Started e.subject.header) (λ no. absurd cc), tt)
 one_each R n e h so_far all (Takes x) =
     each_map (IsOne n) (λ r. line e (Said r.line_class r.text)) (λ r. one_said n e h r.line_class r.text)
-    (filter (λ r. r.at == suc (length so_far)) (R.reads e.subject.header all))
+    (filter (λ r. r.at == suc (length so_far)) (R.reads e.subject.number e.subject.header all))
 one_each R n e h so_far all (Opens id) = tt
 one_each R n e h so_far all (Continues i) = (one_line n e h (ContinuesMessage i) (λ no. absurd cc), tt)
 one_each R n e h so_far all (Cancelled j) = (one_line n e h (CancelledBy j) (λ no. absurd cc), tt)
 one_each R n e h so_far all (Faults fault) = (one_line n e h (Faulted fault) (λ yes. refl), tt)
 one_each R n e h so_far all Closes =
-    each_map (IsOne n) (λ l. line e (Said l.0 l.1)) (λ l. one_said n e h l.0 l.1) (R.closes e.subject.header so_far)
+    each_map (IsOne n) (λ l. line e (Said l.0 l.1)) (λ l. one_said n e h l.0 l.1) (R.closes e.subject.number e.subject.header so_far)
 
 lines_each : (R : MessageReader) (n : ℕ) (all past es : List Event) → Each (λ e. IsNumber n e.subject.number) es
     → Each (IsOne n) (lines_of_events R all past es)

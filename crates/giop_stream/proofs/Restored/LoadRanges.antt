@@ -7,7 +7,7 @@ use Rattle.giop_sig.specs.Table.{Table}
 use Rattle.giop_message.specs.declared.message.Message.{Message as CodeMessage}
 use Rattle.giop_message.specs.Headers.{size}
 use Rattle.giop_message.specs.MessageReader.{IsCausal, IsStreamable}
-use Rattle.giop_message.specs.Signatures.{RequestTable, signatures_of}
+use Rattle.giop_message.specs.Signatures.{RequestTable, signatures_of, by_list}
 use Rattle.giop_message.proofs.MessageLaws.{is_causal}
 use Rattle.giop_checkpoint.specs.declared.fault.StreamFault.{StreamFault}
 use Rattle.giop_checkpoint.specs.declared.fixed.Place.TheVariants.{Header, Payload}
@@ -147,10 +147,10 @@ module _ (octets p : List ℕ) (C : Table) (l : RequestTable) (most : ℕ) (s : 
   R = rules C l most
 
   causal : IsCausal R.reading
-  causal = is_causal (signatures_of C l)
+  causal = is_causal (λ number. signatures_of C (by_list l number))
 
   laws : IsStreamable R.reading
-  laws = in_turn C l
+  laws = in_turn C (by_list l)
 
   totals_are : s.memory.totals ≡ tally R p
   unfolding state_of
@@ -164,7 +164,7 @@ module _ (octets p : List ℕ) (C : Table) (l : RequestTable) (most : ℕ) (s : 
   unfolding state_of
   few_slots =
       let K = octets_of R p in
-      let many = are_as_many C l s.memory.slots.slots.entries (slots_of K (open_after most p)) s.shows.slots in
+      let many = are_as_many C (by_list l) s.memory.slots.slots.entries (slots_of K (open_after most p)) s.shows.slots in
       omega (arith, many, slots_many K (open_after most p), few_open most p)
 
   header_is : IsWithin s.memory.totals.octets s.memory.header

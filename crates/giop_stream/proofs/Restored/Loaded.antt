@@ -6,7 +6,7 @@ use Rattle.std.proofs.lemmas.List.{length-append}
 use Rattle.giop_sig.specs.Table.{Table}
 use Rattle.giop_message.specs.declared.message.Message.{Message}
 use Rattle.giop_message.specs.MessageState.{Follows}
-use Rattle.giop_message.specs.Signatures.{RequestTable}
+use Rattle.giop_message.specs.Signatures.{Answers}
 use Rattle.giop_message.specs.Stored.{Stored}
 use Rattle.giop_checkpoint.specs.declared.record.Record.{Record}
 use Rattle.giop_checkpoint.specs.declared.record.FirstRecord.{FirstRecord}
@@ -64,12 +64,12 @@ current_none (Some m) id e = cc
 -- a message is restored from this record's octets, and follows every stream that the stored one follows
 abbrev pub Restores : Table → ℕ → FirstRecord → Option Message → Type 0
 Restores C octets first found =
-    (m : Message) (l : RequestTable) (n : ℕ) (h xs : List ℕ) → IsReady C (octets + 1) (Some m) →
+    (m : Message) (l : Answers) (n : ℕ) (h xs : List ℕ) → IsReady C (octets + 1) (Some m) →
     m.number ≡ first.«record».number → m.header ≡ first.«record».header →
     Stored m first.message first.frames.now → Follows C l n h m xs →
     IsSomeAnd found (λ e. Follows C l n h e xs)
 
-module _ (C : Table) (l : RequestTable) (first : FirstRecord) where
+module _ (C : Table) (l : Answers) (first : FirstRecord) where
   -- the record is this entry of an open message, which represents these octets
   record IsOf (e : Entry) (w : MessageKey) (message : Option Message) (message_octets : Option (List ℕ)) (id : ℕ) : Type 0 where
     entry : IsEntry first e
@@ -99,7 +99,7 @@ module _ (C : Table) (l : RequestTable) (first : FirstRecord) where
   over_by e w None (Some xs) kid id is over = absurd is.kept
   over_by e w (Some m) message_octets kid id is over = absurd (open_not_over kid id (sym is.record_kind ∙ over))
 
-module _ (C : Table) (l : RequestTable) (octets : ℕ) (first : FirstRecord) where
+module _ (C : Table) (l : Answers) (octets : ℕ) (first : FirstRecord) where
   pub current_again : (o : Own) (found : Option Message) → IsCurrentEntry C l (octets + 1) first o →
       Restores C octets first found → (is_some found ≡ true) × IsOwn C l found (Some o)
   current_again o found is again =
@@ -125,7 +125,7 @@ module _ (C : Table) (l : RequestTable) (octets : ℕ) (first : FirstRecord) whe
         (is.kept.same_header ∙ is.header) (stored_in m e first is.stored is.entry) is.kept),
   )
 
-module _ (C : Table) (l : RequestTable) (at : ℕ) (first : FirstRecord) (held : Held) where
+module _ (C : Table) (l : Answers) (at : ℕ) (first : FirstRecord) (held : Held) where
   of_slot : (is : IsOpenEntry C l at first held) →
       IsOf C l first is.entry held.open_as.opener is.kept.value.message held.octets is.kept.key
   of_slot is = record {
@@ -159,7 +159,7 @@ module _ (C : Table) (l : RequestTable) (at : ℕ) (first : FirstRecord) (held :
   open_not_current is e =
       current_none is.kept.value.message is.kept.key (sym is.entry_is.record_kind ∙ sym (standing_in first is.entry is.read) ∙ e)
 
-pub open_again : (C : Table) (l : RequestTable) (octets : ℕ) (first : FirstRecord) (held : Held) (id : ℕ) (found : Option Message) →
+pub open_again : (C : Table) (l : Answers) (octets : ℕ) (first : FirstRecord) (held : Held) (id : ℕ) (found : Option Message) →
     IsOpenEntry C l (octets + 1) first held → first.«record».record_kind ≡ record_kinds.Open id →
     Restores C octets first found → (is_some found ≡ true) × IsSlot C l (pushed first id found) held
 open_again C l octets first held id found is opened again =
@@ -167,7 +167,7 @@ open_again C l octets first held id found is opened again =
     (of_slot C l (octets + 1) first held is) opened is.ready again in
     (made.1.0, slot_again C l (octets + 1) first held id found is made.0 made.1.1)
 
-module _ (C : Table) (l : RequestTable) (at : ℕ) (first : FirstRecord) (o : Own) (id : ℕ) where
+module _ (C : Table) (l : Answers) (at : ℕ) (first : FirstRecord) (o : Own) (id : ℕ) where
   standing_now : IsCurrentEntry C l at first o → record_kinds.Current ≡ first.«record».record_kind
   standing_now is = sym (standing_in first is.entry is.read ∙ is.entry_is.standing_is)
 
@@ -179,7 +179,7 @@ module _ (C : Table) (l : RequestTable) (at : ℕ) (first : FirstRecord) (o : Ow
 
 -- ---- the open messages that were added
 
-module _ (C : Table) (l : RequestTable) where
+module _ (C : Table) (l : Answers) where
   pub added_one : (before after : Slots) (kept : OpenEntry) (held : Held) →
       after.slots.entries ≡ before.slots.entries ++ kept ∷ [] → IsSlot C l kept held →
       HasAdded C l before after (held ∷ [])
@@ -223,7 +223,7 @@ IsRead first e rest =
     (first.«record» ≡ e.record_is) × (first.message ≡ e.message) × (first.frames.now ≡ e.frames) × (first.rest.now ≡ rest)
 
 -- it is the entry of an open message
-pub record FrontOpen (C : Table) (l : RequestTable) (at count : ℕ) (first : FirstRecord) (held : List Held) (own : Option Own)
+pub record FrontOpen (C : Table) (l : Answers) (at count : ℕ) (first : FirstRecord) (held : List Held) (own : Option Own)
     : Type 0 where
   pub here : Held
   pub others : List Held
@@ -232,7 +232,7 @@ pub record FrontOpen (C : Table) (l : RequestTable) (at count : ℕ) (first : Fi
   pub left : AreLeft C l at (count - 1) first.rest.now others own
 
 -- or of the current one
-pub record FrontOwn (C : Table) (l : RequestTable) (at count : ℕ) (first : FirstRecord) (held : List Held) (own : Option Own)
+pub record FrontOwn (C : Table) (l : Answers) (at count : ℕ) (first : FirstRecord) (held : List Held) (own : Option Own)
     : Type 0 where
   pub here : Own
   pub no_held : held ≡ []
@@ -241,7 +241,7 @@ pub record FrontOwn (C : Table) (l : RequestTable) (at count : ℕ) (first : Fir
   pub last : count - 1 ≡ 0
 
 -- what is left to read, by its parts
-record Parts (C : Table) (l : RequestTable) (at count : ℕ) (octets : List ℕ) (kept : List OpenEntry) (held : List Held)
+record Parts (C : Table) (l : Answers) (at count : ℕ) (octets : List ℕ) (kept : List OpenEntry) (held : List Held)
     (current : Option Message) (own : Option Own) (entries : List Entry) : Type 0 where
   entries_are : AreEntries kept current entries
   count_is : count ≡ length entries
@@ -251,7 +251,7 @@ record Parts (C : Table) (l : RequestTable) (at count : ℕ) (octets : List ℕ)
   each_ready : Each (λ slot. IsReady C at slot.value.message) kept
   own_ready : IsReady C at current
 
-module _ (C : Table) (l : RequestTable) (at count : ℕ) (octets : List ℕ) where
+module _ (C : Table) (l : Answers) (at count : ℕ) (octets : List ℕ) where
   parts_of : (held : List Held) (own : Option Own) (left : AreLeft C l at count octets held own) →
       Parts C l at count octets left.kept held left.current own left.entries
   parts_of held own left = record {
@@ -367,14 +367,14 @@ module _ (C : Table) (l : RequestTable) (at count : ℕ) (octets : List ℕ) whe
 -- ---- all records
 
 -- all that was left was added
-abbrev pub IsAll : Table → RequestTable → Bool → Slots → Slots → List Held → Option Own → Type 0
+abbrev pub IsAll : Table → Answers → Bool → Slots → Slots → List Held → Option Own → Type 0
 IsAll C l result before after held own = (result ≡ true) × HasAdded C l before after held × IsOwn C l after.own own
 
 room_here : (n most : ℕ) (held : List Held) (h : Held) (hs : List Held) → n + length held ≤ most → held ≡ h ∷ hs →
     n + suc (length hs) ≤ most
 room_here n most held h hs room e = omega (arith, room, ap length e)
 
-module _ (C : Table) (l : RequestTable) (at count : ℕ) (first : FirstRecord) (before mid : Slots) (added : Bool)
+module _ (C : Table) (l : Answers) (at count : ℕ) (first : FirstRecord) (before mid : Slots) (added : Bool)
     (slot : (held : Held) → IsOpenEntry C l at first held → length before.slots.entries < before.slots.most →
     (added ≡ true) × HasAdded C l before mid (held ∷ []) × (mid.own ≡ before.own))
     (current : (own : Own) → IsCurrentEntry C l at first own →
@@ -409,7 +409,7 @@ module _ (C : Table) (l : RequestTable) (at count : ℕ) (first : FirstRecord) (
         }),
       )
 
-module _ (C : Table) (l : RequestTable) (at count : ℕ) (before mid after : Slots) (rest : List ℕ) (result : Bool)
+module _ (C : Table) (l : Answers) (at count : ℕ) (before mid after : Slots) (rest : List ℕ) (result : Bool)
     (same_most : mid.slots.most ≡ before.slots.most)
     (none : count - 1 ≡ 0 → (result ≡ true) × (after ≡ mid))
     (again : (hs : List Held) (o : Option Own) → AreLeft C l at (count - 1) rest hs o →

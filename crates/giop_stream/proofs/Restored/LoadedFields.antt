@@ -6,7 +6,7 @@ use Rattle.std.proofs.lemmas.Option.{slice_get_within}
 use Rattle.giop_sig.specs.Table.{Table}
 use Rattle.giop_message.specs.declared.message.Message.{Message}
 use Rattle.giop_message.specs.Headers.{size, is_fragment}
-use Rattle.giop_message.specs.Signatures.{RequestTable}
+use Rattle.giop_message.specs.Signatures.{RequestTable, Answers, by_list}
 use Rattle.giop_checkpoint.specs.declared.fault.StreamFault.{StreamFault}
 use Rattle.giop_checkpoint.specs.declared.fixed.Fixed.{Fixed}
 use Rattle.giop_checkpoint.specs.declared.fixed.Place.{Place}
@@ -36,7 +36,7 @@ use Rattle.giop_stream.proofs.Restored.SavedSizes.{entries_count}
 
 pub spells_left : (octets p : List ℕ) (C : Table) (l : RequestTable) (most : ℕ) (s : Spells octets C l most p) (fixed : Fixed) (records : List ℕ) →
     fixed ≡ fixed_of C l s.memory → records ≡ flat_map entry_octets s.entries →
-    AreLeft C l (fixed.octets + 1) fixed.records records (state_of (rules C l most) p).slots
+    AreLeft C (by_list l) (fixed.octets + 1) fixed.records records (state_of (rules C l most) p).slots
     (state_of (rules C l most) p).own
 unfolding fixed_of
 spells_left octets p C l most s fixed records is are =
@@ -55,7 +55,7 @@ spells_left octets p C l most s fixed records is are =
   where
     P : Fixed → Type 0
     P f =
-        AreLeft C l (f.octets + 1) f.records records (state_of (rules C l most) p).slots
+        AreLeft C (by_list l) (f.octets + 1) f.records records (state_of (rules C l most) p).slots
         (state_of (rules C l most) p).own
 
 pub room_for : (R : Rules) (p : List ℕ) (bare : Slots) → bare.slots.entries ≡ [] →
@@ -148,7 +148,7 @@ pub record IsItself (itself : Bool) (s : State) : Type 0 where
 abbrev IsPayload : PayloadOwner → State → Type 0
 IsPayload w s = IsOwner w s × (s.stop ≡ None → IsTurn w s)
 
-no_own : (C : Table) (l : RequestTable) (s : State) (own : Option Own) → s.own ≡ own → IsOwn C l None own →
+no_own : (C : Table) (l : Answers) (s : State) (own : Option Own) → s.own ≡ own → IsOwn C l None own →
     s.owner ≡ option_map (λ o. o.message_key.number) s.own → s.owner ≡ None
 no_own C l s None none is owner = owner ∙ ap (λ (o : Option Own). option_map (λ o. o.message_key.number) o) none
 no_own C l s (Some o) none is owner = absurd is
@@ -164,7 +164,7 @@ not_itself : (itself : Bool) (s : State) (stop : Option StreamFault) → s.stop 
 not_itself itself s None e is turn = is.running e ∙ turn e
 not_itself itself s (Some fault) e is turn = is.behind fault e
 
-payload_again : (C : Table) (l : RequestTable) (w : PayloadOwner) (own : Option Message) (many : ℕ) (s : State) (itself : Bool) →
+payload_again : (C : Table) (l : Answers) (w : PayloadOwner) (own : Option Message) (many : ℕ) (s : State) (itself : Bool) →
     many ≡ length s.slots → IsOwn C l own s.own → IsPayload w s → IsItself itself s →
     IsPayload (fields.payload_of (owner_of w many own) itself many) s
 payload_again C l payload.Own None many s itself long owner_of_next of is =
@@ -195,7 +195,7 @@ pub record MayBe (fixed : Fixed) (stop : Option StreamFault) (long : ℕ) : Type
   pub faults : fixed.faults ≤ 3 * fixed.octets
   pub held : long ≤ fixed.octets
 
-added_all : (C : Table) (l : RequestTable) (bare slots : Slots) (held : List Held) → bare.slots.entries ≡ [] →
+added_all : (C : Table) (l : Answers) (bare slots : Slots) (held : List Held) → bare.slots.entries ≡ [] →
     HasAdded C l bare slots held → AreSlots C l slots.slots.entries held
 added_all C l bare slots held none added =
     let kept : slots.slots.entries ≡ added.kept = added.put ∙ ap (λ (xs : List OpenEntry). xs ++ added.kept) none in
@@ -234,19 +234,19 @@ module _ (octets p : List ℕ) (C : Table) (l : RequestTable) (most : ℕ) (s : 
       (itself_now s.memory.stopped) many) state
   unfolding state
   payload_is many long =
-      let kept = are_as_many C l s.memory.slots.slots.entries (state_of (rules C l most) p).slots s.shows.slots in
+      let kept = are_as_many C (by_list l) s.memory.slots.slots.entries (state_of (rules C l most) p).slots s.shows.slots in
       let same : many ≡ length s.memory.slots.slots.entries = long ∙ sym kept in
-      rw same (payload_again C l s.memory.slots.payload s.memory.slots.own (length s.memory.slots.slots.entries) state
+      rw same (payload_again C (by_list l) s.memory.slots.payload s.memory.slots.own (length s.memory.slots.slots.entries) state
       (itself_now s.memory.stopped) kept s.shows.own (s.shows.owner, s.shows.turn) itself_is)
 
   module _ (m : FramingView) (bare slots : Slots) (none : bare.slots.entries ≡ []) where
-    shows_fixed : IsReadAs m (fixed_of C l s.memory) slots → HasAdded C l bare slots state.slots →
-        IsOwn C l slots.own state.own → Shows C l m state
+    shows_fixed : IsReadAs m (fixed_of C l s.memory) slots → HasAdded C (by_list l) bare slots state.slots →
+        IsOwn C (by_list l) slots.own state.own → Shows C (by_list l) m state
     unfolding state fixed_of itself_now
     shows_fixed is added own =
-        let all = added_all C l bare slots state.slots none added in
+        let all = added_all C (by_list l) bare slots state.slots none added in
         let owner_of_next : IsPayload m.slots.payload state = subst (λ (w : PayloadOwner). IsPayload w state) (sym is.payload)
-        (payload_is (length slots.slots.entries) (are_as_many C l slots.slots.entries state.slots all)) in
+        (payload_is (length slots.slots.entries) (are_as_many C (by_list l) slots.slots.entries state.slots all)) in
         record {
           totals = is.totals ∙ s.shows.totals;
           stopped = is.stopped ∙ stop_again s.memory.stopped s.memory.header s.memory.payload_count ∙ s.shows.stopped;
@@ -254,15 +254,15 @@ module _ (octets p : List ℕ) (C : Table) (l : RequestTable) (most : ℕ) (s : 
           payload_count = is.payload_count
               ∙ come_again s.memory.stopped s.memory.header state.left s.memory.payload_count behind come_is
               ∙ s.shows.payload_count;
-          slots = subst (λ (xs : List OpenEntry). AreSlots C l xs state.slots) (sym (ap (λ s. s.entries) is.slots)) all;
-          own = subst (λ (o : Option Message). IsOwn C l o state.own) (sym is.own) own;
+          slots = subst (λ (xs : List OpenEntry). AreSlots C (by_list l) xs state.slots) (sym (ap (λ s. s.entries) is.slots)) all;
+          own = subst (λ (o : Option Message). IsOwn C (by_list l) o state.own) (sym is.own) own;
           owner = owner_of_next.0;
           turn = owner_of_next.1;
         }
 
     pub shows_again : (fixed : Fixed) → fixed ≡ fixed_of C l s.memory → IsReadAs m fixed slots →
-        HasAdded C l bare slots (state_of (rules C l most) p).slots →
-        IsOwn C l slots.own (state_of (rules C l most) p).own → Shows C l m (state_of (rules C l most) p)
+        HasAdded C (by_list l) bare slots (state_of (rules C l most) p).slots →
+        IsOwn C (by_list l) slots.own (state_of (rules C l most) p).own → Shows C (by_list l) m (state_of (rules C l most) p)
     unfolding state
     shows_again fixed e is added own = shows_fixed (subst (λ (f : Fixed). IsReadAs m f slots) e is) added own
 

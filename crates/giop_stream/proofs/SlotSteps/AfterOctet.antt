@@ -4,7 +4,7 @@ use Rattle.std.specs.Prelude.{◌==◌, ◌&&◌, nat_lt, nat_le, if◌then◌el
 use Rattle.std.proofs.lemmas.Bool.{eq-eqb, eqb-true, lt-leb, le-leb, lt-ltb, le-ltb, cases_lt, false≢true}
 use Rattle.std.specs.List.{AllByRecursion as Each}
 use Rattle.giop_sig.specs.Table.{Table}
-use Rattle.giop_message.specs.Signatures.{RequestTable, signatures_of}
+use Rattle.giop_message.specs.Signatures.{Answers, signatures_of}
 use Rattle.giop_message.specs.Messages.{message, message_lines}
 use Rattle.giop_message.specs.ReaderOfTable.{message_reader, first_request_id}
 use Rattle.giop_message.specs.Headers.{size, is_fragment}
@@ -58,7 +58,7 @@ owner_own still_open m few = rw (not_past m few) refl
 
 -- ---- A message that is newer than the open ones takes its octets itself.
 
-module _ (C : Table) (l : RequestTable) where
+module _ (C : Table) (l : Answers) where
   pub own_by : (s : Slots) (c : Tracked) (w : MessageKey) → IsNewest w.number c.still_open → SlotsRepresent C l s c (Some w) → s.payload ≡ payload.Own
   own_by s c w newest h = go s.payload refl h.payload
     where
@@ -71,7 +71,7 @@ module _ (C : Table) (l : RequestTable) where
           absurd (omega (arith, less, same))
       go payload.Nobody e k = absurd k
 
-module _ (C : Table) (l : RequestTable) (s : Slots) (c : Tracked) (m : Message) (now : Current) (h : IsAfterTake C l s c m now) where
+module _ (C : Table) (l : Answers) (s : Slots) (c : Tracked) (m : Message) (now : Current) (h : IsAfterTake C l s c m now) where
   four_is : (now.payload_count == 4) ≡ true → length m.payload ≡ 4
   four_is e = h.payload_count ∙ eqb-true now.payload_count 4 e
 
@@ -85,7 +85,7 @@ module _ (C : Table) (l : RequestTable) (s : Slots) (c : Tracked) (m : Message) 
 
   -- the request id that is read from the message's own octets
   pub named_here : (i : ℕ) → ((w : MessageKey) (xs : List ℕ) (j : ℕ) → RepresentsMessage C l s.own w (Some xs)
-      → first_request_id (message_lines (message (signatures_of C l) w.header xs)) ≡ Some j → i ≡ j) → (now.payload_count == 4) ≡ true
+      → first_request_id (message_lines (message (signatures_of C (l w.number)) w.header xs)) ≡ Some j → i ≡ j) → (now.payload_count == 4) ≡ true
       → IsAtRequestId C l s c m now i
   named_here i f e =
       let four = four_is e in
@@ -115,7 +115,7 @@ module _ (C : Table) (l : RequestTable) (s : Slots) (c : Tracked) (m : Message) 
   pub owner_still : (now.payload_count == 4) ≡ false → owner_of_next c.still_open m ≡ owner_of_octet c.still_open m
   owner_still e = owner_elsewhere c.still_open m (ap (λ (n : ℕ). n == 4) h.payload_count ∙ e)
 
-module _ (C : Table) (l : RequestTable) (s : Slots) (c : Tracked) (m : Message) (now : Current) (h : IsAtOctet C l s c m now) (payload_count : length m.payload ≡ now.payload_count) where
+module _ (C : Table) (l : Answers) (s : Slots) (c : Tracked) (m : Message) (now : Current) (h : IsAtOctet C l s c m now) (payload_count : length m.payload ≡ now.payload_count) where
   last_is : (now.payload_count == size now.header) ≡ true → length m.payload ≡ size m.header
   last_is e = payload_count ∙ (eqb-true now.payload_count (size now.header) e ∙ ap size (sym h.current.header))
 

@@ -3,13 +3,13 @@ use Rattle.std.proofs.Common.{◌≡◌, ℕ, ◌<◌, ◌≤◌, Bool, true, fa
 use Rattle.std.specs.Prelude.{◌==◌, if◌then◌else◌}
 use Rattle.std.proofs.lemmas.Bool.{eq-eqb, ne_eqb}
 use Rattle.giop_sig.specs.Table.{Table}
-use Rattle.giop_message.specs.Signatures.{RequestTable}
+use Rattle.giop_message.specs.Signatures.{Answers}
 use Rattle.giop_message.specs.ReaderOfTable.{message_reader}
 use Rattle.giop_message.specs.Headers.{size}
 use Rattle.giop_stream.specs.declared.fault.FramingFault.{FramingFault}
 use Rattle.giop_stream.specs.declared.slots.Slots.{Slots}
 use Rattle.giop_stream.specs.declared.current.Current.{Current}
-use Rattle.giop_stream.specs.Rules.{Rules, rules}
+use Rattle.giop_stream.specs.Rules.{Rules, rules_by}
 use Rattle.giop_stream.specs.Framing.{Message}
 use Rattle.giop_stream.specs.Text.{line_text, start_line}
 use Rattle.giop_stream.specs.Kinds.{refused}
@@ -65,7 +65,7 @@ module _ (R : Rules) (c : Tracked) (m : Message) where
       go true e = refl
       go false e = ap (λ (still_open : List Open). owner_of_next still_open m) (sym (effects_still_open R.reading begun.tracked (end_events begun.tracked.still_open m) ∙ rw e refl))
 
-module _ (C : Table) (l : RequestTable) (s : Slots) (c : Tracked) (who : Option MessageKey) (m : Message) (now : Current) (h : IsBeforeMessage C l s c who m now) where
+module _ (C : Table) (l : Answers) (s : Slots) (c : Tracked) (who : Option MessageKey) (m : Message) (now : Current) (h : IsBeforeMessage C l s c who m now) where
   pub apart : IsNotOpen m.number c.still_open
   apart =
       each_weaker {A = Open} (λ o. o.opener.number < m.number) (λ o. o.opener.number ≡ m.number → ⊥) (λ o less same. omega (arith, less, same)) c.still_open h.newest
@@ -90,14 +90,14 @@ module _ (C : Table) (l : RequestTable) (s : Slots) (c : Tracked) (who : Option 
       go None e = record { more = _; is = ap (λ (p : Effect). p.lines) (begins e) }
       go (Some fault) e = record { more = _; is = ap (λ (p : Effect). p.lines) (refuses fault e) }
 
-  pub begun_at : (s' : Slots) → SlotsRepresent C l s' (begun (rules C l s.slots.most) c m).tracked (Some (message_key m))
-      → IsAtOctet C l s' (begun (rules C l s.slots.most) c m).tracked m now
+  pub begun_at : (s' : Slots) → SlotsRepresent C l s' (begun (rules_by C l s.slots.most) c m).tracked (Some (message_key m))
+      → IsAtOctet C l s' (begun (rules_by C l s.slots.most) c m).tracked m now
   begun_at s' k =
-      let still_open = begun_still_open (rules C l s.slots.most) c m in
+      let still_open = begun_still_open (rules_by C l s.slots.most) c m in
       let none = none_come in
       let few : length m.payload < 4 = omega (arith, none) in
       record {
-        keeps = rw (owner_early (begun (rules C l s.slots.most) c m).tracked.still_open m few) k;
+        keeps = rw (owner_early (begun (rules_by C l s.slots.most) c m).tracked.still_open m few) k;
         rising = rw still_open h.rising;
         current = h.current;
       }

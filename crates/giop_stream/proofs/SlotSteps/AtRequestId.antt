@@ -3,13 +3,13 @@ use Rattle.std.proofs.Common.{◌≡◌, ℕ, ◌<◌, ◌≤◌, Bool, true, fa
 use Rattle.std.specs.Prelude.{◌==◌, ◌||◌, slice_get, option_map, is_some}
 use Rattle.std.specs.List.{find, position_from}
 use Rattle.giop_sig.specs.Table.{Table}
-use Rattle.giop_message.specs.Signatures.{RequestTable}
+use Rattle.giop_message.specs.Signatures.{Answers}
 use Rattle.giop_message.specs.ReaderOfTable.{message_reader}
 use Rattle.giop_message.specs.Headers.{order, is_fragment, is_opener, is_cancel, has_name}
 use Rattle.giop_stream.specs.declared.fault.FramingFault.TheVariants.{NoOpen, IdOpen, TooManyOpen, FragmentOrder}
 use Rattle.giop_stream.specs.declared.slots.Slots.{Slots}
 use Rattle.giop_stream.specs.declared.current.Current.{Current}
-use Rattle.giop_stream.specs.Rules.{rules}
+use Rattle.giop_stream.specs.Rules.{rules_by}
 use Rattle.giop_stream.specs.Framing.{Message}
 use Rattle.giop_stream.specs.Events.{Open, Opens, Faults, Cancelled, message_key, opener_of, events_at_request_id, same_order}
 use Rattle.giop_stream.specs.OpenSlots.{slots_of}
@@ -57,7 +57,7 @@ cancel_named header f = rw f (go (is_opener header) (is_fragment header))
 
 -- ---- A message that becomes open has no line.
 
-module _ (C : Table) (l : RequestTable) where
+module _ (C : Table) (l : Answers) where
   pub opens_lines : (c : Tracked) (m : Message) (at i : ℕ) → (one_effect (message_reader C l) c at (message_key m) (Opens i)).lines ≡ []
   unfolding lines_of lines_for lines_of_event up_to_last_line
   opens_lines c m at i = go (c.known m.number)
@@ -80,7 +80,7 @@ pub owner_other : (still_open : List Open) (m : Message) → is_fragment m.heade
 unfolding owner_after_id
 owner_other still_open m f = rw f refl
 
-module _ (C : Table) (l : RequestTable) (s : Slots) (c : Tracked) (m : Message) (now : Current) (i : ℕ) (h : IsAtRequestId C l s c m now i) where
+module _ (C : Table) (l : Answers) (s : Slots) (c : Tracked) (m : Message) (now : Current) (i : ℕ) (h : IsAtRequestId C l s c m now i) where
   -- ---- The search.
 
   opener_is : has_name m.header ≡ true → opener_of c.still_open m ≡ find (λ o. o.id == i) c.still_open
@@ -110,7 +110,7 @@ module _ (C : Table) (l : RequestTable) (s : Slots) (c : Tracked) (m : Message) 
   pub twice : (r : Option ℕ) → r ≡ position_from (λ slot. slot.key == i) 0 s.slots.entries → is_some r ≡ true
       → is_fragment m.header ≡ false → is_opener m.header ≡ true
       → effects (message_reader C l) c (events_at_request_id s.slots.most c.still_open m) ≡ one_effect (message_reader C l) c now.place (message_key m) (Faults IdOpen)
-  twice r e n f g = let o = hits (opener_named m.header g) r e n in opener_twice (rules C l s.slots.most) c c.still_open m o.0 f g o.1 ∙ rw h.current.place refl
+  twice r e n f g = let o = hits (opener_named m.header g) r e n in opener_twice (rules_by C l s.slots.most) c c.still_open m o.0 f g o.1 ∙ rw h.current.place refl
 
   pub no_room : (r : Option ℕ) → r ≡ position_from (λ slot. slot.key == i) 0 s.slots.entries → is_some r ≡ false
       → s.slots.most ≤ length s.slots.entries → is_fragment m.header ≡ false → is_opener m.header ≡ true
@@ -118,7 +118,7 @@ module _ (C : Table) (l : RequestTable) (s : Slots) (c : Tracked) (m : Message) 
   no_room r e n full f g =
       let many = as_many in
       let room : s.slots.most ≤ length c.still_open = omega (arith, many, full) in
-      opener_no_room (rules C l s.slots.most) c c.still_open m f g (misses (opener_named m.header g) r e n) room ∙ rw h.current.place refl
+      opener_no_room (rules_by C l s.slots.most) c c.still_open m f g (misses (opener_named m.header g) r e n) room ∙ rw h.current.place refl
 
   pub opens_one : (r : Option ℕ) → r ≡ position_from (λ slot. slot.key == i) 0 s.slots.entries → is_some r ≡ false
       → length s.slots.entries < s.slots.most → is_fragment m.header ≡ false → is_opener m.header ≡ true
@@ -126,24 +126,24 @@ module _ (C : Table) (l : RequestTable) (s : Slots) (c : Tracked) (m : Message) 
   opens_one r e n few f g =
       let many = as_many in
       let room : length c.still_open < s.slots.most = omega (arith, many, few) in
-      opener_opens (rules C l s.slots.most) c c.still_open m f g (misses (opener_named m.header g) r e n) room
+      opener_opens (rules_by C l s.slots.most) c c.still_open m f g (misses (opener_named m.header g) r e n) room
       ∙ rw (h.current.place, h.id_is (opener_named m.header g)) refl
 
   -- ---- A Fragment.
 
   pub unknown : is_fragment m.header ≡ true → opener_of c.still_open m ≡ None
       → effects (message_reader C l) c (events_at_request_id s.slots.most c.still_open m) ≡ one_effect (message_reader C l) c now.place (message_key m) (Faults NoOpen)
-  unknown f e = fragment_unknown (rules C l s.slots.most) c c.still_open m f e ∙ rw h.current.place refl
+  unknown f e = fragment_unknown (rules_by C l s.slots.most) c c.still_open m f e ∙ rw h.current.place refl
 
   pub in_order : (o : Open) → is_fragment m.header ≡ true → opener_of c.still_open m ≡ Some o → same_order (order m.header) (order o.opener.header) ≡ true
       → effects (message_reader C l) c (events_at_request_id s.slots.most c.still_open m) ≡ line_effect (goes_on m o) (no_effect c)
-  in_order o f e same = let xs = h.alive (fragment_named m.header f) in fragment_in_order (rules C l s.slots.most) c c.still_open m o xs.0 f e xs.1 same
+  in_order o f e same = let xs = h.alive (fragment_named m.header f) in fragment_in_order (rules_by C l s.slots.most) c c.still_open m o xs.0 f e xs.1 same
 
   pub out_of_order : (o : Open) → is_fragment m.header ≡ true → opener_of c.still_open m ≡ Some o → same_order (order m.header) (order o.opener.header) ≡ false
       → effects (message_reader C l) c (events_at_request_id s.slots.most c.still_open m) ≡ line_effect (goes_on m o) (one_effect (message_reader C l) c now.place o.opener (Faults FragmentOrder))
   out_of_order o f e other =
       let xs = h.alive (fragment_named m.header f) in
-      fragment_out_of_order (rules C l s.slots.most) c c.still_open m o xs.0 f e xs.1 other ∙ rw h.current.place refl
+      fragment_out_of_order (rules_by C l s.slots.most) c c.still_open m o xs.0 f e xs.1 other ∙ rw h.current.place refl
 
   -- the line of a Fragment, as the code writes it
   pub goes_text : (o : Open) (number : ℕ) → o.opener.number ≡ number → line_text (goes_on m o) ≡ continues_line now.number number
@@ -176,7 +176,7 @@ module _ (C : Table) (l : RequestTable) (s : Slots) (c : Tracked) (m : Message) 
   pub misses_all : (r : Option ℕ) → r ≡ position_from (λ slot. slot.key == i) 0 s.slots.entries → is_some r ≡ false
       → is_fragment m.header ≡ false → is_opener m.header ≡ false → is_cancel m.header ≡ true
       → effects (message_reader C l) c (events_at_request_id s.slots.most c.still_open m) ≡ no_effect c
-  misses_all r e n f g b = cancel_misses (rules C l s.slots.most) c c.still_open m f g b (misses (cancel_named m.header b) r e n)
+  misses_all r e n f g b = cancel_misses (rules_by C l s.slots.most) c c.still_open m f g b (misses (cancel_named m.header b) r e n)
 
   -- whether the open message that is found may be cancelled
   pub header_may : (o : Open) (v : Contents) (k : ℕ) (r : Bool) → slice_get c.still_open k ≡ Some o
@@ -187,12 +187,12 @@ module _ (C : Table) (l : RequestTable) (s : Slots) (c : Tracked) (m : Message) 
   pub spares : (o : Open) → is_fragment m.header ≡ false → is_opener m.header ≡ false → is_cancel m.header ≡ true
       → opener_of c.still_open m ≡ Some o → may_be_cancelled o.opener.header ≡ false
       → effects (message_reader C l) c (events_at_request_id s.slots.most c.still_open m) ≡ no_effect c
-  spares o f g b e j = cancel_spares (rules C l s.slots.most) c c.still_open m o f g b e j
+  spares o f g b e j = cancel_spares (rules_by C l s.slots.most) c c.still_open m o f g b e j
 
   pub cancels_one : (o : Open) → is_fragment m.header ≡ false → is_opener m.header ≡ false → is_cancel m.header ≡ true
       → opener_of c.still_open m ≡ Some o → may_be_cancelled o.opener.header ≡ true
       → effects (message_reader C l) c (events_at_request_id s.slots.most c.still_open m) ≡ one_effect (message_reader C l) c now.place o.opener (Cancelled now.number)
-  cancels_one o f g b e j = cancel_closes (rules C l s.slots.most) c c.still_open m o f g b e j ∙ rw (h.current.place, h.current.number) refl
+  cancels_one o f g b e j = cancel_closes (rules_by C l s.slots.most) c c.still_open m o f g b e j ∙ rw (h.current.place, h.current.number) refl
 
   -- ---- Any message.
 
@@ -201,4 +201,4 @@ module _ (C : Table) (l : RequestTable) (s : Slots) (c : Tracked) (m : Message) 
 
   pub no_name : is_fragment now.header ≡ false → is_opener now.header ≡ false → is_cancel now.header ≡ false
       → effects (message_reader C l) c (events_at_request_id s.slots.most c.still_open m) ≡ no_effect c
-  no_name f g b = other_id (rules C l s.slots.most) c c.still_open m (header_is is_fragment false f) (header_is is_opener false g) (header_is is_cancel false b)
+  no_name f g b = other_id (rules_by C l s.slots.most) c c.still_open m (header_is is_fragment false f) (header_is is_opener false g) (header_is is_cancel false b)

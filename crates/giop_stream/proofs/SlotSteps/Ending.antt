@@ -3,7 +3,7 @@ use Rattle.std.proofs.Common.{◌≡◌, ℕ, ◌<◌, ◌≤◌, Bool, true, fa
 use Rattle.std.specs.Prelude.{◌&&◌, ◌||◌, nat_lt, if◌then◌else◌}
 use Rattle.std.proofs.lemmas.Bool.{and_parts, ltb-true, ltb-false, lt-leb, le-leb}
 use Rattle.giop_sig.specs.Table.{Table}
-use Rattle.giop_message.specs.Signatures.{RequestTable}
+use Rattle.giop_message.specs.Signatures.{Answers}
 use Rattle.giop_message.specs.ReaderOfTable.{message_reader}
 use Rattle.giop_message.specs.Headers.{size, has_more, is_fragment, is_opener}
 use Rattle.giop_stream.specs.declared.fault.FramingFault.TheVariants.{Short}
@@ -58,7 +58,7 @@ long_by n o e = ltb-false n 4 (go (nat_lt n 4) o e)
     go true false e = absurd cc
     go false o e = refl
 
-module _ (C : Table) (l : RequestTable) (s : Slots) (c : Tracked) (m : Message) (now : Current) (h : IsAtOctet C l s c m now) where
+module _ (C : Table) (l : Answers) (s : Slots) (c : Tracked) (m : Message) (now : Current) (h : IsAtOctet C l s c m now) where
   header_at : (says : List ℕ → Bool) (r : Bool) → r ≡ says now.header → says m.header ≡ r
   header_at says r e = ap says h.current.header ∙ sym e
 

@@ -11,7 +11,7 @@ use Rattle.giop_stream.specs.SlotsRepresent.{OpenEntry, open_entry, with_message
 use Rattle.giop_stream.specs.declared.slots.Slots.{Slots}
 use Rattle.giop_stream.specs.declared.slots.Payload.TheVariants as payload
 use Rattle.giop_sig.specs.Table.{Table}
-use Rattle.giop_message.specs.Signatures.{RequestTable}
+use Rattle.giop_message.specs.Signatures.{Answers}
 use Rattle.giop_message.specs.ReaderOfTable.{message_reader}
 use Rattle.giop_message.specs.MessageState.{Follows}
 use Rattle.giop_print.specs.Output.{OutLog}
@@ -74,7 +74,7 @@ none_there still_open n h =
 
 -- ---- An open message is cancelled by the current one.
 
-module _ (C : Table) (l : RequestTable) where
+module _ (C : Table) (l : Answers) where
   pub still_alters : (at : ℕ) (c : Tracked) (w : MessageKey) (what : EventKind) → IsStill what
       → Alters c w (one_effect (message_reader C l) c at w what) (part_of (message_reader C l) (event at w what) (c.known w.number))
   unfolding tracked_at part_of
@@ -187,6 +187,19 @@ module _ (C : Table) (l : RequestTable) where
         (λ kept. rw (e, ← there.2, revalued_set s.slots.entries k x message there.1)
         (slot_now s x message c w effect part k alters rising h e there.1 kept))
         (f (rw there.2 at was.0) (rw there.2 at was.1))
+
+  -- the message that represents the owner of the octets
+  pub own_kept : (s : Slots) (c : Tracked) (w : MessageKey) → s.payload ≡ payload.Own → SlotsRepresent C l s c (Some w)
+      → RepresentsMessage C l s.own w (c.known w.number)
+  own_kept s c w e h = (own_parts s c w e h).1
+
+  pub slot_kept : (s : Slots) (v : Contents) (c : Tracked) (w : MessageKey) (k : ℕ) → s.payload ≡ payload.Open k
+      → option_map (λ e. e.value) (slice_get s.slots.entries k) ≡ Some v → SlotsRepresent C l s c (Some w)
+      → RepresentsMessage C l v.message w (c.known w.number)
+  slot_kept s v c w k e get h =
+      let there = entry_there s.slots.entries k v get in
+      let was = in_slot s there.0 c w k e there.1 h in
+      rw there.2 at was.1
 
   -- an open owner has a slot
   pub no_slot_says : {A : Type 0} (s : Slots) (c : Tracked) (owner_of_next : Option MessageKey) (k : ℕ) → s.payload ≡ payload.Open k

@@ -8,7 +8,7 @@ use Rattle.giop_stream.specs.OpenSlots.{OctetsByNumber, slots_of}
 use Rattle.giop_stream.specs.Effects.{Tracked}
 use Rattle.giop_stream.specs.SlotsRepresent.{AreSlots}
 use Rattle.giop_sig.specs.Table.{Table}
-use Rattle.giop_message.specs.Signatures.{RequestTable}
+use Rattle.giop_message.specs.Signatures.{Answers}
 
 -- ---- The open message with a request id.
 
@@ -39,7 +39,7 @@ pub record OpenAt (c : Tracked) (i k : ℕ) : Type 0 where
   pub here : slice_get c.still_open k ≡ Some o
   pub is : find (λ o. o.id == i) c.still_open ≡ Some o
 
-module _ (C : Table) (l : RequestTable) where
+module _ (C : Table) (l : Answers) where
   ids_found : (ks : List OpenEntry) (K : OctetsByNumber) (still_open : List Open) (i n : ℕ) → AreSlots C l ks (slots_of K still_open)
       → position_from (λ slot. slot.key == i) n ks ≡ position_from (λ o. o.id == i) n still_open
   unfolding slots_of

@@ -4,14 +4,14 @@ use Rattle.std.specs.Prelude.{◌==◌, if◌then◌else◌}
 use Rattle.std.proofs.lemmas.Bool.{ne_eqb, eqb-true, le-leb, lt-ltb, cases_lt}
 use Rattle.std.proofs.lemmas.List.{length_push, get_or_push, take-append-le}
 use Rattle.giop_sig.specs.Table.{Table}
-use Rattle.giop_message.specs.Signatures.{RequestTable, signatures_of}
+use Rattle.giop_message.specs.Signatures.{Answers, signatures_of}
 use Rattle.giop_message.specs.ReaderOfTable.{message_reader}
 use Rattle.giop_message.specs.MessageReader.{MessageReader, IsStreamable}
 use Rattle.giop_message.specs.Headers.{size, is_fragment, has_name}
 use Rattle.giop_message.proofs.MessageLaws.{is_ordered, is_closing, is_named}
 use Rattle.giop_stream.specs.declared.slots.Slots.{Slots}
 use Rattle.giop_stream.specs.declared.current.Current.{Current}
-use Rattle.giop_stream.specs.Rules.{Rules, rules}
+use Rattle.giop_stream.specs.Rules.{Rules, rules_by}
 use Rattle.giop_stream.specs.Framing.{Message}
 use Rattle.giop_stream.specs.Events.{Takes, MessageKey, Open, Event, message_key, place, opener_of, has_named, goes_past, id, events_at_octet, events_at_request_id, events_of_octet, opened, Rising, now_of, request_id_events, message_end_events}
 use Rattle.giop_stream.specs.Effects.{Tracked, Effect, effects, tracked_at, then_effect, with_octet}
@@ -137,9 +137,9 @@ owner_next still_open m x = elim (cases_lt (length m.payload) 4) [
       rw (lt-ltb 4 (length (m.payload ++ x ∷ [])) past, le-leb 4 (length m.payload) (omega arith), same_opener still_open m x (omega arith)) refl
 ]
 
-module _ (C : Table) (l : RequestTable) where
+module _ (C : Table) (l : Answers) where
   pub in_turn : IsStreamable (message_reader C l)
-  in_turn = record { named = is_named C l; ordered = is_ordered (signatures_of C l); closing = is_closing (signatures_of C l) }
+  in_turn = record { named = is_named C l; ordered = is_ordered (λ number. signatures_of C (l number)); closing = is_closing (λ number. signatures_of C (l number)) }
 
   about_takes : (c : Tracked) (m : Message) (x at : ℕ) (r : Option Open) → goes_past m ≡ true → opener_of c.still_open m ≡ r
       → get_or m.payload (length m.payload - 1) 0 ≡ x → place m ≡ at
@@ -157,7 +157,7 @@ module _ (C : Table) (l : RequestTable) where
       go true past = rw past (about_takes c m x at (opener_of c.still_open m) past refl last here)
       go false own = rw own (octet_own (message_reader C l) c c.still_open m own ∙ rw (last, here) refl)
 
-module _ (C : Table) (l : RequestTable) (s : Slots) (c : Tracked) (m : Message) (now : Current) (x : ℕ) (h : IsBeforeOctet C l s c m now x) where
+module _ (C : Table) (l : Answers) (s : Slots) (c : Tracked) (m : Message) (now : Current) (x : ℕ) (h : IsBeforeOctet C l s c m now x) where
   last_is : get_or (m.payload ++ x ∷ []) (length (m.payload ++ x ∷ []) - 1) 0 ≡ x
   last_is = get_or_push m.payload x 0 (length (m.payload ++ x ∷ []) - 1) (omega (arith, length_push m.payload x))
 
@@ -168,21 +168,21 @@ module _ (C : Table) (l : RequestTable) (s : Slots) (c : Tracked) (m : Message) 
   unfolding place
   some_place = omega (arith, h.current.place)
 
-  takes_at : first (rules C l s.slots.most) c (with_octet m x) ≡ effect_to C l now.place c (owner_of_next c.still_open m) (Takes x)
+  takes_at : first (rules_by C l s.slots.most) c (with_octet m x) ≡ effect_to C l now.place c (owner_of_next c.still_open m) (Takes x)
   takes_at = rw (← owner_next c.still_open m x) (octet_does C l c (with_octet m x) x now.place last_is h.current.place)
 
   -- which is a run of one octet
-  pub takes_effect : first (rules C l s.slots.most) c (with_octet m x) ≡ run_effect C l (now.place - 1) c (owner_of_next c.still_open m) (x ∷ [])
+  pub takes_effect : first (rules_by C l s.slots.most) c (with_octet m x) ≡ run_effect C l (now.place - 1) c (owner_of_next c.still_open m) (x ∷ [])
   unfolding run_effect
   takes_effect =
       let effect = effect_to C l now.place c (owner_of_next c.still_open m) (Takes x) in
       takes_at ∙ rw some_place (λ j. record { tracked = effect.tracked; lines = sym (append-nil effect.lines) j })
 
   known_is : length m.payload < 4 → has_name m.header ≡ true
-      → (first (rules C l s.slots.most) c (with_octet m x)).tracked.known m.number ≡ Some (m.payload ++ x ∷ [])
+      → (first (rules_by C l s.slots.most) c (with_octet m x)).tracked.known m.number ≡ Some (m.payload ++ x ∷ [])
   known_is few name =
       let w : owner_of_octet c.still_open (with_octet m x) ≡ Some (message_key m) = owner_own c.still_open (with_octet m x) (omega (arith, length_push m.payload x)) in
-      let tracked : (first (rules C l s.slots.most) c (with_octet m x)).tracked ≡ tracked_at (message_reader C l) c (event now.place (message_key m) (Takes x)) =
+      let tracked : (first (rules_by C l s.slots.most) c (with_octet m x)).tracked ≡ tracked_at (message_reader C l) c (event now.place (message_key m) (Takes x)) =
       ap (λ (p : Effect). p.tracked) (octet_does C l c (with_octet m x) x now.place last_is h.current.place)
       ∙ ap (λ (v : Option MessageKey). (effect_to C l now.place c v (Takes x)).tracked) w in
       ap (λ (d : Tracked). d.known m.number) tracked
@@ -190,9 +190,9 @@ module _ (C : Table) (l : RequestTable) (s : Slots) (c : Tracked) (m : Message) 
       ∙ rw (h.alive name few) (named_then (message_reader C l) (in_turn C l) now.place (message_key m) m.payload x name few))
 
   pub taken_here : (s' : Slots) → SlotsRepresent C l s' (run_effect C l (now.place - 1) c (owner_of_next c.still_open m) (x ∷ [])).tracked
-      (owner_of_next c.still_open m) → IsAfterTake C l s' (first (rules C l s.slots.most) c (with_octet m x)).tracked (with_octet m x) now
+      (owner_of_next c.still_open m) → IsAfterTake C l s' (first (rules_by C l s.slots.most) c (with_octet m x)).tracked (with_octet m x) now
   taken_here s' k =
-      let R = rules C l s.slots.most in
+      let R = rules_by C l s.slots.most in
       let m' = with_octet m x in
       let still_open : (first R c m').tracked.still_open ≡ c.still_open = first_still_open R c m' in
       let w : owner_of_octet (first R c m').tracked.still_open m' ≡ owner_of_next c.still_open m = ap (λ (open' : List Open). owner_of_octet open' m') still_open ∙ owner_next c.still_open m x in
@@ -209,11 +209,11 @@ module _ (C : Table) (l : RequestTable) (s : Slots) (c : Tracked) (m : Message) 
   pub come_is : length (m.payload ++ x ∷ []) ≡ now.payload_count
   come_is = omega (arith, length_push m.payload x, h.payload_count)
 
-  pub named_at : (s' : Slots) → SlotsRepresent C l s' (second (rules C l s.slots.most) c (with_octet m x)).tracked
-      (owner_of_next (first (rules C l s.slots.most) c (with_octet m x)).tracked.still_open (with_octet m x))
-      → IsAtOctet C l s' (second (rules C l s.slots.most) c (with_octet m x)).tracked (with_octet m x) now
+  pub named_at : (s' : Slots) → SlotsRepresent C l s' (second (rules_by C l s.slots.most) c (with_octet m x)).tracked
+      (owner_of_next (first (rules_by C l s.slots.most) c (with_octet m x)).tracked.still_open (with_octet m x))
+      → IsAtOctet C l s' (second (rules_by C l s.slots.most) c (with_octet m x)).tracked (with_octet m x) now
   named_at s' k =
-      let R = rules C l s.slots.most in
+      let R = rules_by C l s.slots.most in
       let m' = with_octet m x in
       record {
         keeps = rw (← second_owner R c m') k;

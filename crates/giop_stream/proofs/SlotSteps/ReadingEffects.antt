@@ -9,7 +9,7 @@ use Rattle.giop_sig.specs.Table.{Table}
 use Rattle.giop_message.specs.declared.message.Message.{Message}
 use Rattle.giop_message.specs.MessageReader.{LineClass, Value, Call, Rest, Fault, End, TimedLine, MessageReader, AreInLineOrder, AtClose, due, is_fault, is_last}
 use Rattle.giop_message.specs.Text.{line_class_text, numbered_lines}
-use Rattle.giop_message.specs.Signatures.{RequestTable, signatures_of}
+use Rattle.giop_message.specs.Signatures.{Answers, signatures_of}
 use Rattle.giop_message.specs.Messages.{message, stage_of, close}
 use Rattle.giop_message.specs.ReaderOfTable.{message_reader}
 use Rattle.giop_message.specs.MessageState.{due_text, closing_text, closes_text, is_short, Follows}
@@ -159,55 +159,55 @@ module _ (R : MessageReader) where
   unfolding lines_of lines_for lines_of_event line up_to_last_line
   cancelled_lines at w j xs = refl
 
-module _ (C : Table) (l : RequestTable) where
+module _ (C : Table) (l : Answers) where
   abbrev pub R_of : MessageReader
   R_of = message_reader C l
 
-  in_turn : (header xs : List ℕ) (x : ℕ) → AreInLineOrder (map (λ r. r.line_class) (due R_of header xs x))
-  in_turn header xs x = (is_ordered (signatures_of C l)).ordered header (xs ++ x ∷ []) (suc (length xs))
+  in_turn : (number : ℕ) (header xs : List ℕ) (x : ℕ) → AreInLineOrder (map (λ r. r.line_class) (due R_of number header xs x))
+  in_turn number header xs x = (is_ordered (λ number. signatures_of C (l number))).ordered number header (xs ++ x ∷ []) (suc (length xs))
 
-  at_close : (header xs : List ℕ) → AtClose (map (λ c. c.0) (R_of.closes header xs))
-  at_close header xs = (is_closing (signatures_of C l)).closed header xs
+  at_close : (number : ℕ) (header xs : List ℕ) → AtClose (map (λ c. c.0) (R_of.closes number header xs))
+  at_close number header xs = (is_closing (λ number. signatures_of C (l number))).closed number header xs
 
-  take_lines : (at : ℕ) (w : MessageKey) (xs : List ℕ) (x : ℕ) → lines_of R_of (event at w (Takes x)) (Some xs) ≡ reader_lines at w.number (due R_of w.header xs x)
+  take_lines : (at : ℕ) (w : MessageKey) (xs : List ℕ) (x : ℕ) → lines_of R_of (event at w (Takes x)) (Some xs) ≡ reader_lines at w.number (due R_of w.number w.header xs x)
   unfolding lines_of lines_for lines_of_event line
-  take_lines at w xs x = rw (one_octet at w x) (turn_stands at w.number (due R_of w.header xs x) (in_turn w.header xs x))
+  take_lines at w xs x = rw (one_octet at w x) (turn_stands at w.number (due R_of w.number w.header xs x) (in_turn w.number w.header xs x))
 
-  closing_lines : (at : ℕ) (w : MessageKey) (xs : List ℕ) → lines_of R_of (event at w Closes) (Some xs) ≡ close_lines at w.number (R_of.closes w.header xs)
+  closing_lines : (at : ℕ) (w : MessageKey) (xs : List ℕ) → lines_of R_of (event at w Closes) (Some xs) ≡ close_lines at w.number (R_of.closes w.number w.header xs)
   unfolding lines_of lines_for lines_of_event line
-  closing_lines at w xs = close_stands at w.number (R_of.closes w.header xs) (at_close w.header xs)
+  closing_lines at w xs = close_stands at w.number (R_of.closes w.number w.header xs) (at_close w.number w.header xs)
 
   -- ---- An octet.
 
   abbrev pub Faulty : MessageKey → List ℕ → ℕ → Bool
-  Faulty w xs x = list_any (λ r. is_fault r.line_class) (due R_of w.header xs x)
+  Faulty w xs x = list_any (λ r. is_fault r.line_class) (due R_of w.number w.header xs x)
 
-  pub take_text : (before : ℕ) (w : MessageKey) (xs : List ℕ) (x : ℕ) → lines_text (lines_of R_of (event (suc before) w (Takes x)) (Some xs)) ≡ due_text (signatures_of C l) w.number before w.header xs (x ∷ [])
+  pub take_text : (before : ℕ) (w : MessageKey) (xs : List ℕ) (x : ℕ) → lines_text (lines_of R_of (event (suc before) w (Takes x)) (Some xs)) ≡ due_text (signatures_of C (l w.number)) w.number before w.header xs (x ∷ [])
   take_text before w xs x =
-      ap lines_text (take_lines (suc before) w xs x) ∙ (said_is (suc before) w.number (due R_of w.header xs x) ∙ sym (octet_text (signatures_of C l) w.number before w.header xs x))
+      ap lines_text (take_lines (suc before) w xs x) ∙ (said_is (suc before) w.number (due R_of w.number w.header xs x) ∙ sym (octet_text (signatures_of C (l w.number)) w.number before w.header xs x))
 
   pub then_by : (at : ℕ) (w : MessageKey) (xs : List ℕ) (x : ℕ) → octets_then R_of (event at w (Takes x)) (Some xs) ≡ (if Faulty w xs x then None else Some (xs ++ x ∷ []))
   unfolding octets_then octet
-  then_by at w xs x = rw (take_lines at w xs x, turn_last at w.number (due R_of w.header xs x) (in_turn w.header xs x)) refl
+  then_by at w xs x = rw (take_lines at w xs x, turn_last at w.number (due R_of w.number w.header xs x) (in_turn w.number w.header xs x)) refl
 
   pub faults_by : (at : ℕ) (w : MessageKey) (xs : List ℕ) (x : ℕ) → fault_count (lines_of R_of (event at w (Takes x)) (Some xs)) ≡ (if Faulty w xs x then 1 else 0)
-  faults_by at w xs x = rw (take_lines at w xs x) (turn_faults at w.number (due R_of w.header xs x) (in_turn w.header xs x))
+  faults_by at w xs x = rw (take_lines at w xs x) (turn_faults at w.number (due R_of w.number w.header xs x) (in_turn w.number w.header xs x))
 
   -- ---- A close.
 
-  close_text : (P : List ℕ → Type 0) (w : MessageKey) (at : ℕ) (xs : List ℕ) → P (closing_text w.number at (close (stage_of (message (signatures_of C l) w.header xs))))
+  close_text : (P : List ℕ → Type 0) (w : MessageKey) (at : ℕ) (xs : List ℕ) → P (closing_text w.number at (close (stage_of (message (signatures_of C (l w.number)) w.header xs))))
       → P (lines_text (lines_of R_of (event at w Closes) (Some xs)))
   close_text P w at xs p =
-      let text : lines_text (lines_of R_of (event at w Closes) (Some xs)) ≡ closing_text w.number at (close (stage_of (message (signatures_of C l) w.header xs))) =
-      ap lines_text (closing_lines at w xs) ∙ (closed_is at w.number (R_of.closes w.header xs) ∙ sym (close_is (signatures_of C l) w.number at w.header xs)) in
+      let text : lines_text (lines_of R_of (event at w Closes) (Some xs)) ≡ closing_text w.number at (close (stage_of (message (signatures_of C (l w.number)) w.header xs))) =
+      ap lines_text (closing_lines at w xs) ∙ (closed_is at w.number (R_of.closes w.number w.header xs) ∙ sym (close_is (signatures_of C (l w.number)) w.number at w.header xs)) in
       subst P (sym text) p
 
-  close_by : (at : ℕ) (w : MessageKey) (xs : List ℕ) → fault_count (lines_of R_of (event at w Closes) (Some xs)) ≡ one_if (is_short (close (stage_of (message (signatures_of C l) w.header xs))))
-  close_by at w xs = rw (closing_lines at w xs, close_short (signatures_of C l) w.header xs) (close_faults at w.number (R_of.closes w.header xs) (at_close w.header xs))
+  close_by : (at : ℕ) (w : MessageKey) (xs : List ℕ) → fault_count (lines_of R_of (event at w Closes) (Some xs)) ≡ one_if (is_short (close (stage_of (message (signatures_of C (l w.number)) w.header xs))))
+  close_by at w xs = rw (closing_lines at w xs, close_short (signatures_of C (l w.number)) w.header xs) (close_faults at w.number (R_of.closes w.number w.header xs) (at_close w.number w.header xs))
 
   pub close_writes : {E : Type 0} (m : Message) (w : MessageKey) (o : Option (List ℕ)) (at : ℕ) (r : Result Bool E) (a b : OutLog) → RepresentsMessage C l (Some m) w o
-      → ((number : ℕ) (header s : List ℕ) → Follows C l number header m s → Writes r a b (closing_text number at (close (stage_of (message (signatures_of C l) header s)))))
-      → IfOk r (λ short. (kept : RequestTable) (number : ℕ) (header s : List ℕ) → Follows C kept number header m s → short ≡ is_short (close (stage_of (message (signatures_of C kept) header s))))
+      → ((number : ℕ) (header s : List ℕ) → Follows C l number header m s → Writes r a b (closing_text number at (close (stage_of (message (signatures_of C (l number)) header s)))))
+      → IfOk r (λ short. (kept : Answers) (number : ℕ) (header s : List ℕ) → Follows C kept number header m s → short ≡ is_short (close (stage_of (message (signatures_of C (kept number)) header s))))
       → WritesLines one_if r a b (lines_of R_of (event at w Closes) o)
   close_writes m w None at r a b k text short = absurd k
   close_writes m w (Some xs) at (Err e) a b k text short = record { text = close_text (WroteFront a b) w at xs (text w.number w.header xs k); faults = tt; kept = tt }

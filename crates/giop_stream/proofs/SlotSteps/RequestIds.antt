@@ -7,7 +7,7 @@ use Rattle.giop_sig.specs.Types.{Ty}
 use Rattle.giop_sig.specs.Table.{Table}
 use Rattle.giop_sig.specs.HeaderTypes.{BeginsWithId, header_type}
 use Rattle.giop_message.specs.Headers.{minor, kind, order, has_more, may_be_fragmented, is_opener, is_fragment, is_cancel, has_name}
-use Rattle.giop_message.specs.Signatures.{RequestTable, signatures_of}
+use Rattle.giop_message.specs.Signatures.{Answers, signatures_of}
 use Rattle.giop_message.specs.Messages.{message, message_lines}
 use Rattle.giop_message.specs.ReaderOfTable.{first_request_id}
 use Rattle.giop_message.proofs.MessageLaws.{begins_with_id, id_is_said}
@@ -126,15 +126,15 @@ says_id header twelve right name =
 
 -- ---- The request id that is read from its first four octets.
 
-pub id_is_id : (C : Table) (l : RequestTable) (m : Message) → length m.payload ≡ 4 → SaysId m.header
-    → first_request_id (message_lines (message (signatures_of C l) m.header m.payload)) ≡ Some (id m)
+pub id_is_id : (C : Table) (l : Answers) (m : Message) → length m.payload ≡ 4 → SaysId m.header
+    → first_request_id (message_lines (message (signatures_of C (l m.number)) m.header m.payload)) ≡ Some (id m)
 unfolding id signatures_of
 id_is_id C l m four says = go m.payload four
   where
-    go : (xs : List ℕ) → length xs ≡ 4 → first_request_id (message_lines (message (signatures_of C l) m.header xs)) ≡ Some (num (order m.header) (take 4 xs))
+    go : (xs : List ℕ) → length xs ≡ 4 → first_request_id (message_lines (message (signatures_of C (l m.number)) m.header xs)) ≡ Some (num (order m.header) (take 4 xs))
     go [] e = absurd (omega (arith, e))
     go (a ∷ []) e = absurd (omega (arith, e))
     go (a ∷ b ∷ []) e = absurd (omega (arith, e))
     go (a ∷ b ∷ c ∷ []) e = absurd (omega (arith, e))
-    go (a ∷ b ∷ c ∷ d ∷ []) e = id_is_said (signatures_of C l) m.header says.0 says.1 says.2 a b c d []
+    go (a ∷ b ∷ c ∷ d ∷ []) e = id_is_said (signatures_of C (l m.number)) m.header says.0 says.1 says.2 a b c d []
     go (a ∷ b ∷ c ∷ d ∷ x ∷ xs) e = absurd (omega (arith, e))

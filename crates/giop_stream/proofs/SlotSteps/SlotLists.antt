@@ -6,7 +6,7 @@ use Rattle.giop_message.specs.declared.message.Message.{Message}
 use Rattle.giop_entry_table.specs.EntryTable.{revalued}
 use Rattle.giop_stream.specs.declared.slots.Slot.{Slot as Contents}
 use Rattle.giop_sig.specs.Table.{Table}
-use Rattle.giop_message.specs.Signatures.{RequestTable}
+use Rattle.giop_message.specs.Signatures.{Answers}
 use Rattle.giop_stream.specs.Events.{Open}
 use Rattle.giop_stream.specs.OpenSlots.{Slot, OctetsByNumber, slots_of}
 use Rattle.giop_stream.specs.Effects.{Tracked}
@@ -70,7 +70,7 @@ revalued_set [] k x message e = refl
 revalued_set (y ∷ ks) zero x message e = let same : y ≡ x = cc in rw same refl
 revalued_set (y ∷ ks) (suc k) x message e = ap (λ (more : List OpenEntry). y ∷ more) (revalued_set ks k x message e)
 
-module _ (C : Table) (l : RequestTable) where
+module _ (C : Table) (l : Answers) where
   pub slot_of : (ks : List OpenEntry) (ss : List Slot) (k : ℕ) (x : OpenEntry) (s : Slot) → AreSlots C l ks ss
       → slice_get ks k ≡ Some x → slice_get ss k ≡ Some s → IsSlot C l x s
   slot_of [] ss k x s h e f = absurd cc

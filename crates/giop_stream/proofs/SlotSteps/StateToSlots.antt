@@ -5,7 +5,7 @@ use Rattle.std.specs.List.{find, AllByRecursion as Each}
 use Rattle.std.proofs.lemmas.Bool.{eq-eqb, ne_eqb, or_right}
 use Rattle.giop_sig.specs.Table.{Table}
 use Rattle.giop_message.specs.declared.message.Message.{Message as CodeMessage}
-use Rattle.giop_message.specs.Signatures.{RequestTable}
+use Rattle.giop_message.specs.Signatures.{Answers}
 use Rattle.giop_stream.specs.declared.slots.Payload.{Payload}
 use Rattle.giop_stream.specs.declared.slots.Payload.TheVariants as payload
 use Rattle.giop_stream.specs.Framing.{Message}
@@ -54,7 +54,7 @@ pub own_else : (K : OctetsByNumber) (still_open : List Open) (now : Now) → is_
 unfolding own_for
 own_else K still_open now e f = rw (e, f) refl
 
-module _ (C : Table) (l : RequestTable) where
+module _ (C : Table) (l : Answers) where
   own_by : (own : Option CodeMessage) (w : MessageKey) (o : Option (List ℕ)) → RepresentsMessage C l own w o
       → IsOwn C l own (option_map (λ xs. record { message_key = w; octets = xs }) o)
   own_by None w None k = tt
@@ -128,7 +128,7 @@ pub record Tells (s : State) (c : Tracked) (current : Option Message) : Type 0 w
   pub own : s.own ≡ own_in c.known c.still_open current
   pub owner : s.owner ≡ owner_in c.known c.still_open current
 
-module _ (C : Table) (l : RequestTable) (s : State) (c : Tracked) (own : Option CodeMessage) where
+module _ (C : Table) (l : Answers) (s : State) (c : Tracked) (own : Option CodeMessage) where
   slot_is : (current : Option Message) → Tells s c current → (k : ℕ) (o : Open) → slice_get c.still_open k ≡ Some o
       → slice_get s.slots k ≡ Some (record { open_as = o; octets = c.known o.opener.number })
   slot_is current e k o here = rw e.slots (slots_get c k o here)

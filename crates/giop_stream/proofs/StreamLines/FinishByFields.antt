@@ -4,7 +4,7 @@ use Rattle.std.specs.Prelude.{is_some, option_map, slice_get, if◌then◌else�
 use Rattle.std.proofs.lemmas.List.Concat.{flat_map-append}
 use Rattle.giop_print.specs.Lines.{unfinished_line, total_line}
 use Rattle.giop_sig.specs.Table.{Table}
-use Rattle.giop_message.specs.Signatures.{RequestTable}
+use Rattle.giop_message.specs.Signatures.{Answers}
 use Rattle.giop_message.specs.declared.message.Message.{Message as CodeMessage}
 use Rattle.giop_message.specs.Headers.{is_fragment}
 use Rattle.giop_stream.specs.declared.status.Totals.{Totals}
@@ -38,7 +38,7 @@ pub slot_silent : (ks : List OpenEntry) (i : ℕ) (v : Contents) (d : OpenEntry)
 unfolding slot_text
 slot_silent ks i v d is e = rw (value_at ks i v d is, e) refl
 
-module _ (C : Table) (l : RequestTable) where
+module _ (C : Table) (l : Answers) where
   line_kept : (n : ℕ) (own : Option CodeMessage) (w : MessageKey) (o : Option (List ℕ)) → n ≡ w.number → RepresentsMessage C l own w o
       → flat_map unfinished_line (left_by w.number o) ≡ (if is_some own then unfinished_line n else [])
   line_kept n None w None e k = refl
@@ -89,7 +89,7 @@ module _ (C : Table) (l : RequestTable) where
 pub no_more : (t : Totals) → with_truncated false t ≡ t
 no_more t = let none : t.faults + 0 ≡ t.faults = omega arith in λ i. record t { faults = none i }
 
-module _ (C : Table) (l : RequestTable) (m : FramingView) (s : State) (h : Shows C l m s) where
+module _ (C : Table) (l : Answers) (m : FramingView) (s : State) (h : Shows C l m s) where
   cut_short_is : steps.is_cut_short m ≡ is_cut_short s
   unfolding steps.is_cut_short is_cut_short
   cut_short_is = rw (h.stopped, h.header) refl

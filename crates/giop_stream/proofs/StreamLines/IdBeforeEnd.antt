@@ -57,10 +57,10 @@ unfolding lines_of lines_for lines_of_event
 takes_last R laws at w xs x name short =
     let e : Event = record { place = at; subject = w; what = Takes x } in
     rw (one_octet at w x)
-    (stand_last w.number (map (λ r. line e (Said r.line_class r.text)) (due R w.header xs x)) (λ i. false)
-    (values_last e (λ r. r.line_class) (λ r. r.text) w.number (due R w.header xs x)
-    (each_filter (λ r. r.line_class ≡ Value) (λ r. r.at == suc (length xs)) (R.reads w.header (xs ++ x ∷ []))
-    (laws.named.named w.header (xs ++ x ∷ []) name (omega (arith, length_push xs x))))))
+    (stand_last w.number (map (λ r. line e (Said r.line_class r.text)) (due R w.number w.header xs x)) (λ i. false)
+    (values_last e (λ r. r.line_class) (λ r. r.text) w.number (due R w.number w.header xs x)
+    (each_filter (λ r. r.line_class ≡ Value) (λ r. r.at == suc (length xs)) (R.reads w.number w.header (xs ++ x ∷ []))
+    (laws.named.named w.number w.header (xs ++ x ∷ []) name (omega (arith, length_push xs x))))))
 
 -- an octet of a request id is kept
 pub named_then : (R : MessageReader) → IsStreamable R → (at : ℕ) (w : MessageKey) (xs : List ℕ) (x : ℕ) → has_name w.header ≡ true

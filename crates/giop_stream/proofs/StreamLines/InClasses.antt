@@ -46,11 +46,11 @@ event_lines_faulted R fault e so_far all = spans_one 5 _ refl
 pub event_lines_takes : (R : MessageReader) → IsOrdered R → (x : ℕ) → Tells R 1 7 (Takes x)
 unfolding Tells lines_of_event
 event_lines_takes R ordered x e so_far all =
-    class_spans 1 7 e (λ r. r.line_class) (λ r. r.text) (filter (λ r. r.at == suc (length so_far)) (R.reads e.subject.header all)) (turn_spans _ (ordered.ordered e.subject.header all (suc (length so_far))))
+    class_spans 1 7 e (λ r. r.line_class) (λ r. r.text) (filter (λ r. r.at == suc (length so_far)) (R.reads e.subject.number e.subject.header all)) (turn_spans _ (ordered.ordered e.subject.number e.subject.header all (suc (length so_far))))
 
 event_lines_closes : (R : MessageReader) → IsClosing R → Tells R 6 8 Closes
 unfolding Tells lines_of_event
-event_lines_closes R closing e so_far all = class_spans 6 8 e (λ l. l.0) (λ l. l.1) (R.closes e.subject.header so_far) (close_spans _ (closing.closed e.subject.header so_far))
+event_lines_closes R closing e so_far all = class_spans 6 8 e (λ l. l.0) (λ l. l.1) (R.closes e.subject.number e.subject.header so_far) (close_spans _ (closing.closed e.subject.number e.subject.header so_far))
 
 -- ---- The lines of events, whatever is kept.
 

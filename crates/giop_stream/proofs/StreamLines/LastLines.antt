@@ -118,9 +118,9 @@ event_lines_final : (R : MessageReader) → IsEnding R → (e : Event) (so_far a
     → list_any (is_last_of e.subject.number) (lines_of_event R e so_far all what) ≡ true
 unfolding lines_of_event is_final is_last_of line
 event_lines_final R ending e so_far all Closes h =
-    rw (← any_map (is_last_of e.subject.number) (λ l. line e (Said l.0 l.1)) (R.closes e.subject.header so_far))
+    rw (← any_map (is_last_of e.subject.number) (λ l. line e (Said l.0 l.1)) (R.closes e.subject.number e.subject.header so_far))
     (any_weaker (λ l. is_last l.0) (λ l. is_last_of e.subject.number (line e (Said l.0 l.1))) (λ l. said_last e l.0 l.1)
-    (R.closes e.subject.header so_far) (ending.ends e.subject.header so_far))
+    (R.closes e.subject.number e.subject.header so_far) (ending.ends e.subject.number e.subject.header so_far))
 event_lines_final R ending e so_far all (Cancelled j) h = rw (eq-eqb e.subject.number e.subject.number refl) refl
 event_lines_final R ending e so_far all (Faults fault) h = rw (eq-eqb e.subject.number e.subject.number refl) refl
 event_lines_final R ending e so_far all _ h = absurd cc

@@ -79,12 +79,13 @@ module _ (R : MessageReader) (laws : IsStreamable R) where
   pair_by at subject x None = fine_none
   pair_by at subject x (Some xs) =
       let all = xs ++ x ∷ [] in
+      let number = subject.number in
       let header = subject.header in
       rw (one_octet (event at subject (Takes x)) x refl)
       (pair_fine (event at subject (Takes x)) (event at subject Closes) (λ r. r.line_class) (λ r. r.text) (λ l. l.0) (λ l. l.1)
-      (due R header xs x) (R.closes header all) refl
-      (both_say _ _ (laws.ordered.ordered header all (suc (length xs))) (laws.closing.closed header all)
-      (laws.closing.over header xs x) (laws.closing.one_rest header xs x)))
+      (due R number header xs x) (R.closes number header all) refl
+      (both_say _ _ (laws.ordered.ordered number header all (suc (length xs))) (laws.closing.closed number header all)
+      (laws.closing.over number header xs x) (laws.closing.one_rest number header xs x)))
 
   pair_fine_at : (K : OctetsByNumber) (at : ℕ) (subject : MessageKey) (x : ℕ) → Fine (all_lines R K (event at subject (Takes x) ∷ event at subject Closes ∷ []))
   unfolding all_lines kept_with
@@ -120,12 +121,13 @@ module _ (R : MessageReader) (laws : IsStreamable R) where
   named_takes at subject x (Some xs) k few =
       let short = few xs refl in
       let all = xs ++ x ∷ [] in
+      let number = subject.number in
       let header = subject.header in
       rw (one_octet (event at subject (Takes x)) x refl)
-      (class_spans 1 1 (event at subject (Takes x)) (λ r. r.line_class) (λ r. r.text) (due R header xs x)
-      (value_spans (λ r. r.line_class) (due R header xs x) (laws.ordered.ordered header all (suc (length xs)))
-      (each_filter (λ r. r.line_class ≡ Value) (λ r. r.at == suc (length xs)) (R.reads header all)
-      (laws.named.named header all k (omega (arith, length_push xs x))))))
+      (class_spans 1 1 (event at subject (Takes x)) (λ r. r.line_class) (λ r. r.text) (due R number header xs x)
+      (value_spans (λ r. r.line_class) (due R number header xs x) (laws.ordered.ordered number header all (suc (length xs)))
+      (each_filter (λ r. r.line_class ≡ Value) (λ r. r.at == suc (length xs)) (R.reads number header all)
+      (laws.named.named number header all k (omega (arith, length_push xs x))))))
 
 -- ---- All events of an octet.
 

@@ -29,7 +29,7 @@ event_lines_early : (R : MessageReader) → IsCausal R → (e : Event) (so_far m
 unfolding lines_of_event octet
 event_lines_early R causal e so_far more (Takes x) =
     ap (map (λ r. line e (Said r.line_class r.text)))
-    (causal.earlier e.subject.header (so_far ++ x ∷ []) more (suc (length so_far)) (omega (arith, length_push so_far x)))
+    (causal.earlier e.subject.number e.subject.header (so_far ++ x ∷ []) more (suc (length so_far)) (omega (arith, length_push so_far x)))
 event_lines_early R causal e so_far more _ = refl
 
 -- The lines of events, each by the octets up to it.
@@ -76,12 +76,12 @@ unfolding lines_of_event
 event_lines_of R e so_far all Begins = (line_of e (Started e.subject.header), tt)
 event_lines_of R e so_far all (Takes x) =
     each_map (IsOf e) (λ r. line e (Said r.line_class r.text)) (λ r. line_of e (Said r.line_class r.text))
-    (filter (λ r. r.at == suc (length so_far)) (R.reads e.subject.header all))
+    (filter (λ r. r.at == suc (length so_far)) (R.reads e.subject.number e.subject.header all))
 event_lines_of R e so_far all (Opens id) = tt
 event_lines_of R e so_far all (Continues i) = (line_of e (ContinuesMessage i), tt)
 event_lines_of R e so_far all (Cancelled j) = (line_of e (CancelledBy j), tt)
 event_lines_of R e so_far all (Faults fault) = (line_of e (Faulted fault), tt)
-event_lines_of R e so_far all Closes = each_map (IsOf e) (λ l. line e (Said l.0 l.1)) (λ l. line_of e (Said l.0 l.1)) (R.closes e.subject.header so_far)
+event_lines_of R e so_far all Closes = each_map (IsOf e) (λ l. line e (Said l.0 l.1)) (λ l. line_of e (Said l.0 l.1)) (R.closes e.subject.number e.subject.header so_far)
 
 pub lines_so_far_each : (R : MessageReader) (P : ℕ → Type 0) (past es : List Event) → Each (λ e. P e.place) es → Each (λ l. P l.place) (lines_so_far R past es)
 unfolding lines_so_far IsOf

@@ -41,11 +41,11 @@ takes_none : (R : MessageReader) (e : Event) (so_far all : List ℕ) (x : ℕ) �
 unfolding lines_of_event
 takes_none R e so_far all x =
     each_map NoStart (λ r. line e (Said r.line_class r.text)) (λ r. said_none e r.line_class r.text)
-    (filter (λ r. r.at == suc (length so_far)) (R.reads e.subject.header all))
+    (filter (λ r. r.at == suc (length so_far)) (R.reads e.subject.number e.subject.header all))
 
 closes_none : (R : MessageReader) (e : Event) (so_far all : List ℕ) → Each NoStart (lines_of_event R e so_far all Closes)
 unfolding lines_of_event
-closes_none R e so_far all = each_map NoStart (λ l. line e (Said l.0 l.1)) (λ l. said_none e l.0 l.1) (R.closes e.subject.header so_far)
+closes_none R e so_far all = each_map NoStart (λ l. line e (Said l.0 l.1)) (λ l. said_none e l.0 l.1) (R.closes e.subject.number e.subject.header so_far)
 
 Quiet : Event → Type 0
 Quiet e = (R : MessageReader) (so_far all : List ℕ) → Each NoStart (lines_of_event R e so_far all e.what)

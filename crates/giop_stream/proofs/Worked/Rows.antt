@@ -41,7 +41,7 @@ unfoldable pub named_closes : ℕ → List ℕ → List ℕ → List (LineClass 
 named_closes least header xs = if nat_lt (length xs) least then (Fault, codes "short") ∷ [] else behind (drop 4 xs) ++ (End, codes "end") ∷ []
 
 unfoldable pub small_reading : ℕ → MessageReader
-small_reading least = record { reads = named_reads; closes = named_closes least }
+small_reading least = record { reads = λ number. named_reads; closes = λ number. named_closes least }
 
 -- with as many open messages allowed as in a new engine
 unfoldable pub small : ℕ → Rules

@@ -10,15 +10,15 @@ use Rattle.giop_message.proofs.laws.message_laws.Goals as goal
 pub returns : goal.returns
 unfolding signatures_of
 returns c = record {
-  step = λ C request_table. message_goes (signatures_of C request_table);
-  many = λ C request_table. message_resumes (signatures_of C request_table);
-  over = λ C request_table. over_where_faulted (signatures_of C request_table);
-  causal = λ C request_table. is_causal (signatures_of C request_table);
-  ending = λ C request_table. is_ending (signatures_of C request_table);
-  named = λ C request_table. is_named (signatures_of C request_table) (has_ids C request_table);
-  ordered = λ C request_table. is_ordered (signatures_of C request_table);
-  closing = λ C request_table. is_closing (signatures_of C request_table);
-  id = λ C request_table. id_is_said (signatures_of C request_table);
-  writes = λ C request_table. text_is (signatures_of C request_table);
-  closes = λ C request_table. close_is (signatures_of C request_table);
+  step = λ C answer. message_goes (signatures_of C answer);
+  many = λ C answer. message_resumes (signatures_of C answer);
+  over = λ C answer. over_where_faulted (signatures_of C answer);
+  causal = λ C answers. is_causal (λ number. signatures_of C (answers number));
+  ending = λ C answers. is_ending (λ number. signatures_of C (answers number));
+  named = λ C answers. is_named (λ number. signatures_of C (answers number)) (λ number. has_ids C (answers number));
+  ordered = λ C answers. is_ordered (λ number. signatures_of C (answers number));
+  closing = λ C answers. is_closing (λ number. signatures_of C (answers number));
+  id = λ C answer. id_is_said (signatures_of C answer);
+  writes = λ C answers number. text_is (signatures_of C (answers number)) number;
+  closes = λ C answers number. close_is (signatures_of C (answers number)) number;
 }

@@ -5,8 +5,8 @@ use Rattle.giop_message.proofs.reader_laws.message_reader_laws.Goals as goal
 
 pub returns : goal.returns
 returns c = record {
-  text = λ C request_table. octet_text (signatures_of C request_table);
-  over = λ C request_table. octet_over (signatures_of C request_table);
-  going = λ C request_table number header m s f. follows_goes f;
-  short = λ C request_table. close_short (signatures_of C request_table);
+  text = λ C answers number. octet_text (signatures_of C (answers number)) number;
+  over = λ C answers number. octet_over (signatures_of C (answers number));
+  going = λ C answers number header m s f. follows_goes f;
+  short = λ C answers number. close_short (signatures_of C (answers number));
 }

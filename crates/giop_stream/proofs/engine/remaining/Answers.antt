@@ -1,4 +1,4 @@
-use Rattle.giop_message.specs.Signatures.{signatures_of}
+use Rattle.giop_message.specs.Signatures.{signatures_of, by_list}
 use Rattle.giop_message.proofs.MessageLaws.{is_causal}
 use Rattle.giop_stream.specs.Rules.{rules}
 use Rattle.giop_stream.proofs.SlotSteps.Parts.{in_turn}
@@ -7,6 +7,6 @@ use Rattle.giop_stream.proofs.engine.remaining.Goals as goal
 
 pub returns : goal.returns
 returns c = record {
-  text = λ C l n octets p q s. remains (rules C l n) (is_causal (signatures_of C l)) (in_turn C l) p q;
+  text = λ C l n octets p q s. remains (rules C l n) (is_causal (λ number. signatures_of C (by_list l number))) (in_turn C (by_list l)) p q;
   within = λ C l n octets p s. spells_within octets p C l n s;
 }

@@ -1,4 +1,5 @@
 use Rattle.std.proofs.Common.{length, refl, ap, ◌∙◌, arith}
+use Rattle.giop_message.specs.Signatures.{by_list}
 use Rattle.giop_stream.specs.Rules.{rules}
 use Rattle.giop_stream.specs.EngineState.{state_of}
 use Rattle.giop_stream.proofs.Restored.LoadedFields.{spells_left, room_for, limit_is, totals_again, shows_again}
@@ -11,7 +12,7 @@ returns-then-not-add_all-clause-again c l n octets p s fixed_is records_are =
     let limit = c.requires.most ∙ limit_is octets p c.args.catalogue.now l n s c.args.fixed fixed_is in
     let left = spells_left octets p c.args.catalogue.now l n s c.args.fixed c.args.records.now fixed_is records_are in
     let room = room_for R p c.args.slots bare.no_slots in
-    let made = c.add_all.ensures.again l (state_of R p).slots (state_of R p).own left (omega (arith, room, limit)) bare.no_own in
+    let made = c.add_all.ensures.again (by_list l) (state_of R p).slots (state_of R p).own left (omega (arith, room, limit)) bare.no_own in
     cc (made.0, c.if-not-add_all.true)
 
 pub returns-then-not-may_be-clause-again : goal.returns-then-not-may_be-clause-again
@@ -28,7 +29,7 @@ returns-clause-again c l n octets p s fixed_is records_are =
     let limit = c.requires.most ∙ limit_is octets p c.args.catalogue.now l n s c.args.fixed fixed_is in
     let left = spells_left octets p c.args.catalogue.now l n s c.args.fixed c.args.records.now fixed_is records_are in
     let room = room_for R p c.args.slots bare.no_slots in
-    let made = c.add_all.ensures.again l (state_of R p).slots (state_of R p).own left (omega (arith, room, limit)) bare.no_own in
+    let made = c.add_all.ensures.again (by_list l) (state_of R p).slots (state_of R p).own left (omega (arith, room, limit)) bare.no_own in
     shows_again octets p c.args.catalogue.now l n s _ c.args.slots c.add_all.new.slots bare.no_slots c.args.fixed fixed_is
     (record {
       totals = refl;

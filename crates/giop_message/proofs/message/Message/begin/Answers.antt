@@ -3,7 +3,7 @@ use Rattle.giop_sig.specs.Trees.{tree}
 use Rattle.giop_message.proofs.message.Message.begin.Goals as goal
 
 pub returns-clause-enters : goal.returns-clause-enters
-returns-clause-enters c request_table number header s at before first e =
+returns-clause-enters c answers number header s at before first e =
     record {
       T = tree c.args.catalogue.now c.args.of.0;
       before = before;

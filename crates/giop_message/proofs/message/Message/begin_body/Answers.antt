@@ -18,16 +18,16 @@ returns-in-Nothing-clause-fits c = c.begin_rest.ensures.fits c.args.catalogue.no
 
 pub returns-in-Nothing-clause-arrives : goal.returns-in-Nothing-clause-arrives
 unfolding body
-returns-in-Nothing-clause-arrives c request_table = rw c.in-Nothing.is (c.begin_rest.ensures.arrives c.args.catalogue.now request_table)
+returns-in-Nothing-clause-arrives c answers = rw c.in-Nothing.is (c.begin_rest.ensures.arrives c.args.catalogue.now answers)
 
 pub returns-in-Type-clause-arrives : goal.returns-in-Type-clause-arrives
 unfolding body
-returns-in-Type-clause-arrives c request_table = rw c.in-Type.is (c.begin_typed.ensures.arrives request_table)
+returns-in-Type-clause-arrives c answers = rw c.in-Type.is (c.begin_typed.ensures.arrives answers)
 
 pub returns-in-Exception-clause-arrives : goal.returns-in-Exception-clause-arrives
 unfolding body signatures_of
-returns-in-Exception-clause-arrives c request_table number header s at before e =
-    let S = signatures_of c.args.catalogue.now request_table in
-    c.begin.ensures.enters request_table number header s at before tt
+returns-in-Exception-clause-arrives c answers number header s at before e =
+    let S = signatures_of c.args.catalogue.now (answers number) in
+    c.begin.ensures.enters answers number header s at before tt
     (subst (λ T. message S header s ≡ with_front before (section_and_rest S header sections.Exception nothing_noted (read (plain (order header)) [] T (12 + length s) [])))
     (sym c.fixed-of.ensures.tree) (rw c.in-Exception.is at e))

@@ -52,7 +52,7 @@ returns-clause-stored c =
     }
 
 pub returns-clause-follows : goal.returns-clause-follows
-returns-clause-follows c m fits same_number same_header stored request_table number header s f =
+returns-clause-follows c m fits same_number same_header stored answers number header s f =
     let fields = own_fields m c.args.fixed.now stored.own in
     let long = behind_own _ c.told-fixed in
     let octets = c.octets_at-octets.ensures _ [] long (sym (append-nil _)) in
@@ -64,5 +64,5 @@ returns-clause-follows c m fits same_number same_header stored request_table num
       same_header = sym same_header ∙ f.same_header;
       id = id_on _ m.part c.in-Some.part m.id _ _ on id f.id;
       at = c.eight_at-at.ensures m.at _ stored.own.at fields.at ∙ f.at;
-      stands = stands_on _ request_table number header s m.part c.in-Some.part on f.stands;
+      stands = stands_on _ answers number header s m.part c.in-Some.part on f.stands;
     }

@@ -1,7 +1,8 @@
 use Rattle.std.proofs.Common.{◌≡◌, ℕ, ◌+◌, ◌-◌, ◌≤◌, List, ◌++◌, length, take}
 use Rattle.giop_print.specs.Output.{Wrote}
-use Rattle.giop_message.specs.Signatures.{signatures_of}
-use Rattle.giop_message.specs.MessageState.{Fits, Follows, due_text}
+use Rattle.giop_message.specs.Signatures.{Answers, signatures_of}
+use Rattle.giop_message.specs.HeaderEnds.{AgreesAtEnds, header_ends, after_ends}
+use Rattle.giop_message.specs.MessageState.{AreKnown, Fits, Follows, due_text}
 use Rattle.giop_message.proofs.message.Message.take.Given as goal
 
 abbrev pub invariant-loop-taken : goal.invariant-loop-taken
@@ -10,14 +11,26 @@ invariant-loop-taken g l =
       within : l.taken ≤ length l.octets;
       fits : Fits l.catalogue l.self;
       at : l.self.at ≡ l.initial.self.at + l.taken;
-      follows : (number : ℕ) (header s : List ℕ) →
-          Follows l.catalogue l.requests number header l.initial.self s →
-          Follows l.catalogue l.requests number header l.self (s ++ take l.taken l.octets);
-      text : (number : ℕ) (header s : List ℕ) →
-          Follows l.catalogue l.requests number header l.initial.self s →
+      known : AreKnown l.catalogue (g.Q.Correspondent.answer (g.Q.Correspondent.state l.correspondent));
+      follows : (answers : Answers) (number : ℕ) (header s : List ℕ) →
+          Follows l.catalogue answers number header l.initial.self s →
+          AgreesAtEnds g.Q.Correspondent.answer g.Q.Correspondent.notified l.catalogue (g.Q.Correspondent.state l.initial.correspondent)
+          answers (header_ends number header s l.octets) →
+          Follows l.catalogue answers number header l.self (s ++ take l.taken l.octets);
+      text : (answers : Answers) (number : ℕ) (header s : List ℕ) →
+          Follows l.catalogue answers number header l.initial.self s →
+          AgreesAtEnds g.Q.Correspondent.answer g.Q.Correspondent.notified l.catalogue (g.Q.Correspondent.state l.initial.correspondent)
+          answers (header_ends number header s l.octets) →
           Wrote (g.O.Out.log l.initial.out) (g.O.Out.log l.out)
-          (due_text (signatures_of l.catalogue l.requests) number l.place header s
+          (due_text (signatures_of l.catalogue (answers number)) number l.place header s
           (take l.taken l.octets));
+      told : (answers : Answers) (number : ℕ) (header s : List ℕ) →
+          Follows l.catalogue answers number header l.initial.self s →
+          AgreesAtEnds g.Q.Correspondent.answer g.Q.Correspondent.notified l.catalogue (g.Q.Correspondent.state l.initial.correspondent)
+          answers (header_ends number header s l.octets) →
+          g.Q.Correspondent.state l.correspondent
+          ≡ after_ends g.Q.Correspondent.notified l.catalogue (g.Q.Correspondent.state l.initial.correspondent)
+          (header_ends number header s (take l.taken l.octets));
     }
 
 abbrev pub decreases-loop-taken : goal.decreases-loop-taken

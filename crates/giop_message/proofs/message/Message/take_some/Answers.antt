@@ -1,35 +1,36 @@
-use Rattle.std.proofs.Common.{◌≡◌, ◌+◌, ◌-◌, ◌<◌, ◌≤◌, ◌∷◌, [], ◌++◌, length, take, get_or, min, refl, sym}
+use Rattle.std.proofs.Common.{◌≡◌, ◌+◌, ◌-◌, ◌<◌, ◌≤◌, ◌∷◌, [], ◌++◌, length, take, get_or, min, refl, sym, ap}
 use Rattle.std.proofs.lemmas.List.{length-take-le}
 use Rattle.giop_print.proofs.Writing.{wrote-append, wrote-nil}
 use Rattle.giop_message.specs.Signatures.{signatures_of}
+use Rattle.giop_message.specs.HeaderEnds.{after_ends}
 use Rattle.giop_message.specs.MessageState.{Follows}
 use Rattle.giop_message.proofs.Followings.{same_fields}
 use Rattle.giop_message.proofs.Rests.{no_text, rest_text, rest_follows}
-use Rattle.giop_message.proofs.SectionRuns.{run_front, run_failed, first_alone, standing, took, by_reads, ReadWith, text_broken, failed_behind, text_more, text_done, text_named, text_wrong, keeps_noted_header, went_on, went_done, went_wrong}
+use Rattle.giop_message.proofs.SectionRuns.{run_front, run_failed, first_alone, standing, took, by_reads, ReadWith, text_broken, failed_behind, text_more, text_done, text_named, text_wrong, keeps_noted_header, went_on, went_done, went_wrong, none_ends, answered_here, told_here, padding_none, rest_none}
 use Rattle.giop_message.proofs.message.Message.take_some.Goals as goal
 
 pub returns-in_err-taken-in-Typed-clause-writes : goal.returns-in_err-taken-in-Typed-clause-writes
-returns-in_err-taken-in-Typed-clause-writes g c number header s f =
+returns-in_err-taken-in-Typed-clause-writes g c answers number header s f =
     let t = standing f c.in-Typed.is c.requires.fits in
     run_failed _ _ number c.args.place header s c.args.octets.now _ _ c.from_residual.ensures.0
     (text_broken t c.args.octets.now c.args.place _ _ (by_reads t c.in_err-taken-in-Typed.ensures.writes))
 
 pub returns-in-More-clause-writes : goal.returns-in-More-clause-writes
-returns-in-More-clause-writes g c number header s f =
+returns-in-More-clause-writes g c answers number header s f =
     let t = standing f c.in-Typed.is c.requires.fits in
     let ran = c.in_ok-taken-in-Typed.ensures in
     let k = took t c.args.octets.now c.in_ok-taken-in-Typed.taken ran.within (ran.some c.requires.some) (by_reads t ran.takes) c.in-More.is in
     rw (text_more k c.args.place) (by_reads t ran.writes)
 
 pub returns-in-More-clause-went : goal.returns-in-More-clause-went
-returns-in-More-clause-went g c number header s f =
+returns-in-More-clause-went g c answers number header s f agrees =
     let t = standing f c.in-Typed.is c.requires.fits in
     let ran = c.in_ok-taken-in-Typed.ensures in
     let k = took t c.args.octets.now c.in_ok-taken-in-Typed.taken ran.within (ran.some c.requires.some) (by_reads t ran.takes) c.in-More.is in
     went_on k (λ fault. fault) _ (record { number = refl; header = refl; at = refl }) refl refl
 
 pub returns-in_err-call-in-Named-clause-writes : goal.returns-in_err-call-in-Named-clause-writes
-returns-in_err-call-in-Named-clause-writes g c number header s f =
+returns-in_err-call-in-Named-clause-writes g c answers number header s f =
     let t = standing f c.in-Typed.is c.requires.fits in
     let ran = c.in_ok-taken-in-Typed.ensures in
     let k = took t c.args.octets.now c.in_ok-taken-in-Typed.taken ran.within (ran.some c.requires.some) (by_reads t ran.takes) c.in-Named.is in
@@ -38,7 +39,7 @@ returns-in_err-call-in-Named-clause-writes g c number header s f =
     (by_reads t ran.writes) called
 
 pub returns-in_ok-call-in-Named-clause-writes : goal.returns-in_ok-call-in-Named-clause-writes
-returns-in_ok-call-in-Named-clause-writes g c number header s f =
+returns-in_ok-call-in-Named-clause-writes g c answers number header s f =
     let t = standing f c.in-Typed.is c.requires.fits in
     let ran = c.in_ok-taken-in-Typed.ensures in
     let k = took t c.args.octets.now c.in_ok-taken-in-Typed.taken ran.within (ran.some c.requires.some) (by_reads t ran.takes) c.in-Named.is in
@@ -46,32 +47,33 @@ returns-in_ok-call-in-Named-clause-writes g c number header s f =
     rw (text_named k c.args.place) (wrote-append _ _ _ _ _ (by_reads t ran.writes) called)
 
 pub returns-in_ok-call-in-Named-clause-went : goal.returns-in_ok-call-in-Named-clause-went
-returns-in_ok-call-in-Named-clause-went g c number header s f =
+returns-in_ok-call-in-Named-clause-went g c answers number header s f agrees =
     let t = standing f c.in-Typed.is c.requires.fits in
     let ran = c.in_ok-taken-in-Typed.ensures in
     let k = took t c.args.octets.now c.in_ok-taken-in-Typed.taken ran.within (ran.some c.requires.some) (by_reads t ran.takes) c.in-Named.is in
     went_on k (λ fault. fault) _ (record { number = refl; header = refl; at = refl }) refl refl
 
 pub returns-in-Done-clause-writes : goal.returns-in-Done-clause-writes
-returns-in-Done-clause-writes g c number header s f =
+returns-in-Done-clause-writes g c answers number header s f =
     let t = standing f c.in-Typed.is c.requires.fits in
     let ran = c.in_ok-taken-in-Typed.ensures in
     let k = took t c.args.octets.now c.in_ok-taken-in-Typed.taken ran.within (ran.some c.requires.some) (by_reads t ran.takes) c.in-Done.is in
     rw (text_done k c.args.place) (by_reads t ran.writes)
 
 pub returns-in-Done-clause-went : goal.returns-in-Done-clause-went
-returns-in-Done-clause-went g c number header s f =
+returns-in-Done-clause-went g c answers number header s f agrees =
     let t = standing f c.in-Typed.is c.requires.fits in
     let ran = c.in_ok-taken-in-Typed.ensures in
     let k = took t c.args.octets.now c.in_ok-taken-in-Typed.taken ran.within (ran.some c.requires.some) (by_reads t ran.takes) c.in-Done.is in
     let e = c.leave.ensures in
     let xs = take c.in_ok-taken-in-Typed.taken c.args.octets.now in
     went_done k _ _ (record { number = refl; header = refl; at = refl }) refl
-    (e.arrives number header (s ++ xs) c.in-Typed.field-0 (ReadWith t xs) (refl, k.takes.keeps_noted))
+    (e.arrives answers number header (s ++ xs) c.in-Typed.field-0 (ReadWith t xs) (refl, k.takes.keeps_noted)
+    (answered_here g.Q.Correspondent.answer g.Q.Correspondent.notified (g.Q.Correspondent.state c.args.correspondent.now) answers k agrees))
     (record { number = e.number; header = e.header; at = e.at }) (e.id c.in-Typed.field-0 (ReadWith t xs) (refl, k.takes.keeps_noted)) e.past
 
 pub returns-in_err-fault_line-in-Fault-clause-writes : goal.returns-in_err-fault_line-in-Fault-clause-writes
-returns-in_err-fault_line-in-Fault-clause-writes g c number header s f =
+returns-in_err-fault_line-in-Fault-clause-writes g c answers number header s f =
     let t = standing f c.in-Typed.is c.requires.fits in
     let ran = c.in_ok-taken-in-Typed.ensures in
     let k = took t c.args.octets.now c.in_ok-taken-in-Typed.taken ran.within (ran.some c.requires.some) (by_reads t ran.takes) c.in-Fault.is in
@@ -80,7 +82,7 @@ returns-in_err-fault_line-in-Fault-clause-writes g c number header s f =
     (text_wrong c.in-Fault.kind k c.args.place) (by_reads t ran.writes) emitted
 
 pub returns-in_ok-fault_line-in-Fault-clause-writes : goal.returns-in_ok-fault_line-in-Fault-clause-writes
-returns-in_ok-fault_line-in-Fault-clause-writes g c number header s f =
+returns-in_ok-fault_line-in-Fault-clause-writes g c answers number header s f =
     let t = standing f c.in-Typed.is c.requires.fits in
     let ran = c.in_ok-taken-in-Typed.ensures in
     let k = took t c.args.octets.now c.in_ok-taken-in-Typed.taken ran.within (ran.some c.requires.some) (by_reads t ran.takes) c.in-Fault.is in
@@ -88,28 +90,28 @@ returns-in_ok-fault_line-in-Fault-clause-writes g c number header s f =
     rw (text_wrong c.in-Fault.kind k c.args.place) (wrote-append _ _ _ _ _ (by_reads t ran.writes) emitted)
 
 pub returns-in_ok-fault_line-in-Fault-clause-went : goal.returns-in_ok-fault_line-in-Fault-clause-went
-returns-in_ok-fault_line-in-Fault-clause-went g c number header s f =
+returns-in_ok-fault_line-in-Fault-clause-went g c answers number header s f agrees =
     let t = standing f c.in-Typed.is c.requires.fits in
     let ran = c.in_ok-taken-in-Typed.ensures in
     let k = took t c.args.octets.now c.in_ok-taken-in-Typed.taken ran.within (ran.some c.requires.some) (by_reads t ran.takes) c.in-Fault.is in
     went_wrong c.in-Fault.kind k
 
 pub returns-in-Padding-clause-writes : goal.returns-in-Padding-clause-writes
-returns-in-Padding-clause-writes g c number header s f =
+returns-in-Padding-clause-writes g c answers number header s f =
     let octet = get_or c.args.octets.now 0 0 in
     let here = same_fields f refl refl refl refl (sym c.in-Padding.is) in
-    let none = c.take_padding.ensures.emitted c.args.requests.now number header s octet here in
+    let none = c.take_padding.ensures.told answers number header s octet here in
     rw (first_alone c.args.octets.now c.requires.some, no_text _ number c.args.place header s (octet ∷ []) none) (wrote-nil _)
 
 pub returns-in-Padding-clause-went : goal.returns-in-Padding-clause-went
-returns-in-Padding-clause-went g c number header s f =
+returns-in-Padding-clause-went g c answers number header s f agrees =
     let here = same_fields f refl refl refl refl (sym c.in-Padding.is) in
     rw (first_alone c.args.octets.now c.requires.some)
-    (c.take_padding.ensures.follows c.args.requests.now number header s (get_or c.args.octets.now 0 0) here)
+    (c.take_padding.ensures.follows answers number header s (get_or c.args.octets.now 0 0) here)
 
 pub returns-in_err-take-in-Rest-clause-writes : goal.returns-in_err-take-in-Rest-clause-writes
-returns-in_err-take-in-Rest-clause-writes g c number header s f =
-    let S = signatures_of c.args.catalogue.now c.args.requests.now in
+returns-in_err-take-in-Rest-clause-writes g c answers number header s f =
+    let S = signatures_of c.args.catalogue.now (answers number) in
     let octets = c.args.octets.now in
     let n = c.min-taken.result in
     let place = c.args.place in
@@ -119,15 +121,53 @@ returns-in_err-take-in-Rest-clause-writes g c number header s f =
     (run_front S number place header s octets n _ _ (rw text (c.in_err-take-in-Rest.ensures.writes place At (At + length (take n octets)))))
 
 pub returns-in_ok-take-in-Rest-clause-writes : goal.returns-in_ok-take-in-Rest-clause-writes
-returns-in_ok-take-in-Rest-clause-writes g c number header s f =
+returns-in_ok-take-in-Rest-clause-writes g c answers number header s f =
     let octets = c.args.octets.now in
     let At = 12 + length s in
     let text = rest_text f c.in-Rest.is octets c.requires.some c.room.ensures c.min-taken.ensures c.args.place in
     rw text (c.in_ok-take-in-Rest.ensures.writes c.args.place At (At + length (take c.min-taken.result octets)))
 
 pub returns-in_ok-take-in-Rest-clause-went : goal.returns-in_ok-take-in-Rest-clause-went
-returns-in_ok-take-in-Rest-clause-went g c number header s f =
+returns-in_ok-take-in-Rest-clause-went g c answers number header s f agrees =
     let octets = c.args.octets.now in
     let end = (12 + length s) + length (take c.min-taken.result octets) in
     rest_follows f c.in-Rest.is octets c.requires.some c.room.ensures c.min-taken.ensures
     (record { number = refl; header = refl; at = refl }) refl refl (c.in_ok-take-in-Rest.ensures.holds end)
+
+pub returns-in-More-clause-told : goal.returns-in-More-clause-told
+returns-in-More-clause-told g c answers number header s f =
+    let t = standing f c.in-Typed.is c.requires.fits in
+    let ran = c.in_ok-taken-in-Typed.ensures in
+    let k = took t c.args.octets.now c.in_ok-taken-in-Typed.taken ran.within (ran.some c.requires.some) (by_reads t ran.takes) c.in-More.is in
+    sym (ap (after_ends g.Q.Correspondent.notified c.args.catalogue.now (g.Q.Correspondent.state c.args.correspondent.now)) (none_ends k tt))
+
+pub returns-in_ok-call-in-Named-clause-told : goal.returns-in_ok-call-in-Named-clause-told
+returns-in_ok-call-in-Named-clause-told g c answers number header s f =
+    let t = standing f c.in-Typed.is c.requires.fits in
+    let ran = c.in_ok-taken-in-Typed.ensures in
+    let k = took t c.args.octets.now c.in_ok-taken-in-Typed.taken ran.within (ran.some c.requires.some) (by_reads t ran.takes) c.in-Named.is in
+    sym (ap (after_ends g.Q.Correspondent.notified c.args.catalogue.now (g.Q.Correspondent.state c.args.correspondent.now)) (none_ends k tt))
+
+pub returns-in-Done-clause-told : goal.returns-in-Done-clause-told
+returns-in-Done-clause-told g c answers number header s f =
+    let t = standing f c.in-Typed.is c.requires.fits in
+    let ran = c.in_ok-taken-in-Typed.ensures in
+    let k = took t c.args.octets.now c.in_ok-taken-in-Typed.taken ran.within (ran.some c.requires.some) (by_reads t ran.takes) c.in-Done.is in
+    let xs = take c.in_ok-taken-in-Typed.taken c.args.octets.now in
+    told_here g.Q.Correspondent.answer g.Q.Correspondent.notified (g.Q.Correspondent.state c.args.correspondent.now) _ k
+    (c.leave.ensures.told c.in-Typed.field-0 (ReadWith t xs) (refl, k.takes.keeps_noted))
+
+pub returns-in_ok-fault_line-in-Fault-clause-told : goal.returns-in_ok-fault_line-in-Fault-clause-told
+returns-in_ok-fault_line-in-Fault-clause-told g c answers number header s f =
+    let t = standing f c.in-Typed.is c.requires.fits in
+    let ran = c.in_ok-taken-in-Typed.ensures in
+    let k = took t c.args.octets.now c.in_ok-taken-in-Typed.taken ran.within (ran.some c.requires.some) (by_reads t ran.takes) c.in-Fault.is in
+    sym (ap (after_ends g.Q.Correspondent.notified c.args.catalogue.now (g.Q.Correspondent.state c.args.correspondent.now)) (none_ends k tt))
+
+pub returns-in-Padding-clause-told : goal.returns-in-Padding-clause-told
+returns-in-Padding-clause-told g c answers number header s f =
+    sym (ap (after_ends g.Q.Correspondent.notified c.args.catalogue.now (g.Q.Correspondent.state c.args.correspondent.now)) (padding_none f c.in-Padding.is (take 1 c.args.octets.now)))
+
+pub returns-in_ok-take-in-Rest-clause-told : goal.returns-in_ok-take-in-Rest-clause-told
+returns-in_ok-take-in-Rest-clause-told g c answers number header s f =
+    sym (ap (after_ends g.Q.Correspondent.notified c.args.catalogue.now (g.Q.Correspondent.state c.args.correspondent.now)) (rest_none f c.in-Rest.is (take c.min-taken.result c.args.octets.now)))

@@ -1,58 +1,21 @@
-use Rattle.std.proofs.Common.{ℕ, ◌++◌, ◌<◌, refl, sym, ap, subst, ◌∙◌, arith}
-use Rattle.std.proofs.lemmas.List.Elements.{All-append, All-from_get_or}
-use Rattle.giop_message.specs.Signatures.{signatures_of}
-use Rattle.giop_message.proofs.MessageLaws.{is_causal}
-use Rattle.giop_stream.specs.Rules.{rules}
-use Rattle.giop_stream.specs.EngineState.{state_of}
-use Rattle.giop_stream.specs.FramingView.{framing_view}
-use Rattle.giop_stream.specs.ViewOfState.{Shows}
-use Rattle.giop_stream.specs.EngineHolds.{status_of}
-use Rattle.giop_stream.proofs.SlotSteps.Parts.{in_turn}
-use Rattle.giop_stream.proofs.SlotSteps.Adding.{added_text}
-use Rattle.giop_stream.proofs.CodeSteps.EngineLaws.{run_holds, stop_is}
+use Rattle.std.proofs.Common.{◌++◌, sym, ap, subst}
+use Rattle.std.proofs.lemmas.Result.{on_ok_weaker}
+use Rattle.giop_message.specs.Signatures.{RequestTable, by_list}
+use Rattle.giop_stream.specs.EngineView.{EngineView}
+use Rattle.giop_stream.specs.EngineHolds.{HoldsBy, added}
+use Rattle.giop_stream.proofs.CodeSteps.HeaderEndSteps.{list_notified}
 use Rattle.giop_stream.proofs.engine.Engine.feed.Goals as goal
 
-pub returns-in-Ok-clause-held : goal.returns-in-Ok-clause-held
-returns-in-Ok-clause-held g c p h =
-    let held = rw (← c.self.view_is) at h in
-    let C = c.self.inside.catalogue.now in
-    let l = c.self.inside.requests.now in
-    let R = rules C l c.self.inside.framing.slots.slots.most in
-    let does = c.in-Ok.ensures.does (state_of R p) (record { stream = p; octets = held.octets; held = refl }) held.shows in
-    let now = rw (← run_holds R (is_causal (signatures_of C l)) (in_turn C l) p c.args.piece.now) at does.shows in
-    record {
-      sound = held.sound;
-      octets = All-append (λ x. x < 256) p c.args.piece.now held.octets (All-from_get_or (λ x. x < 256) c.args.piece.now 0 (λ i below. omega (arith, c.type_inv.piece i)));
-      shows = subst (λ (n : ℕ). Shows C l (framing_view c.steps.new.self) (state_of (rules C l n) (p ++ c.args.piece.now))) (sym c.in-Ok.ensures.most) now;
-    }
+pub returns-clause-held : goal.returns-clause-held
+returns-clause-held g c p h =
+    on_ok_weaker c.feed_by.result
+    (λ holds. subst (λ (l : RequestTable). HoldsBy c.feed_by.new.self (by_list l) (p ++ c.args.piece.now)) (sym c.feed_by.ensures.same.1) holds)
+    (c.feed_by.ensures.held (by_list c.args.self.now.request_table) p h
+    (list_notified c.args.self.now.table _ c.args.self.now.request_table _ (ap (λ (e : EngineView). e.request_table) c.self.view_is)))
 
-pub returns-in-Ok-clause-status : goal.returns-in-Ok-clause-status
-returns-in-Ok-clause-status g c p h =
-    let held = rw (← c.self.view_is) at h in
-    let C = c.self.inside.catalogue.now in
-    let l = c.self.inside.requests.now in
-    let R = rules C l c.self.inside.framing.slots.slots.most in
-    let does = c.in-Ok.ensures.does (state_of R p) (record { stream = p; octets = held.octets; held = refl }) held.shows in
-    let now = rw (← run_holds R (is_causal (signatures_of C l)) (in_turn C l) p c.args.piece.now) at does.shows in
-    c.status.ensures ∙ ap status_of (now.stopped ∙ stop_is R (p ++ c.args.piece.now))
+pub returns-clause-text : goal.returns-clause-text
+unfolding added
+returns-clause-text g c p h = c.feed_by.ensures.text (by_list c.args.self.now.request_table) p h (list_notified c.args.self.now.table _ c.args.self.now.request_table _ (ap (λ (e : EngineView). e.request_table) c.self.view_is))
 
-pub returns-in-Ok-clause-text : goal.returns-in-Ok-clause-text
-returns-in-Ok-clause-text g c p h =
-    let held = rw (← c.self.view_is) at h in
-    let C = c.self.inside.catalogue.now in
-    let l = c.self.inside.requests.now in
-    let R = rules C l c.self.inside.framing.slots.slots.most in
-    let does = c.in-Ok.ensures.does (state_of R p) (record { stream = p; octets = held.octets; held = refl }) held.shows in
-    rw (← c.self.view_is, added_text R (is_causal (signatures_of C l)) (in_turn C l) p c.args.piece.now) does.text
-
-pub returns-in-Err-clause-text : goal.returns-in-Err-clause-text
-returns-in-Err-clause-text g c p h =
-    let held = rw (← c.self.view_is) at h in
-    let C = c.self.inside.catalogue.now in
-    let l = c.self.inside.requests.now in
-    let R = rules C l c.self.inside.framing.slots.slots.most in
-    let does = c.in-Err.ensures.does (state_of R p) (record { stream = p; octets = held.octets; held = refl }) held.shows in
-    rw (← c.self.view_is, added_text R (is_causal (signatures_of C l)) (in_turn C l) p c.args.piece.now) does.text
-
-pub invariant_of-self-in-Err : goal.invariant_of-self-in-Err
-invariant_of-self-in-Err g c = (c.self.invariant.0, c.fail.ensures.ready c.self.inside.catalogue.now)
+pub returns-clause-status : goal.returns-clause-status
+returns-clause-status g c p h = c.feed_by.ensures.status (by_list c.args.self.now.request_table) p h (list_notified c.args.self.now.table _ c.args.self.now.request_table _ (ap (λ (e : EngineView). e.request_table) c.self.view_is))

@@ -1,7 +1,7 @@
 use Rattle.std.proofs.Common.{sym, ◌∙◌}
-use Rattle.giop_message.specs.Signatures.{signatures_of}
+use Rattle.giop_message.specs.Signatures.{signatures_of, by_list}
 use Rattle.giop_message.proofs.MessageLaws.{is_causal, is_ending}
-use Rattle.giop_stream.specs.Rules.{rules}
+use Rattle.giop_stream.specs.Rules.{rules, rules_by}
 use Rattle.giop_stream.proofs.SlotSteps.Parts.{in_turn}
 use Rattle.giop_stream.proofs.CodeSteps.EngineLaws.{final_is, finish_is}
 use Rattle.giop_stream.proofs.engine.Engine.finish.Goals as goal
@@ -11,18 +11,36 @@ returns-in-Ok-clause-text g c = λ p h.
     let k = rw (← c.self.view_is) at h in
     let C = c.self.inside.catalogue.now in
     let l = c.self.inside.requests.now in
-    rw (← c.self.view_is, finish_is (rules C l c.self.inside.framing.slots.slots.most) (is_causal (signatures_of C l)) (in_turn C l) (is_ending (signatures_of C l)) p) (c.in-Ok.ensures _ _ _ k.shows)
+    rw (← c.self.view_is, finish_is (rules C l c.self.inside.framing.slots.slots.most) (is_causal (λ number. signatures_of C (by_list l number))) (in_turn C (by_list l)) (is_ending (λ number. signatures_of C (by_list l number))) p) (c.in-Ok.ensures _ _ _ k.shows)
 
 pub returns-in-Ok-clause-totals : goal.returns-in-Ok-clause-totals
 returns-in-Ok-clause-totals g c = λ p h.
     let k = rw (← c.self.view_is) at h in
     let C = c.self.inside.catalogue.now in
     let l = c.self.inside.requests.now in
-    rw (← c.self.view_is) (c.final_totals.ensures.value _ _ _ k.shows ∙ sym (final_is (rules C l c.self.inside.framing.slots.slots.most) (is_causal (signatures_of C l)) (in_turn C l) p))
+    rw (← c.self.view_is) (c.final_totals.ensures.value _ _ _ k.shows ∙ sym (final_is (rules C l c.self.inside.framing.slots.slots.most) (is_causal (λ number. signatures_of C (by_list l number))) (in_turn C (by_list l)) p))
 
 pub returns-clause-text : goal.returns-clause-text
 returns-clause-text g c = λ p h.
     let k = rw (← c.self.view_is) at h in
     let C = c.self.inside.catalogue.now in
     let l = c.self.inside.requests.now in
-    rw (← c.self.view_is, finish_is (rules C l c.self.inside.framing.slots.slots.most) (is_causal (signatures_of C l)) (in_turn C l) (is_ending (signatures_of C l)) p) (c.in-Err.ensures _ _ _ k.shows)
+    rw (← c.self.view_is, finish_is (rules C l c.self.inside.framing.slots.slots.most) (is_causal (λ number. signatures_of C (by_list l number))) (in_turn C (by_list l)) (is_ending (λ number. signatures_of C (by_list l number))) p) (c.in-Err.ensures _ _ _ k.shows)
+
+pub returns-in-Ok-clause-text_by : goal.returns-in-Ok-clause-text_by
+returns-in-Ok-clause-text_by g c = λ a p h.
+    let k = rw (← c.self.view_is) at h in
+    let C = c.self.inside.catalogue.now in
+    rw (← c.self.view_is, finish_is (rules_by C a c.self.inside.framing.slots.slots.most) (is_causal (λ number. signatures_of C (a number))) (in_turn C a) (is_ending (λ number. signatures_of C (a number))) p) (c.in-Ok.ensures _ _ _ k.shows)
+
+pub returns-in-Ok-clause-totals_by : goal.returns-in-Ok-clause-totals_by
+returns-in-Ok-clause-totals_by g c = λ a p h.
+    let k = rw (← c.self.view_is) at h in
+    let C = c.self.inside.catalogue.now in
+    rw (← c.self.view_is) (c.final_totals.ensures.value _ _ _ k.shows ∙ sym (final_is (rules_by C a c.self.inside.framing.slots.slots.most) (is_causal (λ number. signatures_of C (a number))) (in_turn C a) p))
+
+pub returns-clause-text_by : goal.returns-clause-text_by
+returns-clause-text_by g c = λ a p h.
+    let k = rw (← c.self.view_is) at h in
+    let C = c.self.inside.catalogue.now in
+    rw (← c.self.view_is, finish_is (rules_by C a c.self.inside.framing.slots.slots.most) (is_causal (λ number. signatures_of C (a number))) (in_turn C a) (is_ending (λ number. signatures_of C (a number))) p) (c.in-Err.ensures _ _ _ k.shows)

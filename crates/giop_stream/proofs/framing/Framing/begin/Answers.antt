@@ -1,6 +1,6 @@
 use Rattle.std.proofs.Common.{ℕ, ◌+◌, refl, sym, ap, ◌∙◌}
 use Rattle.giop_message.specs.Headers.{size}
-use Rattle.giop_stream.specs.Rules.{rules}
+use Rattle.giop_stream.specs.Rules.{rules_by}
 use Rattle.giop_stream.specs.Effects.{tracked_after}
 use Rattle.giop_stream.specs.FramingView.{framing_view}
 use Rattle.giop_print.proofs.Writing.{writes_failed}
@@ -20,7 +20,7 @@ returns-in_err-faults-clause-does g c =
     let failed = c.from_residual.ensures.0 in
     begun_does C l c.args.self.now.slots.slots.most s r m h x b e asks.full asks.right asks.running room _ _ _ _
     (writes_failed c.from_residual.result (g.O.Out.log c.args.out.now) (g.O.Out.log c.header.new.out) _ failed
-    ((c.in_err-faults.ensures.does l (tracked_after (rules C l c.args.self.now.slots.slots.most) r.stream) _ _ first).text))
+    ((c.in_err-faults.ensures.does l (tracked_after (rules_by C l c.args.self.now.slots.slots.most) r.stream) _ _ first).text))
     (on_err _ c.from_residual.result failed)
 
 pub returns-clause-does : goal.returns-clause-does
@@ -32,7 +32,7 @@ returns-clause-does g c =
     let room = c.args.self.now.running asks.running in
     let known = c.current-now.ensures in
     let first = is_first C l c.args.self.now.slots.slots.most s r m h x b e asks.full asks.right asks.running room c.current-now.result known.number known.header known.place known.payload_count in
-    let does = c.in_ok-faults.ensures.does l (tracked_after (rules C l c.args.self.now.slots.slots.most) r.stream) _ _ first in
+    let does = c.in_ok-faults.ensures.does l (tracked_after (rules_by C l c.args.self.now.slots.slots.most) r.stream) _ _ first in
     let faults = ap (λ (n : ℕ). b.totals.faults + n) (c.from.ensures ∙ sym does.faults) in
     begun_does C l c.args.self.now.slots.slots.most s r m h x b e asks.full asks.right asks.running room _ _ _ _ does.text
     (begun_shows C l c.args.self.now.slots.slots.most s r m h x b e asks.full asks.right asks.running room _

@@ -1,21 +1,23 @@
-use Rattle.std.proofs.Common.{arith, refl, sym, ◌∙◌}
+use Rattle.std.proofs.Common.{arith, refl, sym, ap, subst, ◌∙◌}
 use Rattle.std.proofs.lemmas.Result.{on_ok_weaker}
 use Rattle.giop_checkpoint.specs.declared.fault.StreamFault.TheVariants.{StreamLimit}
+use Rattle.giop_message.specs.HeaderEnds.{AgreesAtEnds, after_ends}
 use Rattle.giop_stream.specs.FramingView.{framing_view}
 use Rattle.giop_stream.proofs.SlotSteps.AtHeader.{ready_later}
 use Rattle.giop_stream.proofs.SlotSteps.Performing.{nothing_text}
 use Rattle.giop_stream.proofs.CodeSteps.OutsideMessages.{none_by, ready_stopped, behind_step, limit_step, ended_text, ended_shows}
+use Rattle.giop_stream.proofs.CodeSteps.HeaderEndSteps.{told_stopped, told_limit, told_heads, at_payload, any_ok, if_ok_weaker}
 use Rattle.giop_stream.proofs.framing.Framing.step.Goals as goal
 
 pub returns-then-is_some-clause-does : goal.returns-then-is_some-clause-does
-returns-then-is_some-clause-does g c s r h =
-    rw (behind_step c.args.catalogue.now c.args.requests.now c.args.self.now.slots.slots.most (framing_view c.args.self.now) s h c.args.octet
+returns-then-is_some-clause-does g c a s r h agrees =
+    rw (behind_step c.args.catalogue.now a c.args.self.now.slots.slots.most (framing_view c.args.self.now) s h c.args.octet
     (sym c.is_some.ensures ∙ c.if-is_some.true)) (record { text = nothing_text _; shows = h })
 
 pub returns-then-self-ge-LIMIT-clause-does : goal.returns-then-self-ge-LIMIT-clause-does
-returns-then-self-ge-LIMIT-clause-does g c s r h =
+returns-then-self-ge-LIMIT-clause-does g c a s r h agrees =
     let C = c.args.catalogue.now in
-    let kept = c.args.requests.now in
+    let kept = a in
     let m = framing_view c.args.self.now in
     let free = none_by c.args.self.now.stopped (sym c.is_some.ensures ∙ c.if-is_some.false) in
     rw (limit_step C kept c.args.self.now.slots.slots.most m s h c.args.octet free (omega (arith, c.if-self-ge-LIMIT.true))) (record {
@@ -28,3 +30,36 @@ returns-then-self-ge-LIMIT-clause-ready g c =
     on_ok_weaker c.stop.result
     (λ e. ready_stopped c.args.catalogue.now _ (framing_view c.stop.new.self) StreamLimit _ e (ready_later c.args.catalogue.now _ _ _ (omega arith) c.requires.ready))
     c.stop.ensures.state
+
+pub returns-then-is_some-clause-told : goal.returns-then-is_some-clause-told
+returns-then-is_some-clause-told g c a s r h agrees =
+    told_stopped g.Q.Correspondent.notified c.args.catalogue.now a c.args.self.now.slots.slots.most s r (framing_view c.args.self.now) h _ c.args.octet
+    (sym c.is_some.ensures ∙ c.if-is_some.true)
+
+pub returns-then-self-ge-LIMIT-clause-told : goal.returns-then-self-ge-LIMIT-clause-told
+returns-then-self-ge-LIMIT-clause-told g c =
+    any_ok c.stop.result (λ _ a s r h agrees.
+    told_limit g.Q.Correspondent.notified c.args.catalogue.now a c.args.self.now.slots.slots.most s r (framing_view c.args.self.now) h _ c.args.octet
+    (none_by c.args.self.now.stopped (sym c.is_some.ensures ∙ c.if-is_some.false)) (omega (arith, c.if-self-ge-LIMIT.true)))
+
+pub returns-then-len-lt12-clause-told : goal.returns-then-len-lt12-clause-told
+returns-then-len-lt12-clause-told g c =
+    any_ok c.header_octet.result (λ _ a s r h agrees.
+    told_heads g.Q.Correspondent.notified c.args.catalogue.now a c.args.self.now.slots.slots.most s r (framing_view c.args.self.now) h _ c.args.octet
+    (none_by c.args.self.now.stopped (sym c.is_some.ensures ∙ c.if-is_some.false)) (omega (arith, c.len.ensures.value, c.if-len-lt12.true)))
+
+pub returns-else-len-lt12-clause-does : goal.returns-else-len-lt12-clause-does
+returns-else-len-lt12-clause-does g c a s r h agrees =
+    c.payload_octet.ensures.does a s r h
+    (subst (AgreesAtEnds g.Q.Correspondent.answer g.Q.Correspondent.notified c.args.catalogue.now (g.Q.Correspondent.state c.args.correspondent.now) a) (at_payload g.Q.Correspondent.notified c.args.catalogue.now a c.args.self.now.slots.slots.most s r (framing_view c.args.self.now) h (g.Q.Correspondent.state c.args.correspondent.now) c.args.octet
+    (none_by c.args.self.now.stopped (sym c.is_some.ensures ∙ c.if-is_some.false)) (omega (arith, c.if-self-ge-LIMIT.false))) agrees)
+
+pub returns-else-len-lt12-clause-told : goal.returns-else-len-lt12-clause-told
+returns-else-len-lt12-clause-told g c =
+    if_ok_weaker c.payload_octet.result (λ _ told a s r h agrees.
+    told a s r h
+    (subst (AgreesAtEnds g.Q.Correspondent.answer g.Q.Correspondent.notified c.args.catalogue.now (g.Q.Correspondent.state c.args.correspondent.now) a) (at_payload g.Q.Correspondent.notified c.args.catalogue.now a c.args.self.now.slots.slots.most s r (framing_view c.args.self.now) h (g.Q.Correspondent.state c.args.correspondent.now) c.args.octet
+    (none_by c.args.self.now.stopped (sym c.is_some.ensures ∙ c.if-is_some.false)) (omega (arith, c.if-self-ge-LIMIT.false))) agrees)
+    ∙ sym (ap (after_ends g.Q.Correspondent.notified c.args.catalogue.now (g.Q.Correspondent.state c.args.correspondent.now)) (at_payload g.Q.Correspondent.notified c.args.catalogue.now a c.args.self.now.slots.slots.most s r (framing_view c.args.self.now) h (g.Q.Correspondent.state c.args.correspondent.now) c.args.octet
+    (none_by c.args.self.now.stopped (sym c.is_some.ensures ∙ c.if-is_some.false)) (omega (arith, c.if-self-ge-LIMIT.false)))))
+    c.payload_octet.ensures.told

@@ -1,5 +1,5 @@
 use Rattle.std.proofs.Common.{◌≡◌, ℕ, ◌+◌, List, ◌++◌, length, arith, sym, subst}
-use Rattle.giop_stream.specs.Rules.{rules}
+use Rattle.giop_stream.specs.Rules.{rules_by}
 use Rattle.giop_stream.specs.FramingView.{framing_view}
 use Rattle.giop_stream.specs.EngineStep.{run_state}
 use Rattle.giop_stream.specs.ViewOfState.{Shows}
@@ -17,7 +17,7 @@ returns-clause-shows c =
     let header : c.try_extend_from_slice.new.self.items ≡ m.header ++ q = grind (arith, c.try_extend_from_slice.ensures.ok, c.unwrap.ensures) in
     let fit : Fit (framing_view c.args.self.now) c.args.octets.now = record { free = asks.running; few = asks.before_last; room = asks.limit; right = asks.right } in
     subst (λ (xs : List ℕ). Shows C l (record m { totals = record m.totals { octets = m.totals.octets + length q }; header = xs })
-    (run_state (rules C l most) s q)) (sym header) (heads_show C l most q m s h fit)
+    (run_state (rules_by C l most) s q)) (sym header) (heads_show C l most q m s h fit)
 
 pub returns-clause-lines : goal.returns-clause-lines
 returns-clause-lines c =

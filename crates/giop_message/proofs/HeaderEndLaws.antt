@@ -1,0 +1,242 @@
+-- The headers that end in octets of a message, and the state of a correspondent after them.
+use Rattle.std.proofs.Common.{◌≡◌, ℕ, ◌+◌, Bool, true, false, List, [], ◌∷◌, ◌++◌, length, Option, Some, None, refl, sym, ap, subst, ◌∙◌, append-nil, append_assoc, take, drop, take-add, map, ◌⊎◌, inl, inr}
+use Rattle.std.proofs.lemmas.List.{take-append-drop}
+use Rattle.std.proofs.lemmas.Bool.{false≢true}
+use Rattle.giop_sig.specs.Types.{Ty}
+use Rattle.giop_sig.specs.Table.{Table}
+use Rattle.giop_sig.specs.HeaderTypes.{header_type}
+use Rattle.giop_decode.specs.ReadResult.{plain, Read, Done, Short, Fault}
+use Rattle.giop_decode.specs.Reading.{read}
+use Rattle.giop_decode.specs.ReadingSteps.{advance}
+use Rattle.giop_decode.specs.Noted.{Noted, nothing_noted, noted, noted_of}
+use Rattle.giop_decode.proofs.ReadingLaws.{read_goes}
+use Rattle.giop_message.specs.declared.part.Section.TheVariants as sections
+use Rattle.giop_message.specs.Headers.{minor, kind, order}
+use Rattle.giop_message.specs.Signatures.{Answer, Answers, signatures_of}
+use Rattle.giop_message.specs.Messages.{Stage, In_typed, In_padding, In_rest, Over, section_then, of_header, rest, rest_in, message, message_lines, stage_of, close, is_request, after_header}
+use Rattle.giop_message.specs.ReaderOfTable.{is_over, timed_line_of, closing_of, remarks_by, closes_by}
+use Rattle.giop_message.specs.MessageState.{is_header}
+use Rattle.giop_message.specs.HeaderEnds.{HeaderEnd, CallEvent, noted_if_whole, noted_by_type, header_noted, ends_between, header_ends, call_event, after_event, after_ends, AgreesAtEnds}
+
+-- ---- what is noted of a whole header stays the same
+
+module _ (header : List ℕ) (T : Ty) where
+  abbrev Reads : List ℕ → Read
+  Reads s = read (plain (order header)) [] T 12 s
+
+  faulted : Read → Bool
+  faulted (Done lines at s) = false
+  faulted (Short lines at outer leaf) = false
+  faulted (Fault lines at why U) = true
+
+  whole_on : (r : Read) (b : ℕ) (h : Noted) → noted_if_whole r ≡ Some h → noted_if_whole (advance (plain (order header)) [] r b) ≡ Some h
+  whole_on (Done lines at s) b h e = e
+  whole_on (Short lines at outer leaf) b h e = absurd cc
+  whole_on (Fault lines at why U) b h e = absurd cc
+
+  fault_on : (r : Read) (b : ℕ) → faulted r ≡ true → faulted (advance (plain (order header)) [] r b) ≡ true
+  unfolding faulted
+  fault_on (Done lines at s) b e = absurd (false≢true e)
+  fault_on (Short lines at outer leaf) b e = absurd (false≢true e)
+  fault_on (Fault lines at why U) b e = refl
+
+  whole_stays : (more s : List ℕ) (h : Noted) → noted_if_whole (Reads s) ≡ Some h → noted_if_whole (Reads (s ++ more)) ≡ Some h
+  whole_stays [] s h e = ap (λ z. noted_if_whole (Reads z)) (append-nil s) ∙ e
+  whole_stays (b ∷ more) s h e =
+      let one = ap noted_if_whole (read_goes (plain (order header)) [] T 12 s b) ∙ whole_on (Reads s) b h e in
+      ap (λ z. noted_if_whole (Reads z)) (sym (append_assoc s (b ∷ []) more)) ∙ whole_stays more (s ++ b ∷ []) h one
+
+  fault_stays : (more s : List ℕ) → faulted (Reads s) ≡ true → faulted (Reads (s ++ more)) ≡ true
+  fault_stays [] s e = ap (λ z. faulted (Reads z)) (append-nil s) ∙ e
+  fault_stays (b ∷ more) s e =
+      let one = ap faulted (read_goes (plain (order header)) [] T 12 s b) ∙ fault_on (Reads s) b e in
+      ap (λ z. faulted (Reads z)) (sym (append_assoc s (b ∷ []) more)) ∙ fault_stays more (s ++ b ∷ []) one
+
+  fault_none : (r : Read) → faulted r ≡ true → noted_if_whole r ≡ None
+  unfolding faulted
+  fault_none (Done lines at s) e = absurd (false≢true e)
+  fault_none (Short lines at outer leaf) e = absurd (false≢true e)
+  fault_none (Fault lines at why U) e = refl
+
+stays_by : (header : List ℕ) (found : Option Ty) (s more : List ℕ) (h : Noted) →
+    noted_by_type header found s ≡ Some h → noted_by_type header found (s ++ more) ≡ Some h
+stays_by header None s more h e = absurd cc
+stays_by header (Some T) s more h e = whole_stays header T more s h e
+
+header_noted_stays : (header s more : List ℕ) (h : Noted) → header_noted header s ≡ Some h →
+    header_noted header (s ++ more) ≡ Some h
+unfolding header_noted
+header_noted_stays header s more h e = stays_by header (header_type (minor header) (kind header)) s more h e
+
+-- ---- the headers that end in octets of two parts
+
+both_between : (number : ℕ) (header : List ℕ) (a b c : Option Noted) →
+    ((h : Noted) → a ≡ Some h → b ≡ Some h) → ((h : Noted) → b ≡ Some h → c ≡ Some h) →
+    ends_between number header a c ≡ ends_between number header a b ++ ends_between number header b c
+both_between number header (Some h) (Some k) c f g = refl
+both_between number header (Some h) None c f g = absurd (let no = f h refl in cc)
+both_between number header None None c f g = refl
+both_between number header None (Some k) c f g = ap (ends_between number header None) (g k refl)
+
+pub header_ends_both : (number : ℕ) (header s xs ys : List ℕ) →
+    header_ends number header s (xs ++ ys) ≡ header_ends number header s xs ++ header_ends number header (s ++ xs) ys
+unfolding header_ends
+header_ends_both number header s xs ys =
+    ap (λ z. ends_between number header (header_noted header s) (header_noted header z)) (sym (append_assoc s xs ys))
+    ∙ both_between number header (header_noted header s) (header_noted header (s ++ xs)) (header_noted header ((s ++ xs) ++ ys))
+    (λ h e. header_noted_stays header s xs h e) (λ h e. header_noted_stays header (s ++ xs) ys h e)
+
+pub header_ends_none : (number : ℕ) (header s : List ℕ) → header_ends number header s [] ≡ []
+unfolding header_ends
+header_ends_none number header s = rw (append-nil s) (go (header_noted header s))
+  where
+    go : (o : Option Noted) → ends_between number header o o ≡ []
+    go None = refl
+    go (Some h) = refl
+
+-- ---- none where a message is past its header
+
+-- in the header, or after a fault
+unfoldable pub waits : Stage → Bool
+waits (In_typed section h outer leaf) = is_header section
+waits (In_padding b) = false
+waits (In_rest offset held) = false
+waits Over = true
+
+past_by : (C : Table) (answer : Answer) (number : ℕ) (header : List ℕ) (found : Option Ty) (s more : List ℕ) →
+    waits (stage_of (of_header (signatures_of C answer) header found 12 s)) ≡ false →
+    ends_between number header (noted_by_type header found s) (noted_by_type header found (s ++ more)) ≡ []
+unfolding waits section_then stage_of of_header
+past_by C answer number header None s more e = refl
+past_by C answer number header (Some T) s more e = go (read (plain (order header)) [] T 12 s) e
+  where
+    go : (r : Read) → waits (stage_of (section_then sections.Header (is_request header) (after_header (signatures_of C answer) header) nothing_noted r)) ≡ false →
+        ends_between number header (noted_if_whole r) (noted_if_whole (read (plain (order header)) [] T 12 (s ++ more))) ≡ []
+    go (Done lines at rest) e = refl
+    go (Short lines at outer leaf) e = absurd (false≢true (sym e))
+    go (Fault lines at why U) e = absurd (false≢true (sym e))
+
+pub past_none : (C : Table) (answer : Answer) (number : ℕ) (header s more : List ℕ) →
+    waits (stage_of (message (signatures_of C answer) header s)) ≡ false → header_ends number header s more ≡ []
+unfolding header_ends header_noted message signatures_of
+past_none C answer number header s more e =
+    past_by C answer number header (header_type (minor header) (kind header)) s more e
+
+over_by : (C : Table) (answer : Answer) (number : ℕ) (header : List ℕ) (found : Option Ty) (s more : List ℕ) →
+    is_over (stage_of (of_header (signatures_of C answer) header found 12 s)) ≡ true →
+    ends_between number header (noted_by_type header found s) (noted_by_type header found (s ++ more)) ≡ []
+unfolding is_over section_then stage_of of_header faulted
+over_by C answer number header None s more e = refl
+over_by C answer number header (Some T) s more e = go (read (plain (order header)) [] T 12 s) refl e
+  where
+    Later : Option Noted
+    Later = noted_if_whole (read (plain (order header)) [] T 12 (s ++ more))
+
+    go : (r : Read) → read (plain (order header)) [] T 12 s ≡ r →
+        is_over (stage_of (section_then sections.Header (is_request header) (after_header (signatures_of C answer) header) nothing_noted r)) ≡ true →
+        ends_between number header (noted_if_whole r) (noted_if_whole (read (plain (order header)) [] T 12 (s ++ more))) ≡ []
+    go (Done lines at rest) is e = refl
+    go (Short lines at outer leaf) is e = absurd (false≢true e)
+    go (Fault lines at why U) is e =
+        let late = fault_none header T (read (plain (order header)) [] T 12 (s ++ more)) (fault_stays header T more s (ap (faulted header T) is)) in
+        rw late refl
+
+-- none ends after a fault
+pub over_none : (C : Table) (answer : Answer) (number : ℕ) (header s more : List ℕ) →
+    is_over (stage_of (message (signatures_of C answer) header s)) ≡ true → header_ends number header s more ≡ []
+unfolding header_ends header_noted message signatures_of
+over_none C answer number header s more e =
+    over_by C answer number header (header_type (minor header) (kind header)) s more e
+
+-- ---- events, and then others
+
+module _ {St : Type 0} (answer : St → Answer) (notified : St → CallEvent → St) (C : Table) where
+  pub told_both : (st : St) (es fs : List HeaderEnd) →
+      after_ends notified C st (es ++ fs) ≡ after_ends notified C (after_ends notified C st es) fs
+  told_both st [] fs = refl
+  told_both st (e ∷ es) fs = told_both (after_event notified st (call_event C e.header e.notes)) es fs
+
+  pub answers_first : (st : St) (a : Answers) (es fs : List HeaderEnd) →
+      AgreesAtEnds answer notified C st a (es ++ fs) → AgreesAtEnds answer notified C st a es
+  answers_first st a [] fs h = tt
+  answers_first st a (e ∷ es) fs h = (h.0, answers_first (after_event notified st (call_event C e.header e.notes)) a es fs h.1)
+
+  pub answers_then : (st : St) (a : Answers) (es fs : List HeaderEnd) →
+      AgreesAtEnds answer notified C st a (es ++ fs) → AgreesAtEnds answer notified C (after_ends notified C st es) a fs
+  answers_then st a [] fs h = h
+  answers_then st a (e ∷ es) fs h = answers_then (after_event notified st (call_event C e.header e.notes)) a es fs h.1
+
+-- ---- octets that were taken, and the others
+
+module _ (number : ℕ) (header s octets : List ℕ) (t : ℕ) where
+  ends_split : header_ends number header s octets
+      ≡ header_ends number header s (take t octets) ++ header_ends number header (s ++ take t octets) (drop t octets)
+  ends_split = ap (header_ends number header s) (sym (take-append-drop t octets)) ∙ header_ends_both number header s (take t octets) (drop t octets)
+
+  pub ends_over : (C : Table) (answer : Answer) →
+      is_over (stage_of (message (signatures_of C answer) header (s ++ take t octets))) ≡ true →
+      header_ends number header s octets ≡ header_ends number header s (take t octets)
+  ends_over C answer over =
+      ends_split ∙ (ap (λ (z : List HeaderEnd). header_ends number header s (take t octets) ++ z)
+      (over_none C answer number header (s ++ take t octets) (drop t octets) over)
+      ∙ append-nil (header_ends number header s (take t octets)))
+
+  module _ {St : Type 0} (answer : St → Answer) (notified : St → CallEvent → St) (C : Table) (st now : St) where
+    pub agrees_now : (a : Answers) → now ≡ after_ends notified C st (header_ends number header s (take t octets)) →
+        AgreesAtEnds answer notified C st a (header_ends number header s octets) →
+        AgreesAtEnds answer notified C now a (header_ends number header (s ++ take t octets) (drop t octets))
+    agrees_now a told h =
+        let rest = header_ends number header (s ++ take t octets) (drop t octets) in
+        subst (λ x. AgreesAtEnds answer notified C x a rest) (sym told)
+        (answers_then answer notified C st a (header_ends number header s (take t octets)) rest
+        (subst (AgreesAtEnds answer notified C st a) ends_split h))
+
+    pub told_more : (n : ℕ) (later : St) → now ≡ after_ends notified C st (header_ends number header s (take t octets)) →
+        later ≡ after_ends notified C now (header_ends number header (s ++ take t octets) (take n (drop t octets))) →
+        later ≡ after_ends notified C st (header_ends number header s (take (t + n) octets))
+    told_more n later told more =
+        let mid = header_ends number header (s ++ take t octets) (take n (drop t octets)) in
+        more ∙ (ap (λ x. after_ends notified C x mid) told
+        ∙ (sym (told_both answer notified C st (header_ends number header s (take t octets)) mid)
+        ∙ ap (after_ends notified C st) (sym (ap (header_ends number header s) (take-add t n octets)
+        ∙ header_ends_both number header s (take t octets) (take n (drop t octets))))))
+
+-- ---- a message whose header has not ended is read alike, whatever the ids answer
+
+unended_by : (C : Table) (x y : Answer) (header : List ℕ) (found : Option Ty) (s : List ℕ) → noted_by_type header found s ≡ None →
+    of_header (signatures_of C x) header found 12 s ≡ of_header (signatures_of C y) header found 12 s
+unfolding of_header section_then
+unended_by C x y header None s e = refl
+unended_by C x y header (Some T) s e = go (read (plain (order header)) [] T 12 s) e
+  where
+    go : (r : Read) → noted_if_whole r ≡ None →
+        section_then sections.Header (is_request header) (after_header (signatures_of C x) header) nothing_noted r
+        ≡ section_then sections.Header (is_request header) (after_header (signatures_of C y) header) nothing_noted r
+    go (Done lines at rest) e = absurd cc
+    go (Short lines at outer leaf) e = refl
+    go (Fault lines at why U) e = refl
+
+pub unended_agree : (C : Table) (x y : Answer) (header s : List ℕ) → header_noted header s ≡ None →
+    message (signatures_of C x) header s ≡ message (signatures_of C y) header s
+unfolding header_noted message signatures_of
+unended_agree C x y header s e = unended_by C x y header (header_type (minor header) (kind header)) s e
+
+pub header_noted_before : (header s more : List ℕ) → header_noted header (s ++ more) ≡ None → header_noted header s ≡ None
+header_noted_before header s more e = go (header_noted header s) refl
+  where
+    go : (o : Option Noted) → header_noted header s ≡ o → o ≡ None
+    go None is = refl
+    go (Some h) is = absurd (let no : None ≡ Some h = sym e ∙ header_noted_stays header s more h is in cc)
+
+-- by answers that agree, or before the header ends, a message has the same lines
+pub alike_remarks : (C : Table) (x y : Answer) (header s : List ℕ) → (x ≡ y) ⊎ (header_noted header s ≡ None) →
+    remarks_by (signatures_of C x) header s ≡ remarks_by (signatures_of C y) header s
+unfolding remarks_by
+alike_remarks C x y header s (inl e) = ap (λ (z : Answer). remarks_by (signatures_of C z) header s) e
+alike_remarks C x y header s (inr e) = ap (λ m. map timed_line_of (message_lines m)) (unended_agree C x y header s e)
+
+pub alike_closes : (C : Table) (x y : Answer) (header s : List ℕ) → (x ≡ y) ⊎ (header_noted header s ≡ None) →
+    closes_by (signatures_of C x) header s ≡ closes_by (signatures_of C y) header s
+unfolding closes_by
+alike_closes C x y header s (inl e) = ap (λ (z : Answer). closes_by (signatures_of C z) header s) e
+alike_closes C x y header s (inr e) = ap (λ m. map closing_of (close (stage_of m))) (unended_agree C x y header s e)

@@ -1,0 +1,150 @@
+//! What the correspondent of a stream is told where the header of a message ends.
+
+ghost use Rattle.std.specs.Prelude.{◌≡◌, ◌<◌, length, true, cond};
+ghost use Rattle.std.specs.Option.{option_map};
+ghost use Rattle.giop_sig.specs.Table.{Table};
+ghost use Rattle.giop_decode.specs.ReadResult.{Read};
+ghost use Rattle.giop_decode.specs.Noted.{noted_of};
+ghost use Rattle.giop_decode.specs.DecoderState.{KeepsNoted};
+ghost use Rattle.giop_message.specs.Messages.{root_of};
+ghost use Rattle.giop_message.specs.MessageState.{AreKnown, is_header};
+ghost use Rattle.giop_message.specs.HeaderEnds.{IsKnownOperation, after_event, header_event, operation_of, shown, request_event, reply_event};
+
+use crate::correspondent::Correspondent;
+use crate::header::kind_of;
+use crate::part::Section;
+use crate::word::is_shown;
+use giop_decode::Decoder;
+use giop_print::Root;
+use giop_sig::{Catalogue, OpId};
+
+/// The operation that a Request names, where the section that has ended is its header.
+pub fn operation_of(
+    catalogue: &Catalogue,
+    header: &[u8],
+    section: Section,
+    decoder: &Decoder,
+) -> Option<OpId>
+    requires header { length header.now ≡ 12 }
+    ensures is { (r : Read) → KeepsNoted (root_of section) decoder.now r → is_header section ≡ true →
+        result ≡ operation_of catalogue.now header.now (noted_of true r) }
+    ensures known { IsKnownOperation catalogue.now result }
+{
+    match section {
+        Section::Header => named_operation(catalogue, header, decoder),
+        Section::Exception => None,
+        Section::Body => None,
+    }
+}
+
+/// The operation that a Request names, by the decoder of its header.
+#[tactic(auto, unfolding(crate::specs::HeaderEnds::operation_of))]
+fn named_operation(catalogue: &Catalogue, header: &[u8], decoder: &Decoder) -> Option<OpId>
+    requires header { length header.now ≡ 12 }
+    ensures is { (r : Read) → KeepsNoted Root.Header decoder.now r →
+        result ≡ operation_of catalogue.now header.now (noted_of true r) }
+    ensures known { IsKnownOperation catalogue.now result }
+{
+    if kind_of(header) != 0 {
+        return None;
+    }
+    let Some(name) = decoder.name() else {
+        return None;
+    };
+    catalogue.operation(name)
+}
+
+/// Tells the correspondent of the section that has ended, if it is a header, with the operation that it names.
+pub fn notify_of_section<Q: Correspondent>(
+    correspondent: &mut Q,
+    header: &[u8],
+    section: Section,
+    decoder: &Decoder,
+    operation: Option<OpId>,
+)
+    requires header { length header.now ≡ 12 }
+    ensures known { (C : Table) → IsKnownOperation C operation →
+        AreKnown C (Q.answer (Q.state correspondent.old)) →
+        AreKnown C (Q.answer (Q.state correspondent.new)) }
+    ensures told { (r : Read) → KeepsNoted (root_of section) decoder.now r →
+        Q.state correspondent.new ≡ cond (is_header section)
+        (after_event Q.notified (Q.state correspondent.old)
+        (header_event header.now (noted_of true r) operation))
+        (Q.state correspondent.old) }
+{
+    match section {
+        Section::Header => notify_of_header(correspondent, header, decoder, operation),
+        Section::Exception => {}
+        Section::Body => {}
+    }
+}
+
+/// Tells of a header, by the message type.
+#[tactic(auto, unfolding(crate::specs::HeaderEnds::header_event))]
+fn notify_of_header<Q: Correspondent>(
+    correspondent: &mut Q,
+    header: &[u8],
+    decoder: &Decoder,
+    operation: Option<OpId>,
+)
+    requires header { length header.now ≡ 12 }
+    ensures known { (C : Table) → IsKnownOperation C operation →
+        AreKnown C (Q.answer (Q.state correspondent.old)) →
+        AreKnown C (Q.answer (Q.state correspondent.new)) }
+    ensures told { (r : Read) → KeepsNoted Root.Header decoder.now r →
+        Q.state correspondent.new ≡ after_event Q.notified (Q.state correspondent.old)
+        (header_event header.now (noted_of true r) operation) }
+{
+    if kind_of(header) == 0 {
+        notify_of_request(correspondent, decoder, operation);
+        return;
+    }
+    if kind_of(header) == 1 {
+        notify_of_reply(correspondent, decoder);
+    }
+}
+
+/// Tells of a Request: its id, its name and its operation.
+fn notify_of_request<Q: Correspondent>(
+    correspondent: &mut Q,
+    decoder: &Decoder,
+    operation: Option<OpId>,
+)
+    ensures known { (C : Table) → IsKnownOperation C operation →
+        AreKnown C (Q.answer (Q.state correspondent.old)) →
+        AreKnown C (Q.answer (Q.state correspondent.new)) }
+    ensures told { (r : Read) → KeepsNoted Root.Header decoder.now r →
+        Q.state correspondent.new ≡ after_event Q.notified (Q.state correspondent.old)
+        (request_event (noted_of true r).request_id (noted_of true r).name operation) }
+{
+    let Some(id) = decoder.request_id() else {
+        return;
+    };
+    correspondent.called(id, shown(decoder.name()), operation);
+}
+
+/// Tells of a Reply: the id that it answers.
+fn notify_of_reply<Q: Correspondent>(correspondent: &mut Q, decoder: &Decoder)
+    ensures known { (C : Table) → AreKnown C (Q.answer (Q.state correspondent.old)) →
+        AreKnown C (Q.answer (Q.state correspondent.new)) }
+    ensures told { (r : Read) → KeepsNoted Root.Header decoder.now r →
+        Q.state correspondent.new ≡ after_event Q.notified (Q.state correspondent.old)
+        (reply_event (noted_of true r).request_id) }
+{
+    if let Some(id) = decoder.request_id() {
+        correspondent.answered(id);
+    }
+}
+
+/// A name that a call line can show.
+fn shown(name: Option<&[u8]>) -> Option<&[u8]>
+    ensures { option_map (λ x. x.now) result ≡ shown (option_map (λ x. x.now) name.entry) }
+{
+    let Some(name) = name else {
+        return None;
+    };
+    if is_shown(name) {
+        return Some(name);
+    }
+    None
+}

@@ -1,0 +1,367 @@
+-- The headers that end in octets of a stream, and the state of a correspondent after them.
+use Rattle.std.proofs.Common.{◌≡◌, ℕ, zero, suc, ◌+◌, ◌^◌, ◌<◌, ◌≤◌, Bool, true, false, List, [], ◌∷◌, ◌++◌, length, Option, Some, None, Result, Ok, Err, refl, sym, ap, subst, ◌∙◌, append_assoc, append-nil, arith}
+use Rattle.std.specs.Prelude.{is_none, is_some, ◌&&◌, ◌==◌, nat_lt, slice_get, option_map, IfOk, if◌then◌else◌}
+use Rattle.std.proofs.lemmas.Bool.{lt-ltb, ne_eqb, false≢true}
+use Rattle.std.proofs.lemmas.List.{length_push}
+use Rattle.giop_checkpoint.specs.declared.fault.StreamFault.{StreamFault}
+use Rattle.giop_sig.specs.Table.{Table}
+use Rattle.giop_sig.specs.RequestList.{kept_operation}
+use Rattle.giop_message.specs.declared.message.Message.{Message as CodeMessage}
+use Rattle.giop_message.specs.Signatures.{RequestTable, Answer, Answers, by_list, signatures_of}
+use Rattle.giop_message.specs.Messages.{message, stage_of}
+use Rattle.giop_message.specs.ReaderOfTable.{message_reader, is_over}
+use Rattle.giop_message.specs.MessageState.{Follows}
+use Rattle.giop_message.specs.HeaderEnds.{HeaderEnd, CallEvent, header_ends, call_event, after_event, after_ends, AgreesAtEnds}
+use Rattle.giop_message.proofs.MessageLaws.{header_ends_both, header_ends_none, over_none, octet_over, told_both, answers_first, answers_then}
+use Rattle.giop_stream.specs.declared.slots.Slot.{Slot as Contents}
+use Rattle.giop_stream.specs.declared.slots.Slots.{Slots}
+use Rattle.giop_stream.specs.declared.slots.Payload.TheVariants as payload
+use Rattle.giop_stream.specs.HeaderOctets.{wrong}
+use Rattle.giop_stream.specs.Rules.{Rules, rules_by}
+use Rattle.giop_message.specs.Headers.{size}
+use Rattle.giop_stream.specs.EngineView.{FramingView}
+use Rattle.giop_stream.specs.Octet.{header_of}
+use Rattle.giop_stream.specs.EngineState.{State, state_of}
+use Rattle.giop_stream.specs.ViewOfState.{IsReached, Shows}
+use Rattle.giop_stream.specs.Framing.{Message, Cut, limit, cut, fault_of}
+use Rattle.giop_stream.specs.Events.{MessageKey, Takes, open_after}
+use Rattle.giop_stream.specs.Effects.{Tracked, tracked_at, octets_then, tracked_after, with_octet}
+use Rattle.giop_stream.specs.SlotsRepresent.{RepresentsMessage, SlotsRepresent, event, effect_to}
+use Rattle.giop_stream.specs.PayloadOwner.{owner_of_next}
+use Rattle.giop_stream.specs.HeaderEndsOfStream.{run_header_ends, owner_header_ends, current_header_ends, header_ends_at, header_ends_from}
+use Rattle.giop_stream.proofs.Cuts.Cutting.{of_parts, next, parts_by, cut_grows, next_limit, next_front, next_stopped}
+use Rattle.giop_stream.proofs.Cuts.CutFrom.{header_case}
+use Rattle.giop_stream.proofs.SlotSteps.OneSlotChanges.{own_then}
+use Rattle.giop_stream.proofs.SlotSteps.ReadingEffects.{Faulty, over_then, then_by}
+use Rattle.giop_stream.proofs.SlotSteps.EventsOnSlots.{own_has, slot_has, nobody_has, own_kept, slot_kept}
+use Rattle.giop_stream.proofs.CodeSteps.Runs.{over_stays}
+use Rattle.giop_stream.proofs.CodeSteps.PayloadRunSteps.{Within, within_on, octet_adds, octet_owner, begins}
+use Rattle.giop_stream.proofs.CodeSteps.MessageOctets.{runs_on, all_read, header_at, no_current, has_current}
+use Rattle.giop_stream.proofs.CodeSteps.OneOctet.{Adds}
+
+-- ---- a result
+
+pub if_ok_weaker : {A E : Type 0} {P Q : A → Type 0} (r : Result A E) → ((x : A) → P x → Q x) → IfOk r P → IfOk r Q
+if_ok_weaker (Ok x) f h = f x h
+if_ok_weaker (Err e) f h = h
+
+pub positive : (n : ℕ) → (n ≡ 0 → ⊥) → 0 < n
+positive zero f = absurd (f refl)
+positive (suc n) f = omega arith
+
+pub none_first : (xs : List ℕ) → None ≡ slice_get xs 0 → xs ≡ []
+none_first [] e = refl
+none_first (x ∷ xs) e = absurd (let no : None ≡ Some x = e in cc)
+
+-- ---- one message
+
+pub none_told : {St : Type 0} (notified : St → CallEvent → St) (C : Table) (a : Answers) (st : St) (w : MessageKey) (o : Option (List ℕ)) (octets : List ℕ)
+    → RepresentsMessage C a None w o → st ≡ after_ends notified C st (run_header_ends w o octets)
+none_told notified C a st w None octets k = refl
+none_told notified C a st w (Some s) octets k = absurd k
+
+pub given_told : {St : Type 0} (notified : St → CallEvent → St) (C : Table) (a : Answers) (st now : St) (m : CodeMessage) (w : MessageKey)
+    (o : Option (List ℕ)) (octets : List ℕ) → RepresentsMessage C a (Some m) w o
+    → ((s : List ℕ) → o ≡ Some s → Follows C a w.number w.header m s → now ≡ after_ends notified C st (header_ends w.number w.header s octets))
+    → now ≡ after_ends notified C st (run_header_ends w o octets)
+given_told notified C a st now m w (Some s) octets k f = f s refl k
+given_told notified C a st now m w None octets k f = absurd k
+
+-- ---- the owner of the octets
+
+module _ {St : Type 0} (answer : St → Answer) (notified : St → CallEvent → St) (C : Table) (a : Answers) (st now : St) (s : Slots)
+    (c : Tracked) (who : Option MessageKey) (octets : List ℕ) (h : SlotsRepresent C a s c who) where
+  abbrev Agrees : Option MessageKey → Type 0
+  Agrees who' = AgreesAtEnds answer notified C st a (owner_header_ends c who' octets)
+
+  abbrev IsTold : Option MessageKey → Type 0
+  IsTold who' = now ≡ after_ends notified C st (owner_header_ends c who' octets)
+
+  pub own_told : s.payload ≡ payload.Own → Agrees who
+      → ((w : MessageKey) → RepresentsMessage C a s.own w (c.known w.number) → AgreesAtEnds answer notified C st a (run_header_ends w (c.known w.number) octets)
+      → now ≡ after_ends notified C st (run_header_ends w (c.known w.number) octets)) → IsTold who
+  own_told e agrees f = own_has C a (λ v. Agrees v → IsTold v) s c who e h (λ w k agrees_here. f w (own_kept C a s c w e k) agrees_here) agrees
+
+  pub slot_told : (v : Contents) (k : ℕ) → s.payload ≡ payload.Open k → option_map (λ e. e.value) (slice_get s.slots.entries k) ≡ Some v
+      → Agrees who
+      → ((w : MessageKey) → RepresentsMessage C a v.message w (c.known w.number) → AgreesAtEnds answer notified C st a (run_header_ends w (c.known w.number) octets)
+      → now ≡ after_ends notified C st (run_header_ends w (c.known w.number) octets)) → IsTold who
+  slot_told v k e get agrees f =
+      slot_has C a (λ v. Agrees v → IsTold v) s c who k e h (λ w kept agrees_here. f w (slot_kept C a s v c w k e get kept) agrees_here) agrees
+
+  pub nobody_told : s.payload ≡ payload.Nobody → now ≡ st → IsTold who
+  nobody_told e same = nobody_has C a IsTold s c who e h (λ k. same)
+
+-- ---- one octet, and others after it
+
+module _ (C : Table) (a : Answers) where
+  -- the message is over where an octet faults it
+  faulted_over : (w : MessageKey) (s : List ℕ) (x : ℕ) → Faulty C a w s x ≡ true
+      → is_over (stage_of (message (signatures_of C (a w.number)) w.header (s ++ x ∷ []))) ≡ true
+  faulted_over w s x e = go (is_over (stage_of (message (signatures_of C (a w.number)) w.header s))) refl
+    where
+      go : (b : Bool) → is_over (stage_of (message (signatures_of C (a w.number)) w.header s)) ≡ b
+          → is_over (stage_of (message (signatures_of C (a w.number)) w.header (s ++ x ∷ []))) ≡ true
+      go true over = over_stays (signatures_of C (a w.number)) w.header s (x ∷ []) over
+      go false goes = octet_over (signatures_of C (a w.number)) w.header s x goes ∙ e
+
+  ends_on : (w : MessageKey) (s : List ℕ) (x : ℕ) (q : List ℕ) (at : ℕ) → header_ends w.number w.header s (x ∷ q)
+      ≡ header_ends w.number w.header s (x ∷ []) ++ run_header_ends w (octets_then (message_reader C a) (event at w (Takes x)) (Some s)) q
+  ends_on w s x q at =
+      header_ends_both w.number w.header s (x ∷ []) q
+      ∙ ap (λ (z : List HeaderEnd). header_ends w.number w.header s (x ∷ []) ++ z) (go (Faulty C a w s x) refl)
+    where
+      go : (b : Bool) → Faulty C a w s x ≡ b → header_ends w.number w.header (s ++ x ∷ []) q
+          ≡ run_header_ends w (octets_then (message_reader C a) (event at w (Takes x)) (Some s)) q
+      go true e =
+          over_none C (a w.number) w.number w.header (s ++ x ∷ []) q (faulted_over w s x e)
+          ∙ sym (ap (λ o. run_header_ends w o q) (then_by C a at w s x ∙ ap (λ (b : Bool). if b then None else Some (s ++ x ∷ [])) e))
+      go false e = sym (ap (λ o. run_header_ends w o q) (then_by C a at w s x ∙ ap (λ (b : Bool). if b then None else Some (s ++ x ∷ [])) e))
+
+  known_on : (w : MessageKey) (o : Option (List ℕ)) (x : ℕ) (q : List ℕ) (at : ℕ) → run_header_ends w o (x ∷ q)
+      ≡ run_header_ends w o (x ∷ []) ++ run_header_ends w (octets_then (message_reader C a) (event at w (Takes x)) o) q
+  known_on w None x q at = sym (ap (λ o. run_header_ends w o q) (over_then (message_reader C a) (event at w (Takes x))))
+  known_on w (Some s) x q at = ends_on w s x q at
+
+  pub owner_on : (c : Tracked) (who : Option MessageKey) (x : ℕ) (q : List ℕ) (at : ℕ) → owner_header_ends c who (x ∷ q)
+      ≡ owner_header_ends c who (x ∷ []) ++ owner_header_ends (effect_to C a at c who (Takes x)).tracked who q
+  owner_on c None x q at = refl
+  owner_on c (Some w) x q at =
+      known_on w (c.known w.number) x q at
+      ∙ ap (λ (z : List HeaderEnd). run_header_ends w (c.known w.number) (x ∷ []) ++ z)
+      (ap (λ o. run_header_ends w o q) (sym (own_then (message_reader C a) c (event at w (Takes x)))))
+
+  none_of : (w : MessageKey) (o : Option (List ℕ)) → run_header_ends w o [] ≡ []
+  none_of w None = refl
+  none_of w (Some s) = header_ends_none w.number w.header s
+
+  none_whose : (c : Tracked) (who : Option MessageKey) → owner_header_ends c who [] ≡ []
+  none_whose c None = refl
+  none_whose c (Some w) = none_of w (c.known w.number)
+
+  -- the octets of a run, one after the other
+  pub run_from : (most : ℕ) (q p : List ℕ) (m : Message) → Within p m (length q)
+      → owner_header_ends (tracked_after (rules_by C a most) p) (owner_of_next (open_after most p) m) q ≡ header_ends_from (rules_by C a most) p q
+  unfolding header_ends_from header_ends_at
+  run_from most [] p m h = none_whose (tracked_after (rules_by C a most) p) (owner_of_next (open_after most p) m)
+  run_from most (x ∷ q) p m h =
+      let R = rules_by C a most in
+      let W = owner_of_next (open_after most p) m in
+      let p' = p ++ x ∷ [] in
+      let one = octet_adds C a most p m x (length q) h in
+      let who = octet_owner C a most p m x (length q) h in
+      let more = run_from most q p' (with_octet m x) (within_on p m x (length q) h) in
+      let rest : owner_header_ends (effect_to C a (suc (length p)) (tracked_after R p) W (Takes x)).tracked W q ≡ header_ends_from R p' q =
+      (λ j. owner_header_ends (sym one.tracked_after j) (sym who j) q) ∙ more in
+      owner_on (tracked_after R p) W x q (suc (length p))
+      ∙ (ap (λ (z : List HeaderEnd). z ++ owner_header_ends (effect_to C a (suc (length p)) (tracked_after R p) W (Takes x)).tracked W q) (sym (here R h))
+      ∙ ap (λ (z : List HeaderEnd). header_ends_at R p x ++ z) rest)
+    where
+      here : (R : Rules) → Within p m (suc (length q)) → header_ends_at R p x ≡ owner_header_ends (tracked_after R p) (owner_of_next (open_after R.most p) m) (x ∷ [])
+      here R h = rw (h.free, lt-ltb (length p) limit (omega (arith, h.room)), h.current) refl
+
+-- ---- any octets
+
+pub at_free : (R : Rules) (p : List ℕ) (x : ℕ) → (cut p).stop ≡ None → length p < limit → header_ends_at R p x ≡ current_header_ends R p (cut p).current (x ∷ [])
+unfolding header_ends_at
+at_free R p x free room = rw (free, lt-ltb (length p) limit room) refl
+
+pub at_none : (R : Rules) (p : List ℕ) (x : ℕ) → (cut p).current ≡ None → header_ends_at R p x ≡ []
+unfolding header_ends_at
+at_none R p x e = rw e (go (is_none (cut p).stop && nat_lt (length p) limit))
+  where
+    go : (b : Bool) → (let none : List HeaderEnd = if b then [] else [] in none) ≡ []
+    go true = refl
+    go false = refl
+
+pub at_stop : (R : Rules) (p : List ℕ) (x : ℕ) (found : ℕ × StreamFault) → (cut p).stop ≡ Some found → header_ends_at R p x ≡ []
+unfolding header_ends_at
+at_stop R p x found e = rw e refl
+
+pub at_limit : (R : Rules) (p : List ℕ) (x : ℕ) → limit ≤ length p → header_ends_at R p x ≡ []
+unfolding header_ends_at
+at_limit R p x full = rw (past (length p) full) (go (is_none (cut p).stop))
+  where
+    past : (n : ℕ) → limit ≤ n → nat_lt n limit ≡ false
+    past n h = grind (arith, h)
+
+    go : (b : Bool) → (let some : List HeaderEnd = if b && false then current_header_ends R p (cut p).current (x ∷ []) else [] in some) ≡ []
+    go true = refl
+    go false = refl
+
+pub from_append : (R : Rules) (xs p ys : List ℕ) → header_ends_from R p (xs ++ ys) ≡ header_ends_from R p xs ++ header_ends_from R (p ++ xs) ys
+unfolding header_ends_from
+from_append R [] p ys = ap (λ (z : List ℕ). header_ends_from R z ys) (sym (append-nil p))
+from_append R (x ∷ xs) p ys =
+    ap (λ (z : List HeaderEnd). header_ends_at R p x ++ z)
+    (from_append R xs (p ++ x ∷ []) ys ∙ ap (λ (z : List ℕ). header_ends_from R (p ++ x ∷ []) xs ++ header_ends_from R z ys) (append_assoc p (x ∷ []) xs))
+    ∙ sym (append_assoc (header_ends_at R p x) (header_ends_from R (p ++ x ∷ []) xs) (header_ends_from R (p ++ x ∷ xs) ys))
+
+pub from_one : (R : Rules) (p : List ℕ) (x : ℕ) → header_ends_from R p (x ∷ []) ≡ header_ends_at R p x
+unfolding header_ends_from
+from_one R p x = append-nil (header_ends_at R p x)
+
+-- ---- octets of a header that they do not complete
+
+record Heads (p : List ℕ) (n : ℕ) : Type 0 where
+  no_current : (cut p).current ≡ None
+  few : length (cut p).held + n < 12
+
+abbrev Right : ℕ → Cut → Type 0
+Right k c = (c.current ≡ None) × (length c.held + k < 12)
+
+head_case : (first n : ℕ) (whole : List Message) (front : List ℕ) (o : Option StreamFault) (k : ℕ) → length front + k < 12
+    → Right k (header_case first n whole front o (length front == 12))
+unfolding header_case
+head_case first n whole front (Some word) k h = (refl, omega (arith, h))
+head_case first n whole front None k h = rw (ne_eqb (length front) 12 (λ e. omega (arith, h, e))) (refl, h)
+
+heads_on : (p : List ℕ) (x k : ℕ) → Heads p (suc k) → Heads (p ++ x ∷ []) k
+unfolding of_parts
+heads_on p x k h = let both = go (cut p).stop refl in record { no_current = both.0; few = both.1 }
+  where
+    grown : (o : Option (ℕ × StreamFault)) → (cut p).stop ≡ o
+        → cut (p ++ x ∷ []) ≡ next (length p) x (of_parts (cut p).whole None (cut p).held o)
+    grown o e = cut_grows p x ∙ ap (next (length p) x) (parts_by (cut p) None o h.no_current e)
+
+    room : (b : Bool) → nat_lt limit (suc (length p)) ≡ b → Right k (next (length p) x (of_parts (cut p).whole None (cut p).held None))
+    room true e =
+        subst (Right k) (sym (next_limit (cut p).whole None (cut p).held (length p) x e)) (refl, omega (arith, h.few))
+    room false e =
+        subst (Right k) (sym (next_front (cut p).whole (cut p).held (length p) x e))
+        (head_case 1 (suc (length p)) (cut p).whole ((cut p).held ++ x ∷ []) (wrong ((cut p).held ++ x ∷ [])) k
+        (omega (arith, h.few, length_push (cut p).held x)))
+
+    go : (o : Option (ℕ × StreamFault)) → (cut p).stop ≡ o → Right k (cut (p ++ x ∷ []))
+    go (Some found) e =
+        subst (Right k) (sym (grown (Some found) e ∙ next_stopped (cut p).whole None (cut p).held found (length p) x)) (refl, omega (arith, h.few))
+    go None e = subst (Right k) (sym (grown None e)) (room (nat_lt limit (suc (length p))) refl)
+
+pub heads_none : (R : Rules) (xs p : List ℕ) → (cut p).current ≡ None → length (cut p).held + length xs < 12 → header_ends_from R p xs ≡ []
+unfolding header_ends_from
+heads_none R xs p none few = all xs p (record { no_current = none; few = few })
+  where
+    all : (ys q : List ℕ) → Heads q (length ys) → header_ends_from R q ys ≡ []
+    all [] q h = refl
+    all (y ∷ ys) q h = rw (at_none R q y h.no_current) (all ys (q ++ y ∷ []) (heads_on q y (length ys) h))
+
+-- ---- events of one part, and of another after it
+
+module _ {St : Type 0} (answer : St → Answer) (notified : St → CallEvent → St) (C : Table) (a : Answers) (st : St) where
+  pub agrees_front : (all es fs : List HeaderEnd) → all ≡ es ++ fs → AgreesAtEnds answer notified C st a all → AgreesAtEnds answer notified C st a es
+  agrees_front all es fs e h = answers_first answer notified C st a es fs (subst (AgreesAtEnds answer notified C st a) e h)
+
+  pub agrees_after : (now : St) (all es fs : List HeaderEnd) → all ≡ es ++ fs → now ≡ after_ends notified C st es
+      → AgreesAtEnds answer notified C st a all → AgreesAtEnds answer notified C now a fs
+  agrees_after now all es fs e told h =
+      subst (λ x. AgreesAtEnds answer notified C x a fs) (sym told) (answers_then answer notified C st a es fs (subst (AgreesAtEnds answer notified C st a) e h))
+
+  pub told_after : (now later : St) (es fs : List HeaderEnd) → now ≡ after_ends notified C st es → later ≡ after_ends notified C now fs
+      → later ≡ after_ends notified C st (es ++ fs)
+  told_after now later es fs told more = more ∙ (ap (λ x. after_ends notified C x fs) told ∙ sym (told_both answer notified C st es fs))
+
+-- a request list answers each message, and no event changes it
+pub list_answers : (C : Table) (l : RequestTable) (es : List HeaderEnd)
+    → AgreesAtEnds (λ (k : RequestTable) id. kept_operation k id) (λ k t. k) C l (by_list l) es
+list_answers C l [] = tt
+list_answers C l (e ∷ es) = (refl, rest (call_event C e.header e.notes) (list_answers C l es))
+  where
+    rest : (o : Option CallEvent) → AgreesAtEnds (λ (k : RequestTable) id. kept_operation k id) (λ k t. k) C l (by_list l) es
+        → AgreesAtEnds (λ (k : RequestTable) id. kept_operation k id) (λ k t. k) C (after_event (λ (k : RequestTable) t. k) l o) (by_list l) es
+    rest None h = h
+    rest (Some t) h = h
+
+-- ---- by the fields
+
+pub any_ok : {A E : Type 0} {P : A → Type 0} (r : Result A E) → ((x : A) → P x) → IfOk r P
+any_ok (Ok x) f = f x
+any_ok (Err e) f = tt
+
+module _ {St : Type 0} (notified : St → CallEvent → St) (C : Table) (a : Answers) (most : ℕ) (s : State) (r : IsReached C a most s)
+    (m : FramingView) (h : Shows C a m s) (st : St) (x : ℕ) where
+  abbrev R : Rules
+  R = rules_by C a most
+
+  abbrev Same : Type 0
+  Same = st ≡ after_ends notified C st (header_ends_at R r.stream x)
+
+  same_by : header_ends_at R r.stream x ≡ [] → Same
+  same_by e = sym (ap (after_ends notified C st) e)
+
+  pub told_stopped : is_some m.stopped ≡ true → Same
+  unfolding state_of
+  told_stopped over = go (cut r.stream).stop refl
+    where
+      stops : m.stopped ≡ fault_of (cut r.stream).stop
+      stops = h.stopped ∙ ap (λ (t : State). t.stop) r.held
+
+      go : (o : Option (ℕ × StreamFault)) → (cut r.stream).stop ≡ o → Same
+      go (Some found) e = same_by (at_stop R r.stream x found e)
+      go None e = absurd (let no : is_some m.stopped ≡ false = ap is_some (stops ∙ ap fault_of e) in false≢true (sym no ∙ over))
+
+  module _ (free : m.stopped ≡ None) where
+    pub told_limit : 2 ^ 48 ≤ m.totals.octets → Same
+    unfolding limit
+    told_limit full = same_by (at_limit R r.stream x (omega (arith, full, all_read C a most s r m h free)))
+
+    -- a header that is not whole
+    pub told_heads : length m.header < 12 → Same
+    told_heads few = same_by (at_none R r.stream x (no_current C a most s r m h free few))
+
+    -- an octet of a payload
+    pub at_payload : m.totals.octets < 2 ^ 48 → header_ends_at R r.stream x ≡ current_header_ends R r.stream (cut r.stream).current (x ∷ [])
+    unfolding limit
+    at_payload room =
+        at_free R r.stream x (runs_on C a most s r m h free) (omega (arith, room, all_read C a most s r m h free))
+
+-- octets of a header that only add to it
+pub told_ahead : (C : Table) (a : Answers) (most : ℕ) (s : State) (r : IsReached C a most s) (m : FramingView) (h : Shows C a m s) (xs : List ℕ)
+    → m.stopped ≡ None → length m.header + length xs < 12 → header_ends_from (rules_by C a most) r.stream xs ≡ []
+told_ahead C a most s r m h xs free few =
+    let none = no_current C a most s r m h free (omega (arith, few)) in
+    let held = header_at C a most s r m h free ∙ ap (λ (o : Option Message). header_of o (cut r.stream).held) none in
+    heads_none (rules_by C a most) xs r.stream none (omega (arith, few, ap length held))
+
+-- octets of a run
+pub told_run : (C : Table) (a : Answers) (most : ℕ) (s : State) (r : IsReached C a most s) (m : FramingView) (h : Shows C a m s)
+    (free : m.stopped ≡ None) (full : length m.header ≡ 12) (q : List ℕ)
+    (apart : m.payload_count < 4 → m.payload_count + length q < 4) (before_last : m.payload_count + length q < size m.header) (room : m.totals.octets + length q ≤ 2 ^ 48)
+    → current_header_ends (rules_by C a most) r.stream (cut r.stream).current q ≡ header_ends_from (rules_by C a most) r.stream q
+told_run C a most s r m h free full q apart before_last room =
+    let here = has_current C a most s r m h free full in
+    rw here.1 (run_from C a most q r.stream here.0 (begins C a most s r m h free here.0 here.1 q apart before_last room))
+
+-- ---- octets after those that were taken
+
+module _ {St : Type 0} (answer : St → Answer) (notified : St → CallEvent → St) (C : Table) (a : Answers) (st now : St)
+    (R : Rules) (p past : List ℕ) (told : now ≡ after_ends notified C st (header_ends_from R p past)) where
+  pub run_agrees : (rest piece q left : List ℕ) → piece ≡ past ++ rest → rest ≡ q ++ left
+      → AgreesAtEnds answer notified C st a (header_ends_from R p piece) → AgreesAtEnds answer notified C now a (header_ends_from R (p ++ past) q)
+  run_agrees rest piece q left split parts agrees =
+      let all : header_ends_from R p piece ≡ header_ends_from R p past ++ header_ends_from R (p ++ past) rest = ap (header_ends_from R p) split ∙ from_append R past p rest in
+      let behind = agrees_after answer notified C a st now (header_ends_from R p piece) (header_ends_from R p past) (header_ends_from R (p ++ past) rest) all told agrees in
+      agrees_front answer notified C a now (header_ends_from R (p ++ past) rest) (header_ends_from R (p ++ past) q) (header_ends_from R ((p ++ past) ++ q) left)
+      (ap (header_ends_from R (p ++ past)) parts ∙ from_append R q (p ++ past) left) behind
+
+  pub step_agrees : (rest piece left : List ℕ) (x : ℕ) → piece ≡ past ++ rest → rest ≡ x ∷ left
+      → AgreesAtEnds answer notified C st a (header_ends_from R p piece) → AgreesAtEnds answer notified C now a (header_ends_at R (p ++ past) x)
+  step_agrees rest piece left x split parts agrees =
+      subst (AgreesAtEnds answer notified C now a) (from_one R (p ++ past) x) (run_agrees rest piece (x ∷ []) left split parts agrees)
+
+  pub told_on : (q : List ℕ) (later : St) → later ≡ after_ends notified C now (header_ends_from R (p ++ past) q)
+      → later ≡ after_ends notified C st (header_ends_from R p (past ++ q))
+  told_on q later more =
+      told_after answer notified C a st now later (header_ends_from R p past) (header_ends_from R (p ++ past) q) told more
+      ∙ sym (ap (after_ends notified C st) (from_append R past p q))
+
+  pub told_step : (x : ℕ) (later : St) → later ≡ after_ends notified C now (header_ends_at R (p ++ past) x)
+      → later ≡ after_ends notified C st (header_ends_from R p (past ++ x ∷ []))
+  told_step x later more = told_on (x ∷ []) later (more ∙ sym (ap (after_ends notified C now) (from_one R (p ++ past) x)))
+
+  pub told_none : (q : List ℕ) → header_ends_from R (p ++ past) q ≡ [] → now ≡ after_ends notified C st (header_ends_from R p (past ++ q))
+  told_none q none = told_on q now (sym (ap (after_ends notified C now) none))
+
+pub list_notified : (C : Table) (k l : RequestTable) (es : List HeaderEnd) → k ≡ l
+    → AgreesAtEnds (λ (k : RequestTable) id. kept_operation k id) (λ k t. k) C k (by_list l) es
+list_notified C k l es same =
+    subst (λ (z : RequestTable). AgreesAtEnds (λ (k : RequestTable) id. kept_operation k id) (λ k t. k) C z (by_list l) es) (sym same) (list_answers C l es)
