@@ -1,2 +1,3 @@
 mod Tags
 mod Extensions
+mod ZeroRuns

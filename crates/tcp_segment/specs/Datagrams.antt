@@ -33,7 +33,8 @@ is_fragment field = field / 0x2000 % 2 == 1 || not (field % 0x2000 == 0)
 -- the version, the protocol, and that the packet is no fragment
 abbrev pub carries_whole_tcp : List ℕ → Bool
 carries_whole_tcp octets =
-    slice_index octets 0 / 16 == 4 && is_tcp (slice_index octets 9) && not (is_fragment (two_at 6 octets))
+    slice_index octets 0 / 16 == 4 && is_tcp (slice_index octets 9)
+    && not (is_fragment (two_at 6 octets))
 
 -- the header has as many octets as its Internet Header Length says, in words of four, and at least 20
 abbrev pub behind_header : List ℕ → List ℕ → Option Datagram

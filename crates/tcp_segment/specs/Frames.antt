@@ -31,7 +31,8 @@ behind_tags (suc more) kind octets =
     else Some (kind, octets)
 
 abbrev pub version_of_type : ℕ → Option Version
-version_of_type kind = if kind == 0x0800 then Some V4 else (if kind == 0x86dd then Some V6 else None)
+version_of_type kind =
+    if kind == 0x0800 then Some V4 else (if kind == 0x86dd then Some V6 else None)
 
 -- the packet behind a type and its tags
 unfoldable pub typed : ℕ → List ℕ → Option Packet
@@ -60,12 +61,13 @@ is_family family octets =
     four_at 0 octets == family || from_le_bytes w32 (octets_at 0 4 octets) == family
 
 -- 2 is IPv4, and each of the others IPv6 on some system
+abbrev pub is_ipv6_family : List ℕ → Bool
+is_ipv6_family octets =
+    is_family 10 octets || is_family 24 octets || is_family 28 octets || is_family 30 octets
+
 abbrev pub version_of_family : List ℕ → Option Version
 version_of_family octets =
-    if is_family 2 octets then Some V4
-    else (if is_family 10 octets || is_family 24 octets || is_family 28 octets || is_family 30 octets
-    then Some V6
-    else None)
+    if is_family 2 octets then Some V4 else (if is_ipv6_family octets then Some V6 else None)
 
 abbrev pub loopback : List ℕ → Option Packet
 loopback octets = provided (nat_le 4 (length octets)) (do

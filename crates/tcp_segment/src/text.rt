@@ -5,7 +5,7 @@ ghost use Rattle.std.specs.Char.{digit_char};
 ghost use Rattle.std.specs.Net.Addr.{segments_of};
 ghost use Rattle.std.specs.Net.Text as net;
 ghost use Rattle.arrayvec.specs.ArrayVec.{array_vec_len};
-ghost use Rattle.tcp_segment.specs.EndpointText.{address_text, endpoint_text};
+ghost use Rattle.tcp_segment.specs.EndpointText.{address_text, endpoint_text, IsLongestRun};
 
 use crate::endpoint::{Address, Endpoint};
 use arrayvec::ArrayVec;
@@ -111,9 +111,10 @@ fn put_groups(out: &mut EndpointText, groups: &[u16])
 }
 
 /// Where the longest run of groups of zeros begins, of equal ones the first, and how many groups it has.
+#[tactic(auto, using(crate::proofs::ZeroRuns::is_longest))]
 fn longest_zero_run(groups: &[u16]) -> (usize, usize)
     ensures value { result ≡ net.longest_zero_run groups.now }
-    ensures within { result.0 + result.1 ≤ length groups.now }
+    ensures longest { IsLongestRun groups.now result.0 result.1 }
 {
     let mut start = groups.len();
     let mut len = 0;

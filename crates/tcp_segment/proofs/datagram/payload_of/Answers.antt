@@ -10,4 +10,5 @@ pub returns : goal.returns
 unfolding payload_of
 returns c =
     let o = c.args.octets.now in
-    c.limited.ensures ∙ ap (limited _) (from_there_on 40 o) ∙ ap (λ n. limited n (drop 40 o)) c.two_at.ensures
+    c.limited.ensures ∙ ap (limited _) (from_there_on 40 o)
+    ∙ ap (λ n. limited n (drop 40 o)) c.two_at.ensures

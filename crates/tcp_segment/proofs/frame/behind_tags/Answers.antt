@@ -5,12 +5,14 @@ use Rattle.tcp_segment.proofs.frame.behind_tags.Goals as goal
 pub loop-preserved : goal.loop-preserved
 loop-preserved c =
     let is = sym c.is_tag.ensures ∙ c.if-not-is_tag.false in
-    c.loop.invariant ∙ behind_a_tag (4 - (c.loop.counter + 1)) _ _ _ _ (omega arith) is (sym c.in_ok-next.ensures)
+    let less = 4 - (c.loop.counter + 1) in
+    c.loop.invariant ∙ behind_a_tag less _ _ _ _ (omega arith) is (sym c.in_ok-next.ensures)
 
 pub returns-in_err-next : goal.returns-in_err-next
 returns-in_err-next c =
     let is = sym c.is_tag.ensures ∙ c.if-not-is_tag.false in
-    let cut = behind_a_cut_tag (4 - (c.loop.counter + 1)) _ _ _ (omega arith) is (sym c.in_err-next.ensures) in
+    let less = 4 - (c.loop.counter + 1) in
+    let cut = behind_a_cut_tag less _ _ _ (omega arith) is (sym c.in_err-next.ensures) in
     rw c.from_residual.ensures (sym (c.loop.invariant ∙ cut))
 
 pub returns-then-not-is_tag : goal.returns-then-not-is_tag

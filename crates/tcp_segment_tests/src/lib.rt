@@ -1,0 +1,14 @@
+//! Tests of segments and of the texts of endpoints, and some of both that hold by computation.
+#![tactic(auto)]
+
+#[cfg(test)]
+mod endpoint_rows;
+#[cfg(test)]
+mod segment_rows;
+#[cfg(test)]
+mod spelled;
+#[cfg(test)]
+mod tests;
+mod worked;
+
+pub use worked::{worked_segments, worked_texts};
