@@ -1,0 +1,4 @@
+pub mod Firsts
+pub mod Held
+pub mod Packing
+pub mod Queries

@@ -1,0 +1,7 @@
+-- What waits in a pool, and how many blocks it has.
+use Rattle.std.specs.Prelude.{ℕ, List}
+use Rattle.tcp_waiting.specs.Payload.{Payload}
+
+pub record PoolView : Type 0 where
+  pub held : List Payload
+  pub blocks : ℕ
