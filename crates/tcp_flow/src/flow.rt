@@ -58,7 +58,8 @@ impl FlowState {
     /// What is left of a payload: what is before the number that is due falls away.
     fn left<'a>(&self, number: u32, octets: &'a [u8]) -> (u32, &'a [u8])
         ensures shorter { length result.1.now ≤ length octets.now }
-        ensures left { payload self.now.id result.0 result.1.now ≡ left self.now.next self.now.live (payload self.now.id number octets.now) }
+        ensures left { payload self.now.id result.0 result.1.now
+            ≡ left self.now.next self.now.live (payload self.now.id number octets.now) }
     {
         let age = age(self.next, number);
         if age as usize > WINDOW && !self.live {
@@ -71,7 +72,9 @@ impl FlowState {
     /// Octets are delivered to the live stream.
     fn deliver<T: Listener>(&mut self, number: u32, octets: &[u8], to: &mut T)
         ensures id { self.new.id ≡ self.old.id }
-        ensures does { (held : List Payload) → state self.new held (T.events to.new) ≡ delivered T.faulted (state self.old held (T.events to.old)) (payload self.old.id number octets.now) }
+        ensures does { (held : List Payload) → state self.new held (T.events to.new)
+            ≡ delivered T.faulted (state self.old held (T.events to.old))
+            (payload self.old.id number octets.now) }
     {
         self.next = onward(number, octets.len());
         if to.delivers(octets) {
@@ -83,7 +86,9 @@ impl FlowState {
     /// A payload is taken: delivered, or a stream begins in it, or it is nothing.
     fn take<T: Listener>(&mut self, number: u32, octets: &[u8], to: &mut T)
         ensures id { self.new.id ≡ self.old.id }
-        ensures does { (held : List Payload) → state self.new held (T.events to.new) ≡ taken T.faulted (state self.old held (T.events to.old)) (payload self.old.id number octets.now) }
+        ensures does { (held : List Payload) → state self.new held (T.events to.new)
+            ≡ taken T.faulted (state self.old held (T.events to.old))
+            (payload self.old.id number octets.now) }
     {
         let (number, octets) = self.left(number, octets);
         if octets.is_empty() {
@@ -101,7 +106,8 @@ impl FlowState {
 
     /// The held payloads are taken while the first is due.
     fn drain<T: Listener>(&mut self, pool: &mut Pool, to: &mut T)
-        ensures does { state self.new pool.new.held (T.events to.new) ≡ drained T.faulted (state self.old pool.old.held (T.events to.old)) }
+        ensures does { state self.new pool.new.held (T.events to.new)
+            ≡ drained T.faulted (state self.old pool.old.held (T.events to.old)) }
         ensures id { self.new.id ≡ self.old.id }
         ensures blocks { pool.new.blocks ≡ pool.old.blocks }
     {
@@ -128,7 +134,8 @@ impl FlowState {
     }
 
     fn close<T: Listener>(&mut self, cause: CloseCause, to: &mut T)
-        ensures does { (held : List Payload) → state self.new held (T.events to.new) ≡ closed (state self.old held (T.events to.old)) cause }
+        ensures does { (held : List Payload) → state self.new held (T.events to.new)
+            ≡ closed (state self.old held (T.events to.old)) cause }
         ensures id { self.new.id ≡ self.old.id }
     {
         if self.live {
@@ -139,7 +146,8 @@ impl FlowState {
 
     /// Going on: what is due is taken, and the stream closes where the FIN is reached.
     fn go_on<T: Listener>(&mut self, pool: &mut Pool, to: &mut T)
-        ensures does { state self.new pool.new.held (T.events to.new) ≡ gone_on T.faulted (state self.old pool.old.held (T.events to.old)) }
+        ensures does { state self.new pool.new.held (T.events to.new)
+            ≡ gone_on T.faulted (state self.old pool.old.held (T.events to.old)) }
         ensures id { self.new.id ≡ self.old.id }
         ensures blocks { pool.new.blocks ≡ pool.old.blocks }
     {
@@ -150,7 +158,8 @@ impl FlowState {
 
     /// The stream closes where the FIN is reached, and the flow goes on.
     fn end<T: Listener>(&mut self, pool: &mut Pool, to: &mut T)
-        ensures does { state self.new pool.new.held (T.events to.new) ≡ ended T.faulted (state self.old pool.old.held (T.events to.old)) }
+        ensures does { state self.new pool.new.held (T.events to.new)
+            ≡ ended T.faulted (state self.old pool.old.held (T.events to.old)) }
         ensures id { self.new.id ≡ self.old.id }
         ensures blocks { pool.new.blocks ≡ pool.old.blocks }
     {
@@ -163,7 +172,8 @@ impl FlowState {
 
     /// A FIN is kept only while a stream is live.
     fn without_stale_fin(&mut self)
-        ensures does { (held : List Payload) (events : List Event) → state self.new held events ≡ spec_without_stale_fin (state self.old held events) }
+        ensures does { (held : List Payload) (events : List Event) → state self.new held events
+            ≡ spec_without_stale_fin (state self.old held events) }
         ensures id { self.new.id ≡ self.old.id }
     {
         if !self.live {
@@ -172,7 +182,8 @@ impl FlowState {
     }
 
     fn gap<T: Listener>(&mut self, pool: &mut Pool, to: &mut T)
-        ensures does { state self.new pool.new.held (T.events to.new) ≡ spec_gap T.faulted (state self.old pool.old.held (T.events to.old)) }
+        ensures does { state self.new pool.new.held (T.events to.new)
+            ≡ spec_gap T.faulted (state self.old pool.old.held (T.events to.old)) }
         ensures id { self.new.id ≡ self.old.id }
         ensures blocks { pool.new.blocks ≡ pool.old.blocks }
     {
@@ -182,7 +193,9 @@ impl FlowState {
 
     /// Whether what is held is too much: an end too far behind, or more blocks than there are.
     fn is_too_much(&self, pool: &Pool) -> bool
-        ensures { (events : List Event) (faulted : Reader) → result ≡ spec_is_too_much (record { faulted = faulted; blocks = pool.now.blocks }) (state self.now pool.now.held events) }
+        ensures { (events : List Event) (faulted : Reader) → result
+            ≡ spec_is_too_much (record { faulted = faulted; blocks = pool.now.blocks })
+            (state self.now pool.now.held events) }
     {
         pool.is_far(self.id, self.next)
             || (pool.first(self.id, self.next).is_some() && pool.blocks() < pool.blocks_in_use())
@@ -197,7 +210,9 @@ impl FlowState {
 
     /// Gaps while too much is held.
     fn keep_within_bounds<T: Listener>(&mut self, count: usize, pool: &mut Pool, to: &mut T)
-        ensures does { state self.new pool.new.held (T.events to.new) ≡ within_bounds (setting T.faulted pool.old.blocks) count (state self.old pool.old.held (T.events to.old)) }
+        ensures does { state self.new pool.new.held (T.events to.new)
+            ≡ within_bounds (setting T.faulted pool.old.blocks) count
+            (state self.old pool.old.held (T.events to.old)) }
         ensures id { self.new.id ≡ self.old.id }
         ensures blocks { pool.new.blocks ≡ pool.old.blocks }
     {
@@ -216,7 +231,10 @@ impl FlowState {
         requires whole { length octets.now ≤ 262_144 }
         requires room { blocks_of pool.old.held ≤ pool.old.blocks }
         requires settled { IsSettled (state self.old pool.old.held (T.events to.old)) }
-        ensures does { state self.new pool.new.held (T.events to.new) ≡ payload_came (setting T.faulted pool.old.blocks) (state self.old pool.old.held (T.events to.old)) (payload self.old.id number octets.now) }
+        ensures does { state self.new pool.new.held (T.events to.new)
+            ≡ payload_came (setting T.faulted pool.old.blocks)
+            (state self.old pool.old.held (T.events to.old))
+            (payload self.old.id number octets.now) }
         ensures id { self.new.id ≡ self.old.id }
         ensures blocks { pool.new.blocks ≡ pool.old.blocks }
     {
@@ -242,7 +260,8 @@ impl FlowState {
 
     /// A FIN comes, with the number behind the payload.
     fn take_fin<T: Listener>(&mut self, number: u32, pool: &mut Pool, to: &mut T)
-        ensures does { state self.new pool.new.held (T.events to.new) ≡ fin_came T.faulted (state self.old pool.old.held (T.events to.old)) number }
+        ensures does { state self.new pool.new.held (T.events to.new)
+            ≡ fin_came T.faulted (state self.old pool.old.held (T.events to.old)) number }
         ensures id { self.new.id ≡ self.old.id }
         ensures blocks { pool.new.blocks ≡ pool.old.blocks }
     {
@@ -254,7 +273,9 @@ impl FlowState {
 
     /// The opposite flow acknowledges up to a number: what is missing before it was received.
     fn take_acknowledgement<T: Listener>(&mut self, number: u32, pool: &mut Pool, to: &mut T)
-        ensures does { state self.new pool.new.held (T.events to.new) ≡ acknowledgement_came T.faulted (length pool.old.held) number (state self.old pool.old.held (T.events to.old)) }
+        ensures does { state self.new pool.new.held (T.events to.new)
+            ≡ acknowledgement_came T.faulted (length pool.old.held) number
+            (state self.old pool.old.held (T.events to.old)) }
         ensures id { self.new.id ≡ self.old.id }
         ensures blocks { pool.new.blocks ≡ pool.old.blocks }
     {
@@ -291,8 +312,13 @@ impl FlowState {
         requires whole { length octets.now ≤ 262_144 }
         requires room { blocks_of pool.old.held ≤ pool.old.blocks }
         requires settled { IsSettled (state self.old pool.old.held (T.events to.old)) }
-        ensures does { state self.new pool.new.held (T.events to.new) ≡ step (setting T.faulted pool.old.blocks) (state self.old pool.old.held (T.events to.old)) (Octets number octets.now) }
-        ensures gapless { (payload_came : List Payload) → IsGapless payload_came (state self.old pool.old.held (T.events to.old)) → IsGapless (payload_came ++ payload self.old.id number octets.now ∷ []) (state self.new pool.new.held (T.events to.new)) }
+        ensures does { state self.new pool.new.held (T.events to.new)
+            ≡ step (setting T.faulted pool.old.blocks) (state self.old pool.old.held
+            (T.events to.old)) (Octets number octets.now) }
+        ensures gapless { (payload_came : List Payload)
+            → IsGapless payload_came (state self.old pool.old.held (T.events to.old))
+            → IsGapless (payload_came ++ payload self.old.id number octets.now
+            ∷ []) (state self.new pool.new.held (T.events to.new)) }
         ensures room { blocks_of pool.new.held ≤ pool.new.blocks }
         ensures settled { IsSettled (state self.new pool.new.held (T.events to.new)) }
         ensures id { self.new.id ≡ self.old.id }
@@ -305,10 +331,15 @@ impl FlowState {
 
     /// A FIN of the flow comes, with the number behind the payload.
     pub fn fin<T: Listener>(&mut self, number: u32, pool: &mut Pool, to: &mut T)
-        ensures does { state self.new pool.new.held (T.events to.new) ≡ step (setting T.faulted pool.old.blocks) (state self.old pool.old.held (T.events to.old)) (End number) }
-        ensures gapless { (payload_came : List Payload) → IsGapless payload_came (state self.old pool.old.held (T.events to.old)) → IsGapless payload_came (state self.new pool.new.held (T.events to.new)) }
+        ensures does { state self.new pool.new.held (T.events to.new)
+            ≡ step (setting T.faulted pool.old.blocks) (state self.old pool.old.held
+            (T.events to.old)) (End number) }
+        ensures gapless { (payload_came : List Payload)
+            → IsGapless payload_came (state self.old pool.old.held (T.events to.old))
+            → IsGapless payload_came (state self.new pool.new.held (T.events to.new)) }
         ensures room { blocks_of pool.new.held ≤ blocks_of pool.old.held }
-        ensures settled { IsSettled (state self.old pool.old.held (T.events to.old)) → IsSettled (state self.new pool.new.held (T.events to.new)) }
+        ensures settled { IsSettled (state self.old pool.old.held (T.events to.old))
+            → IsSettled (state self.new pool.new.held (T.events to.new)) }
         ensures id { self.new.id ≡ self.old.id }
         ensures blocks { pool.new.blocks ≡ pool.old.blocks }
     {
@@ -319,11 +350,17 @@ impl FlowState {
 
     /// The opposite flow acknowledges up to a number.
     pub fn acknowledged<T: Listener>(&mut self, number: u32, pool: &mut Pool, to: &mut T)
-        ensures does { state self.new pool.new.held (T.events to.new) ≡ step (setting T.faulted pool.old.blocks) (state self.old pool.old.held (T.events to.old)) (Acknowledged number) }
-        ensures gapless { (payload_came : List Payload) → IsGapless payload_came (state self.old pool.old.held (T.events to.old)) → IsGapless payload_came (state self.new pool.new.held (T.events to.new)) }
+        ensures does { state self.new pool.new.held (T.events to.new)
+            ≡ step (setting T.faulted pool.old.blocks) (state self.old pool.old.held
+            (T.events to.old)) (Acknowledged number) }
+        ensures gapless { (payload_came : List Payload)
+            → IsGapless payload_came (state self.old pool.old.held (T.events to.old))
+            → IsGapless payload_came (state self.new pool.new.held (T.events to.new)) }
         ensures room { blocks_of pool.new.held ≤ blocks_of pool.old.held }
-        ensures settled { IsSettled (state self.old pool.old.held (T.events to.old)) → IsSettled (state self.new pool.new.held (T.events to.new)) }
-        ensures over { (is_some (first self.new.id self.new.next pool.new.held) && spec_is_to_come self.new.next number) ≡ false }
+        ensures settled { IsSettled (state self.old pool.old.held (T.events to.old))
+            → IsSettled (state self.new pool.new.held (T.events to.new)) }
+        ensures over { (is_some
+            (first self.new.id self.new.next pool.new.held) && spec_is_to_come self.new.next number) ≡ false }
         ensures id { self.new.id ≡ self.old.id }
         ensures blocks { pool.new.blocks ≡ pool.old.blocks }
     {

@@ -25,14 +25,16 @@ pub(crate) struct Waiting {
 
 impl Waiting {
     fn is_as_much(&self, flow: u32, number: u32, count: usize) -> bool
-        ensures { result ≡ (nat_eq self.now.flow flow && nat_eq self.now.number number && nat_le count self.now.count) }
+        ensures { result ≡
+            (nat_eq self.now.flow flow && nat_eq self.now.number number && nat_le count self.now.count) }
     {
         self.flow == flow && self.number == number && count <= self.count
     }
 
     fn ends_far(&self, flow: u32, next: u32) -> bool
         requires { self.now.count < 2 ^ 63 }
-        ensures { result ≡ (nat_eq self.now.flow flow && nat_lt 1_048_576 (spec_ahead next self.now.number + self.now.count)) }
+        ensures { result ≡ (nat_eq self.now.flow flow && nat_lt 1_048_576
+            (spec_ahead next self.now.number + self.now.count)) }
     {
         self.flow == flow && WINDOW < ahead(next, self.number) as usize + self.count
     }
@@ -178,7 +180,8 @@ impl Pool {
     /// A payload waits: its octets are copied.
     pub fn hold(&mut self, flow: u32, number: u32, octets: &[u8])
         requires some { 0 < length octets.now }
-        requires room { blocks_of self.old.held + (length octets.now + 1023) / 1024 ≤ self.old.blocks + 256 }
+        requires room { blocks_of self.old.held +
+            (length octets.now + 1023) / 1024 ≤ self.old.blocks + 256 }
         ensures held { self.new.held ≡ self.old.held ++ payload flow number octets.now ∷ [] }
         ensures blocks { self.new.blocks ≡ self.old.blocks }
     {
@@ -235,7 +238,8 @@ fn make_room(waiting: &mut Vec<Waiting>, octets: &mut Vec<u8>, count: usize, mos
     requires laid { IsLaid 0 waiting.old.items (length octets.old.items) }
     requires bound { most < 2 ^ 62 }
     requires room { counts waiting.old.items + count ≤ most }
-    ensures held { held_in octets.new.items waiting.new.items ≡ held_in octets.old.items waiting.old.items }
+    ensures held { held_in octets.new.items waiting.new.items
+        ≡ held_in octets.old.items waiting.old.items }
     ensures laid { IsLaid 0 waiting.new.items (length octets.new.items) }
     ensures fits { length octets.new.items + count ≤ most }
     ensures len { length waiting.new.items ≡ length waiting.old.items }
