@@ -137,11 +137,6 @@ module _ {V : Type 0} where
   each_drop P (suc n) [] all = tt
   each_drop P (suc n) (e ∷ es) all = each_drop P n es all.1
 
-  pub apart_drop : (n : ℕ) (es : List (Entry V)) → AreApart es → AreApart (drop n es)
-  apart_drop zero es apart = apart
-  apart_drop (suc n) [] apart = tt
-  apart_drop (suc n) (e ∷ es) apart = apart_drop n es apart.1
-
   pub apart_push : (es : List (Entry V)) (e : Entry V) → AreApart es →
       Each (λ other. (other.key == e.key) ≡ false) es → AreApart (es ++ e ∷ [])
   apart_push [] e apart others = (tt, tt)

@@ -1,5 +1,5 @@
 pub mod Direct
-pub mod Keeping
+pub mod Preserving
 pub mod Lefts
 pub mod Room
 mod Rows

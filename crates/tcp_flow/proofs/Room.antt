@@ -11,7 +11,7 @@ use Rattle.tcp_waiting.specs.Payload.{Payload, payload, window, earlier, first, 
 use Rattle.tcp_flow.specs.Flow.{Flow, Event, Begins, Delivers, Closes, Reader, Setting, left, with_event, delivered, begun, taken, header_at, first_of, at, drained_at_most, drained, closed, gone_on, gap, is_too_much, within_bounds, acknowledgement_came, holding, payload_came, fin_came}
 use Rattle.tcp_waiting.proofs.Firsts.{first_within, first_own}
 use Rattle.tcp_flow.proofs.Steps.{length_remove, flowing_takes, due_now}
-use Rattle.tcp_flow.proofs.Keeping.{Keeps, flowing_by, rest_keeps, gone_on_keeps, relieved_keeps, missed_keeps}
+use Rattle.tcp_flow.proofs.Preserving.{Keeps, flowing_by, rest_keeps, gone_on_keeps, relieved_keeps, missed_keeps}
 
 same : {X : Type 0} (get : Flow → X) (b : Bool) (f g : Flow) (x : X) → get f ≡ x → get g ≡ x → get (cond b f g) ≡ x
 same get true f g x e d = e

@@ -9,7 +9,7 @@ use Rattle.tcp_waiting.specs.Payload.{Payload, payload, window, has_as_much}
 use Rattle.tcp_flow.specs.Flow.{Flow, Event, Begins, Delivers, Closes, Reader, Setting, left, with_event, delivered, begun, taken, header_at, first_of, is_due, at, closed, payload_came, holding, within_bounds, gone_on, fin_came, acknowledgement_came}
 use Rattle.tcp_flow.specs.Laws.{IsPartOf, MayFollow, AllFollow, AllArePartsOf, due_of, IsGapless}
 use Rattle.tcp_waiting.proofs.Firsts.{first_within, first_own}
-use Rattle.tcp_flow.proofs.Keeping.{Keeps, relieved_keeps, gone_on_keeps, missed_keeps}
+use Rattle.tcp_flow.proofs.Preserving.{Keeps, relieved_keeps, gone_on_keeps, missed_keeps}
 
 onward_onward : (n k a : ℕ) → onward (onward n k) a ≡ onward n (k + a)
 onward_onward n k a = omega arith

@@ -6,11 +6,11 @@ use Rattle.tcp_segment.specs.EndpointText.{AreZeros, IsLongestRun}
 -- ---- Zeros behind the first group.
 
 behind : (s : ℕ) (rest : List ℕ) (at count : ℕ) → AreZeros (s ∷ rest) (suc at) count
-→ AreZeros rest at count
+    → AreZeros rest at count
 behind s rest at count zeros k low high = zeros (suc k) (omega arith) (omega arith)
 
 before : (s : ℕ) (rest : List ℕ) (at count : ℕ) → AreZeros rest at count
-→ AreZeros (s ∷ rest) (suc at) count
+    → AreZeros (s ∷ rest) (suc at) count
 before s rest at count zeros zero low high = omega arith
 before s rest at count zeros (suc k) low high = zeros k (omega arith) (omega arith)
 
@@ -28,7 +28,7 @@ run_zeros (s ∷ rest) (suc k) low high =
     run_zeros rest k (omega arith) in_rest
 
 run_longest : (groups : List ℕ) (count : ℕ) → count ≤ length groups → AreZeros groups 0 count
-→ count ≤ zero_run groups
+    → count ≤ zero_run groups
 run_longest groups zero fits zeros = omega arith
 run_longest [] (suc count) fits zeros = omega arith
 run_longest (s ∷ rest) (suc count) fits zeros =

@@ -101,11 +101,7 @@ fn is_cut_extension(header: u8, octets: &[u8]) -> bool
 }
 
 /// The header behind an extension header, and its octets.
-#[tactic(
-    auto,
-    using(crate::proofs::Extensions::extensions_are_long),
-    unfolding(crate::specs::Datagrams::behind_extension)
-)]
+#[tactic(auto, using(crate::proofs::Extensions::extensions_are_long), unfolding(crate::specs::Datagrams::behind_extension))]
 fn behind_extension(header: u8, octets: &[u8]) -> Option<(u8, &[u8])>
     ensures { option_map (λ x. (x.0, x.1.now)) result ≡ behind_extension header octets.now }
 {

@@ -10,12 +10,12 @@ use Rattle.tcp_waiting.proofs.Held.{IsWithin, low_top, length_held, get_held, la
 use Rattle.tcp_waiting.proofs.Packing.{length_octets}
 
 -- the payload at an index, and those behind it
-pub record IsHere (all : List ℕ) (ws : List Waiting) (k : ℕ) (w : Waiting) : Type 0 where
+pub record IsAtIndex (all : List ℕ) (ws : List Waiting) (k : ℕ) (w : Waiting) : Type 0 where
   pub behind : drop k (held_in all ws) ≡ payload_in all w ∷ drop (k + 1) (held_in all ws)
   pub count : length (octets_at all w.from w.count) ≡ w.count
   pub ends : w.from + w.count ≤ length all
 
-pub here : (all : List ℕ) (ws : List Waiting) (k : ℕ) (w : Waiting) → IsLaid 0 ws (length all) → k < length ws → w ≡ get_or ws k w → IsHere all ws k w
+pub here : (all : List ℕ) (ws : List Waiting) (k : ℕ) (w : Waiting) → IsLaid 0 ws (length all) → k < length ws → w ≡ get_or ws k w → IsAtIndex all ws k w
 here all ws k w laid h is =
     let within : IsWithin 0 w (length all) = laid_within 0 ws (length all) k w laid h is in
     let h' : k < length (held_in all ws) = omega (arith, length_held all ws) in
@@ -30,7 +30,7 @@ here all ws k w laid h is =
 pub nothing_left : (all : List ℕ) (ws : List Waiting) (k : ℕ) → length ws ≤ k → drop k (held_in all ws) ≡ []
 nothing_left all ws k h = drop_of_length-le (held_in all ws) (omega (arith, length_held all ws))
 
-pub has_turn : (all : List ℕ) (ws : List Waiting) (k : ℕ) (w : Waiting) (id number count : ℕ) → IsHere all ws k w
+pub has_turn : (all : List ℕ) (ws : List Waiting) (k : ℕ) (w : Waiting) (id number count : ℕ) → IsAtIndex all ws k w
     → has_as_much id number count (drop k (held_in all ws)) ≡ ((nat_eq w.flow id && nat_eq w.number number && nat_le count w.count) || has_as_much id number count (drop (k + 1) (held_in all ws)))
 unfolding has_as_much
 has_turn all ws k w id number count h = rw (h.behind, h.count) refl
@@ -39,7 +39,7 @@ pub has_end : (all : List ℕ) (ws : List Waiting) (k id number count : ℕ) →
 unfolding has_as_much
 has_end all ws k id number count h = rw (nothing_left all ws k h) refl
 
-pub far_turn : (all : List ℕ) (ws : List Waiting) (k : ℕ) (w : Waiting) (id next : ℕ) → IsHere all ws k w
+pub far_turn : (all : List ℕ) (ws : List Waiting) (k : ℕ) (w : Waiting) (id next : ℕ) → IsAtIndex all ws k w
     → is_far id next (drop k (held_in all ws)) ≡ ((nat_eq w.flow id && nat_lt window (ahead next w.number + w.count)) || is_far id next (drop (k + 1) (held_in all ws)))
 unfolding is_far
 far_turn all ws k w id next h = rw (h.behind, h.count) refl
@@ -48,7 +48,7 @@ pub far_end : (all : List ℕ) (ws : List Waiting) (k id next : ℕ) → length 
 unfolding is_far
 far_end all ws k id next h = rw (nothing_left all ws k h) refl
 
-pub blocks_turn : (all : List ℕ) (ws : List Waiting) (k : ℕ) (w : Waiting) → IsHere all ws k w
+pub blocks_turn : (all : List ℕ) (ws : List Waiting) (k : ℕ) (w : Waiting) → IsAtIndex all ws k w
     → blocks_of (drop k (held_in all ws)) ≡ (w.count + 1023) / 1024 + blocks_of (drop (k + 1) (held_in all ws))
 unfolding blocks_of
 blocks_turn all ws k w h = rw (h.behind, h.count) refl

@@ -5,7 +5,7 @@ use Rattle.std.specs.Net.Text.{ipv4_text, ipv6_text, hex_groups_text}
 use Rattle.tcp_segment.proofs.text.put_v6.Goals as goal
 
 mapped_text : (groups : List ℕ) → IsIpv4Mapped groups
-→ ipv6_text groups ≡ codes "::ffff:" ++ ipv4_text (octets_of (drop 6 groups))
+    → ipv6_text groups ≡ codes "::ffff:" ++ ipv4_text (octets_of (drop 6 groups))
 unfolding ipv6_text
 mapped_text groups is = rw ((bytes_eq-Decides _ _).1 is) refl
 
