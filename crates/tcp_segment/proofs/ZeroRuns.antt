@@ -40,7 +40,7 @@ run_longest (s ∷ rest) (suc count) fits zeros =
 
 module _ (s : ℕ) (rest : List ℕ) (start len : ℕ) (of : IsLongestRun rest start len) where
   longest_here : len ≤ zero_run (s ∷ rest) → (at count : ℕ) → at + count ≤ length (s ∷ rest)
-  → AreZeros (s ∷ rest) at count → count ≤ zero_run (s ∷ rest)
+      → AreZeros (s ∷ rest) at count → count ≤ zero_run (s ∷ rest)
   longest_here le zero count fits zeros = run_longest (s ∷ rest) count (omega arith) zeros
   longest_here le (suc at) count fits zeros =
       let l = of.longest at count (omega arith) (behind s rest at count zeros) in omega arith
@@ -54,14 +54,14 @@ module _ (s : ℕ) (rest : List ℕ) (start len : ℕ) (of : IsLongestRun rest s
   }
 
   longest_later : zero_run (s ∷ rest) < len → (at count : ℕ) → at + count ≤ length (s ∷ rest)
-  → AreZeros (s ∷ rest) at count → count ≤ len
+      → AreZeros (s ∷ rest) at count → count ≤ len
   longest_later less zero count fits zeros =
       let l = run_longest (s ∷ rest) count (omega arith) zeros in omega arith
   longest_later less (suc at) count fits zeros =
       of.longest at count (omega arith) (behind s rest at count zeros)
 
   first_later : zero_run (s ∷ rest) < len → (at : ℕ) → at + len ≤ length (s ∷ rest)
-  → AreZeros (s ∷ rest) at len → start + 1 ≤ at
+      → AreZeros (s ∷ rest) at len → start + 1 ≤ at
   first_later less zero fits zeros =
       let l = run_longest (s ∷ rest) len (omega arith) zeros in omega arith
   first_later less (suc at) fits zeros =
