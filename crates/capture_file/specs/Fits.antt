@@ -1,0 +1,28 @@
+-- Which parts a capture has room for (state).
+use Rattle.std.specs.Prelude.{ℕ, ◌≤◌}
+use Rattle.capture_file.specs.declared.part.Part.{Part}
+use Rattle.capture_file.specs.declared.part.Part.TheVariants as parts
+use Rattle.capture_file.specs.declared.part.Outcome.{Outcome}
+use Rattle.capture_file.specs.declared.part.Outcome.TheVariants.{Goes, Gives, Fails}
+use Rattle.capture_file.specs.Parts.{front}
+
+-- the octets of a packet that are held at most: 262,144, and the original length
+abbrev pub room : ℕ
+room = 262148
+
+-- how many interfaces are added at the end of the block that a part belongs to
+abbrev pub adds : Part → ℕ
+adds (parts.InterfaceHeader block) = 1
+adds (parts.OptionHeader block interface skip) = 1
+adds (parts.TimeUnit block interface) = 1
+adds (parts.InterfaceEnd block interface) = 1
+adds _ = 0
+
+-- there is room for a packet at the part's front, and it adds at most so many interfaces
+abbrev pub HasRoom : ℕ → Part → Type 0
+HasRoom more part = (front part ≤ room) × (adds part ≤ more)
+
+abbrev pub Fits : ℕ → Outcome → Type 0
+Fits more (Goes part) = HasRoom more part
+Fits more (Gives head part) = HasRoom more part
+Fits more (Fails kind) = Unit {0}

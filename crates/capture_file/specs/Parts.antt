@@ -1,0 +1,40 @@
+-- The parts of a capture and their lengths (meaning). A part has at its front the octets of a packet, at its end those of a
+-- header, and between them octets that are passed over; most have but one of the three.
+use Rattle.std.specs.Prelude.{ℕ, ◌+◌}
+use Rattle.capture_file.specs.declared.part.Part.{Part}
+use Rattle.capture_file.specs.declared.part.Part.TheVariants as parts
+
+-- how many octets of a part are a packet's, with the original length where that is in front of them
+abbrev pub front : Part → ℕ
+front (parts.Record file head captured) = 4 + captured
+front (parts.Packet block body) = body.lead + body.captured
+front _ = 0
+
+-- how many octets behind those are passed over
+abbrev pub passed : Part → ℕ
+passed (parts.OptionHeader block interface skip) = skip
+passed (parts.InterfaceEnd block interface) = block.left
+passed (parts.Packet block body) = block.left
+passed (parts.BlockEnd block) = block.left
+passed _ = 0
+
+-- how many octets at a part's end are looked at
+abbrev pub back : Part → ℕ
+back (parts.Record file head captured) = 0
+back (parts.TimeUnit block interface) = 1
+back (parts.BlockHeader order) = 8
+back (parts.InterfaceHeader block) = 8
+back (parts.RecordHeader file) = 12
+back (parts.EnhancedHeader block interface) = 12
+back (parts.FileRest magic) = 16
+back _ = 4
+
+-- how many octets are in front of a packet's own
+abbrev pub lead : Part → ℕ
+lead (parts.Record file head captured) = 4
+lead (parts.Packet block body) = body.lead
+lead _ = 0
+
+-- how many octets a part has
+abbrev pub size : Part → ℕ
+size part = front part + passed part + back part

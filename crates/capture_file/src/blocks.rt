@@ -1,0 +1,341 @@
+//! What comes behind each part of a pcapng file.
+
+ghost use Rattle.std.specs.Prelude.{◌≡◌, ◌+◌, ◌≤◌, ◌<◌, ◌⊎◌, ◌-◌, length, slice_get, slice_index, Option};
+ghost use Rattle.capture_file.specs.Blocks.{section_length, section, byte_order_magic, section_version, block_of, block_header, interface_header, options, option_header, ticks_of, time_unit, enhanced_interface, packet_of, time_of, enhanced_header, cut, simple_header, block_end, least_length, padded, either_length};
+ghost use Rattle.capture_file.specs.Fits.{Fits};
+
+use crate::fault::FaultKind;
+use crate::part::{Block, Body, ByteOrder, EitherLength, Head, Interface, Outcome, Part};
+use crate::records::{MOST_CAPTURED, SECTION};
+
+/// A section has at most so many interfaces.
+pub const MOST_INTERFACES: usize = 256;
+
+const BYTE_ORDER_MAGIC: u32 = 0x1a2b_3c4d;
+const INTERFACE: u32 = 1;
+const SIMPLE: u32 = 3;
+const ENHANCED: u32 = 6;
+
+/// From the year 10000 on there is no time: nanoseconds since 1970.
+const YEAR_10000: u128 = 253_402_300_800_000_000_000;
+
+/// The length of a section header block in either order.
+fn either_length(octets: &[u8], at: usize) -> Outcome
+    requires { at + 4 ≤ length octets.now }
+    ensures value { result ≡ either_length at octets.now }
+    ensures fits { Fits 0 result }
+{
+    let big = ByteOrder::Big.four_at(octets, at);
+    let little = ByteOrder::Little.four_at(octets, at);
+    Outcome::Goes(Part::ByteOrderMagic(EitherLength { big, little }))
+}
+
+/// Behind the length of the first block.
+#[tactic(auto, unfolding(crate::specs::Blocks::section_length))]
+pub fn section_length(octets: &[u8]) -> Outcome
+    requires { 4 ≤ length octets.now }
+    ensures value { result ≡ section_length octets.now }
+    ensures fits { Fits 0 result }
+{
+    either_length(octets, 0)
+}
+
+/// What comes of a section header block of this length.
+#[tactic(auto, unfolding(crate::specs::Blocks::section))]
+fn section(order: ByteOrder, length: u32) -> Outcome
+    ensures value { result ≡ section order length }
+    ensures fits { Fits 0 result }
+{
+    if length % 4 == 0 && length >= 28 {
+        let left = length - 20;
+        Outcome::Goes(Part::SectionVersion(Block {
+            order,
+            length,
+            left,
+        }))
+    } else {
+        Outcome::Fails(FaultKind::Length)
+    }
+}
+
+/// Behind the byte-order magic of a section.
+#[tactic(auto, unfolding(crate::specs::Blocks::byte_order_magic))]
+pub fn byte_order_magic(either: EitherLength, octets: &[u8]) -> Outcome
+    requires { 4 ≤ length octets.now }
+    ensures value { result ≡ byte_order_magic either octets.now }
+    ensures fits { Fits 0 result }
+{
+    if ByteOrder::Big.four_at(octets, 0) == BYTE_ORDER_MAGIC {
+        section(ByteOrder::Big, either.big)
+    } else if ByteOrder::Little.four_at(octets, 0) == BYTE_ORDER_MAGIC {
+        section(ByteOrder::Little, either.little)
+    } else {
+        Outcome::Fails(FaultKind::Format)
+    }
+}
+
+/// Behind the version of a section.
+#[tactic(auto, unfolding(crate::specs::Blocks::section_version))]
+pub fn section_version(block: Block, octets: &[u8]) -> Outcome
+    requires { 4 ≤ length octets.now }
+    ensures value { result ≡ section_version block octets.now }
+    ensures fits { Fits 0 result }
+{
+    if block.order.two_at(octets, 0) == 1 {
+        Outcome::Goes(Part::BlockEnd(block))
+    } else {
+        Outcome::Fails(FaultKind::Version)
+    }
+}
+
+/// The total length that the fixed fields of a type need.
+fn least_length(kind: u32) -> u32
+    ensures { result ≡ least_length kind }
+{
+    match kind {
+        INTERFACE => 20,
+        ENHANCED => 32,
+        SIMPLE => 16,
+        _ => 12,
+    }
+}
+
+/// What comes of a block behind its length, in a section that has so many interfaces.
+#[tactic(auto, unfolding(crate::specs::Blocks::block_of))]
+fn block_of(order: ByteOrder, kind: u32, length: u32, interfaces: usize) -> Outcome
+    requires { least_length kind ≤ length }
+    ensures value { result ≡ block_of order kind length interfaces }
+    ensures fits { Fits (256 - interfaces) result }
+{
+    let block = |left: u32| Block {
+        order,
+        length,
+        left,
+    };
+    match kind {
+        INTERFACE if interfaces < MOST_INTERFACES => {
+            Outcome::Goes(Part::InterfaceHeader(block(length - 20)))
+        }
+        INTERFACE => Outcome::Fails(FaultKind::Interface),
+        ENHANCED => Outcome::Goes(Part::EnhancedInterface(block(length - 32))),
+        SIMPLE => Outcome::Goes(Part::SimpleHeader(block(length - 16))),
+        _ => Outcome::Goes(Part::BlockEnd(block(length - 12))),
+    }
+}
+
+/// Behind the type and the length of a block, in a section that has so many interfaces.
+#[tactic(auto, unfolding(crate::specs::Blocks::block_header))]
+pub fn block_header(order: ByteOrder, interfaces: usize, octets: &[u8]) -> Outcome
+    requires { 8 ≤ length octets.now }
+    ensures value { result ≡ block_header order interfaces octets.now }
+    ensures fits { Fits (256 - interfaces) result }
+{
+    let kind = order.four_at(octets, 0);
+    if kind == SECTION {
+        return either_length(octets, 4);
+    }
+    let length = order.four_at(octets, 4);
+    if length % 4 == 0 && length >= least_length(kind) {
+        block_of(order, kind, length, interfaces)
+    } else {
+        Outcome::Fails(FaultKind::Length)
+    }
+}
+
+/// Options while there is room for the header of one, behind so many octets of the one before.
+#[tactic(auto, unfolding(crate::specs::Blocks::options))]
+fn options(block: Block, interface: Interface, skip: u32) -> Outcome
+    requires { skip ≤ 65536 }
+    ensures value { result ≡ options block interface skip }
+    ensures fits { Fits 1 result }
+{
+    if skip + 4 <= block.left {
+        let left = block.left - (skip + 4);
+        Outcome::Goes(Part::OptionHeader(Block { left, ..block }, interface, skip))
+    } else {
+        Outcome::Goes(Part::InterfaceEnd(block, interface))
+    }
+}
+
+/// Behind the fixed fields of an interface description block.
+#[tactic(auto, unfolding(crate::specs::Blocks::interface_header))]
+pub fn interface_header(block: Block, octets: &[u8]) -> Outcome
+    requires { 8 ≤ length octets.now }
+    ensures value { result ≡ interface_header block octets.now }
+    ensures fits { Fits 1 result }
+{
+    let link = block.order.two_at(octets, 0);
+    let snapshot = block.order.four_at(octets, 4);
+    let interface = Interface {
+        link,
+        snapshot,
+        ticks: 1_000_000,
+    };
+    options(block, interface, 0)
+}
+
+/// So many octets with padding to 4.
+fn padded(count: u16) -> u32
+    ensures value { result ≡ padded count }
+    ensures few { result ≤ 65536 }
+{
+    (u32::from(count) + 3) / 4 * 4
+}
+
+/// Behind the code and the length of an option.
+#[tactic(auto, unfolding(crate::specs::Blocks::option_header))]
+pub fn option_header(block: Block, interface: Interface, octets: &[u8]) -> Outcome
+    requires { 4 ≤ length octets.now }
+    ensures value { result ≡ option_header block interface octets.now }
+    ensures fits { Fits 1 result }
+{
+    let code = block.order.two_at(octets, 0);
+    let count = block.order.two_at(octets, 2);
+    let skip = padded(count);
+    if code == 0 || skip > block.left {
+        return Outcome::Goes(Part::InterfaceEnd(block, interface));
+    }
+    if code == 9 && count == 1 {
+        let left = block.left - 1;
+        return Outcome::Goes(Part::TimeUnit(Block { left, ..block }, interface));
+    }
+    options(block, interface, skip)
+}
+
+/// How many units of times make a second.
+fn ticks_of(unit: u8) -> u64
+    requires { (unit < 20) ⊎ ((128 ≤ unit) × (unit < 192)) }
+    ensures { result ≡ ticks_of unit }
+{
+    if unit < 128 {
+        10u64.pow(u32::from(unit))
+    } else {
+        2u64.pow(u32::from(unit - 128))
+    }
+}
+
+/// Behind the unit of an interface's times.
+#[tactic(auto, unfolding(crate::specs::Blocks::time_unit))]
+pub fn time_unit(block: Block, interface: Interface, octets: &[u8]) -> Outcome
+    requires { 1 ≤ length octets.now }
+    ensures value { result ≡ time_unit block interface octets.now }
+    ensures fits { Fits 1 result }
+{
+    let unit = octets[0];
+    if unit < 20 || (unit >= 128 && unit < 192) {
+        let ticks = ticks_of(unit);
+        options(block, Interface { ticks, ..interface }, 3)
+    } else {
+        Outcome::Fails(FaultKind::Format)
+    }
+}
+
+/// Behind the number of an enhanced packet's interface.
+#[tactic(auto, unfolding(crate::specs::Blocks::enhanced_interface))]
+pub fn enhanced_interface(block: Block, interfaces: &[Interface], octets: &[u8]) -> Outcome
+    requires { 4 ≤ length octets.now }
+    ensures value { result ≡ enhanced_interface block interfaces.now octets.now }
+    ensures fits { Fits 0 result }
+{
+    let number = block.order.four_at(octets, 0);
+    match interfaces.get(number as usize) {
+        Some(interface) => Outcome::Goes(Part::EnhancedHeader(block, *interface)),
+        None => Outcome::Fails(FaultKind::Interface),
+    }
+}
+
+/// A packet, if it isn't too long and its block has room for it.
+#[tactic(auto, unfolding(crate::specs::Blocks::packet_of))]
+fn packet_of(block: Block, body: Body) -> Outcome
+    requires { body.lead ≤ 4 }
+    ensures value { result ≡ packet_of block body }
+    ensures fits { Fits 0 result }
+{
+    if body.captured > MOST_CAPTURED || body.captured > block.left {
+        return Outcome::Fails(FaultKind::Length);
+    }
+    let left = block.left - body.captured;
+    Outcome::Goes(Part::Packet(Block { left, ..block }, body))
+}
+
+/// Nanoseconds since 1970, rounded down, of so many units; none from the year 10000 on.
+#[tactic(auto, unfolding(crate::specs::Blocks::time_of))]
+fn time_of(units: u64, ticks: u64) -> Option<u128>
+    ensures { result ≡ time_of units ticks }
+{
+    if ticks == 0 {
+        return None;
+    }
+    let time = u128::from(units) * 1_000_000_000 / u128::from(ticks);
+    if time >= YEAR_10000 { None } else { Some(time) }
+}
+
+/// Behind the time and the captured length of an enhanced packet.
+#[tactic(auto, unfolding(crate::specs::Blocks::enhanced_header))]
+pub fn enhanced_header(block: Block, interface: Interface, octets: &[u8]) -> Outcome
+    requires { 12 ≤ length octets.now }
+    ensures value { result ≡ enhanced_header block interface octets.now }
+    ensures fits { Fits 0 result }
+{
+    let high = u64::from(block.order.four_at(octets, 0));
+    let low = u64::from(block.order.four_at(octets, 4));
+    let time = time_of(high * 0x1_0000_0000 + low, interface.ticks);
+    let captured = block.order.four_at(octets, 8);
+    let link = interface.link;
+    packet_of(
+        block,
+        Body {
+            head: Head { link, time },
+            lead: 4,
+            captured,
+        },
+    )
+}
+
+/// How many octets of so many an interface captures.
+fn cut(original: u32, snapshot: u32) -> u32
+    ensures { result ≡ cut original snapshot }
+{
+    if snapshot == 0 {
+        original
+    } else {
+        original.min(snapshot)
+    }
+}
+
+/// Behind the original length of a simple packet.
+#[tactic(auto, unfolding(crate::specs::Blocks::simple_header))]
+pub fn simple_header(block: Block, interfaces: &[Interface], octets: &[u8]) -> Outcome
+    requires { 4 ≤ length octets.now }
+    ensures value { result ≡ simple_header block interfaces.now octets.now }
+    ensures fits { Fits 0 result }
+{
+    let original = block.order.four_at(octets, 0);
+    let Some(interface) = interfaces.first() else {
+        return Outcome::Fails(FaultKind::Interface);
+    };
+    let link = interface.link;
+    packet_of(
+        block,
+        Body {
+            head: Head { link, time: None },
+            lead: 0,
+            captured: cut(original, interface.snapshot),
+        },
+    )
+}
+
+/// Behind the second length of a block, where this comes if it is the first again.
+#[tactic(auto, unfolding(crate::specs::Blocks::block_end))]
+pub fn block_end(block: Block, octets: &[u8], outcome: Outcome) -> Outcome
+    requires length { 4 ≤ length octets.now }
+    requires fits { Fits 0 outcome }
+    ensures value { result ≡ block_end block octets.now outcome }
+    ensures fits { Fits 0 result }
+{
+    if block.order.four_at(octets, 0) == block.length {
+        outcome
+    } else {
+        Outcome::Fails(FaultKind::Format)
+    }
+}

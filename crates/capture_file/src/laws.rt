@@ -1,0 +1,12 @@
+//! The laws of a capture's reading.
+
+ghost use Rattle.capture_file.specs.Laws.{PacketsBegin, FaultStays};
+
+/// What has been read of a capture stays as it is, whatever comes. It has no body, and is called for its contract.
+pub fn packets_begin()
+    // The packets of a longer list begin with those of the shorter one,
+    ensures packets { PacketsBegin }
+    // and behind a fault nothing is read.
+    ensures fault { FaultStays }
+{
+}

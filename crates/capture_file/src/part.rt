@@ -1,0 +1,180 @@
+//! The parts of a capture: which one comes, how long it is, and what of it is looked at.
+
+ghost use Rattle.std.specs.Prelude.{◌≡◌};
+
+use crate::fault::FaultKind;
+
+/// The order of a number's octets.
+#[derive(Clone, Copy)]
+pub enum ByteOrder {
+    /// The most significant octet first.
+    Big,
+    /// The least significant octet first.
+    Little,
+}
+
+/// What the magic of a pcap file says.
+#[derive(Clone, Copy)]
+pub struct Magic {
+    pub order: ByteOrder,
+    /// How many nanoseconds a unit of a time's fraction has.
+    pub unit: u32,
+}
+
+/// What is kept of the header of a pcap file.
+#[derive(Clone, Copy)]
+pub struct FileHeader {
+    pub magic: Magic,
+    pub link: u16,
+}
+
+/// The length of a section header block in either order, as the section's isn't known yet.
+#[derive(Clone, Copy)]
+pub struct EitherLength {
+    pub big: u32,
+    pub little: u32,
+}
+
+/// A block of a pcapng file that has begun.
+#[derive(Clone, Copy)]
+pub struct Block {
+    /// The order of its section.
+    pub order: ByteOrder,
+    /// Its total length.
+    pub length: u32,
+    /// How many octets there are between the part that stands with it and its second length.
+    pub left: u32,
+}
+
+/// An interface of a section.
+#[derive(Clone, Copy)]
+pub struct Interface {
+    pub link: u16,
+    /// How many octets of a packet are captured at most; 0 means all.
+    pub snapshot: u32,
+    /// How many units of its times make a second.
+    pub ticks: u64,
+}
+
+/// What is known of a packet before its octets.
+#[derive(Clone, Copy)]
+pub struct Head {
+    pub link: u16,
+    /// Nanoseconds since 1970.
+    pub time: Option<u128>,
+}
+
+/// The octets of a packet block that are the packet's, and the original length where that is in front of them.
+#[derive(Clone, Copy)]
+pub struct Body {
+    pub head: Head,
+    /// How many octets the original length takes in front of the packet's: 4, or 0.
+    pub lead: u32,
+    /// How many octets the packet has.
+    pub captured: u32,
+}
+
+/// The part of a capture that comes: a part ends where it is known what comes next, or where a fault may show.
+#[derive(Clone, Copy)]
+pub enum Part {
+    /// The first four octets of a capture.
+    Beginning,
+    /// The version of a pcap file.
+    FileVersion(Magic),
+    /// The rest of a pcap file's header, behind the version.
+    FileRest(Magic),
+    /// The header of a record up to the captured length.
+    RecordHeader(FileHeader),
+    /// The rest of a record: the original length, and the packet of so many octets.
+    Record(FileHeader, Head, u32),
+    /// The length of the first block of a pcapng file.
+    SectionLength,
+    /// The byte-order magic of a section header block.
+    ByteOrderMagic(EitherLength),
+    /// The version of a section.
+    SectionVersion(Block),
+    /// The type and the length of a block.
+    BlockHeader(ByteOrder),
+    /// The fields of an interface description block in front of its options.
+    InterfaceHeader(Block),
+    /// So many octets that are passed over, and the code and the length of an option.
+    OptionHeader(Block, Interface, u32),
+    /// The value of the option that says the unit of an interface's times.
+    TimeUnit(Block, Interface),
+    /// The rest of an interface description block.
+    InterfaceEnd(Block, Interface),
+    /// The number of the interface of an enhanced packet block.
+    EnhancedInterface(Block),
+    /// The time and the captured length of an enhanced packet block.
+    EnhancedHeader(Block, Interface),
+    /// The original length of a simple packet block.
+    SimpleHeader(Block),
+    /// The rest of a packet block.
+    Packet(Block, Body),
+    /// The rest of a block that gives nothing.
+    BlockEnd(Block),
+}
+
+/// What comes behind a part.
+#[derive(Clone, Copy)]
+pub enum Outcome {
+    /// This part.
+    Goes(Part),
+    /// A packet is complete, and then comes this part.
+    Gives(Head, Part),
+    /// The reading ends.
+    Fails(FaultKind),
+}
+
+impl Part {
+    ghost use Rattle.capture_file.specs.Parts.{front, passed, back, lead};
+
+    /// How many octets at its front are those of a packet, with its lead.
+    pub fn front(&self) -> u64
+        ensures { result ≡ front self.now }
+    {
+        match self {
+            Part::Record(_, _, captured) => 4 + u64::from(*captured),
+            Part::Packet(_, body) => u64::from(body.lead) + u64::from(body.captured),
+            _ => 0,
+        }
+    }
+
+    /// How many octets behind those are passed over.
+    pub fn passed(&self) -> u64
+        ensures { result ≡ passed self.now }
+    {
+        match self {
+            Part::OptionHeader(_, _, skip) => u64::from(*skip),
+            Part::InterfaceEnd(block, _) | Part::Packet(block, _) | Part::BlockEnd(block) => {
+                u64::from(block.left)
+            }
+            _ => 0,
+        }
+    }
+
+    /// How many octets at its end are looked at.
+    pub fn back(&self) -> u64
+        ensures { result ≡ back self.now }
+    {
+        match self {
+            Part::Record(_, _, _) => 0,
+            Part::TimeUnit(_, _) => 1,
+            Part::BlockHeader(_) | Part::InterfaceHeader(_) => 8,
+            Part::RecordHeader(_) | Part::EnhancedHeader(_, _) => 12,
+            Part::FileRest(_) => 16,
+            _ => 4,
+        }
+    }
+
+    /// How many octets of its front are in front of a packet.
+    pub fn lead(&self) -> u32
+        ensures { result ≡ lead self.now }
+    {
+        match self {
+            Part::Record(_, _, _) => 4,
+            Part::Packet(_, body) => body.lead,
+            _ => 0,
+        }
+    }
+}
