@@ -46,5 +46,5 @@ record_header file octets =
     Goes (parts.Record file (record { link = file.link; time = Some (record_time file.magic octets) }) captured)
 
 -- the packet, and then the next record
-unfoldable pub record_end : FileHeader → Head → Outcome
+abbrev pub record_end : FileHeader → Head → Outcome
 record_end file head = Gives head (parts.RecordHeader file)

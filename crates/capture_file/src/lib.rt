@@ -3,6 +3,7 @@
 
 mod blocks;
 mod fault;
+mod format;
 mod laws;
 mod numbers;
 mod part;
