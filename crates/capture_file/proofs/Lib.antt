@@ -1,2 +1,4 @@
 mod Fitting
+mod Kept
 mod ReadingSteps
+mod StateLemmas

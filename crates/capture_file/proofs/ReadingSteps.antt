@@ -24,8 +24,8 @@ unfolding reading_from
 short zero due at p less = refl
 short (suc most) due at p less =
     elim (leb_tells (suc (length p)) (size due.part)) [
-      inl holds ↦ rw holds.0
-    | inr fails ↦ absurd (omega arith)
+      | inl holds ↦ rw holds.0
+      | inr fails ↦ absurd (omega arith)
     ]
 
 -- a whole part
@@ -36,8 +36,8 @@ pub whole : (most : ℕ) (due : Due) (at : ℕ) (p : List ℕ) → size due.part
 unfolding reading_from
 whole most due at p enough =
     elim (leb_tells (suc (length p)) (size due.part)) [
-      inl holds ↦ absurd (omega arith)
-    | inr fails ↦ rw fails.0
+      | inl holds ↦ absurd (omega arith)
+      | inr fails ↦ rw fails.0
     ]
 
 behind_same : (due : Due) (packet : List ℕ) (place : ℕ) (o : Outcome) (k l : Due → Reading) → ((d : Due) → k d ≡ l d) →
@@ -58,13 +58,13 @@ enough (suc n) zero due at p few many =
 enough (suc n) (suc m) due at p few many =
     let some : 1 ≤ size due.part = size_some due.part in
     elim (leb_tells (suc (length p)) (size due.part)) [
-      inl holds ↦ short (suc n) due at p holds.1 ∙ sym (short (suc m) due at p holds.1)
-    | inr fails ↦
-        let rest = size due.part in
-        whole n due at p (omega arith)
-        ∙ behind_same due _ _ _ _ _ (λ d. enough n m d (at + rest) (drop rest p)
-            (simp length-drop (omega arith)) (simp length-drop (omega arith)))
-        ∙ sym (whole m due at p (omega arith))
+      | inl holds ↦ short (suc n) due at p holds.1 ∙ sym (short (suc m) due at p holds.1)
+      | inr fails ↦
+          let rest = size due.part in
+          whole n due at p (omega arith)
+          ∙ behind_same due _ _ _ _ _ (λ d. enough n m d (at + rest) (drop rest p)
+          (simp length-drop (omega arith)) (simp length-drop (omega arith)))
+          ∙ sym (whole m due at p (omega arith))
     ]
 
 -- a reading with packets in front
@@ -112,19 +112,19 @@ grows_from (suc n) zero due at p q few many =
     grows_short (suc n) zero due at p q many (omega (arith, length-append p q))
 grows_from (suc n) (suc m) due at p q few many =
     elim (leb_tells (suc (length p)) (size due.part)) [
-      inl holds ↦ grows_short (suc n) (suc m) due at p q many holds.1
-    | inr fails ↦
-        let some : 1 ≤ size due.part = size_some due.part in
-        let begun : size due.part ≤ length p = omega arith in
-        let long : size due.part ≤ length (p ++ q) = omega (arith, length-append p q) in
-        let s = size due.part in
-        whole m due at (p ++ q) long
-        ∙ rw (packet_same due.part p q begun, end_same due.part p q begun, drop-append-le s p q begun)
+      | inl holds ↦ grows_short (suc n) (suc m) due at p q many holds.1
+      | inr fails ↦
+          let some : 1 ≤ size due.part = size_some due.part in
+          let begun : size due.part ≤ length p = omega arith in
+          let long : size due.part ≤ length (p ++ q) = omega (arith, length-append p q) in
+          let s = size due.part in
+          whole m due at (p ++ q) long
+          ∙ rw (packet_same due.part p q begun, end_same due.part p q begun, drop-append-le s p q begun)
           (behind_onward due (packet_in due.part p) (at + s) (next due.part due.interfaces (end_of due.part p))
           (λ d. reading_from n d (at + s) (drop s p)) (λ d. reading_from m d (at + s) (drop s p ++ q)) q
           (λ d. grows_from n m d (at + s) (drop s p) q
-            (simp length-drop (omega arith)) (rw (length-append, length-drop) (omega (arith, length-append p q)))))
-        ∙ ap (λ (r : Reading). onward r.packets r.ending q) (sym (whole n due at p begun))
+          (simp length-drop (omega arith)) (rw (length-append, length-drop) (omega (arith, length-append p q)))))
+          ∙ ap (λ (r : Reading). onward r.packets r.ending q) (sym (whole n due at p begun))
     ]
 
 pub grows : (p q : List ℕ) → reading (p ++ q) ≡ onward (reading p).packets (reading p).ending q
@@ -169,12 +169,12 @@ ends_from zero due at p few =
     rw short (refl, less)
 ends_from (suc n) due at p few =
     elim (leb_tells (suc (length p)) (size due.part)) [
-      inl holds ↦ rw (short (suc n) due at p holds.1) (refl, holds.1)
-    | inr fails ↦
-        let some : 1 ≤ size due.part = size_some due.part in
-        let s = size due.part in
-        let begun : s ≤ length p = omega arith in
-        rw (whole n due at p begun) (behind_ends due (packet_in due.part p) (at + s)
+      | inl holds ↦ rw (short (suc n) due at p holds.1) (refl, holds.1)
+      | inr fails ↦
+          let some : 1 ≤ size due.part = size_some due.part in
+          let s = size due.part in
+          let begun : s ≤ length p = omega arith in
+          rw (whole n due at p begun) (behind_ends due (packet_in due.part p) (at + s)
           (next due.part due.interfaces (end_of due.part p)) (λ d. reading_from n d (at + s) (drop s p))
           (at + length p) (omega arith) (λ d.
           let same : (at + s) + length (drop s p) ≡ at + length p = simp length-drop (omega arith) in
@@ -201,14 +201,14 @@ completes p q due at had is all =
     let some : 1 ≤ size due.part = size_some due.part in
     let placed : at + length had ≡ length p = (rw is at (ends_at p)).0 in
     let place : at + size due.part ≡ length (p ++ q) =
-        omega (arith, length-append p q, length-append had q) in
+    omega (arith, length-append p q, length-append had q) in
     grows p q ∙ rw is (ap (with_packets (reading p).packets)
-      (enough (length (had ++ q)) (suc (length (had ++ q))) due at (had ++ q) (omega arith) (omega arith)
-      ∙ whole (length (had ++ q)) due at (had ++ q) (omega arith)
-      ∙ rw place (behind_same due (packet_in due.part (had ++ q)) (length (p ++ q))
-          (next due.part due.interfaces (end_of due.part (had ++ q)))
-          (λ d. reading_from (length (had ++ q)) d (length (p ++ q)) (drop (size due.part) (had ++ q)))
-          (λ d. record { packets = []; ending = Within d (length (p ++ q)) [] }) (λ d.
-          let none : drop (size due.part) (had ++ q) ≡ [] = drop_all (size due.part) (had ++ q) (omega arith) in
-          let first : 1 ≤ size d.part = size_some d.part in
-          rw none (short (length (had ++ q)) d (length (p ++ q)) [] first)))))
+    (enough (length (had ++ q)) (suc (length (had ++ q))) due at (had ++ q) (omega arith) (omega arith)
+    ∙ whole (length (had ++ q)) due at (had ++ q) (omega arith)
+    ∙ rw place (behind_same due (packet_in due.part (had ++ q)) (length (p ++ q))
+    (next due.part due.interfaces (end_of due.part (had ++ q)))
+    (λ d. reading_from (length (had ++ q)) d (length (p ++ q)) (drop (size due.part) (had ++ q)))
+    (λ d. record { packets = []; ending = Within d (length (p ++ q)) [] }) (λ d.
+    let none : drop (size due.part) (had ++ q) ≡ [] = drop_all (size due.part) (had ++ q) (omega arith) in
+    let first : 1 ≤ size d.part = size_some d.part in
+    rw none (short (length (had ++ q)) d (length (p ++ q)) [] first)))))

@@ -64,14 +64,14 @@ section_version block octets =
 unfoldable pub block_of : ByteOrder → ℕ → ℕ → ℕ → Outcome
 block_of order kind length interfaces =
     if kind == interface_type then
-      (if nat_lt interfaces most_interfaces
-       then Goes (parts.InterfaceHeader (record { order = order; length = length; left = length - 20 }))
-       else Fails faults.Interface) else
+    (if nat_lt interfaces most_interfaces
+    then Goes (parts.InterfaceHeader (record { order = order; length = length; left = length - 20 }))
+    else Fails faults.Interface) else
     (if kind == enhanced_type
-     then Goes (parts.EnhancedInterface (record { order = order; length = length; left = length - 32 })) else
+    then Goes (parts.EnhancedInterface (record { order = order; length = length; left = length - 32 })) else
     (if kind == simple_type
-     then Goes (parts.SimpleHeader (record { order = order; length = length; left = length - 16 })) else
-     Goes (parts.BlockEnd (record { order = order; length = length; left = length - 12 }))))
+    then Goes (parts.SimpleHeader (record { order = order; length = length; left = length - 16 })) else
+    Goes (parts.BlockEnd (record { order = order; length = length; left = length - 12 }))))
 
 -- the type and the length of a block
 unfoldable pub block_header : ByteOrder → ℕ → List ℕ → Outcome
@@ -80,7 +80,7 @@ block_header order interfaces octets =
     let length = four_at order 4 octets in
     if kind == section_type then either_length 4 octets else
     (if (length % 4 == 0) && nat_le (least_length kind) length
-     then block_of order kind length interfaces else Fails faults.Length)
+    then block_of order kind length interfaces else Fails faults.Length)
 
 -- options while there is room for the header of one, behind so many octets of the one before
 unfoldable pub options : Block → Interface → ℕ → Outcome
@@ -110,7 +110,7 @@ option_header block interface octets =
     let count = two_at block.order 2 octets in
     if (code == 0) || nat_lt block.left (padded count) then Goes (parts.InterfaceEnd block interface) else
     (if (code == 9) && (count == 1) then Goes (parts.TimeUnit (record block { left = block.left - 1 }) interface) else
-     options block interface (padded count))
+    options block interface (padded count))
 
 -- how many units make a second: 10 to the number, or 2 to the number without its upper bit where that is set
 abbrev pub ticks_of : ℕ → ℕ

@@ -1,6 +1,9 @@
 pub mod Blocks
+pub mod CaptureState
+pub mod CaptureSteps
 pub mod Fits
 pub mod Format
+pub mod Keeping
 pub mod Laws
 pub mod Numbers
 pub mod Parts

@@ -1,6 +1,6 @@
 -- The parts of a capture and their lengths (meaning). A part has at its front the octets of a packet, at its end those of a
 -- header, and between them octets that are passed over; most have but one of the three.
-use Rattle.std.specs.Prelude.{ℕ, ◌+◌}
+use Rattle.std.specs.Prelude.{ℕ, ◌+◌, Bool, true, false}
 use Rattle.capture_file.specs.declared.part.Part.{Part}
 use Rattle.capture_file.specs.declared.part.Part.TheVariants as parts
 
@@ -38,3 +38,9 @@ lead _ = 0
 -- how many octets a part has
 abbrev pub size : Part → ℕ
 size part = front part + passed part + back part
+
+-- a capture may end where a record or a block may begin
+abbrev pub may_end_before : Part → Bool
+may_end_before (parts.RecordHeader file) = true
+may_end_before (parts.BlockHeader order) = true
+may_end_before _ = false

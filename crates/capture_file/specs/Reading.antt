@@ -10,7 +10,7 @@ use Rattle.capture_file.specs.declared.part.Part.{Part}
 use Rattle.capture_file.specs.declared.part.Part.TheVariants as parts
 use Rattle.capture_file.specs.declared.part.Outcome.{Outcome}
 use Rattle.capture_file.specs.declared.part.Outcome.TheVariants.{Goes, Gives, Fails}
-use Rattle.capture_file.specs.Parts.{front, passed, back, lead, size}
+use Rattle.capture_file.specs.Parts.{front, passed, back, lead, size, may_end_before}
 use Rattle.capture_file.specs.Format.{next, interfaces_behind}
 
 -- a packet: its link type, its time, its octets, and how many octets the capture has up to and with the last one of the
@@ -61,8 +61,8 @@ reading_from (suc most) due at octets =
     if nat_lt (length octets) (size due.part)
     then record { packets = []; ending = Within due at octets }
     else behind due (packet_in due.part octets) (at + size due.part)
-        (next due.part due.interfaces (end_of due.part octets))
-        (λ rest. reading_from most rest (at + size due.part) (drop (size due.part) octets))
+    (next due.part due.interfaces (end_of due.part octets))
+    (λ rest. reading_from most rest (at + size due.part) (drop (size due.part) octets))
 
 -- the beginning of a capture
 abbrev pub start : Due
@@ -82,12 +82,6 @@ fault_of (Faulted fault) = Some fault
 -- the fault that the octets of a capture show
 abbrev pub fault : List ℕ → Option CaptureFault
 fault p = fault_of (reading p).ending
-
--- a capture may end where a record or a block may begin
-abbrev pub may_end_before : Part → Bool
-may_end_before (parts.RecordHeader file) = true
-may_end_before (parts.BlockHeader order) = true
-may_end_before _ = false
 
 abbrev pub truncated_at : ℕ → Part → List ℕ → Option CaptureFault
 truncated_at place part (octet ∷ octets) = Some (record { kind = Truncated; place = place })

@@ -12,8 +12,11 @@ use crate::records::{MOST_CAPTURED, SECTION};
 pub const MOST_INTERFACES: usize = 256;
 
 const BYTE_ORDER_MAGIC: u32 = 0x1a2b_3c4d;
+
 const INTERFACE: u32 = 1;
+
 const SIMPLE: u32 = 3;
+
 const ENHANCED: u32 = 6;
 
 /// From the year 10000 on there is no time: nanoseconds since 1970.

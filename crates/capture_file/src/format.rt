@@ -5,9 +5,8 @@ ghost use Rattle.capture_file.specs.Parts.{back};
 ghost use Rattle.capture_file.specs.Format.{next, interfaces_behind};
 ghost use Rattle.capture_file.specs.Fits.{Fits, adds};
 
-use crate::blocks;
 use crate::part::{Interface, Outcome, Part};
-use crate::records;
+use crate::{blocks, records};
 
 /// What comes behind a part whose end has these octets, in a section that has these interfaces.
 #[tactic(auto, using(crate::proofs::Fitting::fits_more))]

@@ -8,5 +8,4 @@ pub fn packets_begin()
     ensures packets { PacketsBegin }
     // and behind a fault nothing is read.
     ensures fault { FaultStays }
-{
-}
+{}

@@ -2,12 +2,17 @@
 #![tactic(auto)]
 
 mod blocks;
+mod capture;
 mod fault;
 mod format;
+mod keeping;
 mod laws;
 mod numbers;
 mod part;
+mod progress;
 mod records;
 
+pub use capture::Capture;
 pub use fault::{CaptureFault, FaultKind};
 pub use laws::packets_begin;
+pub use progress::{Packet, Progress};

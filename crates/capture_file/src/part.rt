@@ -127,7 +127,7 @@ pub enum Outcome {
 }
 
 impl Part {
-    ghost use Rattle.capture_file.specs.Parts.{front, passed, back, lead};
+    ghost use Rattle.capture_file.specs.Parts.{front, passed, back, lead, may_end_before};
 
     /// How many octets at its front are those of a packet, with its lead.
     pub fn front(&self) -> u64
@@ -165,6 +165,13 @@ impl Part {
             Part::FileRest(_) => 16,
             _ => 4,
         }
+    }
+
+    /// Whether a capture may end in front of it.
+    pub fn may_come_last(&self) -> bool
+        ensures { result ≡ may_end_before self.now }
+    {
+        matches!(self, Part::RecordHeader(_) | Part::BlockHeader(_))
     }
 
     /// How many octets of its front are in front of a packet.

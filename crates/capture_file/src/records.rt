@@ -11,6 +11,7 @@ use crate::part::{ByteOrder, FileHeader, Head, Magic, Outcome, Part};
 pub const MOST_CAPTURED: u32 = 262_144;
 
 const MICROSECONDS: u32 = 0xa1b2_c3d4;
+
 const NANOSECONDS: u32 = 0xa1b2_3c4d;
 
 /// The type of a section header block, with which a pcapng file begins.
@@ -25,7 +26,10 @@ pub fn beginning(octets: &[u8]) -> Outcome
 {
     let big = ByteOrder::Big.four_at(octets, 0);
     let little = ByteOrder::Little.four_at(octets, 0);
-    let magic = |order: ByteOrder, unit: u32| Outcome::Goes(Part::FileVersion(Magic { order, unit }));
+    let magic = |order: ByteOrder, unit: u32| Outcome::Goes(Part::FileVersion(Magic {
+        order,
+        unit,
+    }));
     if big == MICROSECONDS {
         magic(ByteOrder::Big, 1000)
     } else if big == NANOSECONDS {

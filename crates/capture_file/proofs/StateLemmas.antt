@@ -1,0 +1,23 @@
+-- What follows of a capture from the octets that it has taken.
+use Rattle.std.proofs.Common.{◌≡◌, ℕ, ◌<◌, List, [], length, Option, Some, None, refl, sym, ◌∙◌, arith}
+use Rattle.capture_file.specs.declared.capture.Capture.{Capture}
+use Rattle.capture_file.specs.declared.part.Part.TheVariants as parts
+use Rattle.capture_file.specs.Reading.{reading_from, reading, start}
+use Rattle.capture_file.specs.CaptureState.{Reads, HoldsPart}
+
+-- a capture that has taken nothing
+pub reads_none : (c : Capture) → c.octets ≡ 0 → c.packets ≡ 0 → c.part ≡ parts.Beginning → c.taken ≡ 0 → c.fault ≡ None →
+    length {A = ℕ} [] ≡ 0 → c.interfaces.items ≡ [] → Reads c []
+unfolding reading reading_from
+reads_none c octets packets part taken fault zero interfaces = record {
+  octets = octets;
+  packets = packets;
+  stands = record {
+    running = fault;
+    part = part;
+    interfaces = interfaces;
+    taken = taken;
+    packet_octets = λ k below come. absurd (omega arith);
+    end_octets = λ k below come. absurd (omega arith);
+  };
+}
