@@ -3,7 +3,7 @@ use Rattle.std.proofs.Common.{◌≡◌, ℕ, ◌+◌, ◌-◌, ◌<◌, ◌≤�
 use Rattle.std.proofs.lemmas.List.{length-append, length-take, length-drop, get_or-take, get_or-drop, get_or_append_left, get_or-append_right}
 use Rattle.std.proofs.lemmas.Bool.Decides.{leb_tells}
 use Rattle.std.proofs.lemmas.Grind.{same_number_lists}
-use Rattle.capture_file.specs.Keeping.{IsHeld}
+use Rattle.capture_file.specs.Window.{IsHeld}
 
 -- octets from `from` on are copied behind the first ones of a window, and in front of the rest
 copied : (old next : List ℕ) (i n k : ℕ) → i ≤ length old → length next ≡ n → i ≤ k → k < i + n →

@@ -6,7 +6,7 @@ use Rattle.capture_file.specs.declared.part.Head.{Head}
 use Rattle.capture_file.specs.declared.progress.Progress.{Progress}
 use Rattle.capture_file.specs.declared.progress.Progress.TheVariants as progress
 use Rattle.capture_file.specs.Parts.{front, passed, back}
-use Rattle.capture_file.specs.Keeping.{IsHeld}
+use Rattle.capture_file.specs.Window.{IsHeld}
 use Rattle.capture_file.specs.Reading.{Given, Due, Ending, Within, Faulted, reading, packets, fault}
 
 -- a part has begun, and these octets of it have come: of those at its front and at its end the capture holds what has come

@@ -10,7 +10,7 @@ use Rattle.capture_file.specs.Parts.{front, lead}
 use Rattle.capture_file.specs.Format.{interfaces_behind}
 
 -- a part begins behind another
-pub record Moves (old new : Capture) (due : Part) : Type 0 where
+pub record PartBegins (old new : Capture) (due : Part) : Type 0 where
   pub part : new.part ≡ due
   pub interfaces : new.interfaces.items ≡ interfaces_behind old.part old.interfaces.items
   pub taken : new.taken ≡ 0
@@ -21,9 +21,9 @@ pub record Moves (old new : Capture) (due : Part) : Type 0 where
 -- a part is complete: it began at this offset of the octets that are given, or is held
 abbrev pub Completes : Outcome → Capture → Capture → Progress → ℕ → Bool → Type 0
 Completes (Goes part) old new answer start held =
-    (answer ≡ progress.More) × Moves old new part × (new.packets ≡ old.packets)
+    (answer ≡ progress.More) × PartBegins old new part × (new.packets ≡ old.packets)
 Completes (Gives head part) old new answer start held =
-    (answer ≡ progress.Packet) × Moves old new part × (new.packets ≡ suc old.packets)
+    (answer ≡ progress.Packet) × PartBegins old new part × (new.packets ≡ suc old.packets)
     × (new.found ≡ record { head = head; start = start + lead old.part; end = start + front old.part; held = held })
 Completes (Fails kind) old new answer start held =
     (answer ≡ progress.Fault (record { kind = kind; place = old.octets }))

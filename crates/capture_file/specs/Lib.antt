@@ -3,7 +3,7 @@ pub mod CaptureState
 pub mod CaptureSteps
 pub mod Fits
 pub mod Format
-pub mod Keeping
+pub mod Window
 pub mod Laws
 pub mod Numbers
 pub mod Parts

@@ -55,7 +55,7 @@ pub struct Capture {
 impl Capture {
     ghost use Rattle.capture_file.specs.CaptureState.{Reads, octets_of, Answers, IsRunning, IsIn, head_in, octets_in};
     ghost use Rattle.capture_file.specs.Reading.{packets, final_fault};
-    ghost use Rattle.capture_file.specs.CaptureSteps.{Completes, Moves};
+    ghost use Rattle.capture_file.specs.CaptureSteps.{Completes, PartBegins};
 
     /// A capture of which nothing was taken, with memory for one packet.
     pub fn new(alloc: Global) -> Result<Capture, AllocError>

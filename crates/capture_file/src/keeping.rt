@@ -1,7 +1,7 @@
 //! What is held of the octets of a part that comes in pieces.
 
 ghost use Rattle.std.specs.Prelude.{◌≡◌, ℕ, ◌+◌, ◌^◌, ◌<◌, ◌≤◌, List, ◌++◌, length};
-ghost use Rattle.capture_file.specs.Keeping.{IsHeld};
+ghost use Rattle.capture_file.specs.Window.{IsHeld};
 
 /// Where a part has come up to an offset, copies those octets of its next piece into a window that are among so many of
 /// the part from `begin` on.
