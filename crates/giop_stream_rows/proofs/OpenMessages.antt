@@ -346,6 +346,7 @@ first_fits = record {
   clean = refl;
   at = omega arith;
   id_in_header_only = λ other. refl;
+  name = refl;
 }
 
 -- ---- The checkpoint.
