@@ -229,21 +229,27 @@ fn dumped_over(
 ) -> io::Result<Failed> {
     let mut room = [0; 16_384];
     let mut sheet = Sheet::new(&mut room);
-    let found = match dump(engine, stream, way, &mut sheet) {
+    let is_right = match dump(engine, stream, way, &mut sheet) {
         Ok(totals) => {
             if is_as_told(rt, row, &way, sheet.held(), status_of(Ok(totals)))? {
                 return Ok(Failed::Never);
             }
-            return Ok(Failed::Wrongly);
+            false
         }
-        Err(fault) => compare_front(row.lines, sheet.held(), status_of(Err(fault))),
+        Err(fault) => is_front(rt, row, way, sheet.held(), status_of(Err(fault)))?,
     };
-    match found {
-        None => Ok(Failed::Rightly),
-        Some(found) => {
-            differs(rt, row.name, &way, &found)?;
-            Ok(Failed::Wrongly)
-        }
+    Ok(if is_right {
+        Failed::Rightly
+    } else {
+        Failed::Wrongly
+    })
+}
+
+/// Compares what was written up to a put that failed, and the status.
+fn is_front(rt: &HostRuntime, row: &Row, way: Way, written: &[u8], status: u8) -> io::Result<bool> {
+    match compare_front(row.lines, written, status) {
+        None => Ok(true),
+        Some(found) => differs(rt, row.name, &way, &found),
     }
 }
 

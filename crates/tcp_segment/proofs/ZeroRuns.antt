@@ -1,5 +1,5 @@
 -- The run of zeros that an address's text leaves out is the longest, and of equal ones the first.
-use Rattle.std.proofs.Common.{◌≡◌, ℕ, zero, suc, ◌+◌, ◌<◌, ◌≤◌, true, false, nat_le, if◌then◌else◌, List, [], ◌∷◌, length, slice_index, refl, arith, add-one}
+use Rattle.std.proofs.Common.{◌≡◌, ℕ, zero, suc, ◌+◌, ◌<◌, ◌≤◌, Bool, true, false, nat_le, if◌then◌else◌, List, [], ◌∷◌, length, refl, arith, add-one}
 use Rattle.std.specs.Net.Text.{zero_run, longest_zero_run}
 use Rattle.tcp_segment.specs.EndpointText.{AreZeros, IsLongestRun}
 
@@ -75,18 +75,23 @@ module _ (s : ℕ) (rest : List ℕ) (start len : ℕ) (of : IsLongestRun rest s
     first = first_later less;
   }
 
-  chosen : let run = zero_run (s ∷ rest) in let r = if nat_le len run then (0, run) else (start + 1, len) in IsLongestRun (s ∷ rest) r.0 r.1
-  chosen =
-      let run = zero_run (s ∷ rest) in
-      let cases : (b : Bool) → nat_le len run ≡ b → IsLongestRun (s ∷ rest) (if b then (0, run) else (start + 1, len)).0 (if b then (0, run) else (start + 1, len)).1 =
-      λ b. elim b as (λ v. nat_le len run ≡ v → IsLongestRun (s ∷ rest) (if v then (0, run) else (start + 1, len)).0 (if v then (0, run) else (start + 1, len)).1) [ true ↦ λ e. here (grind arith) | false ↦ λ e. later (grind arith) ] in
-      cases (nat_le len run) refl
+  -- the run at the front, or the other one
+  abbrev one_of : Bool → ℕ × ℕ
+  one_of front = if front then (0, zero_run (s ∷ rest)) else (start + 1, len)
 
-pub is_longest : (groups : List ℕ) → IsLongestRun groups (longest_zero_run groups).0 (longest_zero_run groups).1
+  chosen : (front : Bool) → nat_le len (zero_run (s ∷ rest)) ≡ front
+      → IsLongestRun (s ∷ rest) (one_of front).0 (one_of front).1
+  chosen true is = here (grind arith)
+  chosen false is = later (grind arith)
+
+pub is_longest : (groups : List ℕ)
+    → IsLongestRun groups (longest_zero_run groups).0 (longest_zero_run groups).1
 is_longest [] = record {
   within = omega arith;
   zeros = λ k low high. omega arith;
   longest = λ at count fits zeros. omega arith;
   first = λ at fits zeros. omega arith;
 }
-is_longest (s ∷ rest) = chosen s rest (longest_zero_run rest).0 (longest_zero_run rest).1 (is_longest rest)
+is_longest (s ∷ rest) =
+    let of = longest_zero_run rest in
+    chosen s rest of.0 of.1 (is_longest rest) (nat_le of.1 (zero_run (s ∷ rest))) refl

@@ -1,9 +1,8 @@
 -- Packets and endpoints worked by hand: the segments of the packets, and the texts of the endpoints (meaning).
-use Rattle.std.specs.Prelude.{◌≡◌, ℕ, ◌+◌, ◌-◌, ◌*◌, ◌==◌, nat_lt, if◌then◌else◌, Bool, true, false, List, [], ◌∷◌, Option, Some, None, codes}
-use Rattle.tcp_segment.specs.declared.endpoint.Address.{Address}
+use Rattle.std.specs.Prelude.{◌≡◌, ℕ, ◌+◌, ◌-◌, ◌*◌, ◌==◌, nat_lt, if◌then◌else◌, true, false, List, [], ◌∷◌, Some, None, codes}
 use Rattle.tcp_segment.specs.declared.endpoint.Address.TheVariants.{V4, V6}
 use Rattle.tcp_segment.specs.declared.endpoint.Endpoint.{Endpoint}
-use Rattle.tcp_segment.specs.Segments.{Segment, segment}
+use Rattle.tcp_segment.specs.Segments.{segment}
 use Rattle.tcp_segment.specs.EndpointText.{endpoint_text}
 
 unfoldable pub digit : ℕ → ℕ
