@@ -1,6 +1,6 @@
 #!/usr/bin/env bash
-# The Debian package: lintian finds no error, and dpkg installs it. Where this machine lets root mount a folder over its
-# own, the package is installed there as on a machine of a user, who has an IDL file and a dump; else into an empty folder.
+# The Debian package: lintian finds no error, and dpkg installs it into an empty folder, where the program dumps an example
+# and omniidl finds the converter among Python's packages.
 # Installs lintian, omniidl and binutils where they are missing.
 set -euo pipefail
 cd "$(dirname "$0")/.."
@@ -36,25 +36,8 @@ rm -r "$folder"
 echo "$(basename "$0" .sh): $(giopdump --version), $(find "$root/usr/share/doc/giopdump" -type f | wc -l) documents"
 END
 
-in_a_copy() {
-    mount -t tmpfs none "$work" && mkdir "$work/over" "$work/aside" "$work/machine" &&
-        mount -t overlay overlay -o "lowerdir=/,upperdir=$work/over,workdir=$work/aside" "$work/machine"
-}
-export -f in_a_copy
-export work
-if [ "$(id -u)" = 0 ] && unshare --mount bash -c in_a_copy 2> /dev/null; then
-    unshare --mount bash -euo pipefail -c '
-        exec 3< "$1" 4< "$2"  # what stands in the folder is hidden by the copy
-        in_a_copy
-        cat <&3 > "$work/machine/tmp/giopdump.deb"
-        cat <&4 > "$work/machine/tmp/installed.sh"
-        chroot "$work/machine" dpkg -i /tmp/giopdump.deb > /dev/null
-        chroot "$work/machine" bash /tmp/installed.sh
-    ' - "$package" "$work/use.sh"
-else
-    mkdir -p "$work/root/var/lib/dpkg"
-    touch "$work/root/var/lib/dpkg/status"
-    dpkg --force-not-root --force-depends --root="$work/root" --log=/dev/null -i "$package" > /dev/null
-    mv "$work/use.sh" "$work/unpacked.sh"
-    PYTHONPATH=$work/root/usr/lib/python3/dist-packages bash "$work/unpacked.sh" "$work/root"
-fi
+mkdir -p "$work/root/var/lib/dpkg"
+touch "$work/root/var/lib/dpkg/status"
+dpkg --force-not-root --force-depends --root="$work/root" --log=/dev/null -i "$package" > /dev/null
+mv "$work/use.sh" "$work/unpacked.sh"
+PYTHONPATH=$work/root/usr/lib/python3/dist-packages bash "$work/unpacked.sh" "$work/root"
