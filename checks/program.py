@@ -18,8 +18,19 @@ from typing import Dict, List, Optional, Tuple
 
 from failing import PROGRAM, SECONDS
 
+LAB = "signatures 1;\noperation void set(in long v);\noperation long ask(in long a, out octet b);\n"
+
+# The greatest number of octets of a signature file, and of entries of a request list.
+SIGNATURES = 2**20
+ENTRIES = 2**16
+
 TEXTS = {
-    "lab.sig": "signatures 1;\noperation void set(in long v);\noperation long ask(in long a, out octet b);\n",
+    "lab.sig": LAB,
+    "most.sig": LAB.ljust(SIGNATURES, "\n"),
+    "long.sig": LAB.ljust(SIGNATURES + 1, "\n"),
+    "twice.sig": "signatures 1;\n" + "".join(f"operation void {name}();\n" for name in "abcdea"),
+    "most.req": "".join(f"{number} ask\n" for number in range(ENTRIES)),
+    "many.req": "".join(f"{number} ask\n" for number in range(ENTRIES + 1)),
     "lab.req": "1 ask\n",
     "wrong.sig": "signatures 1;\nstruct A {\n  B b;\n};\n",
     "wrong.req": "1 ask\n01 ask\n",
@@ -39,7 +50,8 @@ def fixed(
     most: str = "00000010 ffffffff",
 ) -> bytes:
     """The fixed part of a checkpoint without records. `counts` are the types, operations, exceptions and ids. `place` is the
-    octets 56 to 59, the place and its fault first; `most` is 80 to 87, how many messages may be open, and the record in use."""
+    octets from 56 on: the place, its fault, how many octets of a header were read, a zero, and from 60 on that header; `most`
+    is 80 to 87, how many messages may be open, and the record in use."""
     numbers = b"".join(number.to_bytes(4, "big") for number in (version, *counts, 0))
     totals = b"".join(number.to_bytes(8, "big") for number in (octets, messages, faults))
     front = text.encode() + numbers + totals + bytes.fromhex(place)
@@ -54,6 +66,7 @@ def second(octets: int = 0) -> bytes:
 LIMIT = 2**48
 
 OCTETS = {
+    "half.giop": b"GIOP\x01",
     "close.giop": bytes.fromhex("47494f50 0100 00 05 00000000"),
     "set.giop": bytes.fromhex("47494f50 0100 00 00 00000024 00000000 00000007 01 000000 00000002 6b31 0000"
                               "00000004 73657400 00000000 fffffffb"),
@@ -129,6 +142,7 @@ total messages 1 faults 0 octets 29
 NOTHING = "total messages 0 faults 0 octets 0\n"
 STOPPED = "stream fault magic at 4\n"
 STOPPED_TOTAL = "total messages 0 faults 1 octets 4\n"
+CUT = "stream fault truncated at 5\ntotal messages 0 faults 1 octets 5\n"
 
 
 @dataclass(frozen=True)
@@ -155,6 +169,13 @@ STEPS = [
     Case("--signatures wrong.sig --requests lab.req", "set.giop", 3, "wrong.sig:3: unknown-type"),
     Case("--signatures empty.txt --requests lab.req", "set.giop", 3, "empty.txt:1: syntax"),
     Case("--signatures lab.sig --requests wrong.req", "set.giop", 3, "wrong.req:2: syntax"),
+    Case("--signatures twice.sig", "set.giop", 3, "twice.sig:7: duplicate"),
+    Case("--signatures most.sig --requests lab.req", "ask.giop", lines=ASK + ANSWERED),
+    Case("--signatures long.sig --requests lab.req", "ask.giop", 3, "long.sig:1: limit"),
+    Case("--signatures /dev/zero --requests lab.req", "ask.giop", 3, "/dev/zero:1: limit"),
+    Case("--signatures lab.sig --requests most.req", "ask.giop", lines=ASK + ANSWERED),
+    Case("--signatures lab.sig --requests many.req", "ask.giop", 3, "many.req:65537: limit"),
+    Case("--signatures lab.sig --requests /dev/zero", "ask.giop", 3, "/dev/zero:1: limit"),
     Case("--signatures missing.sig --requests lab.req", "set.giop", 4, "missing.sig: cannot read"),
     Case("--signatures lab.sig --requests missing.req", "set.giop", 4, "missing.req: cannot read"),
     Case("--signatures lab.sig --requests lab.req", "missing.giop", 4, "missing.giop: cannot read"),
@@ -180,6 +201,9 @@ STEPS = [
     Case("--resume limit.check", "empty.txt", lines=f"total messages 0 faults 0 octets {LIMIT}\n"),
     Case("--resume limit.check", "set.giop", 1,
          lines=f"stream fault stream-limit at {LIMIT + 1}\ntotal messages 0 faults 1 octets {LIMIT + 1}\n"),
+    Case("--save none.check", "empty.txt", saved="none.check", octets=fixed()),
+    Case("--save half.check", "half.giop", saved="half.check", octets=fixed(octets=5, place="00000500 47494f5001")),
+    Case("--resume half.check", "empty.txt", 1, lines=CUT),
     Case("--save stop.check", "wrong.giop", 1, lines=STOPPED, saved="stop.check",
          octets=fixed(octets=4, faults=1, place="02010000")),
     Case("--resume stop.check", "set.giop", 1, lines=STOPPED_TOTAL),
@@ -188,6 +212,18 @@ STEPS = [
     Case("--resume .", "set.giop", 4, ".: cannot read"),
     Case("--save .", "wrong.giop", 4, ".: cannot write", STOPPED),
     Case("--save none/part.check", "empty.txt", 4, "none/part.check: cannot write"),
+    Case("--signatures lab.sig --save set1.giop", "set1.giop", 4, "set1.giop: cannot write", SET_1),
+    Case("--signatures lab.sig --save ./set1.giop", "set1.giop", 4, "./set1.giop: cannot write", SET_1),
+    Case("--signatures lab.sig --save symbolic.giop", "set1.giop", 4, "symbolic.giop: cannot write", SET_1),
+    Case("--signatures lab.sig --save set1.giop", "symbolic.giop", 4, "set1.giop: cannot write", SET_1),
+    Case("--signatures lab.sig --save hard.giop", "set1.giop", 4, "hard.giop: cannot write", SET_1),
+    Case("--signatures lab.sig --save lab.sig", "set1.giop", 4, "lab.sig: cannot write", SET_1),
+    Case("--signatures lab.sig --requests lab.req --save lab.req", "set1.giop", 4, "lab.req: cannot write", SET_1),
+    Case("--save wrong.giop", "wrong.giop", 4, "wrong.giop: cannot write", STOPPED),
+    Case("--signatures \x1b[2J", "set.giop", 4, r"\x1b[2J: cannot read"),
+    Case("--signatures \u00e9", "set.giop", 4, r"\xc3\xa9: cannot read"),
+    Case("--requests \x7f", "set.giop", 4, r"\x7f: cannot read"),
+    Case("--save none/\a", "empty.txt", 4, r"none/\x07: cannot write"),
 ]
 
 # The words, in any order and both spellings. No file name has a special meaning.
@@ -291,6 +327,8 @@ def tried(cases: List[Case], is_file: bool) -> Tuple[int, int]:
             (folder / file).write_text(text)
         for file, octets in OCTETS.items():
             (folder / file).write_bytes(octets)
+        (folder / "symbolic.giop").symlink_to("set1.giop")
+        os.link(folder / "set1.giop", folder / "hard.giop")
         runs = [case for case in cases if is_file or case.stream not in (None, "missing.giop")]
         for case in runs:
             if difference := differs(case, folder, is_file):

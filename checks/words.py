@@ -89,9 +89,8 @@ def definitions(text: str) -> list[tuple[str, int, int]]:
     return [it for it in found if declared.match(text[it[1]:it[2]].lstrip())]
 
 
-# What is used by nothing yet: a public call that waits for the crate above it, what `Capture::take` will be made of, and a
-# lemma that goes when its crate is proved again.
-AWAITED = frozenset(("acknowledged", "keep", "Completes", "kept_as_is", "stays_within", "completes", "no_offset"))
+# What is used by nothing yet: public calls that wait for the crate above them.
+AWAITED = frozenset(("acknowledged", "gapless_beside", "give_back", "has_fin"))
 
 
 def unused(files: dict[Path, str]) -> list[str]:

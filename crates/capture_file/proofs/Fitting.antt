@@ -1,10 +1,10 @@
 -- A part for which there is room, and which adds few interfaces, adds no more where more may be added.
 use Rattle.std.proofs.Common.{ℕ, ◌≤◌, arith}
 use Rattle.capture_file.specs.declared.part.Outcome.{Outcome}
-use Rattle.capture_file.specs.declared.part.Outcome.TheVariants.{Goes, Gives, Fails}
+use Rattle.capture_file.specs.declared.part.Outcome.TheVariants.{Continues, EndsPacket, Fails}
 use Rattle.capture_file.specs.Fits.{Fits}
 
 pub fits_more : (few many : ℕ) (o : Outcome) → Fits few o → few ≤ many → Fits many o
-fits_more few many (Goes part) fits less = (fits.0, omega arith)
-fits_more few many (Gives head part) fits less = (fits.0, omega arith)
+fits_more few many (Continues part) fits less = (fits.0, omega arith)
+fits_more few many (EndsPacket head part) fits less = (fits.0, omega arith)
 fits_more few many (Fails kind) fits less = tt

@@ -1,4 +1,6 @@
 mod Fitting
-mod Kept
+mod WindowLemmas
 mod ReadingSteps
+mod Sizes
 mod StateLemmas
+mod Taking

@@ -1,15 +1,15 @@
 -- How the reading of a list goes on where more octets come: within the part that has begun, or behind it.
-use Rattle.std.proofs.Common.{◌≡◌, ℕ, zero, suc, ◌+◌, ◌<◌, ◌≤◌, List, [], ◌∷◌, ◌++◌, length, take, drop, Option, Some, None, refl, sym, ◌∙◌, ap, arith, inl, inr, zero-add}
-use Rattle.std.proofs.lemmas.List.{length-append, length-drop, take-append-le, drop-append-le, drop_all, append-nil, append_assoc}
+use Rattle.std.proofs.Common.{◌≡◌, ℕ, zero, suc, ◌+◌, ◌<◌, ◌≤◌, List, [], ◌∷◌, ◌++◌, length, drop, Some, refl, sym, ◌∙◌, ap, arith, inl, inr, zero-add}
+use Rattle.std.proofs.lemmas.List.{length-append, length-drop, take-append-le, drop-append-le, drop_all, append-nil}
 use Rattle.std.proofs.lemmas.Bool.Decides.{leb_tells}
 use Rattle.capture_file.specs.declared.fault.CaptureFault.{CaptureFault}
 use Rattle.capture_file.specs.declared.part.Part.{Part}
 use Rattle.capture_file.specs.declared.part.Part.TheVariants as parts
 use Rattle.capture_file.specs.declared.part.Outcome.{Outcome}
-use Rattle.capture_file.specs.declared.part.Outcome.TheVariants.{Goes, Gives, Fails}
-use Rattle.capture_file.specs.Parts.{front, passed, back, lead, size}
+use Rattle.capture_file.specs.declared.part.Outcome.TheVariants.{Continues, EndsPacket, Fails}
+use Rattle.capture_file.specs.Parts.{front, passed, back, size}
 use Rattle.capture_file.specs.Format.{next}
-use Rattle.capture_file.specs.Reading.{Given, Due, Ending, Within, Faulted, Reading, end_of, packet_in, behind, reading_from, start, reading, fault_of}
+use Rattle.capture_file.specs.Reading.{PacketRecord, ParserState, Ending, Within, Faulted, Reading, end_of, packet_in, behind, reading_from, start, reading, fault_of}
 use Rattle.capture_file.specs.Laws.{PacketsBegin, FaultStays}
 
 pub size_some : (part : Part) → 1 ≤ size part
@@ -18,75 +18,75 @@ size_some (parts.Record file head captured) = omega arith
 size_some _ = omega arith
 
 -- less than a part is within it
-pub short : (most : ℕ) (due : Due) (at : ℕ) (p : List ℕ) → length p < size due.part →
-    reading_from most due at p ≡ record { packets = []; ending = Within due at p }
+pub short : (most : ℕ) (state : ParserState) (at : ℕ) (p : List ℕ) → length p < size state.part →
+    reading_from most state at p ≡ record { packets = []; ending = Within state at p }
 unfolding reading_from
-short zero due at p less = refl
-short (suc most) due at p less =
-    elim (leb_tells (suc (length p)) (size due.part)) [
+short zero state at p less = refl
+short (suc most) state at p less =
+    elim (leb_tells (suc (length p)) (size state.part)) [
       | inl holds ↦ rw holds.0
       | inr fails ↦ absurd (omega arith)
     ]
 
 -- a whole part
-pub whole : (most : ℕ) (due : Due) (at : ℕ) (p : List ℕ) → size due.part ≤ length p →
-    reading_from (suc most) due at p ≡ behind due (packet_in due.part p) (at + size due.part)
-    (next due.part due.interfaces (end_of due.part p))
-    (λ rest. reading_from most rest (at + size due.part) (drop (size due.part) p))
+pub whole : (most : ℕ) (state : ParserState) (at : ℕ) (p : List ℕ) → size state.part ≤ length p →
+    reading_from (suc most) state at p ≡ behind state (packet_in state.part p) (at + size state.part)
+    (next state.part state.interfaces (end_of state.part p))
+    (λ rest. reading_from most rest (at + size state.part) (drop (size state.part) p))
 unfolding reading_from
-whole most due at p enough =
-    elim (leb_tells (suc (length p)) (size due.part)) [
+whole most state at p enough =
+    elim (leb_tells (suc (length p)) (size state.part)) [
       | inl holds ↦ absurd (omega arith)
       | inr fails ↦ rw fails.0
     ]
 
-behind_same : (due : Due) (packet : List ℕ) (place : ℕ) (o : Outcome) (k l : Due → Reading) → ((d : Due) → k d ≡ l d) →
-    behind due packet place o k ≡ behind due packet place o l
-behind_same due packet place (Goes part) k l same = same _
-behind_same due packet place (Gives head part) k l same = rw (same _)
-behind_same due packet place (Fails kind) k l same = refl
+behind_same : (state : ParserState) (packet : List ℕ) (place : ℕ) (o : Outcome) (k l : ParserState → Reading) → ((d : ParserState) → k d ≡ l d) →
+    behind state packet place o k ≡ behind state packet place o l
+behind_same state packet place (Continues part) k l same = same _
+behind_same state packet place (EndsPacket head part) k l same = rw (same _)
+behind_same state packet place (Fails kind) k l same = refl
 
 -- any bounds that are great enough give one reading
-pub enough : (n m : ℕ) (due : Due) (at : ℕ) (p : List ℕ) → length p ≤ n → length p ≤ m →
-    reading_from n due at p ≡ reading_from m due at p
-enough zero m due at p few many =
-    let some : 1 ≤ size due.part = size_some due.part in
-    short zero due at p (omega arith) ∙ sym (short m due at p (omega arith))
-enough (suc n) zero due at p few many =
-    let some : 1 ≤ size due.part = size_some due.part in
-    short (suc n) due at p (omega arith) ∙ sym (short zero due at p (omega arith))
-enough (suc n) (suc m) due at p few many =
-    let some : 1 ≤ size due.part = size_some due.part in
-    elim (leb_tells (suc (length p)) (size due.part)) [
-      | inl holds ↦ short (suc n) due at p holds.1 ∙ sym (short (suc m) due at p holds.1)
+pub enough : (n m : ℕ) (state : ParserState) (at : ℕ) (p : List ℕ) → length p ≤ n → length p ≤ m →
+    reading_from n state at p ≡ reading_from m state at p
+enough zero m state at p few many =
+    let some : 1 ≤ size state.part = size_some state.part in
+    short zero state at p (omega arith) ∙ sym (short m state at p (omega arith))
+enough (suc n) zero state at p few many =
+    let some : 1 ≤ size state.part = size_some state.part in
+    short (suc n) state at p (omega arith) ∙ sym (short zero state at p (omega arith))
+enough (suc n) (suc m) state at p few many =
+    let some : 1 ≤ size state.part = size_some state.part in
+    elim (leb_tells (suc (length p)) (size state.part)) [
+      | inl holds ↦ short (suc n) state at p holds.1 ∙ sym (short (suc m) state at p holds.1)
       | inr fails ↦
-          let rest = size due.part in
-          whole n due at p (omega arith)
-          ∙ behind_same due _ _ _ _ _ (λ d. enough n m d (at + rest) (drop rest p)
+          let rest = size state.part in
+          whole n state at p (omega arith)
+          ∙ behind_same state _ _ _ _ _ (λ d. enough n m d (at + rest) (drop rest p)
           (simp length-drop (omega arith)) (simp length-drop (omega arith)))
-          ∙ sym (whole m due at p (omega arith))
+          ∙ sym (whole m state at p (omega arith))
     ]
 
 -- a reading with packets in front
-abbrev pub with_packets : List Given → Reading → Reading
+abbrev pub with_packets : List PacketRecord → Reading → Reading
 with_packets given r = record r { packets = given ++ r.packets }
 
 -- how a reading goes on
-abbrev pub onward : List Given → Ending → List ℕ → Reading
-onward given (Within due at had) q = with_packets given (reading_from (length (had ++ q)) due at (had ++ q))
+abbrev pub onward : List PacketRecord → Ending → List ℕ → Reading
+onward given (Within state at had) q = with_packets given (reading_from (length (had ++ q)) state at (had ++ q))
 onward given (Faulted fault) q = record { packets = given; ending = Faulted fault }
 
-onward_more : (g : Given) (given : List Given) (e : Ending) (q : List ℕ) →
+onward_more : (g : PacketRecord) (given : List PacketRecord) (e : Ending) (q : List ℕ) →
     with_packets (g ∷ []) (onward given e q) ≡ onward (g ∷ given) e q
-onward_more g given (Within due at had) q = refl
+onward_more g given (Within state at had) q = refl
 onward_more g given (Faulted fault) q = refl
 
-behind_onward : (due : Due) (packet : List ℕ) (place : ℕ) (o : Outcome) (k l : Due → Reading) (q : List ℕ) →
-    ((d : Due) → l d ≡ onward (k d).packets (k d).ending q) →
-    behind due packet place o l ≡ onward (behind due packet place o k).packets (behind due packet place o k).ending q
-behind_onward due packet place (Goes part) k l q each = each _
-behind_onward due packet place (Gives head part) k l q each = rw (each _) (onward_more _ _ _ q)
-behind_onward due packet place (Fails kind) k l q each = refl
+behind_onward : (state : ParserState) (packet : List ℕ) (place : ℕ) (o : Outcome) (k l : ParserState → Reading) (q : List ℕ) →
+    ((d : ParserState) → l d ≡ onward (k d).packets (k d).ending q) →
+    behind state packet place o l ≡ onward (behind state packet place o k).packets (behind state packet place o k).ending q
+behind_onward state packet place (Continues part) k l q each = each _
+behind_onward state packet place (EndsPacket head part) k l q each = rw (each _) (onward_more _ _ _ q)
+behind_onward state packet place (Fails kind) k l q each = refl
 
 packet_same : (part : Part) (p q : List ℕ) → size part ≤ length p → packet_in part (p ++ q) ≡ packet_in part p
 packet_same part p q enough = let few : front part ≤ length p = omega arith in rw take-append-le
@@ -98,41 +98,41 @@ end_same part p q enough =
     rw (drop-append-le, take-append-le)
 
 -- the reading of a longer list is that of the shorter one, which goes on
-grows_short : (n m : ℕ) (due : Due) (at : ℕ) (p q : List ℕ) → length (p ++ q) ≤ m → length p < size due.part →
-    reading_from m due at (p ++ q) ≡ onward (reading_from n due at p).packets (reading_from n due at p).ending q
-grows_short n m due at p q many less =
-    rw (short n due at p less) (enough m (length (p ++ q)) due at (p ++ q) many (omega arith))
+grows_short : (n m : ℕ) (state : ParserState) (at : ℕ) (p q : List ℕ) → length (p ++ q) ≤ m → length p < size state.part →
+    reading_from m state at (p ++ q) ≡ onward (reading_from n state at p).packets (reading_from n state at p).ending q
+grows_short n m state at p q many less =
+    rw (short n state at p less) (enough m (length (p ++ q)) state at (p ++ q) many (omega arith))
 
-pub grows_from : (n m : ℕ) (due : Due) (at : ℕ) (p q : List ℕ) → length p ≤ n → length (p ++ q) ≤ m →
-    reading_from m due at (p ++ q) ≡ onward (reading_from n due at p).packets (reading_from n due at p).ending q
-grows_from zero m due at p q few many =
-    let some : 1 ≤ size due.part = size_some due.part in grows_short zero m due at p q many (omega arith)
-grows_from (suc n) zero due at p q few many =
-    let some : 1 ≤ size due.part = size_some due.part in
-    grows_short (suc n) zero due at p q many (omega (arith, length-append p q))
-grows_from (suc n) (suc m) due at p q few many =
-    elim (leb_tells (suc (length p)) (size due.part)) [
-      | inl holds ↦ grows_short (suc n) (suc m) due at p q many holds.1
+pub grows_from : (n m : ℕ) (state : ParserState) (at : ℕ) (p q : List ℕ) → length p ≤ n → length (p ++ q) ≤ m →
+    reading_from m state at (p ++ q) ≡ onward (reading_from n state at p).packets (reading_from n state at p).ending q
+grows_from zero m state at p q few many =
+    let some : 1 ≤ size state.part = size_some state.part in grows_short zero m state at p q many (omega arith)
+grows_from (suc n) zero state at p q few many =
+    let some : 1 ≤ size state.part = size_some state.part in
+    grows_short (suc n) zero state at p q many (omega (arith, length-append p q))
+grows_from (suc n) (suc m) state at p q few many =
+    elim (leb_tells (suc (length p)) (size state.part)) [
+      | inl holds ↦ grows_short (suc n) (suc m) state at p q many holds.1
       | inr fails ↦
-          let some : 1 ≤ size due.part = size_some due.part in
-          let begun : size due.part ≤ length p = omega arith in
-          let long : size due.part ≤ length (p ++ q) = omega (arith, length-append p q) in
-          let s = size due.part in
-          whole m due at (p ++ q) long
-          ∙ rw (packet_same due.part p q begun, end_same due.part p q begun, drop-append-le s p q begun)
-          (behind_onward due (packet_in due.part p) (at + s) (next due.part due.interfaces (end_of due.part p))
+          let some : 1 ≤ size state.part = size_some state.part in
+          let begun : size state.part ≤ length p = omega arith in
+          let long : size state.part ≤ length (p ++ q) = omega (arith, length-append p q) in
+          let s = size state.part in
+          whole m state at (p ++ q) long
+          ∙ rw (packet_same state.part p q begun, end_same state.part p q begun, drop-append-le s p q begun)
+          (behind_onward state (packet_in state.part p) (at + s) (next state.part state.interfaces (end_of state.part p))
           (λ d. reading_from n d (at + s) (drop s p)) (λ d. reading_from m d (at + s) (drop s p ++ q)) q
           (λ d. grows_from n m d (at + s) (drop s p) q
           (simp length-drop (omega arith)) (rw (length-append, length-drop) (omega (arith, length-append p q)))))
-          ∙ ap (λ (r : Reading). onward r.packets r.ending q) (sym (whole n due at p begun))
+          ∙ ap (λ (r : Reading). onward r.packets r.ending q) (sym (whole n state at p begun))
     ]
 
 pub grows : (p q : List ℕ) → reading (p ++ q) ≡ onward (reading p).packets (reading p).ending q
 unfolding reading
 grows p q = grows_from (length p) (length (p ++ q)) start 0 p q (omega arith) (omega arith)
 
-begun_with : (given : List Given) (e : Ending) (q : List ℕ) → (more : List Given) × ((onward given e q).packets ≡ given ++ more)
-begun_with given (Within due at had) q = (_, refl)
+begun_with : (given : List PacketRecord) (e : Ending) (q : List ℕ) → (more : List PacketRecord) × ((onward given e q).packets ≡ given ++ more)
+begun_with given (Within state at had) q = (_, refl)
 begun_with given (Faulted fault) q = ([], sym (append-nil given))
 
 pub packets_begin : PacketsBegin
@@ -140,9 +140,9 @@ packets_begin p q =
     let b = begun_with (reading p).packets (reading p).ending q in
     (b.0, ap (λ (r : Reading). r.packets) (grows p q) ∙ b.1)
 
-go : (given : List Given) (e : Ending) (q : List ℕ) (f : CaptureFault) → fault_of e ≡ Some f →
+go : (given : List PacketRecord) (e : Ending) (q : List ℕ) (f : CaptureFault) → fault_of e ≡ Some f →
     onward given e q ≡ record { packets = given; ending = e }
-go given (Within due at had) q f is = cc
+go given (Within state at had) q f is = cc
 go given (Faulted fault) q f is = refl
 
 stays : (r : Reading) (q : List ℕ) (f : CaptureFault) → fault_of r.ending ≡ Some f → onward r.packets r.ending q ≡ r
@@ -153,29 +153,29 @@ fault_stays p q f is = grows p q ∙ stays (reading p) q f is
 
 -- a part that has begun stands at its place, and isn't whole
 abbrev pub EndsAt : ℕ → Ending → Type 0
-EndsAt place (Within due at had) = (at + length had ≡ place) × (length had < size due.part)
+EndsAt place (Within state at had) = (at + length had ≡ place) × (length had < size state.part)
 EndsAt place (Faulted fault) = fault.place ≤ place
 
-behind_ends : (due : Due) (packet : List ℕ) (at : ℕ) (o : Outcome) (k : Due → Reading) (place : ℕ) → at ≤ place →
-    ((d : Due) → EndsAt place (k d).ending) → EndsAt place (behind due packet at o k).ending
-behind_ends due packet at (Goes part) k place within each = each _
-behind_ends due packet at (Gives head part) k place within each = each _
-behind_ends due packet at (Fails kind) k place within each = within
+behind_ends : (state : ParserState) (packet : List ℕ) (at : ℕ) (o : Outcome) (k : ParserState → Reading) (place : ℕ) → at ≤ place →
+    ((d : ParserState) → EndsAt place (k d).ending) → EndsAt place (behind state packet at o k).ending
+behind_ends state packet at (Continues part) k place within each = each _
+behind_ends state packet at (EndsPacket head part) k place within each = each _
+behind_ends state packet at (Fails kind) k place within each = within
 
-ends_from : (n : ℕ) (due : Due) (at : ℕ) (p : List ℕ) → length p ≤ n → EndsAt (at + length p) (reading_from n due at p).ending
-ends_from zero due at p few =
-    let some : 1 ≤ size due.part = size_some due.part in
-    let less : length p < size due.part = omega arith in
+ends_from : (n : ℕ) (state : ParserState) (at : ℕ) (p : List ℕ) → length p ≤ n → EndsAt (at + length p) (reading_from n state at p).ending
+ends_from zero state at p few =
+    let some : 1 ≤ size state.part = size_some state.part in
+    let less : length p < size state.part = omega arith in
     rw short (refl, less)
-ends_from (suc n) due at p few =
-    elim (leb_tells (suc (length p)) (size due.part)) [
-      | inl holds ↦ rw (short (suc n) due at p holds.1) (refl, holds.1)
+ends_from (suc n) state at p few =
+    elim (leb_tells (suc (length p)) (size state.part)) [
+      | inl holds ↦ rw (short (suc n) state at p holds.1) (refl, holds.1)
       | inr fails ↦
-          let some : 1 ≤ size due.part = size_some due.part in
-          let s = size due.part in
+          let some : 1 ≤ size state.part = size_some state.part in
+          let s = size state.part in
           let begun : s ≤ length p = omega arith in
-          rw (whole n due at p begun) (behind_ends due (packet_in due.part p) (at + s)
-          (next due.part due.interfaces (end_of due.part p)) (λ d. reading_from n d (at + s) (drop s p))
+          rw (whole n state at p begun) (behind_ends state (packet_in state.part p) (at + s)
+          (next state.part state.interfaces (end_of state.part p)) (λ d. reading_from n d (at + s) (drop s p))
           (at + length p) (omega arith) (λ d.
           let same : (at + s) + length (drop s p) ≡ at + length p = simp length-drop (omega arith) in
           rw same at (ends_from n d (at + s) (drop s p) (simp length-drop (omega arith)))))
@@ -186,29 +186,29 @@ unfolding reading
 ends_at p = rw (zero-add (length p)) at (ends_from (length p) start 0 p (omega arith))
 
 -- octets that leave the part within it
-pub stays_within : (p q : List ℕ) (due : Due) (at : ℕ) (had : List ℕ) → (reading p).ending ≡ Within due at had →
-    length (had ++ q) < size due.part → reading (p ++ q) ≡ record { packets = (reading p).packets; ending = Within due at (had ++ q) }
-stays_within p q due at had is less =
-    grows p q ∙ rw (is, short (length (had ++ q)) due at (had ++ q) less, append-nil)
+pub stays_within : (p q : List ℕ) (state : ParserState) (at : ℕ) (had : List ℕ) → (reading p).ending ≡ Within state at had →
+    length (had ++ q) < size state.part → reading (p ++ q) ≡ record { packets = (reading p).packets; ending = Within state at (had ++ q) }
+stays_within p q state at had is less =
+    grows p q ∙ rw (is, short (length (had ++ q)) state at (had ++ q) less, append-nil)
 
 -- octets that complete the part
-pub completes : (p q : List ℕ) (due : Due) (at : ℕ) (had : List ℕ) → (reading p).ending ≡ Within due at had →
-    length (had ++ q) ≡ size due.part → reading (p ++ q) ≡ with_packets (reading p).packets
-    (behind due (packet_in due.part (had ++ q)) (length (p ++ q))
-    (next due.part due.interfaces (end_of due.part (had ++ q)))
+pub completes : (p q : List ℕ) (state : ParserState) (at : ℕ) (had : List ℕ) → (reading p).ending ≡ Within state at had →
+    length (had ++ q) ≡ size state.part → reading (p ++ q) ≡ with_packets (reading p).packets
+    (behind state (packet_in state.part (had ++ q)) (length (p ++ q))
+    (next state.part state.interfaces (end_of state.part (had ++ q)))
     (λ d. record { packets = []; ending = Within d (length (p ++ q)) [] }))
-completes p q due at had is all =
-    let some : 1 ≤ size due.part = size_some due.part in
+completes p q state at had is all =
+    let some : 1 ≤ size state.part = size_some state.part in
     let placed : at + length had ≡ length p = (rw is at (ends_at p)).0 in
-    let place : at + size due.part ≡ length (p ++ q) =
+    let place : at + size state.part ≡ length (p ++ q) =
     omega (arith, length-append p q, length-append had q) in
     grows p q ∙ rw is (ap (with_packets (reading p).packets)
-    (enough (length (had ++ q)) (suc (length (had ++ q))) due at (had ++ q) (omega arith) (omega arith)
-    ∙ whole (length (had ++ q)) due at (had ++ q) (omega arith)
-    ∙ rw place (behind_same due (packet_in due.part (had ++ q)) (length (p ++ q))
-    (next due.part due.interfaces (end_of due.part (had ++ q)))
-    (λ d. reading_from (length (had ++ q)) d (length (p ++ q)) (drop (size due.part) (had ++ q)))
+    (enough (length (had ++ q)) (suc (length (had ++ q))) state at (had ++ q) (omega arith) (omega arith)
+    ∙ whole (length (had ++ q)) state at (had ++ q) (omega arith)
+    ∙ rw place (behind_same state (packet_in state.part (had ++ q)) (length (p ++ q))
+    (next state.part state.interfaces (end_of state.part (had ++ q)))
+    (λ d. reading_from (length (had ++ q)) d (length (p ++ q)) (drop (size state.part) (had ++ q)))
     (λ d. record { packets = []; ending = Within d (length (p ++ q)) [] }) (λ d.
-    let none : drop (size due.part) (had ++ q) ≡ [] = drop_all (size due.part) (had ++ q) (omega arith) in
+    let none : drop (size state.part) (had ++ q) ≡ [] = drop_all (size state.part) (had ++ q) (omega arith) in
     let first : 1 ≤ size d.part = size_some d.part in
     rw none (short (length (had ++ q)) d (length (p ++ q)) [] first)))))

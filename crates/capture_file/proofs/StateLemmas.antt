@@ -1,9 +1,9 @@
 -- What follows of a capture from the octets that it has taken.
-use Rattle.std.proofs.Common.{◌≡◌, ℕ, ◌<◌, List, [], length, Option, Some, None, refl, sym, ◌∙◌, arith}
+use Rattle.std.proofs.Common.{◌≡◌, ℕ, [], length, None, arith}
 use Rattle.capture_file.specs.declared.capture.Capture.{Capture}
 use Rattle.capture_file.specs.declared.part.Part.TheVariants as parts
-use Rattle.capture_file.specs.Reading.{reading_from, reading, start}
-use Rattle.capture_file.specs.CaptureState.{Reads, HoldsPart}
+use Rattle.capture_file.specs.Reading.{reading_from, reading}
+use Rattle.capture_file.specs.CaptureState.{Reads}
 
 -- a capture that has taken nothing
 pub reads_none : (c : Capture) → c.octets ≡ 0 → c.packets ≡ 0 → c.part ≡ parts.Beginning → c.taken ≡ 0 → c.fault ≡ None →

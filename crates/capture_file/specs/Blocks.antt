@@ -1,15 +1,15 @@
 -- What comes behind each part of a pcapng file (the PCAP Next Generation capture file format; meaning).
-use Rattle.std.specs.Prelude.{ℕ, ◌+◌, ◌-◌, ◌*◌, ◌/◌, ◌%◌, ◌^◌, min, not, nat_lt, nat_le, ◌==◌, ◌&&◌, ◌||◌, List, length, slice_get, slice_index, Option, Some, None, if◌then◌else◌}
+use Rattle.std.specs.Prelude.{ℕ, ◌+◌, ◌-◌, ◌*◌, ◌/◌, ◌%◌, ◌^◌, min, nat_lt, nat_le, ◌==◌, ◌&&◌, ◌||◌, List, length, slice_get, slice_index, Option, Some, None, if◌then◌else◌}
 use Rattle.capture_file.specs.declared.fault.FaultKind.TheVariants as faults
 use Rattle.capture_file.specs.declared.part.ByteOrder.{ByteOrder}
 use Rattle.capture_file.specs.declared.part.ByteOrder.TheVariants.{Big, Little}
-use Rattle.capture_file.specs.declared.part.EitherLength.{EitherLength}
+use Rattle.capture_file.specs.declared.part.LengthByOrder.{LengthByOrder}
 use Rattle.capture_file.specs.declared.part.Block.{Block}
 use Rattle.capture_file.specs.declared.part.Interface.{Interface}
 use Rattle.capture_file.specs.declared.part.Body.{Body}
 use Rattle.capture_file.specs.declared.part.Part.TheVariants as parts
 use Rattle.capture_file.specs.declared.part.Outcome.{Outcome}
-use Rattle.capture_file.specs.declared.part.Outcome.TheVariants.{Goes, Gives, Fails}
+use Rattle.capture_file.specs.declared.part.Outcome.TheVariants.{Continues, Fails}
 use Rattle.capture_file.specs.Numbers.{two_at, four_at}
 use Rattle.capture_file.specs.Records.{most_captured}
 
@@ -36,21 +36,21 @@ least_length kind =
     if kind == interface_type then 20 else (if kind == enhanced_type then 32 else (if kind == simple_type then 16 else 12))
 
 -- the length of a section header block, whose order is that of the byte-order magic behind it
-abbrev pub either_length : ℕ → List ℕ → Outcome
-either_length at octets =
-    Goes (parts.ByteOrderMagic (record { big = four_at Big at octets; little = four_at Little at octets }))
+abbrev pub length_by_order : ℕ → List ℕ → Outcome
+length_by_order at octets =
+    Continues (parts.ByteOrderMagic (record { big = four_at Big at octets; little = four_at Little at octets }))
 
 unfoldable pub section_length : List ℕ → Outcome
-section_length octets = either_length 0 octets
+section_length octets = length_by_order 0 octets
 
 unfoldable pub section : ByteOrder → ℕ → Outcome
 section order length =
     if (length % 4 == 0) && nat_le 28 length
-    then Goes (parts.SectionVersion (record { order = order; length = length; left = length - 20 }))
+    then Continues (parts.SectionVersion (record { order = order; length = length; left = length - 20 }))
     else Fails faults.Length
 
 -- the byte-order magic gives the order of the section, its own length too
-unfoldable pub byte_order_magic : EitherLength → List ℕ → Outcome
+unfoldable pub byte_order_magic : LengthByOrder → List ℕ → Outcome
 byte_order_magic length octets =
     if four_at Big 0 octets == 0x1a2b3c4d then section Big length.big else
     (if four_at Little 0 octets == 0x1a2b3c4d then section Little length.little else Fails faults.Format)
@@ -58,27 +58,27 @@ byte_order_magic length octets =
 -- the major version, and the minor, which may be any
 unfoldable pub section_version : Block → List ℕ → Outcome
 section_version block octets =
-    if two_at block.order 0 octets == 1 then Goes (parts.BlockEnd block) else Fails faults.Version
+    if two_at block.order 0 octets == 1 then Continues (parts.BlockEnd block) else Fails faults.Version
 
 -- what comes of a block behind its length, in a section that has so many interfaces
 unfoldable pub block_of : ByteOrder → ℕ → ℕ → ℕ → Outcome
 block_of order kind length interfaces =
     if kind == interface_type then
     (if nat_lt interfaces most_interfaces
-    then Goes (parts.InterfaceHeader (record { order = order; length = length; left = length - 20 }))
+    then Continues (parts.InterfaceHeader (record { order = order; length = length; left = length - 20 }))
     else Fails faults.Interface) else
     (if kind == enhanced_type
-    then Goes (parts.EnhancedInterface (record { order = order; length = length; left = length - 32 })) else
+    then Continues (parts.EnhancedInterface (record { order = order; length = length; left = length - 32 })) else
     (if kind == simple_type
-    then Goes (parts.SimpleHeader (record { order = order; length = length; left = length - 16 })) else
-    Goes (parts.BlockEnd (record { order = order; length = length; left = length - 12 }))))
+    then Continues (parts.SimpleHeader (record { order = order; length = length; left = length - 16 })) else
+    Continues (parts.BlockEnd (record { order = order; length = length; left = length - 12 }))))
 
 -- the type and the length of a block
 unfoldable pub block_header : ByteOrder → ℕ → List ℕ → Outcome
 block_header order interfaces octets =
     let kind = four_at order 0 octets in
     let length = four_at order 4 octets in
-    if kind == section_type then either_length 4 octets else
+    if kind == section_type then length_by_order 4 octets else
     (if (length % 4 == 0) && nat_le (least_length kind) length
     then block_of order kind length interfaces else Fails faults.Length)
 
@@ -86,8 +86,8 @@ block_header order interfaces octets =
 unfoldable pub options : Block → Interface → ℕ → Outcome
 options block interface skip =
     if nat_le (skip + 4) block.left
-    then Goes (parts.OptionHeader (record block { left = block.left - (skip + 4) }) interface skip)
-    else Goes (parts.InterfaceEnd block interface)
+    then Continues (parts.OptionHeader (record block { left = block.left - (skip + 4) }) interface skip)
+    else Continues (parts.InterfaceEnd block interface)
 
 -- the link type, two octets without a use, the snapshot length; a unit is a microsecond unless an option says another
 unfoldable pub interface_header : Block → List ℕ → Outcome
@@ -108,8 +108,8 @@ unfoldable pub option_header : Block → Interface → List ℕ → Outcome
 option_header block interface octets =
     let code = two_at block.order 0 octets in
     let count = two_at block.order 2 octets in
-    if (code == 0) || nat_lt block.left (padded count) then Goes (parts.InterfaceEnd block interface) else
-    (if (code == 9) && (count == 1) then Goes (parts.TimeUnit (record block { left = block.left - 1 }) interface) else
+    if (code == 0) || nat_lt block.left (padded count) then Continues (parts.InterfaceEnd block interface) else
+    (if (code == 9) && (count == 1) then Continues (parts.TimeUnit (record block { left = block.left - 1 }) interface) else
     options block interface (padded count))
 
 -- how many units make a second: 10 to the number, or 2 to the number without its upper bit where that is set
@@ -127,7 +127,7 @@ time_unit block interface octets =
 -- an enhanced packet's interface
 abbrev pub of_interface : Block → Option Interface → Outcome
 of_interface block None = Fails faults.Interface
-of_interface block (Some interface) = Goes (parts.EnhancedHeader block interface)
+of_interface block (Some interface) = Continues (parts.EnhancedHeader block interface)
 
 unfoldable pub enhanced_interface : Block → List Interface → List ℕ → Outcome
 enhanced_interface block interfaces octets = of_interface block (slice_get interfaces (four_at block.order 0 octets))
@@ -136,7 +136,7 @@ enhanced_interface block interfaces octets = of_interface block (slice_get inter
 unfoldable pub packet_of : Block → Body → Outcome
 packet_of block body =
     if nat_lt most_captured body.captured || nat_lt block.left body.captured then Fails faults.Length else
-    Goes (parts.Packet (record block { left = block.left - body.captured }) body)
+    Continues (parts.Packet (record block { left = block.left - body.captured }) body)
 
 -- nanoseconds since 1970, rounded down, of so many units; none from the year 10000 on (nor by a unit that no second has, which
 -- no interface can say)
@@ -153,7 +153,7 @@ enhanced_header block interface octets =
         link = interface.link;
         time = time_of (four_at block.order 0 octets * 2 ^ 32 + four_at block.order 4 octets) interface.ticks;
       };
-      lead = 4;
+      packet_offset = 4;
       captured = four_at block.order 8 octets;
     })
 
@@ -167,7 +167,7 @@ of_first_interface block original None = Fails faults.Interface
 of_first_interface block original (Some interface) =
     packet_of block (record {
       head = record { link = interface.link; time = None };
-      lead = 0;
+      packet_offset = 0;
       captured = cut original interface.snapshot;
     })
 

@@ -1,25 +1,24 @@
 -- What a capture holds of the octets that were taken: each of its fields is determined by all of them (state).
-use Rattle.std.specs.Prelude.{◌≡◌, ℕ, ◌+◌, ◌-◌, ◌≤◌, Bool, true, false, List, [], ◌∷◌, ◌++◌, length, slice_range, Option, Some, None, if◌then◌else◌}
+use Rattle.std.specs.Prelude.{◌≡◌, ℕ, ◌+◌, ◌≤◌, Bool, true, false, List, [], ◌∷◌, ◌++◌, length, slice_range, Some, None, if◌then◌else◌}
 use Rattle.capture_file.specs.declared.capture.Capture.{Capture}
-use Rattle.capture_file.specs.declared.fault.CaptureFault.{CaptureFault}
 use Rattle.capture_file.specs.declared.part.Head.{Head}
 use Rattle.capture_file.specs.declared.progress.Progress.{Progress}
 use Rattle.capture_file.specs.declared.progress.Progress.TheVariants as progress
 use Rattle.capture_file.specs.Parts.{front, passed, back}
 use Rattle.capture_file.specs.Window.{IsHeld}
-use Rattle.capture_file.specs.Reading.{Given, Due, Ending, Within, Faulted, reading, packets, fault}
+use Rattle.capture_file.specs.Reading.{ParserState, Ending, Within, Faulted, reading, packets, fault}
 
 -- a part has begun, and these octets of it have come: of those at its front and at its end the capture holds what has come
-pub record HoldsPart (c : Capture) (due : Due) (had : List ℕ) : Type 0 where
+pub record HoldsPart (c : Capture) (state : ParserState) (had : List ℕ) : Type 0 where
   pub running : c.fault ≡ None
-  pub part : c.part ≡ due.part
-  pub interfaces : c.interfaces.items ≡ due.interfaces
+  pub part : c.part ≡ state.part
+  pub interfaces : c.interfaces.items ≡ state.interfaces
   pub taken : c.taken ≡ length had
-  pub packet_octets : IsHeld 0 (front due.part) had c.packet_octets.items
-  pub end_octets : IsHeld (front due.part + passed due.part) (back due.part) had c.end_octets
+  pub packet_octets : IsHeld 0 (front state.part) had c.packet_octets.items
+  pub end_octets : IsHeld (front state.part + passed state.part) (back state.part) had c.end_octets
 
 abbrev pub Stands : Capture → Ending → Type 0
-Stands c (Within due at had) = HoldsPart c due had
+Stands c (Within state at had) = HoldsPart c state had
 Stands c (Faulted fault) = c.fault ≡ Some fault
 
 -- The capture has taken the octets p.
@@ -38,14 +37,14 @@ InRange true end octets = Unit {0}
 InRange false end octets = end ≤ length octets
 
 abbrev pub IsIn : Capture → List ℕ → Type 0
-IsIn c octets = InRange c.found.held c.found.end octets
+IsIn c octets = InRange c.packet_range.held c.packet_range.end octets
 
 -- what is known of it, and its octets
 abbrev pub head_in : Capture → Head
-head_in c = c.found.head
+head_in c = c.packet_range.head
 
 abbrev pub octets_in : Capture → List ℕ → List ℕ
-octets_in c octets = slice_range (if c.found.held then c.packet_octets.items else octets) c.found.start c.found.end
+octets_in c octets = slice_range (if c.packet_range.held then c.packet_octets.items else octets) c.packet_range.start c.packet_range.end
 
 -- The answer to octets that were taken behind p, the first of those given: with the last of them comes what the reading has
 -- there, and with none before it. More octets were taken, a packet is complete, or a fault shows.

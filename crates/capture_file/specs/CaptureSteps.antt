@@ -1,17 +1,39 @@
 -- What the end of a part does to a capture's fields (steps). Only private clauses cite these.
-use Rattle.std.specs.Prelude.{◌≡◌, ℕ, suc, ◌+◌, Bool, List, Option, Some, None}
+use Rattle.std.specs.Prelude.{◌≡◌, ℕ, suc, ◌+◌, Bool, List, ◌++◌, length, Some}
 use Rattle.capture_file.specs.declared.capture.Capture.{Capture}
 use Rattle.capture_file.specs.declared.part.Part.{Part}
 use Rattle.capture_file.specs.declared.part.Outcome.{Outcome}
-use Rattle.capture_file.specs.declared.part.Outcome.TheVariants.{Goes, Gives, Fails}
+use Rattle.capture_file.specs.declared.part.Outcome.TheVariants.{Continues, EndsPacket, Fails}
 use Rattle.capture_file.specs.declared.progress.Progress.{Progress}
 use Rattle.capture_file.specs.declared.progress.Progress.TheVariants as progress
-use Rattle.capture_file.specs.Parts.{front, lead}
+use Rattle.capture_file.specs.Parts.{front, passed, back, packet_offset}
+use Rattle.capture_file.specs.Window.{IsHeld}
 use Rattle.capture_file.specs.Format.{interfaces_behind}
 
+-- of a piece of the part that has begun what is looked at or given when it is complete is held behind what was
+pub record HoldsPiece (old new : Capture) (piece : List ℕ) : Type 0 where
+  pub part : new.part ≡ old.part
+  pub interfaces : new.interfaces.items ≡ old.interfaces.items
+  pub fault : new.fault ≡ old.fault
+  pub packets : new.packets ≡ old.packets
+  pub packet_octets : (had : List ℕ) → length had ≡ old.taken →
+      IsHeld 0 (front old.part) had old.packet_octets.items →
+      IsHeld 0 (front old.part) (had ++ piece) new.packet_octets.items
+  pub end_octets : (had : List ℕ) → length had ≡ old.taken →
+      IsHeld (front old.part + passed old.part) (back old.part) had old.end_octets →
+      IsHeld (front old.part + passed old.part) (back old.part) (had ++ piece) new.end_octets
+
+-- octets were taken
+pub record Advances (old new : Capture) (count : ℕ) : Type 0 where
+  pub part : new.part ≡ old.part
+  pub interfaces : new.interfaces.items ≡ old.interfaces.items
+  pub fault : new.fault ≡ old.fault
+  pub packets : new.packets ≡ old.packets
+  pub octets : new.octets ≡ old.octets + count
+
 -- a part begins behind another
-pub record PartBegins (old new : Capture) (due : Part) : Type 0 where
-  pub part : new.part ≡ due
+pub record PartBegins (old new : Capture) (state : Part) : Type 0 where
+  pub part : new.part ≡ state
   pub interfaces : new.interfaces.items ≡ interfaces_behind old.part old.interfaces.items
   pub taken : new.taken ≡ 0
   pub fault : new.fault ≡ old.fault
@@ -20,11 +42,11 @@ pub record PartBegins (old new : Capture) (due : Part) : Type 0 where
 
 -- a part is complete: it began at this offset of the octets that are given, or is held
 abbrev pub Completes : Outcome → Capture → Capture → Progress → ℕ → Bool → Type 0
-Completes (Goes part) old new answer start held =
+Completes (Continues part) old new answer start held =
     (answer ≡ progress.More) × PartBegins old new part × (new.packets ≡ old.packets)
-Completes (Gives head part) old new answer start held =
+Completes (EndsPacket head part) old new answer start held =
     (answer ≡ progress.Packet) × PartBegins old new part × (new.packets ≡ suc old.packets)
-    × (new.found ≡ record { head = head; start = start + lead old.part; end = start + front old.part; held = held })
+    × (new.packet_range ≡ record { head = head; start = start + packet_offset old.part; end = start + front old.part; held = held })
 Completes (Fails kind) old new answer start held =
     (answer ≡ progress.Fault (record { kind = kind; place = old.octets }))
     × (new.fault ≡ Some (record { kind = kind; place = old.octets }))

@@ -3,7 +3,7 @@ use Rattle.std.specs.Prelude.{ℕ, ◌≤◌}
 use Rattle.capture_file.specs.declared.part.Part.{Part}
 use Rattle.capture_file.specs.declared.part.Part.TheVariants as parts
 use Rattle.capture_file.specs.declared.part.Outcome.{Outcome}
-use Rattle.capture_file.specs.declared.part.Outcome.TheVariants.{Goes, Gives, Fails}
+use Rattle.capture_file.specs.declared.part.Outcome.TheVariants.{Continues, EndsPacket, Fails}
 use Rattle.capture_file.specs.Parts.{front}
 
 -- the octets of a packet that are held at most: 262,144, and the original length
@@ -23,6 +23,6 @@ abbrev pub HasRoom : ℕ → Part → Type 0
 HasRoom more part = (front part ≤ room) × (adds part ≤ more)
 
 abbrev pub Fits : ℕ → Outcome → Type 0
-Fits more (Goes part) = HasRoom more part
-Fits more (Gives head part) = HasRoom more part
+Fits more (Continues part) = HasRoom more part
+Fits more (EndsPacket head part) = HasRoom more part
 Fits more (Fails kind) = Unit {0}

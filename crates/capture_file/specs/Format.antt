@@ -5,7 +5,7 @@ use Rattle.capture_file.specs.declared.part.Interface.{Interface}
 use Rattle.capture_file.specs.declared.part.Part.{Part}
 use Rattle.capture_file.specs.declared.part.Part.TheVariants as parts
 use Rattle.capture_file.specs.declared.part.Outcome.{Outcome}
-use Rattle.capture_file.specs.declared.part.Outcome.TheVariants.{Goes, Gives, Fails}
+use Rattle.capture_file.specs.declared.part.Outcome.TheVariants.{Continues, EndsPacket}
 use Rattle.capture_file.specs.Records.{beginning, file_version, file_rest, record_header, record_end}
 use Rattle.capture_file.specs.Blocks.{section_length, byte_order_magic, section_version, block_header, interface_header, option_header, time_unit, enhanced_interface, enhanced_header, simple_header, block_end}
 
@@ -23,13 +23,13 @@ next (parts.InterfaceHeader block) interfaces octets = interface_header block oc
 next (parts.OptionHeader block interface skip) interfaces octets = option_header block interface octets
 next (parts.TimeUnit block interface) interfaces octets = time_unit block interface octets
 next (parts.InterfaceEnd block interface) interfaces octets =
-    block_end block octets (Goes (parts.BlockHeader block.order))
+    block_end block octets (Continues (parts.BlockHeader block.order))
 next (parts.EnhancedInterface block) interfaces octets = enhanced_interface block interfaces octets
 next (parts.EnhancedHeader block interface) interfaces octets = enhanced_header block interface octets
 next (parts.SimpleHeader block) interfaces octets = simple_header block interfaces octets
 next (parts.Packet block body) interfaces octets =
-    block_end block octets (Gives body.head (parts.BlockHeader block.order))
-next (parts.BlockEnd block) interfaces octets = block_end block octets (Goes (parts.BlockHeader block.order))
+    block_end block octets (EndsPacket body.head (parts.BlockHeader block.order))
+next (parts.BlockEnd block) interfaces octets = block_end block octets (Continues (parts.BlockHeader block.order))
 
 -- the interfaces of the section behind a part: a section begins with none, and each description adds one
 abbrev pub interfaces_behind : Part → List Interface → List Interface

@@ -1,11 +1,11 @@
 -- What is so of every capture (meaning).
 use Rattle.std.specs.Prelude.{◌≡◌, ℕ, List, ◌++◌, Some}
 use Rattle.capture_file.specs.declared.fault.CaptureFault.{CaptureFault}
-use Rattle.capture_file.specs.Reading.{Given, packets, fault, reading}
+use Rattle.capture_file.specs.Reading.{PacketRecord, packets, fault, reading}
 
 -- the packets of a longer list begin with those of the shorter one
 abbrev pub PacketsBegin : Type 0
-PacketsBegin = (p q : List ℕ) → (more : List Given) × (packets (p ++ q) ≡ packets p ++ more)
+PacketsBegin = (p q : List ℕ) → (more : List PacketRecord) × (packets (p ++ q) ≡ packets p ++ more)
 
 -- behind a fault nothing is read
 abbrev pub FaultStays : Type 0

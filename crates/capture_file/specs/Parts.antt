@@ -7,7 +7,7 @@ use Rattle.capture_file.specs.declared.part.Part.TheVariants as parts
 -- how many octets of a part are a packet's, with the original length where that is in front of them
 abbrev pub front : Part → ℕ
 front (parts.Record file head captured) = 4 + captured
-front (parts.Packet block body) = body.lead + body.captured
+front (parts.Packet block body) = body.packet_offset + body.captured
 front _ = 0
 
 -- how many octets behind those are passed over
@@ -30,10 +30,10 @@ back (parts.FileRest magic) = 16
 back _ = 4
 
 -- how many octets are in front of a packet's own
-abbrev pub lead : Part → ℕ
-lead (parts.Record file head captured) = 4
-lead (parts.Packet block body) = body.lead
-lead _ = 0
+abbrev pub packet_offset : Part → ℕ
+packet_offset (parts.Record file head captured) = 4
+packet_offset (parts.Packet block body) = body.packet_offset
+packet_offset _ = 0
 
 -- how many octets a part has
 abbrev pub size : Part → ℕ

@@ -1,7 +1,6 @@
 -- What a capture has: its packets, and the fault that ends its reading (meaning). A capture is parts, one behind another; each
 -- says by its octets what comes next.
-use Rattle.std.specs.Prelude.{ℕ, zero, suc, ◌+◌, nat_lt, Bool, true, false, List, [], ◌∷◌, ◌++◌, length, take, drop, Option, Some, None, if◌then◌else◌}
-use Rattle.capture_file.specs.declared.fault.FaultKind.{FaultKind}
+use Rattle.std.specs.Prelude.{ℕ, zero, suc, ◌+◌, nat_lt, List, [], ◌∷◌, length, take, drop, Option, Some, None, if◌then◌else◌}
 use Rattle.capture_file.specs.declared.fault.FaultKind.TheVariants.{Truncated}
 use Rattle.capture_file.specs.declared.fault.CaptureFault.{CaptureFault}
 use Rattle.capture_file.specs.declared.part.Interface.{Interface}
@@ -9,30 +8,30 @@ use Rattle.capture_file.specs.declared.part.Head.{Head}
 use Rattle.capture_file.specs.declared.part.Part.{Part}
 use Rattle.capture_file.specs.declared.part.Part.TheVariants as parts
 use Rattle.capture_file.specs.declared.part.Outcome.{Outcome}
-use Rattle.capture_file.specs.declared.part.Outcome.TheVariants.{Goes, Gives, Fails}
-use Rattle.capture_file.specs.Parts.{front, passed, back, lead, size, may_end_before}
+use Rattle.capture_file.specs.declared.part.Outcome.TheVariants.{Continues, EndsPacket, Fails}
+use Rattle.capture_file.specs.Parts.{front, passed, back, packet_offset, size, may_end_before}
 use Rattle.capture_file.specs.Format.{next, interfaces_behind}
 
 -- a packet: its link type, its time, its octets, and how many octets the capture has up to and with the last one of the
 -- packet's record or block
-pub record Given : Type 0 where
+pub record PacketRecord : Type 0 where
   pub place : ℕ
   pub head : Head
   pub octets : List ℕ
 
 -- what comes: a part, in a section that has these interfaces
-pub record Due : Type 0 where
+pub record ParserState : Type 0 where
   pub part : Part
   pub interfaces : List Interface
 
 -- how a reading ends: within a part, behind so many octets of the capture, of which these have come; or with a fault
 pub data Ending : Type 0 where
-  Within : Due → ℕ → List ℕ → Ending
+  Within : ParserState → ℕ → List ℕ → Ending
   Faulted : CaptureFault → Ending
 
 -- the packets, and the end
 pub record Reading : Type 0 where
-  pub packets : List Given
+  pub packets : List PacketRecord
   pub ending : Ending
 
 -- the octets at a part's end
@@ -41,42 +40,42 @@ end_of part octets = take (back part) (drop (front part + passed part) octets)
 
 -- the octets of the packet at a part's front
 abbrev pub packet_in : Part → List ℕ → List ℕ
-packet_in part octets = drop (lead part) (take (front part) octets)
+packet_in part octets = drop (packet_offset part) (take (front part) octets)
 
 -- a reading that goes on behind a part, at this place; these octets are the packet's, if the part ends one
-abbrev pub behind : Due → List ℕ → ℕ → Outcome → (Due → Reading) → Reading
-behind due packet place (Goes part) rest =
-    rest (record { part = part; interfaces = interfaces_behind due.part due.interfaces })
-behind due packet place (Gives head part) rest =
-    let r = rest (record { part = part; interfaces = interfaces_behind due.part due.interfaces }) in
+abbrev pub behind : ParserState → List ℕ → ℕ → Outcome → (ParserState → Reading) → Reading
+behind state packet place (Continues part) rest =
+    rest (record { part = part; interfaces = interfaces_behind state.part state.interfaces })
+behind state packet place (EndsPacket head part) rest =
+    let r = rest (record { part = part; interfaces = interfaces_behind state.part state.interfaces }) in
     record r { packets = record { place = place; head = head; octets = packet } ∷ r.packets }
-behind due packet place (Fails kind) rest =
+behind state packet place (Fails kind) rest =
     record { packets = []; ending = Faulted (record { kind = kind; place = place }) }
 
 -- The reading of octets, where this is due behind so many others. The first number bounds how many parts are read; each has
 -- an octet, so there are no more parts than octets.
-unfoldable pub reading_from : ℕ → Due → ℕ → List ℕ → Reading
-reading_from zero due at octets = record { packets = []; ending = Within due at octets }
-reading_from (suc most) due at octets =
-    if nat_lt (length octets) (size due.part)
-    then record { packets = []; ending = Within due at octets }
-    else behind due (packet_in due.part octets) (at + size due.part)
-    (next due.part due.interfaces (end_of due.part octets))
-    (λ rest. reading_from most rest (at + size due.part) (drop (size due.part) octets))
+unfoldable pub reading_from : ℕ → ParserState → ℕ → List ℕ → Reading
+reading_from zero state at octets = record { packets = []; ending = Within state at octets }
+reading_from (suc most) state at octets =
+    if nat_lt (length octets) (size state.part)
+    then record { packets = []; ending = Within state at octets }
+    else behind state (packet_in state.part octets) (at + size state.part)
+    (next state.part state.interfaces (end_of state.part octets))
+    (λ rest. reading_from most rest (at + size state.part) (drop (size state.part) octets))
 
 -- the beginning of a capture
-abbrev pub start : Due
+abbrev pub start : ParserState
 start = record { part = parts.Beginning; interfaces = [] }
 
 unfoldable pub reading : List ℕ → Reading
 reading p = reading_from (length p) start 0 p
 
 -- the packets of a capture, or of as much of it as there is
-abbrev pub packets : List ℕ → List Given
+abbrev pub packets : List ℕ → List PacketRecord
 packets p = (reading p).packets
 
 abbrev pub fault_of : Ending → Option CaptureFault
-fault_of (Within due at octets) = None
+fault_of (Within state at octets) = None
 fault_of (Faulted fault) = Some fault
 
 -- the fault that the octets of a capture show
@@ -89,7 +88,7 @@ truncated_at place part [] = if may_end_before part then None else Some (record 
 
 -- the fault that the end of a capture shows, behind this many octets
 abbrev pub fault_at_end : ℕ → Ending → Option CaptureFault
-fault_at_end place (Within due at octets) = truncated_at place due.part octets
+fault_at_end place (Within state at octets) = truncated_at place state.part octets
 fault_at_end place (Faulted fault) = Some fault
 
 -- the fault of a capture that ends here

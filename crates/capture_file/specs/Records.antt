@@ -7,7 +7,7 @@ use Rattle.capture_file.specs.declared.part.FileHeader.{FileHeader}
 use Rattle.capture_file.specs.declared.part.Head.{Head}
 use Rattle.capture_file.specs.declared.part.Part.TheVariants as parts
 use Rattle.capture_file.specs.declared.part.Outcome.{Outcome}
-use Rattle.capture_file.specs.declared.part.Outcome.TheVariants.{Goes, Gives, Fails}
+use Rattle.capture_file.specs.declared.part.Outcome.TheVariants.{Continues, EndsPacket, Fails}
 use Rattle.capture_file.specs.Numbers.{two_at, four_at}
 
 -- a packet has at most so many octets
@@ -18,21 +18,21 @@ most_captured = 262144
 -- begins with the type of a section header block, which is the same in either order
 unfoldable pub beginning : List ℕ → Outcome
 beginning octets =
-    if four_at Big 0 octets == 0xa1b2c3d4 then Goes (parts.FileVersion (record { order = Big; unit = 1000 })) else
-    (if four_at Big 0 octets == 0xa1b23c4d then Goes (parts.FileVersion (record { order = Big; unit = 1 })) else
-    (if four_at Little 0 octets == 0xa1b2c3d4 then Goes (parts.FileVersion (record { order = Little; unit = 1000 })) else
-    (if four_at Little 0 octets == 0xa1b23c4d then Goes (parts.FileVersion (record { order = Little; unit = 1 })) else
-    (if four_at Big 0 octets == 0x0a0d0d0a then Goes parts.SectionLength else Fails faults.Magic))))
+    if four_at Big 0 octets == 0xa1b2c3d4 then Continues (parts.FileVersion (record { order = Big; unit = 1000 })) else
+    (if four_at Big 0 octets == 0xa1b23c4d then Continues (parts.FileVersion (record { order = Big; unit = 1 })) else
+    (if four_at Little 0 octets == 0xa1b2c3d4 then Continues (parts.FileVersion (record { order = Little; unit = 1000 })) else
+    (if four_at Little 0 octets == 0xa1b23c4d then Continues (parts.FileVersion (record { order = Little; unit = 1 })) else
+    (if four_at Big 0 octets == 0x0a0d0d0a then Continues parts.SectionLength else Fails faults.Magic))))
 
 -- the major version, and the minor, which may be any
 unfoldable pub file_version : Magic → List ℕ → Outcome
 file_version magic octets =
-    if two_at magic.order 0 octets == 2 then Goes (parts.FileRest magic) else Fails faults.Version
+    if two_at magic.order 0 octets == 2 then Continues (parts.FileRest magic) else Fails faults.Version
 
 -- eight octets without a use, the snapshot length, and the link type, whose upper bits say something else
 unfoldable pub file_rest : Magic → List ℕ → Outcome
 file_rest magic octets =
-    Goes (parts.RecordHeader (record { magic = magic; link = four_at magic.order 12 octets % 2 ^ 16 }))
+    Continues (parts.RecordHeader (record { magic = magic; link = four_at magic.order 12 octets % 2 ^ 16 }))
 
 -- seconds and their fraction, which may be a second or more, as nanoseconds
 unfoldable pub record_time : Magic → List ℕ → ℕ
@@ -43,8 +43,8 @@ unfoldable pub record_header : FileHeader → List ℕ → Outcome
 record_header file octets =
     let captured = four_at file.magic.order 8 octets in
     if nat_lt most_captured captured then Fails faults.Length else
-    Goes (parts.Record file (record { link = file.link; time = Some (record_time file.magic octets) }) captured)
+    Continues (parts.Record file (record { link = file.link; time = Some (record_time file.magic octets) }) captured)
 
 -- the packet, and then the next record
 abbrev pub record_end : FileHeader → Head → Outcome
-record_end file head = Gives head (parts.RecordHeader file)
+record_end file head = EndsPacket head (parts.RecordHeader file)

@@ -1,11 +1,11 @@
 //! What comes behind each part of a pcapng file.
 
 ghost use Rattle.std.specs.Prelude.{◌≡◌, ◌+◌, ◌≤◌, ◌<◌, ◌⊎◌, ◌-◌, length, slice_get, slice_index, Option};
-ghost use Rattle.capture_file.specs.Blocks.{section_length, section, byte_order_magic, section_version, block_of, block_header, interface_header, options, option_header, ticks_of, time_unit, enhanced_interface, packet_of, time_of, enhanced_header, cut, simple_header, block_end, least_length, padded, either_length};
+ghost use Rattle.capture_file.specs.Blocks.{section_length, section, byte_order_magic, section_version, block_of, block_header, interface_header, options, option_header, ticks_of, time_unit, enhanced_interface, packet_of, time_of, enhanced_header, cut, simple_header, block_end, least_length, padded, length_by_order};
 ghost use Rattle.capture_file.specs.Fits.{Fits};
 
 use crate::fault::FaultKind;
-use crate::part::{Block, Body, ByteOrder, EitherLength, Head, Interface, Outcome, Part};
+use crate::part::{Block, Body, ByteOrder, Head, Interface, LengthByOrder, Outcome, Part};
 use crate::records::{MOST_CAPTURED, SECTION};
 
 /// A section has at most so many interfaces.
@@ -23,14 +23,14 @@ const ENHANCED: u32 = 6;
 const YEAR_10000: u128 = 253_402_300_800_000_000_000;
 
 /// The length of a section header block in either order.
-fn either_length(octets: &[u8], at: usize) -> Outcome
+fn length_by_order(octets: &[u8], at: usize) -> Outcome
     requires { at + 4 ≤ length octets.now }
-    ensures value { result ≡ either_length at octets.now }
+    ensures value { result ≡ length_by_order at octets.now }
     ensures fits { Fits 0 result }
 {
     let big = ByteOrder::Big.four_at(octets, at);
     let little = ByteOrder::Little.four_at(octets, at);
-    Outcome::Goes(Part::ByteOrderMagic(EitherLength { big, little }))
+    Outcome::Continues(Part::ByteOrderMagic(LengthByOrder { big, little }))
 }
 
 /// Behind the length of the first block.
@@ -40,7 +40,7 @@ pub fn section_length(octets: &[u8]) -> Outcome
     ensures value { result ≡ section_length octets.now }
     ensures fits { Fits 0 result }
 {
-    either_length(octets, 0)
+    length_by_order(octets, 0)
 }
 
 /// What comes of a section header block of this length.
@@ -51,7 +51,7 @@ fn section(order: ByteOrder, length: u32) -> Outcome
 {
     if length % 4 == 0 && length >= 28 {
         let left = length - 20;
-        Outcome::Goes(Part::SectionVersion(Block {
+        Outcome::Continues(Part::SectionVersion(Block {
             order,
             length,
             left,
@@ -63,7 +63,7 @@ fn section(order: ByteOrder, length: u32) -> Outcome
 
 /// Behind the byte-order magic of a section.
 #[tactic(auto, unfolding(crate::specs::Blocks::byte_order_magic))]
-pub fn byte_order_magic(either: EitherLength, octets: &[u8]) -> Outcome
+pub fn byte_order_magic(either: LengthByOrder, octets: &[u8]) -> Outcome
     requires { 4 ≤ length octets.now }
     ensures value { result ≡ byte_order_magic either octets.now }
     ensures fits { Fits 0 result }
@@ -85,7 +85,7 @@ pub fn section_version(block: Block, octets: &[u8]) -> Outcome
     ensures fits { Fits 0 result }
 {
     if block.order.two_at(octets, 0) == 1 {
-        Outcome::Goes(Part::BlockEnd(block))
+        Outcome::Continues(Part::BlockEnd(block))
     } else {
         Outcome::Fails(FaultKind::Version)
     }
@@ -117,12 +117,12 @@ fn block_of(order: ByteOrder, kind: u32, length: u32, interfaces: usize) -> Outc
     };
     match kind {
         INTERFACE if interfaces < MOST_INTERFACES => {
-            Outcome::Goes(Part::InterfaceHeader(block(length - 20)))
+            Outcome::Continues(Part::InterfaceHeader(block(length - 20)))
         }
         INTERFACE => Outcome::Fails(FaultKind::Interface),
-        ENHANCED => Outcome::Goes(Part::EnhancedInterface(block(length - 32))),
-        SIMPLE => Outcome::Goes(Part::SimpleHeader(block(length - 16))),
-        _ => Outcome::Goes(Part::BlockEnd(block(length - 12))),
+        ENHANCED => Outcome::Continues(Part::EnhancedInterface(block(length - 32))),
+        SIMPLE => Outcome::Continues(Part::SimpleHeader(block(length - 16))),
+        _ => Outcome::Continues(Part::BlockEnd(block(length - 12))),
     }
 }
 
@@ -135,7 +135,7 @@ pub fn block_header(order: ByteOrder, interfaces: usize, octets: &[u8]) -> Outco
 {
     let kind = order.four_at(octets, 0);
     if kind == SECTION {
-        return either_length(octets, 4);
+        return length_by_order(octets, 4);
     }
     let length = order.four_at(octets, 4);
     if length % 4 == 0 && length >= least_length(kind) {
@@ -154,9 +154,9 @@ fn options(block: Block, interface: Interface, skip: u32) -> Outcome
 {
     if skip + 4 <= block.left {
         let left = block.left - (skip + 4);
-        Outcome::Goes(Part::OptionHeader(Block { left, ..block }, interface, skip))
+        Outcome::Continues(Part::OptionHeader(Block { left, ..block }, interface, skip))
     } else {
-        Outcome::Goes(Part::InterfaceEnd(block, interface))
+        Outcome::Continues(Part::InterfaceEnd(block, interface))
     }
 }
 
@@ -196,11 +196,11 @@ pub fn option_header(block: Block, interface: Interface, octets: &[u8]) -> Outco
     let count = block.order.two_at(octets, 2);
     let skip = padded(count);
     if code == 0 || skip > block.left {
-        return Outcome::Goes(Part::InterfaceEnd(block, interface));
+        return Outcome::Continues(Part::InterfaceEnd(block, interface));
     }
     if code == 9 && count == 1 {
         let left = block.left - 1;
-        return Outcome::Goes(Part::TimeUnit(Block { left, ..block }, interface));
+        return Outcome::Continues(Part::TimeUnit(Block { left, ..block }, interface));
     }
     options(block, interface, skip)
 }
@@ -242,7 +242,7 @@ pub fn enhanced_interface(block: Block, interfaces: &[Interface], octets: &[u8])
 {
     let number = block.order.four_at(octets, 0);
     match interfaces.get(number as usize) {
-        Some(interface) => Outcome::Goes(Part::EnhancedHeader(block, *interface)),
+        Some(interface) => Outcome::Continues(Part::EnhancedHeader(block, *interface)),
         None => Outcome::Fails(FaultKind::Interface),
     }
 }
@@ -250,7 +250,7 @@ pub fn enhanced_interface(block: Block, interfaces: &[Interface], octets: &[u8])
 /// A packet, if it isn't too long and its block has room for it.
 #[tactic(auto, unfolding(crate::specs::Blocks::packet_of))]
 fn packet_of(block: Block, body: Body) -> Outcome
-    requires { body.lead ≤ 4 }
+    requires { body.packet_offset ≤ 4 }
     ensures value { result ≡ packet_of block body }
     ensures fits { Fits 0 result }
 {
@@ -258,7 +258,7 @@ fn packet_of(block: Block, body: Body) -> Outcome
         return Outcome::Fails(FaultKind::Length);
     }
     let left = block.left - body.captured;
-    Outcome::Goes(Part::Packet(Block { left, ..block }, body))
+    Outcome::Continues(Part::Packet(Block { left, ..block }, body))
 }
 
 /// Nanoseconds since 1970, rounded down, of so many units; none from the year 10000 on.
@@ -289,7 +289,7 @@ pub fn enhanced_header(block: Block, interface: Interface, octets: &[u8]) -> Out
         block,
         Body {
             head: Head { link, time },
-            lead: 4,
+            packet_offset: 4,
             captured,
         },
     )
@@ -322,7 +322,7 @@ pub fn simple_header(block: Block, interfaces: &[Interface], octets: &[u8]) -> O
         block,
         Body {
             head: Head { link, time: None },
-            lead: 0,
+            packet_offset: 0,
             captured: cut(original, interface.snapshot),
         },
     )

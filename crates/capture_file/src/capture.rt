@@ -1,16 +1,17 @@
 //! A capture that is read in pieces of any size, in memory that is taken once.
 
-ghost use Rattle.std.specs.Prelude.{◌≡◌, ℕ, true, ◌+◌, ◌-◌, ◌^◌, ◌<◌, ◌≤◌, List, [], ◌++◌, length, take, drop, Option, None, IfOk, vec_len, vec_capacity};
-ghost use Rattle.capture_file.specs.Parts.{front, back, size};
+ghost use Rattle.std.specs.Prelude.{◌≡◌, ℕ, true, ◌+◌, ◌-◌, ◌^◌, ◌<◌, ◌≤◌, Bool, List, [], ◌++◌, length, take, drop, Option, None, IfOk, vec_len, vec_capacity};
+ghost use Rattle.std.specs.Option.{ForSome};
+ghost use Rattle.capture_file.specs.Parts.{front, passed, back, size};
 ghost use Rattle.capture_file.specs.Fits.{adds, HasRoom};
 ghost use Rattle.capture_file.specs.Format.{next, interfaces_behind};
 
 use crate::blocks::MOST_INTERFACES;
 use crate::fault::{CaptureFault, FaultKind};
 use crate::format::next;
-use crate::keeping::keep;
 use crate::part::{Head, Interface, Outcome, Part};
 use crate::progress::{Packet, Progress};
+use crate::window::copy_to_window;
 use std::alloc::{AllocError, Global};
 
 /// A packet of the greatest length and an original length in front of it.
@@ -18,7 +19,7 @@ const ROOM: usize = 262_148;
 
 /// Where the last packet stands: in the octets that were taken last, or in those that are held.
 #[derive(Clone, Copy)]
-struct Found {
+struct PacketRange {
     head: Head,
     start: usize,
     end: usize,
@@ -40,28 +41,30 @@ pub struct Capture {
     packet_octets: Vec<u8>,
     /// What has come of those at its end.
     end_octets: [u8; 16],
-    found: Found,
+    packet_range: PacketRange,
     fault: Option<CaptureFault>,
-    ghost packet_room: { vec_len packet_octets ≡ 262148 },
-    ghost interface_room: { vec_capacity interfaces ≡ 256 },
+    ghost packet_room: { length packet_octets.items ≡ 262148 },
+    ghost interface_room: { 256 ≤ vec_capacity interfaces },
+    ghost end_room: { length end_octets ≡ 16 },
     ghost fits: { front part ≤ 262148 },
     ghost few_interfaces: { length interfaces.items + adds part ≤ 256 },
     ghost within: { taken < size part },
     ghost few_packets: { packets ≤ octets },
-    ghost found_range: { found.start ≤ found.end },
-    ghost found_held: { found.held ≡ true → found.end ≤ 262148 },
+    ghost range_ordered: { packet_range.start ≤ packet_range.end },
+    ghost range_held: { packet_range.held ≡ true → packet_range.end ≤ 262148 },
+    ghost fault_place: { ForSome fault (λ f. f.place ≡ octets) },
 }
 
 impl Capture {
     ghost use Rattle.capture_file.specs.CaptureState.{Reads, octets_of, Answers, IsRunning, IsIn, head_in, octets_in};
     ghost use Rattle.capture_file.specs.Reading.{packets, final_fault};
-    ghost use Rattle.capture_file.specs.CaptureSteps.{Completes, PartBegins};
+    ghost use Rattle.capture_file.specs.CaptureSteps.{Completes, PartBegins, HoldsPiece, Advances};
 
     /// A capture of which nothing was taken, with memory for one packet.
     pub fn new(alloc: Global) -> Result<Capture, AllocError>
         ensures { IfOk result (λ c. Reads c []) }
     {
-        let found = Found {
+        let packet_range = PacketRange {
             head: Head {
                 link: 0,
                 time: None,
@@ -78,7 +81,7 @@ impl Capture {
             interfaces: Vec::with_capacity(alloc, MOST_INTERFACES)?,
             packet_octets: vec![in alloc; 0; ROOM]?,
             end_octets: [0; 16],
-            found,
+            packet_range,
             fault: None,
         })
     }
@@ -98,6 +101,186 @@ impl Capture {
         self.packets
     }
 
+    /// Takes octets: all of them, or as many as there are up to one that completes a packet or shows a fault. Answers how
+    /// many it took, and what came of them. A capture that has shown a fault takes no more, and answers the fault again. All
+    /// that it takes are fewer than 2^64 octets.
+    pub fn take(&mut self, octets: &[u8]) -> (usize, Progress)
+        requires { octets_of self.old + length octets.now < 2 ^ 64 }
+        ensures reads { (p : List ℕ) → Reads self.old p →
+            Reads self.new (p ++ take result.0 octets.now) }
+        ensures answers { (p : List ℕ) → Reads self.old p →
+            Answers result.1 p (take result.0 octets.now) self.new octets.now }
+        ensures packet { result.1 ≡ Progress.Packet → IsIn self.new octets.now }
+        ensures octets { octets_of self.new ≡ octets_of self.old + result.0 }
+        ensures some { result.1 ≡ Progress.Packet → 0 < result.0 }
+        ensures within { result.0 ≤ length octets.now }
+        ensures all { result.1 ≡ Progress.More → result.0 ≡ length octets.now }
+    {
+        if let Some(fault) = self.fault {
+            return (0, Progress::Fault(fault));
+        }
+        let mut start = 0;
+        while start < octets.len() {
+            let (count, progress) = self.take_part(octets, start);
+            start += count;
+            match progress {
+                Progress::More => {}
+                _ => return (start, progress),
+            }
+        }
+        (start, Progress::More)
+    }
+
+    /// Takes the octets from this place on: as many as the part that has begun lacks, or all.
+    fn take_part(&mut self, octets: &[u8], start: usize) -> (usize, Progress)
+        requires running { self.old.fault ≡ None }
+        requires some { start < length octets.now }
+        requires room { self.old.octets + (length octets.now - start) < 2 ^ 64 }
+        ensures reads { (p : List ℕ) → Reads self.old p →
+            Reads self.new (p ++ take result.0 (drop start octets.now)) }
+        ensures answers { (p : List ℕ) → Reads self.old p →
+            Answers result.1 p (take result.0 (drop start octets.now)) self.new octets.now }
+        ensures packet { result.1 ≡ Progress.Packet → IsIn self.new octets.now }
+        ensures running { IsRunning result.1 self.new }
+        ensures octets { self.new.octets ≡ self.old.octets + result.0 }
+        ensures some { 0 < result.0 }
+        ensures within { start + result.0 ≤ length octets.now }
+    {
+        let missing = self.part.size() - self.taken;
+        let rest = &octets[start..];
+        if missing > rest.len() as u64 {
+            self.hold(rest);
+            return (rest.len(), Progress::More);
+        }
+        let count = missing as usize;
+        let piece = &rest[..count];
+        if self.taken > 0 {
+            return (count, self.complete_held(piece));
+        }
+        let back = self.part.back() as usize;
+        let end = &piece[count - back..];
+        self.advance(count);
+        (count, self.complete(end, start, false))
+    }
+
+    /// Holds a piece of the part that has begun, which doesn't complete it.
+    fn hold(&mut self, piece: &[u8])
+        requires running { self.old.fault ≡ None }
+        requires less { self.old.taken + length piece.now < size self.old.part }
+        requires few { size self.old.part < 2 ^ 64 }
+        requires room { self.old.octets + length piece.now < 2 ^ 64 }
+        ensures kept { HoldsPiece self.old self.new piece.now }
+        ensures taken { self.new.taken ≡ self.old.taken + length piece.now }
+        ensures octets { self.new.octets ≡ self.old.octets + length piece.now }
+    {
+        self.hold_piece(piece);
+        self.taken += piece.len() as u64;
+    }
+
+    /// Completes a part of which a front is held, with the octets that it lacks.
+    #[tactic(auto, using(crate::proofs::Sizes::back_few))]
+    fn complete_held(&mut self, piece: &[u8]) -> Progress
+        requires running { self.old.fault ≡ None }
+        requires some { 0 < length piece.now }
+        requires whole { self.old.taken + length piece.now ≡ size self.old.part }
+        requires few { size self.old.part < 2 ^ 64 }
+        requires room { self.old.octets + length piece.now < 2 ^ 64 }
+        ensures reads { (p : List ℕ) → Reads self.old p → Reads self.new (p ++ piece.now) }
+        ensures answers { (p octets : List ℕ) → Reads self.old p →
+            Answers result p piece.now self.new octets }
+        ensures packet { (octets : List ℕ) → result ≡ Progress.Packet → IsIn self.new octets }
+        ensures running { IsRunning result self.new }
+        ensures octets { self.new.octets ≡ self.old.octets + length piece.now }
+    {
+        let back = self.part.back() as usize;
+        self.hold_piece(piece);
+        let end = self.end_octets;
+        self.complete(&end[..back], 0, true)
+    }
+
+    /// Counts octets that are taken.
+    fn advance(&mut self, count: usize)
+        requires running { self.old.fault ≡ None }
+        requires room { self.old.octets + count < 2 ^ 64 }
+        ensures { Advances self.old self.new count }
+    {
+        self.octets += count as u64;
+    }
+
+    /// Keeps of a piece of the part that has begun what is looked at or given when it is complete.
+    fn hold_piece(&mut self, piece: &[u8])
+        requires running { self.old.fault ≡ None }
+        requires taken { self.old.taken + length piece.now < 2 ^ 64 }
+        requires octets { self.old.octets + length piece.now < 2 ^ 64 }
+        ensures kept { HoldsPiece self.old self.new piece.now }
+        ensures taken { self.new.taken ≡ self.old.taken }
+        ensures octets { self.new.octets ≡ self.old.octets + length piece.now }
+    {
+        let front = self.part.front();
+        copy_to_window(&mut self.packet_octets, 0, front, self.taken, piece);
+        let begin = front + self.part.passed();
+        let back = self.part.back();
+        copy_to_window(&mut self.end_octets, begin, back, self.taken, piece);
+        self.octets += piece.len() as u64;
+    }
+
+    /// The part is complete, by the octets at its end. It began at this offset of the octets that are given, or is held.
+    fn complete(&mut self, end: &[u8], start: usize, held: bool) -> Progress
+        requires running { self.old.fault ≡ None }
+        requires end { length end.now ≡ back self.old.part }
+        requires some { self.old.packets < self.old.octets }
+        requires room { start + front self.old.part < 2 ^ 64 }
+        requires held { held ≡ true → start ≡ 0 }
+        ensures { Completes (next self.old.part self.old.interfaces.items end.now)
+            self.old self.new result start held }
+    {
+        match next(&self.part, &self.interfaces, end) {
+            Outcome::Continues(part) => {
+                self.begin(part);
+                Progress::More
+            }
+            Outcome::EndsPacket(head, part) => {
+                self.packet_range = PacketRange {
+                    head,
+                    start: start + self.part.packet_offset() as usize,
+                    end: start + self.part.front() as usize,
+                    held,
+                };
+                self.packets += 1;
+                self.begin(part);
+                Progress::Packet
+            }
+            Outcome::Fails(kind) => {
+                let place = self.octets;
+                let fault = CaptureFault { kind, place };
+                self.fault = Some(fault);
+                Progress::Fault(fault)
+            }
+        }
+    }
+
+    /// Another part begins.
+    #[tactic(auto, using(crate::proofs::ReadingSteps::size_some))]
+    fn begin(&mut self, part: Part)
+        requires room { HasRoom
+            (256 - length (interfaces_behind self.old.part self.old.interfaces.items)) part }
+        ensures begins { PartBegins self.old self.new part }
+        ensures packets { self.new.packets ≡ self.old.packets }
+        ensures packet_range { self.new.packet_range ≡ self.old.packet_range }
+    {
+        match self.part {
+            Part::ByteOrderMagic(_) => self.interfaces.clear(),
+            Part::InterfaceEnd(_, interface) => {
+                if self.interfaces.push(interface).is_err() {
+                    unreachable!();
+                }
+            }
+            _ => {}
+        }
+        self.part = part;
+        self.taken = 0;
+    }
+
     /// The packet that the last call of `take` completed, where these are the octets that it was given.
     pub fn packet<'a>(&'a self, octets: &'a [u8]) -> Packet<'a>
         requires { IsIn self.now octets.now }
@@ -105,12 +288,12 @@ impl Capture {
         ensures time { result.time ≡ (head_in self.now).time }
         ensures octets { result.octets.now ≡ octets_in self.now octets.now }
     {
-        let Found {
+        let PacketRange {
             head,
             start,
             end,
             held,
-        } = self.found;
+        } = self.packet_range;
         let octets = if held {
             &self.packet_octets[start..end]
         } else {

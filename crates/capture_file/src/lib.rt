@@ -5,12 +5,12 @@ mod blocks;
 mod capture;
 mod fault;
 mod format;
-mod keeping;
 mod laws;
 mod numbers;
 mod part;
 mod progress;
 mod records;
+mod window;
 
 pub use capture::Capture;
 pub use fault::{CaptureFault, FaultKind};

@@ -1,6 +1,6 @@
 //! The parts of a capture: which one comes, how long it is, and what of it is looked at.
 
-ghost use Rattle.std.specs.Prelude.{◌≡◌};
+ghost use Rattle.std.specs.Prelude.{◌≡◌, ◌<◌, ◌≤◌, ◌^◌};
 
 use crate::fault::FaultKind;
 
@@ -30,7 +30,7 @@ pub struct FileHeader {
 
 /// The length of a section header block in either order, as the section's isn't known yet.
 #[derive(Clone, Copy)]
-pub struct EitherLength {
+pub struct LengthByOrder {
     pub big: u32,
     pub little: u32,
 }
@@ -69,7 +69,7 @@ pub struct Head {
 pub struct Body {
     pub head: Head,
     /// How many octets the original length takes in front of the packet's: 4, or 0.
-    pub lead: u32,
+    pub packet_offset: u32,
     /// How many octets the packet has.
     pub captured: u32,
 }
@@ -90,7 +90,7 @@ pub enum Part {
     /// The length of the first block of a pcapng file.
     SectionLength,
     /// The byte-order magic of a section header block.
-    ByteOrderMagic(EitherLength),
+    ByteOrderMagic(LengthByOrder),
     /// The version of a section.
     SectionVersion(Block),
     /// The type and the length of a block.
@@ -119,30 +119,32 @@ pub enum Part {
 #[derive(Clone, Copy)]
 pub enum Outcome {
     /// This part.
-    Goes(Part),
+    Continues(Part),
     /// A packet is complete, and then comes this part.
-    Gives(Head, Part),
+    EndsPacket(Head, Part),
     /// The reading ends.
     Fails(FaultKind),
 }
 
 impl Part {
-    ghost use Rattle.capture_file.specs.Parts.{front, passed, back, lead, may_end_before};
+    ghost use Rattle.capture_file.specs.Parts.{front, passed, back, packet_offset, size, may_end_before};
 
-    /// How many octets at its front are those of a packet, with its lead.
+    /// How many octets at its front are those of a packet, with what is in front of them.
     pub fn front(&self) -> u64
-        ensures { result ≡ front self.now }
+        ensures value { result ≡ front self.now }
+        ensures few { result < 2 ^ 34 }
     {
         match self {
             Part::Record(_, _, captured) => 4 + u64::from(*captured),
-            Part::Packet(_, body) => u64::from(body.lead) + u64::from(body.captured),
+            Part::Packet(_, body) => u64::from(body.packet_offset) + u64::from(body.captured),
             _ => 0,
         }
     }
 
     /// How many octets behind those are passed over.
     pub fn passed(&self) -> u64
-        ensures { result ≡ passed self.now }
+        ensures value { result ≡ passed self.now }
+        ensures few { result < 2 ^ 32 }
     {
         match self {
             Part::OptionHeader(_, _, skip) => u64::from(*skip),
@@ -155,7 +157,8 @@ impl Part {
 
     /// How many octets at its end are looked at.
     pub fn back(&self) -> u64
-        ensures { result ≡ back self.now }
+        ensures value { result ≡ back self.now }
+        ensures few { result ≤ 16 }
     {
         match self {
             Part::Record(_, _, _) => 0,
@@ -167,6 +170,13 @@ impl Part {
         }
     }
 
+    /// How many octets it has.
+    pub fn size(&self) -> u64
+        ensures { result ≡ size self.now }
+    {
+        self.front() + self.passed() + self.back()
+    }
+
     /// Whether a capture may end in front of it.
     pub fn may_come_last(&self) -> bool
         ensures { result ≡ may_end_before self.now }
@@ -175,12 +185,13 @@ impl Part {
     }
 
     /// How many octets of its front are in front of a packet.
-    pub fn lead(&self) -> u32
-        ensures { result ≡ lead self.now }
+    pub fn packet_offset(&self) -> u32
+        ensures value { result ≡ packet_offset self.now }
+        ensures few { result ≤ front self.now }
     {
         match self {
             Part::Record(_, _, _) => 4,
-            Part::Packet(_, body) => body.lead,
+            Part::Packet(_, body) => body.packet_offset,
             _ => 0,
         }
     }

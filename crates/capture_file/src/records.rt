@@ -26,7 +26,7 @@ pub fn beginning(octets: &[u8]) -> Outcome
 {
     let big = ByteOrder::Big.four_at(octets, 0);
     let little = ByteOrder::Little.four_at(octets, 0);
-    let magic = |order: ByteOrder, unit: u32| Outcome::Goes(Part::FileVersion(Magic {
+    let magic = |order: ByteOrder, unit: u32| Outcome::Continues(Part::FileVersion(Magic {
         order,
         unit,
     }));
@@ -39,7 +39,7 @@ pub fn beginning(octets: &[u8]) -> Outcome
     } else if little == NANOSECONDS {
         magic(ByteOrder::Little, 1)
     } else if big == SECTION {
-        Outcome::Goes(Part::SectionLength)
+        Outcome::Continues(Part::SectionLength)
     } else {
         Outcome::Fails(FaultKind::Magic)
     }
@@ -53,7 +53,7 @@ pub fn file_version(magic: Magic, octets: &[u8]) -> Outcome
     ensures fits { Fits 0 result }
 {
     if magic.order.two_at(octets, 0) == 2 {
-        Outcome::Goes(Part::FileRest(magic))
+        Outcome::Continues(Part::FileRest(magic))
     } else {
         Outcome::Fails(FaultKind::Version)
     }
@@ -67,7 +67,7 @@ pub fn file_rest(magic: Magic, octets: &[u8]) -> Outcome
     ensures fits { Fits 0 result }
 {
     let link = (magic.order.four_at(octets, 12) % 0x1_0000) as u16;
-    Outcome::Goes(Part::RecordHeader(FileHeader { magic, link }))
+    Outcome::Continues(Part::RecordHeader(FileHeader { magic, link }))
 }
 
 /// The time of a record, in nanoseconds since 1970.
@@ -94,5 +94,5 @@ pub fn record_header(file: FileHeader, octets: &[u8]) -> Outcome
     }
     let time = Some(record_time(file.magic, octets));
     let link = file.link;
-    Outcome::Goes(Part::Record(file, Head { link, time }, captured))
+    Outcome::Continues(Part::Record(file, Head { link, time }, captured))
 }

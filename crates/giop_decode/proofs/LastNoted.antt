@@ -1,12 +1,12 @@
 -- What is noted of a reading, line by line, is what all of its lines give at once: the first request id, and the last
 -- of enums and strings.
 use Rattle.std.proofs.Common.{◌≡◌, ℕ, zero, suc, ◌+◌, ◌&&◌, Bool, true, false, List, [], ◌∷◌, ◌++◌, length, take, drop, Option, Some, None, refl, sym, ◌∙◌, ap, append_assoc, append-nil}
-use Rattle.std.specs.Prelude.{cond, flat_map, codes}
+use Rattle.std.specs.Prelude.{cond, flat_map, codes, ◌%◌, ◌==◌}
 use Rattle.std.specs.List.{cons_option, last_or}
 use Rattle.std.proofs.lemmas.List.{take-append-drop}
 use Rattle.giop_cdr.specs.declared.prim.Primitive.TheVariants as prims
-use Rattle.giop_decode.specs.Noted.{Noted, first_of, note, note_value, noted, noted_of, without_name_if, ends_in_string, is_member, name_if, nothing_noted}
-use Rattle.giop_decode.specs.NotedFromLines.{TextPiece, first_in, enum_of, enums, ulong_of, id_of, request_ids, text_of, text_pieces, cut_from, pieces_of, Strings, name_of, IsLeft}
+use Rattle.giop_decode.specs.Noted.{Noted, expects_after, first_of, note, note_value, noted, noted_of, without_name_if, ends_in_string, is_member, name_if, nothing_noted}
+use Rattle.giop_decode.specs.NotedFromLines.{TextPiece, first_in, enum_of, enums, ulong_of, id_of, request_ids, expected_by, expectations, text_of, text_pieces, cut_from, pieces_of, Strings, name_of, IsLeft}
 use Rattle.giop_decode.specs.Pieces.{full_pieces}
 use Rattle.giop_decode.specs.Reading.{read}
 use Rattle.giop_decode.specs.ReadResult.{Coding, PathSegment, Value, Number, Piece, Line, Read, lines_of}
@@ -40,6 +40,35 @@ left_status is_header h (l ∷ ls) =
     left_status is_header (note is_header h l) ls
     ∙ (ap (λ o. last_or o (enums ls)) (value_status (is_header && is_member (codes "request_id") l.path) h l.value)
     ∙ sym (last_cons h.status (enum_of l.value) (enums ls)))
+
+-- ---- whether a reply is expected
+
+-- by one value, from what was said before
+expects_one : (is_header : Bool) (path : List PathSegment) (value : Value) (before : Option Bool) →
+    expects_after is_header path value before ≡ last_or before (cons_option (expects_after is_header path value None) [])
+expects_one is_header path (Number (Plain prims.Boolean) n) before = go (is_header && is_member (codes "response_expected") path)
+  where
+    go : (b : Bool) → cond b (Some (n % 2 == 1)) before ≡ last_or before (cons_option (cond b (Some (n % 2 == 1)) None) [])
+    go true = refl
+    go false = refl
+expects_one is_header path (Number (Plain prims.Octet) n) before = go (is_header && is_member (codes "response_flags") path)
+  where
+    go : (b : Bool) → cond b (Some (n % 2 == 1)) before ≡ last_or before (cons_option (cond b (Some (n % 2 == 1)) None) [])
+    go true = refl
+    go false = refl
+expects_one is_header path value before = refl
+
+last_expected : (o x : Option Bool) (xs : List Bool) → last_or o (cons_option x xs) ≡ last_or (last_or o (cons_option x [])) xs
+last_expected o None xs = refl
+last_expected o (Some n) xs = refl
+
+left_expects : (is_header : Bool) (h : Noted) (lines : List Line) →
+    (noted is_header h lines).expects_reply ≡ last_or h.expects_reply (expectations is_header lines)
+left_expects is_header h [] = refl
+left_expects is_header h (l ∷ ls) =
+    left_expects is_header (note is_header h l) ls
+    ∙ (ap (λ o. last_or o (expectations is_header ls)) (expects_one is_header l.path l.value h.expects_reply)
+    ∙ sym (last_expected h.expects_reply (expected_by is_header l) (expectations is_header ls)))
 
 -- ---- the request id
 
@@ -126,10 +155,15 @@ without_name_status : (inside : Bool) (h : Noted) → (without_name_if inside h)
 without_name_status true h = refl
 without_name_status false h = refl
 
+without_name_expects : (inside : Bool) (h : Noted) → (without_name_if inside h).expects_reply ≡ h.expects_reply
+without_name_expects true h = refl
+without_name_expects false h = refl
+
 is_left : (is_header : Bool) (r : Read) → Strings r → IsLeft is_header r (noted_of is_header r)
 is_left is_header r strings = record {
   request_id = without_name_id (ends_in_string r) (noted is_header nothing_noted (lines_of r)) ∙ left_id is_header nothing_noted (lines_of r);
   status = without_name_status (ends_in_string r) (noted is_header nothing_noted (lines_of r)) ∙ left_status is_header nothing_noted (lines_of r);
+  expects_reply = without_name_expects (ends_in_string r) (noted is_header nothing_noted (lines_of r)) ∙ left_expects is_header nothing_noted (lines_of r);
   strings = strings;
   name = name (ends_in_string r) refl;
 }

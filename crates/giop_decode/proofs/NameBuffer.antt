@@ -146,21 +146,15 @@ pub name_kept : (header : Bool) (root : Root) (T : Ty) (was next : Option ℕ) (
     FitsName root next new.buffer new.name.items
 name_kept header root T was next transition output path at piece lines old new going moves leads says fits notes =
     let s = stands root was old.buffer old.name.items fits in
-    let h : Noted = record { request_id = old.request_id; status = old.status; name = s.name; so_far = s.so_far } in
+    let h : Noted = record { request_id = old.request_id; status = old.status; expects_reply = old.expects_reply; name = s.name; so_far = s.so_far } in
     let k = without_name_if (clears_name output) (noted header h lines) in
-    let held = notes h (record { request_id = refl; status = refl; name = s.held }) in
+    let held = notes h (record { request_id = refl; status = refl; expects_reply = refl; name = s.held }) in
     rw leads (fits_name root (transition_offset T transition) new.buffer new.name.items k.so_far k.name held.name
     (output_noted header root T was (transition_offset T transition) output path at piece lines h (moves_on T was transition output (length piece) going moves) says s.noted))
 
 -- before the first octet
 pub nothing_fits : (root : Root) (m : Notes) → HoldsNoted m nothing_noted → FitsName root None m.buffer m.name.items
 nothing_fits root m held = fits_name root None m.buffer m.name.items [] None held.name refl
-
--- ---- where a part is in no string
-
-pub no_offset : (T : Ty) (leaf : Innermost) → leaf_in_string T leaf ≡ false → string_offset T leaf ≡ None
-no_offset T (innermost.Content of total offset) h = rw h refl
-no_offset T _ h = refl
 
 pub none_either : (b : Bool) (o : Option ℕ) → cond b None (cond b o None) ≡ None
 none_either true o = refl

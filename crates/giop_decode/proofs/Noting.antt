@@ -1,16 +1,20 @@
 -- What is noted of an octet's line, and which part is a member of the root.
-use Rattle.std.specs.Prelude.{slice_index_or, codes}
+use Rattle.std.specs.Prelude.{slice_index_or, codes, ◌%◌, ◌==◌}
 use Rattle.std.specs.Str.{bytes_eq}
-use Rattle.std.proofs.Common.{◌≡◌, ◌≢◌, ℕ, ◌&&◌, Bool, true, false, List, [], ◌∷◌, ◌++◌, length, append_assoc, refl, ◌∙◌, arith, Option, Some, None, sym}
+use Rattle.std.proofs.Common.{◌≡◌, ◌≢◌, ℕ, zero, suc, ap, subst, ◌&&◌, Bool, true, false, List, [], ◌∷◌, ◌++◌, length, append_assoc, refl, ◌∙◌, arith, Option, Some, None, sym}
 use Rattle.giop_cdr.specs.declared.order.Order.{Order}
+use Rattle.giop_cdr.specs.declared.prim.Primitive.TheVariants as prims
+use Rattle.giop_cdr.specs.declared.number.Number.{Number as Taken}
+use Rattle.giop_cdr.specs.declared.number.Number.TheVariants as numbers
+use Rattle.giop_cdr.specs.Numbers.{interpreted_as}
 use Rattle.giop_decode.specs.declared.leaf.Leaf.{Leaf as Innermost}
 use Rattle.giop_decode.specs.declared.leaf.Leaf.TheVariants as innermost
 use Rattle.giop_decode.specs.declared.leaf.Transition.{Transition}
 use Rattle.giop_decode.specs.declared.leaf.Output.{Output}
 use Rattle.giop_decode.specs.declared.leaf.Output.TheVariants as outputs
-use Rattle.giop_decode.specs.Noted.{Noted, note_value, ended, with_piece, noted_piece, is_member, noted, noted_of, without_name_if, in_content, ends_in_string, is_text, nothing_noted}
-use Rattle.giop_decode.specs.NotingSteps.{OutputFitsString, clears_name, leaf_in_string, transition_in_string}
-use Rattle.giop_decode.specs.ReadResult.{Leaf, Held, PathSegment, Name, Index, Switch, Line, line, Value, Piece, OpenPart, Content, Read, Done, lines_of, with_front}
+use Rattle.giop_decode.specs.Noted.{Noted, note_value, expects_after, note, ended, with_piece, noted_piece, is_member, noted, noted_of, without_name_if, with_expects, in_content, ends_in_string, is_text, nothing_noted}
+use Rattle.giop_decode.specs.NotingSteps.{is_set, OutputFitsString, clears_name, leaf_in_string, transition_in_string}
+use Rattle.giop_decode.specs.ReadResult.{Number, Leaf, Held, PathSegment, Name, Index, Switch, Line, line, Value, Piece, OpenPart, Content, Read, Done, lines_of, with_front}
 use Rattle.giop_decode.specs.declared.frame.Frame.{Frame}
 use Rattle.giop_decode.specs.ReadingSteps.{path_in, segment_in}
 use Rattle.giop_decode.specs.Transitions.{has_ended, leaf_of, leaf_type, open_part, part_in, open_parts, IsOutput}
@@ -22,7 +26,7 @@ use Rattle.giop_decode.specs.Reading.{cut_off}
 use Rattle.giop_decode.proofs.Surrounding.{unless_ended}
 use Rattle.giop_sig.specs.Table.{Table}
 use Rattle.giop_sig.specs.Trees.{tree}
-use Rattle.giop_sig.specs.Types.{Cases, Ty, Single, Text, Octets, Struct, Union, Sequence, Array, Plain, Enum, HasMember, name_in, shape_in, Encapsulation, Tag}
+use Rattle.giop_sig.specs.Types.{Scalar, interpreted_by, Cases, Ty, Single, Text, Octets, Struct, Union, Sequence, Array, Plain, Enum, HasMember, name_in, shape_in, Encapsulation, Tag}
 
 content_in : (T : Ty) (total offset : ℕ) (piece : List ℕ) → in_content (Content T total offset piece) ≡ is_text T
 content_in (Text bound) total offset piece = refl
@@ -175,6 +179,28 @@ switch_member name (Index i ∷ y ∷ path) tag = refl
 switch_member name (Switch other ∷ y ∷ path) tag = refl
 switch_member name (Held ∷ y ∷ path) tag = refl
 
-pub switch_noted : (header : Bool) (path : List PathSegment) (tag : Option (List ℕ)) (h : Noted) (value : Value) → note_value false h value ≡ note_value (header && is_member (codes "request_id") (path ++ Switch tag ∷ [])) h value
-switch_noted true path tag h value = rw (switch_member (codes "request_id") path tag) refl
-switch_noted false path tag h value = refl
+-- and a number that is no member says nothing of a reply
+switch_expects : (header : Bool) (path : List PathSegment) (tag : Option (List ℕ)) (scalar : Scalar) (n : ℕ) (before : Option Bool) →
+    expects_after header (path ++ Switch tag ∷ []) (Number scalar n) before ≡ before
+switch_expects true path tag (Plain prims.Boolean) n before = rw (switch_member (codes "response_expected") path tag) refl
+switch_expects true path tag (Plain prims.Octet) n before = rw (switch_member (codes "response_flags") path tag) refl
+switch_expects false path tag (Plain prims.Boolean) n before = refl
+switch_expects false path tag (Plain prims.Octet) n before = refl
+switch_expects header path tag scalar n before = refl
+
+-- nor does a number change it otherwise
+pub value_expects : (is_id : Bool) (h : Noted) (scalar : Scalar) (n : ℕ) → (note_value is_id h (Number scalar n)).expects_reply ≡ h.expects_reply
+value_expects is_id h (Plain prims.ULong) n = refl
+value_expects is_id h scalar n = refl
+
+same_id : (header : Bool) (path : List PathSegment) (tag : Option (List ℕ)) (h : Noted) (value : Value) →
+    note_value false h value ≡ note_value (header && is_member (codes "request_id") (path ++ Switch tag ∷ [])) h value
+same_id true path tag h value = rw (switch_member (codes "request_id") path tag) refl
+same_id false path tag h value = refl
+
+pub switch_noted : (header : Bool) (path : List PathSegment) (tag : Option (List ℕ)) (h : Noted) (scalar : Scalar) (n at : ℕ) →
+    note_value false h (Number scalar n) ≡ note header h (line at (path ++ Switch tag ∷ []) (Number scalar n))
+switch_noted header path tag h scalar n at =
+    same_id header path tag h (Number scalar n)
+    ∙ ap (with_expects (note_value (header && is_member (codes "request_id") (path ++ Switch tag ∷ [])) h (Number scalar n)))
+    (value_expects (header && is_member (codes "request_id") (path ++ Switch tag ∷ [])) h scalar n ∙ sym (switch_expects header path tag scalar n h.expects_reply))

@@ -58,6 +58,7 @@ recalls_again : (m n : Notes) (h : Noted) → IsKept m n → HoldsNoted m h → 
 recalls_again m n h kept recalls = record {
   request_id = kept.request_id ∙ recalls.request_id;
   status = kept.status ∙ recalls.status;
+  expects_reply = kept.expects_reply ∙ recalls.expects_reply;
   name = rw (kept.buffer, kept.name) (kept_held m.buffer m.name.items h.so_far h.name recalls.name);
 }
 
@@ -96,7 +97,7 @@ fixed_again : (d e : Decoder) (leaf : Innermost) → IsRestored d e →
     fixed_octets e leaf ≡ fixed_octets d leaf
 unfolding fixed_octets
 fixed_again d e leaf r =
-    rw (r.order, r.root, r.message, r.at, r.carry, r.piece, r.notes.request_id, r.notes.status)
+    rw (r.order, r.root, r.message, r.at, r.carry, r.piece, r.notes.request_id, r.notes.status, r.notes.expects_reply)
     (rw (r.notes.buffer, r.notes.name, kept_again d.notes.buffer d.notes.name.items) refl)
 
 -- both are stored in the same octets

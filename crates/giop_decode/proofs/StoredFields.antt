@@ -7,7 +7,7 @@ use Rattle.giop_decode.specs.declared.leaf.Leaf.TheVariants as innermost
 use Rattle.giop_decode.specs.declared.notes.Notes.{Notes}
 use Rattle.giop_decode.specs.declared.notes.Buffer.{Buffer}
 use Rattle.giop_decode.specs.declared.notes.Buffer.TheVariants as buffers
-use Rattle.giop_decode.specs.Stored.{order_octet, root_octet, leaf_octets, buffer_octet, kept_name, name_octets, notes_octets, fixed_octets, frame_size, frame_octets, HasRange}
+use Rattle.giop_decode.specs.Stored.{order_octet, root_octet, leaf_octets, buffer_octet, expects_octet, kept_name, name_octets, notes_octets, fixed_octets, frame_size, frame_octets, HasRange}
 use Rattle.giop_octets.specs.Fields.{four, eight, optional, held}
 use Rattle.giop_octets.proofs.FieldLaws.{eight_long, optional_long, held_long, behind}
 
@@ -33,6 +33,7 @@ pub record MemoryStands (m : Notes) (at : ℕ) (octets : List ℕ) : Type 0 wher
   pub status : Stands (at + 5) octets (optional m.status)
   pub buffer : Stands (at + 10) octets (buffer_octet m.buffer ∷ [])
   pub name : Stands (at + 11) octets (name_octets m)
+  pub expects_reply : Stands (at + 140) octets (expects_octet m.expects_reply ∷ [])
 
 -- the same offset, counted from an earlier one
 pub further : (at a b c : ℕ) (octets xs : List ℕ) → a + b ≡ c → drop (at + a + b) octets ≡ xs →
@@ -42,18 +43,30 @@ further at a b c octets xs e is = let same : at + a + b ≡ at + c = omega arith
 pub three : (a b c d : List ℕ) → (a ++ b ++ c) ++ d ≡ a ++ (b ++ (c ++ d))
 three a b c d = simp append_assoc
 
-pub memory_stands : (m : Notes) (at : ℕ) (octets rest : List ℕ) →
+four_behind : (a b c d e : List ℕ) → (a ++ b ++ c ++ d) ++ e ≡ a ++ (b ++ (c ++ (d ++ e)))
+four_behind a b c d e = simp append_assoc
+
+pub memory_stands : (m : Notes) (at : ℕ) (octets rest : List ℕ) → length m.name.items ≤ 128 →
     drop at octets ≡ notes_octets m ++ rest → MemoryStands m at octets
-memory_stands m at octets rest is =
-    let id : drop at octets ≡ optional m.request_id ++ (optional m.status ++ ((buffer_octet m.buffer ∷ name_octets m) ++ rest)) = is
-    ∙ three (optional m.request_id) (optional m.status) (buffer_octet m.buffer ∷ name_octets m) rest in
-    let status : drop (at + 5) octets ≡ optional m.status ++ ((buffer_octet m.buffer ∷ name_octets m) ++ rest) =
+memory_stands m at octets rest short is =
+    let behind_name : List ℕ = expects_octet m.expects_reply ∷ rest in
+    let id : drop at octets ≡ optional m.request_id ++ (optional m.status ++ ((buffer_octet m.buffer ∷ name_octets m) ++ behind_name)) = is
+    ∙ four_behind (optional m.request_id) (optional m.status) (buffer_octet m.buffer ∷ name_octets m) (expects_octet m.expects_reply ∷ []) rest in
+    let status : drop (at + 5) octets ≡ optional m.status ++ ((buffer_octet m.buffer ∷ name_octets m) ++ behind_name) =
     behind at 5 octets _ _ id (optional_long m.request_id) in
-    let buffer : drop (at + 10) octets ≡ (buffer_octet m.buffer ∷ []) ++ (name_octets m ++ rest) =
+    let buffer : drop (at + 10) octets ≡ (buffer_octet m.buffer ∷ []) ++ (name_octets m ++ behind_name) =
     further at 5 5 10 octets _ refl (behind (at + 5) 5 octets _ _ status (optional_long m.status)) in
-    let name : drop (at + 11) octets ≡ name_octets m ++ rest = further at 10 1 11 octets _ refl
+    let name : drop (at + 11) octets ≡ name_octets m ++ behind_name = further at 10 1 11 octets _ refl
     (behind (at + 10) 1 octets (buffer_octet m.buffer ∷ []) _ buffer refl) in
-    record { request_id = (_, id); status = (_, status); buffer = (_, buffer); name = (_, name) }
+    let expects : drop (at + 140) octets ≡ (expects_octet m.expects_reply ∷ []) ++ rest = further at 11 129 140 octets _ refl
+    (behind (at + 11) 129 octets (name_octets m) _ name (held_long 128 (kept_name m.buffer m.name.items) (kept_short m.buffer m.name.items short))) in
+    record {
+      request_id = (_, id);
+      status = (_, status);
+      buffer = (_, buffer);
+      name = (_, name);
+      expects_reply = (_, expects);
+    }
 
 pub record FieldsStand (d : Decoder) (inner : Innermost) (fixed : List ℕ) : Type 0 where
   pub order : Stands 0 fixed (order_octet d.order ∷ [])
@@ -72,7 +85,7 @@ pub fields_stand : (d : Decoder) (leaf : Innermost) (fixed : List ℕ) → fixed
     HasRange d → FieldsStand d leaf fixed
 unfolding fixed_octets
 fields_stand d leaf fixed is range =
-    let zeros : List ℕ = replicate 2 0 in
+    let zeros : List ℕ = 0 ∷ [] in
     let memory_on : List ℕ = notes_octets d.notes ++ zeros in
     let piece_on : List ℕ = held 32 d.piece.items ++ memory_on in
     let carry_on : List ℕ = held 8 d.carry ++ piece_on in
@@ -101,7 +114,7 @@ pub fields_written : (d : Decoder) (leaf : Innermost) (carry piece o0 o1 o2 o3 o
     o1 ≡ o0 ++ order_octet d.order ∷ [] → o2 ≡ o1 ++ root_octet d.root ∷ [] →
     o3 ≡ o2 ++ eight d.message → o4 ≡ o3 ++ d.at ∷ [] → o5 ≡ o4 ++ leaf_octets leaf →
     o6 ≡ o5 ++ held 8 carry → o7 ≡ o6 ++ held 32 piece → o8 ≡ o7 ++ notes_octets d.notes →
-    o9 ≡ o8 ++ replicate 2 0 → o9 ≡ fixed_octets d leaf
+    o9 ≡ o8 ++ 0 ∷ [] → o9 ≡ fixed_octets d leaf
 unfolding fixed_octets
 fields_written d leaf carry piece o0 o1 o2 o3 o4 o5 o6 o7 o8 o9 a b e0 e1 e2 e3 e4 e5 e6 e7 e8 e9 =
     let front : List ℕ = order_octet d.order ∷ root_octet d.root ∷ eight d.message in

@@ -72,10 +72,11 @@ IsHeld buffers.Whole octets name so_far = (name ≡ Some octets) × (so_far ≡ 
 IsHeld buffers.Begun octets name so_far = (name ≡ None) × (so_far ≡ octets) × (length octets ≤ 128)
 IsHeld buffers.TooLong octets name so_far = (name ≡ None) × (octets ≡ []) × (128 < length so_far)
 
--- the notes have what was noted: request id, status, and name or the pieces of one
+-- the notes have what was noted: request id, status, whether a reply is expected, and name or the pieces of one
 pub record HoldsNoted (m : Notes) (h : Noted) : Type 0 where
   pub request_id : m.request_id ≡ h.request_id
   pub status : m.status ≡ h.status
+  pub expects_reply : m.expects_reply ≡ h.expects_reply
   pub name : IsHeld m.buffer m.name.items h.name h.so_far
 
 -- the decoder's notes are those of a reading, whether that goes on, has ended or is faulted

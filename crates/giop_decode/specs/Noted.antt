@@ -1,6 +1,6 @@
--- What is noted of a reading, line by line: a header's request id, the number of the last enum, and the last string
--- that is complete (meaning).
-use Rattle.std.specs.Prelude.{ℕ, ◌&&◌, ◌||◌, Bool, true, false, cond, ltb, List, [], ◌∷◌, ◌++◌, length, Option, Some, None, codes}
+-- What is noted of a reading, line by line: a header's request id, whether it expects a reply, the number of the last
+-- enum, and the last string that is complete (meaning).
+use Rattle.std.specs.Prelude.{ℕ, ◌%◌, ◌==◌, ◌&&◌, ◌||◌, Bool, true, false, cond, ltb, List, [], ◌∷◌, ◌++◌, length, Option, Some, None, codes}
 use Rattle.std.specs.Str.{bytes_eq}
 use Rattle.giop_cdr.specs.declared.prim.Primitive.TheVariants as prims
 use Rattle.giop_decode.specs.ReadResult.{PathSegment, Name, Value, Number, Piece, Line, Leaf, Content, Read, Done, Short, Fault, lines_of}
@@ -13,6 +13,8 @@ pub record Noted : Type 0 where
   pub request_id : Option ℕ
   -- the number of the last enum
   pub status : Option ℕ
+  -- whether a header expects a reply: the last member that says it
+  pub expects_reply : Option Bool
   -- the last string, where that has at most 128 octets
   pub name : Option (List ℕ)
   -- the octets so far of a string that has not ended
@@ -32,6 +34,7 @@ abbrev pub with_piece : Noted → List ℕ → Noted
 with_piece h octets = record {
   request_id = h.request_id;
   status = h.status;
+  expects_reply = h.expects_reply;
   name = None;
   so_far = h.so_far ++ octets;
 }
@@ -39,7 +42,7 @@ with_piece h octets = record {
 -- the end of a string: it is the last one, and no piece of another has come
 abbrev pub ended : Noted → Noted
 ended h =
-    record { request_id = h.request_id; status = h.status; name = name_if h.so_far; so_far = [] }
+    record { request_id = h.request_id; status = h.status; expects_reply = h.expects_reply; name = name_if h.so_far; so_far = [] }
 
 -- a piece, with whether more of its string follow
 abbrev pub noted_piece : Noted → List ℕ → Bool → Noted
@@ -56,17 +59,39 @@ abbrev pub note_value : Bool → Noted → Value → Noted
 note_value is_id h (Number (Plain prims.ULong) n) = record {
   request_id = first_of h.request_id (cond is_id (Some n) None);
   status = h.status;
+  expects_reply = h.expects_reply;
   name = h.name;
   so_far = h.so_far;
 }
 note_value is_id h (Number (Enum count names) n) =
-    record { request_id = h.request_id; status = Some n; name = h.name; so_far = h.so_far }
+    record { request_id = h.request_id; status = Some n; expects_reply = h.expects_reply; name = h.name; so_far = h.so_far }
 note_value is_id h (Piece (Text bound) offset octets more) = noted_piece h octets more
 note_value is_id h value = h
 
+-- Whether a reply is expected, after one value more: GIOP 1.0 and 1.1 say it by a boolean, 1.2 by bit 0 of an octet (GIOP
+-- Message Formats, Request Header).
+abbrev pub expects_after : Bool → List PathSegment → Value → Option Bool → Option Bool
+expects_after is_header path (Number (Plain prims.Boolean) n) before =
+    cond (is_header && is_member (codes "response_expected") path) (Some (n % 2 == 1)) before
+expects_after is_header path (Number (Plain prims.Octet) n) before =
+    cond (is_header && is_member (codes "response_flags") path) (Some (n % 2 == 1)) before
+expects_after is_header path value before = before
+
+-- the same but for that
+abbrev pub with_expects : Noted → Option Bool → Noted
+with_expects h expects = record {
+  request_id = h.request_id;
+  status = h.status;
+  expects_reply = expects;
+  name = h.name;
+  so_far = h.so_far;
+}
+
 -- one line more, of a header or not
 abbrev pub note : Bool → Noted → Line → Noted
-note is_header h l = note_value (is_header && is_member (codes "request_id") l.path) h l.value
+note is_header h l =
+    with_expects (note_value (is_header && is_member (codes "request_id") l.path) h l.value)
+    (expects_after is_header l.path l.value h.expects_reply)
 
 -- these lines, one after the other
 abbrev pub noted : Bool → Noted → List Line → Noted
@@ -75,7 +100,7 @@ noted is_header h (l ∷ ls) = noted is_header (note is_header h l) ls
 
 -- before the first line
 abbrev pub nothing_noted : Noted
-nothing_noted = record { request_id = None; status = None; name = None; so_far = [] }
+nothing_noted = record { request_id = None; status = None; expects_reply = None; name = None; so_far = [] }
 
 -- whether the innermost part is the content of a string: its length was read, and its end wasn't
 abbrev pub in_content : Leaf → Bool
@@ -97,7 +122,7 @@ ends_in_string (Fault lines at kind T) = is_text T
 abbrev pub without_name_if : Bool → Noted → Noted
 without_name_if false h = h
 without_name_if true h =
-    record { request_id = h.request_id; status = h.status; name = None; so_far = h.so_far }
+    record { request_id = h.request_id; status = h.status; expects_reply = h.expects_reply; name = None; so_far = h.so_far }
 
 -- what is noted of a reading
 abbrev pub noted_of : Bool → Read → Noted

@@ -1,9 +1,9 @@
--- What is noted of a reading, from all of its lines at once: the request id of a header, the last of the enums, and the
--- last of the strings that are whole (meaning).
+-- What is noted of a reading, from all of its lines at once: the request id of a header, whether it expects a reply, the
+-- last of the enums, and the last of the strings that are whole (meaning).
 use Rattle.std.specs.Prelude.{◌≡◌, ℕ, zero, suc, ◌+◌, ◌&&◌, Bool, true, false, cond, List, [], ◌∷◌, ◌++◌, length, take, drop, Option, Some, None, filter_map, flat_map, codes}
 use Rattle.std.specs.List.{AllByRecursion as Each, last_or}
 use Rattle.giop_cdr.specs.declared.prim.Primitive.TheVariants as prims
-use Rattle.giop_decode.specs.Noted.{Noted, ends_in_string, is_member, name_if}
+use Rattle.giop_decode.specs.Noted.{Noted, expects_after, ends_in_string, is_member, name_if}
 use Rattle.giop_decode.specs.Pieces.{full_pieces}
 use Rattle.giop_decode.specs.ReadResult.{Value, Number, Piece, Line, Read, lines_of}
 use Rattle.giop_sig.specs.Types.{Plain, Enum, Text}
@@ -37,6 +37,14 @@ request_ids is_header lines = filter_map (id_of is_header) lines
 abbrev pub first_in : List ℕ → Option ℕ
 first_in [] = None
 first_in (n ∷ ns) = Some n
+
+-- whether a reply is expected, by a line that says it
+abbrev pub expected_by : Bool → Line → Option Bool
+expected_by is_header l = expects_after is_header l.path l.value None
+
+-- what such lines say, of which a Request's header has one
+abbrev pub expectations : Bool → List Line → List Bool
+expectations is_header lines = filter_map (expected_by is_header) lines
 
 -- ---- strings
 
@@ -95,6 +103,8 @@ pub record IsLeft (is_header : Bool) (r : Read) (h : Noted) : Type 0 where
   pub request_id : h.request_id ≡ first_in (request_ids is_header (lines_of r))
   -- the number of the last line that is an enum
   pub status : h.status ≡ last_or None (enums (lines_of r))
+  -- what the last line says that says whether the header expects a reply
+  pub expects_reply : h.expects_reply ≡ last_or None (expectations is_header (lines_of r))
   pub strings : Strings r
   -- the last whole string, of at most 128 octets; none between the last octet of a later one's length and
   -- its end

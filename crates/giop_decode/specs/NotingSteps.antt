@@ -1,5 +1,5 @@
 -- What an octet that completes a line changes in the notes (steps).
-use Rattle.std.specs.Prelude.{◌≡◌, ℕ, ◌+◌, ◌&&◌, Bool, true, false, cond, Option, Some, None}
+use Rattle.std.specs.Prelude.{◌≡◌, ℕ, ◌+◌, ◌%◌, ◌==◌, ◌&&◌, Bool, true, false, cond, Option, Some, None}
 use Rattle.giop_decode.specs.declared.leaf.Leaf.{Leaf as Innermost}
 use Rattle.giop_decode.specs.declared.leaf.Leaf.TheVariants as innermost
 use Rattle.giop_decode.specs.declared.leaf.Transition.{Transition}
@@ -9,8 +9,15 @@ use Rattle.giop_decode.specs.declared.leaf.Output.TheVariants as outputs
 use Rattle.giop_decode.specs.Noted.{is_text}
 use Rattle.giop_decode.specs.NameBuffer.{string_offset}
 use Rattle.giop_cdr.specs.declared.number.Number.{Number as Taken}
+use Rattle.giop_cdr.specs.declared.number.Number.TheVariants as numbers
 use Rattle.giop_cdr.specs.declared.prim.Primitive.{Primitive}
 use Rattle.giop_sig.specs.Types.{Plain, Single, Ty}
+
+-- a boolean that is true, or a number whose bit 0 is set
+abbrev pub is_set : Taken → Bool
+is_set (numbers.Truth truth) = truth
+is_set (numbers.Unsigned n) = n % 2 == 1
+is_set number = false
 
 -- a string's length clears the name
 abbrev pub clears_name : Output → Bool

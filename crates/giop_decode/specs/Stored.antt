@@ -15,14 +15,15 @@
 --     71       5  whether an enum was read, 0 or 1, and the number of the last
 --     76       1  the name buffer: 0 has begun, 1 has a whole name, 2 is too short for its string
 --     77     129  the octets in it: how many, and room for 128; none where it is too short
---    206       2  zero
+--    206       1  whether a header expects a reply: 0 not read, 1 no, 2 yes
+--    207       1  zero
 --
 -- and a frame of 24 octets for each part that is begun and not ended, the outermost first: its type, the index of its own part
 -- that is being read, how many it has (0 in a union), and 12 zeros. Of an encapsulation whose byte order was read the index is
 -- how many of its octets were taken and the count how many it has, and the first of the zeros is 1 for big or 2 for little. The
 -- last frame is the innermost part's: its type and zeros.
 -- Numbers are big-endian; held octets are followed by zeros.
-use Rattle.std.specs.Prelude.{◌≡◌, ℕ, ◌+◌, ◌^◌, ◌<◌, ◌≤◌, List, [], ◌∷◌, ◌++◌, length, replicate, Option, Some, None, IfSome}
+use Rattle.std.specs.Prelude.{◌≡◌, ℕ, ◌+◌, ◌^◌, ◌<◌, ◌≤◌, Bool, true, false, List, [], ◌∷◌, ◌++◌, length, replicate, Option, Some, None, IfSome}
 use Rattle.std.specs.List.{flat_map, AllByRecursion}
 use Rattle.giop_cdr.specs.declared.order.Order.{Order}
 use Rattle.giop_cdr.specs.declared.order.Order.TheVariants as orders
@@ -70,15 +71,21 @@ kept_name buffers.Whole name = name
 abbrev pub name_octets : Notes → List ℕ
 name_octets m = held 128 (kept_name m.buffer m.name.items)
 
+abbrev pub expects_octet : Option Bool → ℕ
+expects_octet None = 0
+expects_octet (Some false) = 1
+expects_octet (Some true) = 2
+
 abbrev pub notes_octets : Notes → List ℕ
 notes_octets m =
-    optional m.request_id ++ optional m.status ++ buffer_octet m.buffer ∷ name_octets m
+    optional m.request_id ++ optional m.status
+    ++ buffer_octet m.buffer ∷ name_octets m ++ expects_octet m.expects_reply ∷ []
 
 -- of a decoder whose innermost part this is
 unfoldable pub fixed_octets : Decoder → Innermost → List ℕ
 fixed_octets d leaf =
     order_octet d.order ∷ root_octet d.root ∷ eight d.message ++ d.at ∷ leaf_octets leaf
-    ++ held 8 d.carry ++ held 32 d.piece.items ++ notes_octets d.notes ++ replicate 2 0
+    ++ held 8 d.carry ++ held 32 d.piece.items ++ notes_octets d.notes ++ 0 ∷ []
 
 -- how many octets a frame has
 abbrev pub frame_size : ℕ
@@ -143,6 +150,7 @@ pub record Stored (d : Decoder) (fixed frames : List ℕ) : Type 0 where
 pub record IsKept (m n : Notes) : Type 0 where
   pub request_id : n.request_id ≡ m.request_id
   pub status : n.status ≡ m.status
+  pub expects_reply : n.expects_reply ≡ m.expects_reply
   pub buffer : n.buffer ≡ m.buffer
   pub name : n.name.items ≡ kept_name m.buffer m.name.items
 

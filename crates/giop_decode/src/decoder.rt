@@ -133,6 +133,14 @@ impl Decoder {
         self.notes.status()
     }
 
+    /// Whether a header expects a reply, once that was read: GIOP 1.0 and 1.1 say it by a boolean, 1.2 by bit 0 of an octet.
+    pub fn expects_reply(&self) -> Option<bool>
+        ensures { (root : PathRoot) (r : Read) → KeepsNoted root self.now r →
+            result ≡ (noted_of (is_header_root root) r).expects_reply }
+    {
+        self.notes.expects_reply()
+    }
+
     /// The last string, once that has ended and where it is a name: of at most 128 octets.
     pub fn name(&self) -> Option<&[u8]>
         ensures { (root : PathRoot) (r : Read) → KeepsNoted root self.now r →

@@ -1,10 +1,11 @@
-//! What was last noted of a value: a header's request id, an enum's number, and the last string as a name.
+//! What was last noted of a value: a header's request id, whether it expects a reply, an enum's number, and the last
+//! string as a name.
 
-ghost use Rattle.std.specs.Prelude.{◌≡◌, ℕ, ◌<◌, ◌&&◌, IsTrue, true, false, List, [], ◌++◌, length};
+ghost use Rattle.std.specs.Prelude.{◌≡◌, ℕ, ◌<◌, ◌&&◌, IsTrue, true, false, codes, List, [], ◌++◌, length};
 ghost use Rattle.std.specs.Option.{option_map};
-ghost use Rattle.giop_decode.specs.Noted.{Noted, nothing_noted, with_piece, ended, noted_piece, is_member, is_header_root, without_name_if, note_value, noted, names_operation};
+ghost use Rattle.giop_decode.specs.Noted.{Noted, nothing_noted, with_piece, ended, noted_piece, is_member, is_header_root, without_name_if, note_value, noted, names_operation, expects_after, with_expects};
 ghost use Rattle.giop_decode.specs.DecoderState.{HoldsNoted};
-ghost use Rattle.giop_decode.specs.NotingSteps.{IsPlain, clears_name};
+ghost use Rattle.giop_decode.specs.NotingSteps.{IsPlain, clears_name, is_set};
 ghost use Rattle.giop_decode.specs.ReadResult.{Line};
 ghost use Rattle.giop_decode.specs.ReadResult as results;
 ghost use Rattle.giop_decode.specs.ReadingSteps.{path_in};
@@ -35,6 +36,7 @@ pub(crate) struct Notes {
     // The first that was read.
     pub(crate) request_id: Option<u32>,
     pub(crate) status: Option<u32>,
+    pub(crate) expects_reply: Option<bool>,
     pub(crate) name: ArrayVec<u8, 128>,
     pub(crate) buffer: Buffer,
 }
@@ -47,6 +49,7 @@ impl Notes {
         Notes {
             request_id: None,
             status: None,
+            expects_reply: None,
             name: ArrayVec::new(),
             buffer: Buffer::Begun,
         }
@@ -64,6 +67,13 @@ impl Notes {
         ensures { (h : Noted) → HoldsNoted self.now h → result ≡ h.status }
     {
         self.status
+    }
+
+    /// Whether a header expects a reply, once that was read.
+    pub(crate) fn expects_reply(&self) -> Option<bool>
+        ensures { (h : Noted) → HoldsNoted self.now h → result ≡ h.expects_reply }
+    {
+        self.expects_reply
     }
 
     /// The last string, where that has ended and is a name.
@@ -147,24 +157,68 @@ impl Notes {
         }
     }
 
-    /// Notes the number of a type, which is that of a request id or isn't.
+    /// Notes the number of a discriminator of this type: an enum's.
     #[inline(always)]
-    fn note_number(&mut self, catalogue: &Catalogue, t: TypeId, number: Number, is_id: bool)
+    fn note_switch(&mut self, catalogue: &Catalogue, t: TypeId, number: Number)
         requires known { t.0 < length catalogue.now.types }
         requires number { IsNumberOf (tree catalogue.now t.0) number }
         ensures notes { (h : Noted) (is : IsNumberOf (tree catalogue.now t.0) number) →
             HoldsNoted self.old h →
-            HoldsNoted self.new (note_value is_id h (results.Number is.scalar is.n)) }
-        ensures id { is_id ≡ false → self.new.request_id ≡ self.old.request_id }
+            HoldsNoted self.new (note_value false h (results.Number is.scalar is.n)) }
+        ensures id { self.new.request_id ≡ self.old.request_id }
     {
         let Number::Unsigned(n) = number else {
             return;
         };
-        match catalogue.shape(t) {
-            Shape::Enumeration(_) => self.status = Some(n as u32),
+        if let Shape::Enumeration(_) = catalogue.shape(t) {
+            self.status = Some(n as u32);
+        }
+    }
+
+    /// Notes the number of an innermost part of this type, by what it is: an enum's, or a member of a header.
+    #[inline(always)]
+    fn note_part(
+        &mut self,
+        catalogue: &Catalogue,
+        root: Root,
+        outer: &[Frame],
+        of: TypeId,
+        number: Number,
+    )
+        requires known { of.0 < length catalogue.now.types }
+        requires known_outer { AreKnown catalogue.now outer.now }
+        requires number { IsNumberOf (tree catalogue.now of.0) number }
+        ensures notes { (h : Noted) (here : ℕ) (is : IsNumberOf (tree catalogue.now of.0) number) →
+            HoldsNoted self.old h →
+            (let path = path_in [] (open_parts catalogue.now here outer.now) in
+            HoldsNoted self.new (with_expects (note_value (is_header_root root
+            && is_member (codes "request_id") path) h (results.Number is.scalar is.n))
+            (expects_after (is_header_root root) path (results.Number is.scalar is.n) h.expects_reply))) }
+        ensures id { is_header_root root ≡ false → self.new.request_id ≡ self.old.request_id }
+    {
+        match catalogue.shape(of) {
             Shape::Prim(Prim::ULong) => {
-                if is_id && self.request_id.is_none() {
-                    self.request_id = Some(n as u32);
+                if let Number::Unsigned(n) = number {
+                    if self.request_id.is_none()
+                        && is_header_member(catalogue, root, outer, b"request_id")
+                    {
+                        self.request_id = Some(n as u32);
+                    }
+                }
+            }
+            Shape::Prim(Prim::Boolean) => {
+                if is_header_member(catalogue, root, outer, b"response_expected") {
+                    self.expects_reply = Some(is_set(number));
+                }
+            }
+            Shape::Prim(Prim::Octet) => {
+                if is_header_member(catalogue, root, outer, b"response_flags") {
+                    self.expects_reply = Some(is_set(number));
+                }
+            }
+            Shape::Enumeration(_) => {
+                if let Number::Unsigned(n) = number {
+                    self.status = Some(n as u32);
                 }
             }
             _ => {}
@@ -212,12 +266,11 @@ impl Notes {
                 false
             }
             Output::Number(number) => {
-                let is_id = is_header_member(catalogue, root, outer, b"request_id");
-                self.note_number(catalogue, of, number, is_id);
+                self.note_part(catalogue, root, outer, of, number);
                 false
             }
             Output::Switch(number) => {
-                self.note_number(catalogue, catalogue.switch_type(of), number, false);
+                self.note_switch(catalogue, catalogue.switch_type(of), number);
                 false
             }
             Output::Piece { more, .. } => match catalogue.shape(of) {
@@ -228,6 +281,20 @@ impl Notes {
                 _ => false,
             },
         }
+    }
+}
+
+/// Whether a boolean is true, or bit 0 of an octet is set.
+#[inline(always)]
+fn is_set(number: Number) -> bool
+    ensures { result ≡ is_set number }
+{
+    match number {
+        Number::Truth(truth) => truth,
+        Number::Unsigned(n) => n % 2 == 1,
+        Number::Signed(_) => false,
+        Number::Bits(_) => false,
+        Number::Char(_) => false,
     }
 }
 

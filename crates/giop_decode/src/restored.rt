@@ -1,7 +1,7 @@
 //! A decoder from the octets that were stored of one. They are read without a check of each; the decoder is then stored
 //! anew, and the octets are compared.
 
-ghost use Rattle.std.specs.Prelude.{◌≡◌, ◌↔◌, IsTrue, ℕ, ◌+◌, ◌<◌, ◌≤◌, List, [], ◌∷◌, ◌++◌, length, drop, Option, Some, IfSome, IsSome};
+ghost use Rattle.std.specs.Prelude.{◌≡◌, ◌↔◌, IsTrue, Bool, ℕ, ◌+◌, ◌<◌, ◌≤◌, List, [], ◌∷◌, ◌++◌, length, drop, Option, Some, IfSome, IsSome};
 ghost use Rattle.std.specs.List.{AllByRecursion};
 ghost use Rattle.giop_cdr.specs.declared.order.Order.{Order as ByteOrder};
 ghost use Rattle.giop_decode.specs.declared.decoder.Decoder.{Decoder as State};
@@ -10,7 +10,7 @@ ghost use Rattle.giop_decode.specs.declared.leaf.Leaf.{Leaf as Innermost};
 ghost use Rattle.giop_decode.specs.declared.notes.Buffer.{Buffer as BufferState};
 ghost use Rattle.giop_decode.specs.declared.notes.Notes.{Notes as NotesState};
 ghost use Rattle.giop_decode.specs.DecoderState.{Fits, Reads};
-ghost use Rattle.giop_decode.specs.Stored.{order_octet, root_octet, leaf_octets, buffer_octet, notes_octets, inside_octet, frame_octets, frames_octets, frame_size, FrameHasRange, LeafHasRange, NotesHaveRange, Stored, IsKept, IsRestored};
+ghost use Rattle.giop_decode.specs.Stored.{order_octet, root_octet, leaf_octets, buffer_octet, expects_octet, notes_octets, inside_octet, frame_octets, frames_octets, frame_size, FrameHasRange, LeafHasRange, NotesHaveRange, Stored, IsKept, IsRestored};
 ghost use Rattle.giop_print.specs.declared.path.Root.{Root as PathRoot};
 ghost use Rattle.giop_sig.specs.Table.{Table};
 ghost use Rattle.giop_sig.specs.Types.{Ty};
@@ -159,15 +159,30 @@ fn carried(octets: &[u8]) -> Carry
 
 /// The notes that are stored at this index.
 fn notes_at(octets: &[u8], at: usize) -> Notes
-    requires room { at + 140 ≤ length octets.now }
+    requires room { at + 141 ≤ length octets.now }
     ensures { (notes : NotesState) (rest : List ℕ) → NotesHaveRange notes →
         drop at octets.now ≡ notes_octets notes ++ rest → IsKept notes result }
 {
     Notes {
         request_id: optional_at(octets, at),
         status: optional_at(octets, at + 5),
+        expects_reply: expects_at(octets, at + 140),
         buffer: buffer_at(octets, at + 10),
         name: held_at(octets, at + 11),
+    }
+}
+
+/// Whether a reply is expected, as it is stored at this index.
+fn expects_at(octets: &[u8], at: usize) -> Option<bool>
+    requires room { at < length octets.now }
+    ensures { (expects_reply : Option Bool) (rest : List ℕ) →
+        drop at octets.now ≡ expects_octet expects_reply ∷ rest →
+        result ≡ expects_reply }
+{
+    match octet_at(octets, at) {
+        0 => None,
+        1 => Some(false),
+        _ => Some(true),
     }
 }
 

@@ -4,7 +4,7 @@ ghost use Rattle.std.specs.Prelude.{◌≡◌, ◌+◌, ◌*◌, ◌<◌, ◌≤
 ghost use Rattle.std.specs.List.{AllByRecursion};
 ghost use Rattle.arrayvec.specs.ArrayVec.{array_vec_len};
 ghost use Rattle.giop_decode.specs.DecoderState.{Fits};
-ghost use Rattle.giop_decode.specs.Stored.{order_octet, root_octet, leaf_octets, buffer_octet, kept_name, notes_octets, fixed_octets, frame_size, inside_octet, frame_octets, frames_octets, own_frame, FrameHasRange, LeafHasRange, NotesHaveRange, HasRange, Stored};
+ghost use Rattle.giop_decode.specs.Stored.{order_octet, root_octet, leaf_octets, buffer_octet, expects_octet, kept_name, notes_octets, fixed_octets, frame_size, inside_octet, frame_octets, frames_octets, own_frame, FrameHasRange, LeafHasRange, NotesHaveRange, HasRange, Stored};
 ghost use Rattle.giop_sig.specs.Table.{Table};
 ghost use Rattle.giop_sig.specs.Trees.{depth_of};
 
@@ -65,7 +65,7 @@ impl Decoder {
         put_held(out, self.carry.as_slice(), 8);
         put_held(out, self.piece.as_slice(), 32);
         put_notes(out, &self.notes);
-        put_zeros(out, 2);
+        out.push(0);
     }
 }
 
@@ -119,17 +119,29 @@ fn put_leaf(out: &mut ArrayVec<u8, 208>, leaf: Leaf)
     }
 }
 
-/// Writes what was last noted, in 140 octets.
+/// Writes what was last noted, in 141 octets.
 fn put_notes(out: &mut ArrayVec<u8, 208>, notes: &Notes)
-    requires room { array_vec_len out.old + 140 ≤ 208 }
+    requires room { array_vec_len out.old + 141 ≤ 208 }
     ensures put { out.new.items ≡ out.old.items ++ notes_octets notes.now }
-    ensures len { array_vec_len out.new ≡ array_vec_len out.old + 140 }
+    ensures len { array_vec_len out.new ≡ array_vec_len out.old + 141 }
     ensures range { NotesHaveRange notes.now }
 {
     put_optional(out, notes.request_id);
     put_optional(out, notes.status);
     out.push(buffer_octet(notes.buffer));
     put_held(out, kept_name(notes), 128);
+    out.push(expects_octet(notes.expects_reply));
+}
+
+/// The octet of whether a reply is expected.
+fn expects_octet(expects_reply: Option<bool>) -> u8
+    ensures { result ≡ expects_octet expects_reply }
+{
+    match expects_reply {
+        None => 0,
+        Some(false) => 1,
+        Some(true) => 2,
+    }
 }
 
 /// The octet of a name buffer.

@@ -4,7 +4,7 @@ use Rattle.std.proofs.Common.{◌≡◌, Bool, true, false, List, [], ◌∷◌,
 use Rattle.std.specs.Prelude.{if◌then◌else◌}
 use Rattle.giop_message.specs.MessageReader.{LineClass, Rest, End, AtClose, IsClosing, Value, Call, Fault, AreInLineOrder, is_fault}
 use Rattle.giop_message.specs.Signatures.{Signatures}
-use Rattle.giop_message.specs.Messages.{MessageLine, ShortLine, EndLine, body_may_be_missing, Stage, In_typed, In_padding, In_rest, Over, message, stage_of, close}
+use Rattle.giop_message.specs.Messages.{MessageLine, ShortLine, EndLine, body_may_be_missing, Stage, In_typed, In_padding, In_rest, message, stage_of, close}
 use Rattle.giop_message.specs.ReaderOfTable.{line_class_of, closing_of, closes_by, reader_by}
 use Rattle.giop_message.proofs.Leaving.{octet_leaves, Leaves}
 use Rattle.std.specs.List.{list_any}

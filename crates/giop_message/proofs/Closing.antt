@@ -5,7 +5,7 @@ use Rattle.std.proofs.lemmas.Bool.{false≢true, ne_eqb}
 use Rattle.giop_print.specs.Lines.{fault_line, end_line, rest_line}
 use Rattle.giop_sig.specs.declared.types.Shape.{Shape}
 use Rattle.giop_sig.specs.declared.types.Shape.TheVariants as shapes
-use Rattle.giop_sig.specs.Types.{Cases, Tag, Encapsulation, Ty, Plain, Enum, Single, Text, Octets, Struct, Union, Sequence, Array, shape_in}
+use Rattle.giop_sig.specs.Types.{Cases, Ty, Plain, Single, Struct, Union, shape_in}
 use Rattle.giop_sig.specs.Table.{Table}
 use Rattle.giop_decode.specs.declared.decoder.Decoder.{Decoder}
 use Rattle.giop_decode.specs.ReadResult.{plain, Line, OpenPart, Leaf, Short}

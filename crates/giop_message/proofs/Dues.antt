@@ -4,8 +4,7 @@ use Rattle.std.proofs.Math.Seq.{drop-append_seam}
 use Rattle.std.proofs.lemmas.List.{length-take-le, take-append-drop}
 use Rattle.std.proofs.lemmas.List.Concat.{flat_map-append}
 use Rattle.giop_message.specs.Signatures.{Signatures}
-use Rattle.giop_message.specs.Messages
-use Rattle.giop_message.specs.Messages.{LineAt, Stage, Over, Message, ReadTo, message, message_lines, stage_of}
+use Rattle.giop_message.specs.Messages.{LineAt, Over, Message, ReadTo, message, message_lines, stage_of}
 use Rattle.giop_message.specs.StageSteps.{goes_on}
 use Rattle.giop_message.specs.ReaderOfTable.{is_over}
 use Rattle.giop_message.specs.MessageState.{message_line_text, message_lines_text, due, due_text, FaultedAt}

@@ -5,11 +5,11 @@ use Rattle.std.proofs.Math.Seq.{drop-append_seam}
 use Rattle.std.proofs.lemmas.Bool.{false≢true}
 use Rattle.giop_cdr.specs.declared.prim.Primitive.TheVariants as prims
 use Rattle.giop_print.specs.declared.path.Root.TheVariants as roots
-use Rattle.giop_sig.specs.Types.{Plain, Enum, Text, Octets, Single, Struct, Union, Sequence, Array, Encapsulation}
+use Rattle.giop_sig.specs.Types.{Plain, Text}
 use Rattle.giop_sig.specs.Table.{Table}
 use Rattle.giop_decode.specs.declared.decoder.Decoder.{Decoder}
 use Rattle.giop_decode.specs.declared.leaf.Leaf.{Leaf as Innermost}
-use Rattle.giop_decode.specs.ReadResult.{plain, PathSegment, Value, Number, Count, Size, Ordered, Piece, Line, Read, Done, Short, Fault, lines_of}
+use Rattle.giop_decode.specs.ReadResult.{plain, PathSegment, Value, Number, Piece, Line, Read, Done, lines_of}
 use Rattle.giop_decode.specs.Reading.{read}
 use Rattle.giop_decode.specs.Noted.{Noted, nothing_noted, first_of, note, noted, noted_of, without_name_if, ends_in_string, is_header_root}
 use Rattle.giop_decode.specs.DecoderState as decoders

@@ -1,5 +1,5 @@
 -- The headers that end in octets of a message, and the state of a correspondent after them.
-use Rattle.std.proofs.Common.{◌≡◌, ℕ, ◌+◌, Bool, true, false, List, [], ◌∷◌, ◌++◌, length, Option, Some, None, refl, sym, ap, subst, ◌∙◌, append-nil, append_assoc, take, drop, take-add, map, ◌⊎◌, inl, inr}
+use Rattle.std.proofs.Common.{◌≡◌, ℕ, ◌+◌, Bool, true, false, List, [], ◌∷◌, ◌++◌, Option, Some, None, refl, sym, ap, subst, ◌∙◌, append-nil, append_assoc, take, drop, take-add, map, ◌⊎◌, inl, inr}
 use Rattle.std.proofs.lemmas.List.{take-append-drop}
 use Rattle.std.proofs.lemmas.Bool.{false≢true}
 use Rattle.giop_sig.specs.Types.{Ty}
@@ -8,12 +8,12 @@ use Rattle.giop_sig.specs.HeaderTypes.{header_type}
 use Rattle.giop_decode.specs.ReadResult.{plain, Read, Done, Short, Fault}
 use Rattle.giop_decode.specs.Reading.{read}
 use Rattle.giop_decode.specs.ReadingSteps.{advance}
-use Rattle.giop_decode.specs.Noted.{Noted, nothing_noted, noted, noted_of}
+use Rattle.giop_decode.specs.Noted.{Noted, nothing_noted}
 use Rattle.giop_decode.proofs.ReadingLaws.{read_goes}
 use Rattle.giop_message.specs.declared.part.Section.TheVariants as sections
 use Rattle.giop_message.specs.Headers.{minor, kind, order}
 use Rattle.giop_message.specs.Signatures.{Answer, Answers, signatures_of}
-use Rattle.giop_message.specs.Messages.{Stage, In_typed, In_padding, In_rest, Over, section_then, of_header, rest, rest_in, message, message_lines, stage_of, close, is_request, after_header}
+use Rattle.giop_message.specs.Messages.{Stage, In_typed, In_padding, In_rest, Over, section_then, of_header, rest, message, message_lines, stage_of, close, is_request, after_header}
 use Rattle.giop_message.specs.ReaderOfTable.{is_over, timed_line_of, closing_of, remarks_by, closes_by}
 use Rattle.giop_message.specs.MessageState.{is_header}
 use Rattle.giop_message.specs.HeaderEnds.{HeaderEnd, CallEvent, noted_if_whole, noted_by_type, header_noted, ends_between, header_ends, call_event, after_event, after_ends, AgreesAtEnds}
@@ -154,17 +154,17 @@ module _ {St : Type 0} (answer : St → Answer) (notified : St → CallEvent →
   pub told_both : (st : St) (es fs : List HeaderEnd) →
       after_ends notified C st (es ++ fs) ≡ after_ends notified C (after_ends notified C st es) fs
   told_both st [] fs = refl
-  told_both st (e ∷ es) fs = told_both (after_event notified st (call_event C e.header e.notes)) es fs
+  told_both st (e ∷ es) fs = told_both (after_event notified st (call_event C e)) es fs
 
   pub answers_first : (st : St) (a : Answers) (es fs : List HeaderEnd) →
       AgreesAtEnds answer notified C st a (es ++ fs) → AgreesAtEnds answer notified C st a es
   answers_first st a [] fs h = tt
-  answers_first st a (e ∷ es) fs h = (h.0, answers_first (after_event notified st (call_event C e.header e.notes)) a es fs h.1)
+  answers_first st a (e ∷ es) fs h = (h.0, answers_first (after_event notified st (call_event C e)) a es fs h.1)
 
   pub answers_then : (st : St) (a : Answers) (es fs : List HeaderEnd) →
       AgreesAtEnds answer notified C st a (es ++ fs) → AgreesAtEnds answer notified C (after_ends notified C st es) a fs
   answers_then st a [] fs h = h
-  answers_then st a (e ∷ es) fs h = answers_then (after_event notified st (call_event C e.header e.notes)) a es fs h.1
+  answers_then st a (e ∷ es) fs h = answers_then (after_event notified st (call_event C e)) a es fs h.1
 
 -- ---- octets that were taken, and the others
 

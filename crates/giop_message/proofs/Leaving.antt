@@ -16,8 +16,7 @@ use Rattle.giop_message.specs.Headers.{order}
 use Rattle.giop_message.specs.MessageState.{due}
 use Rattle.giop_message.specs.Messages.{RestLine, LineAt, line_at, calls, section_lines, Stage, In_typed, In_padding, In_rest, Over, Message, ReadTo, with_front, section_then, body, message, message_lines, stage_of, root_of, may_call, after}
 use Rattle.giop_message.specs.ReaderOfTable.{line_class_of, timed_line_of, due_by}
-use Rattle.giop_message.specs.MessageReader as said
-use Rattle.giop_message.specs.MessageReader.{LineClass, Value, Call, Rest, Fault, End, TimedLine, AreInLineOrder, AtClose, is_fault}
+use Rattle.giop_message.specs.MessageReader.{LineClass, Rest, is_fault}
 use Rattle.giop_message.specs.Signatures.{Signatures}
 use Rattle.giop_message.specs.StageSteps.{rest_step, message_step, advance}
 use Rattle.giop_message.proofs.AtOctet.{due_said_is}

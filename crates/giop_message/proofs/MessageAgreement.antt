@@ -1,11 +1,11 @@
 -- Answers that agree, or a header that has not ended: a message then follows the same octets.
-use Rattle.std.proofs.Common.{◌≡◌, ℕ, ◌+◌, Bool, true, false, List, [], ◌∷◌, ◌++◌, length, Option, Some, None, refl, sym, ap, subst, ◌∙◌, ◌⊎◌, inl, inr}
+use Rattle.std.proofs.Common.{◌≡◌, ℕ, ◌+◌, false, List, [], ◌++◌, length, Option, Some, None, refl, sym, ap, subst, ◌∙◌, ◌⊎◌, inl, inr}
 use Rattle.std.specs.Prelude.{cond}
 use Rattle.giop_sig.specs.Table.{Table}
 use Rattle.giop_decode.specs.declared.decoder.Decoder.{Decoder}
 use Rattle.giop_decode.specs.ReadResult.{plain, Read, Done, Short, Fault}
 use Rattle.giop_decode.specs.Reading.{read}
-use Rattle.giop_decode.specs.Noted.{Noted, nothing_noted, noted}
+use Rattle.giop_decode.specs.Noted.{nothing_noted, noted}
 use Rattle.giop_message.specs.declared.message.Message.{Message as Struct_of}
 use Rattle.giop_message.specs.declared.part.Part.{Part}
 use Rattle.giop_message.specs.declared.part.Part.TheVariants as parts
@@ -15,7 +15,7 @@ use Rattle.giop_message.specs.Headers.{order}
 use Rattle.giop_message.specs.Signatures.{Answer, Answers, signatures_of}
 use Rattle.giop_message.specs.Messages.{Message, section_then, section_and_rest, after_exception, members_of, with_front, message, message_lines}
 use Rattle.giop_message.specs.ReaderOfTable.{first_request_id}
-use Rattle.giop_message.specs.MessageState.{IsFirst, Decodes, Stands, in_header, Follows}
+use Rattle.giop_message.specs.MessageState.{Decodes, Stands, in_header, Follows}
 use Rattle.giop_message.specs.HeaderEnds.{noted_if_whole, noted_by_type, header_noted}
 use Rattle.giop_message.proofs.HeaderEndLaws.{unended_agree}
 

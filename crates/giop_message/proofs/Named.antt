@@ -24,7 +24,7 @@ use Rattle.giop_message.specs.declared.part.Section.TheVariants as sections
 use Rattle.giop_message.specs.Headers.{minor, kind, order, has_more, may_be_fragmented, is_opener, is_fragment, is_cancel, has_name}
 use Rattle.giop_message.specs.MessageReader.{Value, is_last, IsEnding, HasOnlyValuesInId}
 use Rattle.giop_message.specs.Signatures.{Signatures, Answer, signatures_of}
-use Rattle.giop_message.specs.Messages.{ValueLine, ShortLine, EndLine, LineAt, line_at, calls, section_lines, body_may_be_missing, Stage, In_typed, In_padding, In_rest, Over, Message, ReadTo, with_front, section_then, rest_in, rest, is_request, after_header, of_header, message, message_lines, stage_of, close}
+use Rattle.giop_message.specs.Messages.{ValueLine, ShortLine, EndLine, LineAt, line_at, calls, section_lines, body_may_be_missing, Stage, In_typed, In_padding, In_rest, Over, Message, section_then, rest_in, rest, is_request, after_header, of_header, message, message_lines, stage_of, close}
 use Rattle.giop_message.specs.ReaderOfTable.{line_class_of, timed_line_of, closing_of, remarks_by, closes_by, reader_by, HasIds, id_in, first_id, first_request_id}
 use Rattle.giop_message.proofs.Going.{passes_front}
 use Rattle.giop_message.proofs.Octets.{told_front, told_silent}

@@ -2,7 +2,7 @@
 use Rattle.std.proofs.Common.{◌≡◌, ℕ, zero, suc, ◌+◌, ◌-◌, ◌⊎◌, inl, inr, Bool, true, false, List, [], ◌∷◌, ◌++◌, refl, sym, subst, ◌∙◌, arith, lit<}
 use Rattle.std.specs.Prelude.{cond, ltb}
 use Rattle.std.specs.List.{AllByRecursion as Each}
-use Rattle.giop_sig.specs.Types.{Encapsulation, Ty, Single, Text, Octets, Struct, Union, Sequence, Array, part_of, width}
+use Rattle.giop_sig.specs.Types.{Encapsulation, Ty, Single, Struct, Union, Array, part_of, width}
 use Rattle.giop_decode.specs.declared.progress.Kind.TheVariants as kinds
 use Rattle.giop_decode.specs.ReadResult.{Coding, PathSegment, Name, Index, Held, OpenPart, Part, Member, Inside, Leaf, Read, Done, Short, Fault, followed, within}
 use Rattle.giop_decode.specs.Pieces.{content, full_pieces, tail}

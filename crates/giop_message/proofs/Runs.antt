@@ -13,7 +13,7 @@ use Rattle.giop_decode.specs.declared.decoder.Decoder.{Decoder}
 use Rattle.giop_decode.specs.declared.progress.Kind.{Kind}
 use Rattle.giop_decode.specs.declared.progress.Progress.{Progress}
 use Rattle.giop_decode.specs.declared.progress.Progress.TheVariants as progress
-use Rattle.giop_decode.specs.ReadResult.{Read, Done, Short, Fault}
+use Rattle.giop_decode.specs.ReadResult.{Read, Done, Fault}
 use Rattle.giop_decode.specs.Noted.{nothing_noted, noted_of, is_header_root}
 use Rattle.giop_decode.specs.DecoderState as decoders
 use Rattle.giop_decode.specs.Runs.{added_lines_of_run, Answers, AreAnswered, BreaksOff}

@@ -362,18 +362,19 @@ module _ {t : Standing} {octets : List ℕ} {n : ℕ} {d' : Decoder} where
 
     -- which is told of it
     pub told_here : (now : St) → Took t octets n d' progress.Done →
-        now ≡ cond (is_header section) (after_event notified st (call_event C m.header (noted_of true (ReadWith t (take n octets))))) st →
+        now ≡ cond (is_header section) (after_event notified st (call_event C (header_end m.number m.header (noted_of true (ReadWith t (take n octets)))))) st →
         now ≡ after_ends notified C st (header_ends number header s (take n octets))
     told_here now k told = go (is_header section) refl
       where
         go : (b : Bool) → is_header section ≡ b → now ≡ after_ends notified C st (header_ends number header s (take n octets))
         go false e =
-            told ∙ (ap (λ x. cond x (after_event notified st (call_event C m.header (noted_of true (ReadWith t (take n octets))))) st) e
+            told ∙ (ap (λ x. cond x (after_event notified st (call_event C (header_end m.number m.header (noted_of true (ReadWith t (take n octets)))))) st) e
             ∙ sym (ap (after_ends notified C st) (section_none t e (take n octets))))
         go true e =
-            told ∙ (ap (λ x. cond x (after_event notified st (call_event C m.header (noted_of true (ReadWith t (take n octets))))) st) e
-            ∙ (ap (λ x. after_event notified st (call_event C x (noted_of true (ReadWith t (take n octets))))) follows.same_header
-            ∙ sym (ap (after_ends notified C st) (one_ends k (header_only section e)))))
+            told ∙ (ap (λ x. cond x (after_event notified st (call_event C (header_end m.number m.header (noted_of true (ReadWith t (take n octets)))))) st) e
+            ∙ (ap (λ x. after_event notified st (call_event C (header_end x m.header (noted_of true (ReadWith t (take n octets)))))) follows.same_number
+            ∙ (ap (λ x. after_event notified st (call_event C (header_end number x (noted_of true (ReadWith t (take n octets)))))) follows.same_header
+            ∙ sym (ap (after_ends notified C st) (one_ends k (header_only section e))))))
 
 -- ---- padding, and a rest
 

@@ -1,6 +1,6 @@
 -- Where the header of a message ends, and what the correspondent, the other side of the conversation, is told there
 -- (meaning).
-use Rattle.std.specs.Prelude.{◌≡◌, ◌<◌, ℕ, true, List, [], ◌∷◌, ◌++◌, length, Option, Some, None, IfSome, option_and_then, ◌==◌, if◌then◌else◌}
+use Rattle.std.specs.Prelude.{◌≡◌, ◌<◌, ℕ, Bool, true, List, [], ◌∷◌, ◌++◌, length, Option, Some, None, IfSome, option_and_then, ◌==◌, if◌then◌else◌}
 use Rattle.giop_sig.specs.declared.types.OpId.{OpId}
 use Rattle.giop_sig.specs.Types.{Ty}
 use Rattle.giop_sig.specs.Table.{Table, operation_in}
@@ -48,38 +48,46 @@ header_ends number header s more = ends_between number header (header_noted head
 
 -- ---- what is told there
 
--- what a header says of the calls of a conversation (GIOP Message Formats, Request Header, Reply Header)
+-- what the header of a message, by its number, says of the calls of a conversation (GIOP Message Formats, Request Header,
+-- Reply Header)
 pub data CallEvent : Type 0 where
-  -- a Request: its id, the name of its operation where a call line can show it, and the operation where the table has it
-  Requested : ℕ → Option (List ℕ) → Option OpId → CallEvent
-  -- a Reply to the request with this id
-  Replied : ℕ → CallEvent
+  -- a Request: its number, its id, the name of its operation where a call line can show it, the operation where the table
+  -- has it, and whether it expects a reply
+  Requested : ℕ → ℕ → Option (List ℕ) → Option OpId → Bool → CallEvent
+  -- a Reply: its number, and the id of the request that it answers
+  Replied : ℕ → ℕ → CallEvent
 
 abbrev pub shown : Option (List ℕ) → Option (List ℕ)
 shown None = None
 shown (Some name) = if is_shown name then Some name else None
 
-abbrev pub request_event : Option ℕ → Option (List ℕ) → Option OpId → Option CallEvent
-request_event None name operation = None
-request_event (Some id) name operation = Some (Requested id (shown name) operation)
+-- A Request of which it is not noted expects a reply: its header was read on from a checkpoint of before it was kept.
+abbrev pub expects_reply : Option Bool → Bool
+expects_reply None = true
+expects_reply (Some expects) = expects
 
-abbrev pub reply_event : Option ℕ → Option CallEvent
-reply_event None = None
-reply_event (Some id) = Some (Replied id)
+abbrev pub request_event : ℕ → Option ℕ → Option (List ℕ) → Option OpId → Option Bool → Option CallEvent
+request_event number None name operation expects = None
+request_event number (Some id) name operation expects =
+    Some (Requested number id (shown name) operation (expects_reply expects))
+
+abbrev pub reply_event : ℕ → Option ℕ → Option CallEvent
+reply_event number None = None
+reply_event number (Some id) = Some (Replied number id)
 
 -- the operation that a Request names, where the table has it; none of another message
 unfoldable pub operation_of : Table → List ℕ → Noted → Option OpId
 operation_of C header n = if kind header == 0 then option_and_then (operation_in C) n.name else None
 
--- by what is noted of a header, and its operation
-unfoldable pub header_event : List ℕ → Noted → Option OpId → Option CallEvent
-header_event header n operation =
-    if kind header == 0 then request_event n.request_id n.name operation
-    else if kind header == 1 then reply_event n.request_id
+-- by the number of a message, what is noted of its header, and its operation
+unfoldable pub header_event : ℕ → List ℕ → Noted → Option OpId → Option CallEvent
+header_event number header n operation =
+    if kind header == 0 then request_event number n.request_id n.name operation n.expects_reply
+    else if kind header == 1 then reply_event number n.request_id
     else None
 
-abbrev pub call_event : Table → List ℕ → Noted → Option CallEvent
-call_event C header n = header_event header n (operation_of C header n)
+abbrev pub call_event : Table → HeaderEnd → Option CallEvent
+call_event C e = header_event e.number e.header e.notes (operation_of C e.header e.notes)
 
 -- ---- the states of a correspondent: what each answers, and the one that follows an event
 
@@ -90,18 +98,18 @@ after_event notified st (Some event) = notified st event
 -- after these headers, one after the other
 abbrev pub after_ends : {St : Type 0} → (St → CallEvent → St) → Table → St → List HeaderEnd → St
 after_ends notified C st [] = st
-after_ends notified C st (e ∷ es) = after_ends notified C (after_event notified st (call_event C e.header e.notes)) es
+after_ends notified C st (e ∷ es) = after_ends notified C (after_event notified st (call_event C e)) es
 
 -- Each message whose header ends is answered as the state before its event answers.
 abbrev pub AgreesAtEnds : {St : Type 0} → (St → Answer) → (St → CallEvent → St) → Table → St → Answers → List HeaderEnd → Type 0
 AgreesAtEnds answer notified C st a [] = Unit {0}
 AgreesAtEnds answer notified C st a (e ∷ es) =
-    (a e.number ≡ answer st) × AgreesAtEnds answer notified C (after_event notified st (call_event C e.header e.notes)) a es
+    (a e.number ≡ answer st) × AgreesAtEnds answer notified C (after_event notified st (call_event C e)) a es
 
 -- the operation is one of the table
 abbrev pub IsKnownOperation : Table → Option OpId → Type 0
 IsKnownOperation C operation = IfSome operation (λ o. o.0 < length C.operations)
 
 abbrev pub HasKnownOperation : Table → CallEvent → Type 0
-HasKnownOperation C (Requested id name operation) = IsKnownOperation C operation
-HasKnownOperation C (Replied id) = Unit {0}
+HasKnownOperation C (Requested number id name operation expects) = IsKnownOperation C operation
+HasKnownOperation C (Replied number id) = Unit {0}

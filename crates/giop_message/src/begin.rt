@@ -38,7 +38,7 @@ impl Message {
     ghost use Rattle.giop_message.specs.Headers.{order};
     ghost use Rattle.giop_message.specs.Messages.{body, rest, typed, after};
     ghost use Rattle.giop_message.specs.MessageState.{AreKnown, IsKnown, Fits, in_header, body_type};
-    ghost use Rattle.giop_message.specs.HeaderEnds.{after_event, call_event};
+    ghost use Rattle.giop_message.specs.HeaderEnds.{header_end, after_event, call_event};
     ghost use Rattle.giop_message.specs.MessageSteps.{is_padded, is_unaligned, Arrives, Enters, IsTyped, Ended};
 
     /// Begins the rest.
@@ -135,7 +135,7 @@ impl Message {
         ensures told { (section : Within) (r : MessageReader) → Ended self.old.part section r →
             Q.state correspondent.new ≡ cond (is_header section)
             (after_event Q.notified (Q.state correspondent.old)
-            (call_event catalogue.now self.old.header (noted_of true r)))
+            (call_event catalogue.now (header_end self.old.number self.old.header (noted_of true r))))
             (Q.state correspondent.old) }
         ensures arrives { (answers : Answers) (number : ℕ) (header s : List ℕ) (section : Within)
             (r : MessageReader) → Ended self.old.part section r →
@@ -157,7 +157,14 @@ impl Message {
             decoder,
             operation,
         );
-        notify_of_section(correspondent, &self.header, section, decoder, operation);
+        notify_of_section(
+            correspondent,
+            self.number,
+            &self.header,
+            section,
+            decoder,
+            operation,
+        );
         self.id = id_behind(section, decoder, self.id);
         if self.is_padded(section) {
             self.part = Part::Padding(body_type_id);

@@ -28,15 +28,23 @@ pub trait Correspondent {
     fn operation(&self, id: u32) -> Option<OpId>
         ensures { result ≡ answer (state self.now) id };
 
-    /// The header of a Request with this id has ended: the name of its operation, if a call line can show it, and the
-    /// operation, if it is known.
-    fn called(&mut self, id: u32, name: Option<&[u8]>, operation: Option<OpId>)
+    /// The header of a Request has ended: the message's number in its stream, from 1, the request id, the name of the
+    /// operation, if a call line can show it, the operation, if it is known, and whether a reply is expected.
+    fn called(
+        &mut self,
+        number: u64,
+        id: u32,
+        name: Option<&[u8]>,
+        operation: Option<OpId>,
+        expects_reply: bool,
+    )
         ensures { state self.new ≡ notified (state self.old)
-            (Requested id (option_map (λ x. x.now) name.entry) operation) };
+            (Requested number id (option_map (λ x. x.now) name.entry) operation expects_reply) };
 
-    /// The header of a Reply to the request with this id has ended.
-    fn answered(&mut self, id: u32)
-        ensures { state self.new ≡ notified (state self.old) (Replied id) };
+    /// The header of a Reply has ended: the message's number in its stream, from 1, and the id of the request that it
+    /// answers.
+    fn answered(&mut self, number: u64, id: u32)
+        ensures { state self.new ≡ notified (state self.old) (Replied number id) };
 
     /// Where it answers operations of a table alone, and is told of one of that table, it still does.
     ghost known: { (C : Table) (s : State) (event : CallEvent) → AreKnown C (answer s) →
@@ -57,9 +65,16 @@ impl<'a> Correspondent for &'a Requests {
         (**self).operation(id)
     }
 
-    fn called(&mut self, _id: u32, _name: Option<&[u8]>, _operation: Option<OpId>) {}
+    fn called(
+        &mut self,
+        _number: u64,
+        _id: u32,
+        _name: Option<&[u8]>,
+        _operation: Option<OpId>,
+        _expects_reply: bool,
+    ) {}
 
-    fn answered(&mut self, _id: u32) {}
+    fn answered(&mut self, _number: u64, _id: u32) {}
 
     ghost known = { λ C s event k h. k };
 }

@@ -8,7 +8,7 @@ ghost use Rattle.giop_decode.specs.Noted.{noted_of};
 ghost use Rattle.giop_decode.specs.DecoderState.{KeepsNoted};
 ghost use Rattle.giop_message.specs.Messages.{root_of};
 ghost use Rattle.giop_message.specs.MessageState.{AreKnown, is_header};
-ghost use Rattle.giop_message.specs.HeaderEnds.{IsKnownOperation, after_event, header_event, operation_of, shown, request_event, reply_event};
+ghost use Rattle.giop_message.specs.HeaderEnds.{IsKnownOperation, after_event, header_event, operation_of, expects_reply, shown, request_event, reply_event};
 
 use crate::correspondent::Correspondent;
 use crate::header::kind_of;
@@ -54,9 +54,10 @@ fn named_operation(catalogue: &Catalogue, header: &[u8], decoder: &Decoder) -> O
     catalogue.operation(name)
 }
 
-/// Tells the correspondent of the section that has ended, if it is a header, with the operation that it names.
+/// Tells the correspondent of the section of a message that has ended, if it is a header, with the operation that it names.
 pub fn notify_of_section<Q: Correspondent>(
     correspondent: &mut Q,
+    number: u64,
     header: &[u8],
     section: Section,
     decoder: &Decoder,
@@ -69,11 +70,11 @@ pub fn notify_of_section<Q: Correspondent>(
     ensures told { (r : Read) → KeepsNoted (root_of section) decoder.now r →
         Q.state correspondent.new ≡ cond (is_header section)
         (after_event Q.notified (Q.state correspondent.old)
-        (header_event header.now (noted_of true r) operation))
+        (header_event number header.now (noted_of true r) operation))
         (Q.state correspondent.old) }
 {
     match section {
-        Section::Header => notify_of_header(correspondent, header, decoder, operation),
+        Section::Header => notify_of_header(correspondent, number, header, decoder, operation),
         Section::Exception => {}
         Section::Body => {}
     }
@@ -83,6 +84,7 @@ pub fn notify_of_section<Q: Correspondent>(
 #[tactic(auto, unfolding(crate::specs::HeaderEnds::header_event))]
 fn notify_of_header<Q: Correspondent>(
     correspondent: &mut Q,
+    number: u64,
     header: &[u8],
     decoder: &Decoder,
     operation: Option<OpId>,
@@ -93,20 +95,32 @@ fn notify_of_header<Q: Correspondent>(
         AreKnown C (Q.answer (Q.state correspondent.new)) }
     ensures told { (r : Read) → KeepsNoted Root.Header decoder.now r →
         Q.state correspondent.new ≡ after_event Q.notified (Q.state correspondent.old)
-        (header_event header.now (noted_of true r) operation) }
+        (header_event number header.now (noted_of true r) operation) }
 {
     if kind_of(header) == 0 {
-        notify_of_request(correspondent, decoder, operation);
+        notify_of_request(correspondent, number, decoder, operation);
         return;
     }
     if kind_of(header) == 1 {
-        notify_of_reply(correspondent, decoder);
+        notify_of_reply(correspondent, number, decoder);
     }
 }
 
-/// Tells of a Request: its id, its name and its operation.
+/// Whether a Request expects a reply; one of which it wasn't read does.
+fn expects_reply(decoder: &Decoder) -> bool
+    ensures { (r : Read) → KeepsNoted Root.Header decoder.now r →
+        result ≡ expects_reply (noted_of true r).expects_reply }
+{
+    match decoder.expects_reply() {
+        Some(expects_reply) => expects_reply,
+        None => true,
+    }
+}
+
+/// Tells of a Request: its id, its name, its operation, and whether it expects a reply.
 fn notify_of_request<Q: Correspondent>(
     correspondent: &mut Q,
+    number: u64,
     decoder: &Decoder,
     operation: Option<OpId>,
 )
@@ -115,24 +129,26 @@ fn notify_of_request<Q: Correspondent>(
         AreKnown C (Q.answer (Q.state correspondent.new)) }
     ensures told { (r : Read) → KeepsNoted Root.Header decoder.now r →
         Q.state correspondent.new ≡ after_event Q.notified (Q.state correspondent.old)
-        (request_event (noted_of true r).request_id (noted_of true r).name operation) }
+        (request_event number (noted_of true r).request_id (noted_of true r).name operation
+        (noted_of true r).expects_reply) }
 {
     let Some(id) = decoder.request_id() else {
         return;
     };
-    correspondent.called(id, shown(decoder.name()), operation);
+    let expects_reply = expects_reply(decoder);
+    correspondent.called(number, id, shown(decoder.name()), operation, expects_reply);
 }
 
 /// Tells of a Reply: the id that it answers.
-fn notify_of_reply<Q: Correspondent>(correspondent: &mut Q, decoder: &Decoder)
+fn notify_of_reply<Q: Correspondent>(correspondent: &mut Q, number: u64, decoder: &Decoder)
     ensures known { (C : Table) → AreKnown C (Q.answer (Q.state correspondent.old)) →
         AreKnown C (Q.answer (Q.state correspondent.new)) }
     ensures told { (r : Read) → KeepsNoted Root.Header decoder.now r →
         Q.state correspondent.new ≡ after_event Q.notified (Q.state correspondent.old)
-        (reply_event (noted_of true r).request_id) }
+        (reply_event number (noted_of true r).request_id) }
 {
     if let Some(id) = decoder.request_id() {
-        correspondent.answered(id);
+        correspondent.answered(number, id);
     }
 }
 

@@ -4,6 +4,7 @@ ghost use Rattle.std.specs.Prelude.{◌≡◌, ◌≢◌};
 ghost use Rattle.std.specs.IoError.{error_kind};
 ghost use Rattle.giop_run.specs.Console.{fault_status};
 
+use super::shown_name::ShownName;
 use giop_checkpoint::LoadFault;
 use giop_sig::{ListFault, ListFaultKind, SigFault, SigFaultKind};
 use std::io;
@@ -39,19 +40,19 @@ pub enum ProgramFault<'a> {
     #[error("a word of the command line is not UTF-8")]
     Words,
     /// The signature file is refused.
-    #[error("{name}:{}: {fault}", .fault.line)]
+    #[error("{}:{}: {fault}", ShownName(.name), .fault.line)]
     Signatures { name: &'a str, fault: SigFault },
     /// The request list is refused.
-    #[error("{name}:{}: {fault}", .fault.line)]
+    #[error("{}:{}: {fault}", ShownName(.name), .fault.line)]
     Requests { name: &'a str, fault: ListFault },
     /// The checkpoint is refused.
-    #[error("{name}: checkpoint refused: {fault}")]
+    #[error("{}: checkpoint refused: {fault}", ShownName(.name))]
     Checkpoint { name: &'a str, fault: LoadFault },
     /// A file can't be opened, or one that is read whole can't be read.
-    #[error("{name}: cannot read")]
+    #[error("{}: cannot read", ShownName(.name))]
     Unreadable { name: &'a str },
     /// The file for a checkpoint can't be written. It still holds what it held.
-    #[error("{name}: cannot write")]
+    #[error("{}: cannot write", ShownName(.name))]
     Unwritable { name: &'a str },
     /// The run failed.
     #[error("{0}")]

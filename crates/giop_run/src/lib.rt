@@ -13,6 +13,7 @@ mod resuming;
 mod retrying;
 mod running;
 mod saving;
+mod shown_name;
 mod source;
 
 pub use console::{dump, status};

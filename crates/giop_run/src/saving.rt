@@ -6,9 +6,10 @@ ghost use Rattle.giop_run.specs.Saving.{Saved, SavesOne};
 use super::retrying::Retrying;
 use giop_print::Written;
 use giop_stream::Engine;
-use std::fs::{File, Permissions};
-use std::io::ErrorKind;
-use std::{fs, io};
+use std::fs::{File, Metadata, OpenOptions, Permissions};
+use std::io::{ErrorKind, Write};
+use std::os::unix::fs::{MetadataExt, OpenOptionsExt};
+use std::{fs, io, process};
 
 /// Files in which checkpoints can be saved.
 pub trait Saves {
@@ -24,12 +25,55 @@ pub trait Saves {
 #[derive(Drop)]
 pub struct Disk<'a> {
     rt: &'a HostRuntime,
+    inputs: [Option<FileId>; 3],
+}
+
+/// Which plain file it is, by whatever name.
+#[derive(Clone, Copy, Debug, Drop, PartialEq, Eq)]
+struct FileId {
+    device: u64,
+    inode: u64,
+}
+
+impl FileId {
+    /// The plain file that a name leads to, through links too.
+    fn of_name(rt: &HostRuntime, name: &str) -> Option<FileId> {
+        match fs::metadata(rt, name) {
+            Ok(found) => FileId::of_file(&found),
+            Err(_) => None,
+        }
+    }
+
+    /// The plain file of which this is known.
+    fn of_file(found: &Metadata) -> Option<FileId> {
+        if !found.is_file() {
+            return None;
+        }
+        Some(FileId {
+            device: found.dev(),
+            inode: found.ino(),
+        })
+    }
 }
 
 impl<'a> Disk<'a> {
-    /// The files of the system.
-    pub fn new(rt: &'a HostRuntime) -> Disk<'a> {
-        Disk { rt }
+    /// The files of the system. The plain files that these names lead to now are inputs: a save in one of them fails,
+    /// by whatever name, and leaves it as it is.
+    pub fn new(rt: &'a HostRuntime, inputs: [Option<&str>; 3]) -> Disk<'a> {
+        let [first, second, third] = inputs;
+        let found = |name: Option<&str>| name.and_then(|name| FileId::of_name(rt, name));
+        Disk {
+            rt,
+            inputs: [found(first), found(second), found(third)],
+        }
+    }
+
+    /// Whether this is an input.
+    fn is_input(&self, found: &Metadata) -> bool {
+        let Some(id) = FileId::of_file(found) else {
+            return false;
+        };
+        self.inputs.contains(&Some(id))
     }
 }
 
@@ -38,6 +82,7 @@ impl Saves for Disk<'_> {
 
     fn save(&mut self, name: &str, engine: &Engine) -> io::Result<()> {
         match fs::metadata(self.rt, name) {
+            Ok(found) if self.is_input(&found) => Err(io::Error::from(ErrorKind::InvalidInput)),
             Ok(found) if found.is_file() => replaced(
                 self.rt,
                 name,
@@ -54,8 +99,15 @@ impl Saves for Disk<'_> {
 /// How many octets the system allows in the name of a file, with the zero after it.
 const NAME_ROOM: usize = 4096;
 
-/// What is added to a file's name in the name of the file that replaces it.
-const SUFFIX: [u8; 14] = *b".giopdump-part";
+/// What is added to a file's name in the name of its part, the file that replaces it; then come the program's process
+/// id and the number of the try, as decimal numbers with a point before each.
+const SUFFIX: &str = ".giopdump-part";
+
+/// How many names are tried for a part. One is taken only where a program of the same process id left it.
+const TRIES: u32 = 16;
+
+/// Who may read and write a part: its owner alone.
+const PRIVATE: u32 = 0o600;
 
 /// Writes the checkpoint to another file, and renames that to the name of this one.
 fn replaced(
@@ -64,34 +116,45 @@ fn replaced(
     engine: &Engine,
     permissions: Option<Permissions>,
 ) -> io::Result<()> {
-    let mut room = [0; NAME_ROOM];
-    let Some(beside) = beside(name, &mut room) else {
-        return Err(io::Error::from(ErrorKind::InvalidInput));
-    };
-    // An interrupted save may have left such a file.
-    let _ = fs::remove_file(rt, beside);
-    let renamed = match written(rt, beside, engine, permissions) {
-        Ok(()) => fs::rename(rt, beside, name),
+    for attempt in 0..TRIES {
+        let mut room = [0; NAME_ROOM];
+        let Some(part) = part_name(name, process::id(rt.process()), attempt, &mut room) else {
+            return Err(io::Error::from(ErrorKind::InvalidInput));
+        };
+        match new_part(rt, part) {
+            Err(error) if error.kind() == ErrorKind::AlreadyExists => {}
+            Err(error) => return Err(error),
+            Ok(file) => return renamed(rt, part, name, written(&file, engine, permissions)),
+        }
+    }
+    Err(io::Error::from(ErrorKind::AlreadyExists))
+}
+
+/// Makes a file that wasn't there, and that its owner alone may read.
+fn new_part(rt: &HostRuntime, part: &str) -> io::Result<File> {
+    let mut options = OpenOptions::new();
+    options.write(true).create_new(true).mode(PRIVATE);
+    options.open(rt, part)
+}
+
+/// Renames a part that was written to the name of the file; removes it where that, or the writing, failed.
+fn renamed(rt: &HostRuntime, part: &str, name: &str, written: io::Result<()>) -> io::Result<()> {
+    let renamed = match written {
+        Ok(()) => fs::rename(rt, part, name),
         Err(error) => Err(error),
     };
     if renamed.is_err() {
-        let _ = fs::remove_file(rt, beside);
+        let _ = fs::remove_file(rt, part);
     }
     renamed
 }
 
-/// Writes the checkpoint to a new file.
-fn written(
-    rt: &HostRuntime,
-    name: &str,
-    engine: &Engine,
-    permissions: Option<Permissions>,
-) -> io::Result<()> {
-    let file = File::create_new(rt, name)?;
+/// Writes the checkpoint to a new file, and gives it the permissions of the one that it replaces.
+fn written(file: &File, engine: &Engine, permissions: Option<Permissions>) -> io::Result<()> {
+    put_into(file, engine)?;
     if let Some(permissions) = permissions {
         file.set_permissions(permissions)?;
     }
-    put_into(&file, engine)?;
     file.sync_all()
 }
 
@@ -104,14 +167,15 @@ fn put_into(file: &File, engine: &Engine) -> io::Result<()> {
     }
 }
 
-/// The name of the file that replaces another.
-fn beside<'r>(name: &str, room: &'r mut [u8; NAME_ROOM]) -> Option<&'r str> {
-    let octets = name.as_bytes();
-    if octets.len() > NAME_ROOM - SUFFIX.len() {
-        return None;
-    }
-    let end = octets.len() + SUFFIX.len();
-    room[..octets.len()].copy_from_slice(octets);
-    room[octets.len()..end].copy_from_slice(&SUFFIX);
+/// The name of a file's part in this try.
+fn part_name<'r>(
+    name: &str,
+    process: u32,
+    attempt: u32,
+    room: &'r mut [u8; NAME_ROOM],
+) -> Option<&'r str> {
+    let mut left = &mut room[..];
+    write!(left, "{name}{SUFFIX}.{process}.{attempt}").ok()?;
+    let end = NAME_ROOM.checked_sub(left.len())?;
     str::from_utf8(&room[..end]).ok()
 }

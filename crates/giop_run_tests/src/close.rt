@@ -1,12 +1,11 @@
-//! What the tests have in common: the types by which streams are read, octets of hexadecimal text, and a
-//! CloseConnection with its lines.
+//! What the tests have in common: the types by which streams are read, and a CloseConnection with its lines.
 
 ghost use Rattle.std.specs.Prelude.{◌≡◌, false, IfOk};
 ghost use Rattle.giop_stream.specs.EngineHolds.{AreOf};
 
 use giop_sig::{Catalogue, Requests};
 use giop_stream::Engine;
-use std::alloc::{AllocError, Global};
+use std::alloc::Global;
 use std::test::Fail;
 
 /// The built-in types, and an empty request list.
@@ -31,21 +30,6 @@ pub fn engine<'a>(
     Ok(engine)
 }
 
-/// The octets of hexadecimal text, with spaces anywhere.
-pub fn octets(alloc: Global, text: &str) -> Result<Vec<u8>, AllocError> {
-    let mut octets = Vec::new(alloc);
-    let mut high = None;
-    for digit in text.chars().filter(|c| *c != ' ') {
-        let digit = digit.to_digit(16).unwrap_or(0);
-        match high.take() {
-            None => high = Some(digit),
-            // A digit is below 16; the remainders show that to the check.
-            Some(first) => octets.push((first % 16 * 16 + digit % 16) as u8)?,
-        }
-    }
-    Ok(octets)
-}
-
 /// A CloseConnection alone.
 pub const CLOSE: &[u8] = b"GIOP\x01\x00\x00\x05\x00\x00\x00\x00";
 
@@ -56,13 +40,3 @@ total messages 1 faults 0 octets 12\n";
 
 /// How many octets its lines before the closing have.
 pub const COMPLETED: usize = 47;
-
-/// What can't be the start of a header.
-pub const WRONG: &[u8] = b"GIOQ";
-
-/// Its lines.
-pub const REFUSED: &[u8] = b"stream fault magic at 4\n\
-total messages 0 faults 1 octets 4\n";
-
-/// The lines of a stream without octets.
-pub const NOTHING: &[u8] = b"total messages 0 faults 0 octets 0\n";

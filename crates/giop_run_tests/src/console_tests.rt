@@ -2,7 +2,7 @@
 
 ghost use Rattle.giop_stream.specs.EngineHolds.{AreOf};
 
-use super::close::{CLOSE, CLOSED, COMPLETED, NOTHING, REFUSED, WRONG, built_in, engine};
+use super::close::{CLOSE, CLOSED, COMPLETED, built_in, engine};
 use super::fakes::{FailingReader, FailingWriter};
 use giop_run::{Ending, Flush, Lines, ProgramFault, RunFault, dump, status};
 use giop_sig::{Catalogue, Requests};
@@ -87,42 +87,6 @@ fn watches(
 fn the_lines_are_written_before_the_next_read(rt: HostRuntime) -> Result<(), Fail> {
     let known = built_in(rt.alloc())?;
     watches(&rt, &known.0, &known.1)
-}
-
-/// Dumps a stream to a vector.
-fn dumps(
-    rt: &(impl Abort + AllocGlobal),
-    catalogue: &Catalogue,
-    requests: &Requests,
-    stream: &[u8],
-    want: &[u8],
-) -> Result<u8, Fail>
-    requires of { AreOf catalogue.now requests.now }
-{
-    let mut lines = Lines::new(rt.alloc(), Vec::new(rt.alloc()))?;
-    let dumped = finished(stream, &mut lines, engine(rt.alloc(), catalogue, requests)?);
-    assert!(rt; lines.writer().as_slice() == want);
-    Ok(status_of(dumped))
-}
-
-fn each_status(
-    rt: &(impl Abort + AllocGlobal),
-    catalogue: &Catalogue,
-    requests: &Requests,
-) -> Result<(), Fail>
-    requires of { AreOf catalogue.now requests.now }
-{
-    let empty = dumps(rt, catalogue, requests, b"", NOTHING)?;
-    let sound = dumps(rt, catalogue, requests, CLOSE, CLOSED)?;
-    let faulted = dumps(rt, catalogue, requests, WRONG, REFUSED)?;
-    assert!(rt; (empty, sound, faulted) == (0, 0, 1));
-    Ok(())
-}
-
-#[test]
-fn the_status_says_whether_a_fault_was_counted(rt: HostRuntime) -> Result<(), Fail> {
-    let known = built_in(rt.alloc())?;
-    each_status(&rt, &known.0, &known.1)
 }
 
 /// Dumps a CloseConnection by reads of an octet, of which one may fail, to a writer of which one write may fail.

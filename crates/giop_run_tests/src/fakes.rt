@@ -1,4 +1,4 @@
-//! A reader and a writer that fail at a chosen call, a reader that is interrupted, and one without an end.
+//! A reader and a writer that fail at a chosen call, and a reader that is interrupted.
 
 use std::cell::{Cell, RefCell};
 use std::io;
@@ -66,17 +66,6 @@ impl Read for InterruptedReader<'_> {
             return Err(io::Error::from(ErrorKind::Interrupted));
         }
         self.left.read(into)
-    }
-}
-
-/// A reader that fills what it is handed, and never ends.
-#[derive(Clone, Copy, Drop)]
-pub struct EndlessReader;
-
-impl Read for EndlessReader {
-    fn read(&mut self, into: &mut [u8]) -> io::Result<usize> {
-        into.fill(b'a');
-        Ok(into.len())
     }
 }
 

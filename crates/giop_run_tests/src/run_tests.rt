@@ -1,14 +1,14 @@
-//! Runs from sources and to outs that fail at one call, for each call.
+//! Runs whose reads are interrupted, engines that failed, and outs with too little room.
 
 ghost use Rattle.giop_stream.specs.EngineHolds.{AreOf};
 
-use super::close::{CLOSE, CLOSED, COMPLETED, NOTHING, REFUSED, WRONG, built_in, engine};
-use super::fakes::{FailingReader, FailingWriter, InterruptedReader};
-use giop_print::{Out, Sheet, Written};
-use giop_run::{Ending, Piecewise, Reading, RunFault, Source, run};
+use super::close::{CLOSE, CLOSED, COMPLETED, built_in, engine};
+use super::fakes::{FailingReader, InterruptedReader};
+use giop_print::{Out, Sheet};
+use giop_run::{Ending, Reading, RunFault, Source, run};
 use giop_sig::{Catalogue, Requests};
 use giop_stream::{Engine, Status, Stop, Totals};
-use std::cell::{Cell, RefCell};
+use std::cell::Cell;
 use std::process::Abort;
 use std::test::Fail;
 
@@ -22,89 +22,6 @@ fn finished<S: Source, O: Out>(
         Ok(report) => Ok(report.totals),
         Err(fault) => Err(fault),
     }
-}
-
-/// Runs what a reader gives, which gives all of it at its first read.
-fn reads(rt: &impl Abort, engine: Engine, stream: &[u8], want: &[u8]) {
-    let mut room = [0; 512];
-    let mut sheet = Sheet::new(&mut room);
-    let mut source = Reading::new(stream);
-    let ran = finished(&mut source, &mut sheet, engine);
-    assert!(rt; ran.is_ok() && sheet.held() == want);
-}
-
-fn each_reader(
-    rt: &(impl Abort + AllocGlobal),
-    catalogue: &Catalogue,
-    requests: &Requests,
-) -> Result<(), Fail>
-    requires of { AreOf catalogue.now requests.now }
-{
-    reads(rt, engine(rt.alloc(), catalogue, requests)?, b"", NOTHING);
-    reads(rt, engine(rt.alloc(), catalogue, requests)?, CLOSE, CLOSED);
-    reads(rt, engine(rt.alloc(), catalogue, requests)?, WRONG, REFUSED);
-    Ok(())
-}
-
-#[test]
-fn lines_come_from_a_reader(rt: HostRuntime) -> Result<(), Fail> {
-    let known = built_in(rt.alloc())?;
-    each_reader(&rt, &known.0, &known.1)
-}
-
-/// What differs where read number `fails_at` of thirteen fails.
-fn read_differs(
-    ran: Result<Totals, RunFault>,
-    reads: usize,
-    held: &[u8],
-    fails_at: usize,
-) -> &'static str {
-    if (ran == Err(RunFault::Read)) != (fails_at < 13) {
-        return "the answer";
-    }
-    if reads != fails_at.saturating_add(1).min(13) {
-        return "the reads";
-    }
-    let due = match fails_at {
-        0..=11 => 0,
-        12 => COMPLETED,
-        _ => CLOSED.len(),
-    };
-    if held.len() == due && CLOSED.starts_with(held) {
-        ""
-    } else {
-        "the lines"
-    }
-}
-
-/// Runs a CloseConnection by reads of an octet, of which one fails.
-fn fails_at_a_read(rt: &impl Abort, engine: Engine, fails_at: usize) {
-    let mut room = [0; 512];
-    let mut sheet = Sheet::new(&mut room);
-    let reads = Cell::new(0);
-    let mut source = Reading::new(FailingReader::new(CLOSE, &reads, fails_at));
-    let ran = finished(&mut source, &mut sheet, engine);
-    let differs = read_differs(ran, reads.get(), sheet.held(), fails_at);
-    assert!(rt; differs.is_empty(), "read {fails_at}: {differs}");
-}
-
-fn each_read_fails(
-    rt: &(impl Abort + AllocGlobal),
-    catalogue: &Catalogue,
-    requests: &Requests,
-) -> Result<(), Fail>
-    requires of { AreOf catalogue.now requests.now }
-{
-    for fails_at in 0..14 {
-        fails_at_a_read(rt, engine(rt.alloc(), catalogue, requests)?, fails_at);
-    }
-    Ok(())
-}
-
-#[test]
-fn a_failing_read_ends_the_run_and_keeps_the_lines(rt: HostRuntime) -> Result<(), Fail> {
-    let known = built_in(rt.alloc())?;
-    each_read_fails(&rt, &known.0, &known.1)
 }
 
 /// What differs where so many reads are interrupted: 65,536 of them are a failure.
@@ -162,55 +79,6 @@ fn each_interrupt(
 fn an_interrupted_read_is_tried_again(rt: HostRuntime) -> Result<(), Fail> {
     let known = built_in(rt.alloc())?;
     each_interrupt(&rt, &known.0, &known.1)
-}
-
-/// What differs where a write may fail.
-fn put_differs(ran: Result<Totals, RunFault>, held: &[u8]) -> &'static str {
-    if !CLOSED.starts_with(held) {
-        return "the lines";
-    }
-    match ran {
-        Ok(_) if held.len() == CLOSED.len() => "",
-        Err(RunFault::Out) if held.len() < CLOSED.len() => "",
-        _ => "the answer",
-    }
-}
-
-/// Runs a CloseConnection to an out of which one write fails; returns whether the run succeeded.
-fn fails_at_a_put(rt: &(impl Abort + AllocGlobal), engine: Engine, fails_at: usize) -> bool {
-    let held = RefCell::new(Vec::new(rt.alloc()));
-    let mut out = Written::new(FailingWriter::new(&held, fails_at));
-    let mut source = Piecewise::new(CLOSE, 12);
-    let ran = finished(&mut source, &mut out, engine);
-    let held = held.into_inner();
-    let differs = put_differs(ran, &held);
-    assert!(rt; differs.is_empty(), "write {fails_at}: {differs}");
-    ran.is_ok()
-}
-
-fn each_put_fails(
-    rt: &(impl Abort + AllocGlobal),
-    catalogue: &Catalogue,
-    requests: &Requests,
-) -> Result<(), Fail>
-    requires of { AreOf catalogue.now requests.now }
-{
-    let mut ended = 0;
-    for fails_at in 0..20 {
-        if fails_at_a_put(rt, engine(rt.alloc(), catalogue, requests)?, fails_at) {
-            ended = fails_at.max(ended);
-        } else {
-            assert!(rt; ended == 0, "write {fails_at}");
-        }
-    }
-    assert!(rt; ended == 19);
-    Ok(())
-}
-
-#[test]
-fn a_failing_put_ends_the_run_and_keeps_a_front(rt: HostRuntime) -> Result<(), Fail> {
-    let known = built_in(rt.alloc())?;
-    each_put_fails(&rt, &known.0, &known.1)
 }
 
 /// What differs in an engine after a failed put.

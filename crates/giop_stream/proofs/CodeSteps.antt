@@ -13,3 +13,4 @@ pub mod OutsideMessages
 pub mod HeaderRuns
 pub mod HeaderEndSteps
 pub mod StreamAgreement
+pub mod AnswersGoOn

@@ -1,6 +1,7 @@
 -- How a stream is cut into messages, octet by octet.
 pub mod Cutting
 pub mod CutFrom
+pub mod Numbers
 pub mod Start
 pub mod OfOctets
 pub mod Stopped

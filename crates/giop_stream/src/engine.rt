@@ -177,7 +177,7 @@ impl<'a> Engine<'a> {
             Ok(()) => Ok(self.framing.status()),
             Err(fault) => {
                 self.failed = true;
-                self.framing.fail(totals, stopped);
+                self.framing.clear(totals, stopped);
                 Err(Stop::Out(fault))
             }
         }
@@ -207,6 +207,18 @@ impl<'a> Engine<'a> {
     {
         let mut requests = self.requests;
         self.feed_by(&mut requests, piece, out)
+    }
+
+    /// Forgets its stream, and that a put failed: it then holds the empty stream, as when it was made, whatever the ids of
+    /// messages answer. The room for open messages stays, so nothing is allocated.
+    pub fn restart(&mut self)
+        ensures holds { (a : Answers) → HoldsBy self.new a [] }
+        // The types, the requests and the limit of open messages stay the same.
+        ensures same { (self.new.table ≡ self.old.table) × (self.new.request_table ≡ self.old.request_table) }
+        ensures most { self.new.most ≡ self.old.most }
+    {
+        self.framing.restart();
+        self.failed = false;
     }
 
     /// Ends the stream: writes its closing, and returns its totals, with a truncated end counted as a fault.

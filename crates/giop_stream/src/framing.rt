@@ -20,6 +20,13 @@ use std::alloc::{AllocError, Global};
 /// How many octets are read of a stream at most.
 pub const LIMIT: u64 = 281_474_976_710_656;
 
+/// The totals before the first octet.
+const NOTHING_READ: Totals = Totals {
+    messages: 0,
+    faults: 0,
+    octets: 0,
+};
+
 /// The state that is kept of a stream.
 #[derive(Drop)]
 pub struct Framing {
@@ -69,13 +76,8 @@ impl Framing {
         ensures ready { IfOk result (λ f. (C : Table) →
             AreReady C (f.totals.octets + 1) f.slots) }
     {
-        let totals = Totals {
-            messages: 0,
-            faults: 0,
-            octets: 0,
-        };
         Ok(Framing {
-            totals,
+            totals: NOTHING_READ,
             stopped: None,
             header: ArrayVec::new(),
             payload_count: 0,
@@ -83,13 +85,26 @@ impl Framing {
         })
     }
 
-    /// After a failed put: keeps only the totals and the stream fault from before the call.
-    pub fn fail(&mut self, totals: Totals, stopped: Option<StreamFault>)
+    /// The state before the first octet, in the same room.
+    pub fn restart(&mut self)
+        ensures shows { (C : Table) (l : Answers) → Shows C l (framing_view self.new) one.fresh }
+        ensures ready { (C : Table) → AreReady C (self.new.totals.octets + 1) self.new.slots }
+        ensures most { self.new.slots.slots.most ≡ self.old.slots.slots.most }
+    {
+        self.clear(NOTHING_READ, None);
+    }
+
+    /// Drops all messages and what has come of a header: only these totals and this stream fault are kept.
+    pub fn clear(&mut self, totals: Totals, stopped: Option<StreamFault>)
         requires read { totals.octets ≤ 2 ^ 48 + 1 }
         requires running { stopped ≡ None → totals.octets ≤ 2 ^ 48 }
         requires few_messages { totals.messages ≤ totals.octets }
         requires few_faults { totals.faults ≤ 3 * totals.octets }
         ensures totals { self.new.totals ≡ totals }
+        ensures stopped { self.new.stopped ≡ stopped }
+        ensures header { self.new.header.items ≡ [] }
+        ensures payload_count { self.new.payload_count ≡ 0 }
+        ensures bare { IsBare self.new.slots }
         ensures most { self.new.slots.slots.most ≡ self.old.slots.slots.most }
         ensures ready { (C : Table) → AreReady C (self.new.totals.octets + 1) self.new.slots }
     {

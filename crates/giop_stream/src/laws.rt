@@ -6,7 +6,9 @@ ghost use Rattle.giop_checkpoint.specs.declared.fault.StreamFault.{StreamFault};
 ghost use Rattle.giop_message.specs.MessageReader.{MessageReader, IsCausal, IsEnding, IsStreamable};
 ghost use Rattle.giop_sig.specs.Table.{Table};
 ghost use Rattle.giop_message.specs.Signatures.{Answers};
+ghost use Rattle.giop_message.specs.HeaderEnds.{AgreesAtEnds};
 ghost use Rattle.giop_stream.specs.AnswersAgree.{AnswersAgree};
+ghost use Rattle.giop_stream.specs.HeaderEndsOfStream.{header_ends_from};
 ghost use Rattle.giop_stream.specs.Rules.{Rules, rules_by};
 ghost use Rattle.giop_stream.specs.Framing.{cut, limit, messages};
 ghost use Rattle.giop_stream.specs.Events.{Event, Open, Opens, Continues, events, open_after, joined, Rising};
@@ -19,6 +21,8 @@ ghost use Rattle.giop_stream.specs.EngineState.{state_of};
 ghost use Rattle.giop_stream.specs.EngineView.{EngineView};
 ghost use Rattle.giop_stream.specs.EngineHolds.{HoldsBy};
 ghost use Rattle.giop_stream.specs.EngineStep.{fresh, step, run, run_state, finish, final_totals};
+
+use giop_message::Correspondent;
 
 // The functions here have no body, and are called for their contracts.
 
@@ -133,4 +137,13 @@ pub fn answers_agree()
         state_of (rules_by C a n) p ≡ state_of (rules_by C b n) p }
     ensures held { (e : EngineView) (a b : Answers) (p : List ℕ) → AnswersAgree e.most p a b →
         HoldsBy e a p → HoldsBy e b p }
+{}
+
+/// For each correspondent, and any octets after a stream, there are answers that agree with it at each header that ends in
+/// them, and with those by which the stream was read. So what an engine does of a piece is known whatever the correspondent
+/// answers, and an engine that holds a stream by the ones goes on by the others, piece by piece.
+pub fn answers_go_on<Q: Correspondent>()
+    ensures { (C : Table) (a : Answers) (n : ℕ) (p q : List ℕ) (st : Q.State) → (b : Answers)
+        × AnswersAgree n p a b
+        × AgreesAtEnds Q.answer Q.notified C st b (header_ends_from (rules_by C b n) p q) }
 {}

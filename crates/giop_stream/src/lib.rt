@@ -21,7 +21,8 @@ mod status;
 pub use engine::{Engine, any_pieces, remaining, text_begins};
 pub use fault::{FramingFault, LoadFault, NewFault, Stop, StreamFault};
 pub use laws::{
-    after_a_stop, answers_agree, each_joined, each_slot, each_step, one_of_each, open_messages,
+    after_a_stop, answers_agree, answers_go_on, each_joined, each_slot, each_step, one_of_each,
+    open_messages,
 };
 pub use slots::MOST_OPEN;
 pub use status::{Status, Totals};

@@ -34,7 +34,7 @@ first_last id next q (p ∷ ps) own h =
     ]
 
 -- to hold what is due and go on is to take it and go on
-pub gone_on_direct : (F : Reader) (f : Flow) (q : Payload) → q.flow ≡ f.id → AreLater f.id f.next (rank f.next q.number) f.held → (f.live && is_to_come f.next q.number) ≡ false
+pub gone_on_direct : (F : Reader) (f : Flow) (q : Payload) → q.flow ≡ f.id → AreLater f.id f.next (rank f.next q.number) f.held → ((is_some f.live) && is_to_come f.next q.number) ≡ false
     → gone_on F (holding f q) ≡ gone_on F (taken F f q)
 unfolding gone_on drained holding first_of at is_due
 gone_on_direct F f q own h due =
@@ -144,11 +144,11 @@ ended_settled : (f : Flow) → f.next < 2 ^ 32 → IsEnded f → IsSettled f
 unfolding IsEnded first_of is_due at
 ended_settled f small h =
     record {
-      live = λ l. later_least f.id f.next (2 ^ 31) f.held (if_more (first f.id f.next f.held) (λ i. not (f.live && is_to_come f.next (get_or f.held i (payload 0 0 [])).number) ≡ false)
+      live = λ l. later_least f.id f.next (2 ^ 31) f.held (if_more (first f.id f.next f.held) (λ i. not ((is_some f.live) && is_to_come f.next (get_or f.held i (payload 0 0 [])).number) ≡ false)
           (λ i. 2 ^ 31 < rank f.next (get_or f.held i (payload 0 0 [])).number)
-          (λ i e. to_come_place f.next (get_or f.held i (payload 0 0 [])).number (and_parts f.live (is_to_come f.next (get_or f.held i (payload 0 0 [])).number) (not-false (f.live && is_to_come f.next (get_or f.held i (payload 0 0 [])).number) e)).1) h);
-      dead = λ d. if_none (first f.id f.next f.held) (λ i. not (f.live && is_to_come f.next (get_or f.held i (payload 0 0 [])).number) ≡ false)
-          (λ i e. both_ways f.live d (and_parts f.live (is_to_come f.next (get_or f.held i (payload 0 0 [])).number) (not-false (f.live && is_to_come f.next (get_or f.held i (payload 0 0 [])).number) e)).0) h;
+          (λ i e. to_come_place f.next (get_or f.held i (payload 0 0 [])).number (and_parts (is_some f.live) (is_to_come f.next (get_or f.held i (payload 0 0 [])).number) (not-false ((is_some f.live) && is_to_come f.next (get_or f.held i (payload 0 0 [])).number) e)).1) h);
+      dead = λ d. if_none (first f.id f.next f.held) (λ i. not ((is_some f.live) && is_to_come f.next (get_or f.held i (payload 0 0 [])).number) ≡ false)
+          (λ i e. both_ways (is_some f.live) d (and_parts (is_some f.live) (is_to_come f.next (get_or f.held i (payload 0 0 [])).number) (not-false ((is_some f.live) && is_to_come f.next (get_or f.held i (payload 0 0 [])).number) e)).0) h;
     }
 
 either : (P : Flow → Type 0) (b : Bool) (f g : Flow) → P f → P g → P (cond b f g)
@@ -161,9 +161,9 @@ unfolding gone_on ended without_stale_fin drained IsEnded first_of is_due at
 gone_on_ends F f =
     let d : Flow = drained_at_most F (length f.held) f in
     let c : Flow = record (closed d Fin) { fin = None } in
-    let e : Flow = cond (fin_is_reached d.next d.live d.fin) (drained_at_most F (length c.held) c) d in
-    let h : IsEnded e = either IsEnded (fin_is_reached d.next d.live d.fin) (drained_at_most F (length c.held) c) d (flowing_ends F (length c.held) c (omega arith)) (flowing_ends F (length f.held) f (omega arith)) in
-    either IsEnded e.live e (record e { fin = None }) h h
+    let e : Flow = cond (fin_is_reached d.next (is_some d.live) d.fin) (drained_at_most F (length c.held) c) d in
+    let h : IsEnded e = either IsEnded (fin_is_reached d.next (is_some d.live) d.fin) (drained_at_most F (length c.held) c) d (flowing_ends F (length c.held) c (omega arith)) (flowing_ends F (length f.held) f (omega arith)) in
+    either IsEnded (is_some e.live) e (record e { fin = None }) h h
 
 relieved_ends : (A : Setting) (count : ℕ) (f : Flow) → IsEnded f → IsEnded (within_bounds A count f)
 unfolding within_bounds gap
@@ -177,7 +177,7 @@ relieved_ends A (suc count) f h =
 pub came_settled : (A : Setting) (f : Flow) (p : Payload) → IsSettled f → (payload_came A f p).next < 2 ^ 32 → IsSettled (payload_came A f p)
 unfolding payload_came
 came_settled A f p t =
-    let q : Payload = left f.next f.live p in
+    let q : Payload = left f.next (is_some f.live) p in
     let r : Flow = within_bounds A (length f.held + 1) (gone_on A.faulted (holding f q)) in
     either (λ (g : Flow). g.next < 2 ^ 32 → IsSettled g) (nat_eq (length q.octets) 0 || has_as_much f.id q.number (length q.octets) f.held) f r (λ s. t)
     (λ s. ended_settled r s (relieved_ends A (length f.held + 1) (gone_on A.faulted (holding f q)) (gone_on_ends A.faulted (holding f q))))
@@ -186,7 +186,11 @@ pub fin_settled : (F : Reader) (f : Flow) (n : ℕ) → IsSettled f → (fin_cam
 unfolding fin_came
 fin_settled F f n t =
     let g : Flow = gone_on F (record f { fin = Some n }) in
-    either (λ (g : Flow). g.next < 2 ^ 32 → IsSettled g) (f.live && nat_eq (age f.next n) 0) g f (λ s. ended_settled g s (gone_on_ends F (record f { fin = Some n }))) (λ s. t)
+    either (λ (g : Flow). g.next < 2 ^ 32 → IsSettled g) ((is_some f.live) && nat_eq (age f.next n) 0) g f (λ s. ended_settled g s (gone_on_ends F (record f { fin = Some n }))) (λ s. t)
+
+pub gap_settled : (F : Reader) (f : Flow) → (gap F f).next < 2 ^ 32 → IsSettled (gap F f)
+unfolding gap
+gap_settled F f small = ended_settled (gone_on F (closed f Gap)) small (gone_on_ends F (closed f Gap))
 
 abbrev IfSmall : Flow → Type 0
 IfSmall g = g.next < 2 ^ 32 → IsSettled g
@@ -203,9 +207,9 @@ missed_by F (suc count) n f t =
 pub missed_settled : (F : Reader) (count n : ℕ) (f : Flow) → IsSettled f → (acknowledgement_came F count n f).next < 2 ^ 32 → IsSettled (acknowledgement_came F count n f)
 missed_settled F count n f t = missed_by F count n f (λ s. t)
 
-pub fresh_settled : (f : Flow) → f.live ≡ false → f.held ≡ [] → IsSettled f
+pub fresh_settled : (f : Flow) → (is_some f.live) ≡ false → is_some (first_of f) ≡ false → IsSettled f
 unfolding first_of first
-fresh_settled f dead none = record { live = λ l. absurd (both_ways f.live dead l); dead = λ d. rw none refl }
+fresh_settled f dead none = record { live = λ l. absurd (both_ways (is_some f.live) dead l); dead = λ d. none }
 
 later_has : (id next number count : ℕ) (ps : List Payload) → AreLater id next (rank next number) ps → has_as_much id number count ps ≡ false
 unfolding AreLater has_as_much
@@ -222,10 +226,10 @@ later_has id next number count (p ∷ ps) h =
     (later_has id next number count ps h.1)
 
 -- what is due in a settled flow is before all that it holds
-due_later : (f : Flow) (q : Payload) → f.next < 2 ^ 32 → IsSettled f → (f.live ≡ true → q.number ≡ f.next) → AreLater f.id f.next (rank f.next q.number) f.held
+due_later : (f : Flow) (q : Payload) → f.next < 2 ^ 32 → IsSettled f → ((is_some f.live) ≡ true → q.number ≡ f.next) → AreLater f.id f.next (rank f.next q.number) f.held
 unfolding first_of
 due_later f q small t due =
-    elim (cases_Bool f.live) [
+    elim (cases_Bool (is_some f.live)) [
       | inl l ↦
           (let e : 2 ^ 31 ≡ rank f.next q.number = rw (due l) (omega arith) in
           subst (λ (n : ℕ). AreLater f.id f.next n f.held) e (t.live l))
@@ -233,12 +237,12 @@ due_later f q small t due =
     ]
 
 -- a payload that is due at once: what it does, without holding it
-pub came_direct : (A : Setting) (f : Flow) (p q : Payload) → q ≡ left f.next f.live p → p.flow ≡ f.id → f.next < 2 ^ 32 → IsSettled f → nat_eq (length q.octets) 0 ≡ false
-    → (f.live ≡ true → q.number ≡ f.next) → (f.live && is_to_come f.next q.number) ≡ false
+pub came_direct : (A : Setting) (f : Flow) (p q : Payload) → q ≡ left f.next (is_some f.live) p → p.flow ≡ f.id → f.next < 2 ^ 32 → IsSettled f → nat_eq (length q.octets) 0 ≡ false
+    → ((is_some f.live) ≡ true → q.number ≡ f.next) → ((is_some f.live) && is_to_come f.next q.number) ≡ false
     → payload_came A f p ≡ within_bounds A (length f.held + 1) (gone_on A.faulted (taken A.faulted f q))
 came_direct A f p q e own small t some due now =
     let later : AreLater f.id f.next (rank f.next q.number) f.held = due_later f q small t due in
-    let mine : q.flow ≡ f.id = ap (λ (r : Payload). r.flow) e ∙ left_flow f.next f.live p ∙ own in
+    let mine : q.flow ≡ f.id = ap (λ (r : Payload). r.flow) e ∙ left_flow f.next (is_some f.live) p ∙ own in
     came_held A f p q e (or_from (nat_eq (length q.octets) 0) (has_as_much f.id q.number (length q.octets) f.held) some (later_has f.id f.next q.number (length q.octets) f.held later))
     ∙ ap (within_bounds A (length f.held + 1)) (gone_on_direct A.faulted f q mine later now)
 

@@ -1,7 +1,9 @@
 pub mod Direct
+pub mod Others
 pub mod Preserving
 pub mod Lefts
 pub mod Room
 mod Rows
+pub mod States
 pub mod Steps
 pub mod Truth

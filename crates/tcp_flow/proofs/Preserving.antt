@@ -40,8 +40,8 @@ pub rest_keeps : (F : Reader) (P : Flow → Type 0) → Keeps F P → (d : Flow)
 unfolding ended without_stale_fin
 rest_keeps F P k d q =
     let c : Flow = record (closed d Fin) { fin = None } in
-    let e : P (ended F d) = cond_keeps P (fin_is_reached d.next d.live d.fin) (drained F c) d (drained_keeps F P k c (k.fins (closed d Fin) None (k.closes d Fin q))) q in
-    cond_keeps P (ended F d).live (ended F d) (record (ended F d) { fin = None }) e (k.fins (ended F d) None e)
+    let e : P (ended F d) = cond_keeps P (fin_is_reached d.next (is_some d.live) d.fin) (drained F c) d (drained_keeps F P k c (k.fins (closed d Fin) None (k.closes d Fin q))) q in
+    cond_keeps P (is_some (ended F d).live) (ended F d) (record (ended F d) { fin = None }) e (k.fins (ended F d) None e)
 
 pub gone_on_keeps : (F : Reader) (P : Flow → Type 0) → Keeps F P → (f : Flow) → P f → P (gone_on F f)
 unfolding gone_on

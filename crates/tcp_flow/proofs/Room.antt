@@ -1,5 +1,5 @@
 -- The pool's blocks suffice behind each payload: the gaps end, and what other flows hold is left alone.
-use Rattle.std.proofs.Common.{◌≡◌, ℕ, zero, suc, ◌+◌, ◌/◌, ◌<◌, ◌≤◌, Bool, true, false, cond, nat_eq, nat_lt, ◌&&◌, ◌||◌, not, List, [], ◌∷◌, ◌++◌, length, drop, get_or, Option, Some, None, is_some, refl, sym, ◌∙◌, ap, subst, arith, inl, inr}
+use Rattle.std.proofs.Common.{◌≡◌, ℕ, zero, suc, ◌+◌, ◌-◌, ◌/◌, ◌<◌, ◌≤◌, Bool, true, false, cond, nat_eq, nat_lt, ◌&&◌, ◌||◌, not, List, [], ◌∷◌, ◌++◌, length, drop, get_or, Option, Some, None, is_some, refl, sym, ◌∙◌, ap, subst, arith, inl, inr}
 use Rattle.std.specs.List.{remove}
 use Rattle.std.proofs.lemmas.Bool.{cases_Bool, and_cases, or_cases, or_parts, and_parts, ltb-false, true≢false, eq-eqb, or_left, or_right, and_left, cond-true, cond-false}
 use Rattle.std.proofs.lemmas.List.{nil_from_length, length-append}
@@ -11,7 +11,7 @@ use Rattle.tcp_waiting.specs.Payload.{Payload, payload, window, earlier, first, 
 use Rattle.tcp_flow.specs.Flow.{Flow, Event, Begins, Delivers, Closes, Reader, Setting, left, with_event, delivered, begun, taken, header_at, first_of, at, drained_at_most, drained, closed, gone_on, gap, is_too_much, within_bounds, acknowledgement_came, holding, payload_came, fin_came}
 use Rattle.tcp_waiting.proofs.Firsts.{first_within, first_own}
 use Rattle.tcp_flow.proofs.Steps.{length_remove, flowing_takes, due_now}
-use Rattle.tcp_flow.proofs.Preserving.{Keeps, flowing_by, rest_keeps, gone_on_keeps, relieved_keeps, missed_keeps}
+use Rattle.tcp_flow.proofs.Preserving.{gap_keeps, Keeps, flowing_by, rest_keeps, gone_on_keeps, relieved_keeps, missed_keeps}
 
 same : {X : Type 0} (get : Flow → X) (b : Bool) (f g : Flow) (x : X) → get f ≡ x → get g ≡ x → get (cond b f g) ≡ x
 same get true f g x e d = e
@@ -31,28 +31,28 @@ unfolding delivered with_event
 delivered_stays F f p =
     let events : List Event = f.events ++ Delivers p.octets ∷ [] in
     let next : ℕ = onward p.number (length p.octets) in
-    stays_either f (F events) (record { id = f.id; next = next; live = false; fin = f.fin; held = f.held; events = events ++ Closes Fault ∷ [] })
+    stays_either f (F events) (record { id = f.id; next = next; live = None; fin = f.fin; held = f.held; events = events ++ Closes Fault ∷ [] })
     (record { id = f.id; next = next; live = f.live; fin = f.fin; held = f.held; events = events }) (record { held = refl; id = refl }) (record { held = refl; id = refl })
 
 begun_stays : (F : Reader) (f : Flow) (p : Payload) (r : Option ℕ) → Stays f (begun F f p r)
 unfolding begun with_event
 begun_stays F f p None = record { held = refl; id = refl }
 begun_stays F f p (Some i) =
-    let g : Flow = record { id = f.id; next = f.next; live = true; fin = f.fin; held = f.held; events = f.events ++ Begins (onward p.number i) ∷ [] } in
+    let g : Flow = record { id = f.id; next = f.next; live = Some (onward p.number i); fin = f.fin; held = f.held; events = f.events ++ Begins (onward p.number i) ∷ [] } in
     let s : Stays g (delivered F g (payload p.flow (onward p.number i) (drop i p.octets))) = delivered_stays F g (payload p.flow (onward p.number i) (drop i p.octets)) in
     record { held = s.held; id = s.id }
 
 pub taken_stays : (F : Reader) (f : Flow) (p : Payload) → Stays f (taken F f p)
 unfolding taken
 taken_stays F f p =
-    let q : Payload = left f.next f.live p in
-    stays_either f (nat_eq (length q.octets) 0) f (cond f.live (delivered F f q) (begun F f q (header_at q.octets))) (record { held = refl; id = refl })
-    (stays_either f f.live (delivered F f q) (begun F f q (header_at q.octets)) (delivered_stays F f q) (begun_stays F f q (header_at q.octets)))
+    let q : Payload = left f.next (is_some f.live) p in
+    stays_either f (nat_eq (length q.octets) 0) f (cond (is_some f.live) (delivered F f q) (begun F f q (header_at q.octets))) (record { held = refl; id = refl })
+    (stays_either f (is_some f.live) (delivered F f q) (begun F f q (header_at q.octets)) (delivered_stays F f q) (begun_stays F f q (header_at q.octets)))
 
 closed_stays : (f : Flow) (cause : CloseCause) → Stays f (closed f cause)
 unfolding closed with_event
 closed_stays f cause =
-    stays_either f f.live (record { id = f.id; next = f.next; live = false; fin = f.fin; held = f.held; events = f.events ++ Closes cause ∷ [] }) f (record { held = refl; id = refl }) (record { held = refl; id = refl })
+    stays_either f (is_some f.live) (record { id = f.id; next = f.next; live = None; fin = f.fin; held = f.held; events = f.events ++ Closes cause ∷ [] }) f (record { held = refl; id = refl }) (record { held = refl; id = refl })
 
 -- what removing own payloads keeps, a flow keeps
 pub record Holds (P : ℕ → List Payload → Type 0) (id : ℕ) (f : Flow) : Type 0 where
@@ -158,21 +158,21 @@ most_keeps : (F : Reader) (most id : ℕ) → Keeps F (Holds (AtMost most) id)
 unfolding AtMost
 most_keeps F most id = held_keeps F (AtMost most) id (λ ps i l own h. omega (arith, length_remove ps i l))
 
-closed_dead : (f : Flow) (cause : CloseCause) → (closed f cause).live ≡ false
+closed_dead : (f : Flow) (cause : CloseCause) → is_some (closed f cause).live ≡ false
 unfolding closed with_event
 closed_dead f cause =
-    elim (cases_Bool f.live) [
-      | inl e ↦ ap (λ (g : Flow). g.live) (cond-true f.live (record { id = f.id; next = f.next; live = false; fin = f.fin; held = f.held; events = f.events ++ Closes cause ∷ [] }) f e)
-      | inr e ↦ ap (λ (g : Flow). g.live) (cond-false f.live (record { id = f.id; next = f.next; live = false; fin = f.fin; held = f.held; events = f.events ++ Closes cause ∷ [] }) f e) ∙ e
+    elim (cases_Bool (is_some f.live)) [
+      | inl e ↦ ap (λ (g : Flow). (is_some g.live)) (cond-true (is_some f.live) (record { id = f.id; next = f.next; live = None; fin = f.fin; held = f.held; events = f.events ++ Closes cause ∷ [] }) f e)
+      | inr e ↦ ap (λ (g : Flow). (is_some g.live)) (cond-false (is_some f.live) (record { id = f.id; next = f.next; live = None; fin = f.fin; held = f.held; events = f.events ++ Closes cause ∷ [] }) f e) ∙ e
     ]
 
 closed_next : (f : Flow) (cause : CloseCause) → (closed f cause).next ≡ f.next
 unfolding closed with_event
 closed_next f cause =
-    same (λ (g : Flow). g.next) f.live (record { id = f.id; next = f.next; live = false; fin = f.fin; held = f.held; events = f.events ++ Closes cause ∷ [] }) f f.next refl refl
+    same (λ (g : Flow). g.next) (is_some f.live) (record { id = f.id; next = f.next; live = None; fin = f.fin; held = f.held; events = f.events ++ Closes cause ∷ [] }) f f.next refl refl
 
 -- a flow without a live stream takes one at least
-dead_shrinks : (F : Reader) (c : Flow) (i m : ℕ) → c.live ≡ false → first_of c ≡ Some i → length c.held ≤ suc m → Holds (AtMost m) c.id (drained F c)
+dead_shrinks : (F : Reader) (c : Flow) (i m : ℕ) → (is_some c.live) ≡ false → first_of c ≡ Some i → length c.held ≤ suc m → Holds (AtMost m) c.id (drained F c)
 unfolding drained AtMost first_of
 dead_shrinks F c i m dead e l =
     let within : i < length c.held = rw e at (first_within c.id c.next c.held) in
@@ -195,6 +195,14 @@ gap_shrinks F f m some l =
     let e : first c.id c.next c.held ≡ Some i.0 = rw (s.id, s.held, closed_next f Gap) i.1 in
     let h : Holds (AtMost m) c.id (drained F c) = dead_shrinks F c i.0 m (closed_dead f Gap) e (omega (arith, l, ap length s.held)) in
     (rest_keeps F (Holds (AtMost m) c.id) (most_keeps F m c.id) (drained F c) h).held
+
+pub gap_fewer : (F : Reader) (f : Flow) → is_some (first_of f) ≡ true → length (gap F f).held < length f.held
+unfolding first_of
+gap_fewer F f some =
+    let i : (i : ℕ) × (first f.id f.next f.held ≡ Some i) = some_is (first f.id f.next f.held) some in
+    let within : i.0 < length f.held = rw i.1 at (first_within f.id f.next f.held) in
+    let l : length f.held ≤ suc (length f.held - 1) = omega arith in
+    omega (arith, within, gap_shrinks F f (length f.held - 1) some l)
 
 pub none_some : (f : Flow) → length f.held ≤ 0 → is_some (first_of f) ≡ false
 unfolding first_of first
@@ -254,17 +262,17 @@ enough_by A f h o =
       | inr x ↦ ltb-false A.blocks (blocks_of f.held) x
     ]
 
--- behind a payload that payload_came the blocks suffice
+-- behind a payload that came the blocks suffice
 pub room_after : (A : Setting) (f : Flow) (p : Payload) → p.flow ≡ f.id → blocks_of f.held ≤ A.blocks → blocks_of (payload_came A f p).held ≤ A.blocks
 unfolding payload_came holding IsOthers AtMost
 room_after A f p own room =
-    let q : Payload = left f.next f.live p in
+    let q : Payload = left f.next (is_some f.live) p in
     let h : Flow = record f { held = f.held ++ q ∷ [] } in
     let g : Flow = gone_on A.faulted h in
     let r : Flow = within_bounds A (length f.held + 1) g in
     let few : length g.held ≤ length f.held + 1 =
     (gone_on_keeps A.faulted (Holds (AtMost (length f.held + 1)) f.id) (most_keeps A.faulted (length f.held + 1) f.id) h (record { own = refl; held = most_push f.held q })).held in
-    let start : Holds (IsOthers (others f.id f.held)) f.id h = record { own = refl; held = others_push f.id f.held q (left_flow f.next f.live p ∙ own) } in
+    let start : Holds (IsOthers (others f.id f.held)) f.id h = record { own = refl; held = others_push f.id f.held q (left_flow f.next (is_some f.live) p ∙ own) } in
     let k : Keeps A.faulted (Holds (IsOthers (others f.id f.held)) f.id) = others_keeps A.faulted (others f.id f.held) f.id in
     let kept : Holds (IsOthers (others f.id f.held)) f.id r =
     relieved_keeps A (Holds (IsOthers (others f.id f.held)) f.id) k (length f.held + 1) g (gone_on_keeps A.faulted (Holds (IsOthers (others f.id f.held)) f.id) k h start) in
@@ -289,8 +297,12 @@ blocks_keeps F blocks id = held_keeps F (InBlocks blocks) id (λ ps i l own h. o
 pub fin_blocks : (F : Reader) (f : Flow) (n : ℕ) → blocks_of (fin_came F f n).held ≤ blocks_of f.held
 unfolding fin_came InBlocks
 fin_blocks F f n =
-    blocks_either (blocks_of f.held) (f.live && nat_eq (age f.next n) 0) (gone_on F (record f { fin = Some n })) f
+    blocks_either (blocks_of f.held) ((is_some f.live) && nat_eq (age f.next n) 0) (gone_on F (record f { fin = Some n })) f
     (gone_on_keeps F (Holds (InBlocks (blocks_of f.held)) f.id) (blocks_keeps F (blocks_of f.held) f.id) (record f { fin = Some n }) (record { own = refl; held = omega arith })).held (omega arith)
+
+pub gap_blocks : (F : Reader) (f : Flow) → blocks_of (gap F f).held ≤ blocks_of f.held
+unfolding InBlocks
+gap_blocks F f = (gap_keeps F (Holds (InBlocks (blocks_of f.held)) f.id) (blocks_keeps F (blocks_of f.held) f.id) f (record { own = refl; held = omega arith })).held
 
 pub missed_blocks : (F : Reader) (count n : ℕ) (f : Flow) → blocks_of (acknowledgement_came F count n f).held ≤ blocks_of f.held
 unfolding InBlocks

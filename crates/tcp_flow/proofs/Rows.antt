@@ -21,7 +21,7 @@ unfoldable header : List ℕ
 header = 71 ∷ 73 ∷ 79 ∷ 80 ∷ 1 ∷ 0 ∷ []
 
 unfoldable events : List Arrival → ℕ → List Event
-events cs n = (after setting (first_payload setting 7 n header) cs).events
+events cs n = (after setting (first_payload setting 7 n header [] []) cs).events
 
 row-begins : events ([]) 1000 ≡ Begins 1000 ∷ Delivers header ∷ []
 unfolding header_at left with_event delivered begun taken earlier first first_of at is_due drained_at_most drained fin_is_reached closed without_stale_fin ended gone_on gap blocks_of is_far is_too_much within_bounds has_as_much holding payload_came fin_came acknowledgement_came step after first_payload events setting header any_bad is_bad

@@ -7,17 +7,17 @@ use Rattle.tcp_waiting.proofs.Firsts.{first_within, first_own}
 use Rattle.tcp_waiting.specs.Payload.{Payload, payload, first, has_as_much}
 use Rattle.tcp_flow.specs.Flow.{Flow, Reader, left, delivered, begun, taken, header_at, first_of, is_due, at, drained_at_most, Setting, is_too_much, within_bounds, gap, acknowledgement_came, payload_came, gone_on, holding}
 
-pub taken_none : (F : Reader) (f : Flow) (p q : Payload) → q ≡ left f.next f.live p → nat_eq (length q.octets) 0 ≡ true → taken F f p ≡ f
+pub taken_none : (F : Reader) (f : Flow) (p q : Payload) → q ≡ left f.next (is_some f.live) p → nat_eq (length q.octets) 0 ≡ true → taken F f p ≡ f
 unfolding taken
 taken_none F f p q e z = rw (← e, z) refl
 
-pub taken_live : (F : Reader) (f : Flow) (p q : Payload) → q ≡ left f.next f.live p → nat_eq (length q.octets) 0 ≡ false → f.live ≡ true → taken F f p ≡ delivered F f q
+pub taken_live : (F : Reader) (f : Flow) (p q : Payload) → q ≡ left f.next (is_some f.live) p → nat_eq (length q.octets) 0 ≡ false → (is_some f.live) ≡ true → taken F f p ≡ delivered F f q
 unfolding taken
-taken_live F f p q e z l = rw (← e, z) (cond-true f.live (delivered F f q) (begun F f q (header_at q.octets)) l)
+taken_live F f p q e z l = rw (← e, z) (cond-true (is_some f.live) (delivered F f q) (begun F f q (header_at q.octets)) l)
 
-pub taken_dead : (F : Reader) (f : Flow) (p q : Payload) → q ≡ left f.next f.live p → nat_eq (length q.octets) 0 ≡ false → f.live ≡ false → taken F f p ≡ begun F f q (header_at q.octets)
+pub taken_dead : (F : Reader) (f : Flow) (p q : Payload) → q ≡ left f.next (is_some f.live) p → nat_eq (length q.octets) 0 ≡ false → (is_some f.live) ≡ false → taken F f p ≡ begun F f q (header_at q.octets)
 unfolding taken
-taken_dead F f p q e z l = rw (← e, z) (cond-false f.live (delivered F f q) (begun F f q (header_at q.octets)) l)
+taken_dead F f p q e z l = rw (← e, z) (cond-false (is_some f.live) (delivered F f q) (begun F f q (header_at q.octets)) l)
 
 -- a payload is taken while it is due
 pub flowing_none : (F : Reader) (count : ℕ) (f : Flow) → first_of f ≡ None → drained_at_most F count f ≡ f
@@ -51,17 +51,17 @@ drain_takes F f g i e d t =
     let u : g ≡ taken F (record f { held = remove f.held i }) (at f i) = t ∙ ap (λ (p : Payload). taken F (record f { held = remove f.held i }) p) same in
     rw (length_remove f.held i within, u) (flowing_takes F (length (remove f.held i)) f i e d)
 
-pub due_now : (f : Flow) (i : ℕ) → f.live ≡ false → is_due f i ≡ true
+pub due_now : (f : Flow) (i : ℕ) → (is_some f.live) ≡ false → is_due f i ≡ true
 unfolding is_due
-due_now f i e = rw (and_left f.live (is_to_come f.next (at f i).number) e) refl
+due_now f i e = rw (and_left (is_some f.live) (is_to_come f.next (at f i).number) e) refl
 
 pub due_reached : (f : Flow) (i : ℕ) → is_to_come f.next (at f i).number ≡ false → is_due f i ≡ true
 unfolding is_due
-due_reached f i e = rw (and_right f.live (is_to_come f.next (at f i).number) e) refl
+due_reached f i e = rw (and_right (is_some f.live) (is_to_come f.next (at f i).number) e) refl
 
-pub due_not : (f : Flow) (i : ℕ) → f.live ≡ true → is_to_come f.next (at f i).number ≡ true → is_due f i ≡ false
+pub due_not : (f : Flow) (i : ℕ) → (is_some f.live) ≡ true → is_to_come f.next (at f i).number ≡ true → is_due f i ≡ false
 unfolding is_due
-due_not f i l e = rw (and_from f.live (is_to_come f.next (at f i).number) l e) refl
+due_not f i l e = rw (and_from (is_some f.live) (is_to_come f.next (at f i).number) l e) refl
 
 -- gaps while too much is held
 pub relieved_stops : (A : Setting) (count : ℕ) (f : Flow) → is_too_much A f ≡ false → within_bounds A count f ≡ f
@@ -96,16 +96,16 @@ missed_none F zero n f h = refl
 missed_none F (suc count) n f h = absurd (omega (arith, h))
 
 -- a payload comes
-pub came_nothing : (A : Setting) (f : Flow) (p q : Payload) → q ≡ left f.next f.live p → (nat_eq (length q.octets) 0 || has_as_much f.id q.number (length q.octets) f.held) ≡ true → payload_came A f p ≡ f
+pub came_nothing : (A : Setting) (f : Flow) (p q : Payload) → q ≡ left f.next (is_some f.live) p → (nat_eq (length q.octets) 0 || has_as_much f.id q.number (length q.octets) f.held) ≡ true → payload_came A f p ≡ f
 unfolding payload_came
 came_nothing A f p q e t =
-    let u : (nat_eq (length (left f.next f.live p).octets) 0 || has_as_much f.id (left f.next f.live p).number (length (left f.next f.live p).octets) f.held) ≡ true = subst (λ (r : Payload). (nat_eq (length r.octets) 0 || has_as_much f.id r.number (length r.octets) f.held) ≡ true) e t in
-    cond-true (nat_eq (length (left f.next f.live p).octets) 0 || has_as_much f.id (left f.next f.live p).number (length (left f.next f.live p).octets) f.held) f (within_bounds A (length f.held + 1) (gone_on A.faulted (holding f (left f.next f.live p)))) u
+    let u : (nat_eq (length (left f.next (is_some f.live) p).octets) 0 || has_as_much f.id (left f.next (is_some f.live) p).number (length (left f.next (is_some f.live) p).octets) f.held) ≡ true = subst (λ (r : Payload). (nat_eq (length r.octets) 0 || has_as_much f.id r.number (length r.octets) f.held) ≡ true) e t in
+    cond-true (nat_eq (length (left f.next (is_some f.live) p).octets) 0 || has_as_much f.id (left f.next (is_some f.live) p).number (length (left f.next (is_some f.live) p).octets) f.held) f (within_bounds A (length f.held + 1) (gone_on A.faulted (holding f (left f.next (is_some f.live) p)))) u
 
-pub came_held : (A : Setting) (f : Flow) (p q : Payload) → q ≡ left f.next f.live p → (nat_eq (length q.octets) 0 || has_as_much f.id q.number (length q.octets) f.held) ≡ false
+pub came_held : (A : Setting) (f : Flow) (p q : Payload) → q ≡ left f.next (is_some f.live) p → (nat_eq (length q.octets) 0 || has_as_much f.id q.number (length q.octets) f.held) ≡ false
     → payload_came A f p ≡ within_bounds A (length f.held + 1) (gone_on A.faulted (holding f q))
 unfolding payload_came
 came_held A f p q e t =
-    let u : (nat_eq (length (left f.next f.live p).octets) 0 || has_as_much f.id (left f.next f.live p).number (length (left f.next f.live p).octets) f.held) ≡ false = subst (λ (r : Payload). (nat_eq (length r.octets) 0 || has_as_much f.id r.number (length r.octets) f.held) ≡ false) e t in
-    cond-false (nat_eq (length (left f.next f.live p).octets) 0 || has_as_much f.id (left f.next f.live p).number (length (left f.next f.live p).octets) f.held) f (within_bounds A (length f.held + 1) (gone_on A.faulted (holding f (left f.next f.live p)))) u
+    let u : (nat_eq (length (left f.next (is_some f.live) p).octets) 0 || has_as_much f.id (left f.next (is_some f.live) p).number (length (left f.next (is_some f.live) p).octets) f.held) ≡ false = subst (λ (r : Payload). (nat_eq (length r.octets) 0 || has_as_much f.id r.number (length r.octets) f.held) ≡ false) e t in
+    cond-false (nat_eq (length (left f.next (is_some f.live) p).octets) 0 || has_as_much f.id (left f.next (is_some f.live) p).number (length (left f.next (is_some f.live) p).octets) f.held) f (within_bounds A (length f.held + 1) (gone_on A.faulted (holding f (left f.next (is_some f.live) p)))) u
     ∙ ap (λ (r : Payload). within_bounds A (length f.held + 1) (gone_on A.faulted (holding f r))) (sym e)

@@ -1,15 +1,15 @@
 -- Streams are gapless, whatever comes.
-use Rattle.std.proofs.Common.{◌≡◌, ℕ, zero, suc, ◌+◌, ◌-◌, ◌^◌, ◌<◌, ◌≤◌, Bool, true, false, cond, nat_eq, nat_lt, ◌&&◌, ◌||◌, not, List, [], ◌∷◌, ◌++◌, length, drop, get_or, Option, Some, None, refl, sym, ◌∙◌, ap, subst, arith, inl, inr}
+use Rattle.std.proofs.Common.{◌≡◌, ℕ, zero, suc, ◌+◌, ◌-◌, ◌^◌, ◌<◌, ◌≤◌, Bool, true, false, cond, nat_eq, nat_lt, ◌&&◌, ◌||◌, not, List, [], ◌∷◌, ◌++◌, length, drop, get_or, Option, Some, None, refl, sym, ◌∙◌, ap, subst, arith, inl, inr, is_some}
 use Rattle.std.specs.List.{remove}
 use Rattle.std.proofs.lemmas.Bool.{cases_lt, cases_Bool, lt-ltb, le-ltb, ltb-false, and_cases, cond-true, cond-false, not-true, and_right, not_from_true, both_ways}
 use Rattle.std.proofs.lemmas.List.{drop-drop, get_or-append_right, get_or_append_left, length-append}
 use Rattle.tcp_flow.specs.declared.flow.CloseCause.TheVariants.{Fault}
 use Rattle.tcp_waiting.specs.Numbers.{ahead, onward, age, is_to_come}
 use Rattle.tcp_waiting.specs.Payload.{Payload, payload, window, has_as_much}
-use Rattle.tcp_flow.specs.Flow.{Flow, Event, Begins, Delivers, Closes, Reader, Setting, left, with_event, delivered, begun, taken, header_at, first_of, is_due, at, closed, payload_came, holding, within_bounds, gone_on, fin_came, acknowledgement_came}
+use Rattle.tcp_flow.specs.Flow.{gap, Flow, Event, Begins, Delivers, Closes, Reader, Setting, left, with_event, delivered, begun, taken, header_at, first_of, is_due, at, closed, payload_came, holding, within_bounds, gone_on, fin_came, acknowledgement_came}
 use Rattle.tcp_flow.specs.Laws.{IsPartOf, MayFollow, AllFollow, AllArePartsOf, due_of, IsGapless}
 use Rattle.tcp_waiting.proofs.Firsts.{first_within, first_own}
-use Rattle.tcp_flow.proofs.Preserving.{Keeps, relieved_keeps, gone_on_keeps, missed_keeps}
+use Rattle.tcp_flow.proofs.Preserving.{gap_keeps, Keeps, relieved_keeps, gone_on_keeps, missed_keeps}
 
 onward_onward : (n k a : ℕ) → onward (onward n k) a ≡ onward n (k + a)
 onward_onward n k a = omega arith
@@ -88,7 +88,7 @@ left_due next live p small l h =
     (payload p.flow (onward p.number (age next p.number)) (drop (age next p.number) p.octets))
     (and_right (nat_lt window (age next p.number)) (not live) (not_from_true live l)) (reached next p.number small h)
 
-delivered_true : (F : Reader) (payloads : List Payload) (g : Flow) (p : Payload) (n : ℕ) → AllArePartsOf payloads g.held → AllFollow payloads g.id None g.events (Some n) → IsPartOf payloads g.id n p.octets → p.number ≡ n → g.live ≡ true
+delivered_true : (F : Reader) (payloads : List Payload) (g : Flow) (p : Payload) (n : ℕ) → AllArePartsOf payloads g.held → AllFollow payloads g.id None g.events (Some n) → IsPartOf payloads g.id n p.octets → p.number ≡ n → (is_some g.live) ≡ true
     → IsGapless payloads (delivered F g p)
 unfolding delivered with_event MayFollow
 delivered_true F payloads g p n held runs has e live =
@@ -97,39 +97,39 @@ delivered_true F payloads g p n held runs has e live =
     let more : AllFollow payloads g.id None events (Some next) = runs_more payloads g.id None (Some n) (Some next) g.events (Delivers p.octets) runs (has, ap (λ (k : ℕ). onward k (length p.octets)) e) in
     let closes : AllFollow payloads g.id None (events ++ Closes Fault ∷ []) None = runs_more payloads g.id None (Some next) None events (Closes Fault) more tt in
     either (IsGapless payloads) (F events)
-    (record { id = g.id; next = next; live = false; fin = g.fin; held = g.held; events = events ++ Closes Fault ∷ [] })
+    (record { id = g.id; next = next; live = None; fin = g.fin; held = g.held; events = events ++ Closes Fault ∷ [] })
     (record { id = g.id; next = next; live = g.live; fin = g.fin; held = g.held; events = events })
     (record { next = onward_small p.number (length p.octets); held = held; events = closes })
-    (record { next = onward_small p.number (length p.octets); held = held; events = when_true (AllFollow payloads g.id None events) g.live (Some next) None live more })
+    (record { next = onward_small p.number (length p.octets); held = held; events = when_true (AllFollow payloads g.id None events) (is_some g.live) (Some next) None live more })
 
-begun_true : (F : Reader) (payloads : List Payload) (g : Flow) (q : Payload) (r : Option ℕ) → IsGapless payloads g → g.live ≡ false → IsPartOf payloads g.id q.number q.octets → IsGapless payloads (begun F g q r)
+begun_true : (F : Reader) (payloads : List Payload) (g : Flow) (q : Payload) (r : Option ℕ) → IsGapless payloads g → (is_some g.live) ≡ false → IsPartOf payloads g.id q.number q.octets → IsGapless payloads (begun F g q r)
 unfolding begun with_event MayFollow
 begun_true F payloads g q None t dead has = t
 begun_true F payloads g q (Some i) t dead has =
     let n : ℕ = onward q.number i in
-    let none : due_of g ≡ None = cond-false g.live (Some g.next) None dead in
+    let none : due_of g ≡ None = cond-false (is_some g.live) (Some g.next) None dead in
     let begins : AllFollow payloads g.id None (g.events ++ Begins n ∷ []) (Some n) =
     runs_more payloads g.id None None (Some n) g.events (Begins n) (subst (AllFollow payloads g.id None g.events) none t.events) refl in
-    delivered_true F payloads (record { id = g.id; next = g.next; live = true; fin = g.fin; held = g.held; events = g.events ++ Begins n ∷ [] }) (payload q.flow n (drop i q.octets)) n t.held begins
+    delivered_true F payloads (record { id = g.id; next = g.next; live = Some n; fin = g.fin; held = g.held; events = g.events ++ Begins n ∷ [] }) (payload q.flow n (drop i q.octets)) n t.held begins
     (has_more payloads g.id q.number i q.octets has) refl refl
 
-pub taken_true : (F : Reader) (payloads : List Payload) (f : Flow) (p : Payload) → IsGapless payloads f → IsPartOf payloads f.id p.number p.octets → (f.live ≡ true → is_to_come f.next p.number ≡ false) → IsGapless payloads (taken F f p)
+pub taken_true : (F : Reader) (payloads : List Payload) (f : Flow) (p : Payload) → IsGapless payloads f → IsPartOf payloads f.id p.number p.octets → ((is_some f.live) ≡ true → is_to_come f.next p.number ≡ false) → IsGapless payloads (taken F f p)
 unfolding taken
 taken_true F payloads f p t has reach =
-    let q : Payload = left f.next f.live p in
-    let left : IsPartOf payloads f.id q.number q.octets = left_has payloads f.id f.next f.live p has in
+    let q : Payload = left f.next (is_some f.live) p in
+    let left : IsPartOf payloads f.id q.number q.octets = left_has payloads f.id f.next (is_some f.live) p has in
     let d : Flow = delivered F f q in
     let b : Flow = begun F f q (header_at q.octets) in
-    let live : IsGapless payloads (cond f.live d b) =
-    elim (cases_Bool f.live) [
+    let live : IsGapless payloads (cond (is_some f.live) d b) =
+    elim (cases_Bool (is_some f.live)) [
       | inl e ↦
-          (let due : q.number ≡ f.next = left_due f.next f.live p t.next e (reach e) in
-          let runs : AllFollow payloads f.id None f.events (Some f.next) = subst (AllFollow payloads f.id None f.events) (cond-true f.live (Some f.next) None e) t.events in
-          when_true (IsGapless payloads) f.live d b e
+          (let due : q.number ≡ f.next = left_due f.next (is_some f.live) p t.next e (reach e) in
+          let runs : AllFollow payloads f.id None f.events (Some f.next) = subst (AllFollow payloads f.id None f.events) (cond-true (is_some f.live) (Some f.next) None e) t.events in
+          when_true (IsGapless payloads) (is_some f.live) d b e
           (delivered_true F payloads f q f.next t.held runs (subst (λ (n : ℕ). IsPartOf payloads f.id n q.octets) due left) due e))
-      | inr e ↦ when_false (IsGapless payloads) f.live d b e (begun_true F payloads f q (header_at q.octets) t e left)
+      | inr e ↦ when_false (IsGapless payloads) (is_some f.live) d b e (begun_true F payloads f q (header_at q.octets) t e left)
     ] in
-    either (IsGapless payloads) (nat_eq (length q.octets) 0) f (cond f.live d b) t live
+    either (IsGapless payloads) (nat_eq (length q.octets) 0) f (cond (is_some f.live) d b) t live
 
 pub true_keeps : (F : Reader) (payloads : List Payload) → Keeps F (IsGapless payloads)
 unfolding first_of is_due at closed with_event MayFollow
@@ -145,19 +145,19 @@ true_keeps F payloads =
           let u : IsGapless payloads g = record { next = t.next; held = have_remove payloads f.held i t.held; events = t.events } in
           taken_true F payloads g p u has
           (λ l.
-          elim (and_cases f.live (is_to_come f.next p.number) (not-true (f.live && is_to_come f.next p.number) d)) [
-            | inl x ↦ absurd (both_ways f.live x l)
+          elim (and_cases (is_some f.live) (is_to_come f.next p.number) (not-true ((is_some f.live) && is_to_come f.next p.number) d)) [
+            | inl x ↦ absurd (both_ways (is_some f.live) x l)
             | inr x ↦ x
           ]);
       closes =
           λ f cause t.
-          let c : Flow = record { id = f.id; next = f.next; live = false; fin = f.fin; held = f.held; events = f.events ++ Closes cause ∷ [] } in
-          elim (cases_Bool f.live) [
+          let c : Flow = record { id = f.id; next = f.next; live = None; fin = f.fin; held = f.held; events = f.events ++ Closes cause ∷ [] } in
+          elim (cases_Bool (is_some f.live)) [
             | inl e ↦
-                (let runs : AllFollow payloads f.id None f.events (Some f.next) = subst (AllFollow payloads f.id None f.events) (cond-true f.live (Some f.next) None e) t.events in
-                when_true (IsGapless payloads) f.live c f e
+                (let runs : AllFollow payloads f.id None f.events (Some f.next) = subst (AllFollow payloads f.id None f.events) (cond-true (is_some f.live) (Some f.next) None e) t.events in
+                when_true (IsGapless payloads) (is_some f.live) c f e
                 (record { next = t.next; held = t.held; events = runs_more payloads f.id None (Some f.next) None f.events (Closes cause) runs tt }))
-            | inr e ↦ when_false (IsGapless payloads) f.live c f e t
+            | inr e ↦ when_false (IsGapless payloads) (is_some f.live) c f e t
           ];
       fins = λ f n t. record { next = t.next; held = t.held; events = t.events };
     }
@@ -218,11 +218,11 @@ pub came_true : (A : Setting) (payloads' : List Payload) (f : Flow) (p : Payload
 unfolding payload_came holding
 came_true A payloads' f p small t =
     let all : List Payload = payloads' ++ p ∷ [] in
-    let q : Payload = left f.next f.live p in
+    let q : Payload = left f.next (is_some f.live) p in
     let u : IsGapless all f = true_grows payloads' p f t in
     let k : Keeps A.faulted (IsGapless all) = true_keeps A.faulted all in
     let h : Flow = record f { held = f.held ++ q ∷ [] } in
-    let v : IsGapless all h = record { next = u.next; held = have_push all f.held q u.held (left_all all f.next f.live p (has_last payloads' p small)); events = u.events } in
+    let v : IsGapless all h = record { next = u.next; held = have_push all f.held q u.held (left_all all f.next (is_some f.live) p (has_last payloads' p small)); events = u.events } in
     either (IsGapless all) (nat_eq (length q.octets) 0 || has_as_much f.id q.number (length q.octets) f.held) f (within_bounds A (length f.held + 1) (gone_on A.faulted h)) u
     (relieved_keeps A (IsGapless all) k (length f.held + 1) (gone_on A.faulted h) (gone_on_keeps A.faulted (IsGapless all) k h v))
 
@@ -230,16 +230,19 @@ pub fin_true : (F : Reader) (payloads' : List Payload) (f : Flow) (n : ℕ) → 
 unfolding fin_came
 fin_true F payloads' f n t =
     let k : Keeps F (IsGapless payloads') = true_keeps F payloads' in
-    either (IsGapless payloads') (f.live && nat_eq (age f.next n) 0) (gone_on F (record f { fin = Some n })) f (gone_on_keeps F (IsGapless payloads') k (record f { fin = Some n }) (k.fins f (Some n) t)) t
+    either (IsGapless payloads') ((is_some f.live) && nat_eq (age f.next n) 0) (gone_on F (record f { fin = Some n })) f (gone_on_keeps F (IsGapless payloads') k (record f { fin = Some n }) (k.fins f (Some n) t)) t
+
+pub gap_true : (F : Reader) (payloads : List Payload) (f : Flow) → IsGapless payloads f → IsGapless payloads (gap F f)
+gap_true F payloads f t = gap_keeps F (IsGapless payloads) (true_keeps F payloads) f t
 
 pub missed_true : (F : Reader) (payloads' : List Payload) (count n : ℕ) (f : Flow) → IsGapless payloads' f → IsGapless payloads' (acknowledgement_came F count n f)
 missed_true F payloads' count n f t = missed_keeps F (IsGapless payloads') (true_keeps F payloads') count n f t
 
-pub fresh_true : (f : Flow) → f.next < 2 ^ 32 → f.live ≡ false → f.held ≡ [] → f.events ≡ [] → IsGapless [] f
+pub fresh_true : (f : Flow) → f.next < 2 ^ 32 → (is_some f.live) ≡ false → f.held ≡ [] → f.events ≡ [] → IsGapless [] f
 unfolding AllArePartsOf AllFollow
 fresh_true f small dead none quiet =
     record {
       next = small;
       held = subst (λ (ps : List Payload). AllArePartsOf [] ps) (sym none) tt;
-      events = subst (λ (hs : List Event). AllFollow [] f.id None hs (due_of f)) (sym quiet) (sym (cond-false f.live (Some f.next) None dead));
+      events = subst (λ (hs : List Event). AllFollow [] f.id None hs (due_of f)) (sym quiet) (sym (cond-false (is_some f.live) (Some f.next) None dead));
     }

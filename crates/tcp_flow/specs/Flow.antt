@@ -1,11 +1,11 @@
--- One flow of a TCP connection, from its first stream on: what it holds, and what happens (meaning).
-use Rattle.std.specs.Prelude.{ℕ, zero, suc, ◌+◌, ◌/◌, Bool, true, false, cond, nat_lt, nat_le, nat_eq, ◌&&◌, ◌||◌, not, List, [], ◌∷◌, ◌++◌, length, drop, Option, Some, None, get_or, is_some}
+-- One flow of a TCP connection, from its first stream on: what it holds, and what happens.
+use Rattle.std.specs.Prelude.{ℕ, zero, suc, ◌+◌, Bool, true, false, cond, nat_lt, nat_le, nat_eq, ◌&&◌, ◌||◌, not, List, [], ◌∷◌, ◌++◌, length, drop, Option, Some, None, get_or, is_some}
 use Rattle.std.specs.Option.{option_map}
 use Rattle.std.specs.List.{remove}
 use Rattle.tcp_flow.specs.declared.flow.CloseCause.{CloseCause}
 use Rattle.tcp_flow.specs.declared.flow.CloseCause.TheVariants.{Fin, Gap, Fault}
 use Rattle.tcp_waiting.specs.Payload.{Payload, payload, window, first, blocks_of, is_far, has_as_much}
-use Rattle.tcp_waiting.specs.Numbers.{ahead, onward, age, is_to_come, rank}
+use Rattle.tcp_waiting.specs.Numbers.{onward, age, is_to_come}
 
 -- what happens in a flow: a stream begins at a number, octets are delivered to it, it closes
 pub data Event : Type 0 where
@@ -25,27 +25,31 @@ pub record Setting : Type 0 where
 abbrev pub setting : Reader → ℕ → Setting
 setting faulted blocks = record { faulted = faulted; blocks = blocks }
 
--- a flow: its id, the number that is due, whether a stream is live, a FIN to come;
+-- a flow: its id, the number that is due, the number that its live stream began with, a FIN to
+-- come;
 -- what this and other flows hold, in the order of coming; and what has happened
 pub record Flow : Type 0 where
   pub id : ℕ
   pub next : ℕ
-  pub live : Bool
+  pub live : Option ℕ
   pub fin : Option ℕ
   pub held : List Payload
   pub events : List Event
 
 -- whether `GIOP` 01 and 00, 01 or 02 stand first
 abbrev pub is_header : List ℕ → Bool
-is_header xs = nat_le 6 (length xs) && nat_eq (get_or xs 0 0) 71 && nat_eq (get_or xs 1 0) 73 && nat_eq (get_or xs 2 0) 79
-    && nat_eq (get_or xs 3 0) 80 && nat_eq (get_or xs 4 0) 1 && nat_le (get_or xs 5 0) 2
+is_header xs =
+    nat_le 6 (length xs) && nat_eq (get_or xs 0 0) 71 && nat_eq (get_or xs 1 0) 73
+    && nat_eq (get_or xs 2 0) 79 && nat_eq (get_or xs 3 0) 80
+    && nat_eq (get_or xs 4 0) 1 && nat_le (get_or xs 5 0) 2
 
 -- where a header stands first
 unfoldable pub header_at : List ℕ → Option ℕ
 header_at [] = None
 header_at (x ∷ xs) = cond (is_header (x ∷ xs)) (Some 0) (option_map suc (header_at xs))
 
--- what is left of a payload: what is before `next` falls away, but it is whole where no stream is live and it begins more than W before
+-- what is left of a payload: what is before `next` falls away, but it is whole where no stream is
+-- live and it begins more than W before
 unfoldable pub left : ℕ → Bool → Payload → Payload
 left next live p = cond (nat_lt window (age next p.number) && not live) p
     (payload p.flow (onward p.number (age next p.number)) (drop (age next p.number) p.octets))
@@ -56,20 +60,24 @@ with_event f h = record f { events = f.events ++ h ∷ [] }
 -- octets are delivered to the live stream, whose reader may come to a fault
 unfoldable pub delivered : Reader → Flow → Payload → Flow
 delivered F f p =
-    let g : Flow = with_event (record f { next = onward p.number (length p.octets) }) (Delivers p.octets) in
-    cond (F g.events) (with_event (record g { live = false }) (Closes Fault)) g
+    let g : Flow =
+    with_event (record f { next = onward p.number (length p.octets) }) (Delivers p.octets) in
+    cond (F g.events) (with_event (record g { live = None }) (Closes Fault)) g
 
 -- the octets from a header on are delivered to a new stream
 unfoldable pub begun : Reader → Flow → Payload → Option ℕ → Flow
 begun F f p None = f
 begun F f p (Some i) =
-    delivered F (with_event (record f { live = true }) (Begins (onward p.number i))) (payload p.flow (onward p.number i) (drop i p.octets))
+    delivered F
+    (with_event (record f { live = Some (onward p.number i) }) (Begins (onward p.number i)))
+    (payload p.flow (onward p.number i) (drop i p.octets))
 
 -- a payload is taken: delivered, or a stream begins in it, or it is nothing
 unfoldable pub taken : Reader → Flow → Payload → Flow
 taken F f p =
-    let q : Payload = left f.next f.live p in
-    cond (nat_eq (length q.octets) 0) f (cond f.live (delivered F f q) (begun F f q (header_at q.octets)))
+    let q : Payload = left f.next (is_some f.live) p in
+    cond (nat_eq (length q.octets) 0) f
+    (cond (is_some f.live) (delivered F f q) (begun F f q (header_at q.octets)))
 
 unfoldable pub first_of : Flow → Option ℕ
 first_of f = first f.id f.next f.held
@@ -79,7 +87,7 @@ at f i = get_or f.held i (payload 0 0 [])
 
 -- whether the held payload at an index is taken now
 unfoldable pub is_due : Flow → ℕ → Bool
-is_due f i = not (f.live && is_to_come f.next (at f i).number)
+is_due f i = not ((is_some f.live) && is_to_come f.next (at f i).number)
 
 -- the first is taken while it is due: at most `count` times
 unfoldable pub drained_at_most : Reader → ℕ → Flow → Flow
@@ -88,7 +96,11 @@ drained_at_most F (suc count) f =
     elim (first_of f) [
       | None ↦ f
       | Some i ↦
-          elim (is_due f i) [ true ↦ drained_at_most F count (taken F (record f { held = remove f.held i }) (at f i)) | false ↦ f ]
+          elim (is_due f i) [
+            | true ↦
+                drained_at_most F count (taken F (record f { held = remove f.held i }) (at f i))
+            | false ↦ f
+          ]
     ]
 
 unfoldable pub drained : Reader → Flow → Flow
@@ -100,15 +112,17 @@ fin_is_reached next live None = false
 fin_is_reached next live (Some n) = live && not (is_to_come next n)
 
 unfoldable pub closed : Flow → CloseCause → Flow
-closed f cause = cond f.live (with_event (record f { live = false }) (Closes cause)) f
+closed f cause = cond (is_some f.live) (with_event (record f { live = None }) (Closes cause)) f
 
 -- a FIN is kept only while a stream is live
 unfoldable pub without_stale_fin : Flow → Flow
-without_stale_fin f = cond f.live f (record f { fin = None })
+without_stale_fin f = cond (is_some f.live) f (record f { fin = None })
 
 -- the stream closes where the FIN is reached, and the flow goes on
 unfoldable pub ended : Reader → Flow → Flow
-ended F f = cond (fin_is_reached f.next f.live f.fin) (drained F (record (closed f Fin) { fin = None })) f
+ended F f =
+    cond (fin_is_reached f.next (is_some f.live) f.fin)
+    (drained F (record (closed f Fin) { fin = None })) f
 
 -- going on
 unfoldable pub gone_on : Reader → Flow → Flow
@@ -118,12 +132,14 @@ unfoldable pub gap : Reader → Flow → Flow
 gap F f = gone_on F (closed f Gap)
 
 unfoldable pub is_too_much : Setting → Flow → Bool
-is_too_much A f = is_far f.id f.next f.held || (is_some (first_of f) && nat_lt A.blocks (blocks_of f.held))
+is_too_much A f =
+    is_far f.id f.next f.held || (is_some (first_of f) && nat_lt A.blocks (blocks_of f.held))
 
 -- gaps while too much is held: at most `count` times
 unfoldable pub within_bounds : Setting → ℕ → Flow → Flow
 within_bounds A zero f = f
-within_bounds A (suc count) f = elim (is_too_much A f) [ true ↦ within_bounds A count (gap A.faulted f) | false ↦ f ]
+within_bounds A (suc count) f =
+    elim (is_too_much A f) [ true ↦ within_bounds A count (gap A.faulted f) | false ↦ f ]
 
 unfoldable pub holding : Flow → Payload → Flow
 holding f p = record f { held = f.held ++ p ∷ [] }
@@ -131,18 +147,24 @@ holding f p = record f { held = f.held ++ p ∷ [] }
 -- a payload comes
 unfoldable pub payload_came : Setting → Flow → Payload → Flow
 payload_came A f p =
-    let q : Payload = left f.next f.live p in
+    let q : Payload = left f.next (is_some f.live) p in
     cond (nat_eq (length q.octets) 0 || has_as_much f.id q.number (length q.octets) f.held) f
     (within_bounds A (length f.held + 1) (gone_on A.faulted (holding f q)))
 
 -- a FIN comes, with the number behind the payload
 unfoldable pub fin_came : Reader → Flow → ℕ → Flow
-fin_came F f n = cond (f.live && nat_eq (age f.next n) 0) (gone_on F (record f { fin = Some n })) f
+fin_came F f n =
+    cond (is_some f.live && nat_eq (age f.next n) 0) (gone_on F (record f { fin = Some n })) f
 
--- an acknowledgement of the opposite flow: what is missing was received; gaps while something is held and the number is to come
+-- an acknowledgement of the opposite flow: what is missing was received; gaps while something is
+-- held and the number is to come
 unfoldable pub acknowledgement_came : Reader → ℕ → ℕ → Flow → Flow
 acknowledgement_came F zero n f = f
-acknowledgement_came F (suc count) n f = elim (is_some (first_of f) && is_to_come f.next n) [ true ↦ acknowledgement_came F count n (gap F f) | false ↦ f ]
+acknowledgement_came F (suc count) n f =
+    elim (is_some (first_of f) && is_to_come f.next n) [
+      | true ↦ acknowledgement_came F count n (gap F f)
+      | false ↦ f
+    ]
 
 -- what comes for a flow
 pub data Arrival : Type 0 where
@@ -155,12 +177,27 @@ step A f (Octets n octets) = payload_came A f (payload f.id n octets)
 step A f (End n) = fin_came A.faulted f n
 step A f (Acknowledged n) = acknowledgement_came A.faulted (length f.held) n f
 
--- the flow after all that payload_came, the first first
+-- the flow after all that comes, the first first
 unfoldable pub after : Setting → Flow → List Arrival → Flow
 after A f [] = f
 after A f (c ∷ cs) = after A (step A f c) cs
 
--- a flow of which the first payload with a header comes
-unfoldable pub first_payload : Setting → ℕ → ℕ → List ℕ → Flow
-first_payload A id n octets =
-    gone_on A.faulted (record { id = id; next = n; live = false; fin = None; held = payload id n octets ∷ []; events = [] })
+-- a flow of which nothing came: a number is due
+abbrev pub fresh : ℕ → ℕ → List Payload → List Event → Flow
+fresh id n held events =
+    record { id = id; next = n; live = None; fin = None; held = held; events = events }
+
+-- a flow of which the first payload with a header comes: its number is due
+unfoldable pub first_payload : Setting → ℕ → ℕ → List ℕ → List Payload → List Event → Flow
+first_payload A id n octets held events =
+    payload_came A (fresh id n held events) (payload id n octets)
+
+-- the payloads that other flows hold
+unfoldable pub held_by_others : ℕ → List Payload → List Payload
+held_by_others id [] = []
+held_by_others id (p ∷ ps) =
+    cond (nat_eq p.flow id) (held_by_others id ps) (p ∷ held_by_others id ps)
+
+-- all that the flow holds falls away
+unfoldable pub forgotten : Flow → Flow
+forgotten f = record f { held = held_by_others f.id f.held }

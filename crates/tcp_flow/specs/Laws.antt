@@ -1,4 +1,4 @@
--- What a stream is: octet by octet, without a hole, what payloads of its flow have at their numbers.
+-- What a stream is: octet by octet, without a hole, what payloads of its flow have there.
 use Rattle.std.specs.Prelude.{◌≡◌, ℕ, ◌<◌, ◌^◌, cond, List, [], ◌∷◌, length, drop, get_or, Option, Some, None, is_some, true, false}
 use Rattle.tcp_waiting.specs.Numbers.{onward, rank}
 use Rattle.tcp_waiting.specs.Payload.{Payload, payload}
@@ -13,25 +13,29 @@ pub record IsPartOf (payloads : List Payload) (id number : ℕ) (octets : List �
   pub number_is : number ≡ onward (get_or payloads index (payload 0 0 [])).number skipped
   pub octets_are : octets ≡ drop skipped (get_or payloads index (payload 0 0 [])).octets
 
--- one happening, by the number that is due in the live stream before and behind it
+-- one event, by the number that is due in the live stream before and behind it
 unfoldable pub MayFollow : List Payload → ℕ → Option ℕ → Event → Option ℕ → Type 0
 MayFollow payloads id None (Begins n) (Some due) = n ≡ due
-MayFollow payloads id (Some due) (Delivers octets) (Some next) = IsPartOf payloads id due octets × (next ≡ onward due (length octets))
+MayFollow payloads id (Some due) (Delivers octets) (Some next) =
+    IsPartOf payloads id due octets × (next ≡ onward due (length octets))
 MayFollow payloads id (Some due) (Closes cause) None = Unit {0}
 MayFollow payloads id before happening behind = ⊥
 
 -- all that happens, one after the other
 unfoldable pub AllFollow : List Payload → ℕ → Option ℕ → List Event → Option ℕ → Type 0
 AllFollow payloads id before [] behind = before ≡ behind
-AllFollow payloads id before (h ∷ hs) behind = (due : Option ℕ) × (MayFollow payloads id before h due × AllFollow payloads id due hs behind)
+AllFollow payloads id before (h ∷ hs) behind =
+    (due : Option ℕ)
+    × (MayFollow payloads id before h due × AllFollow payloads id due hs behind)
 
 unfoldable pub AllArePartsOf : List Payload → List Payload → Type 0
 AllArePartsOf payloads [] = Unit {0}
-AllArePartsOf payloads (p ∷ ps) = IsPartOf payloads p.flow p.number p.octets × AllArePartsOf payloads ps
+AllArePartsOf payloads (p ∷ ps) =
+    IsPartOf payloads p.flow p.number p.octets × AllArePartsOf payloads ps
 
 -- the number that is due where a stream is live
 abbrev pub due_of : Flow → Option ℕ
-due_of f = cond f.live (Some f.next) None
+due_of f = cond (is_some f.live) (Some f.next) None
 
 -- every stream of a flow is so, and what is held payloads
 pub record IsGapless (payloads : List Payload) (f : Flow) : Type 0 where
@@ -42,9 +46,10 @@ pub record IsGapless (payloads : List Payload) (f : Flow) : Type 0 where
 -- each payload that a flow holds has a rank behind `least`
 unfoldable pub AreLater : ℕ → ℕ → ℕ → List Payload → Type 0
 AreLater id next least [] = Unit {0}
-AreLater id next least (p ∷ ps) = (p.flow ≡ id → least < rank next p.number) × AreLater id next least ps
+AreLater id next least (p ∷ ps) =
+    (p.flow ≡ id → least < rank next p.number) × AreLater id next least ps
 
 -- all that a flow holds is to come, and it holds nothing without a live stream
 pub record IsSettled (f : Flow) : Type 0 where
-  pub live : f.live ≡ true → AreLater f.id f.next (2 ^ 31) f.held
-  pub dead : f.live ≡ false → is_some (first_of f) ≡ false
+  pub live : (is_some f.live) ≡ true → AreLater f.id f.next (2 ^ 31) f.held
+  pub dead : (is_some f.live) ≡ false → is_some (first_of f) ≡ false

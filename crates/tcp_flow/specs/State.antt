@@ -1,8 +1,15 @@
 -- A flow as the code has it, with what is held and what has happened.
-use Rattle.std.specs.Prelude.{List}
+use Rattle.std.specs.Prelude.{◌≡◌, List}
 use Rattle.tcp_flow.specs.declared.flow.FlowState.{FlowState}
 use Rattle.tcp_waiting.specs.Payload.{Payload}
 use Rattle.tcp_flow.specs.Flow.{Flow, Event}
 
 abbrev pub state : FlowState → List Payload → List Event → Flow
-state f held events = record { id = f.id; next = f.next; live = f.live; fin = f.fin; held = held; events = events }
+state s held events =
+    record { id = s.id; next = s.next; live = s.live; fin = s.fin; held = held; events = events }
+
+-- the code has a flow: what is held is so, and the listener has observed all that has happened
+pub record IsState (O : List Event → Type 0) (s : FlowState) (held : List Payload) (f : Flow)
+    : Type 0 where
+  pub observed : O f.events
+  pub same : state s held f.events ≡ f

@@ -1,3 +1,4 @@
+mod Counts
 pub mod Firsts
 pub mod Held
 pub mod Packing

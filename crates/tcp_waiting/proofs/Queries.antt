@@ -1,12 +1,13 @@
 -- What is asked of all that waits, from the first to the last.
-use Rattle.std.proofs.Common.{◌≡◌, ℕ, suc, ◌+◌, ◌/◌, ◌<◌, ◌≤◌, false, nat_eq, nat_lt, nat_le, ◌&&◌, ◌||◌, List, [], ◌∷◌, length, drop, get_or, refl, ap, ◌∙◌, arith, add-one}
+use Rattle.std.proofs.Common.{◌≡◌, ◌++◌, ℕ, zero, suc, ◌+◌, ◌/◌, ◌<◌, ◌≤◌, false, nat_eq, nat_lt, nat_le, ◌&&◌, ◌||◌, List, [], ◌∷◌, length, drop, get_or, refl, ap, ◌∙◌, arith, add-one}
+use Rattle.std.specs.List.{remove}
 use Rattle.std.proofs.Math.Seq.{drop-cons}
 use Rattle.std.proofs.Math.ListN.{drop_of_length-le}
 use Rattle.tcp_waiting.specs.declared.pool.Waiting.{Waiting}
 use Rattle.tcp_waiting.specs.Numbers.{ahead}
 use Rattle.tcp_waiting.specs.Payload.{Payload, blocks_of, has_as_much, is_far, window}
 use Rattle.tcp_waiting.specs.Layout.{octets_at, payload_in, held_in, IsLaid, counts}
-use Rattle.tcp_waiting.proofs.Held.{IsWithin, low_top, length_held, get_held, laid_within}
+use Rattle.tcp_waiting.proofs.Held.{IsWithin, low_top, length_held, get_held, laid_within, remove_held}
 use Rattle.tcp_waiting.proofs.Packing.{length_octets}
 
 -- the payload at an index, and those behind it
@@ -48,14 +49,18 @@ pub far_end : (all : List ℕ) (ws : List Waiting) (k id next : ℕ) → length 
 unfolding is_far
 far_end all ws k id next h = rw (nothing_left all ws k h) refl
 
-pub blocks_turn : (all : List ℕ) (ws : List Waiting) (k : ℕ) (w : Waiting) → IsAtIndex all ws k w
-    → blocks_of (drop k (held_in all ws)) ≡ (w.count + 1023) / 1024 + blocks_of (drop (k + 1) (held_in all ws))
+-- one more waits
+pub blocks_push : (ps : List Payload) (p : Payload) → blocks_of (ps ++ p ∷ []) ≡ blocks_of ps + (length p.octets + 1023) / 1024
 unfolding blocks_of
-blocks_turn all ws k w h = rw (h.behind, h.count) refl
+blocks_push [] p = omega arith
+blocks_push (q ∷ ps) p = omega (arith, blocks_push ps p)
 
-pub blocks_end : (all : List ℕ) (ws : List Waiting) (k : ℕ) → length ws ≤ k → blocks_of (drop k (held_in all ws)) ≡ 0
+-- one is removed
+pub blocks_remove : (ps : List Payload) (i : ℕ) (d : Payload) → i < length ps → blocks_of (remove ps i) + (length (get_or ps i d).octets + 1023) / 1024 ≡ blocks_of ps
 unfolding blocks_of
-blocks_end all ws k h = rw (nothing_left all ws k h) refl
+blocks_remove [] i d h = absurd (omega (arith, h))
+blocks_remove (p ∷ ps) zero d h = omega arith
+blocks_remove (p ∷ ps) (suc i) d h = omega (arith, blocks_remove ps i d (omega (arith, h)))
 
 pub counts_top : (low : ℕ) (ws : List Waiting) (top : ℕ) → IsLaid low ws top → low + counts ws ≤ top
 unfolding IsLaid counts
@@ -67,3 +72,12 @@ unfolding IsLaid counts blocks_of
 blocks_counts all low [] h = omega arith
 blocks_counts all low (w ∷ ws) h =
     rw (length_octets all w.from w.count (low_top (w.from + w.count) ws (length all) h.2)) (omega (arith, h.1, blocks_counts all (w.from + w.count) ws h.2))
+
+-- what a payload takes, by its place in memory, is free once it is removed
+pub removed_blocks : (all : List ℕ) (ws : List Waiting) (i : ℕ) (w : Waiting) → IsLaid 0 ws (length all) → i < length ws → w ≡ get_or ws i w
+    → blocks_of (held_in all (remove ws i)) + (w.count + 1023) / 1024 ≡ blocks_of (held_in all ws)
+removed_blocks all ws i w laid h is =
+    let d : Payload = payload_in all w in
+    let at = here all ws i w laid h is in
+    let count : length (get_or (held_in all ws) i d).octets ≡ w.count = ap (λ (p : Payload). length p.octets) (get_held all ws i w d h is) ∙ at.count in
+    rw (remove_held all ws i, ← count) (blocks_remove (held_in all ws) i d (omega (arith, h, length_held all ws)))

@@ -1,7 +1,8 @@
--- How a pool's memory is laid out: the octets of its payloads one behind the other, in the order of coming, with holes.
-use Rattle.std.specs.Prelude.{ℕ, ◌+◌, ◌*◌, ◌<◌, ◌≤◌, List, [], ◌∷◌, ◌++◌, length, map, take, drop}
+-- How a pool's memory is laid out: the octets of its payloads one behind the other, in the order of
+-- coming, with holes.
+use Rattle.std.specs.Prelude.{◌≡◌, ℕ, ◌+◌, ◌*◌, ◌<◌, ◌≤◌, List, [], ◌∷◌, ◌++◌, length, get_or, map, take, drop}
 use Rattle.std.specs.Vec.{vec_capacity}
-use Rattle.tcp_waiting.specs.Payload.{Payload, payload}
+use Rattle.tcp_waiting.specs.Payload.{Payload, payload, blocks_of, count_of}
 use Rattle.tcp_waiting.specs.Pool.{PoolView}
 use Rattle.tcp_waiting.specs.declared.pool.Waiting.{Waiting}
 use Rattle.tcp_waiting.specs.declared.pool.Pool.TheInside.{Inside}
@@ -30,8 +31,17 @@ pub record IsRoomy (a : Inside) : Type 0 where
   pub places : a.blocks + 256 ≤ vec_capacity a.waiting
   pub octets : 2048 * (a.blocks + 256) ≤ vec_capacity a.octets
 
+-- of each flow below how many there are counts, how many payloads it holds
+abbrev pub AreCounts : List ℕ → List Payload → Type 0
+AreCounts counts held =
+    (flow : ℕ) → flow < length counts → get_or counts flow 0 ≡ count_of flow held
+
 abbrev pub IsSound : Inside → Type 0
-IsSound a = IsLaid 0 a.waiting.items (length a.octets.items) × IsRoomy a
+IsSound a =
+    IsLaid 0 a.waiting.items (length a.octets.items)
+    × IsRoomy a
+    × (a.used ≡ blocks_of (held_in a.octets.items a.waiting.items))
+    × AreCounts a.counts.items (held_in a.octets.items a.waiting.items)
 
 -- the octets that wait, one behind the other without holes
 unfoldable pub packed : List ℕ → List Waiting → List ℕ

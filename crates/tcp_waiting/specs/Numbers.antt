@@ -1,7 +1,7 @@
--- Sequence numbers: 32 bits, and they wrap setting (RFC 9293, Sequence Numbers).
+-- Sequence numbers: 32 bits, and they wrap around (RFC 9293, Sequence Numbers).
 use Rattle.std.specs.Prelude.{ℕ, ◌+◌, ◌-◌, ◌%◌, ◌^◌, Bool, cond, nat_lt, ◌&&◌}
 
--- how many numbers it is up from `next` to `number`, setting the end
+-- how many numbers it is up from `next` to `number`, around the end
 abbrev pub ahead : ℕ → ℕ → ℕ
 ahead next number = (number + (2 ^ 32 - next)) % 2 ^ 32
 

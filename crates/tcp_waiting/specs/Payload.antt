@@ -19,11 +19,19 @@ window = 1048576
 -- which of the payloads that a flow holds is first, by its rank and then by its coming
 unfoldable pub earlier : ℕ → Payload → List Payload → Option ℕ → Option ℕ
 earlier next p ps None = Some 0
-earlier next p ps (Some i) = cond (nat_lt (rank next (get_or ps i p).number) (rank next p.number)) (Some (suc i)) (Some 0)
+earlier next p ps (Some i) =
+    cond (nat_lt (rank next (get_or ps i p).number) (rank next p.number)) (Some (suc i)) (Some 0)
 
 unfoldable pub first : ℕ → ℕ → List Payload → Option ℕ
 first id next [] = None
-first id next (p ∷ ps) = cond (nat_eq p.flow id) (earlier next p ps (first id next ps)) (option_map suc (first id next ps))
+first id next (p ∷ ps) =
+    cond (nat_eq p.flow id) (earlier next p ps (first id next ps))
+    (option_map suc (first id next ps))
+
+-- how many payloads a flow holds
+unfoldable pub count_of : ℕ → List Payload → ℕ
+count_of id [] = 0
+count_of id (p ∷ ps) = cond (nat_eq p.flow id) 1 0 + count_of id ps
 
 -- the blocks of 1,024 octets that held payloads take
 unfoldable pub blocks_of : List Payload → ℕ
@@ -33,10 +41,12 @@ blocks_of (p ∷ ps) = (length p.octets + 1023) / 1024 + blocks_of ps
 -- whether one of the payloads that a flow holds ends more than W behind `next`
 unfoldable pub is_far : ℕ → ℕ → List Payload → Bool
 is_far id next [] = false
-is_far id next (p ∷ ps) = (nat_eq p.flow id && nat_lt window (ahead next p.number + length p.octets)) || is_far id next ps
+is_far id next (p ∷ ps) =
+    (nat_eq p.flow id && nat_lt window (ahead next p.number + length p.octets)) || is_far id next ps
 
 -- whether one of the payloads that a flow holds has the number and at least the length
 unfoldable pub has_as_much : ℕ → ℕ → ℕ → List Payload → Bool
 has_as_much id number count [] = false
 has_as_much id number count (p ∷ ps) =
-    (nat_eq p.flow id && nat_eq p.number number && nat_le count (length p.octets)) || has_as_much id number count ps
+    (nat_eq p.flow id && nat_eq p.number number && nat_le count (length p.octets))
+    || has_as_much id number count ps

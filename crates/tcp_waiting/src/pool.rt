@@ -1,10 +1,10 @@
 //! The payloads that wait, of all flows, in the order of coming, in memory that is taken once.
 
-ghost use Rattle.std.specs.Prelude.{◌≡◌, ◌≤◌, ◌<◌, ◌+◌, ◌*◌, ◌/◌, ◌^◌, ◌++◌, ◌∷◌, [], length, IfOk, get_or, Some, nat_eq, nat_le, nat_lt, ◌&&◌};
+ghost use Rattle.std.specs.Prelude.{◌≡◌, ℕ, true, cond, ◌≤◌, ◌<◌, ◌+◌, ◌*◌, ◌/◌, ◌^◌, ◌++◌, ◌∷◌, [], length, IfOk, get_or, Some, nat_eq, nat_le, nat_lt, ◌&&◌};
 ghost use Rattle.tcp_waiting.specs.Numbers.{ahead as spec_ahead};
 ghost use Rattle.std.specs.List.{remove};
 ghost use Rattle.std.specs.Vec.{vec_capacity};
-ghost use Rattle.tcp_waiting.specs.Payload.{payload, first, blocks_of, has_as_much, is_far};
+ghost use Rattle.tcp_waiting.specs.Payload.{payload, count_of, first, blocks_of, has_as_much, is_far};
 ghost use Rattle.tcp_waiting.specs.Layout.{IsLaid, counts, held_in, moved, packed};
 
 use crate::numbers::{ahead, rank};
@@ -40,11 +40,14 @@ impl Waiting {
     }
 }
 
+/// The payloads that wait, of all flows, and the blocks that they take.
 #[derive(Drop)]
 pub struct Pool {
     waiting: Vec<Waiting>,
     octets: Vec<u8>,
+    counts: Vec<usize>,
     blocks: usize,
+    used: usize,
 }
 
 impl Model for Pool {
@@ -60,19 +63,24 @@ impl Model for Pool {
 }
 
 impl Pool {
-    /// A pool of so many blocks of 1,024 octets.
-    pub fn new(alloc: Global, blocks: usize) -> Result<Pool, AllocError>
-        requires { blocks ≤ 1_048_576 }
+    /// A pool of so many blocks of 1,024 octets. What flows below `flows` hold is counted, so that
+    /// nothing is looked for where they hold nothing.
+    pub fn new(alloc: Global, blocks: usize, flows: usize) -> Result<Pool, AllocError>
+        requires blocks { blocks ≤ 1_048_576 }
+        requires flows { flows ≤ 1_048_576 }
         ensures empty { IfOk result (λ p. p.held ≡ []) }
         ensures blocks { IfOk result (λ p. p.blocks ≡ blocks) }
     {
         let most = blocks + 256;
         let waiting = Vec::with_capacity(alloc, most)?;
         let octets = Vec::with_capacity(alloc, 2048 * most)?;
+        let counts = vec![in alloc; 0; flows]?;
         Ok(Pool {
             waiting,
             octets,
+            counts,
             blocks,
+            used: 0,
         })
     }
 
@@ -88,6 +96,9 @@ impl Pool {
     pub fn first(&self, flow: u32, next: u32) -> Option<usize>
         ensures { result ≡ first flow next self.now.held }
     {
+        if self.holds_none(flow) {
+            return None;
+        }
         let mut found: Option<usize> = None;
         let mut index = self.waiting.len();
         while index > 0 {
@@ -112,6 +123,14 @@ impl Pool {
         found
     }
 
+    /// Whether a flow is known to hold nothing.
+    fn holds_none(&self, flow: u32) -> bool
+        ensures { result ≡ true → count_of flow self.now.held ≡ 0 }
+    {
+        (flow as usize) < self.counts.len() && self.counts[flow as usize] == 0
+    }
+
+    /// The sequence number of a payload that waits.
     pub fn number(&self, index: usize) -> u32
         requires { index < length self.now.held }
         ensures { result ≡ (get_or self.now.held index (payload 0 0 [])).number }
@@ -119,6 +138,7 @@ impl Pool {
         self.waiting[index].number
     }
 
+    /// The octets of a payload that waits.
     pub fn octets(&self, index: usize) -> &[u8]
         requires { index < length self.now.held }
         ensures { result.now ≡ (get_or self.now.held index (payload 0 0 [])).octets }
@@ -131,6 +151,9 @@ impl Pool {
     pub fn has_as_much(&self, flow: u32, number: u32, count: usize) -> bool
         ensures { result ≡ has_as_much flow number count self.now.held }
     {
+        if self.holds_none(flow) {
+            return false;
+        }
         let mut index = 0;
         while index < self.waiting.len() {
             let here = self.waiting[index];
@@ -146,6 +169,9 @@ impl Pool {
     pub fn is_far(&self, flow: u32, next: u32) -> bool
         ensures { result ≡ is_far flow next self.now.held }
     {
+        if self.holds_none(flow) {
+            return false;
+        }
         let mut index = 0;
         while index < self.waiting.len() {
             let here = self.waiting[index];
@@ -161,13 +187,7 @@ impl Pool {
     pub fn blocks_in_use(&self) -> usize
         ensures { result ≡ blocks_of self.now.held }
     {
-        let mut total = 0;
-        let mut index = 0;
-        while index < self.waiting.len() {
-            total += (self.waiting[index].count + 1023) / 1024;
-            index += 1;
-        }
-        total
+        self.used
     }
 
     /// How many blocks there are.
@@ -189,6 +209,8 @@ impl Pool {
         make_room(&mut self.waiting, &mut self.octets, octets.len(), most);
         let from = self.octets.len();
         let count = octets.len();
+        self.used += blocks_for(count);
+        count_more(&mut self.counts, flow);
         let _copied = self.octets.extend_from_slice(octets);
         let _noted = self.waiting.push(Waiting {
             flow,
@@ -204,7 +226,44 @@ impl Pool {
         ensures held { self.new.held ≡ remove self.old.held index }
         ensures blocks { self.new.blocks ≡ self.old.blocks }
     {
+        let removed = self.waiting[index];
+        self.used -= blocks_for(removed.count);
+        count_less(&mut self.counts, removed.flow);
         self.waiting.remove(index);
+    }
+}
+
+/// How many blocks so many octets take.
+fn blocks_for(count: usize) -> usize
+    requires { count < 2 ^ 63 }
+    ensures { result ≡ (count + 1023) / 1024 }
+{
+    (count + 1023) / 1024
+}
+
+/// A payload of a flow more is held.
+fn count_more(counts: &mut Vec<usize>, flow: u32)
+    requires { (at : ℕ) → at < length counts.old.items → get_or counts.old.items at 0 < 2 ^ 63 }
+    ensures len { length counts.new.items ≡ length counts.old.items }
+    ensures counts { (at : ℕ) → at < length counts.old.items →
+        get_or counts.new.items at 0 ≡ get_or counts.old.items at 0 + cond (nat_eq flow at) 1 0 }
+{
+    let at = flow as usize;
+    if at < counts.len() {
+        counts[at] += 1;
+    }
+}
+
+/// A payload of a flow less is held.
+fn count_less(counts: &mut Vec<usize>, flow: u32)
+    requires { flow < length counts.old.items → 0 < get_or counts.old.items flow 0 }
+    ensures len { length counts.new.items ≡ length counts.old.items }
+    ensures counts { (at : ℕ) → at < length counts.old.items →
+        get_or counts.new.items at 0 + cond (nat_eq flow at) 1 0 ≡ get_or counts.old.items at 0 }
+{
+    let at = flow as usize;
+    if at < counts.len() {
+        counts[at] -= 1;
     }
 }
 

@@ -25,7 +25,7 @@ use Rattle.giop_stream.specs.EngineState.{State, state_of}
 use Rattle.giop_stream.specs.ViewOfState.{IsReached, Shows}
 use Rattle.giop_stream.specs.Framing.{Message, Cut, limit, cut, fault_of}
 use Rattle.giop_stream.specs.Events.{MessageKey, Takes, open_after}
-use Rattle.giop_stream.specs.Effects.{Tracked, tracked_at, octets_then, tracked_after, with_octet}
+use Rattle.giop_stream.specs.Effects.{Tracked, octets_then, tracked_after, with_octet}
 use Rattle.giop_stream.specs.SlotsRepresent.{RepresentsMessage, SlotsRepresent, event, effect_to}
 use Rattle.giop_stream.specs.PayloadOwner.{owner_of_next}
 use Rattle.giop_stream.specs.HeaderEndsOfStream.{run_header_ends, owner_header_ends, current_header_ends, header_ends_at, header_ends_from}
@@ -37,7 +37,6 @@ use Rattle.giop_stream.proofs.SlotSteps.EventsOnSlots.{own_has, slot_has, nobody
 use Rattle.giop_stream.proofs.CodeSteps.Runs.{over_stays}
 use Rattle.giop_stream.proofs.CodeSteps.PayloadRunSteps.{Within, within_on, octet_adds, octet_owner, begins}
 use Rattle.giop_stream.proofs.CodeSteps.MessageOctets.{runs_on, all_read, header_at, no_current, has_current}
-use Rattle.giop_stream.proofs.CodeSteps.OneOctet.{Adds}
 
 -- ---- a result
 
@@ -264,7 +263,7 @@ module _ {St : Type 0} (answer : St → Answer) (notified : St → CallEvent →
 pub list_answers : (C : Table) (l : RequestTable) (es : List HeaderEnd)
     → AgreesAtEnds (λ (k : RequestTable) id. kept_operation k id) (λ k t. k) C l (by_list l) es
 list_answers C l [] = tt
-list_answers C l (e ∷ es) = (refl, rest (call_event C e.header e.notes) (list_answers C l es))
+list_answers C l (e ∷ es) = (refl, rest (call_event C e) (list_answers C l es))
   where
     rest : (o : Option CallEvent) → AgreesAtEnds (λ (k : RequestTable) id. kept_operation k id) (λ k t. k) C l (by_list l) es
         → AgreesAtEnds (λ (k : RequestTable) id. kept_operation k id) (λ k t. k) C (after_event (λ (k : RequestTable) t. k) l o) (by_list l) es

@@ -167,7 +167,7 @@ module _ (R : Rules) (causal : IsCausal R.reading) (laws : IsStreamable R.readin
       let same : xs ≡ was.payload = sym (octets_are R p was.number xs known) ∙ begun (omega (arith, length_push was.payload x, short)) in
       rw same (omega (arith, length_push was.payload x))
 
-  paid_events : (whole : List Message) (was : Message) (held : List ℕ) → cut p ≡ of_parts whole (Some was) held None
+  pub paid_events : (whole : List Message) (was : Message) (held : List ℕ) → cut p ≡ of_parts whole (Some was) held None
       → nat_lt limit (suc (length p)) ≡ false → events R.most (p ++ x ∷ []) ≡ events R.most p ++ events_of_octet R.most (open_after R.most p) (with_octet was x)
   unfolding of_parts messages open_after
   paid_events whole was held ec room =

@@ -1,5 +1,5 @@
 -- A stream has the same lines by answers that agree for each message whose header has ended.
-use Rattle.std.proofs.Common.{◌≡◌, ℕ, suc, Bool, true, false, List, [], ◌∷◌, ◌++◌, length, map, flat_map, ◌⊎◌, inl, inr, Option, Some, None, refl, sym, ap, subst, ◌∙◌, append_assoc, append-nil}
+use Rattle.std.proofs.Common.{◌≡◌, ℕ, suc, Bool, true, false, List, [], ◌∷◌, ◌++◌, length, map, flat_map, ◌⊎◌, inl, inr, Option, Some, None, refl, sym, ap, subst, ◌∙◌, append_assoc}
 use Rattle.std.specs.Prelude.{◌==◌, ◌||◌, if◌then◌else◌, option_map, option_to_list}
 use Rattle.std.specs.List.{filter, AllByRecursion as Each}
 use Rattle.giop_sig.specs.Table.{Table}
@@ -17,8 +17,7 @@ use Rattle.giop_stream.specs.ViewOfState.{IsOwn, Shows}
 use Rattle.giop_stream.specs.Events.{Event, MessageKey, Open, EventKind, Begins, Takes, Opens, Continues, Cancelled, Faults, Closes, message_key, now_of, own, header_events, events_of_octet, events_of, events_from, events, opened, open_after, joined}
 use Rattle.giop_stream.specs.HeaderOctets.{fronts}
 use Rattle.giop_stream.specs.Framing.{Message, with_payload, cut, messages}
-use Rattle.giop_stream.specs.Lines.{Line, line, Said, lines_of_event, lines_of_events, lines_of_messages, lines}
-use Rattle.giop_stream.specs.Text.{lines_text}
+use Rattle.giop_stream.specs.Lines.{line, Said, lines_of_event, lines_of_events, lines_of_messages, lines}
 use Rattle.giop_stream.specs.Stream.{text, tally, is_over}
 use Rattle.giop_stream.specs.OpenSlots.{Slot, octets_of, is_open, slots_of}
 use Rattle.giop_stream.specs.EngineState.{State, Own, is_named, own_for, own_in, state_of}
@@ -77,7 +76,7 @@ module _ (C : Table) (a b : Answers) (most : ℕ) (p : List ℕ) (h : AnswersAgr
   unfolding octets_of is_over
   octets_agree i = rw said_agree refl
 
-  known_agree : octets_of (rules_by C a most) p ≡ octets_of (rules_by C b most) p
+  pub known_agree : octets_of (rules_by C a most) p ≡ octets_of (rules_by C b most) p
   known_agree = λ j i. octets_agree i j
 
   -- and the same state
@@ -139,7 +138,7 @@ module _ (C : Table) (a b : Answers) where
 
 -- ---- the messages that an engine keeps
 
-each_parts : {A : Type 0} (P : A → Type 0) (xs ys : List A) → Each P (xs ++ ys) → Each P xs × Each P ys
+pub each_parts : {A : Type 0} (P : A → Type 0) (xs ys : List A) → Each P (xs ++ ys) → Each P xs × Each P ys
 each_parts P [] ys h = (tt, h)
 each_parts P (x ∷ xs) ys h =
     let rest = each_parts P xs ys h.1 in
@@ -156,7 +155,7 @@ module _ (P : MessageKey → Type 0) (most : ℕ) where
       go [] k = k.0
       go (x ∷ xs) k = k.0
 
-  each_own : (still_open : List Open) (ms : List Message) → Each (λ e. P e.subject) (events_from most still_open ms)
+  pub each_own : (still_open : List Open) (ms : List Message) → Each (λ e. P e.subject) (events_from most still_open ms)
       → Each (λ m. P (message_key m)) ms
   unfolding events_from
   each_own still_open [] h = tt

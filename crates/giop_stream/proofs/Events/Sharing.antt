@@ -5,7 +5,7 @@ use Rattle.std.proofs.lemmas.Bool.{lt-ltb, le-ltb, cases_lt, ne_eqb, eq-eqb}
 use Rattle.std.proofs.lemmas.List.{append-nil, length_push, get_or_push, take-append-le, drop-append-le, take_all, drop_all}
 use Rattle.giop_message.specs.Headers.{is_fragment}
 use Rattle.giop_stream.specs.Framing.{Message, with_payload, cut, messages}
-use Rattle.giop_stream.specs.Events.{EventKind, Begins, Takes, Opens, Continues, Cancelled, Faults, Closes, Event, Open, own, event_of_open, id, opener_of, goes_past, events_at_header, events_at_octet, events_of_octet, events_of, opened, events_from, events, octet, joined, now_of, header_events, payload_events, Now}
+use Rattle.giop_stream.specs.Events.{EventKind, Begins, Takes, Faults, Event, Open, own, event_of_open, id, opener_of, goes_past, events_at_header, events_at_octet, events_of_octet, events_of, opened, events_from, events, octet, joined, now_of, header_events, payload_events, Now}
 use Rattle.giop_stream.specs.Shares.{continued, share, shares}
 use Rattle.giop_stream.proofs.Lists.{by_growth}
 use Rattle.giop_stream.proofs.Events.EventsOfOctet.{events_of_push, events_of_none}
@@ -71,7 +71,7 @@ pub header_joined : (most : ℕ) (i : ℕ) (still_open : List Open) (m : Message
 header_joined most i still_open m h = events_of_octet_is most i still_open m (events_at_header m) (rw h refl) ∙ silent_header i (now_of m)
 
 -- what one more octet of m adds to the share of i
-more_of : ℕ → List Open → Message → ℕ → List ℕ
+unfoldable pub more_of : ℕ → List Open → Message → ℕ → List ℕ
 more_of i still_open m x = if goes_past m then continued i (opener_of still_open m) (x ∷ []) else (if m.number == i then x ∷ [] else [])
 
 takes_if : (i : ℕ) (now : Now) (o : Option Open) (x : ℕ) (b : Bool)
@@ -81,7 +81,7 @@ unfolding octet
 takes_if i now o x true = about_is i now o (Takes x)
 takes_if i now o x false = own_is i now (Takes x)
 
-octet_joined : (most : ℕ) (i : ℕ) (still_open : List Open) (m : Message) (xs : List ℕ) (x : ℕ)
+pub octet_joined : (most : ℕ) (i : ℕ) (still_open : List Open) (m : Message) (xs : List ℕ) (x : ℕ)
     → joined i (events_of_octet most still_open (with_payload m (xs ++ x ∷ []))) ≡ more_of i still_open (with_payload m (xs ++ x ∷ [])) x
 unfolding more_of payload_events goes_past
 octet_joined most i still_open m xs x =

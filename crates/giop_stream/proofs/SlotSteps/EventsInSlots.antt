@@ -4,7 +4,7 @@ use Rattle.std.specs.Prelude.{◌==◌, ◌&&◌, ◌||◌, if◌then◌else◌,
 use Rattle.std.specs.List.{filter, remove}
 use Rattle.std.proofs.lemmas.Bool.{cases_eq, ne_eqb}
 use Rattle.giop_message.specs.MessageReader.{MessageReader}
-use Rattle.giop_stream.specs.Events.{EventKind, Begins, Takes, Opens, Continues, Cancelled, Faults, Closes, MessageKey, Event, Open, octet, changed, Rising}
+use Rattle.giop_stream.specs.Events.{EventKind, Begins, Opens, Continues, Cancelled, Closes, MessageKey, Event, Open, octet, changed, Rising}
 use Rattle.giop_stream.specs.Lines.{line, lines_of_event, is_last_of, up_to_last_line}
 use Rattle.giop_stream.specs.OpenSlots.{slots_of}
 use Rattle.giop_stream.specs.Effects.{Tracked, tracked_at, lines_of, octets_then, stays, goes, IsNotOpen, slots_at, lines_for}

@@ -1,6 +1,6 @@
 -- Lists of slots: those of the code against those of the specs, one by one; and which are ready for an octet.
-use Rattle.std.proofs.Common.{◌≡◌, ℕ, zero, suc, ◌<◌, ◌≤◌, List, [], ◌∷◌, ◌++◌, length, get_or, refl, sym, ap, Option, Some, None, arith}
-use Rattle.std.specs.Prelude.{slice_get, slice_set, slice_index_or, option_map}
+use Rattle.std.proofs.Common.{◌≡◌, ℕ, zero, suc, ◌<◌, ◌≤◌, List, [], ◌∷◌, ◌++◌, length, get_or, refl, ap, Option, Some, None, arith}
+use Rattle.std.specs.Prelude.{slice_get, slice_set, option_map}
 use Rattle.std.specs.List.{remove, AllByRecursion as Each}
 use Rattle.giop_message.specs.declared.message.Message.{Message}
 use Rattle.giop_entry_table.specs.EntryTable.{revalued}

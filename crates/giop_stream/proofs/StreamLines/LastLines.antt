@@ -5,8 +5,8 @@ use Rattle.std.specs.List.{filter, list_any, AllByRecursion as Each}
 use Rattle.std.proofs.lemmas.Bool.{or_cases, or_right, or_left, and_parts, eq-eqb, eqb-true}
 use Rattle.giop_message.specs.MessageReader.{LineClass, MessageReader, IsEnding, is_last}
 use Rattle.giop_stream.specs.Rules.{Rules}
-use Rattle.giop_stream.specs.Events.{EventKind, Begins, Takes, Opens, Continues, Cancelled, Faults, Closes, Event, events, joined}
-use Rattle.giop_stream.specs.Lines.{Class, Start, ValueClass, CallClass, Continuing, Cancelling, FramingFaultClass, RestClass, FaultClass, EndClass, Stop, rank, Said, class_of, Line, line, lines_of_event, classes, by_class, is_last_of, up_to_last_line, lines_of_messages}
+use Rattle.giop_stream.specs.Events.{EventKind, Cancelled, Faults, Closes, Event, events, joined}
+use Rattle.giop_stream.specs.Lines.{Class, Start, rank, Said, class_of, Line, line, lines_of_event, classes, by_class, is_last_of, up_to_last_line, lines_of_messages}
 use Rattle.giop_stream.specs.Stream.{is_over}
 use Rattle.giop_stream.specs.OpenSlots.{OctetsByNumber, octets_of}
 use Rattle.giop_stream.specs.Effects.{kept_with, lines_for}

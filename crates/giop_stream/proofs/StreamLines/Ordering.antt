@@ -7,7 +7,7 @@ use Rattle.std.proofs.lemmas.List.{append-nil}
 use Rattle.std.proofs.lemmas.List.Elements.{filter-append}
 use Rattle.giop_message.specs.MessageReader.{MessageReader}
 use Rattle.giop_stream.specs.Events.{Event, opened, joined}
-use Rattle.giop_stream.specs.Lines.{Class, Start, ValueClass, CallClass, Continuing, Cancelling, FramingFaultClass, RestClass, FaultClass, EndClass, Stop, rank, class_of, Line, has_class, classes, by_class, is_last_of, up_to_last_line}
+use Rattle.giop_stream.specs.Lines.{Class, Start, rank, class_of, Line, has_class, classes, by_class, is_last_of, up_to_last_line}
 use Rattle.giop_stream.specs.OpenSlots.{OctetsByNumber}
 use Rattle.giop_stream.proofs.StreamLines.EventsTogether.{all_lines, sorted_lines}
 use Rattle.giop_stream.specs.Effects.{Tracked, lines_at, tracked_at, effects, lines_for, kept_with, kept_after}

@@ -9,7 +9,7 @@ use Rattle.giop_message.specs.Headers.{size, is_fragment}
 use Rattle.giop_stream.specs.Rules.{Rules}
 use Rattle.giop_stream.specs.Framing.{Message}
 use Rattle.giop_stream.specs.Kinds.{refused}
-use Rattle.giop_stream.specs.Events.{EventKind, Begins, Takes, Opens, Continues, Cancelled, Faults, Closes, Event, Open, message_key, place, id, own, event_of_open, opener_of, fault_events, events_at_octet, events_at_request_id, events_at_end, events_of_octet, joined, now_of, header_events, payload_events, Now}
+use Rattle.giop_stream.specs.Events.{EventKind, Begins, Takes, Opens, Faults, Closes, Event, Open, message_key, place, id, own, event_of_open, opener_of, fault_events, events_at_octet, events_at_request_id, events_at_end, events_of_octet, joined, now_of, header_events, payload_events, Now}
 use Rattle.giop_message.specs.MessageReader.{LineClass, Value, Call, Rest, Fault, End, MessageReader}
 use Rattle.giop_stream.specs.Lines.{Start, Content, Started, Said, ContinuesMessage, CancelledBy, Faulted, Stopped, Line, has_class, line, lines_of_event, classes, by_class, is_last_of, up_to_last_line}
 use Rattle.giop_stream.specs.Stream.{is_start, start_count}

@@ -1,4 +1,4 @@
-use Rattle.std.proofs.Common.{option_map, option_and_then, sym, ap, ◌∙◌}
+use Rattle.std.proofs.Common.{option_and_then, ap, ◌∙◌}
 use Rattle.giop_print.specs.declared.path.Root.TheVariants as roots
 use Rattle.giop_sig.specs.Table.{operation_in}
 use Rattle.giop_message.specs.HeaderEnds.{operation_of}

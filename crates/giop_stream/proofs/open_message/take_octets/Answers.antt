@@ -1,6 +1,6 @@
 use Rattle.giop_print.specs.Output.{Writes}
 use Rattle.giop_stream.proofs.SlotSteps.Performing.{does_nothing, failed}
-use Rattle.std.proofs.Common.{refl, ap}
+use Rattle.std.proofs.Common.{refl}
 use Rattle.giop_print.proofs.Writing.{writes_failed}
 use Rattle.giop_stream.proofs.CodeSteps.Runs.{none_run, given_text, given_on, given_over}
 use Rattle.giop_stream.proofs.CodeSteps.HeaderEndSteps.{given_told, none_told}

@@ -11,8 +11,5 @@ pub returns-in-Switch-clause-notes : goal.returns-in-Switch-clause-notes
 returns-in-Switch-clause-notes c h here at lines recalls says =
     let path = path_in [] (open_parts c.args.catalogue.now here c.args.outer.now) in
     let k = rw c.in-Switch.is at says in
-    let noted = rw c.switch_type.ensures.tree at c.note_number-in-Switch.ensures.notes in
-    rw (c.in-Switch.is, k.1) (subst (HoldsNoted c.note_number-in-Switch.new.self) (switch_noted (is_header_root c.args.root) path _ h (Number k.0.scalar k.0.n)) (noted h k.0 recalls))
-
-pub returns-in-Number-clause-id : goal.returns-in-Number-clause-id
-returns-in-Number-clause-id c other = c.note_number.ensures.id (c.is_header_member-is_id.ensures 0 ∙ rw other refl)
+    let noted = rw c.switch_type.ensures.tree at c.note_switch.ensures.notes in
+    rw (c.in-Switch.is, k.1) (subst (HoldsNoted c.note_switch.new.self) (switch_noted (is_header_root c.args.root) path _ h k.0.scalar k.0.n at) (noted h k.0 recalls))

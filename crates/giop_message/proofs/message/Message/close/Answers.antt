@@ -1,4 +1,4 @@
-use Rattle.std.proofs.Common.{◌≡◌, true, false, sym, ◌∙◌}
+use Rattle.std.proofs.Common.{◌≡◌, true, sym, ◌∙◌}
 use Rattle.giop_print.proofs.Writing.{writes_err, wrote-append, wrote-front, writes_failed}
 use Rattle.giop_message.specs.Signatures.{signatures_of}
 use Rattle.giop_message.specs.Messages.{message, stage_of, close}

@@ -1,9 +1,9 @@
-use Rattle.std.proofs.Common.{◌≡◌, ◌+◌, ◌++◌, take, drop, take-add, sym, ap, subst, ◌∙◌, append-nil, append_assoc, length-drop, take_all, arith}
+use Rattle.std.proofs.Common.{◌+◌, ◌++◌, take, drop, take-add, sym, ap, ◌∙◌, append-nil, append_assoc, length-drop, take_all, arith}
 use Rattle.std.proofs.lemmas.List.{take-append-drop}
 use Rattle.giop_print.proofs.Writing.{rest_from, wrote-append, wrote-front, wrote-nil, writes_failed}
 use Rattle.giop_message.specs.Signatures.{signatures_of}
 use Rattle.giop_message.specs.HeaderEnds.{after_ends}
-use Rattle.giop_message.specs.MessageState.{Follows, due_text}
+use Rattle.giop_message.specs.MessageState.{due_text}
 use Rattle.giop_message.proofs.Dues.{text_none, text_so_far, text_ended, faulted_behind}
 use Rattle.giop_message.proofs.HeaderEndLaws.{header_ends_none, ends_over, agrees_now, told_more}
 use Rattle.giop_message.proofs.message.Message.take.Goals as goal

@@ -57,7 +57,7 @@ returns-in-Err-clause-text g c a p h agrees =
     rw (← c.self.view_is, added_text R (is_causal (λ number. signatures_of C (l number))) (in_turn C l) p c.args.piece.now) does.text
 
 pub invariant_of-self-in-Err : goal.invariant_of-self-in-Err
-invariant_of-self-in-Err g c = (c.self.invariant.0, c.fail.ensures.ready c.self.inside.catalogue.now)
+invariant_of-self-in-Err g c = (c.self.invariant.0, c.clear.ensures.ready c.self.inside.catalogue.now)
 
 pub returns-in-Ok-clause-told : goal.returns-in-Ok-clause-told
 returns-in-Ok-clause-told g c a p h agrees =

@@ -1,16 +1,31 @@
-use Rattle.std.proofs.Common.{false, refl, sym, ◌∙◌}
+use Rattle.std.proofs.Common.{None, is_some, refl, sym, subst, ◌∙◌}
 use Rattle.std.proofs.lemmas.Bool.{cond-true, cond-false}
 use Rattle.tcp_flow.specs.Flow.{Closes, with_event, closed}
-use Rattle.tcp_flow.specs.State.{state}
+use Rattle.tcp_flow.specs.State.{state, IsState}
+use Rattle.tcp_flow.proofs.States.{by_state}
+use Rattle.tcp_flow.proofs.Truth.{true_keeps}
 use Rattle.tcp_flow.proofs.flow.FlowState.close.Goals as goal
 
-pub returns-then-self-clause-does : goal.returns-then-self-clause-does
+pub returns-in_ok-closes-clause-does : goal.returns-in_ok-closes-clause-does
 unfolding closed with_event
-returns-then-self-clause-does g c =
-    λ held. sym (cond-true c.args.self.now.live (with_event (record (state c.args.self.now held (g.T.Listener.events c.args.to.now)) { live = false }) (Closes c.args.cause)) (state c.args.self.now held (g.T.Listener.events c.args.to.now)) c.if-self.true
-    ∙ rw c.closes.ensures refl)
+returns-in_ok-closes-clause-does g c held f h =
+    let G = IsState (g.T.Listener.observed c.closes.new.self) _ held in
+    by_state (λ f. G (closed f c.args.cause)) _ c.args.self.now held f h (λ events o.
+    let s = state c.args.self.now held events in
+    subst G (sym (cond-true (is_some c.args.self.now.live) (with_event (record s { live = None }) (Closes c.args.cause)) s (sym c.is_live.ensures ∙ c.if-is_live.true)))
+    (record { observed = c.in_ok-closes.ensures events o; same = refl }))
 
-pub returns-else-self-clause-does : goal.returns-else-self-clause-does
+pub returns-else-is_live-clause-does : goal.returns-else-is_live-clause-does
 unfolding closed with_event
-returns-else-self-clause-does g c =
-    λ held. sym (cond-false c.args.self.now.live (with_event (record (state c.args.self.now held (g.T.Listener.events c.args.to.now)) { live = false }) (Closes c.args.cause)) (state c.args.self.now held (g.T.Listener.events c.args.to.now)) c.if-self.false)
+returns-else-is_live-clause-does g c held f h =
+    let G = IsState (g.T.Listener.observed c.args.to.now) c.args.self.now held in
+    by_state (λ f. G (closed f c.args.cause)) _ c.args.self.now held f h (λ events o.
+    let s = state c.args.self.now held events in
+    subst G (sym (cond-false (is_some c.args.self.now.live) (with_event (record s { live = None }) (Closes c.args.cause)) s (sym c.is_live.ensures ∙ c.if-is_live.false)))
+    (record { observed = o; same = refl }))
+
+pub returns-in_ok-closes-clause-gapless : goal.returns-in_ok-closes-clause-gapless
+returns-in_ok-closes-clause-gapless g c payloads held f h t = (true_keeps g.T.Listener.faulted payloads).closes f c.args.cause t
+
+pub returns-else-is_live-clause-gapless : goal.returns-else-is_live-clause-gapless
+returns-else-is_live-clause-gapless g c payloads held f h t = (true_keeps g.T.Listener.faulted payloads).closes f c.args.cause t

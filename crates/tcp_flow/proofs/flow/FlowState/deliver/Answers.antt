@@ -1,17 +1,26 @@
-use Rattle.std.proofs.Common.{◌≡◌, ◌∷◌, ◌++◌, [], true, false, refl}
-use Rattle.tcp_flow.specs.Flow.{Delivers, with_event, delivered}
+use Rattle.std.proofs.Common.{refl, sym, subst, ◌∙◌}
+use Rattle.tcp_waiting.specs.Payload.{payload}
+use Rattle.tcp_flow.specs.Flow.{delivered}
+use Rattle.tcp_flow.specs.State.{state, IsState}
+use Rattle.tcp_flow.proofs.States.{by_state, delivered_on, delivered_fault}
 use Rattle.tcp_flow.proofs.flow.FlowState.deliver.Goals as goal
 
-pub returns-then-delivers-clause-does : goal.returns-then-delivers-clause-does
-unfolding delivered with_event
-returns-then-delivers-clause-does g c =
-    let e : g.T.Listener.faulted (g.T.Listener.events c.args.to.now ++ Delivers c.args.octets.now ∷ []) ≡ true =
-    rw (← c.delivers.ensures.events, ← c.delivers.ensures.answer) c.if-delivers.true in
-    λ held. rw (e, c.closes.ensures, c.delivers.ensures.events, c.onward-self.ensures) refl
+pub returns-in_ok-closes-clause-does : goal.returns-in_ok-closes-clause-does
+returns-in_ok-closes-clause-does g c held f h =
+    let F = g.T.Listener.faulted in
+    let p = payload c.args.self.now.id c.args.number c.args.octets.now in
+    let G = IsState (g.T.Listener.observed c.closes.new.self) _ held in
+    by_state (λ f. G (delivered F f p)) _ c.args.self.now held f h (λ events o.
+    let d = c.in_ok-delivers.ensures events o in
+    subst G (sym (delivered_fault F (state c.args.self.now held events) p (sym d.1 ∙ c.if-branch.true)))
+    (record { observed = c.in_ok-closes.ensures _ d.0; same = rw c.onward-self.ensures refl }))
 
-pub returns-else-delivers-clause-does : goal.returns-else-delivers-clause-does
-unfolding delivered with_event
-returns-else-delivers-clause-does g c =
-    let e : g.T.Listener.faulted (g.T.Listener.events c.args.to.now ++ Delivers c.args.octets.now ∷ []) ≡ false =
-    rw (← c.delivers.ensures.events, ← c.delivers.ensures.answer) c.if-delivers.false in
-    λ held. rw (e, c.delivers.ensures.events, c.onward-self.ensures) refl
+pub returns-else-branch-clause-does : goal.returns-else-branch-clause-does
+returns-else-branch-clause-does g c held f h =
+    let F = g.T.Listener.faulted in
+    let p = payload c.args.self.now.id c.args.number c.args.octets.now in
+    let G = IsState (g.T.Listener.observed c.delivers.new.self) _ held in
+    by_state (λ f. G (delivered F f p)) _ c.args.self.now held f h (λ events o.
+    let d = c.in_ok-delivers.ensures events o in
+    subst G (sym (delivered_on F (state c.args.self.now held events) p (sym d.1 ∙ c.if-branch.false)))
+    (record { observed = d.0; same = rw c.onward-self.ensures refl }))

@@ -1,16 +1,22 @@
-use Rattle.std.proofs.Common.{◌≡◌, ◌<◌, true, false, length, refl, sym, ◌∙◌, ap, arith}
+use Rattle.std.proofs.Common.{◌≡◌, ◌<◌, List, true, false, length, refl, sym, ◌∙◌, ap, subst, arith}
 use Rattle.std.specs.List.{remove}
-use Rattle.tcp_waiting.specs.Payload.{payload}
-use Rattle.tcp_flow.specs.Flow.{Flow, first_of, at, is_due, drained, taken}
-use Rattle.tcp_flow.specs.State.{state}
+use Rattle.tcp_waiting.specs.Payload.{Payload, payload}
+use Rattle.tcp_flow.specs.Flow.{Flow, Event, first_of, at, is_due, drained_at_most, drained, taken}
+use Rattle.tcp_flow.specs.State.{state, IsState}
 use Rattle.tcp_waiting.proofs.Firsts.{first_within}
 use Rattle.tcp_flow.proofs.Steps.{flowing_none, flowing_stays, drain_takes, length_remove, due_now, due_reached, due_not}
+use Rattle.tcp_flow.proofs.States.{by_state, held_of}
 use Rattle.tcp_flow.proofs.flow.FlowState.drain.Goals as goal
-use Rattle.tcp_flow.proofs.flow.FlowState.drain.Goals.{else-self-via-then-self+else-is_to_come, else-self-via-else-self}
+use Rattle.tcp_flow.proofs.flow.FlowState.drain.Goals.{else-is_live-via-then-is_live+else-is_to_come, else-is_live-via-else-is_live}
 
 pub loop-first-init : goal.loop-first-init
 unfolding drained
-loop-first-init g c = (c.first-first.ensures, refl, refl, refl)
+loop-first-init g c = (
+  c.first-first.ensures,
+  (λ f h. (f, (h, ap (λ (ps : List Payload). drained_at_most g.T.Listener.faulted (length ps) f) (held_of _ _ _ f h)))),
+  refl,
+  refl,
+)
 
 pub number-number-requires : goal.number-number-requires
 number-number-requires g c =
@@ -19,9 +25,15 @@ number-number-requires g c =
 
 pub returns-then-is_to_come-clause-does : goal.returns-then-is_to_come-clause-does
 unfolding first_of at
-returns-then-is_to_come-clause-does g c =
-    let d : is_due (state c.loop-first.self c.loop-first.pool.held (g.T.Listener.events c.loop-first.to)) c.in-Some.index ≡ false = due_not (state c.loop-first.self c.loop-first.pool.held (g.T.Listener.events c.loop-first.to)) c.in-Some.index c.if-self.true (rw (← c.number-number.ensures, ← c.is_to_come.ensures) c.if-is_to_come.true) in
-    sym (flowing_stays g.T.Listener.faulted (length c.loop-first.pool.held) (state c.loop-first.self c.loop-first.pool.held (g.T.Listener.events c.loop-first.to)) c.in-Some.index (sym c.loop-first.invariant.0 ∙ c.in-Some.is) d) ∙ c.loop-first.invariant.1
+returns-then-is_to_come-clause-does g c f h =
+    let F = g.T.Listener.faulted in
+    let s = c.loop-first.self in
+    let held = c.loop-first.pool.held in
+    let G = IsState (g.T.Listener.observed c.loop-first.to) s held in
+    let i = c.loop-first.invariant.1 f h in
+    by_state (λ d. drained_at_most F (length held) d ≡ drained F f → G (drained F f)) _ s held i.0 i.1.0 (λ events o e.
+    let d : is_due (state s held events) c.in-Some.index ≡ false = due_not (state s held events) c.in-Some.index (sym c.is_live.ensures ∙ c.if-is_live.true) (rw (← c.number-number.ensures, ← c.is_to_come.ensures) c.if-is_to_come.true) in
+    subst G (sym (flowing_stays F (length held) (state s held events) c.in-Some.index (sym c.loop-first.invariant.0 ∙ c.in-Some.is) d) ∙ e) (record { observed = o; same = refl })) i.1.1
 
 pub octets-requires : goal.octets-requires
 octets-requires g c =
@@ -41,21 +53,36 @@ loop-first-smaller g c =
 pub loop-first-preserved : goal.loop-first-preserved
 unfolding at
 loop-first-preserved g c =
-    let due : is_due (state c.loop-first.self c.loop-first.pool.held (g.T.Listener.events c.loop-first.to)) c.in-Some.index ≡ true =
-    elim c.else-self.branch [
-      | else-self-via-then-self+else-is_to_come w ↦ due_reached (state c.loop-first.self c.loop-first.pool.held (g.T.Listener.events c.loop-first.to)) c.in-Some.index (rw (← c.number-number.ensures, ← w.is_to_come.ensures) w.if-is_to_come.false)
-      | else-self-via-else-self w ↦ due_now (state c.loop-first.self c.loop-first.pool.held (g.T.Listener.events c.loop-first.to)) c.in-Some.index w.if-self.false
-    ] in
-    let G : Flow = state c.take.new.self (remove c.loop-first.pool.held c.in-Some.index) (g.T.Listener.events c.take.new.to) in
-    let t : G ≡ taken g.T.Listener.faulted (record (state c.loop-first.self c.loop-first.pool.held (g.T.Listener.events c.loop-first.to)) { held = remove c.loop-first.pool.held c.in-Some.index }) (payload c.loop-first.self.id (at (state c.loop-first.self c.loop-first.pool.held (g.T.Listener.events c.loop-first.to)) c.in-Some.index).number (at (state c.loop-first.self c.loop-first.pool.held (g.T.Listener.events c.loop-first.to)) c.in-Some.index).octets) =
-    rw (← c.number-number.ensures, ← c.octets.ensures) (c.take.ensures.does (remove c.loop-first.pool.held c.in-Some.index)) in (
+    let F = g.T.Listener.faulted in
+    let s = c.loop-first.self in
+    let held = c.loop-first.pool.held in
+    let index = c.in-Some.index in
+    let rest = remove held index in
+    let due : (events : List Event) → is_due (state s held events) index ≡ true = λ events.
+    elim c.else-is_live.branch [
+      | else-is_live-via-then-is_live+else-is_to_come w ↦ due_reached (state s held events) index (rw (← c.number-number.ensures, ← w.is_to_come.ensures) w.if-is_to_come.false)
+      | else-is_live-via-else-is_live w ↦ due_now (state s held events) index (sym c.is_live.ensures ∙ w.if-is_live.false)
+    ] in (
       c.first-first-in-Some.ensures,
-      rw c.remove.ensures.held (sym (drain_takes g.T.Listener.faulted (state c.loop-first.self c.loop-first.pool.held (g.T.Listener.events c.loop-first.to)) G c.in-Some.index (sym c.loop-first.invariant.0 ∙ c.in-Some.is) due t) ∙ c.loop-first.invariant.1),
+      (λ f h.
+          let i = c.loop-first.invariant.1 f h in
+          by_state (λ d. drained_at_most F (length held) d ≡ drained F f → (n : Flow) × (IsState (g.T.Listener.observed c.take.new.to) c.take.new.self c.remove.new.self.held n × (drained_at_most F (length c.remove.new.self.held) n ≡ drained F f))) _ s held i.0 i.1.0 (λ events o e.
+          let t = c.in_ok-take.ensures.does rest (state s rest events) (record { observed = o; same = refl }) in
+          let n = taken F (state s rest events) (payload s.id c.number-number.result c.octets.result.now) in
+          let same : n ≡ taken F (state s rest events) (payload s.id (at (state s held events) index).number (at (state s held events) index).octets) = rw (← c.number-number.ensures, ← c.octets.ensures) refl in
+          let e' = drain_takes F (state s held events) n index (sym c.loop-first.invariant.0 ∙ c.in-Some.is) (due events) same in
+          (n, (rw c.remove.ensures.held t, rw c.remove.ensures.held (sym e' ∙ e)))) i.1.1),
       c.take.ensures.id ∙ c.loop-first.invariant.2,
       c.remove.ensures.blocks ∙ c.loop-first.invariant.3,
     )
 
 pub returns-clause-does : goal.returns-clause-does
 unfolding first_of
-returns-clause-does g c =
-    sym (flowing_none g.T.Listener.faulted (length c.loop-first.pool.held) (state c.loop-first.self c.loop-first.pool.held (g.T.Listener.events c.loop-first.to)) (sym c.loop-first.invariant.0 ∙ c.in_default.is)) ∙ c.loop-first.invariant.1
+returns-clause-does g c f h =
+    let F = g.T.Listener.faulted in
+    let s = c.loop-first.self in
+    let held = c.loop-first.pool.held in
+    let G = IsState (g.T.Listener.observed c.loop-first.to) s held in
+    let i = c.loop-first.invariant.1 f h in
+    by_state (λ d. drained_at_most F (length held) d ≡ drained F f → G (drained F f)) _ s held i.0 i.1.0 (λ events o e.
+    subst G (sym (flowing_none F (length held) (state s held events) (sym c.loop-first.invariant.0 ∙ c.in_default.is)) ∙ e) (record { observed = o; same = refl })) i.1.1

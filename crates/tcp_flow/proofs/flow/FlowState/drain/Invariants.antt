@@ -1,14 +1,15 @@
 use Rattle.std.proofs.Common.{◌≡◌, length}
 use Rattle.tcp_waiting.specs.Payload.{first}
-use Rattle.tcp_flow.specs.Flow.{drained_at_most, drained}
-use Rattle.tcp_flow.specs.State.{state}
+use Rattle.tcp_flow.specs.Flow.{Flow, drained_at_most, drained}
+use Rattle.tcp_flow.specs.State.{IsState}
 use Rattle.tcp_flow.proofs.flow.FlowState.drain.Given as goal
 
 abbrev pub invariant-loop-first : goal.invariant-loop-first
 invariant-loop-first g l =
     (l.first ≡ first l.self.id l.self.next l.pool.held)
-    × (drained_at_most g.T.Listener.faulted (length l.pool.held) (state l.self l.pool.held (g.T.Listener.events l.to))
-    ≡ drained g.T.Listener.faulted (state l.initial.self l.initial.pool.held (g.T.Listener.events l.initial.to)))
+    × ((f : Flow) → IsState (g.T.Listener.observed l.initial.to) l.initial.self l.initial.pool.held f
+    → (d : Flow) × (IsState (g.T.Listener.observed l.to) l.self l.pool.held d
+    × (drained_at_most g.T.Listener.faulted (length l.pool.held) d ≡ drained g.T.Listener.faulted f)))
     × (l.self.id ≡ l.initial.self.id)
     × (l.pool.blocks ≡ l.initial.pool.blocks)
 

@@ -1,23 +1,40 @@
-use Rattle.std.proofs.Common.{◌≡◌, false, Some, nat_eq, ◌&&◌, sym, ◌∙◌}
+use Rattle.std.proofs.Common.{◌≡◌, false, Some, is_some, nat_eq, ◌&&◌, refl, sym, ◌∙◌, subst}
+use Rattle.std.specs.Prelude.{OnOk}
 use Rattle.std.proofs.lemmas.Bool.{cond-true, cond-false, and_left, and_right, and_from, eq-eqb, ne_eqb}
 use Rattle.tcp_waiting.specs.Numbers.{age}
 use Rattle.tcp_flow.specs.Flow.{gone_on, fin_came}
-use Rattle.tcp_flow.specs.State.{state}
+use Rattle.tcp_flow.specs.State.{state, IsState}
+use Rattle.tcp_flow.proofs.States.{by_state, on_ok_equal, with_fin}
 use Rattle.tcp_flow.proofs.flow.FlowState.take_fin.Goals as goal
-use Rattle.tcp_flow.proofs.flow.FlowState.take_fin.Goals.{else-self-via-then-self+else-age-eq0, else-self-via-else-self}
+use Rattle.tcp_flow.proofs.flow.FlowState.take_fin.Goals.{else-is_live-via-then-is_live+else-age-eq0, else-is_live-via-else-is_live}
 
 pub returns-then-age-eq0-clause-does : goal.returns-then-age-eq0-clause-does
 unfolding fin_came
-returns-then-age-eq0-clause-does g c =
-    c.go_on.ensures.does
-    ∙ sym (cond-true (c.args.self.now.live && (nat_eq (age c.args.self.now.next c.args.number) 0)) (gone_on g.T.Listener.faulted (record (state c.args.self.now c.args.pool.now.held (g.T.Listener.events c.args.to.now)) { fin = Some c.args.number })) (state c.args.self.now c.args.pool.now.held (g.T.Listener.events c.args.to.now)) (and_from c.args.self.now.live (nat_eq (age c.args.self.now.next c.args.number) 0) c.if-self.true (eq-eqb (age c.args.self.now.next c.args.number) 0 (sym c.age.ensures ∙ c.if-age-eq0.true))))
+returns-then-age-eq0-clause-does g c f h =
+    let F = g.T.Listener.faulted in
+    let s = c.args.self.now in
+    let n = c.args.number in
+    let held = c.args.pool.now.held in
+    by_state (λ f. OnOk c.go_on.result (IsState (g.T.Listener.observed c.go_on.new.to) c.go_on.new.self c.go_on.new.pool.held (fin_came F f n))) _ s held f h (λ events o.
+    let S = state s held events in
+    on_ok_equal c.go_on.result _ _ _ _ _
+    (sym (cond-true (is_some s.live && (nat_eq (age s.next n) 0)) (gone_on F (record S { fin = Some n })) S (and_from (is_some s.live) (nat_eq (age s.next n) 0) (sym c.is_live.ensures ∙ c.if-is_live.true) (eq-eqb (age s.next n) 0 (sym c.age.ensures ∙ c.if-age-eq0.true)))))
+    (c.go_on.ensures.does _ (with_fin _ s held S (Some n) (record { observed = o; same = refl }))))
 
-pub returns-else-self-clause-does : goal.returns-else-self-clause-does
+pub returns-clause-does : goal.returns-clause-does
 unfolding fin_came
-returns-else-self-clause-does g c =
-    let e : (c.args.self.now.live && (nat_eq (age c.args.self.now.next c.args.number) 0)) ≡ false =
-    elim c.else-self.branch [
-      | else-self-via-then-self+else-age-eq0 w ↦ and_right c.args.self.now.live (nat_eq (age c.args.self.now.next c.args.number) 0) (ne_eqb (age c.args.self.now.next c.args.number) 0 (λ h. w.if-age-eq0.false (w.age.ensures ∙ h)))
-      | else-self-via-else-self w ↦ and_left c.args.self.now.live (nat_eq (age c.args.self.now.next c.args.number) 0) w.if-self.false
+returns-clause-does g c f h =
+    let F = g.T.Listener.faulted in
+    let s = c.args.self.now in
+    let n = c.args.number in
+    let held = c.args.pool.now.held in
+    let e : (is_some s.live && (nat_eq (age s.next n) 0)) ≡ false =
+    elim c.else-is_live.branch [
+      | else-is_live-via-then-is_live+else-age-eq0 w ↦ and_right (is_some s.live) (nat_eq (age s.next n) 0) (ne_eqb (age s.next n) 0 (λ z. w.if-age-eq0.false (w.age.ensures ∙ z)))
+      | else-is_live-via-else-is_live w ↦ and_left (is_some s.live) (nat_eq (age s.next n) 0) (sym c.is_live.ensures ∙ w.if-is_live.false)
     ] in
-    sym (cond-false (c.args.self.now.live && (nat_eq (age c.args.self.now.next c.args.number) 0)) (gone_on g.T.Listener.faulted (record (state c.args.self.now c.args.pool.now.held (g.T.Listener.events c.args.to.now)) { fin = Some c.args.number })) (state c.args.self.now c.args.pool.now.held (g.T.Listener.events c.args.to.now)) e)
+    let G = IsState (g.T.Listener.observed c.args.to.now) s held in
+    by_state (λ f. G (fin_came F f n)) _ s held f h (λ events o.
+    let S = state s held events in
+    subst G (sym (cond-false (is_some s.live && (nat_eq (age s.next n) 0)) (gone_on F (record S { fin = Some n })) S e))
+    (record { observed = o; same = refl }))

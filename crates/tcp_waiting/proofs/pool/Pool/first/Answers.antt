@@ -1,5 +1,6 @@
-use Rattle.std.proofs.Common.{◌<◌, length, arith}
+use Rattle.std.proofs.Common.{sym, ◌<◌, length, arith}
 use Rattle.tcp_waiting.proofs.Firsts.{turn_start, turn_end, turn_other, turn_none, turn_kept, turn_new}
+use Rattle.tcp_waiting.proofs.Counts.{first_none}
 use Rattle.tcp_waiting.proofs.pool.Pool.first.Goals as goal
 
 pub loop-index-init : goal.loop-index-init
@@ -39,3 +40,6 @@ loop-index-preserved-else-there-here c =
 
 pub returns : goal.returns
 returns c = rw (← c.self.view_is) (turn_end c.self.inside.octets.items c.self.inside.waiting.items c.args.flow c.args.next c.loop-index.index c.loop-index.found c.loop-index-test.false c.loop-index.invariant.1)
+
+pub returns-then-holds_none : goal.returns-then-holds_none
+returns-then-holds_none c = sym (first_none c.args.flow c.args.next c.args.self.now.held (c.holds_none.ensures c.if-holds_none.true))

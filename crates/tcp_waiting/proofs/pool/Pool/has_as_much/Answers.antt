@@ -1,5 +1,6 @@
 use Rattle.std.proofs.Common.{◌≡◌, true, false, ◌&&◌, nat_eq, nat_le, refl, sym, ◌∙◌, arith}
 use Rattle.tcp_waiting.proofs.Queries.{IsAtIndex, here, has_turn, has_end}
+use Rattle.tcp_waiting.proofs.Counts.{has_none}
 use Rattle.tcp_waiting.proofs.pool.Pool.has_as_much.Goals as goal
 
 pub loop-index-init : goal.loop-index-init
@@ -19,3 +20,6 @@ loop-index-preserved c =
 
 pub returns : goal.returns
 returns c = rw (← c.self.view_is) (sym (sym c.loop-index.invariant.1 ∙ has_end c.self.inside.octets.items c.self.inside.waiting.items c.loop-index.index c.args.flow c.args.number c.args.count (omega arith)))
+
+pub returns-then-holds_none : goal.returns-then-holds_none
+returns-then-holds_none c = sym (has_none c.args.flow c.args.number c.args.count c.args.self.now.held (c.holds_none.ensures c.if-holds_none.true))

@@ -2,6 +2,7 @@ use Rattle.std.proofs.Common.{◌≡◌, ◌+◌, true, false, ◌&&◌, nat_eq,
 use Rattle.tcp_waiting.specs.Numbers.{ahead}
 use Rattle.tcp_waiting.specs.Payload.{window}
 use Rattle.tcp_waiting.proofs.Queries.{IsAtIndex, here, far_turn, far_end}
+use Rattle.tcp_waiting.proofs.Counts.{far_none}
 use Rattle.tcp_waiting.proofs.pool.Pool.is_far.Goals as goal
 
 pub loop-index-init : goal.loop-index-init
@@ -26,3 +27,6 @@ pub ends_far-requires : goal.ends_far-requires
 ends_far-requires c =
     let h : IsAtIndex c.self.inside.octets.items c.self.inside.waiting.items c.loop-index.index c.index.result.now = here c.self.inside.octets.items c.self.inside.waiting.items c.loop-index.index c.index.result.now c.self.invariant.0 (omega arith) c.index.ensures in
     omega (arith, h.ends)
+
+pub returns-then-holds_none : goal.returns-then-holds_none
+returns-then-holds_none c = sym (far_none c.args.flow c.args.next c.args.self.now.held (c.holds_none.ensures c.if-holds_none.true))

@@ -1,0 +1,100 @@
+//! Captures as their rows spell them, and what comes of them.
+
+ghost use Rattle.std.specs.Prelude.{◌<◌};
+
+use capture_file::{Capture, Packet, Progress};
+use std::alloc::{AllocError, Global};
+use std::fmt::{self, Write};
+use std::test::Fail;
+
+/// No capture of a row is longer.
+const MOST: u64 = 1_000_000;
+
+/// Puts the octets of hexadecimal digits.
+fn put_digits(octets: &mut Vec<u8>, digits: &str) -> Result<(), AllocError> {
+    let mut high = None;
+    for digit in digits.chars() {
+        let digit = digit.to_digit(16).unwrap_or(0);
+        match high.take() {
+            None => high = Some(digit),
+            // A digit is below 16; the remainders show that to the check.
+            Some(first) => octets.push((first % 16 * 16 + digit % 16) as u8)?,
+        }
+    }
+    Ok(())
+}
+
+/// The octets that words spell, `ff*8` for eight of one.
+pub fn octets_of(alloc: Global, text: &str) -> Result<Vec<u8>, Fail> {
+    let mut octets = Vec::new(alloc);
+    for word in text.split(' ') {
+        match word.split_once('*') {
+            None => put_digits(&mut octets, word)?,
+            Some((octet, count)) => {
+                let octet = u8::from_str_radix(octet, 16)?;
+                let count: u32 = count.parse()?;
+                for _ in 0..count {
+                    octets.push(octet)?;
+                }
+            }
+        }
+    }
+    Ok(octets)
+}
+
+/// Writes a packet as its row has it, with how many octets the capture has up to its last.
+fn write_packet(text: &mut String, place: u64, packet: Packet<'_>) -> fmt::Result {
+    let link = packet.link;
+    match packet.time {
+        Some(time) => write!(text, "{place} {link} {time} ")?,
+        None => write!(text, "{place} {link} - ")?,
+    }
+    for octet in packet.octets {
+        write!(text, "{octet:02x}")?;
+    }
+    text.write_str("; ")
+}
+
+/// Takes a piece of a capture, and writes the packets that it completes.
+fn take_piece(capture: &mut Capture, piece: &[u8], text: &mut String) -> fmt::Result {
+    let mut rest = piece;
+    while capture.octets() < MOST {
+        match capture.take(rest) {
+            (count, Progress::Packet) => {
+                write_packet(text, capture.octets(), capture.packet(rest))?;
+                rest = &rest[count..];
+            }
+            _ => return Ok(()),
+        }
+    }
+    Err(fmt::Error)
+}
+
+/// What comes of a capture that is taken in pieces of this size, as its row has it.
+pub fn outcome_of(alloc: Global, octets: &[u8], size: usize) -> Result<String, Fail>
+    requires { 0 < size }
+{
+    let mut text = String::new(alloc);
+    let mut capture = Capture::new(alloc)?;
+    for piece in octets.chunks(size) {
+        take_piece(&mut capture, piece, &mut text)?;
+    }
+    match capture.finish() {
+        Some(fault) => write!(text, "{fault}")?,
+        None => text.write_str("-")?,
+    }
+    Ok(text)
+}
+
+/// Whether this comes of the capture of a row, in pieces of this size.
+pub fn is_row(alloc: Global, row: &str, size: usize) -> Result<bool, Fail>
+    requires { 0 < size }
+{
+    let mut parts = row.split('|');
+    let (Some(_), Some(capture), Some(wanted)) = (parts.next(), parts.next(), parts.next()) else {
+        return Ok(false);
+    };
+    let octets = octets_of(alloc, capture)?;
+    let outcome = outcome_of(alloc, &octets, size)?;
+    Ok(outcome.as_str() == wanted)
+}

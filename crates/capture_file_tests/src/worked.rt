@@ -1,0 +1,11 @@
+//! Captures worked by hand: what is read of them holds by computation.
+
+ghost use Rattle.capture_file_tests.specs.Worked.{OfRecords, OfBlocks, OfLengths, OfEnd};
+
+/// The packets and the faults of these captures, by the definition. It has no body, and is called for its contract.
+pub fn worked_captures()
+    ensures of_records { OfRecords }
+    ensures of_blocks { OfBlocks }
+    ensures of_lengths { OfLengths }
+    ensures of_end { OfEnd }
+{}

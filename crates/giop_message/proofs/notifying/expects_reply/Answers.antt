@@ -1,0 +1,10 @@
+use Rattle.std.proofs.Common.{ap}
+use Rattle.giop_print.specs.declared.path.Root.TheVariants as roots
+use Rattle.giop_message.specs.HeaderEnds.{expects_reply}
+use Rattle.giop_message.proofs.notifying.expects_reply.Goals as goal
+
+pub returns-in-Some : goal.returns-in-Some
+returns-in-Some c r keeps_noted = ap expects_reply (c.in-Some.ensures roots.Header r keeps_noted)
+
+pub returns-in-None : goal.returns-in-None
+returns-in-None c r keeps_noted = ap expects_reply (c.in-None.ensures roots.Header r keeps_noted)

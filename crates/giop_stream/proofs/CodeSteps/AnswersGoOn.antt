@@ -1,0 +1,315 @@
+-- Answers that agree with a correspondent at each header that ends in octets after a stream.
+use Rattle.std.proofs.Common.{inl, inr, ◌⊎◌, ◌≡◌, ℕ, ◌<◌, Bool, true, false, List, [], ◌∷◌, ◌++◌, length, flat_map, refl, sym, ap, subst, ◌∙◌, append-nil, Option, Some, None, arith}
+use Rattle.std.specs.Prelude.{nat_lt, is_none, ◌==◌, ◌&&◌, if◌then◌else◌, option_to_list}
+use Rattle.std.specs.List.{AllByRecursion as Each}
+use Rattle.std.proofs.lemmas.Bool.{cases_lt, eq-eqb, eqb-true}
+use Rattle.giop_checkpoint.specs.declared.fault.StreamFault.{StreamFault}
+use Rattle.giop_sig.specs.Table.{Table}
+use Rattle.giop_decode.specs.Noted.{Noted}
+use Rattle.giop_message.specs.Signatures.{Answer, Answers, signatures_of}
+use Rattle.giop_message.specs.HeaderEnds.{HeaderEnd, CallEvent, header_end, header_noted, header_ends, call_event, after_event, AgreesAtEnds}
+use Rattle.giop_message.proofs.MessageLaws.{header_noted_before, is_causal}
+use Rattle.giop_stream.specs.Rules.{Rules, rules_by}
+use Rattle.giop_stream.specs.HeaderOctets.{fronts}
+use Rattle.giop_stream.specs.Framing.{Message, with_payload, limit, cut, messages}
+use Rattle.giop_stream.specs.Events.{EventKind, MessageKey, Event, Open, message_key, id, opener_of, has_named, goes_past, events_of_octet, events_of, opened, events_from, events, open_after, joined}
+use Rattle.giop_stream.specs.OpenSlots.{octets_of}
+use Rattle.giop_stream.specs.Effects.{tracked_after, with_octet}
+use Rattle.giop_stream.specs.Octet.{Octet, AfterStop, Ends, Held, Of, octet_of}
+use Rattle.giop_stream.specs.PayloadOwner.{opener_key, owner_of_next, owner_of_octet}
+use Rattle.giop_stream.specs.Shares.{continued}
+use Rattle.giop_stream.specs.HeaderEndsOfStream.{run_header_ends, owner_header_ends, current_header_ends, header_ends_at, header_ends_from}
+use Rattle.giop_stream.specs.AnswersAgree.{AnswersAgree}
+use Rattle.giop_stream.proofs.Lists.{each_append, each_weaker, all_by}
+use Rattle.giop_stream.proofs.Cuts.Cutting.{of_parts, parts_by, stopped_at}
+use Rattle.giop_stream.proofs.Cuts.Numbers.{header_of_number, own_header}
+use Rattle.giop_stream.proofs.Events.EventsOfOctet.{events_of_octet_each, opened_each}
+use Rattle.giop_stream.proofs.Events.EventsByEngine.{found_in}
+use Rattle.giop_stream.proofs.Events.Sharing.{more_of, octet_joined}
+use Rattle.giop_stream.proofs.Events.StepCases.{octets_are}
+use Rattle.giop_stream.proofs.StreamLines.LinesOfOctet.{joined_append}
+use Rattle.giop_stream.proofs.SlotSteps.Parts.{in_turn, owner_next}
+use Rattle.giop_stream.proofs.CodeSteps.OneOctet.{Then, then_is, paid_events}
+use Rattle.giop_stream.proofs.CodeSteps.EngineAlive.{sound}
+use Rattle.giop_stream.proofs.CodeSteps.OutsideMessages.{within_limit}
+use Rattle.giop_stream.proofs.CodeSteps.StreamAgreement.{known_agree, each_parts, each_own}
+use Rattle.giop_stream.proofs.CodeSteps.HeaderEndSteps.{at_free, at_none, at_stop, at_limit}
+
+-- ---- What holds of each message holds of each event's, and of the owner of the next octet.
+
+module _ (P : MessageKey → Type 0) (most : ℕ) where
+  of_message : (still_open : List Open) (m : Message) → Each (λ o. P o.opener) still_open → P (message_key m)
+      → Each (λ e. P e.subject) (events_of most still_open m)
+  unfolding events_of
+  of_message still_open m openers own = go (fronts m.payload)
+    where
+      go : (fs : List (List ℕ)) → Each (λ e. P e.subject) (flat_map (λ front. events_of_octet most still_open (with_payload m front)) fs)
+      go [] = tt
+      go (f ∷ fs) =
+          each_append (λ e. P e.subject) (events_of_octet most still_open (with_payload m f)) _
+          (events_of_octet_each most (λ e. P e.subject) still_open (with_payload m f) (λ what. own)
+          (each_weaker (λ o. P o.opener) (λ (o : Open). (what : EventKind) → P o.opener) (λ o h what. h) still_open openers)) (go fs)
+
+  of_messages : (still_open : List Open) (ms : List Message) → Each (λ o. P o.opener) still_open → Each (λ m. P (message_key m)) ms
+      → Each (λ e. P e.subject) (events_from most still_open ms)
+  unfolding events_from
+  of_messages still_open [] openers own = tt
+  of_messages still_open (m ∷ ms) openers own =
+      let es = events_of most still_open m in
+      let first = of_message still_open m openers own.0 in
+      each_append (λ e. P e.subject) es _ first (of_messages (opened still_open es) ms (opened_each P still_open es openers first) own.1)
+
+  of_owner : (p : List ℕ) (m : Message) (w : MessageKey) → (cut p).current ≡ Some m → owner_of_next (open_after most p) m ≡ Some w
+      → Each (λ e. P e.subject) (events most p) → P w
+  unfolding events messages open_after owner_of_next opener_of
+  of_owner p m w current owner h = go (has_named m) owner
+    where
+      own : P (message_key m)
+      own =
+          let both = each_parts (λ m. P (message_key m)) (cut p).whole (option_to_list (cut p).current) (each_own P most [] (messages (cut p)) h) in
+          (subst (λ (o : Option Message). Each (λ m. P (message_key m)) (option_to_list o)) current both.1).0
+
+      openers : Each (λ o. P o.opener) (open_after most p)
+      openers = opened_each P [] (events most p) tt h
+
+      other : (o : Option Open) → opener_of (open_after most p) m ≡ o → opener_key o ≡ Some w → P w
+      other None e k = absurd cc
+      other (Some o) e k =
+          let same : o.opener ≡ w = cc in
+          subst P same (found_in (λ o. P o.opener) (λ o. o.id == id m) (open_after most p) o openers e)
+
+      go : (b : Bool) → (if b then opener_key (opener_of (open_after most p) m) else Some (message_key m)) ≡ Some w → P w
+      go true k = other (opener_of (open_after most p) m) refl k
+      go false k = let same : message_key m ≡ w = cc in subst P same own
+
+-- the events of a number have one header
+one_header : (most : ℕ) (p : List ℕ) → Each (λ e. header_of_number (messages (cut p)) e.subject.number ≡ Some e.subject.header) (events most p)
+unfolding events
+one_header most p =
+    of_messages (λ w. header_of_number (messages (cut p)) w.number ≡ Some w.header) most [] (messages (cut p)) tt (own_header p)
+
+-- the owner of an octet takes it
+owner_takes : (most : ℕ) (still_open : List Open) (m : Message) (x : ℕ) (w : MessageKey) → owner_of_octet still_open (with_octet m x) ≡ Some w
+    → joined w.number (events_of_octet most still_open (with_octet m x)) ≡ x ∷ []
+unfolding owner_of_octet more_of continued
+owner_takes most still_open m x w owner =
+    octet_joined most w.number still_open m m.payload x ∙ go (goes_past (with_octet m x)) owner
+  where
+    other : (o : Option Open) → opener_key o ≡ Some w → continued w.number o (x ∷ []) ≡ x ∷ []
+    other None k = absurd cc
+    other (Some o) k = let same : o.opener.number ≡ w.number = cc in rw (eq-eqb o.opener.number w.number same) refl
+
+    go : (b : Bool) → (if b then opener_key (opener_of still_open (with_octet m x)) else Some (message_key m)) ≡ Some w
+        → (if b then continued w.number (opener_of still_open (with_octet m x)) (x ∷ []) else (if m.number == w.number then x ∷ [] else [])) ≡ x ∷ []
+    go true k = other (opener_of still_open (with_octet m x)) k
+    go false k = let same : m.number ≡ w.number = cc in rw (eq-eqb m.number w.number same) refl
+
+module _ (C : Table) (most : ℕ) where
+  abbrev R : Answers → Rules
+  R a = rules_by C a most
+
+  -- they agree for this message, or its header has not ended
+  abbrev AgreeAt : List ℕ → Answers → Answers → MessageKey → Type 0
+  AgreeAt p f g w = (f w.number ≡ g w.number) ⊎ (header_noted w.header (joined w.number (events most p)) ≡ None)
+
+  -- a longer stream has more events
+  more_events : (a : Answers) (p : List ℕ) (x : ℕ) → (more : List Event) × (events most (p ++ x ∷ []) ≡ events most p ++ more)
+  unfolding events stopped_at of_parts messages
+  more_events a p x = go (octet_of (cut p) (length p) x) (then_is (R a) (is_causal (λ number. signatures_of C (a number))) (in_turn C a) p x
+      (sound (R a) (is_causal (λ number. signatures_of C (a number))) (in_turn C a) p))
+    where
+      none : messages (cut (p ++ x ∷ [])) ≡ messages (cut p) → (more : List Event) × (events most (p ++ x ∷ []) ≡ events most p ++ more)
+      none same = ([], ap (events_from most []) same ∙ sym (append-nil (events most p)))
+
+      go : (o : Octet) → Then (R a) p x o → (more : List Event) × (events most (p ++ x ∷ []) ≡ events most p ++ more)
+      go AfterStop h = none (ap messages h.2.cut_is)
+      go (Ends fault) h = none (ap messages h.1.cut_is)
+      go (Held front) h =
+          none (ap messages h.2.cut_is ∙ sym (ap (λ (o : Option Message). (cut p).whole ++ option_to_list o) h.1))
+      go (Of now) h = (_, h.1.grows)
+
+  -- ---- answers that agree for a longer stream, for a front of it; and one after the other
+
+  agree_back : (p : List ℕ) (x : ℕ) (a b : Answers) → AnswersAgree most (p ++ x ∷ []) a b → AnswersAgree most p a b
+  agree_back p x a b h =
+      let more = more_events a p x in
+      let parts = each_parts (λ e. AgreeAt (p ++ x ∷ []) a b e.subject) (events most p) more.0
+      (subst (λ (es : List Event). Each (λ e. AgreeAt (p ++ x ∷ []) a b e.subject) es) more.1 h) in
+      each_weaker (λ e. AgreeAt (p ++ x ∷ []) a b e.subject) (λ e. AgreeAt p a b e.subject)
+      (λ e k. one e more.0 (ap (joined e.subject.number) more.1 ∙ joined_append e.subject.number (events most p) more.0) k) (events most p) parts.0
+    where
+      one : (e : Event) (more : List Event) → joined e.subject.number (events most (p ++ x ∷ []))
+          ≡ joined e.subject.number (events most p) ++ joined e.subject.number more
+          → AgreeAt (p ++ x ∷ []) a b e.subject → AgreeAt p a b e.subject
+      one e more longer (inl k) = inl k
+      one e more longer (inr k) =
+          inr (header_noted_before e.subject.header (joined e.subject.number (events most p)) (joined e.subject.number more)
+          (ap (header_noted e.subject.header) (sym longer) ∙ k))
+
+  agree_both : (p : List ℕ) (a b c : Answers) → AnswersAgree most p a b → AnswersAgree most p b c → AnswersAgree most p a c
+  agree_both p a b c h k = go (events most p) h k
+    where
+      Same : Answers → Answers → Event → Type 0
+      Same f g e = AgreeAt p f g e.subject
+
+      one : (e : Event) → Same a b e → Same b c e → Same a c e
+      one e (inl k) (inl l) = inl (k ∙ l)
+      one e (inr k) l = inr k
+      one e (inl k) (inr l) = inr l
+
+      go : (es : List Event) → Each (Same a b) es → Each (Same b c) es → Each (Same a c) es
+      go [] h k = tt
+      go (e ∷ es) h k = (one e h.0 k.0, go es h.1 k.1)
+
+  agree_self : (p : List ℕ) (a : Answers) → AnswersAgree most p a a
+  agree_self p a =
+      all_by (λ (e : Event). AgreeAt p a a e.subject) (λ e. inl refl) (events most p)
+
+  -- the same headers end in the next octet
+  ends_agree : (p : List ℕ) (x : ℕ) (a b : Answers) → AnswersAgree most p a b → header_ends_at (R a) p x ≡ header_ends_at (R b) p x
+  unfolding header_ends_at tracked_after
+  ends_agree p x a b h = ap (λ (z : List HeaderEnd). if is_none (cut p).stop && nat_lt (length p) limit then z else []) (here (cut p).current)
+    where
+      here : (o : Option Message) → current_header_ends (R a) p o (x ∷ []) ≡ current_header_ends (R b) p o (x ∷ [])
+      here None = refl
+      here (Some m) =
+          ap (λ (known : ℕ → Option (List ℕ)). owner_header_ends (record { still_open = open_after most p; known = known }) (owner_of_next (open_after most p) m) (x ∷ []))
+          (known_agree C a b most p h)
+
+  -- ---- the header that ends in the next octet
+
+  record EndsHere (a : Answers) (p : List ℕ) (x : ℕ) : Type 0 where
+    m : Message
+    w : MessageKey
+    s : List ℕ
+    n : Noted
+    free : (cut p).stop ≡ None
+    room : length p < limit
+    current : (cut p).current ≡ Some m
+    owner : owner_of_next (open_after most p) m ≡ Some w
+    known : octets_of (R a) p w.number ≡ Some s
+    before : header_noted w.header s ≡ None
+    now : header_noted w.header (s ++ x ∷ []) ≡ Some n
+    ends : header_ends_at (R a) p x ≡ header_end w.number w.header n ∷ []
+
+  ends_case : (a : Answers) (p : List ℕ) (x : ℕ) → (header_ends_at (R a) p x ≡ []) ⊎ EndsHere a p x
+  unfolding header_ends tracked_after
+  ends_case a p x = by_stop (cut p).stop refl
+    where
+      by_notes : (m : Message) (w : MessageKey) (s : List ℕ) → (cut p).stop ≡ None → length p < limit → (cut p).current ≡ Some m
+          → owner_of_next (open_after most p) m ≡ Some w → octets_of (R a) p w.number ≡ Some s
+          → header_ends_at (R a) p x ≡ header_ends w.number w.header s (x ∷ [])
+          → (o q : Option Noted) → header_noted w.header s ≡ o → header_noted w.header (s ++ x ∷ []) ≡ q
+          → (header_ends_at (R a) p x ≡ []) ⊎ EndsHere a p x
+      by_notes m w s free room current owner known is (Some o) q e f = inl (is ∙ rw e refl)
+      by_notes m w s free room current owner known is None None e f = inl (is ∙ rw (e, f) refl)
+      by_notes m w s free room current owner known is None (Some n) e f =
+          inr (record { m = m; w = w; s = s; n = n; free = free; room = room; current = current; owner = owner; known = known; before = e; now = f; ends = is ∙ rw (e, f) refl })
+
+      by_known : (m : Message) (w : MessageKey) → (cut p).stop ≡ None → length p < limit → (cut p).current ≡ Some m
+          → owner_of_next (open_after most p) m ≡ Some w
+          → header_ends_at (R a) p x ≡ run_header_ends w (octets_of (R a) p w.number) (x ∷ [])
+          → (o : Option (List ℕ)) → octets_of (R a) p w.number ≡ o → (header_ends_at (R a) p x ≡ []) ⊎ EndsHere a p x
+      by_known m w free room current owner is None e = inl (is ∙ ap (λ o. run_header_ends w o (x ∷ [])) e)
+      by_known m w free room current owner is (Some s) e =
+          by_notes m w s free room current owner e (is ∙ ap (λ o. run_header_ends w o (x ∷ [])) e) (header_noted w.header s)
+          (header_noted w.header (s ++ x ∷ [])) refl refl
+
+      by_owner : (m : Message) → (cut p).stop ≡ None → length p < limit → (cut p).current ≡ Some m
+          → header_ends_at (R a) p x ≡ owner_header_ends (tracked_after (R a) p) (owner_of_next (open_after most p) m) (x ∷ [])
+          → (o : Option MessageKey) → owner_of_next (open_after most p) m ≡ o → (header_ends_at (R a) p x ≡ []) ⊎ EndsHere a p x
+      by_owner m free room current is None e = inl (is ∙ ap (λ o. owner_header_ends (tracked_after (R a) p) o (x ∷ [])) e)
+      by_owner m free room current is (Some w) e =
+          by_known m w free room current e (is ∙ ap (λ o. owner_header_ends (tracked_after (R a) p) o (x ∷ [])) e) (octets_of (R a) p w.number) refl
+
+      by_current : (cut p).stop ≡ None → length p < limit → (o : Option Message) → (cut p).current ≡ o
+          → (header_ends_at (R a) p x ≡ []) ⊎ EndsHere a p x
+      by_current free room None e = inl (at_none (R a) p x e)
+      by_current free room (Some m) e =
+          by_owner m free room e (at_free (R a) p x free room ∙ ap (λ o. current_header_ends (R a) p o (x ∷ [])) e)
+          (owner_of_next (open_after most p) m) refl
+
+      by_stop : (o : Option (ℕ × StreamFault)) → (cut p).stop ≡ o → (header_ends_at (R a) p x ≡ []) ⊎ EndsHere a p x
+      by_stop (Some found) e = inl (at_stop (R a) p x found e)
+      by_stop None e = elim (cases_lt (length p) limit) [
+        | inl room ↦ by_current e room (cut p).current refl
+        | inr full ↦ inl (at_limit (R a) p x full)
+      ]
+
+  module _ (a : Answers) (p : List ℕ) (x : ℕ) (h : EndsHere a p x) where
+    -- its message then has the octet
+    joined_then : joined h.w.number (events most (p ++ x ∷ [])) ≡ h.s ++ x ∷ []
+    unfolding limit
+    joined_then =
+        let causal = is_causal (λ number. signatures_of C (a number)) in
+        let room = h.room in
+        let grown = paid_events (R a) causal (in_turn C a) p x (sound (R a) causal (in_turn C a) p) (cut p).whole h.m (cut p).held
+        (parts_by (cut p) (Some h.m) None h.current h.free) (within_limit (length p) (omega (arith, room))) in
+        let owner = owner_next (open_after most p) h.m x ∙ h.owner in
+        ap (joined h.w.number) grown
+        ∙ (joined_append h.w.number (events most p) (events_of_octet most (open_after most p) (with_octet h.m x))
+        ∙ rw (octets_are (R a) p h.w.number h.s h.known, owner_takes most (open_after most p) h.m x h.w owner) refl)
+
+    -- answers that agree behind the octet agree for it
+    agree_for : (b c : Answers) → AnswersAgree most (p ++ x ∷ []) b c → b h.w.number ≡ c h.w.number
+    agree_for b c agree = go (of_owner (AgreeAt (p ++ x ∷ []) b c) most p h.m h.w h.current h.owner front)
+      where
+        front : Each (λ e. AgreeAt (p ++ x ∷ []) b c e.subject) (events most p)
+        front =
+            let more = more_events a p x in
+            (each_parts (λ e. AgreeAt (p ++ x ∷ []) b c e.subject) (events most p) more.0
+            (subst (λ (es : List Event). Each (λ e. AgreeAt (p ++ x ∷ []) b c e.subject) es) more.1 agree)).0
+
+        go : AgreeAt (p ++ x ∷ []) b c h.w → b h.w.number ≡ c h.w.number
+        go (inl k) = k
+        go (inr k) = absurd (let no : None ≡ Some h.n = sym k ∙ (ap (header_noted h.w.header) joined_then ∙ h.now) in cc)
+
+    -- another answer for it makes no difference before it
+    abbrev put : Answer → Answers
+    put answer i = if i == h.w.number then answer else a i
+
+    agree_put : (answer : Answer) → AnswersAgree most p a (put answer)
+    agree_put answer =
+        each_weaker (λ e. header_of_number (messages (cut p)) e.subject.number ≡ Some e.subject.header)
+        (λ e. AgreeAt p a (put answer) e.subject)
+        (λ e k. go e k (e.subject.number == h.w.number) refl) (events most p) (one_header most p)
+      where
+        of_w : header_of_number (messages (cut p)) h.w.number ≡ Some h.w.header
+        of_w = of_owner (λ w. header_of_number (messages (cut p)) w.number ≡ Some w.header) most p h.m h.w h.current h.owner (one_header most p)
+
+        go : (e : Event) → header_of_number (messages (cut p)) e.subject.number ≡ Some e.subject.header → (b : Bool) → (e.subject.number == h.w.number) ≡ b
+            → (a e.subject.number ≡ (if e.subject.number == h.w.number then answer else a e.subject.number))
+            ⊎ (header_noted e.subject.header (joined e.subject.number (events most p)) ≡ None)
+        go e k false is = inl (rw is refl)
+        go e k true is =
+            let number = eqb-true e.subject.number h.w.number is in
+            let both : Some e.subject.header ≡ Some h.w.header = sym k ∙ (ap (header_of_number (messages (cut p))) number ∙ of_w) in
+            let header : e.subject.header ≡ h.w.header = cc in
+            inr (rw (header, number, octets_are (R a) p h.w.number h.s h.known) h.before)
+
+  -- ---- the answers
+
+  module _ {St : Type 0} (answer : St → Answer) (notified : St → CallEvent → St) where
+    abbrev GoesOn : Answers → List ℕ → List ℕ → St → Type 0
+    GoesOn a p q st = (b : Answers) × AnswersAgree most p a b × AgreesAtEnds answer notified C st b (header_ends_from (R b) p q)
+
+    pub goes_on : (q p : List ℕ) (a : Answers) (st : St) → GoesOn a p q st
+    unfolding header_ends_from
+    goes_on [] p a st = (a, agree_self p a, tt)
+    goes_on (x ∷ q) p a st = elim (ends_case a p x) [
+      | inl none ↦
+          let more = goes_on q (p ++ x ∷ []) a st in
+          let b = more.0 in
+          let agree = agree_back p x a b more.1 in
+          let ends : header_ends_at (R b) p x ≡ [] = sym (ends_agree p x a b agree) ∙ none in
+          (b, agree, subst (λ (es : List HeaderEnd). AgreesAtEnds answer notified C st b (es ++ header_ends_from (R b) (p ++ x ∷ []) q)) (sym ends) more.2)
+      | inr h ↦
+          let e = header_end h.w.number h.w.header h.n in
+          let now = put a p x h (answer st) in
+          let more = goes_on q (p ++ x ∷ []) now (after_event notified st (call_event C e)) in
+          let b = more.0 in
+          let agree = agree_both p a now b (agree_put a p x h (answer st)) (agree_back p x now b more.1) in
+          let ends : header_ends_at (R b) p x ≡ e ∷ [] = sym (ends_agree p x a b agree) ∙ h.ends in
+          let here : b h.w.number ≡ answer st = sym (agree_for a p x h now b more.1) ∙ rw (eq-eqb h.w.number h.w.number refl) refl in
+          (b, agree, subst (λ (es : List HeaderEnd). AgreesAtEnds answer notified C st b (es ++ header_ends_from (R b) (p ++ x ∷ []) q)) (sym ends) (here, more.2))
+    ]

@@ -1,0 +1,94 @@
+//! Which room a key has: a sorted list, searched by halves, in memory that is allocated once.
+
+ghost use Rattle.std.specs.Prelude.{◌≡◌, ◌≤◌, ◌<◌, [], IfOk, get_or, nat_le};
+ghost use Rattle.std.specs.List.{insert, remove};
+ghost use Rattle.std.specs.List.Sorted.{IsBinarySearchResult};
+ghost use Rattle.std.specs.Vec.{vec_len, vec_capacity};
+
+use std::alloc::{AllocError, Global};
+
+/// The keys that are known, in their order, and the room of each. Nothing that the keys are makes it slower than a search
+/// by halves.
+#[derive(Drop)]
+pub struct RoomTable<K: Ord> {
+    keys: Vec<K>,
+    rooms: Vec<u32>,
+    most: usize,
+    ghost keys_fit: { most ≤ vec_capacity keys },
+    ghost rooms_fit: { most ≤ vec_capacity rooms },
+    ghost as_many: { vec_len keys ≡ vec_len rooms },
+}
+
+impl<K: Ord + Drop> RoomTable<K> {
+    /// A table of no key, with memory for at most so many. No other call allocates.
+    pub fn new(alloc: Global, most: usize) -> Result<RoomTable<K>, AllocError>
+        ensures keys { IfOk result (λ t. t.keys.items ≡ []) }
+        ensures rooms { IfOk result (λ t. t.rooms.items ≡ []) }
+        ensures most { IfOk result (λ t. t.most ≡ most) }
+    {
+        let keys = Vec::with_capacity(alloc, most)?;
+        let rooms = Vec::with_capacity(alloc, most)?;
+        Ok(RoomTable { keys, rooms, most })
+    }
+
+    /// How many keys are known.
+    pub fn len(&self) -> usize
+        ensures { result ≡ vec_len self.now.keys }
+    {
+        self.keys.len()
+    }
+
+    /// Whether as many keys are known as may be.
+    pub fn is_full(&self) -> bool
+        ensures { result ≡ nat_le self.now.most (vec_len self.now.keys) }
+    {
+        self.keys.len() >= self.most
+    }
+
+    /// The place of a key in the order of the keys, or the one where it would stand.
+    pub fn place(&self, key: &K) -> Result<usize, usize>
+        ensures place { IsBinarySearchResult (λ y. K.cmp y key.now) self.now.keys.items result }
+    {
+        self.keys.binary_search(key)
+    }
+
+    /// The key at a place.
+    pub fn key(&self, place: usize) -> &K
+        requires { place < vec_len self.now.keys }
+        ensures { (default : K) → result.now ≡ get_or self.now.keys.items place default }
+    {
+        &self.keys[place]
+    }
+
+    /// The room of the key at a place.
+    pub fn room(&self, place: usize) -> u32
+        requires { place < vec_len self.now.keys }
+        ensures { result ≡ get_or self.now.rooms.items place 0 }
+    {
+        self.rooms[place]
+    }
+
+    /// A key has a room from now on.
+    pub fn add(&mut self, place: usize, key: K, room: u32)
+        requires place { place ≤ vec_len self.old.keys }
+        requires some { vec_len self.old.keys < self.old.most }
+        ensures keys { self.new.keys.items ≡ insert self.old.keys.items place key }
+        ensures rooms { self.new.rooms.items ≡ insert self.old.rooms.items place room }
+        ensures most { self.new.most ≡ self.old.most }
+    {
+        let _key = self.keys.insert(place, key);
+        let _room = self.rooms.insert(place, room);
+    }
+
+    /// The key at a place is forgotten, and its memory kept. Answers the room that it had.
+    pub fn forget(&mut self, place: usize) -> u32
+        requires { place < vec_len self.old.keys }
+        ensures keys { self.new.keys.items ≡ remove self.old.keys.items place }
+        ensures rooms { self.new.rooms.items ≡ remove self.old.rooms.items place }
+        ensures room { result ≡ get_or self.old.rooms.items place 0 }
+        ensures most { self.new.most ≡ self.old.most }
+    {
+        self.keys.remove(place);
+        self.rooms.remove(place)
+    }
+}

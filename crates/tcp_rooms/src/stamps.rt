@@ -1,0 +1,42 @@
+//! When each room was last used, in memory that is allocated once.
+
+ghost use Rattle.std.specs.Prelude.{◌≡◌, ◌≤◌, ◌<◌, ◌≢◌, ℕ, IfOk, get_or, replicate};
+ghost use Rattle.std.specs.Vec.{vec_len};
+
+use std::alloc::{AllocError, Global};
+
+/// The stamp of each room: a number that rises with each use of any room.
+#[derive(Drop)]
+pub struct Stamps {
+    last: Vec<u64>,
+}
+
+impl Stamps {
+    /// The stamps of so many rooms, all 0. No other call allocates.
+    pub fn new(alloc: Global, rooms: usize) -> Result<Stamps, AllocError>
+        ensures { IfOk result (λ s. s.last.items ≡ replicate rooms 0) }
+    {
+        let last = vec![in alloc; 0; rooms]?;
+        Ok(Stamps { last })
+    }
+
+    /// A room is used.
+    pub fn note(&mut self, room: u32, stamp: u64)
+        requires { room < vec_len self.old.last }
+        ensures own { get_or self.new.last.items room 0 ≡ stamp }
+        ensures others { (other : ℕ) → other ≢ room
+            → get_or self.new.last.items other 0 ≡ get_or self.old.last.items other 0 }
+        ensures rooms { vec_len self.new.last ≡ vec_len self.old.last }
+    {
+        self.last[room as usize] = stamp;
+    }
+
+    /// When a room was last used.
+    pub fn last(&self, room: u32) -> u64
+        requires { room < vec_len self.now.last }
+        ensures { result ≡ get_or self.now.last.items room 0 }
+    {
+        let index = room as usize;
+        self.last[index]
+    }
+}
