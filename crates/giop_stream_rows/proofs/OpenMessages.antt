@@ -68,6 +68,7 @@ in_body = record {
   notes = record {
     request_id = None;
     status = None;
+    expects_reply = None;
     name = record { items = [] };
     buffer = buffers.Begun;
   };
@@ -253,7 +254,7 @@ unfolding one_message told_with kept_messages some_octets
 first_reads = record {
   lines = [];
   is = refl;
-  keeps_noted = record { request_id = refl; status = refl; name = (refl, refl, omega arith) };
+  keeps_noted = record { request_id = refl; status = refl; expects_reply = refl; name = (refl, refl, omega arith) };
   same_order = refl;
   same_message = refl;
   same_root = refl;
