@@ -1,24 +1,36 @@
 #!/usr/bin/env python3
-"""Runs the merge gate and prints the processor minutes of each crate: of its proof, its tests and its edits.
+"""Runs the merge gate and prints the minutes of each crate: of its proof, its tests and its edits.
 
     bench/gate.py [COMMAND ..]     (without words: .ci/run)
+    bench/gate.py --pid PID        (of a gate that runs already)
 
 Each second it reads of /proc what every process named rattle below the command has taken, by the words after
 --crate-name, by whether it is a check of tests, and by whether it runs in a folder that is made for edits. What a process
 takes in its last second before it ends is missed, a percent or less. Standard output passes through.
+
+It prints the minutes of a processor, and those of the clock while a check of the crate ran: of several checks that ran at
+once each counts. The row `else` has what the command took beside the checks, as the runs of the programs and tests: of a
+gate that runs already, also the checks that had ended before.
 """
 
 from __future__ import annotations
 
+import argparse
 import os
 import subprocess
 import sys
-import threading
 import time
 from collections import Counter, defaultdict
+from collections.abc import Callable
 
 TICK = os.sysconf("SC_CLK_TCK")
 KINDS = ("proof", "tests", "edits")
+
+
+def now() -> float:
+    """The seconds since the machine began."""
+    with open("/proc/uptime", encoding="utf-8") as file:
+        return float(file.read().split()[0])
 
 
 def stat_of(pid: int) -> tuple[int, float, str] | None:
@@ -54,6 +66,8 @@ class Checks:
         self.top = top
         self.known: dict[tuple[int, str], tuple[str, str]] = {}
         self.taken: dict[tuple[int, str], float] = defaultdict(float)
+        self.lasted: dict[tuple[int, str], float] = defaultdict(float)
+        self.total = 0.0
 
     def sample(self) -> None:
         """Reads what each has taken by now."""
@@ -61,6 +75,7 @@ class Checks:
         below = {self.top}
         while more := {pid for pid, (above, _, _) in stats.items() if above in below} - below:
             below |= more
+        self.total = max(self.total, sum(stats[pid][1] for pid in below & stats.keys()))
         for pid in below & stats.keys():
             above, seconds, start = stats[pid]
             if (pid, start) not in self.known:
@@ -69,38 +84,60 @@ class Checks:
                     continue
                 self.known[pid, start] = found
             self.taken[pid, start] = max(self.taken[pid, start], seconds)
+            self.lasted[pid, start] = now() - int(start) / TICK
 
-    def minutes(self) -> dict[str, Counter[str]]:
-        """The minutes by crate and by kind."""
+    def minutes(self, of: dict[tuple[int, str], float]) -> dict[str, Counter[str]]:
+        """The minutes by crate and by kind: of what was taken, or of how long it lasted."""
         found: dict[str, Counter[str]] = defaultdict(Counter)
-        for check, seconds in self.taken.items():
+        for check, seconds in of.items():
             name, kind = self.known[check]
             found[name][kind] += seconds / 60
         return found
 
 
+def watched(checks: Checks, is_over: Callable[[], bool]) -> None:
+    """Samples the checks each second until the command is over."""
+    while not is_over():
+        checks.sample()
+        time.sleep(1)
+
+
+def row(name: str, taken: Counter[str], lasted: Counter[str]) -> str:
+    """A row of the table: the minutes of a processor by kind and in all, and those of the clock."""
+    return f"{name:24}" + "".join(f"{it:8.1f}" for of in (taken, lasted) for it in [*(of[kind] for kind in KINDS), of.total()])
+
+
+def table(checks: Checks) -> list[str]:
+    """The rows of all crates, the dearest first, and of all together."""
+    taken, lasted = checks.minutes(checks.taken), checks.minutes(checks.lasted)
+    names = sorted(taken, key=lambda it: -taken[it].total())
+    rows = [row(name, taken[name], lasted[name]) for name in names]
+    rows.append(row("all checks", *(sum(of.values(), Counter()) for of in (taken, lasted))))
+    return [*rows, f"{'else':48}{(checks.total - sum(checks.taken.values())) / 60:8.1f}"]
+
+
 def main() -> int:
-    began = time.time()
-    with subprocess.Popen(sys.argv[1:] or [".ci/run"]) as ran:
-        checks, over = Checks(ran.pid), threading.Event()
-
-        def watch() -> None:
-            while not over.wait(1):
-                checks.sample()
-
-        watcher = threading.Thread(target=watch)
-        watcher.start()
-        status = ran.wait()
-        over.set()
-        watcher.join()
-    minutes = checks.minutes()
-    print(f"{'crate':24}" + "".join(f"{kind:>8}" for kind in KINDS) + f"{'all':>8}  minutes of a processor")
-    for name in sorted(minutes, key=lambda it: -minutes[it].total()):
-        row = [minutes[name][kind] for kind in KINDS]
-        print(f"{name:24}" + "".join(f"{it:8.1f}" for it in row) + f"{sum(row):8.1f}")
-    total = sum((it for it in minutes.values()), Counter())
-    print(f"{'all':24}" + "".join(f"{total[kind]:8.1f}" for kind in KINDS) + f"{total.total():8.1f}"
-          + f"  in {(time.time() - began) / 60:.1f} minutes")
+    words = argparse.ArgumentParser(description=__doc__, formatter_class=argparse.RawDescriptionHelpFormatter)
+    words.add_argument("--pid", type=int, help="the process of a gate that runs already")
+    words.add_argument("command", nargs=argparse.REMAINDER)
+    asked = words.parse_args()
+    status = 0
+    if asked.pid:
+        top = stat_of(asked.pid)
+        if not top:
+            words.error(f"there is no process {asked.pid}")
+        checks, began = Checks(asked.pid), int(top[2]) / TICK
+        watched(checks, lambda: stat_of(asked.pid) is None)
+    else:
+        began = now()
+        with subprocess.Popen(asked.command or [".ci/run"]) as ran:
+            checks = Checks(ran.pid)
+            watched(checks, lambda: ran.poll() is not None)
+            status = ran.returncode
+    head = "".join(f"{kind:>8}" for kind in (*KINDS, "all"))
+    print(f"{'':24}{'minutes of a processor':>32}{'of the clock':>32}\n{'crate':24}{head}{head}")
+    print("\n".join(table(checks)))
+    print(f"from its begin to its end {(now() - began) / 60:.1f} minutes of the clock")
     return status
 
 
