@@ -7,8 +7,6 @@ mod fault;
 mod number;
 mod order;
 mod prim;
-#[cfg(test)]
-mod tests;
 
 pub use alignment::pad;
 pub use carry::Carry;

@@ -3,7 +3,5 @@
 
 mod entry_table;
 mod search;
-#[cfg(test)]
-mod tests;
 
 pub use entry_table::{Entry, EntryTable};

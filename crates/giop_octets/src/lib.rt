@@ -2,8 +2,6 @@
 #![tactic(auto)]
 
 mod reading;
-#[cfg(test)]
-mod tests;
 mod writing;
 
 pub use reading::{eight_at, four_at, held_at, octet_at, octets_at, optional_at};

@@ -1,6 +1,6 @@
 //! The public calls on values worked by hand from the rules of CDR.
 
-use crate::{Carry, CdrFault, Number, Order, Prim, number_of, pad, size};
+use giop_cdr::{Carry, CdrFault, Number, Order, Prim, number_of, pad, size};
 use std::process::Abort;
 use std::test::Fail;
 

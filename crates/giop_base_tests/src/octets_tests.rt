@@ -1,10 +1,10 @@
 //! Each kind of field, written to and read from given octets.
 
-use crate::{
+use arrayvec::ArrayVec;
+use giop_octets::{
     eight_at, four_at, held_at, octet_at, octets_at, optional_at, put_eight, put_four, put_held,
     put_octets, put_optional, put_zeros,
 };
-use arrayvec::ArrayVec;
 
 /// One field of each kind, after three zeros.
 const FIELDS: [u8; 33] = [
