@@ -16,7 +16,7 @@ from dataclasses import dataclass
 from pathlib import Path
 from typing import Dict, List, Optional, Tuple
 
-from failing import PROGRAM, SECONDS
+from failing import EXAMPLES, PROGRAM, SECONDS
 
 LAB = "signatures 1;\noperation void set(in long v);\noperation long ask(in long a, out octet b);\n"
 
@@ -25,6 +25,7 @@ SIGNATURES = 2**20
 ENTRIES = 2**16
 
 TEXTS = {
+    **{name: (EXAMPLES / name).read_text() for name in ("naming.sig", "event.sig", "notification.sig")},
     "lab.sig": LAB,
     "most.sig": LAB.ljust(SIGNATURES, "\n"),
     "long.sig": LAB.ljust(SIGNATURES + 1, "\n"),
@@ -243,6 +244,10 @@ WORDS = [
     Case("--resume=new.check set3.giop", lines=REST_3),
     Case("--save counted.check --signatures lab.sig --requests lab.req", "empty.txt", saved="counted.check",
          octets=fixed(counts=(0, 2, 0, 1))),
+    Case("--signatures naming.sig --save naming.check", "empty.txt", saved="naming.check", octets=fixed(counts=(4, 18, 6, 0))),
+    Case("--signatures event.sig --save event.check", "empty.txt", saved="event.check", octets=fixed(counts=(0, 6, 1, 0))),
+    Case("--signatures notification.sig --save notification.check", "empty.txt", saved="notification.check",
+         octets=fixed(counts=(7, 99, 17, 0))),
     Case("--open 1 --save one.check", "empty.txt", saved="one.check", octets=fixed(most="00000001 ffffffff")),
     Case("empty.txt --open=4096 --save many.check", saved="many.check", octets=fixed(most="00001000 ffffffff")),
     Case("--resume one.check --open 2 --save one.check", "empty.txt", saved="one.check", octets=fixed(most="00000001 ffffffff")),
