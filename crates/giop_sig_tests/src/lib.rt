@@ -18,8 +18,8 @@ mod list_tests;
 #[cfg(test)]
 mod rows;
 #[cfg(test)]
-mod shapes;
+mod types;
 #[cfg(test)]
 mod version_rows;
 #[cfg(test)]
-mod version_tests;
+mod word_tests;

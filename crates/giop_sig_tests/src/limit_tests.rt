@@ -2,7 +2,7 @@
 
 use crate::rows::file_differs;
 use giop_sig::{Catalogue, OpId};
-use std::alloc::{AllocError, Global};
+use std::alloc::AllocError;
 use std::fmt;
 use std::fmt::Write;
 use std::process::Abort;
@@ -35,13 +35,6 @@ fn add_spaces(count: usize, text: &mut Vec<u8>) -> Result<(), AllocError> {
     Ok(())
 }
 
-/// A file of so many operations, each in a line, `op0` the first.
-fn operations(alloc: Global, count: u32) -> Result<String, Fail> {
-    let mut text = String::from_str(alloc, "signatures 1;\n")?;
-    add_operations(count, &mut text)?;
-    Ok(text)
-}
-
 fn add_operations(count: u32, text: &mut String) -> fmt::Result {
     for number in 0..count {
         writeln!(text, "operation void op{number}();")?;
@@ -51,22 +44,18 @@ fn add_operations(count: u32, text: &mut String) -> fmt::Result {
 
 #[test]
 fn a_file_has_at_most_4096_operations(rt: HostRuntime) -> Result<(), Fail> {
-    let text = operations(rt.alloc(), 4096)?;
-    expect_told(&rt, text.as_bytes(), "0 4096 0 9");
-    Ok(())
+    let mut text = String::from_str(rt.alloc(), "signatures 1;\n")?;
+    expect_operations(&rt, &mut text)
 }
 
-#[test]
-fn an_operation_more_is_refused_at_its_line(rt: HostRuntime) -> Result<(), Fail> {
-    let text = operations(rt.alloc(), 4097)?;
-    expect_told(&rt, text.as_bytes(), "4098 limit");
+/// Expects what is told of a file of 4,096 operations, each in a line, `op0` the first, and of one more.
+fn expect_operations(rt: &(impl Abort + AllocGlobal), text: &mut String) -> Result<(), Fail> {
+    add_operations(4096, text)?;
+    expect_told(rt, text.as_bytes(), "0 4096 0 9");
+    expect_last(rt, text.as_bytes())?;
+    text.push_str("operation void op4096();\n")?;
+    expect_told(rt, text.as_bytes(), "4098 limit");
     Ok(())
-}
-
-#[test]
-fn the_last_of_4096_operations_is_found(rt: HostRuntime) -> Result<(), Fail> {
-    let text = operations(rt.alloc(), 4096)?;
-    expect_last(&rt, text.as_bytes())
 }
 
 fn expect_last(rt: &(impl Abort + AllocGlobal), text: &[u8]) -> Result<(), Fail> {

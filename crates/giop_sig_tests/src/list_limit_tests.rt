@@ -35,11 +35,18 @@ static ENTRIES: [(usize, &[u8], &str); 5] = [
 ];
 
 #[test]
-fn a_list_has_at_most_65536_entries(rt: HostRuntime) -> Result<(), Fail> {
-    expect_each(&rt, &nop(rt.alloc())?)
+fn a_list_has_at_most_as_much_as_its_limits(rt: HostRuntime) -> Result<(), Fail> {
+    expect_limits(&rt, &nop(rt.alloc())?)
 }
 
-fn expect_each(rt: &(impl Abort + AllocGlobal), catalogue: &Catalogue) -> Result<(), Fail> {
+fn expect_limits(rt: &(impl Abort + AllocGlobal), catalogue: &Catalogue) -> Result<(), Fail> {
+    expect_entries(rt, catalogue)?;
+    expect_names(rt, catalogue)?;
+    expect_lines(rt, catalogue)?;
+    expect_ids(rt, catalogue)
+}
+
+fn expect_entries(rt: &(impl Abort + AllocGlobal), catalogue: &Catalogue) -> Result<(), Fail> {
     for (times, last, want) in &ENTRIES {
         let mut text = Vec::new(rt.alloc());
         add_entries(*times, last, &mut text)?;
@@ -53,11 +60,7 @@ fn add_entries(times: usize, last: &[u8], text: &mut Vec<u8>) -> Result<(), Allo
     text.extend_from_slice(last)
 }
 
-#[test]
-fn a_name_has_at_most_128_octets(rt: HostRuntime) -> Result<(), Fail> {
-    expect_names(&rt, &nop(rt.alloc())?)
-}
-
+/// Expects a name of 128 octets, and that one of 129 is refused.
 fn expect_names(rt: &(impl Abort + AllocGlobal), catalogue: &Catalogue) -> Result<(), Fail> {
     expect_name(rt, catalogue, 128, "1")?;
     expect_name(rt, catalogue, 129, "1 syntax")
@@ -83,11 +86,7 @@ fn add_name(size: usize, text: &mut Vec<u8>) -> Result<(), AllocError> {
     Ok(())
 }
 
-#[test]
-fn a_text_has_at_most_16777216_octets(rt: HostRuntime) -> Result<(), Fail> {
-    expect_lines(&rt, &nop(rt.alloc())?)
-}
-
+/// Expects which rule refuses a text of 16,777,216 octets, and one of more.
 fn expect_lines(rt: &(impl Abort + AllocGlobal), catalogue: &Catalogue) -> Result<(), Fail> {
     let mut text = Vec::new(rt.alloc());
     expect_most(rt, catalogue, &mut text)
@@ -111,11 +110,6 @@ fn add_ids(count: u32, text: &mut String) -> fmt::Result {
         writeln!(text, "{id} op0")?;
     }
     Ok(())
-}
-
-#[test]
-fn a_list_has_65536_ids(rt: HostRuntime) -> Result<(), Fail> {
-    expect_ids(&rt, &nop(rt.alloc())?)
 }
 
 fn expect_ids(rt: &(impl Abort + AllocGlobal), catalogue: &Catalogue) -> Result<(), Fail> {

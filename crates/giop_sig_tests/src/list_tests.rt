@@ -1,7 +1,7 @@
 //! Request lists: which texts are lists, what they say, and which line of the others is refused.
 
 use crate::list_rows::{READ, REFUSED};
-use crate::rows::{LIST_RULES, are_numbers, list_differs, row_of};
+use crate::rows::{are_numbers, list_differs, row_of};
 use giop_sig::{Catalogue, ListFault, ListFaultKind, OpId, Requests, SigFault, one_list};
 use std::alloc::Global;
 use std::process::Abort;
@@ -16,8 +16,15 @@ fn ask_and_nop(alloc: Global) -> Result<Catalogue, SigFault> {
 }
 
 #[test]
-fn a_list_says_the_operation_of_each_id(rt: HostRuntime) -> Result<(), Fail> {
-    are_read(&rt, &ask_and_nop(rt.alloc())?)
+fn a_list_says_the_operation_of_each_id_or_its_first_wrong_line(
+    rt: HostRuntime,
+) -> Result<(), Fail> {
+    are_told(&rt, &ask_and_nop(rt.alloc())?)
+}
+
+fn are_told(rt: &(impl Abort + AllocGlobal), catalogue: &Catalogue) -> Result<(), Fail> {
+    are_read(rt, catalogue)?;
+    are_refused(rt, catalogue)
 }
 
 fn are_read(rt: &(impl Abort + AllocGlobal), catalogue: &Catalogue) -> Result<(), Fail> {
@@ -53,46 +60,12 @@ fn says(list: &Requests, want: &str) -> bool {
     }
 }
 
-#[test]
-fn the_first_line_that_is_no_entry_is_refused(rt: HostRuntime) -> Result<(), Fail> {
-    are_refused(&rt, &ask_and_nop(rt.alloc())?)
-}
-
 fn are_refused(rt: &(impl Abort + AllocGlobal), catalogue: &Catalogue) -> Result<(), Fail> {
     for row in REFUSED.split(|octet| *octet == b'=') {
         let (want, text) = row_of(row)?;
         let differs = list_differs(rt.alloc(), text, catalogue, want);
         assert!(rt; differs.is_empty(), "{differs}, not {want}: {text:?}");
     }
-    Ok(())
-}
-
-#[test]
-fn the_word_of_a_refusal_is_printed(rt: HostRuntime) -> Result<(), Fail> {
-    for (kind, number, word) in &LIST_RULES {
-        reads_as(&rt, *kind, *number, word)?;
-    }
-    Ok(())
-}
-
-fn reads_as(
-    rt: &(impl Abort + AllocGlobal),
-    kind: ListFaultKind,
-    number: u8,
-    word: &str,
-) -> Result<(), Fail> {
-    let told = format!(in rt.alloc(); "{kind}")?;
-    assert!(rt; told.as_str() == word && kind as u8 == number, "{word}");
-    fault_reads_as(rt, ListFault { line: 7, kind }, word)
-}
-
-fn fault_reads_as(
-    rt: &(impl Abort + AllocGlobal),
-    fault: ListFault,
-    word: &str,
-) -> Result<(), Fail> {
-    let told = format!(in rt.alloc(); "{fault}")?;
-    assert!(rt; told.as_str() == word, "{word}");
     Ok(())
 }
 
