@@ -16,7 +16,8 @@ fault is told by name: an edit that isn't refused, one whose text is missing or 
 of one function, and a function that has no edit and fails.
 
 The libraries below a crate are used as `rt ci` leaves them in out/; `rt check` would prove them once more, since it takes
-only what checks have kept. Nothing but a temporary copy is changed.
+only what checks have kept. At its end `rt ci` puts back what stood in out/rlib before, so an old library there is used, and
+where an `rt ci` was broken off there is none. Nothing but a temporary copy is changed.
 """
 
 import argparse
@@ -197,7 +198,7 @@ def words_of(name: str, top: Path) -> list[str]:
             left += [deeper for deeper in uses[it] if deeper in uses]
     for it in below:
         if not (library(it) / f"{it}.rlib").is_dir():
-            raise Fault(f"{it} has no library in out/: run `rt ci` first")
+            raise Fault(f"{it} has no library in out/: remove crates/*/out and run `rt ci` first")
     words = [str(kit / "bin" / "rattle"), "check", "--crate-name", name, "src/lib.rt"]
     words += [word for it in kits for word in ("--extern", f"{it}={kit}/rlibs/{it}.rlib")]
     words += ["-L", f"dependency={kit}/rlibs"]
