@@ -10,13 +10,13 @@ from concurrent.futures import ThreadPoolExecutor
 from typing import Iterator, List, Tuple
 
 import encapsulated
-from failing import EXAMPLES, PROGRAM, SECONDS, TOUR
+from failing import EXAMPLES, PROGRAM, SECONDS
+from rows import TOUR, TOUR_WORDS
 
 WORDS = ("magic", "version", "catalogue", "length", "state")
 NAMING = ("--signatures", str(EXAMPLES / "naming.sig"))
 LISTED = (*NAMING, "--requests", str(EXAMPLES / "naming.req"))
 FEATURES = ("--signatures", str(EXAMPLES / "features.sig"))
-TYPED = ("--signatures", str(TOUR / "data/tour.sig"), "--requests", str(TOUR / "data/tour.requests"))
 Stream = Tuple[Tuple[str, ...], bytes]
 
 
@@ -25,7 +25,7 @@ def streams() -> List[Stream]:
     return [
         (NAMING, (EXAMPLES / "naming.giop").read_bytes()),
         (LISTED, (EXAMPLES / "naming-replies.giop").read_bytes()),
-        (TYPED, (TOUR / "stdin").read_bytes()[:3000]),
+        (TOUR_WORDS, TOUR[:3000]),
         (FEATURES, b"".join(encapsulated.messages())[:1000]),
     ]
 
@@ -108,7 +108,7 @@ def main() -> int:
                 wrong += not safe
                 if not safe:
                     print(f"{' '.join(stream[0])}: a checkpoint at {at}, {what}")
-    other = resumed(NAMING, saved(TYPED, b"")[1], b"") == refused("catalogue")
+    other = resumed(NAMING, saved(TOUR_WORDS, b"")[1], b"") == refused("catalogue")
     unlisted = resumed(NAMING, saved(LISTED, b"")[1], b"") == refused("catalogue")
     if not (other and unlisted):
         print("a checkpoint of another signature file or another request list is not refused")

@@ -11,11 +11,11 @@ from pathlib import Path
 from typing import Dict, List, Tuple
 
 import encapsulated
+from rows import TOUR, TOUR_WORDS
 
 TOP = Path(__file__).resolve().parent.parent
 PROGRAM = TOP / "crates/giopdump/out/giopdump"
 EXAMPLES = TOP / "examples"
-TOUR = TOP / "crates/giopdump"
 
 CALLS = ("memory", "open", "read", "write", "sync", "rename", "late")
 
@@ -66,8 +66,7 @@ def cases() -> List[Case]:
     is none, an option that is none, a word that isn't UTF-8, a missing file."""
     naming, features = str(EXAMPLES / "naming.sig"), str(EXAMPLES / "features.sig")
     listed = ("--signatures", naming, "--requests", str(EXAMPLES / "naming.req"))
-    tour = ("--signatures", str(TOUR / "data/tour.sig"), "--requests", str(TOUR / "data/tour.requests"))
-    stream = (TOUR / "stdin").read_bytes()
+    tour, stream = TOUR_WORDS, TOUR
     first, second, last = stream[:1000], stream[1000:1500], stream[1500:]
     saved, kept = (checkpoint_of(tour, octets) for octets in (first, first + second))
     resume, save = ("--resume", CHECKPOINT), ("--save", CHECKPOINT)
@@ -78,7 +77,7 @@ def cases() -> List[Case]:
         Case("a stream in a file", ("--signatures", naming, str(EXAMPLES / "naming.giop"))),
         Case("a request list", listed, (EXAMPLES / "naming-replies.giop").read_bytes()),
         Case("encapsulations", ("--signatures", features), b"".join(encapsulated.messages())),
-        Case("a long stream", tour, (TOUR / "stdin").read_bytes()),
+        Case("a long stream", tour, stream),
         Case("a cut stream", stream=(EXAMPLES / "naming.giop").read_bytes()[:-5], status=1),
         Case("a first part", (*tour, *save), first),
         Case("a part that is saved anew", (*tour, *resume, *save), second, 0, saved),

@@ -16,15 +16,16 @@ from concurrent.futures import ThreadPoolExecutor
 from typing import Dict, List, Sequence, Tuple
 
 import encapsulated
-from failing import CHECKPOINT, EXAMPLES, PROGRAM, SECONDS, TOUR, Case, Differences, Ended, checkpoint_of, run
+from failing import CHECKPOINT, EXAMPLES, PROGRAM, SECONDS, Case, Differences, Ended, checkpoint_of, run
+from rows import TOUR, TOUR_TYPES, TOUR_WORDS
 
 MOST = 20_000
 TYPES = [
     (),
     ("--signatures", str(EXAMPLES / "naming.sig"), "--requests", str(EXAMPLES / "naming.req")),
-    ("--signatures", str(TOUR / "data/tour.sig"), "--requests", str(TOUR / "data/tour.requests")),
+    TOUR_WORDS,
     ("--signatures", str(EXAMPLES / "features.sig")),
-    ("--signatures", str(TOUR / "data/tour.sig"), "--open", "1"),
+    (*TOUR_TYPES, "--open", "1"),
     ("--signatures", str(EXAMPLES / "naming.sig"), "--open", "4096"),
 ]
 Requests = Dict[Tuple[str, ...], int]
@@ -38,7 +39,7 @@ REFUSALS = {
 def messages() -> List[bytes]:
     """The messages, each with its header."""
     streams = [(EXAMPLES / name).read_bytes() for name in ("naming.giop", "naming-replies.giop")]
-    streams.append((TOUR / "stdin").read_bytes())
+    streams.append(TOUR)
     found = encapsulated.messages()
     for stream in streams:
         while len(stream) >= 12 and stream.startswith(b"GIOP"):

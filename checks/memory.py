@@ -6,9 +6,10 @@ from __future__ import annotations
 import sys
 import tempfile
 from pathlib import Path
-from typing import List, Tuple
+from typing import List
 
-from failing import CHECKPOINT, TOP, Case, Differences, Ended, cases, checkpoint_of, run
+from failing import CHECKPOINT, Case, Differences, Ended, cases, checkpoint_of, run
+from rows import row
 
 NO_MEMORY = (b"", b"giopdump: out of memory\n", 5)
 
@@ -18,19 +19,6 @@ ROWS = (
     "results of the operation that the list has",
     "two fragmented Requests, one inside the other",
 )
-
-
-def row(name: str) -> Tuple[str, str, bytes]:
-    """The signature file, the request list and the octets of a row of giop_rows."""
-    for rows in (TOP / "crates/giop_rows/stdin").read_text().split("\n=\n"):
-        files, *others = rows.split("\n\n")
-        for other in others:
-            if other.startswith(f"{name}\n"):
-                signatures, requests = files.split("requests\n") if "requests\n" in files else (files[:-8], "")
-                lines = other.partition("\nlines\n")[0].splitlines()[2:]
-                digits = "".join(line for line in lines if not line.startswith(("open ", "early ", "checkpoints ")))
-                return signatures, requests, bytes.fromhex(digits)
-    raise LookupError(name)
 
 
 def worked(folder: Path) -> List[Case]:
