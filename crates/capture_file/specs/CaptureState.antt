@@ -43,19 +43,29 @@ IsIn c octets = InRange c.packet_range.held c.packet_range.end octets
 abbrev pub head_in : Capture → Head
 head_in c = c.packet_range.head
 
+abbrev pub octets_around : Capture → List ℕ → List ℕ
+octets_around c octets = if c.packet_range.held then c.packet_octets.items else octets
+
 abbrev pub octets_in : Capture → List ℕ → List ℕ
-octets_in c octets = slice_range (if c.packet_range.held then c.packet_octets.items else octets) c.packet_range.start c.packet_range.end
+octets_in c octets =
+    slice_range (octets_around c octets) c.packet_range.start c.packet_range.end
 
 -- The answer to octets that were taken behind p, the first of those given: with the last of them comes what the reading has
 -- there, and with none before it. More octets were taken, a packet is complete, or a fault shows.
 abbrev pub Answers : Progress → List ℕ → List ℕ → Capture → List ℕ → Type 0
-Answers progress.More p taken c octets = (packets (p ++ taken) ≡ packets p) × (fault (p ++ taken) ≡ None)
+Answers progress.More p taken c octets =
+    (packets (p ++ taken) ≡ packets p) × (fault (p ++ taken) ≡ None)
 Answers progress.Packet p taken c octets =
     (packets (p ++ taken)
-    ≡ packets p ++ record { place = length (p ++ taken); head = head_in c; octets = octets_in c octets } ∷ [])
+    ≡ packets p ++ record {
+      place = length (p ++ taken);
+      head = head_in c;
+      octets = octets_in c octets;
+    } ∷ [])
     × (fault (p ++ taken) ≡ None)
 Answers (progress.Fault f) p taken c octets =
-    (packets (p ++ taken) ≡ packets p) × (fault (p ++ taken) ≡ Some f) × (f.place ≡ length (p ++ taken))
+    (packets (p ++ taken) ≡ packets p) × (fault (p ++ taken) ≡ Some f)
+    × (f.place ≡ length (p ++ taken))
 
 -- a capture goes on behind octets that complete nothing
 abbrev pub IsRunning : Progress → Capture → Type 0

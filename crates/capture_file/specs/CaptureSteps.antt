@@ -46,7 +46,12 @@ Completes (Continues part) old new answer start held =
     (answer ≡ progress.More) × PartBegins old new part × (new.packets ≡ old.packets)
 Completes (EndsPacket head part) old new answer start held =
     (answer ≡ progress.Packet) × PartBegins old new part × (new.packets ≡ suc old.packets)
-    × (new.packet_range ≡ record { head = head; start = start + packet_offset old.part; end = start + front old.part; held = held })
+    × (new.packet_range ≡ record {
+      head = head;
+      start = start + packet_offset old.part;
+      end = start + front old.part;
+      held = held;
+    })
 Completes (Fails kind) old new answer start held =
     (answer ≡ progress.Fault (record { kind = kind; place = old.octets }))
     × (new.fault ≡ Some (record { kind = kind; place = old.octets }))
