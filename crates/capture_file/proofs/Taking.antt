@@ -285,9 +285,8 @@ takes_rest p q octets end old mid new answer r running whole kept place room end
     let all : length (had ++ q) ≡ size part =
     omega (arith, length-append had q, b.holds.taken, whole, size_is) in
     let front_held = piece_held old mid q b.state had b.holds kept in
-    let fits : front mid.part ≤ length mid.packet_octets.items =
-    omega (arith, mid.packet_room, mid.fits) in
-    let fits_due : front part ≤ length mid.packet_octets.items = rw (kept.part ∙ is) at fits in
+    let fits : front old.part ≤ length mid.packet_octets.items = omega (arith, kept.come, whole) in
+    let fits_due : front part ≤ length mid.packet_octets.items = rw is at fits in
     let front_all : take (front part) mid.packet_octets.items ≡ take (front part) (had ++ q) =
     held_all 0 (front part) (had ++ q) mid.packet_octets.items front_held.0 fits_due
     (omega (arith, all)) in

@@ -31,13 +31,13 @@ pub record Reads (c : Capture) (p : List ℕ) : Type 0 where
 abbrev pub octets_of : Capture → ℕ
 octets_of c = c.octets
 
--- a packet stands in a capture, or in the octets that were given last
-abbrev pub InRange : Bool → ℕ → List ℕ → Type 0
-InRange true end octets = Unit {0}
-InRange false end octets = end ≤ length octets
+-- a packet stands in what a capture holds, or in the octets that were given last
+abbrev pub InRange : Bool → ℕ → List ℕ → List ℕ → Type 0
+InRange true end held octets = end ≤ length held
+InRange false end held octets = end ≤ length octets
 
 abbrev pub IsIn : Capture → List ℕ → Type 0
-IsIn c octets = InRange c.packet_range.held c.packet_range.end octets
+IsIn c octets = InRange c.packet_range.held c.packet_range.end c.packet_octets.items octets
 
 -- what is known of it, and its octets
 abbrev pub head_in : Capture → Head
