@@ -1,11 +1,12 @@
 #!/bin/sh
-# Octets a second and peak memory of the reading of a capture of small packets, beside tcpdump: bench/packets.sh [OCTETS
-# [COUNTER]]. The first program is packet_counts, which reads a capture and finds the TCP segment of each packet; the other
-# is `tcpdump -r FILE -w /dev/null`, which reads and copies it.
+# Octets a second and memory of the reading of captures of small packets, pcap and pcapng, beside tcpdump:
+# bench/packets.sh [OCTETS [COUNTER]]. The first program is packet_counts, which reads a capture and finds the TCP segment
+# of each packet; the other is `tcpdump -r FILE -w /dev/null`, which reads and copies it.
 # It proves and builds packet_counts first, unless a program is named, and needs python3, tcpdump and GNU time. The two
 # programs run by turns, five times each, and each figure is the best of these runs: by the clock, and by the processor
-# time that the program took, which says more on a machine that does other work too. Beside the peak stands that of the
-# same program over an empty capture: what the reading takes is the difference, and the room for one packet.
+# time that the program took, which says more on a machine that does other work too. The memory is that of a run which has
+# read a whole capture from a pipe and waits for more: what it has taken, and what it maps of files, which is the program
+# itself and the libraries.
 set -eu
 
 octets=${1:-1000000000}
@@ -19,36 +20,56 @@ for tool in python3 tcpdump /usr/bin/time; do
     command -v "$tool" >/dev/null || { echo "$tool is missing: apt-get install python3 tcpdump time" >&2; exit 1; }
 done
 [ $# -gt 1 ] || (cd "$top/crates/packet_counts" && rt run <stdin >"$work/build" 2>&1) || { cat "$work/build" >&2; exit 1; }
-python3 "$top/bench/packets.py" "$octets" >"$work/capture"
-head -c 24 "$work/capture" >"$work/empty"
-size=$(wc -c <"$work/capture")
 
-# Runs a program with a file of $work as its input, and notes its figures.
+# Runs a program over the capture, and notes its figures.
 run() {
-    name=$1 file=$2
-    shift 2
-    /usr/bin/time -a -o "$work/$name-$file.runs" -f '%e %U %S %M' "$@" <"$work/$file" >"$work/said" 2>&1
+    name=$1
+    shift
+    /usr/bin/time -a -o "$work/$name.runs" -f '%e %U %S' "$@" <"$work/capture" >"$work/said" 2>&1
 }
 
-# Prints the figures of a program's runs.
+# Notes the memory of a program that has read a capture of some octets.
+hold() {
+    name=$1
+    shift
+    mkfifo "$work/pipe"
+    "$@" <"$work/pipe" >"$work/held" 2>&1 &
+    exec 3>"$work/pipe"
+    cat "$work/some" >&3
+    sleep 0.5
+    awk '/^RssAnon/ { anon = $2 } /^RssFile/ { file = $2 } END { print anon, file }' "/proc/$!/status" >"$work/$name.memory"
+    exec 3>&-
+    wait
+    rm "$work/pipe"
+}
+
+# Prints the figures of a program's runs, and begins anew.
 figures() {
-    awk -v name="$1" -v octets="$size" -v empty="$(awk '{ print $4 }' "$work/$1-empty.runs")" '
+    awk -v name="$1" -v octets="$size" -v memory="$(cat "$work/$1.memory")" '
         {
             if (clock == "" || $1 < clock) clock = $1
             if (cpu == "" || $2 + $3 < cpu) cpu = $2 + $3
-            if ($4 > memory) memory = $4
         }
-        END { printf "%-14s %12.0f %12.0f %9d %9d\n", name, octets / clock, octets / cpu, memory, empty }
-    ' "$work/$1-capture.runs"
+        END {
+            split(memory, kib, " ")
+            printf "%-14s %12.0f %12.0f %10d %10d\n", name, octets / clock, octets / cpu, kib[1], kib[2]
+        }
+    ' "$work/$1.runs"
+    rm "$work/$1.runs"
 }
 
-run tcpdump empty tcpdump -r "$work/empty" -w /dev/null
-run packet_counts empty "$counter"
-for _ in 1 2 3 4 5; do
-    run tcpdump capture tcpdump -r "$work/capture" -w /dev/null
-    run packet_counts capture "$counter"
+for format in pcap pcapng; do
+    python3 "$top/bench/packets.py" "$octets" "$format" >"$work/capture"
+    python3 "$top/bench/packets.py" 10000000 "$format" >"$work/some"
+    size=$(wc -c <"$work/capture")
+    for _ in 1 2 3 4 5; do
+        run tcpdump tcpdump -r "$work/capture" -w /dev/null
+        run packet_counts "$counter"
+    done
+    hold tcpdump tcpdump -r - -w /dev/null
+    hold packet_counts "$counter"
+    printf '%s, %s octets: %s\n' "$format" "$size" "$(cat "$work/said")"
+    printf '%-14s %12s %12s %10s %10s\n' program 'by clock' 'by processor' 'taken KiB' 'mapped KiB'
+    figures packet_counts
+    figures tcpdump
 done
-printf '%s octets: %s\n' "$size" "$(cat "$work/said")"
-printf '%-14s %12s %12s %9s %9s\n' program 'by clock' 'by processor' 'peak KiB' 'empty KiB'
-figures packet_counts
-figures tcpdump

@@ -30,7 +30,8 @@ short (suc most) state at p less =
 
 -- a whole part
 pub whole : (most : ℕ) (state : ParserState) (at : ℕ) (p : List ℕ) → size state.part ≤ length p →
-    reading_from (suc most) state at p ≡ behind state (packet_in state.part p) (at + size state.part)
+    reading_from (suc most) state at p
+    ≡ behind state (packet_in state.part p) (at + size state.part)
     (next state.part state.interfaces (end_of state.part p))
     (λ rest. reading_from most rest (at + size state.part) (drop (size state.part) p))
 unfolding reading_from
@@ -40,7 +41,8 @@ whole most state at p enough =
       | inr fails ↦ rw fails.0
     ]
 
-behind_same : (state : ParserState) (packet : List ℕ) (place : ℕ) (o : Outcome) (k l : ParserState → Reading) → ((d : ParserState) → k d ≡ l d) →
+behind_same : (state : ParserState) (packet : List ℕ) (place : ℕ) (o : Outcome)
+    (k l : ParserState → Reading) → ((d : ParserState) → k d ≡ l d) →
     behind state packet place o k ≡ behind state packet place o l
 behind_same state packet place (Continues part) k l same = same _
 behind_same state packet place (EndsPacket head part) k l same = rw (same _)
@@ -73,7 +75,8 @@ with_packets given r = record r { packets = given ++ r.packets }
 
 -- how a reading goes on
 abbrev pub onward : List PacketRecord → Ending → List ℕ → Reading
-onward given (Within state at had) q = with_packets given (reading_from (length (had ++ q)) state at (had ++ q))
+onward given (Within state at had) q =
+    with_packets given (reading_from (length (had ++ q)) state at (had ++ q))
 onward given (Faulted fault) q = record { packets = given; ending = Faulted fault }
 
 onward_more : (g : PacketRecord) (given : List PacketRecord) (e : Ending) (q : List ℕ) →
@@ -81,32 +84,43 @@ onward_more : (g : PacketRecord) (given : List PacketRecord) (e : Ending) (q : L
 onward_more g given (Within state at had) q = refl
 onward_more g given (Faulted fault) q = refl
 
-behind_onward : (state : ParserState) (packet : List ℕ) (place : ℕ) (o : Outcome) (k l : ParserState → Reading) (q : List ℕ) →
+behind_onward : (state : ParserState) (packet : List ℕ) (place : ℕ) (o : Outcome)
+    (k l : ParserState → Reading) (q : List ℕ) →
     ((d : ParserState) → l d ≡ onward (k d).packets (k d).ending q) →
-    behind state packet place o l ≡ onward (behind state packet place o k).packets (behind state packet place o k).ending q
+    behind state packet place o l
+    ≡ onward (behind state packet place o k).packets (behind state packet place o k).ending q
 behind_onward state packet place (Continues part) k l q each = each _
-behind_onward state packet place (EndsPacket head part) k l q each = rw (each _) (onward_more _ _ _ q)
+behind_onward state packet place (EndsPacket head part) k l q each =
+    rw (each _) (onward_more _ _ _ q)
 behind_onward state packet place (Fails kind) k l q each = refl
 
-packet_same : (part : Part) (p q : List ℕ) → size part ≤ length p → packet_in part (p ++ q) ≡ packet_in part p
+packet_same : (part : Part) (p q : List ℕ) → size part ≤ length p →
+    packet_in part (p ++ q) ≡ packet_in part p
 packet_same part p q enough = let few : front part ≤ length p = omega arith in rw take-append-le
 
-end_same : (part : Part) (p q : List ℕ) → size part ≤ length p → end_of part (p ++ q) ≡ end_of part p
+end_same : (part : Part) (p q : List ℕ) → size part ≤ length p →
+    end_of part (p ++ q) ≡ end_of part p
 end_same part p q enough =
     let few : front part + passed part ≤ length p = omega arith in
-    let room : back part ≤ length (drop (front part + passed part) p) = simp length-drop (omega arith) in
+    let room : back part ≤ length (drop (front part + passed part) p) =
+    simp length-drop (omega arith) in
     rw (drop-append-le, take-append-le)
 
 -- the reading of a longer list is that of the shorter one, which goes on
-grows_short : (n m : ℕ) (state : ParserState) (at : ℕ) (p q : List ℕ) → length (p ++ q) ≤ m → length p < size state.part →
-    reading_from m state at (p ++ q) ≡ onward (reading_from n state at p).packets (reading_from n state at p).ending q
+grows_short : (n m : ℕ) (state : ParserState) (at : ℕ) (p q : List ℕ) → length (p ++ q) ≤ m →
+    length p < size state.part →
+    reading_from m state at (p ++ q)
+    ≡ onward (reading_from n state at p).packets (reading_from n state at p).ending q
 grows_short n m state at p q many less =
     rw (short n state at p less) (enough m (length (p ++ q)) state at (p ++ q) many (omega arith))
 
-pub grows_from : (n m : ℕ) (state : ParserState) (at : ℕ) (p q : List ℕ) → length p ≤ n → length (p ++ q) ≤ m →
-    reading_from m state at (p ++ q) ≡ onward (reading_from n state at p).packets (reading_from n state at p).ending q
+pub grows_from : (n m : ℕ) (state : ParserState) (at : ℕ) (p q : List ℕ) → length p ≤ n →
+    length (p ++ q) ≤ m →
+    reading_from m state at (p ++ q)
+    ≡ onward (reading_from n state at p).packets (reading_from n state at p).ending q
 grows_from zero m state at p q few many =
-    let some : 1 ≤ size state.part = size_some state.part in grows_short zero m state at p q many (omega arith)
+    let some : 1 ≤ size state.part = size_some state.part in
+    grows_short zero m state at p q many (omega arith)
 grows_from (suc n) zero state at p q few many =
     let some : 1 ≤ size state.part = size_some state.part in
     grows_short (suc n) zero state at p q many (omega (arith, length-append p q))
@@ -119,11 +133,19 @@ grows_from (suc n) (suc m) state at p q few many =
           let long : size state.part ≤ length (p ++ q) = omega (arith, length-append p q) in
           let s = size state.part in
           whole m state at (p ++ q) long
-          ∙ rw (packet_same state.part p q begun, end_same state.part p q begun, drop-append-le s p q begun)
-          (behind_onward state (packet_in state.part p) (at + s) (next state.part state.interfaces (end_of state.part p))
-          (λ d. reading_from n d (at + s) (drop s p)) (λ d. reading_from m d (at + s) (drop s p ++ q)) q
+          ∙ rw (
+            packet_same state.part p q begun,
+            end_same state.part p q begun,
+            drop-append-le s
+                p q begun,
+          )
+          (behind_onward state (packet_in state.part p) (at + s)
+          (next state.part state.interfaces (end_of state.part p))
+          (λ d. reading_from n d (at + s) (drop s p))
+          (λ d. reading_from m d (at + s) (drop s p ++ q)) q
           (λ d. grows_from n m d (at + s) (drop s p) q
-          (simp length-drop (omega arith)) (rw (length-append, length-drop) (omega (arith, length-append p q)))))
+          (simp length-drop (omega arith))
+          (rw (length-append, length-drop) (omega (arith, length-append p q)))))
           ∙ ap (λ (r : Reading). onward r.packets r.ending q) (sym (whole n state at p begun))
     ]
 
@@ -131,7 +153,8 @@ pub grows : (p q : List ℕ) → reading (p ++ q) ≡ onward (reading p).packets
 unfolding reading
 grows p q = grows_from (length p) (length (p ++ q)) start 0 p q (omega arith) (omega arith)
 
-begun_with : (given : List PacketRecord) (e : Ending) (q : List ℕ) → (more : List PacketRecord) × ((onward given e q).packets ≡ given ++ more)
+begun_with : (given : List PacketRecord) (e : Ending) (q : List ℕ) → (more : List PacketRecord)
+    × ((onward given e q).packets ≡ given ++ more)
 begun_with given (Within state at had) q = (_, refl)
 begun_with given (Faulted fault) q = ([], sym (append-nil given))
 
@@ -140,12 +163,14 @@ packets_begin p q =
     let b = begun_with (reading p).packets (reading p).ending q in
     (b.0, ap (λ (r : Reading). r.packets) (grows p q) ∙ b.1)
 
-go : (given : List PacketRecord) (e : Ending) (q : List ℕ) (f : CaptureFault) → fault_of e ≡ Some f →
+go : (given : List PacketRecord) (e : Ending) (q : List ℕ) (f : CaptureFault) →
+    fault_of e ≡ Some f →
     onward given e q ≡ record { packets = given; ending = e }
 go given (Within state at had) q f is = cc
 go given (Faulted fault) q f is = refl
 
-stays : (r : Reading) (q : List ℕ) (f : CaptureFault) → fault_of r.ending ≡ Some f → onward r.packets r.ending q ≡ r
+stays : (r : Reading) (q : List ℕ) (f : CaptureFault) → fault_of r.ending ≡ Some f →
+    onward r.packets r.ending q ≡ r
 stays r q f is = go r.packets r.ending q f is
 
 pub fault_stays : FaultStays
@@ -156,13 +181,16 @@ abbrev pub EndsAt : ℕ → Ending → Type 0
 EndsAt place (Within state at had) = (at + length had ≡ place) × (length had < size state.part)
 EndsAt place (Faulted fault) = fault.place ≤ place
 
-behind_ends : (state : ParserState) (packet : List ℕ) (at : ℕ) (o : Outcome) (k : ParserState → Reading) (place : ℕ) → at ≤ place →
-    ((d : ParserState) → EndsAt place (k d).ending) → EndsAt place (behind state packet at o k).ending
+behind_ends : (state : ParserState) (packet : List ℕ) (at : ℕ) (o : Outcome) (k : ParserState →
+    Reading) (place : ℕ) → at ≤ place →
+    ((d : ParserState) → EndsAt place (k d).ending) →
+    EndsAt place (behind state packet at o k).ending
 behind_ends state packet at (Continues part) k place within each = each _
 behind_ends state packet at (EndsPacket head part) k place within each = each _
 behind_ends state packet at (Fails kind) k place within each = within
 
-ends_from : (n : ℕ) (state : ParserState) (at : ℕ) (p : List ℕ) → length p ≤ n → EndsAt (at + length p) (reading_from n state at p).ending
+ends_from : (n : ℕ) (state : ParserState) (at : ℕ) (p : List ℕ) → length p ≤ n →
+    EndsAt (at + length p) (reading_from n state at p).ending
 ends_from zero state at p few =
     let some : 1 ≤ size state.part = size_some state.part in
     let less : length p < size state.part = omega arith in
@@ -175,9 +203,11 @@ ends_from (suc n) state at p few =
           let s = size state.part in
           let begun : s ≤ length p = omega arith in
           rw (whole n state at p begun) (behind_ends state (packet_in state.part p) (at + s)
-          (next state.part state.interfaces (end_of state.part p)) (λ d. reading_from n d (at + s) (drop s p))
+          (next state.part state.interfaces (end_of state.part p))
+          (λ d. reading_from n d (at + s) (drop s p))
           (at + length p) (omega arith) (λ d.
-          let same : (at + s) + length (drop s p) ≡ at + length p = simp length-drop (omega arith) in
+          let same : (at + s) + length (drop s p) ≡ at + length p =
+          simp length-drop (omega arith) in
           rw same at (ends_from n d (at + s) (drop s p) (simp length-drop (omega arith)))))
     ]
 
@@ -186,13 +216,16 @@ unfolding reading
 ends_at p = rw (zero-add (length p)) at (ends_from (length p) start 0 p (omega arith))
 
 -- octets that leave the part within it
-pub stays_within : (p q : List ℕ) (state : ParserState) (at : ℕ) (had : List ℕ) → (reading p).ending ≡ Within state at had →
-    length (had ++ q) < size state.part → reading (p ++ q) ≡ record { packets = (reading p).packets; ending = Within state at (had ++ q) }
+pub stays_within : (p q : List ℕ) (state : ParserState) (at : ℕ) (had : List ℕ) →
+    (reading p).ending ≡ Within state at had →
+    length (had ++ q) < size state.part → reading (p ++ q)
+    ≡ record { packets = (reading p).packets; ending = Within state at (had ++ q) }
 stays_within p q state at had is less =
     grows p q ∙ rw (is, short (length (had ++ q)) state at (had ++ q) less, append-nil)
 
 -- octets that complete the part
-pub completes : (p q : List ℕ) (state : ParserState) (at : ℕ) (had : List ℕ) → (reading p).ending ≡ Within state at had →
+pub completes : (p q : List ℕ) (state : ParserState) (at : ℕ) (had : List ℕ) →
+    (reading p).ending ≡ Within state at had →
     length (had ++ q) ≡ size state.part → reading (p ++ q) ≡ with_packets (reading p).packets
     (behind state (packet_in state.part (had ++ q)) (length (p ++ q))
     (next state.part state.interfaces (end_of state.part (had ++ q)))
@@ -203,12 +236,14 @@ completes p q state at had is all =
     let place : at + size state.part ≡ length (p ++ q) =
     omega (arith, length-append p q, length-append had q) in
     grows p q ∙ rw is (ap (with_packets (reading p).packets)
-    (enough (length (had ++ q)) (suc (length (had ++ q))) state at (had ++ q) (omega arith) (omega arith)
+    (enough (length (had ++ q)) (suc (length (had ++ q))) state at (had ++ q) (omega arith)
+    (omega arith)
     ∙ whole (length (had ++ q)) state at (had ++ q) (omega arith)
     ∙ rw place (behind_same state (packet_in state.part (had ++ q)) (length (p ++ q))
     (next state.part state.interfaces (end_of state.part (had ++ q)))
     (λ d. reading_from (length (had ++ q)) d (length (p ++ q)) (drop (size state.part) (had ++ q)))
     (λ d. record { packets = []; ending = Within d (length (p ++ q)) [] }) (λ d.
-    let none : drop (size state.part) (had ++ q) ≡ [] = drop_all (size state.part) (had ++ q) (omega arith) in
+    let none : drop (size state.part) (had ++ q) ≡ [] =
+    drop_all (size state.part) (had ++ q) (omega arith) in
     let first : 1 ≤ size d.part = size_some d.part in
     rw none (short (length (had ++ q)) d (length (p ++ q)) [] first)))))

@@ -25,7 +25,8 @@ pub record Begun (p : List ℕ) (c : Capture) : Type 0 where
   pub ending : (reading p).ending ≡ Within state at had
   pub holds : HoldsPart c state had
 
-begun_in : (p : List ℕ) (c : Capture) (e : Ending) → (reading p).ending ≡ e → Stands c e → c.fault ≡ None → Begun p c
+begun_in : (p : List ℕ) (c : Capture) (e : Ending) → (reading p).ending ≡ e → Stands c e →
+    c.fault ≡ None → Begun p c
 begun_in p c (Within state at had) is stands running =
     record { state = state; at = at; had = had; ending = is; holds = stands }
 begun_in p c (Faulted f) is stands running = cc
@@ -38,19 +39,24 @@ pub record Takes (answer : Progress) (p q : List ℕ) (c : Capture) (octets : Li
   pub reads : Reads c (p ++ q)
   pub answers : Answers answer p q c octets
 
-piece_held : (old mid : Capture) (q : List ℕ) (state : ParserState) (had : List ℕ) → HoldsPart old state had → HoldsPiece old mid q →
+piece_held : (old mid : Capture) (q : List ℕ) (state : ParserState) (had : List ℕ) →
+    HoldsPart old state had → HoldsPiece old mid q →
     IsHeld 0 (front state.part) (had ++ q) mid.packet_octets.items
     × IsHeld (front state.part + passed state.part) (back state.part) (had ++ q) mid.end_octets
 piece_held old mid q state had holds kept =
     let front_held : IsHeld 0 (front old.part) (had ++ q) mid.packet_octets.items =
     kept.packet_octets had (sym holds.taken) (rw holds.part holds.packet_octets) in
-    let end_held : IsHeld (front old.part + passed old.part) (back old.part) (had ++ q) mid.end_octets =
+    let end_held : IsHeld (front old.part + passed old.part) (back old.part)
+    (had ++ q) mid.end_octets =
     kept.end_octets had (sym holds.taken) (rw holds.part holds.end_octets) in
     (rw holds.part at front_held, rw holds.part at end_held)
 
-held_of : (p q octets : List ℕ) (old new : Capture) (state : ParserState) (at : ℕ) (had : List ℕ) → Reads old p →
-    (reading p).ending ≡ Within state at had → HoldsPart old state had → old.fault ≡ None → HoldsPiece old new q →
-    new.taken ≡ old.taken + length q → new.octets ≡ old.octets + length q → old.taken + length q < size old.part →
+held_of : (p q octets : List ℕ) (old new : Capture) (state : ParserState) (at : ℕ)
+    (had : List ℕ) → Reads old p →
+    (reading p).ending ≡ Within state at had → HoldsPart old state had → old.fault ≡ None →
+    HoldsPiece old new q →
+    new.taken ≡ old.taken + length q → new.octets ≡ old.octets + length q →
+    old.taken + length q < size old.part →
     Takes progress.More p q new octets
 held_of p q octets old new state at had r ending holds running kept taken count less =
     let same : size old.part ≡ size state.part = ap size holds.part in
@@ -74,14 +80,17 @@ held_of p q octets old new state at had r ending holds running kept taken count 
       answers = (ap (λ (x : Reading). x.packets) now, ap (λ (x : Reading). fault_of x.ending) now);
     }
 
-pub takes_piece : (p q octets : List ℕ) (old new : Capture) → Reads old p → old.fault ≡ None → HoldsPiece old new q →
-    new.taken ≡ old.taken + length q → new.octets ≡ old.octets + length q → old.taken + length q < size old.part →
+pub takes_piece : (p q octets : List ℕ) (old new : Capture) → Reads old p → old.fault ≡ None →
+    HoldsPiece old new q →
+    new.taken ≡ old.taken + length q → new.octets ≡ old.octets + length q →
+    old.taken + length q < size old.part →
     Takes progress.More p q new octets
 takes_piece p q octets old new r running kept taken count less =
     let b = begun p old r running in
     held_of p q octets old new b.state b.at b.had r b.ending b.holds running kept taken count less
 
-holds_none : (mid new : Capture) (state next : ParserState) → mid.fault ≡ None → PartBegins mid new next.part →
+holds_none : (mid new : Capture) (state next : ParserState) → mid.fault ≡ None →
+    PartBegins mid new next.part →
     next.interfaces ≡ interfaces_behind state.part state.interfaces → mid.part ≡ state.part →
     mid.interfaces.items ≡ state.interfaces → HoldsPart new next []
 holds_none mid new state next running begins behind_is part interfaces = record {
@@ -98,64 +107,104 @@ abbrev pub behind_here : ParserState → List ℕ → ℕ → Outcome → Readin
 behind_here state packet place o =
     behind state packet place o (λ d. record { packets = []; ending = Within d place [] })
 
-pub takes_outcome : (p q octets : List ℕ) (mid new : Capture) (answer : Progress) (start : ℕ) (held : Bool) (state : ParserState)
+pub takes_outcome : (p q octets : List ℕ) (mid new : Capture) (answer : Progress) (start : ℕ)
+    (held : Bool) (state : ParserState)
     (packet : List ℕ) (o : Outcome) →
-    reading (p ++ q) ≡ with_packets (reading p).packets (behind_here state packet (length (p ++ q)) o) →
+    reading (p ++ q)
+    ≡ with_packets (reading p).packets (behind_here state packet (length (p ++ q)) o) →
     mid.part ≡ state.part → mid.interfaces.items ≡ state.interfaces → mid.fault ≡ None →
     mid.packets ≡ length (packets p) → mid.octets ≡ length (p ++ q) →
-    slice_range (if held then mid.packet_octets.items else octets) (start + packet_offset mid.part) (start + front mid.part) ≡ packet →
+    slice_range (if held then mid.packet_octets.items
+    else octets) (start + packet_offset mid.part) (start + front mid.part) ≡ packet →
     Completes o mid new answer start held → Takes answer p q new octets
-takes_outcome p q octets mid new answer start held state packet (Continues part) is a b running count place slice c =
+takes_outcome p q octets mid new answer start held state packet
+    (Continues part) is a b running count place slice c =
     rw c.0 (record {
       reads = record {
         octets = c.1.octets ∙ place;
-        packets = c.2 ∙ count ∙ ap length (sym (append-nil (packets p))) ∙ ap (λ (x : Reading). length x.packets) (sym is);
-        stands = rw is (holds_none mid new state (record { part = part; interfaces = interfaces_behind state.part state.interfaces }) running c.1 refl a b);
+        packets = c.2 ∙ count ∙ ap length (sym (append-nil (packets p)))
+            ∙ ap (λ (x : Reading). length x.packets) (sym is);
+        stands = rw is
+            (holds_none mid new state
+            (record { part = part; interfaces = interfaces_behind state.part state.interfaces })
+            running c.1 refl a b);
       };
-      answers = (ap (λ (x : Reading). x.packets) is ∙ append-nil (packets p), ap (λ (x : Reading). fault_of x.ending) is);
+      answers = (
+        ap (λ (x : Reading). x.packets) is
+            ∙ append-nil (packets p),
+        ap (λ (x : Reading). fault_of x.ending) is,
+      );
     })
-takes_outcome p q octets mid new answer start held state packet (EndsPacket head part) is a b running count place slice c =
+takes_outcome p q octets mid new answer start held state packet
+    (EndsPacket head part) is a b running count place slice c =
     let head_is : new.packet_range.head ≡ head = ap (λ (f : PacketRange). f.head) c.3 in
     let held_is : new.packet_range.held ≡ held = ap (λ (f : PacketRange). f.held) c.3 in
-    let start_is : new.packet_range.start ≡ start + packet_offset mid.part = ap (λ (f : PacketRange). f.start) c.3 in
-    let end_is : new.packet_range.end ≡ start + front mid.part = ap (λ (f : PacketRange). f.end) c.3 in
-    let given : octets_in new octets ≡ packet = rw (held_is, start_is, end_is, c.1.packet_octets) slice in
-    let last : List PacketRecord = record { place = length (p ++ q); head = head; octets = packet } ∷ [] in
-    let more : length (packets p ++ last) ≡ new.packets = omega (arith, c.2, count, length-append (packets p) last) in
+    let start_is : new.packet_range.start ≡ start + packet_offset mid.part =
+    ap (λ (f : PacketRange). f.start) c.3 in
+    let end_is : new.packet_range.end ≡ start + front mid.part =
+    ap (λ (f : PacketRange). f.end) c.3 in
+    let given : octets_in new octets ≡ packet =
+    rw (held_is, start_is, end_is, c.1.packet_octets) slice in
+    let last : List PacketRecord =
+    record { place = length (p ++ q); head = head; octets = packet } ∷ [] in
+    let more : length (packets p ++ last) ≡ new.packets =
+    omega (arith, c.2, count, length-append (packets p) last) in
     rw c.0 (record {
       reads = record {
         octets = c.1.octets ∙ place;
         packets = sym more ∙ ap (λ (x : Reading). length x.packets) (sym is);
-        stands = rw is (holds_none mid new state (record { part = part; interfaces = interfaces_behind state.part state.interfaces }) running c.1 refl a b);
+        stands = rw is
+            (holds_none mid new state
+            (record { part = part; interfaces = interfaces_behind state.part state.interfaces })
+            running c.1 refl a b);
       };
-      answers = (rw (given, head_is) (ap (λ (x : Reading). x.packets) is), ap (λ (x : Reading). fault_of x.ending) is);
+      answers = (
+        rw (given, head_is) (ap (λ (x : Reading). x.packets) is),
+        ap
+            (λ (x : Reading). fault_of x.ending) is,
+      );
     })
-takes_outcome p q octets mid new answer start held state packet (Fails kind) is a b running count place slice c =
+takes_outcome p q octets mid new answer start held state packet
+    (Fails kind) is a b running count place slice c =
     rw c.0 (record {
       reads = record {
         octets = c.3 ∙ place;
-        packets = c.2 ∙ count ∙ ap length (sym (append-nil (packets p))) ∙ ap (λ (x : Reading). length x.packets) (sym is);
+        packets = c.2 ∙ count ∙ ap length (sym (append-nil (packets p)))
+            ∙ ap (λ (x : Reading). length x.packets) (sym is);
         stands = rw is (c.1 ∙ rw place refl);
       };
-      answers = (ap (λ (x : Reading). x.packets) is ∙ append-nil (packets p), ap (λ (x : Reading). fault_of x.ending) is ∙ rw place refl, place);
+      answers = (
+        ap (λ (x : Reading). x.packets) is
+            ∙ append-nil (packets p),
+        ap (λ (x : Reading). fault_of x.ending) is ∙ rw place refl,
+        place,
+      );
     })
 
-whole_of : (p q octets end : List ℕ) (old mid new : Capture) (answer : Progress) (start : ℕ) (held : Bool) (state : ParserState) (at : ℕ)
-    (had : List ℕ) → Reads old p → (reading p).ending ≡ Within state at had → HoldsPart old state had →
-    old.taken + length q ≡ size old.part → mid.part ≡ old.part → mid.interfaces.items ≡ old.interfaces.items →
+whole_of : (p q octets end : List ℕ) (old mid new : Capture) (answer : Progress) (start : ℕ)
+    (held : Bool) (state : ParserState) (at : ℕ)
+    (had : List ℕ) → Reads old p → (reading p).ending ≡ Within state at had →
+    HoldsPart old state had →
+    old.taken + length q ≡ size old.part → mid.part ≡ old.part →
+    mid.interfaces.items ≡ old.interfaces.items →
     mid.fault ≡ None → mid.packets ≡ old.packets → mid.octets ≡ old.octets + length q →
     end ≡ end_of state.part (had ++ q) →
-    slice_range (if held then mid.packet_octets.items else octets) (start + packet_offset state.part) (start + front state.part)
+    slice_range (if held then mid.packet_octets.items
+    else octets) (start + packet_offset state.part) (start + front state.part)
     ≡ packet_in state.part (had ++ q) →
-    Completes (next mid.part mid.interfaces.items end) mid new answer start held → Takes answer p q new octets
-whole_of p q octets end old mid new answer start held state at had r ending holds whole part interfaces running count place end_is
+    Completes (next mid.part mid.interfaces.items end) mid new answer start held →
+    Takes answer p q new octets
+whole_of p q octets end old mid new answer start held state at had r ending holds whole part
+    interfaces running count place end_is
     slice c =
     let same : size old.part ≡ size state.part = ap size holds.part in
-    let all : length (had ++ q) ≡ size state.part = omega (arith, length-append had q, holds.taken, whole, same) in
+    let all : length (had ++ q) ≡ size state.part =
+    omega (arith, length-append had q, holds.taken, whole, same) in
     let part_is : mid.part ≡ state.part = part ∙ holds.part in
     let interfaces_is : mid.interfaces.items ≡ state.interfaces = interfaces ∙ holds.interfaces in
     let next_is : next mid.part mid.interfaces.items end
-    ≡ next state.part state.interfaces (end_of state.part (had ++ q)) = rw (part_is, interfaces_is, end_is) refl in
+    ≡ next state.part state.interfaces (end_of state.part (had ++ q)) =
+    rw (part_is, interfaces_is, end_is) refl in
     takes_outcome p q octets mid new answer start held state (packet_in state.part (had ++ q))
     (next state.part state.interfaces (end_of state.part (had ++ q)))
     (completes p q state at had ending all) part_is interfaces_is running (count ∙ r.packets)
@@ -174,7 +223,8 @@ slice_front octets start low high less =
     ∙ ap (λ n. drop low (take n (drop start octets))) sum
 
 -- the last octets of a list of this length
-pub last_of : (q : List ℕ) (first last : ℕ) → length q ≡ first + last → take last (drop first q) ≡ drop (length q - last) q
+pub last_of : (q : List ℕ) (first last : ℕ) → length q ≡ first + last →
+    take last (drop first q) ≡ drop (length q - last) q
 last_of q first last long =
     let few : length (drop first q) ≤ last = omega (arith, length-drop first q) in
     let at : length q - last ≡ first = omega arith in
@@ -185,18 +235,22 @@ none_of [] none = refl
 none_of (x ∷ had) none = absurd (omega arith)
 
 -- the whole part was taken at once, from this place of the octets that are given
-pub takes_at_once : (p octets end : List ℕ) (count : ℕ) (old mid new : Capture) (answer : Progress) (start : ℕ) →
-    Reads old p → old.fault ≡ None → old.taken ≡ 0 → count ≡ size old.part → start + count ≤ length octets →
+pub takes_at_once : (p octets end : List ℕ) (count : ℕ) (old mid new : Capture)
+    (answer : Progress) (start : ℕ) →
+    Reads old p → old.fault ≡ None → old.taken ≡ 0 → count ≡ size old.part →
+    start + count ≤ length octets →
     mid.part ≡ old.part → mid.interfaces.items ≡ old.interfaces.items →
     mid.fault ≡ None → mid.packets ≡ old.packets → mid.octets ≡ old.octets + count →
     end ≡ drop (count - back old.part) (take count (drop start octets)) →
     Completes (next mid.part mid.interfaces.items end) mid new answer start false →
     Takes answer p (take count (drop start octets)) new octets
-takes_at_once p octets end count old mid new answer start r running fresh whole within part interfaces mid_running packets_same
+takes_at_once p octets end count old mid new answer start r running fresh whole within part
+    interfaces mid_running packets_same
     place end_is c =
     let b = begun p old r running in
     let q = take count (drop start octets) in
-    let long : length q ≡ count = length-take-le count (drop start octets) (omega (arith, length-drop start octets)) in
+    let long : length q ≡ count =
+    length-take-le count (drop start octets) (omega (arith, length-drop start octets)) in
     let none : b.had ≡ [] = none_of b.had (sym b.holds.taken ∙ fresh) in
     let is : old.part ≡ b.state.part = b.holds.part in
     let ends : end ≡ end_of b.state.part q =
@@ -205,11 +259,14 @@ takes_at_once p octets end count old mid new answer start r running fresh whole 
     ∙ ap (λ x. end_of x q) is in
     let few : packet_offset b.state.part ≤ front b.state.part = packet_offset_few b.state.part in
     let size_is : count ≡ size b.state.part = whole ∙ ap size is in
-    let slice : slice_range octets (start + packet_offset b.state.part) (start + front b.state.part) ≡ packet_in b.state.part q =
+    let slice : slice_range octets (start + packet_offset b.state.part)
+    (start + front b.state.part) ≡ packet_in b.state.part q =
     slice_front octets start (packet_offset b.state.part) (front b.state.part) few
-    ∙ ap (drop (packet_offset b.state.part)) (sym (take-take (front b.state.part) count (drop start octets) (omega (arith, size_is)))) in
+    ∙ ap (drop (packet_offset b.state.part))
+    (sym (take-take (front b.state.part) count (drop start octets) (omega (arith, size_is)))) in
     whole_of p q octets end old mid new answer start false b.state b.at b.had r b.ending b.holds
-    (omega (arith, long, fresh, whole)) part interfaces mid_running packets_same (omega (arith, place, long))
+    (omega (arith, long, fresh, whole)) part interfaces mid_running packets_same
+    (omega (arith, place, long))
     (rw none ends) (rw none slice) c
 
 -- the rest of a part was taken, and what is looked at and given of it is held
@@ -225,23 +282,31 @@ takes_rest p q octets end old mid new answer r running whole kept place room end
     let part = b.state.part in
     let is : old.part ≡ part = b.holds.part in
     let size_is : size old.part ≡ size part = ap size is in
-    let all : length (had ++ q) ≡ size part = omega (arith, length-append had q, b.holds.taken, whole, size_is) in
+    let all : length (had ++ q) ≡ size part =
+    omega (arith, length-append had q, b.holds.taken, whole, size_is) in
     let front_held = piece_held old mid q b.state had b.holds kept in
-    let fits : front mid.part ≤ length mid.packet_octets.items = omega (arith, mid.packet_room, mid.fits) in
-    let fits_due : front part ≤ length mid.packet_octets.items = rw (kept.part ∙ is) at fits in
+    let fits : front old.part ≤ length mid.packet_octets.items = omega (arith, kept.come, whole) in
+    let fits_due : front part ≤ length mid.packet_octets.items = rw is at fits in
     let front_all : take (front part) mid.packet_octets.items ≡ take (front part) (had ++ q) =
-    held_all 0 (front part) (had ++ q) mid.packet_octets.items front_held.0 fits_due (omega (arith, all)) in
+    held_all 0 (front part) (had ++ q) mid.packet_octets.items front_held.0 fits_due
+    (omega (arith, all)) in
     let back_fits : back part ≤ length mid.end_octets = omega (arith, back_few part, room) in
     let back_all : take (back part) mid.end_octets ≡ end_of part (had ++ q) =
-    held_all (front part + passed part) (back part) (had ++ q) mid.end_octets front_held.1 back_fits (omega (arith, all)) in
-    let ends : end ≡ end_of part (had ++ q) = end_is ∙ ap (λ x. take (back x) mid.end_octets) is ∙ back_all in
-    let slice : slice_range mid.packet_octets.items (0 + packet_offset part) (0 + front part) ≡ packet_in part (had ++ q) =
-    slice_front mid.packet_octets.items 0 (packet_offset part) (front part) (packet_offset_few part) ∙ ap (drop (packet_offset part)) front_all in
-    whole_of p q octets end old mid new answer 0 true b.state b.at had r b.ending b.holds whole kept.part kept.interfaces
+    held_all (front part + passed part) (back part)
+    (had ++ q) mid.end_octets front_held.1 back_fits (omega (arith, all)) in
+    let ends : end ≡ end_of part (had ++ q) = end_is ∙ ap (λ x. take (back x) mid.end_octets) is
+    ∙ back_all in
+    let slice : slice_range mid.packet_octets.items (0 + packet_offset part) (0 + front part)
+    ≡ packet_in part (had ++ q) =
+    slice_front mid.packet_octets.items 0 (packet_offset part) (front part)
+    (packet_offset_few part) ∙ ap (drop (packet_offset part)) front_all in
+    whole_of p q octets end old mid new answer 0 true b.state b.at had r b.ending b.holds whole
+    kept.part kept.interfaces
     (kept.fault ∙ running) kept.packets place ends slice c
 
 -- octets that follow others of which nothing came
-pub answers_behind : (answer : Progress) (p a b octets : List ℕ) (c : Capture) → packets (p ++ a) ≡ packets p →
+pub answers_behind : (answer : Progress) (p a b octets : List ℕ) (c : Capture) →
+    packets (p ++ a) ≡ packets p →
     Answers answer (p ++ a) b c octets → Answers answer p (a ++ b) c octets
 answers_behind progress.More p a b octets c none after =
     let e : p ++ (a ++ b) ≡ (p ++ a) ++ b = sym (append_assoc p a b) in

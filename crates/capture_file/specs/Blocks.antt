@@ -33,12 +33,16 @@ enhanced_type = 6
 -- the total length that the fixed fields of a type need
 abbrev pub least_length : ℕ → ℕ
 least_length kind =
-    if kind == interface_type then 20 else (if kind == enhanced_type then 32 else (if kind == simple_type then 16 else 12))
+    if kind == interface_type then 20
+    else (if kind == enhanced_type then 32 else (if kind == simple_type then 16 else 12))
 
 -- the length of a section header block, whose order is that of the byte-order magic behind it
 abbrev pub length_by_order : ℕ → List ℕ → Outcome
 length_by_order at octets =
-    Continues (parts.ByteOrderMagic (record { big = four_at Big at octets; little = four_at Little at octets }))
+    Continues (parts.ByteOrderMagic (record {
+      big = four_at Big at octets;
+      little = four_at Little at octets;
+    }))
 
 unfoldable pub section_length : List ℕ → Outcome
 section_length octets = length_by_order 0 octets
@@ -46,31 +50,37 @@ section_length octets = length_by_order 0 octets
 unfoldable pub section : ByteOrder → ℕ → Outcome
 section order length =
     if (length % 4 == 0) && nat_le 28 length
-    then Continues (parts.SectionVersion (record { order = order; length = length; left = length - 20 }))
+    then Continues
+    (parts.SectionVersion (record { order = order; length = length; left = length - 20 }))
     else Fails faults.Length
 
 -- the byte-order magic gives the order of the section, its own length too
 unfoldable pub byte_order_magic : LengthByOrder → List ℕ → Outcome
 byte_order_magic length octets =
     if four_at Big 0 octets == 0x1a2b3c4d then section Big length.big else
-    (if four_at Little 0 octets == 0x1a2b3c4d then section Little length.little else Fails faults.Format)
+    (if four_at Little 0 octets == 0x1a2b3c4d then section Little length.little
+    else Fails faults.Format)
 
 -- the major version, and the minor, which may be any
 unfoldable pub section_version : Block → List ℕ → Outcome
 section_version block octets =
-    if two_at block.order 0 octets == 1 then Continues (parts.BlockEnd block) else Fails faults.Version
+    if two_at block.order 0 octets == 1 then Continues (parts.BlockEnd block)
+    else Fails faults.Version
 
 -- what comes of a block behind its length, in a section that has so many interfaces
 unfoldable pub block_of : ByteOrder → ℕ → ℕ → ℕ → Outcome
 block_of order kind length interfaces =
     if kind == interface_type then
     (if nat_lt interfaces most_interfaces
-    then Continues (parts.InterfaceHeader (record { order = order; length = length; left = length - 20 }))
+    then Continues
+    (parts.InterfaceHeader (record { order = order; length = length; left = length - 20 }))
     else Fails faults.Interface) else
     (if kind == enhanced_type
-    then Continues (parts.EnhancedInterface (record { order = order; length = length; left = length - 32 })) else
+    then Continues
+    (parts.EnhancedInterface (record { order = order; length = length; left = length - 32 })) else
     (if kind == simple_type
-    then Continues (parts.SimpleHeader (record { order = order; length = length; left = length - 16 })) else
+    then Continues
+    (parts.SimpleHeader (record { order = order; length = length; left = length - 16 })) else
     Continues (parts.BlockEnd (record { order = order; length = length; left = length - 12 }))))
 
 -- the type and the length of a block
@@ -86,7 +96,8 @@ block_header order interfaces octets =
 unfoldable pub options : Block → Interface → ℕ → Outcome
 options block interface skip =
     if nat_le (skip + 4) block.left
-    then Continues (parts.OptionHeader (record block { left = block.left - (skip + 4) }) interface skip)
+    then Continues
+    (parts.OptionHeader (record block { left = block.left - (skip + 4) }) interface skip)
     else Continues (parts.InterfaceEnd block interface)
 
 -- the link type, two octets without a use, the snapshot length; a unit is a microsecond unless an option says another
@@ -108,8 +119,10 @@ unfoldable pub option_header : Block → Interface → List ℕ → Outcome
 option_header block interface octets =
     let code = two_at block.order 0 octets in
     let count = two_at block.order 2 octets in
-    if (code == 0) || nat_lt block.left (padded count) then Continues (parts.InterfaceEnd block interface) else
-    (if (code == 9) && (count == 1) then Continues (parts.TimeUnit (record block { left = block.left - 1 }) interface) else
+    if (code == 0) || nat_lt block.left (padded count)
+    then Continues (parts.InterfaceEnd block interface) else
+    (if (code == 9) && (count == 1)
+    then Continues (parts.TimeUnit (record block { left = block.left - 1 }) interface) else
     options block interface (padded count))
 
 -- how many units make a second: 10 to the number, or 2 to the number without its upper bit where that is set
@@ -130,28 +143,38 @@ of_interface block None = Fails faults.Interface
 of_interface block (Some interface) = Continues (parts.EnhancedHeader block interface)
 
 unfoldable pub enhanced_interface : Block → List Interface → List ℕ → Outcome
-enhanced_interface block interfaces octets = of_interface block (slice_get interfaces (four_at block.order 0 octets))
+enhanced_interface block interfaces octets =
+    of_interface block (slice_get interfaces (four_at block.order 0 octets))
 
 -- a packet of so many octets, if that isn't too many and its block has room for them
 unfoldable pub packet_of : Block → Body → Outcome
 packet_of block body =
-    if nat_lt most_captured body.captured || nat_lt block.left body.captured then Fails faults.Length else
+    if nat_lt most_captured body.captured || nat_lt block.left body.captured
+    then Fails faults.Length else
     Continues (parts.Packet (record block { left = block.left - body.captured }) body)
 
--- nanoseconds since 1970, rounded down, of so many units; none from the year 10000 on (nor by a unit that no second has, which
--- no interface can say)
+-- so many units in nanoseconds, rounded down
+abbrev pub nanoseconds_of : ℕ → ℕ → ℕ
+nanoseconds_of units ticks = units * 1000000000 / ticks
+
+-- nanoseconds since 1970 of so many units; none from the year 10000 on (nor by a unit that no second has, which no interface
+-- can say)
 unfoldable pub time_of : ℕ → ℕ → Option ℕ
 time_of units ticks =
-    if (ticks == 0) || nat_le (253402300800 * 1000000000) (units * 1000000000 / ticks)
-    then None else Some (units * 1000000000 / ticks)
+    if (ticks == 0) || nat_le (253402300800 * 1000000000) (nanoseconds_of units ticks)
+    then None else Some (nanoseconds_of units ticks)
 
--- the upper and the lower half of the time, and the captured length
+-- the upper and the lower half of a time
+abbrev pub units_at : ByteOrder → List ℕ → ℕ
+units_at order octets = four_at order 0 octets * 2 ^ 32 + four_at order 4 octets
+
+-- the time and the captured length
 unfoldable pub enhanced_header : Block → Interface → List ℕ → Outcome
 enhanced_header block interface octets =
     packet_of block (record {
       head = record {
         link = interface.link;
-        time = time_of (four_at block.order 0 octets * 2 ^ 32 + four_at block.order 4 octets) interface.ticks;
+        time = time_of (units_at block.order octets) interface.ticks;
       };
       packet_offset = 4;
       captured = four_at block.order 8 octets;
@@ -173,8 +196,10 @@ of_first_interface block original (Some interface) =
 
 -- the original length of a simple packet
 unfoldable pub simple_header : Block → List Interface → List ℕ → Outcome
-simple_header block interfaces octets = of_first_interface block (four_at block.order 0 octets) (slice_get interfaces 0)
+simple_header block interfaces octets =
+    of_first_interface block (four_at block.order 0 octets) (slice_get interfaces 0)
 
 -- the second length, which is the first again
 unfoldable pub block_end : Block → List ℕ → Outcome → Outcome
-block_end block octets outcome = if four_at block.order 0 octets == block.length then outcome else Fails faults.Format
+block_end block octets outcome =
+    if four_at block.order 0 octets == block.length then outcome else Fails faults.Format

@@ -31,31 +31,41 @@ pub record Reads (c : Capture) (p : List ℕ) : Type 0 where
 abbrev pub octets_of : Capture → ℕ
 octets_of c = c.octets
 
--- a packet stands in a capture, or in the octets that were given last
-abbrev pub InRange : Bool → ℕ → List ℕ → Type 0
-InRange true end octets = Unit {0}
-InRange false end octets = end ≤ length octets
+-- a packet stands in what a capture holds, or in the octets that were given last
+abbrev pub InRange : Bool → ℕ → List ℕ → List ℕ → Type 0
+InRange true end held octets = end ≤ length held
+InRange false end held octets = end ≤ length octets
 
 abbrev pub IsIn : Capture → List ℕ → Type 0
-IsIn c octets = InRange c.packet_range.held c.packet_range.end octets
+IsIn c octets = InRange c.packet_range.held c.packet_range.end c.packet_octets.items octets
 
 -- what is known of it, and its octets
 abbrev pub head_in : Capture → Head
 head_in c = c.packet_range.head
 
+abbrev pub octets_around : Capture → List ℕ → List ℕ
+octets_around c octets = if c.packet_range.held then c.packet_octets.items else octets
+
 abbrev pub octets_in : Capture → List ℕ → List ℕ
-octets_in c octets = slice_range (if c.packet_range.held then c.packet_octets.items else octets) c.packet_range.start c.packet_range.end
+octets_in c octets =
+    slice_range (octets_around c octets) c.packet_range.start c.packet_range.end
 
 -- The answer to octets that were taken behind p, the first of those given: with the last of them comes what the reading has
 -- there, and with none before it. More octets were taken, a packet is complete, or a fault shows.
 abbrev pub Answers : Progress → List ℕ → List ℕ → Capture → List ℕ → Type 0
-Answers progress.More p taken c octets = (packets (p ++ taken) ≡ packets p) × (fault (p ++ taken) ≡ None)
+Answers progress.More p taken c octets =
+    (packets (p ++ taken) ≡ packets p) × (fault (p ++ taken) ≡ None)
 Answers progress.Packet p taken c octets =
     (packets (p ++ taken)
-    ≡ packets p ++ record { place = length (p ++ taken); head = head_in c; octets = octets_in c octets } ∷ [])
+    ≡ packets p ++ record {
+      place = length (p ++ taken);
+      head = head_in c;
+      octets = octets_in c octets;
+    } ∷ [])
     × (fault (p ++ taken) ≡ None)
 Answers (progress.Fault f) p taken c octets =
-    (packets (p ++ taken) ≡ packets p) × (fault (p ++ taken) ≡ Some f) × (f.place ≡ length (p ++ taken))
+    (packets (p ++ taken) ≡ packets p) × (fault (p ++ taken) ≡ Some f)
+    × (f.place ≡ length (p ++ taken))
 
 -- a capture goes on behind octets that complete nothing
 abbrev pub IsRunning : Progress → Capture → Type 0

@@ -1,5 +1,5 @@
 -- What the end of a part does to a capture's fields (steps). Only private clauses cite these.
-use Rattle.std.specs.Prelude.{◌≡◌, ℕ, suc, ◌+◌, Bool, List, ◌++◌, length, Some}
+use Rattle.std.specs.Prelude.{◌≡◌, ℕ, suc, ◌+◌, ◌≤◌, min, Bool, List, ◌++◌, length, Some}
 use Rattle.capture_file.specs.declared.capture.Capture.{Capture}
 use Rattle.capture_file.specs.declared.part.Part.{Part}
 use Rattle.capture_file.specs.declared.part.Outcome.{Outcome}
@@ -16,6 +16,7 @@ pub record HoldsPiece (old new : Capture) (piece : List ℕ) : Type 0 where
   pub interfaces : new.interfaces.items ≡ old.interfaces.items
   pub fault : new.fault ≡ old.fault
   pub packets : new.packets ≡ old.packets
+  pub come : min (old.taken + length piece) (front old.part) ≤ length new.packet_octets.items
   pub packet_octets : (had : List ℕ) → length had ≡ old.taken →
       IsHeld 0 (front old.part) had old.packet_octets.items →
       IsHeld 0 (front old.part) (had ++ piece) new.packet_octets.items
@@ -46,7 +47,12 @@ Completes (Continues part) old new answer start held =
     (answer ≡ progress.More) × PartBegins old new part × (new.packets ≡ old.packets)
 Completes (EndsPacket head part) old new answer start held =
     (answer ≡ progress.Packet) × PartBegins old new part × (new.packets ≡ suc old.packets)
-    × (new.packet_range ≡ record { head = head; start = start + packet_offset old.part; end = start + front old.part; held = held })
+    × (new.packet_range ≡ record {
+      head = head;
+      start = start + packet_offset old.part;
+      end = start + front old.part;
+      held = held;
+    })
 Completes (Fails kind) old new answer start held =
     (answer ≡ progress.Fault (record { kind = kind; place = old.octets }))
     × (new.fault ≡ Some (record { kind = kind; place = old.octets }))

@@ -20,16 +20,19 @@ next (parts.ByteOrderMagic length) interfaces octets = byte_order_magic length o
 next (parts.SectionVersion block) interfaces octets = section_version block octets
 next (parts.BlockHeader order) interfaces octets = block_header order (length interfaces) octets
 next (parts.InterfaceHeader block) interfaces octets = interface_header block octets
-next (parts.OptionHeader block interface skip) interfaces octets = option_header block interface octets
+next (parts.OptionHeader block interface skip) interfaces octets =
+    option_header block interface octets
 next (parts.TimeUnit block interface) interfaces octets = time_unit block interface octets
 next (parts.InterfaceEnd block interface) interfaces octets =
     block_end block octets (Continues (parts.BlockHeader block.order))
 next (parts.EnhancedInterface block) interfaces octets = enhanced_interface block interfaces octets
-next (parts.EnhancedHeader block interface) interfaces octets = enhanced_header block interface octets
+next (parts.EnhancedHeader block interface) interfaces octets =
+    enhanced_header block interface octets
 next (parts.SimpleHeader block) interfaces octets = simple_header block interfaces octets
 next (parts.Packet block body) interfaces octets =
     block_end block octets (EndsPacket body.head (parts.BlockHeader block.order))
-next (parts.BlockEnd block) interfaces octets = block_end block octets (Continues (parts.BlockHeader block.order))
+next (parts.BlockEnd block) interfaces octets =
+    block_end block octets (Continues (parts.BlockHeader block.order))
 
 -- the interfaces of the section behind a part: a section begins with none, and each description adds one
 abbrev pub interfaces_behind : Part → List Interface → List Interface

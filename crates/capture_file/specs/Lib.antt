@@ -1,6 +1,7 @@
 pub mod Blocks
 pub mod CaptureState
 pub mod CaptureSteps
+pub mod FaultWords
 pub mod Fits
 pub mod Format
 pub mod Window

@@ -47,7 +47,8 @@ abbrev pub behind : ParserState → List ℕ → ℕ → Outcome → (ParserStat
 behind state packet place (Continues part) rest =
     rest (record { part = part; interfaces = interfaces_behind state.part state.interfaces })
 behind state packet place (EndsPacket head part) rest =
-    let r = rest (record { part = part; interfaces = interfaces_behind state.part state.interfaces }) in
+    let r =
+    rest (record { part = part; interfaces = interfaces_behind state.part state.interfaces }) in
     record r { packets = record { place = place; head = head; octets = packet } ∷ r.packets }
 behind state packet place (Fails kind) rest =
     record { packets = []; ending = Faulted (record { kind = kind; place = place }) }
@@ -84,7 +85,8 @@ fault p = fault_of (reading p).ending
 
 abbrev pub truncated_at : ℕ → Part → List ℕ → Option CaptureFault
 truncated_at place part (octet ∷ octets) = Some (record { kind = Truncated; place = place })
-truncated_at place part [] = if may_end_before part then None else Some (record { kind = Truncated; place = place })
+truncated_at place part [] =
+    if may_end_before part then None else Some (record { kind = Truncated; place = place })
 
 -- the fault that the end of a capture shows, behind this many octets
 abbrev pub fault_at_end : ℕ → Ending → Option CaptureFault

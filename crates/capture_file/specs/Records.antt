@@ -18,32 +18,45 @@ most_captured = 262144
 -- begins with the type of a section header block, which is the same in either order
 unfoldable pub beginning : List ℕ → Outcome
 beginning octets =
-    if four_at Big 0 octets == 0xa1b2c3d4 then Continues (parts.FileVersion (record { order = Big; unit = 1000 })) else
-    (if four_at Big 0 octets == 0xa1b23c4d then Continues (parts.FileVersion (record { order = Big; unit = 1 })) else
-    (if four_at Little 0 octets == 0xa1b2c3d4 then Continues (parts.FileVersion (record { order = Little; unit = 1000 })) else
-    (if four_at Little 0 octets == 0xa1b23c4d then Continues (parts.FileVersion (record { order = Little; unit = 1 })) else
-    (if four_at Big 0 octets == 0x0a0d0d0a then Continues parts.SectionLength else Fails faults.Magic))))
+    if four_at Big 0 octets == 0xa1b2c3d4
+    then Continues (parts.FileVersion (record { order = Big; unit = 1000 })) else
+    (if four_at Big 0 octets == 0xa1b23c4d
+    then Continues (parts.FileVersion (record { order = Big; unit = 1 })) else
+    (if four_at Little 0 octets == 0xa1b2c3d4
+    then Continues (parts.FileVersion (record { order = Little; unit = 1000 })) else
+    (if four_at Little 0 octets == 0xa1b23c4d
+    then Continues (parts.FileVersion (record { order = Little; unit = 1 })) else
+    (if four_at Big 0 octets == 0x0a0d0d0a then Continues parts.SectionLength
+    else Fails faults.Magic))))
 
 -- the major version, and the minor, which may be any
 unfoldable pub file_version : Magic → List ℕ → Outcome
 file_version magic octets =
-    if two_at magic.order 0 octets == 2 then Continues (parts.FileRest magic) else Fails faults.Version
+    if two_at magic.order 0 octets == 2 then Continues (parts.FileRest magic)
+    else Fails faults.Version
 
 -- eight octets without a use, the snapshot length, and the link type, whose upper bits say something else
 unfoldable pub file_rest : Magic → List ℕ → Outcome
 file_rest magic octets =
-    Continues (parts.RecordHeader (record { magic = magic; link = four_at magic.order 12 octets % 2 ^ 16 }))
+    Continues (parts.RecordHeader (record {
+      magic = magic;
+      link = four_at magic.order 12 octets % 2 ^ 16;
+    }))
 
 -- seconds and their fraction, which may be a second or more, as nanoseconds
 unfoldable pub record_time : Magic → List ℕ → ℕ
-record_time magic octets = four_at magic.order 0 octets * 1000000000 + four_at magic.order 4 octets * magic.unit
+record_time magic octets =
+    four_at magic.order 0 octets * 1000000000 + four_at magic.order 4 octets * magic.unit
 
 -- seconds, fraction, captured length
 unfoldable pub record_header : FileHeader → List ℕ → Outcome
 record_header file octets =
     let captured = four_at file.magic.order 8 octets in
     if nat_lt most_captured captured then Fails faults.Length else
-    Continues (parts.Record file (record { link = file.link; time = Some (record_time file.magic octets) }) captured)
+    Continues (parts.Record file (record {
+      link = file.link;
+      time = Some (record_time file.magic octets);
+    }) captured)
 
 -- the packet, and then the next record
 abbrev pub record_end : FileHeader → Head → Outcome

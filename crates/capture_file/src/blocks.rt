@@ -1,7 +1,7 @@
 //! What comes behind each part of a pcapng file.
 
 ghost use Rattle.std.specs.Prelude.{◌≡◌, ◌+◌, ◌≤◌, ◌<◌, ◌⊎◌, ◌-◌, length, slice_get, slice_index, Option};
-ghost use Rattle.capture_file.specs.Blocks.{section_length, section, byte_order_magic, section_version, block_of, block_header, interface_header, options, option_header, ticks_of, time_unit, enhanced_interface, packet_of, time_of, enhanced_header, cut, simple_header, block_end, least_length, padded, length_by_order};
+ghost use Rattle.capture_file.specs.Blocks.{section_length, section, byte_order_magic, section_version, block_of, block_header, interface_header, options, option_header, ticks_of, time_unit, enhanced_interface, packet_of, nanoseconds_of, time_of, enhanced_header, cut, simple_header, block_end, least_length, padded, length_by_order};
 ghost use Rattle.capture_file.specs.Fits.{Fits};
 
 use crate::fault::FaultKind;
@@ -261,7 +261,20 @@ fn packet_of(block: Block, body: Body) -> Outcome
     Outcome::Continues(Part::Packet(Block { left, ..block }, body))
 }
 
-/// Nanoseconds since 1970, rounded down, of so many units; none from the year 10000 on.
+/// So many units in nanoseconds, rounded down. The units of most captures need no division.
+fn nanoseconds_of(units: u64, ticks: u64) -> u128
+    requires { 0 < ticks }
+    ensures { result ≡ nanoseconds_of units ticks }
+{
+    let units = u128::from(units);
+    match ticks {
+        1_000_000_000 => units,
+        1_000_000 => units * 1000,
+        _ => units * 1_000_000_000 / u128::from(ticks),
+    }
+}
+
+/// Nanoseconds since 1970 of so many units; none from the year 10000 on.
 #[tactic(auto, unfolding(crate::specs::Blocks::time_of))]
 fn time_of(units: u64, ticks: u64) -> Option<u128>
     ensures { result ≡ time_of units ticks }
@@ -269,7 +282,7 @@ fn time_of(units: u64, ticks: u64) -> Option<u128>
     if ticks == 0 {
         return None;
     }
-    let time = u128::from(units) * 1_000_000_000 / u128::from(ticks);
+    let time = nanoseconds_of(units, ticks);
     if time >= YEAR_10000 { None } else { Some(time) }
 }
 

@@ -1,6 +1,6 @@
 //! A capture that is read in pieces of any size, in memory that is taken once.
 
-ghost use Rattle.std.specs.Prelude.{◌≡◌, ℕ, true, ◌+◌, ◌-◌, ◌^◌, ◌<◌, ◌≤◌, Bool, List, [], ◌++◌, length, take, drop, Option, None, IfOk, vec_len, vec_capacity};
+ghost use Rattle.std.specs.Prelude.{◌≡◌, ℕ, true, ◌+◌, ◌-◌, ◌^◌, ◌<◌, ◌≤◌, min, Bool, List, [], ◌++◌, length, take, drop, Option, None, IfOk, vec_len, vec_capacity};
 ghost use Rattle.std.specs.Option.{ForSome};
 ghost use Rattle.capture_file.specs.Parts.{front, passed, back, size};
 ghost use Rattle.capture_file.specs.Fits.{adds, HasRoom};
@@ -11,7 +11,7 @@ use crate::fault::{CaptureFault, FaultKind};
 use crate::format::next;
 use crate::part::{Head, Interface, Outcome, Part};
 use crate::progress::{Packet, Progress};
-use crate::window::copy_to_window;
+use crate::window::{copy_to_window, push_front};
 use std::alloc::{AllocError, Global};
 
 /// A packet of the greatest length and an original length in front of it.
@@ -43,7 +43,8 @@ pub struct Capture {
     end_octets: [u8; 16],
     packet_range: PacketRange,
     fault: Option<CaptureFault>,
-    ghost packet_room: { length packet_octets.items ≡ 262148 },
+    ghost packet_room: { 262148 ≤ vec_capacity packet_octets },
+    ghost packet_come: { min taken (front part) ≤ length packet_octets.items },
     ghost interface_room: { 256 ≤ vec_capacity interfaces },
     ghost end_room: { length end_octets ≡ 16 },
     ghost fits: { front part ≤ 262148 },
@@ -51,7 +52,6 @@ pub struct Capture {
     ghost within: { taken < size part },
     ghost few_packets: { packets ≤ octets },
     ghost range_ordered: { packet_range.start ≤ packet_range.end },
-    ghost range_held: { packet_range.held ≡ true → packet_range.end ≤ 262148 },
     ghost fault_place: { ForSome fault (λ f. f.place ≡ octets) },
 }
 
@@ -79,7 +79,7 @@ impl Capture {
             part: Part::Beginning,
             taken: 0,
             interfaces: Vec::with_capacity(alloc, MOST_INTERFACES)?,
-            packet_octets: vec![in alloc; 0; ROOM]?,
+            packet_octets: Vec::with_capacity(alloc, ROOM)?,
             end_octets: [0; 16],
             packet_range,
             fault: None,
@@ -217,7 +217,7 @@ impl Capture {
         ensures octets { self.new.octets ≡ self.old.octets + length piece.now }
     {
         let front = self.part.front();
-        copy_to_window(&mut self.packet_octets, 0, front, self.taken, piece);
+        push_front(&mut self.packet_octets, front, self.taken, piece);
         let begin = front + self.part.passed();
         let back = self.part.back();
         copy_to_window(&mut self.end_octets, begin, back, self.taken, piece);
@@ -230,7 +230,6 @@ impl Capture {
         requires end { length end.now ≡ back self.old.part }
         requires some { self.old.packets < self.old.octets }
         requires room { start + front self.old.part < 2 ^ 64 }
-        requires held { held ≡ true → start ≡ 0 }
         ensures { Completes (next self.old.part self.old.interfaces.items end.now)
             self.old self.new result start held }
     {

@@ -1,31 +1,51 @@
 //! Why a capture is read no further.
 
+ghost use Rattle.std.specs.Prelude.{◌≡◌};
+ghost use Rattle.capture_file.specs.FaultWords.{fault_word};
+
+use std::fmt::{self, Display, Formatter, Write};
 use thiserror::Error;
 
-/// The rule that a capture breaks. `Display` is its word.
-#[derive(Clone, Copy, Debug, PartialEq, Eq, Error)]
+/// The rule that a capture breaks.
+#[derive(Clone, Copy, Debug, PartialEq, Eq)]
 pub enum FaultKind {
     /// It begins neither as pcap nor as pcapng.
-    #[error("magic")]
     Magic,
     /// A byte-order magic of neither order, a unit of times out of range, or a block whose two lengths differ.
-    #[error("format")]
     Format,
     /// A length that its block can't have, or a packet of more octets than are read or than its block has room for.
-    #[error("length")]
     Length,
     /// A major version other than 2 (pcap) or 1 (pcapng).
-    #[error("version")]
     Version,
     /// A packet of an interface that its section doesn't have, or one interface too many.
-    #[error("interface")]
     Interface,
     /// It ends within a header, a record or a block, or is empty.
-    #[error("truncated")]
     Truncated,
 }
 
-/// A fault of a capture, which ends its reading.
+impl FaultKind {
+    /// Its word (docs/FORMATS.md, Capture files).
+    pub fn word(self) -> &'static str
+        ensures { result.now ≡ fault_word self }
+    {
+        match self {
+            FaultKind::Magic => "magic",
+            FaultKind::Format => "format",
+            FaultKind::Length => "length",
+            FaultKind::Version => "version",
+            FaultKind::Interface => "interface",
+            FaultKind::Truncated => "truncated",
+        }
+    }
+}
+
+impl Display for FaultKind {
+    fn fmt<W: Write>(&self, f: &mut Formatter<W>) -> fmt::Result {
+        f.write_str(self.word())
+    }
+}
+
+/// A fault of a capture, which ends its reading. `Display` is `WORD at PLACE`.
 #[derive(Clone, Copy, Debug, PartialEq, Eq, Error)]
 #[error("{kind} at {place}")]
 pub struct CaptureFault {

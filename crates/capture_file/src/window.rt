@@ -1,6 +1,6 @@
 //! What is held of the octets of a part that comes in pieces.
 
-ghost use Rattle.std.specs.Prelude.{◌≡◌, ℕ, ◌+◌, ◌^◌, ◌<◌, ◌≤◌, List, ◌++◌, length};
+ghost use Rattle.std.specs.Prelude.{◌≡◌, ℕ, ◌+◌, ◌^◌, ◌<◌, ◌≤◌, min, List, ◌++◌, length, vec_capacity};
 ghost use Rattle.capture_file.specs.Window.{IsHeld};
 
 /// Where a part has come up to an offset, copies those octets of its next piece into a window that are among so many of
@@ -17,5 +17,24 @@ pub fn copy_to_window(window: &mut [u8], begin: u64, size: u64, at: u64, piece: 
     if from < to {
         let next = &piece[(from - at) as usize..(to - at) as usize];
         window[(from - begin) as usize..(to - begin) as usize].copy_from_slice(next);
+    }
+}
+
+/// Where a part has come up to an offset, puts those octets of its next piece that are among so many first ones of the part
+/// behind those of the pieces before it. What is behind them is of an earlier part, and goes.
+pub fn push_front(front: &mut Vec<u8>, size: u64, at: u64, piece: &[u8])
+    requires room { size ≤ vec_capacity front.old }
+    requires come { min at size ≤ length front.old.items }
+    ensures held { (had : List ℕ) → length had ≡ at → IsHeld 0 size had front.old.items →
+        IsHeld 0 size (had ++ piece.now) front.new.items }
+    ensures come { min (at + length piece.now) size ≤ length front.new.items }
+    ensures capacity { vec_capacity front.old ≤ vec_capacity front.new }
+{
+    if at < size {
+        let count = (size - at).min(piece.len() as u64) as usize;
+        front.truncate(at as usize);
+        if front.extend_from_slice(&piece[..count]).is_err() {
+            unreachable!();
+        }
     }
 }

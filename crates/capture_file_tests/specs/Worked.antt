@@ -15,7 +15,8 @@ octets (a ∷ (b ∷ more)) =
 
 -- pcap, the least significant octet first, nanoseconds: 1 second and 2,000,000,007 nanoseconds, and two octets of five
 abbrev pub records : List ℕ
-records = octets (codes "4d3cb2a1 0200 0400 00000000 00000000 00000400 65000000 01000000 07943577 02000000 05000000 abcd")
+records = octets
+    (codes "4d3cb2a1 0200 0400 00000000 00000000 00000400 65000000 01000000 07943577 02000000 05000000 abcd")
 
 abbrev pub OfRecords : Type 0
 OfRecords = packets records
@@ -27,7 +28,8 @@ OfRecords = packets records
 
 -- a section, and an interface whose times are in units of 2^-10 seconds
 abbrev pub section : List ℕ
-section = octets (codes "0a0d0d0a 0000001c 1a2b3c4d 0001 0000 ffffffffffffffff 0000001c 00000001 00000020 0065 0000 00000000 0009 0001 8a 000000 0000 0000 00000020")
+section = octets
+    (codes "0a0d0d0a 0000001c 1a2b3c4d 0001 0000 ffffffffffffffff 0000001c 00000001 00000020 0065 0000 00000000 0009 0001 8a 000000 0000 0000 00000020")
 
 -- an enhanced packet of one octet, 1536 units after 1970, but for its second length
 abbrev pub packet : List ℕ
@@ -35,11 +37,17 @@ packet = octets (codes "00000006 00000024 00000000 00000000 00000600 00000001 00
 
 abbrev pub OfBlocks : Type 0
 OfBlocks = packets (section ++ (packet ++ octets (codes "00000024")))
-    ≡ record { place = 96; head = record { link = 101; time = Some 1500000000 }; octets = 0x47 ∷ [] } ∷ []
+    ≡ record {
+      place = 96;
+      head = record { link = 101; time = Some 1500000000 };
+      octets = 0x47 ∷ [];
+    } ∷ []
 
 -- a second length that differs
 abbrev pub OfLengths : Type 0
-OfLengths = fault (section ++ (packet ++ octets (codes "00000028"))) ≡ Some (record { kind = faults.Format; place = 96 })
+OfLengths =
+    fault (section ++ (packet ++ octets (codes "00000028")))
+    ≡ Some (record { kind = faults.Format; place = 96 })
 
 -- a capture that ends in front of the second length
 abbrev pub OfEnd : Type 0

@@ -33,7 +33,8 @@ run_longest groups zero fits zeros = omega arith
 run_longest [] (suc count) fits zeros = omega arith
 run_longest (s ∷ rest) (suc count) fits zeros =
     let first : s ≡ 0 = zeros 0 (omega arith) (omega arith) in
-    let more = run_longest rest count (omega arith) (behind s rest 0 count (λ k low high. zeros k (omega arith) (omega arith))) in
+    let more = run_longest rest count (omega arith)
+    (behind s rest 0 count (λ k low high. zeros k (omega arith) (omega arith))) in
     grind (arith, first, more)
 
 -- ---- The choice between the run at the front and the longest one behind the first group.

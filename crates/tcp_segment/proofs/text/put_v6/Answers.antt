@@ -13,7 +13,8 @@ other_text : (groups : List ℕ) → ¬ (IsIpv4Mapped groups) → ipv6_text grou
 unfolding ipv6_text
 other_text groups isnt =
     let front = 0 ∷ 0 ∷ 0 ∷ 0 ∷ 0 ∷ 0xffff ∷ [] in
-    let other : bytes_eq (take 6 groups) front ≡ false = grind (arith, bytes_eq-Decides (take 6 groups) front, isnt) in
+    let other : bytes_eq (take 6 groups) front ≡ false =
+    grind (arith, bytes_eq-Decides (take 6 groups) front, isnt) in
     rw other refl
 
 pub returns-in-Some-clause-put : goal.returns-in-Some-clause-put

@@ -4,9 +4,11 @@ use Rattle.capture_file.specs.Reading.{packets}
 use Rattle.capture_file.proofs.Taking.{answers_behind}
 use Rattle.capture_file.proofs.capture.Capture.take.Goals as goal
 
-behind : (p octets : List ℕ) (t n : ℕ) → (p ++ take t octets) ++ take n (drop t octets) ≡ p ++ take (t + n) octets
+behind : (p octets : List ℕ) (t n : ℕ) → (p ++ take t octets) ++ take n (drop t octets)
+    ≡ p ++ take (t + n) octets
 behind p octets t n =
-    append_assoc p (take t octets) (take n (drop t octets)) ∙ ap (λ x. p ++ x) (sym (take-add t n octets))
+    append_assoc p (take t octets) (take n (drop t octets))
+    ∙ ap (λ x. p ++ x) (sym (take-add t n octets))
 
 pub loop-start-preserved : goal.loop-start-preserved
 loop-start-preserved c =
@@ -37,8 +39,10 @@ returns-in_default-progress c =
       reads = λ p r. subst (Reads c.take_part-count.new.self) (behind p octets t n)
           (after.reads (p ++ take t octets) (before.reads p r));
       answers = λ p r. rw (take-add t n octets)
-          (answers_behind c.take_part-count.result.1 p (take t octets) (take n (drop t octets)) octets
-          c.take_part-count.new.self (before.packets p r) (after.answers (p ++ take t octets) (before.reads p r)));
+          (answers_behind c.take_part-count.result.1 p (take t octets)
+          (take n (drop t octets)) octets
+          c.take_part-count.new.self (before.packets p r)
+          (after.answers (p ++ take t octets) (before.reads p r)));
       packet = after.packet;
       octets = omega (arith, after.octets, before.octets);
       some = λ is. omega (arith, after.some);

@@ -10,7 +10,8 @@ invariant-loop-start l =
       running : l.self.fault ≡ None;
       octets : l.self.octets ≡ l.initial.self.octets + l.start;
       reads : (p : List ℕ) → Reads l.initial.self p → Reads l.self (p ++ take l.start l.octets);
-      packets : (p : List ℕ) → Reads l.initial.self p → packets (p ++ take l.start l.octets) ≡ packets p;
+      packets : (p : List ℕ) → Reads l.initial.self p →
+          packets (p ++ take l.start l.octets) ≡ packets p;
     }
 
 abbrev pub decreases-loop-start : goal.decreases-loop-start

@@ -19,15 +19,19 @@ pub returns-then-missing-rest-clause-reads : goal.returns-then-missing-rest-clau
 returns-then-missing-rest-clause-reads c p r =
     let e = all_of c.args.octets.now c.args.start in
     subst (λ x. Reads c.hold.new.self (p ++ x)) (sym e)
-    (takes_piece p _ c.args.octets.now c.args.self.now c.hold.new.self r c.requires.running c.hold.ensures.kept
-    c.hold.ensures.taken c.hold.ensures.octets (omega (arith, c.if-missing-rest.true, c.size.ensures))).reads
+    (takes_piece p _ c.args.octets.now c.args.self.now c.hold.new.self r c.requires.running
+    c.hold.ensures.kept
+    c.hold.ensures.taken c.hold.ensures.octets
+    (omega (arith, c.if-missing-rest.true, c.size.ensures))).reads
 
 pub returns-then-missing-rest-clause-answers : goal.returns-then-missing-rest-clause-answers
 returns-then-missing-rest-clause-answers c p r =
     let e = all_of c.args.octets.now c.args.start in
     subst (λ x. Answers progress.More p x c.hold.new.self c.args.octets.now) (sym e)
-    (takes_piece p _ c.args.octets.now c.args.self.now c.hold.new.self r c.requires.running c.hold.ensures.kept
-    c.hold.ensures.taken c.hold.ensures.octets (omega (arith, c.if-missing-rest.true, c.size.ensures))).answers
+    (takes_piece p _ c.args.octets.now c.args.self.now c.hold.new.self r c.requires.running
+    c.hold.ensures.kept
+    c.hold.ensures.taken c.hold.ensures.octets
+    (omega (arith, c.if-missing-rest.true, c.size.ensures))).answers
 
 -- the octets at the end of a piece at the beginning of what is left
 end_of_piece : (octets : List ℕ) (start count back known : ℕ) → back ≡ known →
@@ -44,31 +48,43 @@ returns-clause-reads c p r =
     let octets = c.args.octets.now in
     let start = c.args.start in
     let count = c.size.result - c.args.self.now.taken in
-    let end = take (length (take count (take (length octets - start) (drop start octets))) - (count - c.back-back.result))
-    (drop (count - c.back-back.result) (take count (take (length octets - start) (drop start octets)))) in
+    let end = take (length (take count (take (length octets - start) (drop start octets))) -
+    (count - c.back-back.result))
+    (drop (count - c.back-back.result)
+    (take count (take (length octets - start) (drop start octets)))) in
     let fresh : c.args.self.now.taken ≡ 0 = omega (arith, c.if-self-gt0.false) in
     let whole : count ≡ size c.args.self.now.part = omega (arith, c.size.ensures, fresh) in
     let left : length (take (length octets - start) (drop start octets)) ≡ length octets - start =
     ap length (take_rest octets start) ∙ length-drop start octets in
-    let within : start + count ≤ length octets = omega (arith, c.if-missing-rest.false, left, c.requires.some) in
-    (takes_at_once p octets end count c.args.self.now c.advance.new.self c.complete.new.self c.complete.result start r
+    let within : start + count ≤ length octets =
+    omega (arith, c.if-missing-rest.false, left, c.requires.some) in
+    (takes_at_once p octets end count c.args.self.now c.advance.new.self c.complete.new.self
+    c.complete.result start r
     c.requires.running fresh whole within c.advance.ensures.part c.advance.ensures.interfaces
-    (c.advance.ensures.fault ∙ c.requires.running) c.advance.ensures.packets c.advance.ensures.octets
-    (end_of_piece octets start count c.back-back.result _ c.back-back.ensures.value) c.complete.ensures).reads
+    (c.advance.ensures.fault
+    ∙ c.requires.running) c.advance.ensures.packets c.advance.ensures.octets
+    (end_of_piece octets start count c.back-back.result _ c.back-back.ensures.value)
+    c.complete.ensures).reads
 
 pub returns-clause-answers : goal.returns-clause-answers
 returns-clause-answers c p r =
     let octets = c.args.octets.now in
     let start = c.args.start in
     let count = c.size.result - c.args.self.now.taken in
-    let end = take (length (take count (take (length octets - start) (drop start octets))) - (count - c.back-back.result))
-    (drop (count - c.back-back.result) (take count (take (length octets - start) (drop start octets)))) in
+    let end = take (length (take count (take (length octets - start) (drop start octets))) -
+    (count - c.back-back.result))
+    (drop (count - c.back-back.result)
+    (take count (take (length octets - start) (drop start octets)))) in
     let fresh : c.args.self.now.taken ≡ 0 = omega (arith, c.if-self-gt0.false) in
     let whole : count ≡ size c.args.self.now.part = omega (arith, c.size.ensures, fresh) in
     let left : length (take (length octets - start) (drop start octets)) ≡ length octets - start =
     ap length (take_rest octets start) ∙ length-drop start octets in
-    let within : start + count ≤ length octets = omega (arith, c.if-missing-rest.false, left, c.requires.some) in
-    (takes_at_once p octets end count c.args.self.now c.advance.new.self c.complete.new.self c.complete.result start r
+    let within : start + count ≤ length octets =
+    omega (arith, c.if-missing-rest.false, left, c.requires.some) in
+    (takes_at_once p octets end count c.args.self.now c.advance.new.self c.complete.new.self
+    c.complete.result start r
     c.requires.running fresh whole within c.advance.ensures.part c.advance.ensures.interfaces
-    (c.advance.ensures.fault ∙ c.requires.running) c.advance.ensures.packets c.advance.ensures.octets
-    (end_of_piece octets start count c.back-back.result _ c.back-back.ensures.value) c.complete.ensures).answers
+    (c.advance.ensures.fault
+    ∙ c.requires.running) c.advance.ensures.packets c.advance.ensures.octets
+    (end_of_piece octets start count c.back-back.result _ c.back-back.ensures.value)
+    c.complete.ensures).answers
