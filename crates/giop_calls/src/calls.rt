@@ -6,8 +6,7 @@ ghost use Rattle.std.specs.Option.{option_map};
 ghost use Rattle.giop_calls.specs.Outstanding.{without, newest};
 
 use arrayvec::ArrayVec;
-use giop_entry_table::EntryTable;
-use giop_sig::OpId;
+use giop_entry_table::{Entry, EntryTable};
 use std::alloc::{AllocError, Global};
 use std::marker::Model;
 
@@ -17,16 +16,24 @@ pub const NAME_ROOM: usize = 128;
 /// A Request whose reply is outstanding (ISO/IEC 19500-2, 9.4.2 and 9.4.3).
 #[derive(Drop)]
 pub struct Call {
-    /// The operation, where the signatures have its name.
-    pub operation: Option<OpId>,
     /// The octets of the operation's name.
     pub name: ArrayVec<u8, 128>,
     /// The number of the stream that the Request came in, from 1.
     pub stream: u64,
     /// The number of the Request in its stream, from 1.
     pub message: u64,
-    /// When the Request's header was complete, in nanoseconds since 1970-01-01 UTC.
-    pub time: Option<u64>,
+    /// When the Request's header was complete, in nanoseconds since 1970-01-01 UTC; none where its packet has no time.
+    pub time: Option<u128>,
+}
+
+/// The call of an entry.
+fn value_of(entry: Option<Entry<Call>>) -> Option<Call>
+    ensures { result ≡ option_map (λ e. e.value) entry }
+{
+    match entry {
+        Some(entry) => Some(entry.value),
+        None => None,
+    }
 }
 
 /// The outstanding calls of one direction, oldest first, one an id. Where as many are outstanding as may be, the oldest
@@ -78,7 +85,7 @@ impl Calls {
             (without id self.old.entries ++ record { key = id; value = call } ∷ []) }
         ensures most { self.new.most ≡ self.old.most }
     {
-        self.remove(id);
+        self.take(id);
         self.make_room();
         if !self.table.is_full() {
             self.table.add(id, call);
@@ -95,13 +102,16 @@ impl Calls {
         }
     }
 
-    /// The call of this id, if there is one, is no longer outstanding.
-    pub fn remove(&mut self, id: u32)
+    /// The call that a Reply with this request id answers, which is no longer outstanding.
+    pub fn take(&mut self, id: u32) -> Option<Call>
+        ensures value { result
+            ≡ option_map (λ e. e.value) (find (λ e. e.key == id) self.old.entries) }
         ensures entries { self.new.entries ≡ without id self.old.entries }
         ensures most { self.new.most ≡ self.old.most }
     {
-        if let Some(place) = self.table.find(id) {
-            self.table.take(place);
+        match self.table.find(id) {
+            Some(place) => value_of(self.table.take(place)),
+            None => None,
         }
     }
 

@@ -9,8 +9,8 @@ use std::test::Fail;
 enum Step {
     /// A call of this id and message number is added.
     Add(u32, u64),
-    /// The call of this id is removed.
-    Remove(u32),
+    /// The call of this id is taken.
+    Take(u32),
     /// All are removed.
     Clear,
 }
@@ -25,13 +25,13 @@ const STEPS: [(Step, [u64; 5]); 13] = [
     // A call takes an older one of its id away, and is the newest.
     (Step::Add(2, 21), [0, 21, 30, 40, 0]),
     (Step::Add(5, 50), [0, 21, 0, 40, 50]),
-    (Step::Remove(4), [0, 21, 0, 0, 50]),
+    (Step::Take(4), [0, 21, 0, 0, 50]),
     // An id without a call.
-    (Step::Remove(4), [0, 21, 0, 0, 50]),
+    (Step::Take(4), [0, 21, 0, 0, 50]),
     (Step::Add(1, 11), [11, 21, 0, 0, 50]),
     (Step::Add(3, 31), [11, 0, 31, 0, 50]),
     (Step::Clear, [0, 0, 0, 0, 0]),
-    (Step::Remove(3), [0, 0, 0, 0, 0]),
+    (Step::Take(3), [0, 0, 0, 0, 0]),
     (Step::Add(3, 32), [0, 0, 32, 0, 0]),
 ];
 
@@ -41,14 +41,15 @@ fn perform(calls: &mut Calls, step: Step) {
         Step::Add(id, message) => calls.add(
             id,
             Call {
-                operation: None,
                 name: ArrayVec::new(),
                 stream: 1,
                 message,
                 time: None,
             },
         ),
-        Step::Remove(id) => calls.remove(id),
+        Step::Take(id) => {
+            calls.take(id);
+        }
         Step::Clear => calls.clear(),
     }
 }
