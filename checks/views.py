@@ -1,26 +1,27 @@
-"""Dumps of streams that are made by seeds, as the program writes them and with what a capture adds to them: the JSON has
-every value of their lines and no other, the counts of the table are those of `grep -c`, and the chart has an arrow for
-each message. Cut behind any line, a dump gives what is there. A line that was changed is refused or read, and nothing
-else happens."""
+"""Dumps of streams that are made by seeds, as the program writes them and with what a capture adds to them: the JSON
+has every value of their lines and no other, the counts of the table are those of `grep -c`, and the chart has an arrow
+for each message. Cut behind any line, a dump gives what is there. A line that was changed is refused or read, and
+nothing else happens. The picture of README.md is that of its command."""
 
 from __future__ import annotations
 
 import json
+import os
 import random
 import re
 import struct
 import subprocess
 import sys
 from collections import Counter
-from pathlib import Path
-from typing import Any, Dict, List, Sequence, Tuple
+from typing import Any, Callable, Dict, List, Sequence, Tuple
 from xml.etree import ElementTree
 
 import generated
+from failing import PROGRAM, TOP
 
-sys.path.insert(0, str(Path(__file__).resolve().parent.parent / "scripts/tests"))
+sys.path.insert(0, str(TOP / "scripts/tests"))
 
-from in_process import PROGRAMS, SESSION, Refused, printed  # noqa: E402
+from in_process import PROGRAMS, SCRIPTS, SESSION, Refused, printed  # noqa: E402
 
 SEEDS = 150
 WOVEN = 3  # streams of one capture
@@ -33,7 +34,7 @@ MESSAGE = re.compile(r"(?:s(\d+) )?m(\d+) (.*)")
 def dump_of(seed: int, known: List[bytes]) -> List[str]:
     """The lines of a stream."""
     case = generated.stream_of(seed, known)
-    done = subprocess.run([generated.PROGRAM, *case.words], input=case.stream, stdout=subprocess.PIPE, timeout=60)
+    done = subprocess.run([PROGRAM, *case.words], input=case.stream, stdout=subprocess.PIPE, timeout=60)
     assert done.returncode in (0, 1), case
     return done.stdout.decode().splitlines()
 
@@ -44,19 +45,21 @@ def added_to(draw: random.Random, line: str, after: str, kinds: Dict[str, str], 
     if word == "start":
         kinds[number] = line.split(" ")[4]
     is_at_once = after.startswith((f"{number} end", f"{number} fault"))
-    added = [f"{number} time 2026-11-23T08:13:25.{draw.randrange(10**9):09}Z"] if word == "start" and not is_at_once else []
-    added += [f"{number} time -"] if word in ("end", "fault") and number not in kinds else []
+    added = []
+    if word == "start" and not is_at_once:
+        added.append(f"{number} time 2026-11-23T08:13:25.{draw.randrange(10**9):09}Z")
     if word == "call":
         calls.append(line.split(" ", 3)[3])
     if kinds.get(number) == "Reply" and "header.reply_status" in line and draw.randrange(3):
-        added.append(f"{number} answers s9 m9 {draw.choice(calls or ['ask'])} after {draw.choice(('-', '0.000000250', '1.5' + 8 * '0'))}")
+        seconds = draw.choice(("-", "0.000000250", "-0.100000000", "1.500000000"))
+        added.append(f"{number} answers s9 m9 {draw.choice(calls or ['ask'])} after {seconds}")
     if kinds.get(number) == "Reply" and (word == "end" or " exception " in line and not line.endswith(" more")):
         added += [f"{number} raises {draw.choice(IDS)}"] if draw.randrange(2) else []
     return added
 
 
 def capture_of(draw: random.Random, dumps: Sequence[List[str]]) -> List[str]:
-    """Dumps of streams as those of one capture, whose lines come by turns; what is added isn't what giopcap would add."""
+    """Dumps of streams as those of one capture, whose lines come by turns; which call is answered is drawn."""
     calls: List[str] = []
     groups = []
     for number, lines in enumerate(dumps, 1):
@@ -89,7 +92,7 @@ def chain(where: Any, key: Any) -> List[Tuple[Any, Any]]:
 
 def place_of(made: Any, path: str) -> List[Tuple[Any, Any]]:
     """The places of a path in the object of a message."""
-    steps = [int(index) if index else name for name, index in re.findall(r"(\w+)|\[(\d+)\]", re.sub(r"\[(\d+)\]", r"[\1]", path))]
+    steps = [int(index) if index else name for index, name in re.findall(r"\[(\d+)\]|(\w+)", path)]
     places: List[Tuple[Any, Any]] = [(made, steps[0])]
     for step in steps[1:]:
         where, key = chain(*places[-1])[-1]
@@ -117,6 +120,15 @@ def number_of(text: str) -> Any:
     return number if abs(number) < float("inf") else {"inf": "Infinity", "-inf": "-Infinity"}.get(str(number), "NaN")
 
 
+def value_of(kind: str, text: str) -> Any:
+    """A value by its kind."""
+    if kind in ("float", "double"):
+        return number_of(text)
+    if kind == "char":
+        return shown(octets_in(text[1:-1]))
+    return {"boolean": text == "true", "enum": text}[kind] if kind in ("boolean", "enum") else int(text)
+
+
 class Left:
     """What is left of an object when what its lines have is taken out of it."""
 
@@ -126,7 +138,7 @@ class Left:
 
     def take(self, line: str) -> None:
         """Takes what a line of values has."""
-        path, kind, text = (line.split(" ", 2) + [""])[:3] if not line.startswith("rest ") else ("rest", *line.split(" ", 1))
+        path, kind, text = [*(line if not line.startswith("rest ") else "rest " + line).split(" ", 2), ""][:3]
         if kind in ("string", "octets", "rest"):
             offset, _, piece = text.partition(" ")
             more = piece.endswith(" more")
@@ -148,9 +160,7 @@ class Left:
             assert held[kind] == (int(text) if kind == "encapsulation" else text), line
             held[kind] = TAKEN
         else:
-            values = {"boolean": lambda: text == "true", "enum": lambda: text, "char": lambda: shown(octets_in(text[1:-1]))}
-            value = number_of(text) if kind in ("float", "double") else values.get(kind, lambda: int(text))()
-            self.has(places[-1], value)
+            self.has(places[-1], value_of(kind, text))
 
     def has(self, place: Tuple[Any, Any], value: Any) -> None:
         """Takes a value out of its place."""
@@ -182,13 +192,13 @@ def leaves(made: Any) -> List[Any]:
     return [] if made is TAKEN else [made]
 
 
-EVENTS = {
+EVENTS: Dict[str, Callable[[List[str]], Dict[str, Any]]] = {
     "start": lambda words: dict(zip(("version", "order", "type", "size", "more"),
                                     (*words[:3], int(words[4]), *([True] if words[5:] else [])))),
     "call": lambda words: {"call": int(words[0]), "operation": words[1]},
     "time": lambda words: {"time": None if words[0] == "-" else words[0]},
-    "answers": lambda words: {"answers": {"stream": int(words[0][1:]), "message": int(words[1][1:])}, "operation": words[2],
-                              "seconds": None if words[4] == "-" else float(words[4])},
+    "answers": lambda words: {"answers": {"stream": int(words[0][1:]), "message": int(words[1][1:])},
+                              "operation": words[2], "seconds": None if words[4] == "-" else float(words[4])},
     "continues": lambda words: {"continues": int(words[0][1:])},
     "cancelled": lambda words: {"cancelled_by": int(words[1][1:])},
     "raises": lambda words: {"raises": words[0]},
@@ -204,7 +214,8 @@ def check_json(lines: Sequence[str]) -> int:
     left = {(made.get("stream", 0), made["message"]): Left(made) for made in found if "message" in made}
     assert len(left) == sum("message" in made for made in found) == sum(" start " in line for line in lines)
     told: Dict[Tuple[int, int], Dict[str, Any]] = {key: {} for key in left}
-    ends = {int(stream): (one, other) for stream, one, other in re.findall(r"(?m)^s(\d+) stream (\S+) > (\S+) at", text_of(lines))}
+    ends = {int(match[1]): (match[2], match[3])
+            for match in re.finditer(r"(?m)^s(\d+) stream (\S+) > (\S+) at", text_of(lines))}
     over, values = set(), 0
     for line in lines:
         match = MESSAGE.fullmatch(line)
@@ -227,9 +238,11 @@ def check_json(lines: Sequence[str]) -> int:
             assert made.pop(name) == value, (key, name)
         if told[key]["type"] == "Fragment" and not {"continues", "fault"} & set(told[key]):
             assert made.pop("cut")  # the stream ended in front of its request id
-        assert (made.pop("from", None), made.pop("to", None)) == ends.get(key[0], (None, None)) and not leaves(made), (key, made)
+        assert (made.pop("from", None), made.pop("to", None)) == ends.get(key[0], (None, None)), key
+        assert not leaves(made), (key, made)
     totals = [list(map(int, re.findall(r" (\d+)", line))) for line in lines if " total messages " in f" {line}"]
-    assert [[made[name] for name in ("messages", "faults", "octets")] for made in found if "messages" in made and "streams" not in made] == totals
+    streams = [made for made in found if "messages" in made and "streams" not in made]
+    assert [[made[name] for name in ("messages", "faults", "octets")] for made in streams] == totals
     return values
 
 
@@ -241,6 +254,17 @@ def text_of(lines: Sequence[str]) -> str:
 def count(text: str, pattern: str) -> int:
     """What grep -c prints."""
     return len(re.findall(rf"(?m)^(?:s\d+ )?(?:m\d+ )?{pattern}$", text))
+
+
+def raised_by(line: str) -> str:
+    """The repository id that a message raises, by its object, where it's one that a line may have."""
+    made = json.loads(line)
+    status = made.get("header", {}).get("reply_status")
+    known = made.get("exception") if status == "USER_EXCEPTION" else ""
+    if status == "SYSTEM_EXCEPTION":
+        known = made.get("body", {}).get("exception_id")
+    known = known.get("text") if isinstance(known, dict) else known
+    return str(made.get("raises") or (known if known and re.fullmatch(r"[!#-\[\]-~]{1,128}", known) else ""))
 
 
 def check_counts(lines: Sequence[str]) -> int:
@@ -267,7 +291,7 @@ def check_counts(lines: Sequence[str]) -> int:
             times = [float(time) for time in re.findall(rf" answers \S+ \S+ {name} after (-?\d\S*)\n", text)]
             assert (row["seconds"] or {}).get("max", 0) == max(times, default=0)
             assert abs((row["seconds"] or {}).get("total", 0) - sum(times)) < 1e-9
-    raised = Counter(re.findall(r"(?m) raises (.*)$", text))
+    raised = Counter(filter(None, map(raised_by, printed("giop-json", text).splitlines())))
     assert sum((Counter(row["raised"]) for row in told["operations"]), Counter()) == raised
     return text.count(" start ")
 
@@ -278,11 +302,12 @@ def check_chart(lines: Sequence[str], picture: bool) -> int:
     chart = printed("giop-chart", text, "--most", "100000")
     arrows = len(re.findall(r'(?m)^  "[^"]*" (?:=>|->|>>|-x) "[^"]*" \[', chart))
     boxes = len(re.findall(r'(?m)^  "[^"]*" box "[^"]*" \[', chart))
-    assert arrows == text.count(" start ") and boxes == count(text, "closed gap") + count(text, "stream fault .*"), chart
+    assert arrows == text.count(" start "), chart
+    assert boxes == count(text, "closed gap") + count(text, "stream fault .*"), chart
     if picture:
-        drawn = subprocess.run(["mscgen", "-T", "svg", "-o", "-"], input=chart, capture_output=True, text=True, timeout=60)
-        assert drawn.returncode == 0, (drawn, chart)
-        names = {element.tag.split("}")[-1] for element in ElementTree.fromstring(drawn.stdout).iter()}
+        command = ["mscgen", "-T", "svg", "-o", "-"]
+        drawn = subprocess.run(command, input=chart.encode(), stdout=subprocess.PIPE, timeout=60, check=True).stdout
+        names = {element.tag.split("}")[-1] for element in ElementTree.fromstring(drawn).iter()}
         assert names <= {"svg", "text", "line", "polygon", "path"}, names
     return arrows
 
@@ -302,11 +327,13 @@ def check_cuts(lines: Sequence[str]) -> int:
 
 
 def check_changed(draw: random.Random, lines: List[str]) -> bool:
-    """A dump with a line that is changed, left out or repeated is read or refused at a line; tells whether it's read."""
+    """A dump with a line that is changed, left out or repeated is read, or refused at a line; tells whether it's read."""
     place = draw.randrange(len(lines))
     line = lines[place]
     at = draw.randrange(len(line) + 1)
-    made = draw.choice(([], [line, line], [line[:at]], [line[at:]], [line[:at] + draw.choice("0aA .[]@\\\"\x1b\xe9") + line[at + 1 :]]))
+    other = line[:at] + draw.choice('0aA .[]@\\"\x1b\xe9') + line[at + 1 :]
+    changes: List[List[str]] = [[], [line, line], [line[:at]], [line[at:]], [other], [other]]
+    made = draw.choice(changes)
     is_read = True
     for program in PROGRAMS:
         try:
@@ -317,8 +344,21 @@ def check_changed(draw: random.Random, lines: List[str]) -> bool:
     return is_read
 
 
+def check_picture() -> None:
+    """The picture of README.md is that of the command in front of it."""
+    command = re.search(r"(?m)^    (.* -o) resolve\.svg$", (TOP / "README.md").read_text())
+    assert command
+    path = os.pathsep.join([str(PROGRAM.parent), str(SCRIPTS), os.environ["PATH"]])
+    words = ["bash", "-o", "pipefail", "-c", f"{command[1]} -"]
+    environment = dict(os.environ, PATH=path)
+    done = subprocess.run(words, cwd=TOP, env=environment, capture_output=True, timeout=60)
+    assert done.returncode == 0, done
+    assert done.stdout == (TOP / "docs/resolve.svg").read_bytes(), "docs/resolve.svg"
+
+
 def main() -> int:
     """Prints figures."""
+    check_picture()
     known = generated.messages()
     values = messages = arrows = lines = 0
     for seed in range(SEEDS):
@@ -333,8 +373,8 @@ def main() -> int:
     values += check_json(session)
     cuts = check_cuts(session)
     read = sum(check_changed(random.Random(seed), session) for seed in range(CHANGED))
-    print(f"views: {lines} lines of {2 * SEEDS} dumps: {values} values in JSON, {messages} messages counted, {arrows} arrows; "
-          f"{cuts} cuts; {CHANGED} changed dumps, {CHANGED - read} refused")
+    print(f"views: {lines} lines of {2 * SEEDS} dumps: {values} values in JSON, {messages} messages counted, "
+          f"{arrows} arrows; {cuts} cuts; {CHANGED} changed dumps, {CHANGED - read} refused")
     return 0
 
 

@@ -169,7 +169,8 @@ def of_others(text: str, in_a_capture: bool) -> Tuple[str, Tuple[str, ...]]:
 def form_and_fields(match: re.Match[str]) -> Tuple[str, Tuple[str, ...]]:
     """The form that was matched, with what its groups match."""
     form = match.lastgroup or ""
-    return form, tuple(match[place] for place in FIELDS[form])
+    places = FIELDS[form]
+    return form, match.group(*places) if len(places) > 1 else (match[places[0]],)
 
 
 class Lines:
@@ -182,18 +183,18 @@ class Lines:
 
     def next(self, text: str) -> Line:
         """The line that the next text is."""
-        self._number += 1
+        self._number = number = self._number + 1
         try:
             if text.startswith(self._front) or self._has_front(text):
                 form, fields = of_message(text[len(self._front) :])
-                if form in BEHIND and not self._stream:
+                if not self._stream and form in BEHIND:
                     raise Unknown
-                return Line(self._number, text, self._stream, self._message, form, fields)
+                return Line(number, text, self._stream, self._message, form, fields)
             head = STREAM.match(text)
             form, fields = of_others(text[head.end() :] if head else text, bool(head))
-            return Line(self._number, text, int(head[1]) if head else 0, 0, form, fields)
+            return Line(number, text, int(head[1]) if head else 0, 0, form, fields)
         except Unknown:
-            raise Refused(self._number) from None
+            raise Refused(number) from None
 
     def _has_front(self, text: str) -> bool:
         """Whether a text names a message, which is kept."""
@@ -239,14 +240,19 @@ def octets_of(descriptor: int) -> bytes:
 
 
 class Stream:
-    """What one end of a connection sends: its number, 0 where lines name none, the two ends and the time of its first packet."""
+    """What one end of a connection sends: its number, 0 where lines name none, the two ends, and when it began.
 
-    def __init__(self, number: int, source: str = "", target: str = "", time: str = "", both_ways: bool = False) -> None:
+    With `both_ways` it has what both ends send, the client's first, as giopdump-pcap shows a connection.
+    """
+
+    def __init__(
+        self, number: int, source: str = "", target: str = "", time: str = "", both_ways: bool = False
+    ) -> None:
         self.number = number
         self.source = source
         self.target = target
         self.time = time
-        self.both_ways = both_ways  # it has what both ends send, as giopdump-pcap shows a connection
+        self.both_ways = both_ways
 
 
 class Message(ABC):
@@ -326,21 +332,22 @@ class Dump(ABC, Generic[M]):
 
     def take(self, line: Line) -> None:
         """Takes a line."""
+        number, stream, form = line.message, line.stream, line.form
         ended = self._ended
         if ended:
-            if line.form in BEHIND and line.message == ended.number and line.stream == ended.stream.number:
+            if form in BEHIND and number == ended.number and stream == ended.stream.number:
                 return ended.take(line)
             self._settle()
-        messages = self._streams.get(line.stream) or self._known(line.stream)
-        if not line.message:
+        messages = self._streams.get(stream) or self._known(stream)
+        if not number:
             return self._take_of_stream(messages, line)
-        if line.form == "start":
+        if form == "start":
             self._make_room(messages, line)
-        message = messages.open.get(line.message)
+        message = messages.open.get(number)
         if not message:
-            message = messages.open[line.message] = self.begun(messages.stream, line.message)
+            message = messages.open[number] = self.begun(messages.stream, number)
         message.take(line)
-        if line.form in LAST:
+        if form in LAST:
             self._end_message(messages, message, line)
 
     def _known(self, number: int) -> Messages[M]:

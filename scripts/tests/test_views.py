@@ -439,7 +439,7 @@ total streams 8 messages 25 faults 0 packets 57 octets 6693
         found = json.loads(printed("giop-stat", unindented(lines), "--json"))
         seconds = {"min": -0.5, "median": -0.5, "p95": 1.5, "p99": 1.5, "max": 1.5, "total": 1.0}
         raised = {"IDL:omg.org/CORBA/INTERNAL:1.0": 1, "IDL:A:1.0": 1}
-        nothing = {"calls": 0, "oneways": 0, "replies": 0, "user": 0, "system": 0, "faults": 0, "unanswered": 0, "gaps": 0,
+        nothing: Dict[str, Any] = {"calls": 0, "oneways": 0, "replies": 0, "user": 0, "system": 0, "faults": 0, "unanswered": 0, "gaps": 0,
                    "seconds": None, "raised": {}}
         self.assertEqual(found, {
             "operations": [
