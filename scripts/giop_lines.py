@@ -18,7 +18,9 @@ from abc import ABC, abstractmethod
 from functools import lru_cache
 from typing import Dict, Generic, Iterator, List, NamedTuple, Optional, Tuple, TypeVar
 
-MOST_OCTETS = 1 << 16  # of a line
+MOST_READ = 1 << 16  # octets at once
+MOST_OCTETS = 1 << 13  # of a line, far more than any has
+MOST_DEEP = 24  # how many parts a path has behind its root
 MOST_OPEN = 4096  # how many messages of a stream are joined at once (docs/FORMATS.md, --open)
 MOST_STREAMS = 1 << 17  # the streams of the connections that are known at once
 PATIENCE = 0.2  # seconds without input after which no more lines of the same octet are awaited
@@ -44,14 +46,14 @@ ULONG, MANY, NUMBER = up_to(2**32 - 1), r"(?:0|[1-9]\d{0,19})", r"[1-9]\d{0,19}"
 PLAIN, ESCAPE = r"[ !#-\[\]-~]", r"\\x[0-9a-f]{2}"
 TEXT = rf"(?:{PLAIN}{{0,32}}|(?:{PLAIN}|{ESCAPE}){{0,32}})"
 HEX = "(?:[0-9a-f]{2}){1,32}"
-PATH = r"(?:header|exception|body)(?:\.[A-Za-z_]\w*|\[\d{1,10}\])*"
+PATH = rf"(?:header|exception|body)(?:\.[A-Za-z_]\w{{0,63}}|\[{ULONG}\]){{0,{MOST_DEEP}}}"
 NAME, WORD = "[!-~]{1,128}", "[a-z][a-z0-9.-]*"
 TIME = r"(?:\d{4}-\d\d-\d\dT\d\d:\d\d:\d\d\.\d{9}Z|-)"
 END = r"(?:\d{1,3}(?:\.\d{1,3}){3}|\[[0-9a-f:.]{2,45}\]):\d{1,5}"
 
 # The values of each kind; the pieces of strings and octets have forms of their own.
 KINDS = {
-    "octet": up_to(255), "ulong": ULONG, "long": signed(32), "boolean": "(?:true|false)", "enum": r"[A-Za-z_]\w*",
+    "octet": up_to(255), "ulong": ULONG, "long": signed(32), "boolean": "(?:true|false)", "enum": r"[A-Za-z_]\w{0,63}",
     "count": ULONG, "short": signed(16), "ushort": up_to(2**16 - 1), "longlong": signed(64),
     "ulonglong": up_to(2**64 - 1), "float": "[0-9a-f]{8}", "double": "[0-9a-f]{16}",
     "char": f'"(?:{PLAIN}|{ESCAPE})"', "encapsulation": ULONG, "order": "(?:big|little)",
@@ -87,7 +89,7 @@ OF_STREAMS = {
 OF_CAPTURES = {
     "capture": f"capture fault ({WORD}) at ({MANY})",
     "totals": f"total streams ({MANY}) messages ({MANY}) faults ({MANY}) packets ({MANY}) octets ({MANY})",
-    "head": r"== ([!-~]+) (<->|->) ([!-~]+) at (\d{4}-\d\d-\d\d) (\d\d:\d\d:\d\d\.\d{6}) UTC((?:, [ -~]+)?)",
+    "head": r"== ([\w.:%\[\]-]+) (<->|->) ([\w.:%\[\]-]+) at (\d{4}-\d\d-\d\d) (\d\d:\d\d:\d\d\.\d{6}) UTC((?:, [ -~]+)?)",
 }
 
 
@@ -107,7 +109,6 @@ KNOWN = "|".join(("end", "start", "call", "time", "answers", "rest", "continues"
                   "unfinished", "header", "exception", "body", "stream", "closed", "total", "capture"))
 LATER = re.compile(rf"(?!(?:{KNOWN})\b)[a-z]{{2,}}(?:-[a-z]+)*(?: [ -~]+)?", re.ASCII)
 LATER_VALUE = re.compile(rf"{PATH} (?!(?:{'|'.join(KINDS)}|string|octets|rest)\b)[a-z][a-z-]* [ -~]+", re.ASCII)
-
 
 # Behind the first a message is over, but for the second, which giopcap writes behind the lines of the same octet.
 LAST = frozenset(("end", "fault", "cancelled", "unfinished", "continues"))
@@ -151,7 +152,7 @@ def of_message(text: str) -> Tuple[str, Tuple[str, ...]]:
     match = OF_MESSAGE.fullmatch(text)
     if match:
         return form_and_fields(match)
-    if not LATER.fullmatch(text) and not LATER_VALUE.fullmatch(text):
+    if len(text) > MOST_OCTETS or not LATER.fullmatch(text) and not LATER_VALUE.fullmatch(text):
         raise Unknown
     return "later", ()
 
@@ -161,7 +162,7 @@ def of_others(text: str, in_a_capture: bool) -> Tuple[str, Tuple[str, ...]]:
     match = OF_OTHERS.fullmatch(text)
     if match and match.lastgroup not in (OF_CAPTURES if in_a_capture else ("stream", "closed")):
         return form_and_fields(match)
-    if not in_a_capture or not LATER.fullmatch(text):
+    if not in_a_capture or len(text) > MOST_OCTETS or not LATER.fullmatch(text):
         raise Unknown
     return "later", ()
 
@@ -218,7 +219,7 @@ def lines_of(descriptor: int) -> Iterator[Optional[Line]]:
     lines, left = Lines(), ""
     while True:
         waits = False
-        while not select.select([descriptor], [], [], PATIENCE)[0] and not interrupts:
+        while not has_more(descriptor) and not interrupts:
             if not waits:
                 yield None
             waits = True
@@ -231,10 +232,18 @@ def lines_of(descriptor: int) -> Iterator[Optional[Line]]:
             raise lines.too_long()
 
 
-def octets_of(descriptor: int) -> bytes:
-    """What is read of a file at once; nothing at its end."""
+def has_more(descriptor: int) -> bool:
+    """Whether octets of a file, or its end, come in a while; raises ReadFailed."""
     try:
-        return os.read(descriptor, MOST_OCTETS)
+        return bool(select.select([descriptor], [], [], PATIENCE)[0])
+    except OSError:
+        raise ReadFailed from None
+
+
+def octets_of(descriptor: int) -> bytes:
+    """What is read of a file at once, nothing at its end; raises ReadFailed."""
+    try:
+        return os.read(descriptor, MOST_READ)
     except OSError:
         raise ReadFailed from None
 
@@ -286,6 +295,8 @@ class Messages(Generic[M]):
 class Dump(ABC, Generic[M]):
     """Sorts the lines of a dump by message. What is done with the messages is up to the classes below it."""
 
+    is_full = False  # whether no more lines are wanted
+
     def __init__(self) -> None:
         self._streams: Dict[int, Messages[M]] = {}
         self._ended: Optional[M] = None  # a message that is over unless more is added to the lines of the same octet
@@ -310,10 +321,6 @@ class Dump(ABC, Generic[M]):
     def finish(self) -> None:
         """Does what is left behind the last line."""
 
-    def is_full(self) -> bool:
-        """Whether no more lines are wanted."""
-        return False
-
     def read(self, descriptor: int) -> None:
         """Takes the lines of a file; raises what lines_of does, when all in front of it is done."""
         try:
@@ -322,7 +329,7 @@ class Dump(ABC, Generic[M]):
                     self.take(line)
                 else:
                     self._settle()
-                if self.is_full():
+                if self.is_full:
                     break
         finally:
             self._settle()

@@ -64,6 +64,7 @@ m1 seen by m2
 s1 drained 3
 m1 body.w wstring @0 0041
 m1 header.x value-type 7
+m1 body.a.b.c.d.e.f.g.h.i.j.k.l.m.n.o.p.q.r.s.t.u.v.w.x octet 1
 """
 
 # Lines that no dump has.
@@ -92,7 +93,9 @@ REFUSED = [
     "closed fin", "s1 closed", "s1 closed FIN", "s1 capture fault magic at 4", "capture fault magic", "capture",
     "s1 total streams 1 messages 1 faults 0 packets 1 octets 1", "== a", "== a > b at 2026-11-23 08:13:25.580228 UTC",
     "m1 seen\x1b[2J", "m1 call 1 caf\u00e9", "m1 header.a string @0 \"\u00e9\"", "m1 end\r", "\ufeffm1 end", "m1 end\0",
-    "m1 body.w[ wstring 7", "m1 body wide", "GIOP\x01\x02",
+    "m1 body" + 25 * ".a" + " octet 1", "m1 body" + 20_000 * "[0]" + " octet 1", "m1 body." + 65 * "a" + " octet 1",
+    "m1 body[4294967296] octet 1", "m1 body[00] octet 1", "m1 body.w[ wstring 7",
+    "m1 seen " + 9000 * "a", "s1 drained " + 9000 * "a", "m1 body wide", "GIOP\x01\x02",
 ]
 
 
@@ -201,6 +204,7 @@ MISFITS = [
     ("body.a[0] octet 1|body.a[0] octet 2", 3),
     ('body.a string @0 "a"|body.a string @0 "b"', 3),
     ('body.a string @0 "a" more|body.a string @32 "b"', 3),
+    ("|".join(["body encapsulation 9"] * 27), 27),
 ]
 
 
@@ -553,7 +557,7 @@ msc {{
             'client -> server [label="CancelRequest"];',
             f'client -> server [label="type 200: fault message-type"{red}];',
             'server -> client [label="MessageError"];',
-            f'client => server [label="Request: cancelled"{red}];',
+            'client => server [label="Request: cancelled"];',
             'client -> server [label="CancelRequest"];',
             f'client -x server [label="Request: unfinished"{red}];',
             f'client box server [label="stream fault truncated"{red}];',
@@ -628,6 +632,8 @@ class Program(unittest.TestCase):
             for path, said in (("no/such\x1bfile", "no/such?file: cannot read"), ("/", "read failed")):
                 done = run(program, "", path)
                 self.assertEqual((done.returncode, done.stderr), (4, f"{program}: {said}\n"))
+            done = subprocess.run(["bash", "-c", f"{SCRIPTS / program} <&-"], capture_output=True, text=True, timeout=60)
+            self.assertEqual((done.returncode, done.stderr), (4, f"{program}: read failed\n"))
             with open("/dev/full", "w") as full:
                 done = subprocess.run([SCRIPTS / program, SESSION], stdout=full, stderr=subprocess.PIPE, text=True)
             self.assertEqual((done.returncode, done.stderr), (4, f"{program}: write failed\n"))
