@@ -18,7 +18,7 @@ sys.path.insert(0, str(SCRIPTS))
 
 from giop_lines import Refused  # noqa: E402
 
-__all__ = ["HERE", "PROGRAMS", "SCRIPTS", "SESSION", "Refused", "printed"]
+__all__ = ["HERE", "MODULES", "PROGRAMS", "SCRIPTS", "SESSION", "Refused", "printed"]
 
 
 def loaded(program: str) -> ModuleType:

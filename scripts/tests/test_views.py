@@ -12,7 +12,7 @@ from fcntl import ioctl
 from termios import FIONREAD
 from typing import Any, Dict, List, Tuple
 
-from in_process import PROGRAMS, SCRIPTS, SESSION, Refused, printed
+from in_process import MODULES, PROGRAMS, SCRIPTS, SESSION, Refused, printed
 
 # Lines that a dump has, each by itself.
 LINES = """\
@@ -359,6 +359,30 @@ class Json(unittest.TestCase):
         self.assertEqual([each.get("cut") for each in objects("m1 start 1.0 big Reply size 9\nm2 start 1.0 big Reply size 9\n")],
                          [True, True])
         self.assertEqual(objects("s3 closed fin\n"), [{"stream": 3, "closed": "fin", "cut": True}])
+
+    def test_what_is_held_of_all_messages_is_limited(self) -> None:
+        piece = 32 * "a"
+        lines = f"""\
+            m1 start 1.2 big Request size 90 more
+            m2 start 1.2 big Request size 90 more
+            m1 body.a string @0 "{piece}" more
+            m2 body.a string @0 "{piece}" more
+            m1 body.a string @32 "{piece}" more
+            m2 body.a string @32 "b"
+            m2 end
+            m1 body.a string @64 "b"
+            m1 fault short at 9
+            """
+        module: Any = MODULES["giop-json"]
+        usual = module.MOST_HELD, module.PART
+        module.MOST_HELD, module.PART = 120, 4
+        try:
+            found = objects(unindented(lines))
+        finally:
+            module.MOST_HELD, module.PART = usual
+        self.assertEqual([(each["message"], each["body"]["a"], each["cut"]) for each in found], [
+            (2, {"text": piece, "more": True}, True), (1, {"text": piece, "more": True}, True)])
+        self.assertEqual([each["body"]["a"] for each in objects(unindented(lines))], [piece + "b", 2 * piece + "b"])
 
     def test_a_message_of_too_many_lines_is_cut(self) -> None:
         lines = "m1 start 1.2 big Reply size 9\n" + "".join(f"m1 body[{place}] octet 7\n" for place in range(100_000))
