@@ -1,33 +1,49 @@
 #!/usr/bin/env bash
-# The manual page has no fault that mandoc finds, names each option of the program and each of its exit statuses, and
-# its examples run. Installs mandoc where it is missing.
+# The manual pages have no fault that mandoc finds, name each option of their programs and each of their exit statuses, and
+# their examples run. Installs mandoc, jq and mscgen where they are missing.
 set -euo pipefail
 cd "$(dirname "$0")/.."
 . checks/packages.sh
 
 need_program mandoc mandoc
+need_program jq jq
+need_program mscgen mscgen
 need_giopdump
-page=man/giopdump.1
-
-# Pages that it refers to need not be installed here.
-if mandoc -Tlint -W style "$page" 2> /dev/null | grep -v 'referenced manual not found'; then
-    exit 1
-fi
-
-options=$("$giopdump" --help | grep -oE -- '--[a-z]+' | sort -u)
-for option in $options; do
-    grep -qE "Fl -${option#--}( |$)" "$page" || { echo "$page: no $option" >&2; exit 1; }
-done
-statuses=$(grep -cE '^\| [0-5] \|' docs/FORMATS.md)
-for status in 0 1 2 3 4 5; do
-    grep -qx ".It $status" "$page" || { echo "$page: no status $status" >&2; exit 1; }
-done
-
+export PATH=$(dirname "$giopdump"):$PWD/scripts:$PATH PYTHONDONTWRITEBYTECODE=1
 folder=$(mktemp -d)
 trap 'rm -rf "$folder"' EXIT
 cp examples/naming* "$folder"
-PATH=$(dirname "$giopdump"):$PATH
-examples=$(sed -n '/^.Sh EXAMPLES/,/^.Sh SEE ALSO/p' "$page" | sed -nE 's/^(\.Dl )?(giopdump .*)/\2/p')
-(cd "$folder" && bash -euo pipefail -c "$examples" > lines)
-echo "$page: $(echo "$options" | wc -l) options, $statuses rows of statuses in docs/FORMATS.md," \
-    "$(echo "$examples" | wc -l) examples with $(wc -l < "$folder/lines") lines"
+cp scripts/tests/session.lines "$folder/orders.lines"
+
+# examples_of PAGE: the commands of its examples that need no other program than these. A line that ends with a pipe goes on.
+examples_of() {
+    sed -n '/^.Sh EXAMPLES/,/^.Sh/p' "$1" | sed -nE '/^(\.Dl )?giop(dump|-[a-z]+) /{s/^\.Dl //; :a; /\|$/{N; ba}; p}'
+}
+
+# check_page PROGRAM STATUS..
+check_page() {
+    local program=$1 page=man/$1.1 faults option status options examples
+    shift
+    # Pages that it refers to need not be installed here.
+    faults=$(mandoc -Tlint -W style "$page" 2> /dev/null | grep -v 'referenced manual not found' || true)
+    [ -z "$faults" ] || { echo "$faults" >&2; exit 1; }
+    options=$("$program" --help | grep -oE -- '--[a-z]+' | sort -u)
+    for option in $options; do
+        grep -qE "Fl -${option#--}( |$)" "$page" || { echo "$page: no $option" >&2; exit 1; }
+    done
+    for status in "$@"; do
+        grep -qx ".It $status" "$page" || { echo "$page: no status $status" >&2; exit 1; }
+    done
+    examples=$(examples_of "$page")
+    (cd "$folder" && bash -euo pipefail -c "$examples" > lines)
+    echo "$page: $(echo "$options" | wc -l) options, $# statuses," \
+        "$(grep -c '^giop' <<< "$examples") examples with $(wc -l < "$folder/lines") lines"
+}
+
+statuses=$(sed -nE 's/^\| ([0-5]) \|.*/\1/p' docs/FORMATS.md | sort -u)
+[ "$(echo $statuses)" = "0 1 2 3 4 5" ]
+check_page giopdump $statuses
+check_page giop-json 0 2 3 4
+check_page giop-stat 0 2 3 4
+check_page giop-chart 0 2 3 4
+ls "$folder"/naming.svg "$folder"/orders.png > /dev/null

@@ -1,6 +1,6 @@
 #!/usr/bin/env bash
-# The Debian package: lintian finds no error, and dpkg installs it into an empty folder, where the program dumps an example
-# and omniidl finds the converter among Python's packages.
+# The Debian package: lintian finds no error, and dpkg installs it into an empty folder, where the program dumps an example,
+# the three that read dumps read that, and omniidl finds the converter among Python's packages.
 # Installs lintian, omniidl and binutils where they are missing.
 set -euo pipefail
 cd "$(dirname "$0")/.."
@@ -17,7 +17,9 @@ mkdir "$work/again"
 package=$(scripts/package "$work")
 cmp "$package" "$(scripts/package "$work/again")"
 lintian --allow-root --fail-on error --tag-display-limit 0 "$package"
-dpkg-deb --fsys-tarfile "$package" | tar -t | grep -q '^./usr/share/man/man1/giopdump.1.gz$'
+for page in giopdump giop-json giop-stat giop-chart; do
+    dpkg-deb --fsys-tarfile "$package" | tar -t | grep -c "^./usr/share/man/man1/$page.1.gz$" > /dev/null
+done
 
 # What a user does with the installed package. It says so in one line at its end.
 cat > "$work/use.sh" <<'END'
@@ -25,9 +27,13 @@ set -euo pipefail
 root=${1:-}
 cd "$root/usr/share/doc/giopdump"
 PATH=$root/usr/bin:$PATH
-giopdump --signatures examples/naming.sig examples/naming.giop | grep -qx 'm6 body.n\[0\].id string @0 "shop"'
-gzip -cd "$root/usr/share/man/man1/giopdump.1.gz" | grep -q '^.Dt GIOPDUMP'
 folder=$(mktemp -d)
+giopdump --signatures examples/naming.sig examples/naming.giop | grep -qx 'm6 body.n\[0\].id string @0 "shop"'
+giopdump examples/naming.giop > "$folder/lines"
+grep -q '"operation":"resolve"' <(giop-json "$folder/lines")
+grep -q '^resolve ' <(giop-stat "$folder/lines")
+grep -q '=> "server" \[label="resolve"\]' <(giop-chart "$folder/lines")
+gzip -cd "$root/usr/share/man/man1/giopdump.1.gz" | grep -q '^.Dt GIOPDUMP'
 echo 'interface Clock { long now(in string zone); };' > "$folder/clock.idl"
 omniidl -bgiopdump_signatures "$folder/clock.idl" > "$folder/clock.sig"
 grep -qx 'operation long now(in string zone);' "$folder/clock.sig"

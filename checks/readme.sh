@@ -1,11 +1,12 @@
 #!/usr/bin/env bash
 # The commands of README.md print what stands beside them, the files that its pages link to are there, and the code of
 # docs/LIBRARY.md is that of the source.
-# Installs tshark where it is missing.
+# Installs tshark and jq where they are missing.
 set -euo pipefail
 cd "$(dirname "$0")/.."
 . checks/packages.sh
 
 need_program tshark tshark
+need_program jq jq
 need_giopdump
 exec env PYTHONDONTWRITEBYTECODE=1 python3 checks/readme.py
