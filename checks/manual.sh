@@ -1,6 +1,6 @@
 #!/usr/bin/env bash
-# The manual page has no fault that mandoc finds, names each option of the program and each of its exit statuses, and
-# its examples run. Installs mandoc where it is missing.
+# The manual pages have no fault that mandoc finds; that of giopdump names each option of the program and each of its exit
+# statuses, and its examples run. Installs mandoc where it is missing.
 set -euo pipefail
 cd "$(dirname "$0")/.."
 . checks/packages.sh
@@ -10,9 +10,8 @@ need_giopdump
 page=man/giopdump.1
 
 # Pages that it refers to need not be installed here.
-if mandoc -Tlint -W style "$page" 2> /dev/null | grep -v 'referenced manual not found'; then
-    exit 1
-fi
+found=$(mandoc -Tlint -W style man/*.1 2> /dev/null | grep -v 'referenced manual not found' || true)
+[ -z "$found" ] || { echo "$found" >&2; exit 1; }
 
 options=$("$giopdump" --help | grep -oE -- '--[a-z]+' | sort -u)
 for option in $options; do
