@@ -15,7 +15,7 @@ import subprocess
 import sys
 import threading
 import time
-from collections import Counter, defaultdict
+from collections import defaultdict
 
 TICK = os.sysconf("SC_CLK_TCK")
 KINDS = ("proof", "tests", "edits")
@@ -70,13 +70,17 @@ class Checks:
                 self.known[pid, start] = found
             self.taken[pid, start] = max(self.taken[pid, start], seconds)
 
-    def minutes(self) -> dict[str, Counter[str]]:
+    def minutes(self) -> dict[str, dict[str, float]]:
         """The minutes by crate and by kind."""
-        found: dict[str, Counter[str]] = defaultdict(Counter)
+        found: dict[str, dict[str, float]] = defaultdict(lambda: defaultdict(float))
         for check, seconds in self.taken.items():
             name, kind = self.known[check]
             found[name][kind] += seconds / 60
         return found
+
+
+def row_of(name: str, row: list[float]) -> str:
+    return f"{name:24}" + "".join(f"{it:8.1f}" for it in row) + f"{sum(row):8.1f}"
 
 
 def main() -> int:
@@ -95,12 +99,11 @@ def main() -> int:
         watcher.join()
     minutes = checks.minutes()
     print(f"{'crate':24}" + "".join(f"{kind:>8}" for kind in KINDS) + f"{'all':>8}  minutes of a processor")
-    for name in sorted(minutes, key=lambda it: -minutes[it].total()):
-        row = [minutes[name][kind] for kind in KINDS]
-        print(f"{name:24}" + "".join(f"{it:8.1f}" for it in row) + f"{sum(row):8.1f}")
-    total = sum((it for it in minutes.values()), Counter())
-    print(f"{'all':24}" + "".join(f"{total[kind]:8.1f}" for kind in KINDS) + f"{total.total():8.1f}"
-          + f"  in {(time.time() - began) / 60:.1f} minutes")
+    rows = {name: [taken[kind] for kind in KINDS] for name, taken in minutes.items()}
+    for name in sorted(rows, key=lambda it: -sum(rows[it])):
+        print(row_of(name, rows[name]))
+    total = row_of("all", [sum(column) for column in zip(*rows.values())])
+    print(f"{total}  in {(time.time() - began) / 60:.1f} minutes")
     return status
 
 

@@ -18,6 +18,8 @@ from typing import Dict, List, Sequence, Tuple
 import encapsulated
 from failing import CHECKPOINT, EXAMPLES, PROGRAM, SECONDS, TOUR, Case, Differences, Ended, checkpoint_of, run
 
+from reference.encoding import ORDERS  # on the path by encapsulated
+
 MOST = 20_000
 TYPES = [
     (),
@@ -42,8 +44,7 @@ def messages() -> List[bytes]:
     found = encapsulated.messages()
     for stream in streams:
         while len(stream) >= 12 and stream.startswith(b"GIOP"):
-            order = "little" if stream[6] & 1 else "big"
-            size = 12 + int.from_bytes(stream[8:12], order)
+            size = 12 + int.from_bytes(stream[8:12], ORDERS[stream[6] & 1])
             found.append(stream[:size])
             stream = stream[size:]
     return found
