@@ -1,5 +1,5 @@
-"""Tests of the reference: python3 -m reference.tests. Its lines are those of the rows of crates/giop_rows, also where their
-streams end early; and what it reads of a signature file by each form."""
+"""Tests of the reference: python3 -m reference.tests. Its lines are those of the rows of crates/giop_rows, whose signature
+files have each form of a type; also where their streams end early."""
 
 from __future__ import annotations
 
