@@ -13,7 +13,7 @@ need_file /usr/lib/python3/dist-packages/pip python3-pip
 need_file /usr/lib/python3/dist-packages/setuptools python3-setuptools
 need_file /usr/lib/python3/dist-packages/wheel python3-wheel
 
-mapfile -t sources < <(git ls-files '*.py' scripts/giopdump-pcap)
+mapfile -t sources < <({ git ls-files '*.py'; git grep -lE '^#!.*python3$' -- scripts; } | sort -u)
 work=$(mktemp -d)
 trap 'rm -rf "$work"' EXIT
 mypy --cache-dir "$work/types" "${sources[@]}" > "$work/said" || { cat "$work/said"; exit 1; }
