@@ -5,16 +5,18 @@ They are those of examples/naming.giop, again and again. The stream has at least
 message. It is the same on every run.
 """
 
-import os
+from __future__ import annotations
+
+from pathlib import Path
+from typing import Iterator
 
 from messages import write
 
-CALLS = os.path.join(os.path.dirname(os.path.dirname(os.path.abspath(__file__))), "examples", "naming.giop")
+CALLS = Path(__file__).resolve().parent.parent / "examples" / "naming.giop"
 
 
-def calls(draw):
-    with open(CALLS, "rb") as file:
-        return file.read()
+def calls(_draw: Iterator[int]) -> bytes:
+    return CALLS.read_bytes()
 
 
 if __name__ == "__main__":

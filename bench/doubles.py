@@ -5,19 +5,22 @@ The calls are Requests of GIOP 1.2, in both byte orders, of the operation `plot`
 stream has at least that many octets and ends with a whole message. It is the same on every run.
 """
 
-from messages import REQUEST, Values, message, write
+from __future__ import annotations
+
+from typing import Iterator
+
+from messages import ORDERS, REQUEST, called, message, write
 
 LENGTH = 1 << 13
 
 
-def call(draw):
-    flags = next(draw) % 2
-    values = Values(flags)
-    values.request(next(draw), "plot")
-    values.number(LENGTH, 4)
+def call(draw: Iterator[int]) -> bytes:
+    order = ORDERS[next(draw) % 2]
+    values = called(order, next(draw), "plot")
+    values.number(LENGTH)
     for _ in range(LENGTH):
         values.number(next(draw) << 32 | next(draw), 8)
-    return message(2, flags, REQUEST, bytes(values.octets))
+    return message(order, REQUEST, bytes(values.octets))
 
 
 if __name__ == "__main__":

@@ -5,27 +5,30 @@ Each call is a Request of GIOP 1.2 of the operation `store` of calls.sig, whose 
 Fragments of 4,096. The stream has at least that many octets and ends with a whole message. It is the same on every run.
 """
 
-from messages import FRAGMENT, MORE, REQUEST, Values, message, running_up, write
+from __future__ import annotations
+
+from typing import Iterator
+
+from messages import FRAGMENT, ORDERS, REQUEST, Values, called, message, running_up, write
 
 LENGTH = 1 << 18
 PART = 1 << 12
 
 
-def call(draw):
-    flags = next(draw) % 2
-    id = next(draw)
-    head = Values(flags)
-    head.request(id, "store")
+def call(draw: Iterator[int]) -> bytes:
+    order = ORDERS[next(draw) % 2]
+    request_id = next(draw)
+    head = called(order, request_id, "store")
     head.sequence(running_up(next(draw), LENGTH))
     rest = bytes(head.octets)
-    out = message(2, flags | MORE, REQUEST, rest[:PART])
+    out = message(order, REQUEST, rest[:PART], more=True)
     rest = rest[PART:]
     while rest:
-        part = Values(flags)
-        part.number(id, 4)
+        part = Values(order)
+        part.number(request_id)
         part.octets += rest[:PART]
         rest = rest[PART:]
-        out += message(2, flags | (MORE if rest else 0), FRAGMENT, bytes(part.octets))
+        out += message(order, FRAGMENT, bytes(part.octets), more=bool(rest))
     return out
 
 

@@ -20,7 +20,7 @@ import os
 import subprocess
 import sys
 import time
-from collections import Counter, defaultdict
+from collections import defaultdict
 from collections.abc import Callable
 
 TICK = os.sysconf("SC_CLK_TCK")
@@ -86,9 +86,9 @@ class Checks:
             self.taken[pid, start] = max(self.taken[pid, start], seconds)
             self.lasted[pid, start] = now() - int(start) / TICK
 
-    def minutes(self, of: dict[tuple[int, str], float]) -> dict[str, Counter[str]]:
+    def minutes(self, of: dict[tuple[int, str], float]) -> dict[str, dict[str, float]]:
         """The minutes by crate and by kind: of what was taken, or of how long it lasted."""
-        found: dict[str, Counter[str]] = defaultdict(Counter)
+        found: dict[str, dict[str, float]] = defaultdict(lambda: dict.fromkeys(KINDS, 0.0))
         for check, seconds in of.items():
             name, kind = self.known[check]
             found[name][kind] += seconds / 60
@@ -102,17 +102,21 @@ def watched(checks: Checks, is_over: Callable[[], bool]) -> None:
         time.sleep(1)
 
 
-def row(name: str, taken: Counter[str], lasted: Counter[str]) -> str:
+def row(name: str, taken: dict[str, float], lasted: dict[str, float]) -> str:
     """A row of the table: the minutes of a processor by kind and in all, and those of the clock."""
-    return f"{name:24}" + "".join(f"{it:8.1f}" for of in (taken, lasted) for it in [*(of[kind] for kind in KINDS), of.total()])
+    figures = [it for of in (taken, lasted) for it in (*(of[kind] for kind in KINDS), sum(of.values()))]
+    return f"{name:24}" + "".join(f"{it:8.1f}" for it in figures)
 
 
 def table(checks: Checks) -> list[str]:
     """The rows of all crates, the dearest first, and of all together."""
     taken, lasted = checks.minutes(checks.taken), checks.minutes(checks.lasted)
-    names = sorted(taken, key=lambda it: -taken[it].total())
+    names = sorted(taken, key=lambda it: -sum(taken[it].values()))
     rows = [row(name, taken[name], lasted[name]) for name in names]
-    rows.append(row("all checks", *(sum(of.values(), Counter()) for of in (taken, lasted))))
+    taken_by_all, lasted_by_all = (
+        {kind: sum(it[kind] for it in of.values()) for kind in KINDS} for of in (taken, lasted)
+    )
+    rows.append(row("all checks", taken_by_all, lasted_by_all))
     return [*rows, f"{'else':48}{(checks.total - sum(checks.taken.values())) / 60:8.1f}"]
 
 

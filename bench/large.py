@@ -5,23 +5,22 @@ It is a Request of GIOP 1.2 of the operation `store` of calls.sig, whose one oct
 same on every run.
 """
 
+from __future__ import annotations
+
 import sys
 
-from messages import LITTLE, REQUEST, Values, message, running_up
+from messages import REQUEST, called, count_asked, message, running_up
 
 PERIOD = bytes(range(256))
 
 
-def call(octets):
-    values = Values(LITTLE)
-    values.request(1, "store")
-    values.number(octets, 4)
+def call(octets: int) -> bytes:
+    values = called("little", 1, "store")
+    values.number(octets)
     whole, rest = divmod(octets, len(PERIOD))
     values.octets += PERIOD * whole + running_up(0, rest)
-    return message(2, LITTLE, REQUEST, bytes(values.octets))
+    return message("little", REQUEST, bytes(values.octets))
 
 
 if __name__ == "__main__":
-    if len(sys.argv) != 2 or not sys.argv[1].isdigit():
-        sys.exit("usage: large.py OCTETS > STREAM")
-    sys.stdout.buffer.write(call(int(sys.argv[1])))
+    sys.stdout.buffer.write(call(count_asked("large.py")))

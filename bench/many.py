@@ -4,6 +4,8 @@
 It is that of openers.py with 4,096 calls open at once, the most that the dumper joins.
 """
 
+from __future__ import annotations
+
 from functools import partial
 
 from messages import write

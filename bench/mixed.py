@@ -6,14 +6,18 @@ every type, both byte orders and all three versions, with payloads of 0 to 4,095
 connection's are. The octets of a payload run up from a drawn one.
 """
 
-from messages import CANCEL_REQUEST, CLOSE_CONNECTION, FRAGMENT, REQUEST, message, running_up, write
+from __future__ import annotations
+
+from typing import Iterator
+
+from messages import CANCEL_REQUEST, CLOSE_CONNECTION, FRAGMENT, ORDERS, REQUEST, message, running_up, write
 
 TYPES = [0, 0, 0, 0, 1, 1, 1, 1, 2, 3, 4, 5, 6, 7]
 
 
-def mixed(draw):
+def mixed(draw: Iterator[int]) -> bytes:
     minor = next(draw) % 3
-    little = next(draw) % 2
+    order = ORDERS[next(draw) % 2]
     kind = TYPES[next(draw) % len(TYPES)]
     if kind == FRAGMENT and minor == 0:
         kind = REQUEST
@@ -25,7 +29,7 @@ def mixed(draw):
         size = next(draw) % 4096
     else:
         size = next(draw) % 256
-    return message(minor, little, kind, running_up(next(draw) % 256, size))
+    return message(order, kind, running_up(next(draw) % 256, size), minor)
 
 
 if __name__ == "__main__":

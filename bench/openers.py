@@ -6,26 +6,30 @@ with the next 8 to 71 octets of it until all have ended; then sixteen others beg
 octets and ends with a whole message. It is the same on every run.
 """
 
-from messages import FRAGMENT, MORE, REQUEST, Values, message, write
+from __future__ import annotations
+
+from typing import Iterator, List
+
+from messages import FRAGMENT, ORDERS, REQUEST, message, write
 from typed import call
 
 OPEN = 16
 
 
-def split(draw, whole):
+def split(draw: Iterator[int], whole: bytes) -> List[bytes]:
     """A whole call as a list of messages: its first part and its Fragments."""
-    flags, rest = whole[6], whole[12:]
-    id = rest[:4]
+    order, rest = ORDERS[whole[6] & 1], whole[12:]
+    request_id = rest[:4]
     parts, kind, front = [], REQUEST, b""
     while rest:
         count = 8 + next(draw) % 64
         part, rest = rest[:count], rest[count:]
-        parts.append(message(2, flags | (MORE if rest else 0), kind, front + part))
-        kind, front = FRAGMENT, id
+        parts.append(message(order, kind, front + part, more=bool(rest)))
+        kind, front = FRAGMENT, request_id
     return parts
 
 
-def calls(draw, many=OPEN):
+def calls(draw: Iterator[int], many: int = OPEN) -> bytes:
     left = [split(draw, call(draw)) for _ in range(many)]
     out = b""
     while left:

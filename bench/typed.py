@@ -5,14 +5,17 @@ The calls are Requests of GIOP 1.2 of about 380 octets, in both byte orders, of 
 stream has at least that many octets and ends with a whole message. It is the same on every run.
 """
 
-from messages import REQUEST, Values, message, write
+from __future__ import annotations
+
+from typing import Iterator
+
+from messages import ORDERS, REQUEST, called, message, write
 
 
-def call(draw):
-    flags = next(draw) % 2
-    values = Values(flags)
-    values.request(next(draw), "record")
-    values.string("track number %d" % (next(draw) % 100000))
+def call(draw: Iterator[int]) -> bytes:
+    order = ORDERS[next(draw) % 2]
+    values = called(order, next(draw), "record")
+    values.string(f"track number {next(draw) % 100000}")
     values.number(next(draw) % 3, 4)
     values.number(7, 4)
     for _ in range(7):
@@ -30,7 +33,7 @@ def call(draw):
         values.number(next(draw), 4)
     values.number(next(draw) % 2, 1)
     values.sequence(bytes(next(draw) % 256 for _ in range(40)))
-    return message(2, flags, REQUEST, bytes(values.octets))
+    return message(order, REQUEST, bytes(values.octets))
 
 
 if __name__ == "__main__":

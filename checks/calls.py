@@ -79,7 +79,9 @@ def main(library: str) -> int:
             interrupt_each(library, case, call, usual, seen)
         for call in ("read", "write"):
             cut_each(library, case, call, usual, seen)
-    print(f"opens/reads/writes/syncs/renames: {', '.join(f'{case.name} {made}' for case, made in zip(cases(), counted))}")
+    print(
+        f"opens/reads/writes/syncs/renames: {', '.join(f'{case.name} {made}' for case, made in zip(cases(), counted))}"
+    )
     print(f"{seen.runs} runs, {seen.differ} differ")
     return seen.status()
 

@@ -66,12 +66,16 @@ def refused(word: str) -> Tuple[bytes, bytes, int]:
     return b"", f"giopdump: FILE: checkpoint refused: {word}\n".encode(), 3
 
 
+# Up to which octet a changed one is refused by these words.
+FIRST_REFUSALS: List[Tuple[int, Tuple[str, ...]]] = [(8, ("magic",)), (12, ("version",)), (28, ("catalogue",))]
+
+
 def damaged(checkpoint: bytes) -> Iterator[Tuple[str, bytes, Tuple[str, ...]]]:
     """Damaged checkpoints, and the words by which they may be refused; some may be gone on from."""
     for at in range(len(checkpoint)):
         wrong = checkpoint[:at] + bytes([checkpoint[at] ^ 255]) + checkpoint[at + 1 :]
-        word = ("magic",) if at < 8 else ("version",) if at < 12 else ("catalogue",) if at < 28 else ("state", "length", "")
-        yield f"octet {at}", wrong, word
+        words = next((words for end, words in FIRST_REFUSALS if at < end), ("state", "length", ""))
+        yield f"octet {at}", wrong, words
         yield f"the first {at} octets", checkpoint[:at], ("length",) if at < 96 else ("length", "state")
     for layout, word in ((1, "version"), (2, "state"), (4, "version")):
         yield f"layout {layout}", checkpoint[:11] + bytes([layout]) + checkpoint[12:], (word,)

@@ -112,9 +112,11 @@ def read(file: Path, crate: Path) -> Edit:
         raise Fault("it changes nothing")
     texts = {path: (crate / path).read_text(encoding="utf-8") for path, _ in lines}
     if named:
-        stands = {name if "::" in name else f"{module_of(path.name)}::{name}"
-                  for path in (crate / "src").rglob("*.rt")
-                  for _, _, name in functions_of(path.read_text(encoding="utf-8"))}
+        stands = {
+            name if "::" in name else f"{module_of(path.name)}::{name}"
+            for path in (crate / "src").rglob("*.rt")
+            for _, _, name in functions_of(path.read_text(encoding="utf-8"))
+        }
         if named not in stands:
             raise Fault(f"there is no function {named}")
         return Edit(file.stem, lines, named)
@@ -163,8 +165,9 @@ def failed(said: str, crate: str) -> dict[str, str]:
         own = re.search(r"`search` did not prove (.*?)(?:;|$)", told)
         folder = "proofs/" + name.replace("::", "/") + "/"
         error = re.search(rf"(?m)^(?:\./)?{re.escape(folder)}\S*?: error: (`[^`]*`)", said)
-        if own or error:
-            found[name] = own[1] if own else error[1]
+        goal = own or error
+        if goal:
+            found[name] = goal[1]
     return found
 
 
@@ -216,8 +219,15 @@ def checked(name: str, edits: list[Edit], top: Path) -> str:
         (crate / "out").mkdir()
         apply(edits, crate)
         ran = subprocess.run(
-            words_of(name, top), cwd=crate, check=False, stdin=subprocess.DEVNULL,
-            stdout=subprocess.PIPE, stderr=subprocess.STDOUT, encoding="utf-8", errors="replace")
+            words_of(name, top),
+            cwd=crate,
+            check=False,
+            stdin=subprocess.DEVNULL,
+            stdout=subprocess.PIPE,
+            stderr=subprocess.STDOUT,
+            encoding="utf-8",
+            errors="replace",
+        )
         return ran.stdout
 
 

@@ -15,9 +15,14 @@ CRATE = "giop_octets"
 TOP = Path(__file__).resolve().parent.parent
 
 # A contract, and what it is weakened to.
-CONTRACT = ("src/reading.rt", "drop at octets.now ≡ n ∷ rest → result ≡ n }", "drop at octets.now ≡ n ∷ rest → result ≡ result }")
+CONTRACT = (
+    "src/reading.rt",
+    "drop at octets.now ≡ n ∷ rest → result ≡ n }",
+    "drop at octets.now ≡ n ∷ rest → result ≡ result }",
+)
 
 # Name, file, `old:`, `new:`, the function that the edit names (none where it stands in one), and what is told of it.
+# fmt: off
 EDITS = [
     ("is_refused", "src/writing.rt", "for _ in 0..count", "for _ in 1..count", None,
      "refused in writing::put_zeros"),
@@ -38,6 +43,7 @@ EDITS = [
     ("two_of_one_function", "src/writing.rt", "in 0..count {", "in 2..count {", None,
      "writing::put_zeros has an edit already: is_refused"),
 ]
+# fmt: on
 
 
 def copied(room: Path) -> None:
@@ -52,18 +58,29 @@ def copied(room: Path) -> None:
     (crate / "wrong").mkdir()
     for name, path, old, new, function, _ in EDITS:
         named = f"in: {function}\n" if function else ""
-        (crate / "wrong" / f"{name}.edit").write_text(f"file: {path}\n{named}old: {old}\nnew: {new}\n", encoding="utf-8")
+        (crate / "wrong" / f"{name}.edit").write_text(
+            f"file: {path}\n{named}old: {old}\nnew: {new}\n", encoding="utf-8"
+        )
 
 
 def main() -> int:
     with tempfile.TemporaryDirectory(prefix="edits-faults-") as made:
         copied(Path(made))
         ran = subprocess.run(
-            [sys.executable, str(TOP / "checks" / "edits.py")], cwd=made, check=False, stdin=subprocess.DEVNULL,
-            stdout=subprocess.PIPE, stderr=subprocess.STDOUT, encoding="utf-8")
+            [sys.executable, str(TOP / "checks" / "edits.py")],
+            cwd=made,
+            check=False,
+            stdin=subprocess.DEVNULL,
+            stdout=subprocess.PIPE,
+            stderr=subprocess.STDOUT,
+            encoding="utf-8",
+        )
     lines = ran.stdout.splitlines()
-    missing = [f"{name}: {told}" for name, *_, told in EDITS
-               if not any(line.startswith(f"{CRATE}/{name}: ") and told in line for line in lines)]
+    missing = [
+        f"{name}: {told}"
+        for name, *_, told in EDITS
+        if not any(line.startswith(f"{CRATE}/{name}: ") and told in line for line in lines)
+    ]
     faults = sum(not told.startswith("refused") for *_, told in EDITS)
     if ran.returncode != 1 or missing or len(lines) != len(EDITS) + 1 or f"{faults} faults" not in lines[-1]:
         print(ran.stdout, f"status {ran.returncode}", *(f"not told: {it}" for it in missing), sep="\n")

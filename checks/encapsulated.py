@@ -3,56 +3,38 @@ object by its internet profile; whole, and in Fragments."""
 
 from __future__ import annotations
 
+import sys
 from itertools import product
+from pathlib import Path
 from typing import List
 
-ORDERS = ("big", "little")
+sys.path.insert(0, str(Path(__file__).resolve().parent.parent))
+
+from reference.encoding import FRAGMENT, ORDERS, REQUEST, Order, Values, message
 
 
-def number(order: str, value: int, size: int = 4) -> bytes:
-    return value.to_bytes(size, order)
+def profile(order: Order) -> Values:
+    """An internet profile without components."""
+    values = Values.enclosed(order).put(("octet", 1), ("octet", 2), ("string", "192.0.2.1"))
+    return values.put(("ushort", 2809), ("octets", b"orders"), ("ulong", 0))
 
 
-def padded(octets: bytes, size: int = 4) -> bytes:
-    return octets + bytes(-len(octets) % size)
-
-
-def text(order: str, content: bytes) -> bytes:
-    return number(order, len(content) + 1) + content + b"\0"
-
-
-def encapsulation(outer: str, value: bytes) -> bytes:
-    """An encapsulation of these octets, the first of them its byte order."""
-    return number(outer, len(value)) + value
-
-
-def begun(order: str) -> bytes:
-    """The byte order of an encapsulation, and the padding behind it up to a number."""
-    return padded(bytes([ORDERS.index(order)]))
-
-
-def profile(order: str) -> bytes:
-    host = bytes([ORDERS.index(order), 1, 2, 0]) + text(order, b"192.0.2.1")
-    key = padded(padded(host, 2) + number(order, 2809, 2)) + number(order, 6) + b"orders"
-    return padded(key) + number(order, 0)
-
-
-def payload(outer: str, inner: str) -> bytes:
+def payload(outer: Order, inner: Order) -> bytes:
     """What follows the header of a Request of 1.2."""
-    code_sets = begun(inner) + number(inner, 0x10001) + number(inner, 0x10109)
-    point = begun(inner) + number(inner, 7) + number(inner, 2**32 - 1)
-    note = begun(inner) + text(inner, b"hello")
-    target = number(outer, 1, 2) + bytes(2) + number(outer, 0) + encapsulation(outer, profile(inner))
-    contexts = number(outer, 1) + number(outer, 1) + encapsulation(outer, code_sets)
-    head = number(outer, 9) + b"\3\0\0\0" + padded(target) + padded(text(outer, b"keep")) + contexts
-    notes = [note + b" and more than thirty-two octets", note]
-    body = [encapsulation(outer, each) for each in (point, *notes)]
-    return padded(b"GIOPheader.." + head, 8)[12:] + body[0] + number(outer, 2) + padded(body[1]) + body[2]
-
-
-def message(order: str, kind: int, more: bool, octets: bytes) -> bytes:
-    flags = ORDERS.index(order) + 2 * more
-    return b"GIOP\1\2" + bytes([flags, kind]) + number(order, len(octets)) + octets
+    values = Values(outer).put(("ulong", 9), ("octet", 3), ("octet", 0), ("octet", 0), ("octet", 0))
+    values.put(("short", 1), ("ulong", 0))
+    values.encapsulation(profile(inner))
+    values.put(("string", "keep"), ("ulong", 1), ("ulong", 1))
+    values.encapsulation(Values.enclosed(inner).put(("ulong", 0x10001), ("ulong", 0x10109)))
+    values.align(8)
+    values.encapsulation(Values.enclosed(inner).put(("long", 7), ("long", -1)))
+    values.number(2)
+    note = Values.enclosed(inner).put(("string", "hello"))
+    longer = Values.enclosed(inner).put(("string", "hello"))
+    longer.octets += b" and more than thirty-two octets"
+    values.encapsulation(longer)
+    values.encapsulation(note)
+    return bytes(values.octets)
 
 
 def messages() -> List[bytes]:
@@ -60,10 +42,10 @@ def messages() -> List[bytes]:
     made = []
     for outer, inner in product(ORDERS, ORDERS):
         octets = payload(outer, inner)
-        made.append(message(outer, 0, False, octets))
+        made.append(message(outer, REQUEST, octets))
         first, second = len(octets) // 3, 2 * len(octets) // 3
-        again = number(outer, 9)
-        made.append(message(outer, 0, True, octets[:first]))
-        made.append(message(outer, 7, True, again + octets[first:second]))
-        made.append(message(outer, 7, False, again + octets[second:]))
+        again = (9).to_bytes(4, outer)
+        made.append(message(outer, REQUEST, octets[:first], more=True))
+        made.append(message(outer, FRAGMENT, again + octets[first:second], more=True))
+        made.append(message(outer, FRAGMENT, again + octets[second:]))
     return made

@@ -1,8 +1,8 @@
 """Streams made by seeds from the examples and from messages with encapsulations: these are taken in any order, and octets
-of them changed, left out, put in and repeated. Of each the program writes the same text however its reads are cut, and in
-parts, each gone on from where the one before it was saved; and a front of it when the stream ends early. It ends with status
-0 or 1, its total line is right, and it makes as many requests for memory as ever. From a checkpoint that is changed so it
-goes on, or refuses it."""
+of them changed, left out, put in and repeated. Of each the program writes the text that the reference reads in the whole
+stream, and the same text however its reads are cut, and in parts, each gone on from where the one before it was saved; and a
+front of it when the stream ends early. It ends with status 0 or 1, its total line is right, and it makes as many requests for
+memory as ever. From a checkpoint that is changed so it goes on, or refuses it."""
 
 from __future__ import annotations
 
@@ -13,11 +13,16 @@ import sys
 import tempfile
 import time
 from concurrent.futures import ThreadPoolExecutor
+from pathlib import Path
 from typing import Dict, List, Sequence, Tuple
 
 import encapsulated
 from failing import CHECKPOINT, EXAMPLES, PROGRAM, SECONDS, Case, Differences, Ended, checkpoint_of, run
 from rows import TOUR, TOUR_TYPES, TOUR_WORDS
+
+from reference.encoding import ORDERS  # on the path by encapsulated
+from reference.signatures import Table, requests_of, table_of
+from reference.stream import MOST_OPEN, Known, dump
 
 MOST = 20_000
 TYPES = [
@@ -43,8 +48,7 @@ def messages() -> List[bytes]:
     found = encapsulated.messages()
     for stream in streams:
         while len(stream) >= 12 and stream.startswith(b"GIOP"):
-            order = "little" if stream[6] & 1 else "big"
-            size = 12 + int.from_bytes(stream[8:12], order)
+            size = 12 + int.from_bytes(stream[8:12], ORDERS[stream[6] & 1])
             found.append(stream[:size])
             stream = stream[size:]
     return found
@@ -97,6 +101,17 @@ def is_right(ended: Ended, octets: int) -> bool:
     return read <= octets if stopped else read == octets
 
 
+def known_of(words: Tuple[str, ...]) -> Known:
+    """What the reference is told by these words."""
+    told = dict(zip(words[::2], words[1::2]))
+    table = table_of(Path(told["--signatures"]).read_bytes()) if "--signatures" in told else Table()
+    requests = requests_of(Path(told["--requests"]).read_bytes()) if "--requests" in told else {}
+    return Known(table, requests, int(told.get("--open", MOST_OPEN)))
+
+
+KNOWN = {words: known_of(words) for words in TYPES}
+
+
 def before_the_closing(text: bytes) -> bytes:
     lines = text.splitlines(keepends=True)
     while lines and (lines[-1].startswith(CLOSING) or lines[-1].endswith(b" unfinished\n")):
@@ -144,6 +159,8 @@ def try_seed(library: str, seed: int, known: List[bytes], requests: Requests) ->
     draw = random.Random(f"cuts of {seed}")
     usual = run(library, case)
     tried = [(is_right(usual, len(case.stream)), "whole", usual)]
+    lines = "".join(f"{line}\n" for line in dump(case.stream, KNOWN[case.words]))
+    tried.append((usual.lines == lines.encode(), "the lines of the reference", usual))
     cut = draw.choice((1, 3, 16, 64, 1000))
     ended = run(library, case, "read", cut=cut, seed=seed)
     tried.append((ended.usual() == usual.usual(), f"read by at most {cut} octets", ended))
@@ -163,24 +180,24 @@ def try_seed(library: str, seed: int, known: List[bytes], requests: Requests) ->
     return [*told, (is_safe(ended) and ended.calls.get("late") == 0, f"seed {seed}, a changed checkpoint", ended)]
 
 
-def requests_of(library: str, words: Tuple[str, ...]) -> int:
+def usual_requests(library: str, words: Tuple[str, ...]) -> int:
     return run(library, Case("no octets", words)).calls.get("memory", -1)
 
 
 def main(library: str, seconds: float, first: int) -> int:
-    known, seen = messages(), Differences()
-    requests = {words: requests_of(library, words) for words in TYPES}
+    made, seen = messages(), Differences()
+    requests = {words: usual_requests(library, words) for words in TYPES}
     end, seed, faulted, refused = time.monotonic() + seconds, first, 0, 0
     with ThreadPoolExecutor(os.cpu_count() or 1) as pool:
         while time.monotonic() < end:
-            for tried in pool.map(lambda at: try_seed(library, at, known, requests), range(seed, seed + 200)):
+            for tried in pool.map(lambda at: try_seed(library, at, made, requests), range(seed, seed + 200)):
                 faulted += tried[0][2].status == 1
                 refused += tried[-1][2].status == 3
                 for as_wanted, what, ended in tried:
                     seen.note(as_wanted, what, ended)
             seed += 200
     for words in TYPES:
-        long = Case("long", words, b"".join(known) * 200)
+        long = Case("long", words, b"".join(made) * 200)
         ended = run(library, long)
         seen.note(ended.calls.get("memory") == requests[words], "the examples 200 times over", ended)
     print(f"seeds {first} to {seed - 1}, {faulted} of them with a fault: {seen.runs} runs, {seen.differ} differ")

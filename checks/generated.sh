@@ -1,6 +1,7 @@
 #!/usr/bin/env bash
-# Dumps streams that are made by seeds from the examples, for so many seconds: whole, with the reads cut, in parts that are
-# saved and gone on from, and ended early.
+# Dumps streams that are made by seeds from the examples, for so many seconds: whole, where the lines are those of reference/,
+# with the reads cut, in parts that are saved and gone on from, and ended early. First it tries the reference over the rows of
+# crates/giop_rows.
 #
 #     checks/generated.sh [SECONDS [FIRST_SEED]]
 set -euo pipefail
@@ -9,4 +10,6 @@ cd "$(dirname "$0")/.."
 
 need_giopdump
 need_failing
-env PYTHONDONTWRITEBYTECODE=1 python3 checks/generated.py "$failing" "${1:-180}" "${2:-1}"
+export PYTHONDONTWRITEBYTECODE=1
+python3 -m reference.tests
+python3 checks/generated.py "$failing" "${1:-180}" "${2:-1}"

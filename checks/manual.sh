@@ -43,6 +43,7 @@ check_page() {
 statuses=$(sed -nE 's/^\| ([0-5]) \|.*/\1/p' docs/FORMATS.md | sort -u)
 [ "$(echo $statuses)" = "0 1 2 3 4 5" ]
 check_page giopdump $statuses
+check_page giopdump-pcap 1 2 4
 check_page giop-json 0 2 3 4
 check_page giop-stat 0 2 3 4
 check_page giop-chart 0 2 3 4

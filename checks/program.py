@@ -69,8 +69,10 @@ LIMIT = 2**48
 OCTETS = {
     "half.giop": b"GIOP\x01",
     "close.giop": bytes.fromhex("47494f50 0100 00 05 00000000"),
-    "set.giop": bytes.fromhex("47494f50 0100 00 00 00000024 00000000 00000007 01 000000 00000002 6b31 0000"
-                              "00000004 73657400 00000000 fffffffb"),
+    "set.giop": bytes.fromhex(
+        "47494f50 0100 00 00 00000024 00000000 00000007 01 000000 00000002 6b31 0000"
+        "00000004 73657400 00000000 fffffffb"
+    ),
     "ask.giop": bytes.fromhex("47494f50 0100 00 01 00000011 00000000 00000001 00000000 0000002a 09"),
     "wrong.giop": b"GIOQ",
     "--help": b"GIOQ",
@@ -161,6 +163,7 @@ class Case:
 
 
 # The steps: the words, the types, the requests, the checkpoint, the stream, the run, the save. The first that fails decides.
+# fmt: off
 STEPS = [
     Case("--signatures lab.sig", "set.giop", lines=SET_1 + SET_2 + SET_3),
     Case("--signatures lab.sig --requests lab.req", "ask.giop", lines=ASK + ANSWERED),
@@ -226,8 +229,10 @@ STEPS = [
     Case("--requests \x7f", "set.giop", 4, r"\x7f: cannot read"),
     Case("--save none/\a", "empty.txt", 4, r"none/\x07: cannot write"),
 ]
+# fmt: on
 
 # The words, in any order and both spellings. No file name has a special meaning.
+# fmt: off
 WORDS = [
     Case("", "close.giop", lines=CLOSE),
     Case("-", None, 1, lines="stream fault magic at 1\ntotal messages 0 faults 1 octets 1\n"),
@@ -270,9 +275,18 @@ WORDS = [
     Case("--open x", None, 2, "invalid value 'x' for '--open <N>'"),
     Case("--open 1x", None, 2, "invalid value '1x' for '--open <N>'"),
 ]
+# fmt: on
 
 # What is printed in place of lines: the help, which has each option, and the version.
-OPTIONS = ("--signatures <FILE>", "--requests <FILE>", "--resume <FILE>", "--save <FILE>", "--open <N>", "--help", "--version")
+OPTIONS = (
+    "--signatures <FILE>",
+    "--requests <FILE>",
+    "--resume <FILE>",
+    "--save <FILE>",
+    "--open <N>",
+    "--help",
+    "--version",
+)
 HELP = "(?s).*STREAM.*" + ".*".join((*OPTIONS, ""))
 VERSION = r"giopdump [0-9]+\.[0-9]+\.[0-9]+\n"
 PRINTED = [("--help", HELP), ("-h", HELP), ("--version", VERSION), ("-V", VERSION)]
@@ -366,8 +380,10 @@ def main() -> int:
             count, differ = tried(cases, is_file)
             counts.append(count)
             wrong += differ
-    print(f"{len(STEPS)} cases of steps and {len(WORDS) + len(PRINTED) + 1} of words, {sum(counts)} runs of them by files and by"
-          f" standard input, {wrong} differ")
+    print(
+        f"{len(STEPS)} cases of steps and {len(WORDS) + len(PRINTED) + 1} of words, {sum(counts)} runs of them by files and by"
+        f" standard input, {wrong} differ"
+    )
     return 1 if wrong else 0
 
 

@@ -1,5 +1,5 @@
-"""Runs the commands of README.md that have their output beside them, looks for the files that the pages link to, and for
-the code of docs/LIBRARY.md in the source that is proved."""
+"""Runs the commands of README.md and docs/USE.md that have their output beside them, looks for the files that the pages link
+to, and for the code of docs/LIBRARY.md in the source that is proved."""
 
 from __future__ import annotations
 
@@ -12,6 +12,7 @@ from pathlib import Path
 from typing import Iterator, List, Tuple
 
 TOP = Path(__file__).resolve().parent.parent
+WALKS = [TOP / "README.md", TOP / "docs/USE.md"]
 PROGRAMS = [TOP / "crates/giopdump/out", TOP / "scripts"]
 LIBRARY = (TOP / "docs/LIBRARY.md", TOP / "crates/giop_stream_tests/src/own_out.rt")
 
@@ -25,14 +26,14 @@ def commands(text: str) -> Iterator[Tuple[str, List[str]]]:
             yield lines[start][2:], lines[start + 1 : end]
 
 
-def runs_as_written(command: str, wanted: List[str]) -> bool:
+def runs_as_written(page: Path, command: str, wanted: List[str]) -> bool:
     """Whether a command prints what stands beside it; shows the difference where it doesn't."""
     path = os.pathsep.join([*map(str, PROGRAMS), os.environ["PATH"]])
     environment = dict(os.environ, PATH=path)
     words = ["bash", "-c", command]
     done = subprocess.run(words, cwd=TOP, env=environment, capture_output=True, text=True, timeout=120)
     printed = done.stdout.splitlines() + done.stderr.splitlines()
-    for line in difflib.unified_diff(wanted, printed, "README.md", command, lineterm=""):
+    for line in difflib.unified_diff(wanted, printed, page.name, command, lineterm=""):
         print(line)
     return printed == wanted
 
@@ -52,16 +53,20 @@ def is_shown_as_written(page: Path, source: Path) -> bool:
 
 def main() -> int:
     """Prints figures; 1 where something differs."""
-    listed = list(commands((TOP / "README.md").read_text()))
-    wrong = sum(not runs_as_written(command, wanted) for command, wanted in listed)
+    wrong = 0
+    for page in WALKS:
+        listed = list(commands(page.read_text()))
+        differ = sum(not runs_as_written(page, command, wanted) for command, wanted in listed)
+        lines = sum(len(wanted) for _, wanted in listed)
+        print(f"{page.relative_to(TOP)}: {len(listed)} commands with {lines} lines, {differ} differ")
+        wrong += differ + (not listed)
     broken = [each for page in [TOP / "README.md", *TOP.glob("docs/*.md")] for each in broken_links(page)]
-    print(f"README.md: {len(listed)} commands with {sum(len(each) for _, each in listed)} lines, {wrong} differ")
     for each in broken:
         print(f"broken link in {each}")
     shown = is_shown_as_written(*LIBRARY)
     if not shown:
         print("docs/LIBRARY.md: its code isn't that of the source")
-    return 1 if wrong or broken or not listed or not shown else 0
+    return 1 if wrong or broken or not shown else 0
 
 
 if __name__ == "__main__":

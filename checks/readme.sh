@@ -1,5 +1,5 @@
 #!/usr/bin/env bash
-# The commands of README.md print what stands beside them, the files that its pages link to are there, and the code of
+# The commands of README.md and docs/USE.md print what stands beside them, the files that its pages link to are there, and the code of
 # docs/LIBRARY.md is that of the source.
 # Installs tshark and jq where they are missing.
 set -euo pipefail

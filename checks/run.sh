@@ -7,7 +7,7 @@ cd "$(dirname "$0")/.."
 [ -x crates/giopdump/out/giopdump ] || (cd crates/giopdump && rt run -- --version) || exit 1
 
 passed=0 failed=0 not_run=0
-for script in edits edits_faults words program idl pcap views package manual readme memory calls checkpoints generated; do
+for script in edits edits_faults words python program idl pcap views package manual readme memory calls checkpoints generated; do
     echo "== checks/$script.sh"
     "checks/$script.sh"
     case $? in

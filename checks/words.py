@@ -15,7 +15,8 @@ from pathlib import Path
 TOP = Path(__file__).resolve().parent.parent
 
 # Coined words, and words of more than one meaning, for which the code has plain names now (docs/ARCHITECTURE.md).
-GIVEN_UP = frozenset("""
+GIVEN_UP = frozenset(
+    """
     Acts Ahead AreAhead CanSpeak Completing Doing Ended_by EngineMemory Finishing Goes_on Grab Happening
     Happenings HappeningsKeep HasHead HeadFits Headed Heading Heard Hearing HerePosition Holding Imposed
     ImposedFault Imposing InPlace InTurn IsAhead IsHere IsInTurn IsSpoken IsWhose Keepers Keeping Kept_message
@@ -34,7 +35,8 @@ GIVEN_UP = frozenset("""
     segs_text settle shut size_behind speaks speech speech_line spoken spokens standing_octet switch_seg
     taken_as taken_by taken_in told_text turn_in_string turns_in voices wanted_after wanted_octets wanteds
     way_by way_view ways whom whose_after whose_in whose_named whose_octet
-""".split())
+""".split()
+)
 
 # What makes up a program by itself, or is what a worked row says.
 ROOTS = {"main"}
@@ -61,7 +63,7 @@ def functions(text: str) -> list[tuple[str, int, int]]:
     for head in re.finditer(r"(?m)^([ \t]*)(?:pub(?:\([a-z]+\))? )?(?:const )?(?:unsafe )?fn (\w+)", text):
         end = re.compile(rf"(?m)^{head[1]}(?:\}}|\{{\}})$").search(text, head.end())
         stop = end.end() if end else len(text)
-        is_law = bool(end) and end[0].strip() == "{}"
+        is_law = end is not None and end[0].strip() == "{}"
         before = text[: head.start()].rstrip().rsplit("\n", 1)[-1].strip()
         around = re.findall(r"(?m)^(impl\b[^{]*|trait\b[^{]*|pub trait\b[^{]*)\{|^\}", text[: head.start()])
         of_trait = bool(head[1]) and bool(around) and (" for " in around[-1] or "trait " in around[-1])
@@ -86,7 +88,7 @@ def definitions(text: str) -> list[tuple[str, int, int]]:
         else:
             found.append((head[1], head.start(), stop))
     declared = re.compile(r"(?:(?:abbrev|unfoldable|opaque|pub) )*[\w-]+ :")
-    return [it for it in found if declared.match(text[it[1]:it[2]].lstrip())]
+    return [it for it in found if declared.match(text[it[1] : it[2]].lstrip())]
 
 
 # What is used by nothing yet: public calls that wait for the crate above them.
@@ -106,16 +108,23 @@ def unused(files: dict[Path, str]) -> list[str]:
         parts = functions(text) if file.suffix == ".rt" else definitions(text)
         for name, start, stop in parts:
             imports = re.compile(r"\buse\b[^\n]*$")
-            used = any(where != file or not start <= at < stop for where, at in uses[name]
-                       if not imports.search(files[where][files[where].rfind("\n", 0, at) + 1:at]))
+            used = any(
+                where != file or not start <= at < stop
+                for where, at in uses[name]
+                if not imports.search(files[where][files[where].rfind("\n", 0, at) + 1 : at])
+            )
             if not used and name not in AWAITED:
                 found.append(f"{file.relative_to(TOP)}: nothing uses {name}")
     return found
 
 
 def main() -> int:
-    files = {file: code(file) for part in ("src", "specs", "proofs") for file in sorted(TOP.glob(f"crates/*/{part}/**/*"))
-             if file.suffix in (".rt", ".antt")}
+    files = {
+        file: code(file)
+        for part in ("src", "specs", "proofs")
+        for file in sorted(TOP.glob(f"crates/*/{part}/**/*"))
+        if file.suffix in (".rt", ".antt")
+    }
     faults = [fault for file, text in files.items() for fault in given_up(file, text)] + unused(files)
     for fault in faults:
         print(fault)

@@ -47,8 +47,8 @@ def counts(selection: Selection) -> List[str]:
 
 def summary(selection: Selection) -> str:
     """The counts with what they are for, for standard error."""
-    lines = []
-    for text, causes in zip(counts(selection), (Counter(), selection.why_half, selection.why_left_out)):
+    lines, none = [], Counter[str]()
+    for text, causes in zip(counts(selection), (none, selection.why_half, selection.why_left_out)):
         told = ", ".join(f"{number} for {cause}" for cause, number in sorted(causes.items()))
         lines.append(f"{PROGRAM}: {text}" + (f" ({told})\n" if told else "\n"))
     return "".join(lines)

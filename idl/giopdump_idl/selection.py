@@ -4,8 +4,8 @@ from __future__ import annotations
 
 import sys
 from collections import Counter
-from dataclasses import dataclass, replace
-from typing import Dict, Iterable, Iterator, List, Optional, Sequence, Set, Tuple, Union as Either
+from dataclasses import dataclass, field, replace
+from typing import Dict, Iterable, Iterator, List, Optional, Sequence, Set, Tuple, TypeVar, Union as Either
 
 from omniidl import idlast
 
@@ -22,14 +22,15 @@ MOST_NAMED = 8  # interfaces that one comment names
 
 @dataclass
 class Call:
-    """An operation that an interface declares, with what became of it: a refusal where it can't be written, and the
+    """An operation that an interface declares, with what becomes of it: a refusal where it can't be written, and the
     call that is written for it where another of its name is."""
 
     owner: str
     name: str
     place: Optional[Place]
-    outcome: Either[Operation, Unsayable]
-    written_by: Optional[Call] = None
+    operation: Operation
+    outcome: Either[Operation, Unsayable] = field(init=False)
+    written_by: Optional[Call] = field(default=None, init=False)
 
     @property
     def title(self) -> str:
@@ -47,14 +48,20 @@ class Section:
 
 
 Entry = Either[Declared, Operation, str]  # a str is a comment
+Written = TypeVar("Written", Operation, Raised)
 
 YES_OR_NO = Slot("out", RETURNED, Item("return", Scalar("boolean")))
 EVERY_OBJECT = Section(
     "Every object",
     [
-        Call("Object", "_is_a", None, Operation.of(
+        Call(
+            "Object",
             "_is_a",
-            [YES_OR_NO, Slot("in", "parameter logical_type_id", Item("logical_type_id", Text(0)))])),
+            None,
+            Operation.of(
+                "_is_a", [YES_OR_NO, Slot("in", "parameter logical_type_id", Item("logical_type_id", Text(0)))]
+            ),
+        ),
         Call("Object", "_non_existent", None, Operation.of("_non_existent", [YES_OR_NO])),
     ],
     [],
@@ -64,9 +71,9 @@ EVERY_OBJECT = Section(
 def members_of(decl: idlast.Decl) -> Sequence[idlast.Decl]:
     """The declarations within a declaration."""
     if isinstance(decl, idlast.Module):
-        return decl.definitions()
+        return list(decl.definitions())
     if isinstance(decl, (idlast.Interface, idlast.Value, idlast.ValueAbs)):
-        return decl.contents()
+        return list(decl.contents())
     return ()
 
 
@@ -103,20 +110,22 @@ def calls_of(interface: idlast.Interface, translator: Translator) -> Iterator[Ca
 
 def settle(calls: Sequence[Call]) -> None:
     """Of calls of one name, which a message can't tell apart: lets the first be written as far as all travel alike."""
-    first, own = calls[0], [call.outcome for call in calls]
-    others = unequal_to([call for call in calls if not same(call.outcome, first.outcome)])
-    first.outcome = Operation(
+    first = calls[0]
+    others = unequal_to([call for call in calls if not same(call.operation, first.operation)])
+    common_of_all = Operation(
         first.name,
-        common("request", [each.request for each in own], others),
-        common("reply", [each.reply for each in own], others),
+        common("request", [call.operation.request for call in calls], others),
+        common("reply", [call.operation.reply for call in calls], others),
     )
-    if not first.outcome.says_nothing:
+    if not common_of_all.says_nothing:
+        first.outcome = common_of_all
         for call in calls[1:]:
             call.written_by = first
         return
-    for call, operation in zip(calls, own):
-        if operation.says_nothing:
-            call.outcome = Unsayable(operation.cuts[0].cause, operation.cuts[0].told)
+    for call in calls:
+        if call.operation.says_nothing:
+            cut = call.operation.cuts[0]
+            call.outcome = Unsayable(cut.cause, cut.told)
         else:
             call.outcome = Unsayable(UNEQUAL, others if call is first else unequal_to([first]))
 
@@ -240,8 +249,8 @@ class Selection:
             self._count("operation", by.outcome.cuts)
 
     def _add(
-        self, entries: List[Entry], kind: str, title: str, outcome: Either[Operation, Raised, Unsayable]
-    ) -> Either[Operation, Raised, Unsayable]:
+        self, entries: List[Entry], kind: str, title: str, outcome: Either[Written, Unsayable]
+    ) -> Either[Written, Unsayable]:
         """Adds an operation or an exception, or a comment on why it is left out; gives which."""
         if not isinstance(outcome, Unsayable):
             outcome = self._within_limits(kind, outcome)
@@ -269,7 +278,7 @@ class Selection:
         else:
             self.whole[kind] += 1
 
-    def _within_limits(self, kind: str, made: Either[Operation, Raised]) -> Either[Operation, Raised, Unsayable]:
+    def _within_limits(self, kind: str, made: Written) -> Either[Written, Unsayable]:
         """What is to be added, where there is room for it and the types that it needs."""
         try:
             at_most(self._lines[kind] + 1, MOST_DECLARATIONS, f"{kind}s")

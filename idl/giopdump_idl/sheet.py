@@ -5,7 +5,7 @@ from __future__ import annotations
 import os
 from typing import Sequence, Tuple
 
-from .model import Array, Declared, Enum, Item, Operation, Raised, Reference, Scalar, Series, Text, Type, Union
+from .model import Array, Declared, Enum, Item, Operation, Raised, Reference, Scalar, Series, Struct, Text, Type, Union
 from .names import names_for
 from .selection import Entry
 
@@ -42,6 +42,7 @@ class Sheet:
         if isinstance(entry, Union):
             cases = [" ".join(case.labels) + f" {self._item(case.item)};" for case in entry.cases]
             return self._laid_out(f"union {name} switch ({self._type(entry.switch)}) {{", cases, " ", "};", " ")
+        assert isinstance(entry, (Struct, Raised))
         members = [f"{self._item(member)};" for member in entry.members]
         kind = f'exception {name} "{entry.repository_id}"' if isinstance(entry, Raised) else f"struct {name}"
         return self._laid_out(f"{kind} {{", members, " ", "};", " ")
@@ -69,6 +70,7 @@ class Sheet:
             return "Object"
         if isinstance(made, Series):
             return f"sequence<{self._type(made.element)}" + (f", {made.bound}>" if made.bound else ">")
+        assert isinstance(made, Declared)
         return self._names[made]
 
 

@@ -149,7 +149,7 @@ class Translator:
 
     def enum(self, decl: idlast.Enum) -> Enum:
         """An enum."""
-        wishes = [each.identifier() for each in sorted(decl.enumerators(), key=lambda each: each.value())]
+        wishes = [each.identifier() for each in sorted(decl.enumerators(), key=lambda each: int(each.value()))]
         at_most(len(wishes), MOST_ENUMERATORS, "enumerators")
         return Enum(tuple(decl.scopedName()), Place.of(decl), tuple(fresh_names(wishes)))
 
@@ -166,8 +166,7 @@ class Translator:
         at_most(len(pairs), MOST_MEMBERS, "members")
         names = fresh_names(each.identifier() for _, each in pairs)
         return tuple(
-            self.item(name, f"member {each.identifier()}", idl, each.sizes())
-            for name, (idl, each) in zip(names, pairs)
+            self.item(name, f"member {each.identifier()}", idl, each.sizes()) for name, (idl, each) in zip(names, pairs)
         )
 
     def item(self, name: str, what: str, idl: idltype.Type, sizes: Sequence[int] = ()) -> Item:

@@ -2,9 +2,13 @@
 
 from __future__ import annotations
 
+import sys
+from pathlib import Path
 from typing import List, NamedTuple
 
-from octets import reply, request
+sys.path.insert(0, str(Path(__file__).resolve().parent.parent.parent))
+
+from reference.encoding import reply, request
 
 
 class Conversation(NamedTuple):
@@ -16,6 +20,8 @@ class Conversation(NamedTuple):
     requests: str
     lines: str
 
+
+# fmt: off
 
 UNIONS = Conversation(
     "unions",
@@ -34,8 +40,8 @@ UNIONS = Conversation(
             ("ulong", 0), ("octet", 1),
             ("ulong", 2), ("long", 8),
         ),
-        request(2, "give", ("boolean", False), ("long", -1), big=False),
-        reply(2, ("char", "q"), ("string", "zz"), ("boolean", True), ("double", -2.0), big=False),
+        request(2, "give", ("boolean", False), ("long", -1), order="little"),
+        reply(2, ("char", "q"), ("string", "zz"), ("boolean", True), ("double", -2.0), order="little"),
     ],
     "2 give\n",
     """\
@@ -151,8 +157,8 @@ ATTRIBUTES = Conversation(
         request(2, "_get_key"),
         reply(1),
         reply(2, ("octets", bytes([1, 2, 255]))),
-        request(3, "where", ("char", "x"), ("ulong", 2), ("string", "USER"), ("string", "ada"), big=False),
-        reply(3, ("string", "here"), big=False),
+        request(3, "where", ("char", "x"), ("ulong", 2), ("string", "USER"), ("string", "ada"), order="little"),
+        reply(3, ("string", "here"), order="little"),
         request(4, "scale", ("float", 1.0), ("short", -7)),
         reply(4, ("double", 3.0), ("short", 7), ("ulonglong", 49)),
     ],
@@ -196,12 +202,12 @@ HALF = Conversation(
         reply(2, ("string", "IDL:H/Odd:1.0"), ("string", "no"), status=1),
         request(3, "store", ("string", "n"), ("ulong", 0), ("long", 5)),
         reply(3, ("long", 3), ("string", "w")),
-        request(4, "list", ("ulong", 0), big=False),
+        request(4, "list", ("ulong", 0), order="little"),
         reply(
             4,
             ("string", "x"), ("long", 1), ("boolean", True),
             ("ulong", 1), ("string", "y"), ("ulong", 2), ("short", 4), ("long", 8),
-            big=False,
+            order="little",
         ),
         request(5, "swap", ("short", -3), ("ulong", 3), ("long", 1), ("long", 4)),
         reply(5, ("ulong", 3), ("long", 2), ("long", 5)),

@@ -162,9 +162,7 @@ class Limits(unittest.TestCase):
         )
 
     def test_labels(self) -> None:
-        self.assert_limit(
-            1024, lambda n: f"union T switch (long) {{ {numbered('case {}:', n)} long c; }}; {TAKES_T}"
-        )
+        self.assert_limit(1024, lambda n: f"union T switch (long) {{ {numbered('case {}:', n)} long c; }}; {TAKES_T}")
 
     def test_levels(self) -> None:
         leaves = [
@@ -274,10 +272,12 @@ class CosFiles(unittest.TestCase):
         rows = [self.row(path) for path in sorted((IDL / "COS").glob("*.idl"))]
         table = "\n".join(rows) + "\n"
         figures = re.findall(r"whole: (\d+) op.*by half: (\d+) op.*left out: (\d+) op", table)
-        print(f"{len(rows)} COS files: {len(figures)} written and taken by giopdump, "
-              f"{len(rows) - len(figures)} refused by omniidl itself; operations whole "
-              f"{sum(int(each[0]) for each in figures)}, by half {sum(int(each[1]) for each in figures)}, "
-              f"left out {sum(int(each[2]) for each in figures)}")
+        print(
+            f"{len(rows)} COS files: {len(figures)} written and taken by giopdump, "
+            f"{len(rows) - len(figures)} refused by omniidl itself; operations whole "
+            f"{sum(int(each[0]) for each in figures)}, by half {sum(int(each[1]) for each in figures)}, "
+            f"left out {sum(int(each[2]) for each in figures)}"
+        )
         self.assertEqual(table, (HERE / "cos.txt").read_text())
 
 
@@ -293,15 +293,19 @@ class Examples(unittest.TestCase):
         asked = dump(*words, str(requests))
         answered = dump(*words, "--requests", str(calls), str(examples / "naming-replies.giop"))
         self.assertEqual("".join(re.findall(r"(?m)^m\d+ call (.*\n)", asked.stdout)), calls.read_text())
-        for done, total in ((asked, "total messages 7 faults 0 octets 711\n"),
-                            (answered, "total messages 6 faults 0 octets 511\n")):
+        for done, total in (
+            (asked, "total messages 7 faults 0 octets 711\n"),
+            (answered, "total messages 6 faults 0 octets 511\n"),
+        ):
             self.assertEqual(done.returncode, 0)
             self.assertTrue(done.stdout.endswith(total))
             self.assertNotRegex(done.stdout, r"(?m)^m\d+ (rest|fault|unfinished)")
 
     def test_each(self) -> None:
         for idl, example in (
-            ("CosNaming", "naming"), ("CosEventComm", "event"), ("CosNotifyChannelAdmin", "notification")
+            ("CosNaming", "naming"),
+            ("CosEventComm", "event"),
+            ("CosNotifyChannelAdmin", "notification"),
         ):
             with self.subTest(idl):
                 done = omniidl(f"{idl}.idl", cwd=IDL / "COS")

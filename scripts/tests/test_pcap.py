@@ -22,12 +22,15 @@ PORT = 12809
 CLIENT, SERVER = ("10.0.0.1", 40000), ("10.0.0.2", PORT)
 
 # Messages of GIOP 1.2 in hexadecimal: _non_existent with request id 5, its reply `true`, and both again with id 6.
-ASK = ("47494f50 01020000 0000002c 00000005 03000000 0000 0000 00000003 6b6579 00 "
-       "0000000e 5f6e6f6e5f6578697374656e7400 0000 00000000")
+ASK = (
+    "47494f50 01020000 0000002c 00000005 03000000 0000 0000 00000003 6b6579 00 "
+    "0000000e 5f6e6f6e5f6578697374656e7400 0000 00000000"
+)
 ANSWER = "47494f50 01020001 0000000d 00000005 00000000 00000000 01"
 # `destroy` with request id 5, and its reply, which has no body.
-CALL_BACK = ("47494f50 01020000 00000024 00000005 03000000 0000 0000 00000003 6b6579 00 "
-             "00000008 64657374726f7900 00000000")
+CALL_BACK = (
+    "47494f50 01020000 00000024 00000005 03000000 0000 0000 00000003 6b6579 00 " "00000008 64657374726f7900 00000000"
+)
 DONE = "47494f50 01020001 0000000c 00000005 00000000 00000000"
 
 
@@ -39,8 +42,10 @@ def octets(text: str) -> bytes:
 
 def pair(request_id: int) -> Tuple[bytes, bytes]:
     """A request and its reply."""
-    return (octets(ASK.replace("00000005", f"{request_id:08x}", 1)),
-            octets(ANSWER.replace("00000005", f"{request_id:08x}", 1)))
+    return (
+        octets(ASK.replace("00000005", f"{request_id:08x}", 1)),
+        octets(ANSWER.replace("00000005", f"{request_id:08x}", 1)),
+    )
 
 
 class Segment(NamedTuple):
@@ -129,8 +134,14 @@ class Cases(unittest.TestCase):
 
     def test_in_order(self) -> None:
         (a, b), (c, d) = pair(5), pair(6)
-        lines = [BOTH, *CALL_5, *as_message(2, TRUE), *as_message(3, CALL_6), *as_message(4, TRUE),
-                 "total messages 4 faults 0 octets 162"]
+        lines = [
+            BOTH,
+            *CALL_5,
+            *as_message(2, TRUE),
+            *as_message(3, CALL_6),
+            *as_message(4, TRUE),
+            "total messages 4 faults 0 octets 162",
+        ]
         plain = segments(("c", a), ("s", b), ("c", c), ("s", d))
         late = [plain[0], plain[1], plain[3], plain[2]]
         for name, parts in [
@@ -146,16 +157,30 @@ class Cases(unittest.TestCase):
         (a, b), (c, d) = pair(5), pair(6)
         self.assertEqual(
             dumped(pcap(segments(("s", b), ("c", c), ("s", d)))),
-            [BOTH, "m1 rest @0 01", "m1 end", *as_message(2, CALL_6), *as_message(3, TRUE),
-             "total messages 3 faults 0 octets 106"],
+            [
+                BOTH,
+                "m1 rest @0 01",
+                "m1 end",
+                *as_message(2, CALL_6),
+                *as_message(3, TRUE),
+                "total messages 3 faults 0 octets 106",
+            ],
         )
 
     def test_a_message_that_the_other_direction_cuts(self) -> None:
         (a, b), (c, d) = pair(5), pair(6)
         self.assertEqual(
             dumped(pcap(segments(("c", a), ("s", b[:20]), ("c", c), ("s", b[20:] + d)))),
-            [THERE, *CALL_5, *as_message(2, CALL_6), "total messages 2 faults 0 octets 112",
-             BACK, *TRUE, *as_message(2, TRUE), "total messages 2 faults 0 octets 50"],
+            [
+                THERE,
+                *CALL_5,
+                *as_message(2, CALL_6),
+                "total messages 2 faults 0 octets 112",
+                BACK,
+                *TRUE,
+                *as_message(2, TRUE),
+                "total messages 2 faults 0 octets 50",
+            ],
         )
 
     def test_octets_are_missing(self) -> None:
@@ -163,17 +188,32 @@ class Cases(unittest.TestCase):
         parts = segments(("c", a), ("s", b), ("s", b), ("c", c), ("s", d), ("c", b""))
         self.assertEqual(
             dumped(pcap(parts[:2] + parts[3:])),
-            [THERE, *CALL_5, *as_message(2, CALL_6), "total messages 2 faults 0 octets 112",
-             BACK, *TRUE, "total messages 1 faults 0 octets 25",
-             BACK + ", 25 octets missing before", *TRUE, "total messages 1 faults 0 octets 25"],
+            [
+                THERE,
+                *CALL_5,
+                *as_message(2, CALL_6),
+                "total messages 2 faults 0 octets 112",
+                BACK,
+                *TRUE,
+                "total messages 1 faults 0 octets 25",
+                BACK + ", 25 octets missing before",
+                *TRUE,
+                "total messages 1 faults 0 octets 25",
+            ],
         )
 
     def test_the_capture_begins_inside_a_message(self) -> None:
         (a, b), (c, d) = pair(5), pair(6)
         self.assertEqual(
             dumped(pcap(segments(("c", a[30:]), ("s", b), ("c", c), ("s", d)))),
-            [BOTH + ", 26 octets skipped", "m1 rest @0 01", "m1 end", *as_message(2, CALL_6), *as_message(3, TRUE),
-             "total messages 3 faults 0 octets 106"],
+            [
+                BOTH + ", 26 octets skipped",
+                "m1 rest @0 01",
+                "m1 end",
+                *as_message(2, CALL_6),
+                *as_message(3, TRUE),
+                "total messages 3 faults 0 octets 106",
+            ],
         )
 
     def test_packets_are_cut_short(self) -> None:
@@ -186,17 +226,29 @@ class Cases(unittest.TestCase):
     def test_both_ends_call(self) -> None:
         a, b = pair(5)
         asked, done = octets(CALL_BACK), octets(DONE)
-        rows = [  # the server's call, the client's reply, and what these show
+        other, answer = pair(6)
+        # The server's call, the client's reply, and what these show.
+        rows: List[Tuple[str, bytes, bytes, str, List[str]]] = [
             ("one id", asked, done, "m1 call 5 destroy", []),
-            ("two ids", *pair(6), "m1 call 6 _non_existent", ["m2 body.return boolean true"]),
+            ("two ids", other, answer, "m1 call 6 _non_existent", ["m2 body.return boolean true"]),
         ]
         for name, call, reply, called, shown in rows:
             with self.subTest(name):
                 parts = segments(("c", a), ("s", call), ("s", b[:20]), ("c", reply), ("s", b[20:]))
                 self.assertEqual(
                     dumped(pcap(parts)),
-                    [THERE, *CALL_5, *shown, "m2 end", f"total messages 2 faults 0 octets {len(a + reply)}",
-                     BACK, called, "m1 end", *as_message(2, TRUE), f"total messages 2 faults 0 octets {len(call + b)}"],
+                    [
+                        THERE,
+                        *CALL_5,
+                        *shown,
+                        "m2 end",
+                        f"total messages 2 faults 0 octets {len(a + reply)}",
+                        BACK,
+                        called,
+                        "m1 end",
+                        *as_message(2, TRUE),
+                        f"total messages 2 faults 0 octets {len(call + b)}",
+                    ],
                 )
 
     def test_the_capture_ends_inside_its_last_packet(self) -> None:
@@ -205,8 +257,11 @@ class Cases(unittest.TestCase):
         lines = [BOTH, *CALL_5, *as_message(2, TRUE), *as_message(3, CALL_6), "total messages 3 faults 0 octets 137"]
         said = "giopdump-pcap: c.pcap: cut short in its last packet: dumped up to there\n"
         self.assertEqual(dumped(whole), lines)
-        for name, length in [("its head", len(whole) + 5), ("its first octet", len(whole) + 17),
-                             ("its last octet", len(pcap(parts)) - 1)]:
+        for name, length in [
+            ("its head", len(whole) + 5),
+            ("its first octet", len(whole) + 17),
+            ("its last octet", len(pcap(parts)) - 1),
+        ]:
             with self.subTest(name):
                 self.assertEqual(dumped(pcap(parts)[:length], 1, said), lines)
         none = said + "giopdump-pcap: c.pcap: no connection with port 12809\n"
@@ -238,8 +293,16 @@ class Cases(unittest.TestCase):
         total = "total messages 2 faults 0 octets 81"
         self.assertEqual(
             lines,
-            [BOTH, *CALL_5, *as_message(2, TRUE), total,
-             BOTH.replace("40000", "40001"), *CALL_5, *as_message(2, TRUE), total],
+            [
+                BOTH,
+                *CALL_5,
+                *as_message(2, TRUE),
+                total,
+                BOTH.replace("40000", "40001"),
+                *CALL_5,
+                *as_message(2, TRUE),
+                total,
+            ],
         )
 
 
@@ -247,7 +310,7 @@ class Words(unittest.TestCase):
     """The command line, and what is said where something is missing."""
 
     def test_refused(self) -> None:
-        rows = [
+        rows: List[Tuple[List[str], int, str]] = [
             ([], 2, "usage: giopdump-pcap"),
             ([str(REAL)], 2, "usage: giopdump-pcap"),
             ([str(REAL), "http"], 2, "usage: giopdump-pcap"),
@@ -266,8 +329,10 @@ class Words(unittest.TestCase):
     def test_no_tshark(self) -> None:
         with tempfile.TemporaryDirectory() as folder:
             for name in ("env", "python3"):
-                os.symlink(subprocess.run(["which", name], capture_output=True, text=True).stdout.strip(),
-                           os.path.join(folder, name))
+                os.symlink(
+                    subprocess.run(["which", name], capture_output=True, text=True).stdout.strip(),
+                    os.path.join(folder, name),
+                )
             done = run(str(REAL), str(PORT), path=folder)
         self.assertEqual((done.returncode, done.stdout), (4, ""))
         self.assertIn("install the package tshark", done.stderr)
@@ -308,13 +373,17 @@ class RealCapture(unittest.TestCase):
         found: Dict[str, List[str]] = {}
         for part in re.split(r"(?m)^== ", done.stdout)[1:]:
             head, *lines = part.splitlines()
-            found[re.match(r"[\d.]+:(\d+) <-> ", head).group(1)] = self.bare(lines)
+            found[head.partition(" <-> ")[0].rpartition(":")[2]] = self.bare(lines)
         print(f"real capture: {len(found)} connections, {sum(len(each) for each in found.values())} lines")
         self.assertEqual(len(found), 4)
         self.assertEqual(found, self.by_tcpflow())
         self.assertNotRegex(done.stdout, r"(?m)^m\d+ rest @")
-        for line in ("body.n[1].id string @0 \"orders\"", "body.why enum missing_node", "body.return boolean true",
-                     'exception string @32 "ext/AlreadyBound:1.0"'):
+        for line in (
+            'body.n[1].id string @0 "orders"',
+            "body.why enum missing_node",
+            "body.return boolean true",
+            'exception string @32 "ext/AlreadyBound:1.0"',
+        ):
             self.assertIn(line, done.stdout)
 
 

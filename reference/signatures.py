@@ -1,0 +1,190 @@
+"""The types of a signature file that is valid, and the operations of a request list (docs/FORMATS.md, Signature file, Request
+list)."""
+
+from __future__ import annotations
+
+import re
+from dataclasses import dataclass, field
+from typing import Callable, Dict, List, Optional, Set, Tuple, TypeVar
+
+from .types import BASE, IOR, Array, Encapsulation, Enum, Members, Octets, Series, String, Struct, Type, Union
+
+TOKENS = re.compile(r'//[^\n]*|[ \t\r\n]+|(-?\w+|"[^"]*"|[{}()<>\[\],;:])')
+Made = TypeVar("Made")
+
+
+@dataclass
+class Table:
+    """What is known of bodies: each operation's request and reply, and each exception's members by its repository id."""
+
+    requests: Dict[bytes, Struct] = field(default_factory=dict)
+    replies: Dict[bytes, Struct] = field(default_factory=dict)
+    exceptions: Dict[bytes, Struct] = field(default_factory=dict)
+
+
+class Parser:
+    """Reads a text from the front."""
+
+    def __init__(self, text: bytes) -> None:
+        self._tokens: List[str] = [token for token in TOKENS.findall(text.decode("latin-1")) if token]
+        self._at = 0
+        self._declared: Dict[str, Type] = {}
+        self.table = Table()
+        self.wanted("signatures")
+        self.wanted("1", "2")
+        self.wanted(";")
+        while self._at < len(self._tokens):
+            self.declaration()
+
+    @property
+    def next(self) -> str:
+        """The next token."""
+        return self._tokens[self._at]
+
+    def taken(self) -> str:
+        """The next token, which is then behind."""
+        self._at += 1
+        return self._tokens[self._at - 1]
+
+    def wanted(self, *texts: str) -> str:
+        """The next token, which is one of these."""
+        token = self.taken()
+        if token not in texts:
+            raise ValueError(f"{token} where {' or '.join(texts)} is due")
+        return token
+
+    def found(self, text: str) -> bool:
+        """Whether the next token is this one, which is then behind."""
+        if self.next != text:
+            return False
+        self._at += 1
+        return True
+
+    def up_to(self, end: str, each: Callable[[], Made], between: str = "") -> List[Made]:
+        """What is made of each part up to the token at their end."""
+        made: List[Made] = []
+        while not self.found(end):
+            if between and made:
+                self.wanted(between)
+            made.append(each())
+        return made
+
+    def declaration(self) -> None:
+        """One declaration."""
+        kind = self.wanted("enum", "struct", "union", "exception", "operation")
+        if kind == "operation":
+            self.operation()
+        elif kind == "exception":
+            self.taken()
+            repository_id = self.taken().strip('"').encode()
+            self.table.exceptions[repository_id] = Struct(self.members())
+        else:
+            name = self.taken()
+            makers: Dict[str, Callable[[], Type]] = {"enum": self.enum, "struct": self.struct, "union": self.union}
+            self._declared[name] = makers[kind]()
+        self.wanted(";")
+
+    def enum(self) -> Type:
+        self.wanted("{")
+        return Enum(tuple(self.up_to("}", self.taken, ",")))
+
+    def struct(self) -> Type:
+        return Struct(self.members())
+
+    def members(self) -> Members:
+        self.wanted("{")
+        return self.up_to("}", self.member)
+
+    def member(self) -> Tuple[str, Type]:
+        item = self.item()
+        self.wanted(";")
+        return item
+
+    def item(self) -> Tuple[str, Type]:
+        """A type and a name, and where it is an array its length."""
+        made, name = self.type(), self.taken()
+        if self.found("["):
+            made = Array(made, int(self.taken()))
+            self.wanted("]")
+        return name, made
+
+    def union(self) -> Type:
+        self.wanted("switch")
+        self.wanted("(")
+        switch = self.type()
+        self.wanted(")")
+        self.wanted("{")
+        cases: Dict[int, Tuple[str, Type]] = {}
+        default: Optional[Tuple[str, Type]] = None
+        for labels, item in self.up_to("}", lambda: self.case(switch)):
+            cases.update((label, item) for label in labels if label is not None)
+            default = item if None in labels else default
+        return Union(switch, cases, default)
+
+    def case(self, switch: Type) -> Tuple[Set[Optional[int]], Tuple[str, Type]]:
+        """The labels of a case, of which None is the default, and its member."""
+        labels: Set[Optional[int]] = set()
+        while self.next in ("case", "default"):
+            labels.add(self.label(switch) if self.taken() == "case" else None)
+            self.wanted(":")
+        return labels, self.member()
+
+    def label(self, switch: Type) -> int:
+        """The value of a label."""
+        text = self.taken()
+        if isinstance(switch, Enum):
+            return switch.names.index(text)
+        return ("false", "true").index(text) if text in ("false", "true") else int(text)
+
+    def operation(self) -> None:
+        returned: List[Tuple[str, Type]] = [] if self.found("void") else [("return", self.type())]
+        name = self.taken().encode()
+        self.wanted("(")
+        parameters = self.up_to(")", self.parameter, ",")
+        self.table.requests[name] = Struct([item for direction, item in parameters if direction != "out"])
+        self.table.replies[name] = Struct(returned + [item for direction, item in parameters if direction != "in"])
+
+    def parameter(self) -> Tuple[str, Tuple[str, Type]]:
+        return self.wanted("in", "out", "inout"), self.item()
+
+    def type(self) -> Type:
+        """A type."""
+        word = self.taken()
+        if word == "string":
+            return String(self.bound("<", ">"))
+        if word == "sequence":
+            self.wanted("<")
+            octet = self.next == "octet"
+            element = self.type()
+            bound = self.bound(",", "")
+            self.wanted(">")
+            return Octets(bound) if octet else Series(element, bound)
+        if word == "encapsulation":
+            self.wanted("<")
+            value = self.type()
+            self.wanted(">")
+            return Encapsulation(value)
+        return IOR if word == "Object" else BASE.get(word) or self._declared[word]
+
+    def bound(self, begin: str, end: str) -> Optional[int]:
+        """A bound between these tokens, where there is one."""
+        if not self.found(begin):
+            return None
+        bound = int(self.taken())
+        if end:
+            self.wanted(end)
+        return bound
+
+
+def table_of(text: bytes) -> Table:
+    """The types that a signature file declares."""
+    return Parser(text).table
+
+
+def requests_of(text: bytes) -> Dict[int, bytes]:
+    """The operation of each request id of a request list; none of an id that two names have."""
+    names: Dict[int, Set[bytes]] = {}
+    for line in text.splitlines():
+        request_id, name = line.split(b" ", 1)
+        names.setdefault(int(request_id), set()).add(name)
+    return {request_id: name for request_id, (name, *others) in names.items() if not others}

@@ -1,0 +1,313 @@
+"""A whole stream of GIOP as lines: messages, Fragments, faults and totals (docs/FORMATS.md, Lines)."""
+
+from __future__ import annotations
+
+from dataclasses import dataclass, field
+from typing import Dict, List, Optional, Tuple
+
+from .encoding import CANCEL_REQUEST, FRAGMENT, HEADER, LOCATE_REPLY, LOCATE_REQUEST, ORDERS, REPLY, REQUEST, Order
+from .signatures import Table
+from .types import (
+    BODY_OF_STATUS,
+    HEADERS,
+    NO_EXCEPTION,
+    USER_EXCEPTION,
+    Fault,
+    Over,
+    Read,
+    Reader,
+    String,
+    Struct,
+    Type,
+)
+
+KINDS = "Request Reply CancelRequest LocateRequest LocateReply CloseConnection MessageError Fragment".split()
+MAY_HAVE_FRAGMENTS = (REQUEST, REPLY, LOCATE_REQUEST, LOCATE_REPLY)
+MOST_OPEN = 16
+MOST_NAME = 128
+
+# The lines of one octet stand in this order.
+START, VALUE, CALL, CONTINUES, CANCELLED, REST, FAULT, END, STREAM = range(9)
+
+
+@dataclass
+class Known:
+    """What is told of a stream: the types of bodies, the operations that replies answer, and how many messages may be
+    open."""
+
+    table: Table = field(default_factory=Table)
+    requests: Dict[int, bytes] = field(default_factory=dict)
+    most: int = MOST_OPEN
+
+
+@dataclass(frozen=True)
+class Header:
+    """A message's header."""
+
+    number: int
+    minor: int
+    order: Order
+    more: bool
+    kind: int
+    size: int
+
+
+class Message:
+    """A joined message: its header, and its octets with their places in the stream."""
+
+    def __init__(self, header: Header, end_of_header: int) -> None:
+        self.header = header
+        self.octets = bytearray(HEADER)
+        # From which octet on the octets come together, and how many of the stream stand before them that aren't its own.
+        self._parts = [(HEADER, end_of_header - HEADER)]
+        self.is_over = False  # whether its lines are made
+
+    def add(self, octets: bytes, begin: int) -> None:
+        """Octets that come behind so many of the stream."""
+        self._parts.append((len(self.octets), begin - len(self.octets)))
+        self.octets += octets
+
+    def place(self, at: int) -> int:
+        """The place of the octet up to which there are so many of the message."""
+        return at + next(shift for first, shift in reversed(self._parts) if first < at or first == HEADER)
+
+
+class Dump:
+    """The lines of a stream."""
+
+    def __init__(self, stream: bytes, known: Known) -> None:
+        self._stream = stream
+        self._known = known
+        self._lines: List[Tuple[int, int, str]] = []
+        self._messages = 0
+        self._faults = 0
+        self._open: Dict[int, Message] = {}
+        self._unfinished: List[int] = []
+
+    def lines(self) -> List[str]:
+        """All of them."""
+        place = 0
+        stop = None
+        while stop is None and place < len(self._stream):
+            stop = self._stream_fault(place) or self._message(place)
+            place = len(self._stream) if stop else place + HEADER + self._size(place)
+        for message in self._open.values():
+            self._read(message, None)
+        read = len(self._stream)
+        if stop:
+            word, read = stop
+            self._faults += 1
+            self._say(read, STREAM, f"stream fault {word} at {read}")
+        lines = [line for _, _, line in sorted(self._lines, key=lambda line: line[:2])]
+        lines += [f"m{number} unfinished" for number in sorted(self._unfinished)]
+        return lines + [f"total messages {self._messages} faults {self._faults} octets {read}"]
+
+    def _say(self, place: int, sort: int, line: str) -> None:
+        self._lines.append((place, sort, line))
+
+    def _fault(self, number: int, word: str, place: int) -> None:
+        self._faults += 1
+        self._say(place, FAULT, f"m{number} fault {word} at {place}")
+
+    def _size(self, place: int) -> int:
+        order = ORDERS[self._stream[place + 6] & 1]
+        return int.from_bytes(self._stream[place + 8 : place + HEADER], order)
+
+    def _stream_fault(self, place: int) -> Optional[Tuple[str, int]]:
+        """The fault of a header's octets, as many as there are."""
+        header = self._stream[place : place + HEADER]
+        for at, octet in enumerate(header):
+            if at < 4 and octet != b"GIOP"[at]:
+                return "magic", place + at + 1
+            if at == 4 and octet != 1 or at == 5 and octet > 2:
+                return "version", place + at + 1
+            if at == 6 and header[5] == 0 and octet > 1:
+                return "byte-order", place + at + 1
+        return None if len(header) == HEADER else ("truncated", len(self._stream))
+
+    def _message(self, place: int) -> Optional[Tuple[str, int]]:
+        """One message, whose header begins behind so many octets; whether the stream ends in it."""
+        minor, flags, kind = self._stream[place + 5 : place + 8]
+        self._messages += 1
+        header = Header(
+            self._messages, minor, ORDERS[flags & 1], minor > 0 and bool(flags & 2), kind, self._size(place)
+        )
+        begin = place + HEADER
+        word = KINDS[kind] if kind < len(KINDS) else kind
+        more = " more" if header.more else ""
+        self._say(begin, START, f"m{header.number} start 1.{minor} {header.order} {word} size {header.size}{more}")
+        end = begin + header.size
+        payload = self._stream[begin:end]
+        closed = end if end <= len(self._stream) else None
+        if kind >= len(KINDS) or kind == FRAGMENT and minor == 0:
+            self._fault(header.number, "message-type", begin)
+        elif minor == 1 and (kind == FRAGMENT or header.more and kind in MAY_HAVE_FRAGMENTS):
+            self._fault(header.number, "fragment-1.1", begin)
+        elif kind == FRAGMENT:
+            self._fragment(header, payload, begin, closed)
+        else:
+            self._first(header, payload, begin, closed)
+        return None if closed is not None else ("truncated", len(self._stream))
+
+    def _first(self, header: Header, payload: bytes, begin: int, closed: Optional[int]) -> None:
+        """A message that is no Fragment."""
+        message = Message(header, begin)
+        message.add(payload, begin)
+        has_id = len(payload) >= 4
+        request_id = int.from_bytes(payload[:4], header.order)
+        if header.minor < 2 or not header.more or header.kind not in MAY_HAVE_FRAGMENTS:
+            if header.kind == CANCEL_REQUEST and has_id:
+                self._cancel(header, request_id, begin + 4)
+            self._read(message, closed)
+        elif not has_id:
+            self._read(message, closed)
+        elif request_id in self._open or len(self._open) >= self._known.most:
+            word = "id-open" if request_id in self._open else "too-many-open"
+            self._say(begin + 4, VALUE, f"m{header.number} header.request_id ulong {request_id}")
+            self._fault(header.number, word, begin + 4)
+        else:
+            self._open[request_id] = message
+
+    def _cancel(self, header: Header, request_id: int, place: int) -> None:
+        """Takes an open message that is cancelled from those that are open."""
+        message = self._open.get(request_id)
+        if message is None or message.header.kind not in (REQUEST, LOCATE_REQUEST):
+            return
+        del self._open[request_id]
+        if self._goes_on(message):
+            self._say(place, CANCELLED, f"m{message.header.number} cancelled by m{header.number}")
+
+    def _fragment(self, header: Header, payload: bytes, begin: int, closed: Optional[int]) -> None:
+        """A Fragment of 1.2."""
+        if len(payload) < 4:
+            if closed is not None:
+                self._fault(header.number, "short", closed)
+            return
+        request_id = int.from_bytes(payload[:4], header.order)
+        self._say(begin + 4, VALUE, f"m{header.number} header.request_id ulong {request_id}")
+        message = self._open.get(request_id)
+        if message is None:
+            self._fault(header.number, "no-open", begin + 4)
+            return
+        self._say(begin + 4, CONTINUES, f"m{header.number} continues m{message.header.number}")
+        if message.header.order != header.order:
+            if self._goes_on(message):
+                self._fault(message.header.number, "fragment-order", begin + 4)
+        else:
+            message.add(payload[4:], begin + 4)
+        if closed is not None and not header.more:
+            del self._open[request_id]
+            self._read(message, closed)
+
+    def _goes_on(self, message: Message) -> bool:
+        """Whether a message that has no further lines had no fault."""
+        if message.is_over:
+            return False
+        faults = self._faults
+        self._read(message, None)
+        if self._faults > faults:
+            return False
+        self._unfinished.remove(message.header.number)
+        return True
+
+    def _read(self, message: Message, closed: Optional[int]) -> None:
+        """The lines of all octets of a message; where it is closed, that is at this place."""
+        if message.is_over:
+            return
+        message.is_over = True
+        number = message.header.number
+        reading = Reading(message, self._known, closed)
+        try:
+            ended = reading.read()
+        except Fault as fault:
+            ended = True
+            self._fault(number, fault.word, message.place(fault.at))
+        except Over:
+            ended = closed is not None
+            if closed is not None:
+                self._fault(number, "short", closed)
+        self._lines += reading.lines
+        if not ended:
+            self._unfinished.append(number)
+
+
+class Reading:
+    """The reading of one joined message: its header, its body and its rest."""
+
+    def __init__(self, message: Message, known: Known, closed: Optional[int]) -> None:
+        self._message = message
+        self._known = known
+        self._closed = closed
+        self._reader = Reader(bytes(message.octets), message.header.order, self._tell)
+        self.lines: List[Tuple[int, int, str]] = []
+
+    def _tell(self, at: int, line: str) -> None:
+        self.lines.append((self._message.place(at), VALUE, f"m{self._message.header.number} {line}"))
+
+    def read(self) -> bool:
+        """Whether the message has ended."""
+        heard: Dict[str, Read] = {}
+        header, reader = self._message.header, self._reader
+        for name, member in HEADERS[header.minor, header.kind]:
+            heard[name] = member.read(reader, f"header.{name}")
+            if name == "operation":
+                self._call(heard)
+        if header.kind in (REQUEST, REPLY):
+            self._body(*self._body_of(heard))
+        return self._rest()
+
+    def _call(self, heard: Dict[str, Read]) -> None:
+        request_id, name = heard["request_id"], heard["operation"]
+        assert isinstance(request_id, int) and isinstance(name, bytes)
+        if 1 <= len(name) <= MOST_NAME and all(0x21 <= octet <= 0x7E for octet in name):
+            call = f"m{self._message.header.number} call {request_id} {name.decode()}"
+            self.lines.append((self._message.place(self._reader.at), CALL, call))
+
+    def _body_of(self, heard: Dict[str, Read]) -> Tuple[str, Optional[Type]]:
+        """The path and the type of a body, where one is known; of a user exception those of its repository id."""
+        table = self._known.table
+        if self._message.header.kind == REQUEST:
+            operation = heard["operation"]
+            return "body", table.requests.get(operation) if isinstance(operation, bytes) else None
+        status, request_id = heard["reply_status"], heard["request_id"]
+        assert isinstance(status, int) and isinstance(request_id, int)
+        if status == NO_EXCEPTION:
+            return "body", table.replies.get(self._known.requests.get(request_id, b""))
+        return ("exception", String()) if status == USER_EXCEPTION else ("body", BODY_OF_STATUS[status])
+
+    def _body(self, path: str, body: Optional[Type]) -> None:
+        """A body, behind the padding that it has in 1.2."""
+        reader = self._reader
+        if self._message.header.minor == 2:
+            begin = reader.at + -reader.at % 8
+            is_empty = body is None or isinstance(body, Struct) and not body.members
+            if len(reader.octets) <= begin:
+                if not is_empty:
+                    raise Over
+                begin = len(reader.octets)
+            reader.at = begin
+        value = body.read(reader, path) if body else None
+        if path == "exception" and isinstance(value, bytes):
+            exception = self._known.table.exceptions.get(value)
+            if exception:
+                exception.read(reader, "body")
+
+    def _rest(self) -> bool:
+        """What is left, and the end."""
+        number, begin = self._message.header.number, self._reader.at
+        octets = self._reader.octets[begin:]
+        for offset in range(0, len(octets), 32):
+            piece = octets[offset : offset + 32]
+            if len(piece) == 32 or self._closed is not None:
+                place = self._message.place(begin + offset + 32) if len(piece) == 32 else self._closed
+                assert place is not None
+                self.lines.append((place, REST, f"m{number} rest @{offset} {piece.hex()}"))
+        if self._closed is None:
+            return False
+        self.lines.append((self._closed, END, f"m{number} end"))
+        return True
+
+
+def dump(stream: bytes, known: Known) -> List[str]:
+    """The lines of a stream."""
+    return Dump(stream, known).lines()

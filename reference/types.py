@@ -1,0 +1,356 @@
+"""Types of values, and how a value of each is read from octets (docs/FORMATS.md, Values, Encapsulations, Built-in types)."""
+
+from __future__ import annotations
+
+from dataclasses import dataclass
+from typing import Callable, Dict, List, Optional, Sequence, Tuple, Union as Either
+
+from .encoding import HEADER, ORDERS, Order
+
+PIECE = 32
+Read = Either[int, bytes, None]  # what a reading gives: a number, the octets of a string, or nothing
+
+
+class Fault(Exception):
+    """A fault of a message at the octet behind which so many of its octets stand."""
+
+    def __init__(self, word: str, at: int) -> None:
+        super().__init__(word)
+        self.word = word
+        self.at = at
+
+
+class Over(Exception):
+    """The octets of a message are over, and a value isn't complete."""
+
+
+def escaped(octets: bytes) -> str:
+    """Octets as text: those outside 20 to 7e, the quote and the backslash are written as `\\xHH`."""
+    return "".join(chr(each) if 0x20 <= each <= 0x7E and each not in b'"\\' else f"\\x{each:02x}" for each in octets)
+
+
+def behind(text: str) -> str:
+    """A text with a space before it, where there is one."""
+    return f" {text}" if text else ""
+
+
+class Reader:
+    """Reads the octets of one joined message, its header included; `at` is how many were read. What is complete goes to
+    `tell`, with the number of the octets up to its last."""
+
+    def __init__(self, octets: bytes, order: Order, tell: Callable[[int, str], None]) -> None:
+        self.octets = octets
+        self.order = order
+        self.tell = tell
+        self.at = HEADER
+        self._aligned_from = 0
+        self._end: Optional[int] = None  # of the encapsulations that it stands in, the one that ends first
+
+    def reaches(self, end: int) -> bool:
+        """Whether there are octets up to there; a fault where an encapsulation ends before."""
+        if self._end is not None and end > self._end:
+            if self._end <= len(self.octets):
+                raise Fault("encap-short", self._end)
+            raise Over
+        return end <= len(self.octets)
+
+    def take(self, count: int, size: int = 1) -> bytes:
+        """So many octets, the first at a multiple of size."""
+        begin = self.at + -(self.at - self._aligned_from) % size
+        if not self.reaches(begin + count):
+            raise Over
+        self.at = begin + count
+        return self.octets[begin : self.at]
+
+    def number(self, size: int, signed: bool = False) -> int:
+        """A number of so many octets."""
+        return int.from_bytes(self.take(size, size), self.order, signed=signed)
+
+    def pieces(self, head: str, count: int, show: Callable[[bytes], str], last_with: int = 0) -> bytes:
+        """A content of so many octets in pieces; behind the last one stand so many octets more, which complete it."""
+        begin = self.at
+        for offset in range(0, count - PIECE, PIECE):
+            self.tell(begin + offset + PIECE, f"{head} @{offset}{show(self.take(PIECE))} more")
+        offset = self.at - begin
+        last = self.take(count - offset + last_with)
+        if last_with and last[-1]:
+            raise Fault("string-end", self.at)
+        self.tell(self.at, f"{head} @{offset}{show(last[: count - offset])}")
+        return self.octets[begin : begin + count]
+
+    def rest(self, path: str, end: int) -> None:
+        """What stands up to there, a line for each 32 octets and one for those that are left."""
+        begin = self.at
+        while self.at < end:
+            offset = self.at - begin
+            octets = self.take(min(PIECE, end - self.at))
+            self.tell(self.at, f"{path} rest @{offset} {octets.hex()}")
+
+    def encapsulation(self, path: str, value: Type) -> None:
+        """An encapsulation: its length, its byte order, a value, and what is left."""
+        length = self.number(4)
+        outside = (self.order, self._aligned_from, self._end)
+        end = self.at + length
+        self.tell(self.at, f"{path} encapsulation {length}")
+        self._aligned_from = self.at
+        self._end = end if self._end is None else min(end, self._end)
+        flag = self.take(1)[0]
+        if flag > 1:
+            raise Fault("encap-order", self.at)
+        self.order = ORDERS[flag]
+        self.tell(self.at, f"{path} order {self.order}")
+        value.read(self, path)
+        self.rest(path, end)
+        self.order, self._aligned_from, self._end = outside
+
+
+class Type:
+    """A type. `read` reads a value, whose lines have this path."""
+
+    def read(self, reader: Reader, path: str) -> Read:
+        raise NotImplementedError
+
+
+@dataclass(frozen=True)
+class Integer(Type):
+    """An integer by its word."""
+
+    word: str
+    size: int
+    signed: bool
+
+    def read(self, reader: Reader, path: str) -> int:
+        value = reader.number(self.size, self.signed)
+        reader.tell(reader.at, f"{path} {self.word} {value}")
+        return value
+
+
+class Boolean(Type):
+    """A boolean."""
+
+    def read(self, reader: Reader, path: str) -> int:
+        value = reader.number(1)
+        if value > 1:
+            raise Fault("boolean", reader.at)
+        reader.tell(reader.at, f"{path} boolean {('false', 'true')[value]}")
+        return value
+
+
+class Char(Type):
+    """A char."""
+
+    def read(self, reader: Reader, path: str) -> int:
+        octet = reader.take(1)
+        reader.tell(reader.at, f'{path} char "{escaped(octet)}"')
+        return octet[0]
+
+
+@dataclass(frozen=True)
+class Real(Type):
+    """A floating-point number, which is shown as its bits."""
+
+    word: str
+    size: int
+
+    def read(self, reader: Reader, path: str) -> None:
+        reader.tell(reader.at, f"{path} {self.word} {reader.number(self.size):0{2 * self.size}x}")
+
+
+@dataclass(frozen=True)
+class Enum(Type):
+    """An enum by its names."""
+
+    names: Tuple[str, ...]
+
+    def read(self, reader: Reader, path: str) -> int:
+        value = reader.number(4)
+        if value >= len(self.names):
+            raise Fault("enum", reader.at)
+        reader.tell(reader.at, f"{path} enum {self.names[value]}")
+        return value
+
+
+@dataclass(frozen=True)
+class String(Type):
+    """A string; where it is bounded, with so many octets of content at most."""
+
+    bound: Optional[int] = None
+
+    def read(self, reader: Reader, path: str) -> bytes:
+        length = reader.number(4)
+        if self.bound is not None and length > self.bound + 1:
+            raise Fault("bound", reader.at)
+        if length == 0:
+            reader.tell(reader.at, f'{path} string @0 ""')
+            return b""
+        return reader.pieces(f"{path} string", length - 1, lambda octets: f' "{escaped(octets)}"', last_with=1)
+
+
+@dataclass(frozen=True)
+class Octets(Type):
+    """A sequence of octets, with a bound or without."""
+
+    bound: Optional[int] = None
+
+    def read(self, reader: Reader, path: str) -> None:
+        reader.pieces(f"{path} octets", counted(reader, self.bound), lambda octets: behind(octets.hex()))
+
+
+@dataclass(frozen=True)
+class Series(Type):
+    """A sequence of anything else."""
+
+    element: Type
+    bound: Optional[int] = None
+
+    def read(self, reader: Reader, path: str) -> None:
+        count = counted(reader, self.bound)
+        reader.tell(reader.at, f"{path} count {count}")
+        for place in range(count):
+            self.element.read(reader, f"{path}[{place}]")
+
+
+def counted(reader: Reader, bound: Optional[int]) -> int:
+    """The count of a sequence."""
+    count = reader.number(4)
+    if bound is not None and count > bound:
+        raise Fault("bound", reader.at)
+    return count
+
+
+@dataclass(frozen=True)
+class Array(Type):
+    """An array."""
+
+    element: Type
+    count: int
+
+    def read(self, reader: Reader, path: str) -> None:
+        for place in range(self.count):
+            self.element.read(reader, f"{path}[{place}]")
+
+
+Members = Sequence[Tuple[str, Type]]
+
+
+@dataclass(frozen=True)
+class Struct(Type):
+    """A struct; a request, a reply and an exception are such."""
+
+    members: Members
+
+    def read(self, reader: Reader, path: str) -> None:
+        for name, member in self.members:
+            member.read(reader, f"{path}.{name}")
+
+
+@dataclass(frozen=True)
+class Disposition(Type):
+    """The discriminator of a target, which selects one of so many cases."""
+
+    cases: int
+
+    def read(self, reader: Reader, path: str) -> int:
+        value = reader.number(2, signed=True)
+        if not 0 <= value < self.cases:
+            raise Fault("disposition", reader.at)
+        reader.tell(reader.at, f"{path} short {value}")
+        return value
+
+
+@dataclass(frozen=True)
+class Union(Type):
+    """A union: the case of a discriminator's value, or else the default, where there is one."""
+
+    switch: Type
+    cases: Dict[int, Tuple[str, Type]]
+    default: Optional[Tuple[str, Type]] = None
+
+    def read(self, reader: Reader, path: str) -> None:
+        value = self.switch.read(reader, f"{path}.switch")
+        assert isinstance(value, int)
+        case = self.cases.get(value, self.default)
+        if case is not None:
+            case[1].read(reader, f"{path}.{case[0]}")
+
+
+@dataclass(frozen=True)
+class Encapsulation(Type):
+    """An encapsulation of a value."""
+
+    value: Type
+
+    def read(self, reader: Reader, path: str) -> None:
+        reader.encapsulation(path, self.value)
+
+
+@dataclass(frozen=True)
+class Tagged(Type):
+    """Octets behind a number, which are an encapsulation where that is one known number."""
+
+    number: str
+    known: int
+    data: str
+    value: Type
+
+    def read(self, reader: Reader, path: str) -> None:
+        number = ULONG.read(reader, f"{path}.{self.number}")
+        data = Encapsulation(self.value) if number == self.known else Octets()
+        data.read(reader, f"{path}.{self.data}")
+
+
+OCTET, SHORT = Integer("octet", 1, False), Integer("short", 2, True)
+USHORT, ULONG = Integer("ushort", 2, False), Integer("ulong", 4, False)
+BASE: Dict[str, Type] = {
+    "octet": OCTET, "short": SHORT, "ushort": USHORT, "ulong": ULONG, "long": Integer("long", 4, True),
+    "longlong": Integer("longlong", 8, True), "ulonglong": Integer("ulonglong", 8, False),
+    "boolean": Boolean(), "char": Char(), "float": Real("float", 4), "double": Real("double", 8),
+}  # fmt: skip
+
+CODE_SETS = Struct([("char_data", ULONG), ("wchar_data", ULONG)])
+SERVICE_CONTEXTS = Series(Tagged("context_id", 1, "context_data", CODE_SETS))
+IIOP = Struct([("major", OCTET), ("minor", OCTET), ("host", String()), ("port", USHORT), ("object_key", Octets())])
+TAGGED_PROFILE = Tagged("tag", 0, "profile_data", IIOP)
+IOR = Struct([("type_id", String()), ("profiles", Series(TAGGED_PROFILE))])
+IOR_ADDRESS = Struct([("selected_profile_index", ULONG), ("ior", IOR)])
+TARGET = Union(Disposition(3), {0: ("object_key", Octets()), 1: ("profile", TAGGED_PROFILE), 2: ("ior", IOR_ADDRESS)})
+COMPLETED = Enum(("COMPLETED_YES", "COMPLETED_NO", "COMPLETED_MAYBE"))
+SYSTEM_EXCEPTION = Struct([("exception_id", String()), ("minor", ULONG), ("completed", COMPLETED)])
+
+# The names of a status in 1.0 and 1.1, and those that 1.2 has more.
+REPLY_STATUS = ("NO_EXCEPTION", "USER_EXCEPTION", "SYSTEM_EXCEPTION", "LOCATION_FORWARD")
+REPLY_STATUS_MORE = ("LOCATION_FORWARD_PERM", "NEEDS_ADDRESSING_MODE")
+LOCATE_STATUS = ("UNKNOWN_OBJECT", "OBJECT_HERE", "OBJECT_FORWARD")
+LOCATE_STATUS_MORE = ("OBJECT_FORWARD_PERM", "LOC_SYSTEM_EXCEPTION", "LOC_NEEDS_ADDRESSING_MODE")
+NO_EXCEPTION, USER_EXCEPTION = range(2)
+BODY_OF_STATUS: Dict[int, Type] = {2: SYSTEM_EXCEPTION, 3: IOR, 4: IOR, 5: SHORT}
+
+_ID, _KEY, _OPERATION = ("request_id", ULONG), ("object_key", Octets()), ("operation", String())
+_CONTEXTS, _RESERVED = ("service_contexts", SERVICE_CONTEXTS), ("reserved", Array(OCTET, 3))
+_EXPECTED, _PRINCIPAL = ("response_expected", Boolean()), ("requesting_principal", Octets())
+_FLAGS, _TARGET = ("response_flags", OCTET), ("target", TARGET)
+
+
+def header_members(minor: int, kind: int) -> Members:
+    """The members of a header by the minor version and the message type."""
+    reply = ("reply_status", Enum(REPLY_STATUS + (REPLY_STATUS_MORE if minor == 2 else ())))
+    locate = ("locate_status", Enum(LOCATE_STATUS + (LOCATE_STATUS_MORE if minor == 2 else ())))
+    requests: List[Members] = [
+        [_CONTEXTS, _ID, _EXPECTED, _KEY, _OPERATION, _PRINCIPAL],
+        [_CONTEXTS, _ID, _EXPECTED, _RESERVED, _KEY, _OPERATION, _PRINCIPAL],
+        [_ID, _FLAGS, _RESERVED, _TARGET, _OPERATION, _CONTEXTS],
+    ]
+    by_kind: List[Members] = [
+        requests[minor],
+        [_ID, reply, _CONTEXTS] if minor == 2 else [_CONTEXTS, _ID, reply],
+        [_ID],
+        [_ID, _TARGET] if minor == 2 else [_ID, _KEY],
+        [_ID, locate],
+        [],
+        [],
+        [_ID],
+    ]
+    return by_kind[kind]
+
+
+HEADERS = {(minor, kind): header_members(minor, kind) for minor in range(3) for kind in range(8)}
