@@ -35,7 +35,7 @@ CONNECTIONS = [
 TOUR = b"".join(octets for _, _, octets in CONNECTIONS)
 FOLDER = tempfile.TemporaryDirectory()
 FILES = [Path(FOLDER.name, name) for name in ("tour.sig", "tour.requests")]
-for file, text in zip(FILES, CONNECTIONS[0]):
+for file, text in zip(FILES, CONNECTIONS[0][:2]):
     file.write_text(text)
 TOUR_TYPES = ("--signatures", str(FILES[0]))
 TOUR_WORDS = (*TOUR_TYPES, "--requests", str(FILES[1]))

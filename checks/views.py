@@ -1,7 +1,7 @@
 """Dumps of streams that are made by seeds, as the program writes them and with what a capture adds to them: the JSON
 has every value of their lines and no other, the counts of the table are those of `grep -c`, and the chart has an arrow
 for each message. Cut behind any line, a dump gives what is there. A line that was changed is refused or read, and
-nothing else happens. The picture of README.md is that of its command."""
+nothing else happens. The picture of docs/USE.md is that of its command."""
 
 from __future__ import annotations
 
@@ -175,9 +175,15 @@ class Left:
         path, kind, octets, more = self.pieces
         self.pieces = None
         if kind == "rest":
-            places = [(self.made, "rest")] if path == "rest" else [
-                (where[key], "rest") for where, key in place_of(self.made, path)[::-1]
-                if isinstance(where[key], dict) and where[key].get("rest", TAKEN) is not TAKEN]
+            places = (
+                [(self.made, "rest")]
+                if path == "rest"
+                else [
+                    (where[key], "rest")
+                    for where, key in place_of(self.made, path)[::-1]
+                    if isinstance(where[key], dict) and where[key].get("rest", TAKEN) is not TAKEN
+                ]
+            )
             return self.has(places[0], octets.hex())
         value = shown(octets)
         if more:
@@ -193,12 +199,16 @@ def leaves(made: Any) -> List[Any]:
 
 
 EVENTS: Dict[str, Callable[[List[str]], Dict[str, Any]]] = {
-    "start": lambda words: dict(zip(("version", "order", "type", "size", "more"),
-                                    (*words[:3], int(words[4]), *([True] if words[5:] else [])))),
+    "start": lambda words: dict(
+        zip(("version", "order", "type", "size", "more"), (*words[:3], int(words[4]), *([True] if words[5:] else [])))
+    ),
     "call": lambda words: {"call": int(words[0]), "operation": words[1]},
     "time": lambda words: {"time": None if words[0] == "-" else words[0]},
-    "answers": lambda words: {"answers": {"stream": int(words[0][1:]), "message": int(words[1][1:])},
-                              "operation": words[2], "seconds": None if words[4] == "-" else float(words[4])},
+    "answers": lambda words: {
+        "answers": {"stream": int(words[0][1:]), "message": int(words[1][1:])},
+        "operation": words[2],
+        "seconds": None if words[4] == "-" else float(words[4]),
+    },
     "continues": lambda words: {"continues": int(words[0][1:])},
     "cancelled": lambda words: {"cancelled_by": int(words[1][1:])},
     "raises": lambda words: {"raises": words[0]},
@@ -214,8 +224,10 @@ def check_json(lines: Sequence[str]) -> int:
     left = {(made.get("stream", 0), made["message"]): Left(made) for made in found if "message" in made}
     assert len(left) == sum("message" in made for made in found) == sum(" start " in line for line in lines)
     told: Dict[Tuple[int, int], Dict[str, Any]] = {key: {} for key in left}
-    ends = {int(match[1]): (match[2], match[3])
-            for match in re.finditer(r"(?m)^s(\d+) stream (\S+) > (\S+) at", text_of(lines))}
+    ends = {
+        int(match[1]): (match[2], match[3])
+        for match in re.finditer(r"(?m)^s(\d+) stream (\S+) > (\S+) at", text_of(lines))
+    }
     over, values = set(), 0
     for line in lines:
         match = MESSAGE.fullmatch(line)
@@ -271,8 +283,10 @@ def check_counts(lines: Sequence[str]) -> int:
     """The counts of giop-stat are those of grep -c; gives how many messages there are."""
     text = text_of(lines)
     told = json.loads(printed("giop-stat", text, "--json"))
-    sums = {name: sum(row[name] for row in told["operations"])
-            for name in ("calls", "replies", "user", "system", "faults", "gaps", "octets")}
+    sums = {
+        name: sum(row[name] for row in told["operations"])
+        for name in ("calls", "replies", "user", "system", "faults", "gaps", "octets")
+    }
     for table in told.values():
         assert sums == {name: sum(row[name] for row in table) for name in sums}, (sums, table)
     assert sums == {
@@ -345,8 +359,8 @@ def check_changed(draw: random.Random, lines: List[str]) -> bool:
 
 
 def check_picture() -> None:
-    """The picture of README.md is that of the command in front of it."""
-    command = re.search(r"(?m)^    (.* -o) resolve\.svg$", (TOP / "README.md").read_text())
+    """The picture of docs/USE.md is that of the command in front of it."""
+    command = re.search(r"(?m)^    (.* -o) resolve\.svg$", (TOP / "docs/USE.md").read_text())
     assert command
     path = os.pathsep.join([str(PROGRAM.parent), str(SCRIPTS), os.environ["PATH"]])
     words = ["bash", "-o", "pipefail", "-c", f"{command[1]} -"]
@@ -373,8 +387,10 @@ def main() -> int:
     values += check_json(session)
     cuts = check_cuts(session)
     read = sum(check_changed(random.Random(seed), session) for seed in range(CHANGED))
-    print(f"views: {lines} lines of {2 * SEEDS} dumps: {values} values in JSON, {messages} messages counted, "
-          f"{arrows} arrows; {cuts} cuts; {CHANGED} changed dumps, {CHANGED - read} refused")
+    print(
+        f"views: {lines} lines of {2 * SEEDS} dumps: {values} values in JSON, {messages} messages counted, "
+        f"{arrows} arrows; {cuts} cuts; {CHANGED} changed dumps, {CHANGED - read} refused"
+    )
     return 0
 
 

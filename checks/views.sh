@@ -1,6 +1,6 @@
 #!/usr/bin/env bash
 # giop-json, giop-stat and giop-chart: what they print of lines that were written by hand, of the dumps of generated streams,
-# and of these when they are cut or changed; and the picture of README.md. Installs mscgen and tshark where they are missing.
+# and of these when they are cut or changed; and the picture of docs/USE.md. Installs mscgen and tshark where they are missing.
 set -euo pipefail
 cd "$(dirname "$0")/.."
 . checks/packages.sh

@@ -53,10 +53,21 @@ END = r"(?:\d{1,3}(?:\.\d{1,3}){3}|\[[0-9a-f:.]{2,45}\]):\d{1,5}"
 
 # The values of each kind; the pieces of strings and octets have forms of their own.
 KINDS = {
-    "octet": up_to(255), "ulong": ULONG, "long": signed(32), "boolean": "(?:true|false)", "enum": r"[A-Za-z_]\w{0,63}",
-    "count": ULONG, "short": signed(16), "ushort": up_to(2**16 - 1), "longlong": signed(64),
-    "ulonglong": up_to(2**64 - 1), "float": "[0-9a-f]{8}", "double": "[0-9a-f]{16}",
-    "char": f'"(?:{PLAIN}|{ESCAPE})"', "encapsulation": ULONG, "order": "(?:big|little)",
+    "octet": up_to(255),
+    "ulong": ULONG,
+    "long": signed(32),
+    "boolean": "(?:true|false)",
+    "enum": r"[A-Za-z_]\w{0,63}",
+    "count": ULONG,
+    "short": signed(16),
+    "ushort": up_to(2**16 - 1),
+    "longlong": signed(64),
+    "ulonglong": up_to(2**64 - 1),
+    "float": "[0-9a-f]{8}",
+    "double": "[0-9a-f]{16}",
+    "char": f'"(?:{PLAIN}|{ESCAPE})"',
+    "encapsulation": ULONG,
+    "order": "(?:big|little)",
 }
 VALUE = "|".join(f"{kind} {value}" for kind, value in KINDS.items())
 
@@ -102,11 +113,33 @@ FRONT = re.compile(rf"(?:s({NUMBER}) )?m({NUMBER}) ", re.ASCII)
 STREAM = re.compile(rf"s({NUMBER}) ", re.ASCII)
 OF_MESSAGE = re.compile(alternatives(OF_MESSAGES), re.ASCII)
 OF_OTHERS = re.compile(alternatives({**OF_STREAMS, **OF_CAPTURES}), re.ASCII)
-FIELDS = {form: tuple(range(place + 1, place + 1 + re.compile(forms[form]).groups))
-          for forms, pattern in ((OF_MESSAGES, OF_MESSAGE), ({**OF_STREAMS, **OF_CAPTURES}, OF_OTHERS))
-          for form, place in pattern.groupindex.items()}
-KNOWN = "|".join(("end", "start", "call", "time", "answers", "rest", "continues", "cancelled", "raises", "fault",
-                  "unfinished", "header", "exception", "body", "stream", "closed", "total", "capture"))
+FIELDS = {
+    form: tuple(range(place + 1, place + 1 + re.compile(forms[form]).groups))
+    for forms, pattern in ((OF_MESSAGES, OF_MESSAGE), ({**OF_STREAMS, **OF_CAPTURES}, OF_OTHERS))
+    for form, place in pattern.groupindex.items()
+}
+KNOWN = "|".join(
+    (
+        "end",
+        "start",
+        "call",
+        "time",
+        "answers",
+        "rest",
+        "continues",
+        "cancelled",
+        "raises",
+        "fault",
+        "unfinished",
+        "header",
+        "exception",
+        "body",
+        "stream",
+        "closed",
+        "total",
+        "capture",
+    )
+)
 LATER = re.compile(rf"(?!(?:{KNOWN})\b)[a-z]{{2,}}(?:-[a-z]+)*(?: [ -~]+)?", re.ASCII)
 LATER_VALUE = re.compile(rf"{PATH} (?!(?:{'|'.join(KINDS)}|string|octets|rest)\b)[a-z][a-z-]* [ -~]+", re.ASCII)
 

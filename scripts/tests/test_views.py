@@ -69,33 +69,128 @@ m1 body.a.b.c.d.e.f.g.h.i.j.k.l.m.n.o.p.q.r.s.t.u.v.w.x octet 1
 
 # Lines that no dump has.
 REFUSED = [
-    "", " ", "m1", "m1 ", "m0 end", "m01 end", "M1 end", "m1  end", "m1 end ", " m1 end", "m1 END", "s0 m1 end", "s1 m1",
-    "s1", "s1 ", "end", "x", "total", "total messages 1", "total messages 01 faults 0 octets 0", "zap 3", "stream",
-    "m1 start 2.0 little Request size 0", "m1 start 1.2 middle Request size 0", "m1 start 1.2 little Request size -1",
-    "m1 start 1.2 little Request size 4294967296", "m1 start 1.2 little 256 size 0", "m1 start",
-    "m1 header.a octet 256", "m1 header.a octet -1", "m1 header.a octet 007", "m1 header.a ushort 65536",
-    "m1 header.a short 32768", "m1 header.a short -32769", "m1 header.a short -0", "m1 header.a ulong 4294967296",
-    "m1 header.a longlong 9223372036854775808", "m1 header.a ulonglong 18446744073709551616", "m1 header.a count -1",
-    "m1 header.a boolean True", "m1 header.a boolean 1", "m1 header.a float 7FC00000", "m1 header.a float 7fc000",
-    "m1 header.a double 7fc00000", "m1 header.a enum 7", "m1 header.a enum a b", "m1 header.a char a",
-    "m1 header.a char \"ab\"", "m1 header.a char \"\"\"", "m1 header.a char \"\\xE9\"", "m1 header.a char \"\\\"",
-    "m1 header.a string @0 a", "m1 header.a string @0 \"a", "m1 header.a string @0 \"a\"b\"", "m1 header.a string \"a\"",
-    "m1 header.a string @0 \"\\n\"", "m1 header.a string @0 \"a\" less", "m1 header.a string @0 \"" + 33 * "a" + "\"",
-    "m1 header.a string @0 \"" + 33 * "\\x00" + "\"", "m1 header.a octets @0 ", "m1 header.a octets @0 0",
-    "m1 header.a octets @0 FF", "m1 header.a octets @0 " + 33 * "00", "m1 header.a rest @0", "m1 rest @0",
-    "m1 rest 00", "m1 header.a order middle", "m1 header. octet 1", "m1 header.1 octet 1", "m1 header[a] octet 1",
-    "m1 header[1 octet 1", "m1 footer.a octet 1", "m1 header.a", "m1 header.a octet", "m1 call 1 a b", "m1 call 1 ",
-    "m1 call x a", "m1 call 1 " + 129 * "a", "m1 continues 2", "m1 continues s1 m2", "m1 cancelled by 2",
-    "m1 fault short", "m1 fault short at", "m1 fault Short at 7", "m1 unfinished 7", "m1 time -", "m1 raises a",
-    "m1 answers s1 m1 a after 0.000000000", "s1 m1 time 2026", "s1 m1 time 2026-11-23T08:13:25Z",
-    "s1 m1 answers s1 m1 a after 1", "s1 m1 answers m1 a after -", "s1 m1 raises a b", "stream fault magic",
-    "stream 1.2.3.4:1 > 1.2.3.5:1 at -", "s1 stream 1.2.3.4 > 1.2.3.5:1 at -", "s1 stream a:1 > b:1 at -",
-    "closed fin", "s1 closed", "s1 closed FIN", "s1 capture fault magic at 4", "capture fault magic", "capture",
-    "s1 total streams 1 messages 1 faults 0 packets 1 octets 1", "== a", "== a > b at 2026-11-23 08:13:25.580228 UTC",
-    "m1 seen\x1b[2J", "m1 call 1 caf\u00e9", "m1 header.a string @0 \"\u00e9\"", "m1 end\r", "\ufeffm1 end", "m1 end\0",
-    "m1 body" + 25 * ".a" + " octet 1", "m1 body" + 20_000 * "[0]" + " octet 1", "m1 body." + 65 * "a" + " octet 1",
-    "m1 body[4294967296] octet 1", "m1 body[00] octet 1", "m1 body.w[ wstring 7",
-    "m1 seen " + 9000 * "a", "s1 drained " + 9000 * "a", "m1 body wide", "GIOP\x01\x02",
+    "",
+    " ",
+    "m1",
+    "m1 ",
+    "m0 end",
+    "m01 end",
+    "M1 end",
+    "m1  end",
+    "m1 end ",
+    " m1 end",
+    "m1 END",
+    "s0 m1 end",
+    "s1 m1",
+    "s1",
+    "s1 ",
+    "end",
+    "x",
+    "total",
+    "total messages 1",
+    "total messages 01 faults 0 octets 0",
+    "zap 3",
+    "stream",
+    "m1 start 2.0 little Request size 0",
+    "m1 start 1.2 middle Request size 0",
+    "m1 start 1.2 little Request size -1",
+    "m1 start 1.2 little Request size 4294967296",
+    "m1 start 1.2 little 256 size 0",
+    "m1 start",
+    "m1 header.a octet 256",
+    "m1 header.a octet -1",
+    "m1 header.a octet 007",
+    "m1 header.a ushort 65536",
+    "m1 header.a short 32768",
+    "m1 header.a short -32769",
+    "m1 header.a short -0",
+    "m1 header.a ulong 4294967296",
+    "m1 header.a longlong 9223372036854775808",
+    "m1 header.a ulonglong 18446744073709551616",
+    "m1 header.a count -1",
+    "m1 header.a boolean True",
+    "m1 header.a boolean 1",
+    "m1 header.a float 7FC00000",
+    "m1 header.a float 7fc000",
+    "m1 header.a double 7fc00000",
+    "m1 header.a enum 7",
+    "m1 header.a enum a b",
+    "m1 header.a char a",
+    'm1 header.a char "ab"',
+    'm1 header.a char """',
+    'm1 header.a char "\\xE9"',
+    'm1 header.a char "\\"',
+    "m1 header.a string @0 a",
+    'm1 header.a string @0 "a',
+    'm1 header.a string @0 "a"b"',
+    'm1 header.a string "a"',
+    'm1 header.a string @0 "\\n"',
+    'm1 header.a string @0 "a" less',
+    'm1 header.a string @0 "' + 33 * "a" + '"',
+    'm1 header.a string @0 "' + 33 * "\\x00" + '"',
+    "m1 header.a octets @0 ",
+    "m1 header.a octets @0 0",
+    "m1 header.a octets @0 FF",
+    "m1 header.a octets @0 " + 33 * "00",
+    "m1 header.a rest @0",
+    "m1 rest @0",
+    "m1 rest 00",
+    "m1 header.a order middle",
+    "m1 header. octet 1",
+    "m1 header.1 octet 1",
+    "m1 header[a] octet 1",
+    "m1 header[1 octet 1",
+    "m1 footer.a octet 1",
+    "m1 header.a",
+    "m1 header.a octet",
+    "m1 call 1 a b",
+    "m1 call 1 ",
+    "m1 call x a",
+    "m1 call 1 " + 129 * "a",
+    "m1 continues 2",
+    "m1 continues s1 m2",
+    "m1 cancelled by 2",
+    "m1 fault short",
+    "m1 fault short at",
+    "m1 fault Short at 7",
+    "m1 unfinished 7",
+    "m1 time -",
+    "m1 raises a",
+    "m1 answers s1 m1 a after 0.000000000",
+    "s1 m1 time 2026",
+    "s1 m1 time 2026-11-23T08:13:25Z",
+    "s1 m1 answers s1 m1 a after 1",
+    "s1 m1 answers m1 a after -",
+    "s1 m1 raises a b",
+    "stream fault magic",
+    "stream 1.2.3.4:1 > 1.2.3.5:1 at -",
+    "s1 stream 1.2.3.4 > 1.2.3.5:1 at -",
+    "s1 stream a:1 > b:1 at -",
+    "closed fin",
+    "s1 closed",
+    "s1 closed FIN",
+    "s1 capture fault magic at 4",
+    "capture fault magic",
+    "capture",
+    "s1 total streams 1 messages 1 faults 0 packets 1 octets 1",
+    "== a",
+    "== a > b at 2026-11-23 08:13:25.580228 UTC",
+    "m1 seen\x1b[2J",
+    "m1 call 1 caf\u00e9",
+    'm1 header.a string @0 "\u00e9"',
+    "m1 end\r",
+    "\ufeffm1 end",
+    "m1 end\0",
+    "m1 body" + 25 * ".a" + " octet 1",
+    "m1 body" + 20_000 * "[0]" + " octet 1",
+    "m1 body." + 65 * "a" + " octet 1",
+    "m1 body[4294967296] octet 1",
+    "m1 body[00] octet 1",
+    "m1 body.w[ wstring 7",
+    "m1 seen " + 9000 * "a",
+    "s1 drained " + 9000 * "a",
+    "m1 body wide",
+    "GIOP\x01\x02",
 ]
 
 
@@ -113,7 +208,11 @@ def objects(lines: str) -> List[Any]:
 def only(lines: str) -> Any:
     """The object of the only message of a dump, without what its start line tells."""
     found = objects("m1 start 1.2 big Request size 9\n" + lines + "m1 end\n")
-    assert len(found) == 1 and (found[0].pop("version"), found[0].pop("order"), found[0].pop("size")) == ("1.2", "big", 9)
+    assert len(found) == 1 and (found[0].pop("version"), found[0].pop("order"), found[0].pop("size")) == (
+        "1.2",
+        "big",
+        9,
+    )
     assert (found[0].pop("message"), found[0].pop("type")) == (1, "Request")
     return found[0]
 
@@ -138,7 +237,7 @@ class Lines(unittest.TestCase):
 
     def test_a_line_that_never_ends_is_refused(self) -> None:
         with self.assertRaises(Refused) as caught:
-            printed("giop-json", "m1 end\nm2 body string @0 \"" + 200_000 * "a")
+            printed("giop-json", 'm1 end\nm2 body string @0 "' + 200_000 * "a")
         self.assertEqual(caught.exception.number, 2)
 
 
@@ -148,18 +247,27 @@ VALUES: List[Tuple[str, Dict[str, Any]]] = [
     ("body short -5", {"body": -5}),
     ("body.a.b.c ulonglong 18446744073709551615", {"body": {"a": {"b": {"c": 18446744073709551615}}}}),
     ("body.a boolean true|body.b boolean false", {"body": {"a": True, "b": False}}),
-    ('body.a char "a"|body.b char "\\x22"|body.c char "\\xe9"|body.d char "\\x0a"',
-     {"body": {"a": "a", "b": '"', "c": {"hex": "e9"}, "d": {"hex": "0a"}}}),
-    ("body.a float 40200000|body.b double c004000000000000|body.c float 80000000", {"body": {"a": 2.5, "b": -2.5, "c": -0.0}}),
-    ("body.a float 7f800000|body.b double fff0000000000000|body.c float 7fc00001",
-     {"body": {"a": "Infinity", "b": "-Infinity", "c": "NaN"}}),
+    (
+        'body.a char "a"|body.b char "\\x22"|body.c char "\\xe9"|body.d char "\\x0a"',
+        {"body": {"a": "a", "b": '"', "c": {"hex": "e9"}, "d": {"hex": "0a"}}},
+    ),
+    (
+        "body.a float 40200000|body.b double c004000000000000|body.c float 80000000",
+        {"body": {"a": 2.5, "b": -2.5, "c": -0.0}},
+    ),
+    (
+        "body.a float 7f800000|body.b double fff0000000000000|body.c float 7fc00001",
+        {"body": {"a": "Infinity", "b": "-Infinity", "c": "NaN"}},
+    ),
     ("body.a enum red", {"body": {"a": "red"}}),
     ("body.a count 0", {"body": {"a": []}}),
     ("body.a count 2|body.a[0] long 1|body.a[1] long 2", {"body": {"a": [1, 2]}}),
     ("header.a[0] octet 0|header.a[1] octet 1", {"header": {"a": [0, 1]}}),
     ("body count 2|body[0] count 1|body[0][0] long 1|body[1] count 0", {"body": [[1], []]}),
-    ('body.n count 2|body.n[0].id string @0 "a"|body.n[0].k octet 1|body.n[1].id string @0 "b"|body.n[1].k octet 2',
-     {"body": {"n": [{"id": "a", "k": 1}, {"id": "b", "k": 2}]}}),
+    (
+        'body.n count 2|body.n[0].id string @0 "a"|body.n[0].k octet 1|body.n[1].id string @0 "b"|body.n[1].k octet 2',
+        {"body": {"n": [{"id": "a", "k": 1}, {"id": "b", "k": 2}]}},
+    ),
     ("body.u.switch short 0|body.u.x octets @0 6b6579", {"body": {"u": {"switch": 0, "x": "key"}}}),
     ('body.a string @0 ""|body.b octets @0', {"body": {"a": "", "b": ""}}),
     ('body.a string @0 "\\x22\\x5cn\\x7e"', {"body": {"a": '"\\n~'}}),
@@ -167,8 +275,10 @@ VALUES: List[Tuple[str, Dict[str, Any]]] = [
     ('body.a string @0 "caf\\xe9"', {"body": {"a": {"hex": "636166e9"}}}),
     ('body.a string @0 "\\x1b[2J"', {"body": {"a": {"hex": "1b5b324a"}}}),
     ('body.a string @0 "\\xe2\\x80\\xae"', {"body": {"a": {"hex": "e280ae"}}}),
-    ('exception string @0 "IDL:omg.org/CosNaming/NamingCont" more|exception string @32 "ext/NotFound:1.0"|body.why enum x',
-     {"exception": "IDL:omg.org/CosNaming/NamingContext/NotFound:1.0", "body": {"why": "x"}}),
+    (
+        'exception string @0 "IDL:omg.org/CosNaming/NamingCont" more|exception string @32 "ext/NotFound:1.0"|body.why enum x',
+        {"exception": "IDL:omg.org/CosNaming/NamingContext/NotFound:1.0", "body": {"why": "x"}},
+    ),
     ('body.a string @0 "' + 31 * "a" + '\\xc3" more|body.a string @32 "\\xa9"', {"body": {"a": 31 * "a" + "\u00e9"}}),
     ("body.a octets @0 " + 32 * "41" + " more|body.a octets @32", {"body": {"a": 32 * "A"}}),
     ("body.a octets @0 " + 32 * "00" + " more", {"body": {"a": {"hex": 32 * "00", "more": True}}}),
@@ -176,18 +286,34 @@ VALUES: List[Tuple[str, Dict[str, Any]]] = [
     ('body.a string @32 "b"', {"body": {"a": {"text": "b", "offset": 32}}, "cut": True}),
     ("rest @0 " + 32 * "41" + "|rest @32 42", {"rest": 32 * "41" + "42"}),
     ("rest @64 42", {"rest": {"hex": "42", "offset": 64}, "cut": True}),
-    ("header.s[0].d encapsulation 12|header.s[0].d order little|header.s[0].d.c ulong 65537|header.s[0].d.w ulong 65801",
-     {"header": {"s": [{"d": {"encapsulation": 12, "order": "little", "value": {"c": 65537, "w": 65801}}}]}}),
-    ("body encapsulation 12|body order big|body.a octet 7|body rest @0 " + 32 * "00" + "|body rest @32 01",
-     {"body": {"encapsulation": 12, "order": "big", "value": {"a": 7}, "rest": 32 * "00" + "01"}}),
-    ("body encapsulation 9|body order big|body encapsulation 3|body order little|body octet 7|body rest @0 01|body rest @0 02",
-     {"body": {"encapsulation": 9, "order": "big", "rest": "02",
-               "value": {"encapsulation": 3, "order": "little", "value": 7, "rest": "01"}}}),
-    ("body.a encapsulation 9|body.a order big|body.a count 1|body.a[0] octet 5|body.b octet 6",
-     {"body": {"a": {"encapsulation": 9, "order": "big", "value": [5]}, "b": 6}}),
+    (
+        "header.s[0].d encapsulation 12|header.s[0].d order little|header.s[0].d.c ulong 65537|header.s[0].d.w ulong 65801",
+        {"header": {"s": [{"d": {"encapsulation": 12, "order": "little", "value": {"c": 65537, "w": 65801}}}]}},
+    ),
+    (
+        "body encapsulation 12|body order big|body.a octet 7|body rest @0 " + 32 * "00" + "|body rest @32 01",
+        {"body": {"encapsulation": 12, "order": "big", "value": {"a": 7}, "rest": 32 * "00" + "01"}},
+    ),
+    (
+        "body encapsulation 9|body order big|body encapsulation 3|body order little|body octet 7|body rest @0 01|body rest @0 02",
+        {
+            "body": {
+                "encapsulation": 9,
+                "order": "big",
+                "rest": "02",
+                "value": {"encapsulation": 3, "order": "little", "value": 7, "rest": "01"},
+            }
+        },
+    ),
+    (
+        "body.a encapsulation 9|body.a order big|body.a count 1|body.a[0] octet 5|body.b octet 6",
+        {"body": {"a": {"encapsulation": 9, "order": "big", "value": [5]}, "b": 6}},
+    ),
     ("body.a[3] octet 5|body.a[4] octet 6", {"body": {"a": [5, 6]}, "cut": True}),
-    ("body.a order big|body.a octet 5|body.a rest @0 00",
-     {"body": {"a": {"order": "big", "value": 5, "rest": "00"}}, "cut": True}),
+    (
+        "body.a order big|body.a octet 5|body.a rest @0 00",
+        {"body": {"a": {"order": "big", "value": 5, "rest": "00"}}, "cut": True},
+    ),
     ("body.a.b octet 5|body.a rest @0 00", {"body": {"a": {"value": {"b": 5}, "rest": "00"}}, "cut": True}),
     ("call 12 resolve", {"call": 12, "operation": "resolve"}),
     ("seen by m2", {"other": ["m1 seen by m2"]}),
@@ -251,16 +377,32 @@ class Json(unittest.TestCase):
             """
         start = {"version": "1.2", "order": "big"}
         request, fragment = {**start, "type": "Request"}, {**start, "type": "Fragment"}
-        self.assertEqual(objects(unindented(lines)), [
-            {"message": 3, **fragment, "size": 9, "more": True, "continues": 1, "header": {"request_id": 5}},
-            {"message": 4, **fragment, "size": 5, "continues": 2, "header": {"request_id": 6}},
-            {"message": 2, **request, "size": 40, "more": True, "fragments": [4], "header": {"request_id": 6}},
-            {"message": 5, **fragment, "size": 6, "continues": 1, "header": {"request_id": 5}},
-            {"message": 1, **request, "size": 40, "more": True, "fragments": [3, 5], "header": {"request_id": 5},
-             "body": {"a": 32 * "a" + "b"}},
-            {"message": 6, **fragment, "size": 4, "header": {"request_id": 5}, "fault": {"word": "no-open", "at": 200}},
-            {"messages": 6, "faults": 1, "octets": 200},
-        ])
+        self.assertEqual(
+            objects(unindented(lines)),
+            [
+                {"message": 3, **fragment, "size": 9, "more": True, "continues": 1, "header": {"request_id": 5}},
+                {"message": 4, **fragment, "size": 5, "continues": 2, "header": {"request_id": 6}},
+                {"message": 2, **request, "size": 40, "more": True, "fragments": [4], "header": {"request_id": 6}},
+                {"message": 5, **fragment, "size": 6, "continues": 1, "header": {"request_id": 5}},
+                {
+                    "message": 1,
+                    **request,
+                    "size": 40,
+                    "more": True,
+                    "fragments": [3, 5],
+                    "header": {"request_id": 5},
+                    "body": {"a": 32 * "a" + "b"},
+                },
+                {
+                    "message": 6,
+                    **fragment,
+                    "size": 4,
+                    "header": {"request_id": 5},
+                    "fault": {"word": "no-open", "at": 200},
+                },
+                {"messages": 6, "faults": 1, "octets": 200},
+            ],
+        )
 
     def test_how_messages_end(self) -> None:
         lines = """\
@@ -278,14 +420,24 @@ class Json(unittest.TestCase):
             total messages 4 faults 2 octets 110
             """
         start = {"version": "1.2", "order": "big"}
-        self.assertEqual(objects(unindented(lines)), [
-            {"message": 1, **start, "type": "Request", "size": 40, "more": True, "header": {"request_id": 5},
-             "cancelled_by": 2},
-            {"message": 2, **start, "type": "CancelRequest", "size": 4, "header": {"request_id": 5}},
-            {"message": 3, **start, "type": "9", "size": 0, "fault": {"word": "message-type", "at": 92}},
-            {"message": 4, **start, "type": "Reply", "size": 9, "unfinished": True},
-            {"fault": {"word": "truncated", "at": 110}, "messages": 4, "faults": 2, "octets": 110},
-        ])
+        self.assertEqual(
+            objects(unindented(lines)),
+            [
+                {
+                    "message": 1,
+                    **start,
+                    "type": "Request",
+                    "size": 40,
+                    "more": True,
+                    "header": {"request_id": 5},
+                    "cancelled_by": 2,
+                },
+                {"message": 2, **start, "type": "CancelRequest", "size": 4, "header": {"request_id": 5}},
+                {"message": 3, **start, "type": "9", "size": 0, "fault": {"word": "message-type", "at": 92}},
+                {"message": 4, **start, "type": "Reply", "size": 9, "unfinished": True},
+                {"fault": {"word": "truncated", "at": 110}, "messages": 4, "faults": 2, "octets": 110},
+            ],
+        )
 
     def test_what_a_capture_adds(self) -> None:
         lines = """\
@@ -317,18 +469,61 @@ class Json(unittest.TestCase):
         second = {"stream": 2, "from": "10.0.0.2:9", "to": "10.0.0.1:7"}
         start = {"version": "1.0", "order": "big"}
         now = "2026-11-23T08:13:25.000000001Z"
-        self.assertEqual(objects(unindented(lines)), [
-            {**first, "message": 1, **start, "type": "Request", "size": 9, "time": now, "call": 2, "operation": "stop"},
-            {**second, "message": 1, **start, "type": "Reply", "size": 9, "time": None, "operation": "stop",
-             "answers": {"stream": 1, "message": 1}, "seconds": 2.5e-07,
-             "header": {"reply_status": "SYSTEM_EXCEPTION"}, "body": {"minor": 1},
-             "raises": "IDL:omg.org/CORBA/INTERNAL:1.0"},
-            {**second, "message": 2, **start, "type": "CloseConnection", "size": 0, "time": "2026-11-23T08:13:26.000000001Z"},
-            {**first, "time": now, "closed": "gap", "messages": 1, "faults": 0, "octets": 21},
-            {**second, "time": None, "closed": "end", "fault": {"word": "truncated", "at": 35}, "messages": 2, "faults": 1,
-             "octets": 35},
-            {"streams": 2, "messages": 3, "faults": 2, "packets": 7, "octets": 900, "fault": {"word": "truncated", "at": 900}},
-        ])
+        self.assertEqual(
+            objects(unindented(lines)),
+            [
+                {
+                    **first,
+                    "message": 1,
+                    **start,
+                    "type": "Request",
+                    "size": 9,
+                    "time": now,
+                    "call": 2,
+                    "operation": "stop",
+                },
+                {
+                    **second,
+                    "message": 1,
+                    **start,
+                    "type": "Reply",
+                    "size": 9,
+                    "time": None,
+                    "operation": "stop",
+                    "answers": {"stream": 1, "message": 1},
+                    "seconds": 2.5e-07,
+                    "header": {"reply_status": "SYSTEM_EXCEPTION"},
+                    "body": {"minor": 1},
+                    "raises": "IDL:omg.org/CORBA/INTERNAL:1.0",
+                },
+                {
+                    **second,
+                    "message": 2,
+                    **start,
+                    "type": "CloseConnection",
+                    "size": 0,
+                    "time": "2026-11-23T08:13:26.000000001Z",
+                },
+                {**first, "time": now, "closed": "gap", "messages": 1, "faults": 0, "octets": 21},
+                {
+                    **second,
+                    "time": None,
+                    "closed": "end",
+                    "fault": {"word": "truncated", "at": 35},
+                    "messages": 2,
+                    "faults": 1,
+                    "octets": 35,
+                },
+                {
+                    "streams": 2,
+                    "messages": 3,
+                    "faults": 2,
+                    "packets": 7,
+                    "octets": 900,
+                    "fault": {"word": "truncated", "at": 900},
+                },
+            ],
+        )
 
     def test_the_connections_of_giopdump_pcap(self) -> None:
         lines = """\
@@ -344,20 +539,34 @@ class Json(unittest.TestCase):
             """
         closing = {"message": 1, "version": "1.0", "order": "big", "type": "CloseConnection", "size": 0}
         counts = {"messages": 1, "faults": 0, "octets": 12}
-        self.assertEqual(objects(unindented(lines)), [
-            {"between": ["10.0.0.1:7", "10.0.0.2:9"], **closing},
-            {"between": ["10.0.0.1:7", "10.0.0.2:9"], "time": "2026-11-23T08:13:25.580228Z", **counts},
-            {"from": "10.0.0.3:7", "to": "10.0.0.2:9", **closing},
-            {"from": "10.0.0.3:7", "to": "10.0.0.2:9", "time": "2026-11-23T08:13:26.580228Z",
-             "note": "3 octets missing before", **counts},
-            {"between": ["10.0.0.1:8", "10.0.0.2:9"], "time": "2026-11-23T08:13:27.580228Z",
-             "note": "2 packets cut short: not dumped", "cut": True},
-        ])
+        self.assertEqual(
+            objects(unindented(lines)),
+            [
+                {"between": ["10.0.0.1:7", "10.0.0.2:9"], **closing},
+                {"between": ["10.0.0.1:7", "10.0.0.2:9"], "time": "2026-11-23T08:13:25.580228Z", **counts},
+                {"from": "10.0.0.3:7", "to": "10.0.0.2:9", **closing},
+                {
+                    "from": "10.0.0.3:7",
+                    "to": "10.0.0.2:9",
+                    "time": "2026-11-23T08:13:26.580228Z",
+                    "note": "3 octets missing before",
+                    **counts,
+                },
+                {
+                    "between": ["10.0.0.1:8", "10.0.0.2:9"],
+                    "time": "2026-11-23T08:13:27.580228Z",
+                    "note": "2 packets cut short: not dumped",
+                    "cut": True,
+                },
+            ],
+        )
 
     def test_a_part_of_a_dump(self) -> None:
         self.assertEqual(objects("m7 body.a octet 1\nm7 end\n"), [{"message": 7, "body": {"a": 1}, "cut": True}])
-        self.assertEqual([each.get("cut") for each in objects("m1 start 1.0 big Reply size 9\nm2 start 1.0 big Reply size 9\n")],
-                         [True, True])
+        self.assertEqual(
+            [each.get("cut") for each in objects("m1 start 1.0 big Reply size 9\nm2 start 1.0 big Reply size 9\n")],
+            [True, True],
+        )
         self.assertEqual(objects("s3 closed fin\n"), [{"stream": 3, "closed": "fin", "cut": True}])
 
     def test_what_is_held_of_all_messages_is_limited(self) -> None:
@@ -380,8 +589,10 @@ class Json(unittest.TestCase):
             found = objects(unindented(lines))
         finally:
             module.MOST_HELD, module.PART = usual
-        self.assertEqual([(each["message"], each["body"]["a"], each["cut"]) for each in found], [
-            (2, {"text": piece, "more": True}, True), (1, {"text": piece, "more": True}, True)])
+        self.assertEqual(
+            [(each["message"], each["body"]["a"], each["cut"]) for each in found],
+            [(2, {"text": piece, "more": True}, True), (1, {"text": piece, "more": True}, True)],
+        )
         self.assertEqual([each["body"]["a"] for each in objects(unindented(lines))], [piece + "b", 2 * piece + "b"])
 
     def test_a_message_of_too_many_lines_is_cut(self) -> None:
@@ -402,7 +613,9 @@ class Stat(unittest.TestCase):
     maxDiff = None
 
     def test_the_rows_of_the_session(self) -> None:
-        self.assertEqual(printed("giop-stat", SESSION.read_text()), """\
+        self.assertEqual(
+            printed("giop-stat", SESSION.read_text()),
+            """\
 operation     calls  replies  user       min    median       p95       p99       max     total  octets
 _is_a             3        3     0  0.000095  0.000256  0.000430  0.000430  0.000430  0.000778     375
 resolve           2        2     1  0.000024  0.000024  0.000260  0.000260  0.000260  0.000284     491
@@ -421,7 +634,8 @@ client     server           calls  replies  user       min    median       p95  
 192.0.2.2  192.0.2.2:12809      4        4     0  0.000010  0.000011  0.000048  0.000048  0.000048  0.000089     716
 
 total streams 8 messages 25 faults 0 packets 57 octets 6693
-""")
+""",
+        )
 
     def test_what_is_counted(self) -> None:
         lines = """\
@@ -467,26 +681,72 @@ total streams 8 messages 25 faults 0 packets 57 octets 6693
         found = json.loads(printed("giop-stat", unindented(lines), "--json"))
         seconds = {"min": -0.5, "median": -0.5, "p95": 1.5, "p99": 1.5, "max": 1.5, "total": 1.0}
         raised = {"IDL:omg.org/CORBA/INTERNAL:1.0": 1, "IDL:A:1.0": 1}
-        nothing: Dict[str, Any] = {"calls": 0, "oneways": 0, "replies": 0, "user": 0, "system": 0, "faults": 0, "unanswered": 0, "gaps": 0,
-                   "seconds": None, "raised": {}}
-        self.assertEqual(found, {
-            "operations": [
-                {**nothing, "operation": "ask", "calls": 3, "replies": 2, "user": 1, "system": 1, "faults": 1,
-                 "unanswered": 1, "seconds": seconds, "octets": 52 + 22 + 20 + 20 + 12 + 12, "raised": raised},
-                {**nothing, "operation": "tell", "calls": 1, "oneways": 1, "octets": 20},
-                {**nothing, "operation": "no operation", "replies": 1, "faults": 1, "gaps": 1, "octets": 24},
-            ],
-            "pairs": [
-                {**nothing, "client": "10.0.0.1", "server": "[2001:db8::1]:9", "calls": 4, "oneways": 1, "replies": 3,
-                 "user": 1, "system": 1, "faults": 2, "unanswered": 1, "gaps": 1, "seconds": seconds,
-                 "octets": 52 + 22 + 20 + 20 + 20 + 4 * 12, "raised": raised},
-            ],
-        })
+        nothing: Dict[str, Any] = {
+            "calls": 0,
+            "oneways": 0,
+            "replies": 0,
+            "user": 0,
+            "system": 0,
+            "faults": 0,
+            "unanswered": 0,
+            "gaps": 0,
+            "seconds": None,
+            "raised": {},
+        }
+        self.assertEqual(
+            found,
+            {
+                "operations": [
+                    {
+                        **nothing,
+                        "operation": "ask",
+                        "calls": 3,
+                        "replies": 2,
+                        "user": 1,
+                        "system": 1,
+                        "faults": 1,
+                        "unanswered": 1,
+                        "seconds": seconds,
+                        "octets": 52 + 22 + 20 + 20 + 12 + 12,
+                        "raised": raised,
+                    },
+                    {**nothing, "operation": "tell", "calls": 1, "oneways": 1, "octets": 20},
+                    {**nothing, "operation": "no operation", "replies": 1, "faults": 1, "gaps": 1, "octets": 24},
+                ],
+                "pairs": [
+                    {
+                        **nothing,
+                        "client": "10.0.0.1",
+                        "server": "[2001:db8::1]:9",
+                        "calls": 4,
+                        "oneways": 1,
+                        "replies": 3,
+                        "user": 1,
+                        "system": 1,
+                        "faults": 2,
+                        "unanswered": 1,
+                        "gaps": 1,
+                        "seconds": seconds,
+                        "octets": 52 + 22 + 20 + 20 + 20 + 4 * 12,
+                        "raised": raised,
+                    },
+                ],
+            },
+        )
 
     def test_times_are_at_most_2_of_100_off(self) -> None:
-        for times in ([1, 2, 3, 1000], [7 * 3**power for power in range(30)], list(range(1, 1001)), [10**9, 1], [0, 0, 5]):
-            lines = "".join(f"s1 m{number} start 1.0 big Reply size 0\ns1 m{number} answers s2 m1 a after "
-                            f"{time // 10**9}.{time % 10**9:09}\ns1 m{number} end\n" for number, time in enumerate(times, 1))
+        for times in (
+            [1, 2, 3, 1000],
+            [7 * 3**power for power in range(30)],
+            list(range(1, 1001)),
+            [10**9, 1],
+            [0, 0, 5],
+        ):
+            lines = "".join(
+                f"s1 m{number} start 1.0 big Reply size 0\ns1 m{number} answers s2 m1 a after "
+                f"{time // 10**9}.{time % 10**9:09}\ns1 m{number} end\n"
+                for number, time in enumerate(times, 1)
+            )
             found = json.loads(printed("giop-stat", lines, "--json"))["operations"][0]["seconds"]
             times.sort()
             for name, percent in (("min", 0), ("median", 50), ("p95", 95), ("p99", 99), ("max", 100)):
@@ -495,8 +755,10 @@ total streams 8 messages 25 faults 0 packets 57 octets 6693
             self.assertAlmostEqual(found["total"], sum(times) / 10**9, places=9)
 
     def test_its_rows_are_limited(self) -> None:
-        lines = "".join(f"m{number} start 1.0 big Request size 0\nm{number} call 1 a{number}\nm{number} end\n"
-                        for number in range(1, 6001))
+        lines = "".join(
+            f"m{number} start 1.0 big Request size 0\nm{number} call 1 a{number}\nm{number} end\n"
+            for number in range(1, 6001)
+        )
         found = json.loads(printed("giop-stat", lines, "--json"))["operations"]
         self.assertEqual((len(found), found[0]["operation"], found[0]["calls"]), (4097, "others", 6000 - 4096))
 
@@ -509,7 +771,9 @@ class Chart(unittest.TestCase):
     def test_a_conversation(self) -> None:
         lines = "".join(line for line in SESSION.read_text().splitlines(True) if line.startswith(("s1 ", "s2 ")))
         a, b = '"127.0.0.1:33490"', '"127.0.0.1:12809"'
-        self.assertEqual(printed("giop-chart", lines), f"""\
+        self.assertEqual(
+            printed("giop-chart", lines),
+            f"""\
 msc {{
   width="600";
   {a}, {b};
@@ -518,7 +782,8 @@ msc {{
   {a} => {b} [label="bind\\n08:13:25.580401"];
   {b} >> {a} [label="bind raises AlreadyBound\\n0.000110 s"];
 }}
-""")
+""",
+        )
 
     def test_each_sort_of_message_and_what_is_red(self) -> None:
         lines = """\
@@ -569,23 +834,26 @@ msc {{
             total messages 14 faults 3 octets 300
             """
         red = ', linecolour="red", textcolour="red"'
-        self.assertEqual(drawn(lines), [
-            'client -> server [label="tell"];',
-            f'client => server [label="ask: fault short"{red}];',
-            'server >> client [label="ask LOCATION_FORWARD"];',
-            'server >> client [label="Reply raises Late"];',
-            'server >> client [label="Reply raises INTERNAL"];',
-            'client => server [label="LocateRequest"];',
-            'client -> server [label="Fragment of m6"];',
-            'server >> client [label="LocateReply OBJECT_HERE"];',
-            'client -> server [label="CancelRequest"];',
-            f'client -> server [label="type 200: fault message-type"{red}];',
-            'server -> client [label="MessageError"];',
-            'client => server [label="Request: cancelled"];',
-            'client -> server [label="CancelRequest"];',
-            f'client -x server [label="Request: unfinished"{red}];',
-            f'client box server [label="stream fault truncated"{red}];',
-        ])
+        self.assertEqual(
+            drawn(lines),
+            [
+                'client -> server [label="tell"];',
+                f'client => server [label="ask: fault short"{red}];',
+                'server >> client [label="ask LOCATION_FORWARD"];',
+                'server >> client [label="Reply raises Late"];',
+                'server >> client [label="Reply raises INTERNAL"];',
+                'client => server [label="LocateRequest"];',
+                'client -> server [label="Fragment of m6"];',
+                'server >> client [label="LocateReply OBJECT_HERE"];',
+                'client -> server [label="CancelRequest"];',
+                f'client -> server [label="type 200: fault message-type"{red}];',
+                'server -> client [label="MessageError"];',
+                'client => server [label="Request: cancelled"];',
+                'client -> server [label="CancelRequest"];',
+                f'client -x server [label="Request: unfinished"{red}];',
+                f'client box server [label="stream fault truncated"{red}];',
+            ],
+        )
 
     def test_where_octets_are_missing(self) -> None:
         lines = """\
@@ -598,31 +866,40 @@ msc {{
             s2 m1 start 1.2 big CloseConnection size 0
             s2 m1 end
             """
-        self.assertEqual(drawn(lines), [
-            '10.0.0.1:7 -> 10.0.0.2:9 [label="CloseConnection"];',
-            '10.0.0.1:7 box 10.0.0.2:9 [label="octets are missing", linecolour="red", textcolour="red"];',
-            'server of s2 -> client of s2 [label="CloseConnection"];',
-        ])
+        self.assertEqual(
+            drawn(lines),
+            [
+                '10.0.0.1:7 -> 10.0.0.2:9 [label="CloseConnection"];',
+                '10.0.0.1:7 box 10.0.0.2:9 [label="octets are missing", linecolour="red", textcolour="red"];',
+                'server of s2 -> client of s2 [label="CloseConnection"];',
+            ],
+        )
 
     def test_which_messages_are_drawn(self) -> None:
         lines = SESSION.read_text()
         self.assertEqual(len(drawn(lines)), 25)
         self.assertEqual(len(drawn(lines, "--stream", "3", "--stream", "4")), 4)
         self.assertEqual(len(drawn(lines, "--from", "08:13:25.6")), 17)
-        self.assertEqual(len(drawn(lines, "--from", "2026-11-23T08:13:25.594263Z", "--to", "2026-11-23T08:13:25.608")), 6)
+        self.assertEqual(
+            len(drawn(lines, "--from", "2026-11-23T08:13:25.594263Z", "--to", "2026-11-23T08:13:25.608")), 6
+        )
         self.assertEqual(len(drawn(lines, "--to", "08:13:25.5803")), 2)
         self.assertEqual(drawn(lines, "--to", "08:12"), ['--- [label="no message"];'])
         self.assertEqual(drawn(""), ['--- [label="no message"];'])
-        self.assertEqual(drawn(lines, "--most", "2"), [
-            '127.0.0.1:33490 => 127.0.0.1:12809 [label="_is_a\\n08:13:25.580272"];',
-            '127.0.0.1:12809 >> 127.0.0.1:33490 [label="_is_a\\n0.000095 s"];',
-            "...;", '--- [label="only 2 messages are drawn"];'])
+        self.assertEqual(
+            drawn(lines, "--most", "2"),
+            [
+                '127.0.0.1:33490 => 127.0.0.1:12809 [label="_is_a\\n08:13:25.580272"];',
+                '127.0.0.1:12809 >> 127.0.0.1:33490 [label="_is_a\\n0.000095 s"];',
+                "...;",
+                '--- [label="only 2 messages are drawn"];',
+            ],
+        )
 
     def test_names_from_a_peer_stay_text(self) -> None:
         name = '</text><script>"\\n&lt;\\'
         lines = f"m1 start 1.0 big Request size 9\nm1 call 1 {name}\nm1 end\n"
-        self.assertEqual(drawn(lines), [
-            'client => server [label="</text><script>\\x22\\x5cn\\x26lt;\\x5c"];'])
+        self.assertEqual(drawn(lines), ['client => server [label="</text><script>\\x22\\x5cn\\x26lt;\\x5c"];'])
         self.assertEqual(json.loads(printed("giop-json", lines))["operation"], name)
         self.assertIn(f"\n{name} ", printed("giop-stat", lines))
         self.assertIn("a" * 46 + '.."', drawn(lines.replace(name, 128 * "a"))[0])
@@ -656,15 +933,24 @@ class Program(unittest.TestCase):
             for path, said in (("no/such\x1bfile", "no/such?file: cannot read"), ("/", "read failed")):
                 done = run(program, "", path)
                 self.assertEqual((done.returncode, done.stderr), (4, f"{program}: {said}\n"))
-            done = subprocess.run(["bash", "-c", f"{SCRIPTS / program} <&-"], capture_output=True, text=True, timeout=60)
+            done = subprocess.run(
+                ["bash", "-c", f"{SCRIPTS / program} <&-"], capture_output=True, text=True, timeout=60
+            )
             self.assertEqual((done.returncode, done.stderr), (4, f"{program}: read failed\n"))
             with open("/dev/full", "w") as full:
                 done = subprocess.run([SCRIPTS / program, SESSION], stdout=full, stderr=subprocess.PIPE, text=True)
             self.assertEqual((done.returncode, done.stderr), (4, f"{program}: write failed\n"))
 
     def test_words_that_are_not_understood(self) -> None:
-        for words in (["giop-json", "--jso"], ["giop-json", "a", "b"], ["giop-stat", "--js"], ["giop-chart", "--most", "0"],
-                      ["giop-chart", "--stream", "x"], ["giop-chart", "--from", "yesterday"], ["giop-chart", "--fro", "08:13"]):
+        for words in (
+            ["giop-json", "--jso"],
+            ["giop-json", "a", "b"],
+            ["giop-stat", "--js"],
+            ["giop-chart", "--most", "0"],
+            ["giop-chart", "--stream", "x"],
+            ["giop-chart", "--from", "yesterday"],
+            ["giop-chart", "--fro", "08:13"],
+        ):
             self.assertEqual(run(words[0], "", *words[1:]).returncode, 2, words)
         for program in PROGRAMS:
             done = run(program, "", "--help")
@@ -685,9 +971,20 @@ class Program(unittest.TestCase):
             self.assertEqual(json.loads(process.stdout.readline())["message"], 1)
             process.stdin.write(b"s1 m1 answers s2 m1 a after -\ns1 closed end\n")
             process.stdin.close()
-            self.assertEqual([json.loads(line) for line in process.stdout], [
-                {"stream": 1, "message": 1, "operation": "a", "answers": {"stream": 2, "message": 1}, "seconds": None,
-                 "cut": True}, {"stream": 1, "closed": "end", "cut": True}])
+            self.assertEqual(
+                [json.loads(line) for line in process.stdout],
+                [
+                    {
+                        "stream": 1,
+                        "message": 1,
+                        "operation": "a",
+                        "answers": {"stream": 2, "message": 1},
+                        "seconds": None,
+                        "cut": True,
+                    },
+                    {"stream": 1, "closed": "end", "cut": True},
+                ],
+            )
 
     def test_an_interrupt_ends_the_reading(self) -> None:
         for program in PROGRAMS:
