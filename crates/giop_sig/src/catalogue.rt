@@ -21,7 +21,7 @@ use std::marker::Model;
 pub(crate) type Name = ArrayVec<u8, 128>;
 
 /// The structs of an operation's requests and of its replies.
-#[derive(Clone, Copy, Debug)]
+#[derive(Clone, Copy)]
 pub(crate) struct Signature {
     pub(crate) request: TypeId,
     pub(crate) reply: TypeId,

@@ -19,7 +19,7 @@ use giop_tokens::{SigFaultKind, Token, is_reserved, misplaced, next};
 const NAME_MAX: usize = 64;
 
 /// The value of a label.
-#[derive(Clone, Copy, Debug, Drop)]
+#[derive(Clone, Copy, Drop)]
 pub(crate) enum LabelValue<'a> {
     /// A number.
     Plain(u64),

@@ -4,7 +4,7 @@ use giop_tokens::Refusal;
 use std::alloc::{AllocError, AllocFailed};
 
 /// Memory was refused, or the text is refused.
-#[derive(Clone, Copy, Debug, Drop)]
+#[derive(Clone, Copy, Drop)]
 pub(crate) enum ParseStop {
     Memory,
     Refused(Refusal),

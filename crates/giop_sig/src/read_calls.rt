@@ -22,7 +22,7 @@ use std::alloc::Global;
 const PARAMS_MAX: usize = 255;
 
 /// The direction of a parameter: in, out or inout.
-#[derive(Clone, Copy, Debug, Drop)]
+#[derive(Clone, Copy, Drop)]
 pub(crate) enum Direction {
     In,
     Out,
