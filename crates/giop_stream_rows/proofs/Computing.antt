@@ -38,7 +38,7 @@ use Rattle.giop_stream.specs.EngineState.{state_of, own_for, owner_for}
 use Rattle.giop_stream.specs.ViewOfState.{payload_count_in, comes_itself}
 use Rattle.giop_stream.specs.Checkpoint.{counts_of, fixed_of, checkpoint_octets}
 use Rattle.giop_stream_rows.specs.Worked.{digit, octets, stream, written, read_by, called, table_of, builtin, puts, bigs, late, asks, kept}
-use Rattle.giop_stream_rows.specs.Streams.{CloseConnection, LittleRequest, Interleaved, OpenTwice, OneOpen, Cancelled, Replied, Raised}
+use Rattle.giop_stream_rows.specs.Streams.{CloseConnection, LittleRequest, Interleaved, OpenTwice, OneOpen, Cancelled, Replied, Raised, CodeSets, CodeSetsCutShort, Profile}
 use Rattle.giop_stream_rows.specs.Checkpoints.{five_octets, one_in_payload, bad_magic, InAHeader, InAnOldHeader, InAPayload, BehindAFault}
 
 -- the definitions that are unfolded to read one message
@@ -87,6 +87,18 @@ replied = record { text = refl; closing = refl }
 pub raised : Raised
 unfolding one_message a_stream told_with
 raised = record { text = refl; closing = refl }
+
+pub code_sets : CodeSets
+unfolding one_message a_stream told_with
+code_sets = record { text = refl; closing = refl }
+
+pub code_sets_cut_short : CodeSetsCutShort
+unfolding one_message a_stream told_with
+code_sets_cut_short = record { text = refl; closing = refl }
+
+pub profile : Profile
+unfolding one_message a_stream told_with
+profile = record { text = refl; closing = refl }
 
 -- ---- Checkpoints.
 

@@ -165,3 +165,63 @@ Raised = Row (read_by asks kept)
     ∷ codes "m1 end"
     ∷ [])
     (codes "total messages 1 faults 0 octets 44" ∷ [])
+
+-- ---- Encapsulations.
+
+-- A Reply of 1.0 with a service context of code sets: an encapsulation of 12 octets, with padding behind its byte order.
+abbrev pub CodeSets : Type 0
+CodeSets = Row (read_by builtin [])
+    (stream (codes "47494f50 0100 00 01 00000020"
+    ∷ codes "00000001 00000001 0000000c 00 000000 00010001 00010109 00000007 00000000"
+    ∷ []))
+    (codes "m1 start 1.0 big Reply size 32"
+    ∷ codes "m1 header.service_contexts count 1"
+    ∷ codes "m1 header.service_contexts[0].context_id ulong 1"
+    ∷ codes "m1 header.service_contexts[0].context_data encapsulation 12"
+    ∷ codes "m1 header.service_contexts[0].context_data order big"
+    ∷ codes "m1 header.service_contexts[0].context_data.char_data ulong 65537"
+    ∷ codes "m1 header.service_contexts[0].context_data.wchar_data ulong 65801"
+    ∷ codes "m1 header.request_id ulong 7"
+    ∷ codes "m1 header.reply_status enum NO_EXCEPTION"
+    ∷ codes "m1 end"
+    ∷ [])
+    (codes "total messages 1 faults 0 octets 44" ∷ [])
+
+-- The same with 8 octets, which end before the second of the two numbers.
+abbrev pub CodeSetsCutShort : Type 0
+CodeSetsCutShort = Row (read_by builtin [])
+    (stream (codes "47494f50 0100 00 01 0000001c"
+    ∷ codes "00000001 00000001 00000008 00 000000 00010001 00000007 00000000"
+    ∷ []))
+    (codes "m1 start 1.0 big Reply size 28"
+    ∷ codes "m1 header.service_contexts count 1"
+    ∷ codes "m1 header.service_contexts[0].context_id ulong 1"
+    ∷ codes "m1 header.service_contexts[0].context_data encapsulation 8"
+    ∷ codes "m1 header.service_contexts[0].context_data order big"
+    ∷ codes "m1 header.service_contexts[0].context_data.char_data ulong 65537"
+    ∷ codes "m1 fault encap-short at 32"
+    ∷ [])
+    (codes "total messages 1 faults 1 octets 40" ∷ [])
+
+-- A LocateRequest by an internet profile, behind whose members its encapsulation has 7 octets more.
+abbrev pub Profile : Type 0
+Profile = Row (read_by builtin [])
+    (stream (codes "47494f50 0102 00 03 00000028"
+    ∷ codes "00000001 0001 0000 00000000 00000018"
+    ∷ codes "00 01 02 00 00000002 6800 0007 00000001 41 000000 00000000"
+    ∷ []))
+    (codes "m1 start 1.2 big LocateRequest size 40"
+    ∷ codes "m1 header.request_id ulong 1"
+    ∷ codes "m1 header.target.switch short 1"
+    ∷ codes "m1 header.target.profile.tag ulong 0"
+    ∷ codes "m1 header.target.profile.profile_data encapsulation 24"
+    ∷ codes "m1 header.target.profile.profile_data order big"
+    ∷ codes "m1 header.target.profile.profile_data.major octet 1"
+    ∷ codes "m1 header.target.profile.profile_data.minor octet 2"
+    ∷ codes "m1 header.target.profile.profile_data.host string @0 \"h\""
+    ∷ codes "m1 header.target.profile.profile_data.port ushort 7"
+    ∷ codes "m1 header.target.profile.profile_data.object_key octets @0 41"
+    ∷ codes "m1 header.target.profile.profile_data rest @0 00000000000000"
+    ∷ codes "m1 end"
+    ∷ [])
+    (codes "total messages 1 faults 0 octets 52" ∷ [])

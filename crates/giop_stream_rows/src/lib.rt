@@ -2,7 +2,7 @@
 #![tactic(auto)]
 
 ghost use Rattle.giop_stream_rows.specs.Worked.{AreOfTheirList};
-ghost use Rattle.giop_stream_rows.specs.Streams.{CloseConnection, LittleRequest, Interleaved, OpenTwice, OneOpen, Cancelled, Replied, Raised};
+ghost use Rattle.giop_stream_rows.specs.Streams.{CloseConnection, LittleRequest, Interleaved, OpenTwice, OneOpen, Cancelled, Replied, Raised, CodeSets, CodeSetsCutShort, Profile};
 ghost use Rattle.giop_stream_rows.specs.Checkpoints.{InAHeader, InAnOldHeader, InAPayload, BehindAFault, BetweenMessages};
 
 /// The text and the closing of these streams, by the declarations and the requests of each. It has no body, and is called
@@ -23,7 +23,11 @@ pub fn worked_streams()
     // A Reply with the results of its request's operation, and one with an exception.
     ensures replied { Replied }
     ensures raised { Raised }
-    // The request table of these two gives the operations that the request list gives.
+    // Encapsulations: the code sets of a service context, the same with too few octets, and an internet profile.
+    ensures code_sets { CodeSets }
+    ensures code_sets_cut_short { CodeSetsCutShort }
+    ensures profile { Profile }
+    // The request table of the Replies gives the operations that the request list gives.
     ensures request_table { AreOfTheirList }
 {}
 
