@@ -53,7 +53,7 @@ is_broken k file b breaks =
     record { before = b.before; broken = b.broken; after = b.after; all = b.all; breaks = breaks }
 
 -- the declarations of a text never make the types too many
-not_too_many : (text : List ℕ) (file : SignatureFile) → Spells text file
+pub not_too_many : (text : List ℕ) (file : SignatureFile) → Spells text file
     → (b : BrokenIn kinds.Limit (first_scope file.version) file.declarations)
     → size (declare (scope_after (first_scope file.version) b.before) b.broken) < 2 ^ 32
 unfolding builtin_types

@@ -16,6 +16,7 @@ mod ListEntries
 mod OneToOne
 mod ListKept
 mod OneList
+mod ListOrder
 mod ScopeLaws
 mod ReadingLaws
 mod PlaceLaws
@@ -42,6 +43,7 @@ mod FileLaws
 mod FileRules
 mod Told
 mod UnionWhole
+mod OneTable
 mod Negatives
 mod LabelReads
 mod LabelsKept

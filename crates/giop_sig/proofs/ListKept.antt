@@ -12,12 +12,8 @@ use Rattle.std.proofs.lemmas.Slice.Eq.{bytes_eq-Decides}
 use Rattle.std.proofs.lemmas.List.Folds.{list_all-append}
 use Rattle.std.proofs.lemmas.Map.Made.{length-from_keys, is_some-lookup}
 use Rattle.giop_sig.specs.declared.types.OpId.{OpId}
-use Rattle.giop_sig.specs.RequestList.{Entry, names_of, the_one, joined, flat, IsOf}
+use Rattle.giop_sig.specs.RequestList.{Entry, as_operation, names_of, the_one, joined, flat, IsOf}
 use Rattle.giop_sig.proofs.OneToOne.{IsOneToOne}
-
--- a number as an operation
-abbrev pub as_operation : ℕ → OpId
-as_operation k = record { 0 = k }
 
 -- find, for operations
 abbrev pub finding : (List ℕ → Option ℕ) → List ℕ → Option OpId
@@ -126,7 +122,7 @@ pub kept_more : (find : List ℕ → Option OpId) → FindsOne find
     (kept_by find (names_of es q))
 kept_more find one es e q = ap (kept_by find) (names_more es e q) ∙ kept_more_by find one es e q (eqb e.id q) refl
 
-flat_kept : (find : List ℕ → Option OpId) (ns : List (List ℕ))
+pub flat_kept : (find : List ℕ → Option OpId) (ns : List (List ℕ))
     → flat (kept_by find ns) ≡ option_and_then find (the_one ns)
 flat_kept find [] = refl
 flat_kept find (n ∷ ns) = refl

@@ -1,6 +1,6 @@
 -- A text is one request list at most, and a text that is a list is not refused.
-use Rattle.std.proofs.Common.{◌≡◌, ℕ, ◌<◌, List, [], ◌∷◌, ◌++◌, map, length, inl, inr, refl, sym, ap, ◌∙◌, arith}
-use Rattle.std.specs.Prelude.{Result, Ok, Err, IfErr}
+use Rattle.std.proofs.Common.{◌≡◌, ℕ, ◌<◌, List, [], ◌∷◌, ◌++◌, map, length, inl, inr, refl, sym, ap, subst, ◌∙◌, arith}
+use Rattle.std.specs.Prelude.{Result, Ok, Err, IfOk, IfErr}
 use Rattle.std.specs.Fmt.{decimal}
 use Rattle.std.specs.List.{AllByRecursion}
 use Rattle.std.proofs.lemmas.Fmt.{decimal_injective}
@@ -64,3 +64,9 @@ pub only_for_memory : {T : Type 0} (text : List ℕ) (es : List Entry) (r : Resu
     → IfErr r (λ f. f.kind ≡ OutOfMemory)
 only_for_memory text es (Ok x) p h = tt
 only_for_memory text es (Err f) p h = refused_for_memory text es f.line f.kind p h
+
+-- what is so of the list that a text is, and of a result, is so of any list that the text is
+pub of_list : {T : Type 0} (Q P : List Entry → T → Type 0) (text : List ℕ) (es : List Entry) (r : Result T ListFault)
+    → Lists text es → IfOk r (λ x. (fs : List Entry) × Lists text fs × Q fs x × P fs x) → IfOk r (λ x. P es x)
+of_list Q P text es (Ok x) p h = subst (λ fs. P fs x) (one_list text h.0 es h.1 p) h.3
+of_list Q P text es (Err f) p h = tt

@@ -1,5 +1,5 @@
 -- Request lists: which text is which list of entries, and which operation a list gives for a request id (docs/FORMATS.md; meaning).
-use Rattle.std.specs.Prelude.{◌≡◌, ℕ, ◌+◌, ◌^◌, ◌<◌, ◌≤◌, ◌==◌, ◌⊎◌, List, [], ◌∷◌, ◌++◌, length, map, filter, Option, Some, None, nat_eq, option_and_then, if◌then◌else◌}
+use Rattle.std.specs.Prelude.{◌≡◌, ℕ, ◌+◌, ◌^◌, ◌<◌, ◌≤◌, ◌==◌, ◌⊎◌, List, [], ◌∷◌, ◌++◌, length, map, filter, Option, Some, None, nat_eq, option_and_then, not, if◌then◌else◌}
 use Rattle.std.specs.List.{All, list_all, onto_first}
 use Rattle.std.specs.Map.{lookup}
 use Rattle.std.specs.Option.{option_eq, option_map}
@@ -98,6 +98,19 @@ flat (Some x) = x
 -- the operation that is stored with an id
 abbrev pub kept_operation : List (ℕ × Option OpId) → ℕ → Option OpId
 kept_operation kept id = flat (lookup (nat_eq id) kept)
+
+-- the ids of entries, each once, in the order of their first entries
+abbrev pub ids_of : List Entry → List ℕ
+ids_of [] = []
+ids_of (e ∷ es) = e.id ∷ filter (λ id. not (id == e.id)) (ids_of es)
+
+-- a number as an operation
+abbrev pub as_operation : ℕ → OpId
+as_operation k = record { 0 = k }
+
+-- what is stored of a list, by find: these ids, each with the operation of the one name that all its entries have
+abbrev pub kept_of : (List ℕ → Option ℕ) → List Entry → List (ℕ × Option OpId)
+kept_of find es = map (λ id. (id, option_map as_operation (operation_of find es id))) (ids_of es)
 
 -- what is stored gives the same operations as the list, by find
 pub record IsOf (find : List ℕ → Option ℕ) (es : List Entry)

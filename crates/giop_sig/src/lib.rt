@@ -22,5 +22,6 @@ mod types;
 pub use catalogue::Catalogue;
 pub use fault::{ListFault, ListFaultKind};
 pub use giop_tokens::{SigFault, SigFaultKind};
+pub use parse::one_table;
 pub use requests::{Requests, one_list};
 pub use types::{Counts, Fixed, OpId, Selected, Shape, TypeId};

@@ -1,5 +1,5 @@
 //! Reading a signature file (docs/FORMATS.md).
-ghost use Rattle.std.specs.Prelude.{◌≡◌, ◌+◌, ◌<◌, ◌≤◌, ◌↔◌, length, IfOk, IfErr};
+ghost use Rattle.std.specs.Prelude.{◌≡◌, ℕ, List, ◌+◌, ◌<◌, ◌≤◌, ◌↔◌, length, IfOk, IfErr};
 ghost use Rattle.giop_sig.specs.Builtin.{builtin_types};
 ghost use Rattle.giop_sig.specs.Grammar.{SignatureFile};
 ghost use Rattle.giop_sig.specs.Scopes.{table};
@@ -104,6 +104,12 @@ fn draft_of(alloc: Global, text: &[u8]) -> Result<Draft, ParseStop>
     declarations(alloc, &mut draft, text.len(), rest)?;
     Ok(draft)
 }
+
+/// A text has one table at most: whatever files it spells, their tables are that of a valid one.
+pub fn one_table()
+    ensures { (text : List ℕ) (f g : SignatureFile) → Spells text f → IsValid f → Spells text g →
+        table f ≡ table g }
+{}
 
 impl Catalogue {
     /// The catalogue of a signature file: the types, operations and exceptions that its text declares, with the

@@ -3,7 +3,7 @@ ghost use Rattle.std.specs.Prelude.{◌≡◌, ℕ, ◌<◌, ◌≤◌, ◌^◌,
 ghost use Rattle.std.specs.Option.{option_copied};
 ghost use Rattle.std.specs.Fmt.{decimal};
 ghost use Rattle.giop_sig.specs.Table.{operation_number};
-ghost use Rattle.giop_sig.specs.RequestList.{lines, IsName, IsEntry, IsEntryLine, line_of, Lists, IsRefusedAs, IsOf, kept_operation, Entry, joined};
+ghost use Rattle.giop_sig.specs.RequestList.{lines, IsName, IsEntry, IsEntryLine, line_of, Lists, IsRefusedAs, IsOf, kept_of, kept_operation, Entry, joined};
 
 use crate::catalogue::Catalogue;
 use crate::fault::{ListFault, ListFaultKind};
@@ -122,6 +122,9 @@ impl Requests {
             (es : List Entry) × Lists text.now es × IsOf (operation_number catalogue.now) es kept) }
         // A refusal, unless for memory, is at the first line that is wrong.
         ensures err { IfErr result (λ f. IsRefusedAs text.now f.line f.kind) }
+        // They are a function of its entries, so that a list that is read once more gives the same.
+        ensures same { (es : List Entry) → Lists text.now es
+            → IfOk result (λ kept. kept ≡ kept_of (operation_number catalogue.now) es) }
         // A list is refused for want of memory alone.
         ensures only { (es : List Entry) → Lists text.now es
             → IfErr result (λ f. f.kind ≡ ListFaultKind.OutOfMemory) }
@@ -147,7 +150,8 @@ impl Requests {
 /// Reads a list, line by line.
 fn read(alloc: Global, text: &[u8], catalogue: &Catalogue) -> Result<Requests, ListFault>
     ensures ok { IfOk result (λ kept.
-        (es : List Entry) × Lists text.now es × IsOf (operation_number catalogue.now) es kept) }
+        (es : List Entry) × Lists text.now es × IsOf (operation_number catalogue.now) es kept
+        × (kept ≡ kept_of (operation_number catalogue.now) es)) }
     ensures err { IfErr result (λ f. IsRefusedAs text.now f.line f.kind) }
 {
     if text.len() > TEXT_MAX {

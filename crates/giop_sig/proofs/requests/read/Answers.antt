@@ -7,6 +7,7 @@ use Rattle.giop_sig.specs.RequestList.{lines, IsEntry, line_of, Entry, joined}
 use Rattle.giop_sig.specs.Table.{operation_number}
 use Rattle.giop_sig.proofs.OneToOne.{operation_number_one}
 use Rattle.giop_sig.proofs.ListKept.{kept_step, is_of}
+use Rattle.giop_sig.proofs.ListOrder.{keys_step, kept_is}
 use Rattle.giop_sig.proofs.requests.read.Goals as goal
 
 spelled_more : (es : List Entry) (e : Entry) (all after : List (List ℕ)) (line : List ℕ)
@@ -33,6 +34,7 @@ loop-line-preserved c =
       counted = omega (arith, i.counted, longer);
       few = omega (arith, i.few);
       unique = c.in_ok-insert.ensures.unique;
+      keys = keys_step i.es e c.loop-line.table.entries _ c.joined-kept.result i.keys c.in_ok-insert.ensures.entries;
       kept = kept_step find (operation_number_one c.args.catalogue.now) i.es e c.loop-line.table.entries c.insert.new.self.entries c.joined-kept.result joins
           i.kept c.in_ok-insert.ensures.updates.0;
     }
@@ -49,6 +51,7 @@ returns-clause-ok c =
         spelled = i.spelled ∙ ap (λ r. map line_of i.es ++ lines r) done ∙ append-nil (map line_of i.es);
       },
       is_of (operation_number c.args.catalogue.now) i.es _ i.unique i.kept,
+      kept_is (operation_number c.args.catalogue.now) i.es _ i.unique i.keys i.kept,
     )
 
 pub invariant_of-result : goal.invariant_of-result

@@ -1,7 +1,8 @@
 use Rattle.std.proofs.Common.{◌≡◌, ℕ, ◌≤◌, List, ◌++◌, map, length, nat_eq}
 use Rattle.std.specs.List.{All}
 use Rattle.std.specs.HashMap.{get, IsUnique}
-use Rattle.giop_sig.specs.RequestList.{Entry, IsEntry, line_of, lines, names_of}
+use Rattle.std.specs.Map.{keys_of}
+use Rattle.giop_sig.specs.RequestList.{Entry, IsEntry, line_of, lines, names_of, ids_of}
 use Rattle.giop_sig.specs.Table.{operation_number}
 use Rattle.giop_sig.proofs.ListKept.{kept_by, finding}
 use Rattle.giop_sig.proofs.requests.read.Given as goal
@@ -15,6 +16,7 @@ invariant-loop-line l = record {
   counted : l.count ≡ length es;
   few : l.count ≤ 65536;
   unique : IsUnique nat_eq l.table;
+  keys : keys_of l.table.entries ≡ ids_of es;
   kept : (q : ℕ) → get nat_eq l.table q
       ≡ kept_by (finding (operation_number l.catalogue)) (names_of es q);
 }
