@@ -3,3 +3,4 @@ pub mod Frames
 pub mod Datagrams
 pub mod Segments
 pub mod EndpointText
+pub mod Links

@@ -5,12 +5,14 @@
 mod datagram;
 mod endpoint;
 mod frame;
+mod links;
 mod octets;
 mod segments;
 mod tcp;
 mod text;
 
 pub use endpoint::{Address, Endpoint, Flow};
+pub use links::is_link_read;
 pub use segments::segment;
 pub use tcp::Segment;
 pub use text::{EndpointText, endpoint_text};

@@ -1,0 +1,11 @@
+-- Which link types of a capture are told, of those whose packets aren't read (meaning).
+use Rattle.std.specs.Prelude.{ℕ, ◌==◌, ◌||◌, Bool, true, false, cond, not, ltb, List, [], ◌∷◌, ◌++◌, length}
+use Rattle.std.specs.List.{list_any}
+
+-- a link type is new where it was not told, and where fewer than so many were
+abbrev pub is_new : ℕ → List ℕ → ℕ → Bool
+is_new room told link = not (list_any (λ other. other == link) told || not (ltb (length told) room))
+
+-- those that were told, after one more packet of a link type that isn't read
+abbrev pub told_after : ℕ → List ℕ → ℕ → List ℕ
+told_after room told link = cond (is_new room told link) (told ++ link ∷ []) told

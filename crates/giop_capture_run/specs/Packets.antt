@@ -1,0 +1,72 @@
+-- The packets of a capture that were handed on (meaning).
+use Rattle.std.specs.Prelude.{◌≡◌, ℕ, List, [], ◌∷◌, ◌++◌, length, Bool, true, false, IsSome, map, Result, Ok, Err, ◌⊎◌}
+use Rattle.std.specs.Io.KnownBytes.{Consumes, IsAtEnd}
+use Rattle.capture_file.specs.declared.capture.Capture.{Capture}
+use Rattle.capture_file.specs.declared.part.Head.{Head}
+use Rattle.capture_file.specs.declared.progress.Packet.{Packet}
+use Rattle.capture_file.specs.Reading.{PacketRecord, packets, fault}
+use Rattle.capture_file.specs.CaptureState.{Reads}
+use Rattle.giop_run.specs.SourceLog.{SourceLog}
+use Rattle.giop_run.specs.declared.fault.RunFault.{RunFault}
+use Rattle.giop_run.specs.declared.fault.RunFault.TheVariants as faults
+
+-- a packet as it is handed on: its link type and time, and its octets
+pub record Taken : Type 0 where
+  pub head : Head
+  pub octets : List ℕ
+
+abbrev pub packet_view : Packet → Taken
+packet_view p = record { head = record { link = p.link; time = p.time }; octets = p.octets.now }
+
+abbrev pub taken : PacketRecord → Taken
+taken p = record { head = p.head; octets = p.octets }
+
+-- the packets of a capture, as they are handed on
+abbrev pub taken_of : List ℕ → List Taken
+taken_of p = map taken (packets p)
+
+-- Of octets that came behind p, these were read and the packets that they complete handed on; the rest wasn't looked at.
+pub record HandedOn (HasTaken : List Taken → Type 0) (c : Capture) (p octets read rest : List ℕ) : Type 0 where
+  pub parts : octets ≡ read ++ rest
+  pub reads : Reads c (p ++ read)
+  pub taken : HasTaken (taken_of (p ++ read))
+
+-- All octets were read, or those up to a fault of the capture.
+abbrev pub HandedWhole : Bool → (List Taken → Type 0) → Capture → List ℕ → List ℕ → Type 0
+HandedWhole true HasTaken c p octets = HandedOn HasTaken c p octets octets []
+HandedWhole false HasTaken c p octets =
+    (read rest : List ℕ) × HandedOn HasTaken c p octets read rest × IsSome (fault (p ++ read))
+
+-- ---- What a run over a source did, which gave the octets s.
+
+-- all that the source gave was read, behind p, and its packets were handed on
+pub record ReadAll (HasTaken : List Taken → Type 0) (c : Capture) (p s : List ℕ) (before after : SourceLog) : Type 0 where
+  pub given : Consumes before.left after.left s
+  pub handed : HandedOn HasTaken c p s s []
+
+-- The source came to its end, or the capture to a fault, behind which nothing was read.
+pub record ReadToEnd (HasTaken : List Taken → Type 0) (c : Capture) (p s : List ℕ) (before after : SourceLog) : Type 0 where
+  pub given : Consumes before.left after.left s
+  pub read : List ℕ
+  pub rest : List ℕ
+  pub handed : HandedOn HasTaken c p s read rest
+  pub over : (IsAtEnd after.left × (rest ≡ [])) ⊎ IsSome (fault (p ++ read))
+
+-- what a run did, by its result: where the listener failed, it alone knows what it has taken
+abbrev pub Ran : Result (Unit {0}) RunFault → (List Taken → Type 0) → Capture → List ℕ → SourceLog → SourceLog → Type 0
+Ran (Ok _) HasTaken c s before after = ReadToEnd HasTaken c [] s before after
+Ran (Err faults.Read) HasTaken c s before after = ReadAll HasTaken c [] s before after
+Ran (Err faults.Turns) HasTaken c s before after = ReadAll HasTaken c [] s before after
+Ran (Err faults.Out) HasTaken c s before after = Consumes before.left after.left s
+Ran (Err faults.Failed) HasTaken c s before after = ⊥
+
+-- ---- One read of it (steps).
+
+-- what a read and its packets came to, behind p: true where the reading goes on
+abbrev pub HasReadOnce : Result Bool RunFault → (List Taken → Type 0) → Capture → List ℕ → List ℕ → SourceLog → SourceLog → Type 0
+HasReadOnce (Ok true) HasTaken c p s before after = ReadAll HasTaken c p s before after
+HasReadOnce (Ok false) HasTaken c p s before after = ReadToEnd HasTaken c p s before after
+HasReadOnce (Err faults.Read) HasTaken c p s before after = ReadAll HasTaken c p s before after
+HasReadOnce (Err faults.Turns) HasTaken c p s before after = ⊥
+HasReadOnce (Err faults.Out) HasTaken c p s before after = Consumes before.left after.left s
+HasReadOnce (Err faults.Failed) HasTaken c p s before after = ⊥

@@ -1,0 +1,188 @@
+//! The program's arguments: the capture that it reads and how much it may remember (docs/FORMATS.md, The program).
+
+ghost use Rattle.std.specs.Prelude.{◌≡◌, ◌≤◌, ℕ, Some, None};
+
+use arrayvec::ArrayVec;
+use clap::builder::ValueParser;
+use clap::error::ErrorKind;
+use clap::{Arg, ArgAction, ArgMatches, Command, Error};
+use giop_stream::MOST_OPEN;
+use std::alloc::{AllocError, Global};
+
+/// How many ports may be chosen.
+pub const PORTS_ROOM: usize = 64;
+
+/// How many connections may be known, and how many calls may be outstanding in each direction of one.
+const MOST_KNOWN: u32 = 65_536;
+
+/// The least and the greatest number of blocks of 1,024 octets for payloads that wait.
+const LEAST_POOL: u32 = 1_024;
+
+const MOST_POOL: u32 = 1_048_576;
+
+const DEFAULT_CONNECTIONS: u32 = 256;
+
+const DEFAULT_OPEN: u32 = 16;
+
+const DEFAULT_CALLS: u32 = 128;
+
+const DEFAULT_POOL: u32 = 16_384;
+
+const ABOUT: &str =
+    "Dumps the GIOP conversations of a capture, one text line per value, each reply by its call";
+
+const SIGNATURES_HELP: &str =
+    "The types of the operations; the built-in types alone where it is missing";
+
+const PORT_HELP: &str =
+    "A port at which GIOP is looked for, up to 64 times; every port where it is missing";
+
+const CONNECTIONS_HELP: &str = "How many connections are known at once, 1 to 65536";
+
+const OPEN_HELP: &str = "How many messages of a stream may be open at once, 1 to 4096";
+
+const CALLS_HELP: &str =
+    "How many calls of a direction of a connection wait for their replies, 1 to 65536";
+
+const POOL_HELP: &str = "How many KiB wait for octets before them, 1024 to 1048576";
+
+const CAPTURE_HELP: &str =
+    "A pcap or pcapng file; standard input where it is missing, as of tcpdump -w -";
+
+const EXAMPLES: &str = "\
+A capture is dumped as it is written, or from a file:
+
+    tcpdump -w - port 2809 | giopcap --signatures orders.sig
+    giopcap --signatures orders.sig orders.pcap
+
+The slowest calls are the last of
+
+    giopcap orders.pcap | grep ' answers ' | sort -k8 -n
+
+docs/FORMATS.md has every line, fault and status; docs/SIGNATURES.md says how IDL becomes a signature file.";
+
+/// What the arguments ask for: each file by its name; no name has a special meaning.
+#[derive(Clone, Debug, Drop)]
+pub struct Arguments<'a> {
+    /// The signature file; None for the built-in types alone.
+    pub signatures: Option<&'a str>,
+    /// The ports at which GIOP is looked for; every port where it is empty.
+    pub ports: ArrayVec<u16, 64>,
+    /// How many connections may be known at once.
+    pub connections: u32,
+    /// How many messages of a stream may be open at once.
+    pub open: u32,
+    /// How many calls of a direction of a connection may be outstanding.
+    pub calls: u32,
+    /// How many blocks of 1,024 octets hold payloads that wait.
+    pub pool: u32,
+    /// The file with the capture; None for standard input.
+    pub capture: Option<&'a str>,
+}
+
+/// An option that takes a number of a range, with the number where it is missing.
+fn number_option<'a>(
+    alloc: Global,
+    name: &'a str,
+    help: &'a str,
+    range: (u32, u32),
+    default: &'a str,
+) -> Arg<'a> {
+    Arg::new(alloc, name)
+        .long(name)
+        .value_name("N")
+        .value_parser(ValueParser::unsigned(u64::from(range.0), u64::from(range.1)))
+        .help(help)
+        .default_value(default)
+}
+
+/// The option that chooses a port, and may be given more than once.
+fn port_option<'a>(alloc: Global) -> Arg<'a> {
+    Arg::new(alloc, "port")
+        .long("port")
+        .value_name("PORT")
+        .value_parser(ValueParser::unsigned(0, u64::from(u16::MAX)))
+        .action(ArgAction::Append)
+        .help(PORT_HELP)
+}
+
+/// The command as `clap` reads it, with its help.
+fn command<'a>(alloc: Global) -> Result<Command<'a>, AllocError> {
+    Command::new(alloc, "giopcap")
+        .version("1.0.0")
+        .about(ABOUT)
+        .after_help(EXAMPLES)
+        .arg(
+            Arg::new(alloc, "signatures")
+                .long("signatures")
+                .value_name("FILE")
+                .help(SIGNATURES_HELP),
+        )?
+        .arg(port_option(alloc))?
+        .arg(number_option(
+            alloc,
+            "connections",
+            CONNECTIONS_HELP,
+            (1, MOST_KNOWN),
+            "256",
+        ))?
+        .arg(number_option(alloc, "open", OPEN_HELP, (1, MOST_OPEN), "16"))?
+        .arg(number_option(alloc, "calls", CALLS_HELP, (1, MOST_KNOWN), "128"))?
+        .arg(number_option(alloc, "pool", POOL_HELP, (LEAST_POOL, MOST_POOL), "16384"))?
+        .arg(Arg::new(alloc, "CAPTURE").help(CAPTURE_HELP))
+}
+
+/// The ports that are chosen, of which `clap` has checked the range; None where they are more than may be.
+fn ports_of(matches: &ArgMatches) -> Option<ArrayVec<u16, 64>> {
+    let mut ports = ArrayVec::new();
+    let Some(given) = matches.get_many::<u16>("port") else {
+        return Some(ports);
+    };
+    for port in given {
+        ports.try_push(port.ok()?).ok()?;
+    }
+    Some(ports)
+}
+
+/// A number by its argument, of which `clap` has checked the range, or the default where there is none.
+fn number_of(word: Option<u32>, range: (u32, u32), default: u32) -> u32
+    requires order { range.0 ≤ range.1 }
+    requires default { (range.0 ≤ default) × (default ≤ range.1) }
+    ensures range { (range.0 ≤ result) × (result ≤ range.1) }
+    ensures word { (n : ℕ) → word ≡ Some n → range.0 ≤ n → n ≤ range.1 → result ≡ n }
+    ensures missing { word ≡ None → result ≡ default }
+{
+    match word {
+        None => default,
+        Some(number) => number.max(range.0).min(range.1),
+    }
+}
+
+impl<'a> Arguments<'a> {
+    /// Parses the arguments, the first of which is the program's name. An `Err` has the text to print and the status,
+    /// also for `--help` and `--version`, which have status 0.
+    pub fn read(alloc: Global, words: &'a [String]) -> Result<Arguments<'a>, Error> {
+        let mut command = command(alloc)?;
+        let matches = command.try_get_matches_from_mut(words)?;
+        let Some(ports) = ports_of(&matches) else {
+            return Err(command.error(ErrorKind::TooManyValues, "more than 64 ports")?);
+        };
+        Ok(Arguments {
+            signatures: matches.get_str("signatures"),
+            ports,
+            connections: number_of(
+                matches.get_one("connections"),
+                (1, MOST_KNOWN),
+                DEFAULT_CONNECTIONS,
+            ),
+            open: number_of(matches.get_one("open"), (1, MOST_OPEN), DEFAULT_OPEN),
+            calls: number_of(matches.get_one("calls"), (1, MOST_KNOWN), DEFAULT_CALLS),
+            pool: number_of(
+                matches.get_one("pool"),
+                (LEAST_POOL, MOST_POOL),
+                DEFAULT_POOL,
+            ),
+            capture: matches.get_str("CAPTURE"),
+        })
+    }
+}

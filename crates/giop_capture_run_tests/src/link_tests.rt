@@ -1,0 +1,12 @@
+//! Which link types are told.
+
+use giop_capture_run::UnreadLinks;
+
+#[test]
+fn each_link_type_is_told_once_and_sixteen_at_most(rt: HostRuntime) {
+    let mut links = UnreadLinks::new();
+    for link in 0..20 {
+        assert!(rt; links.is_new(link) == (link < 16), "link type {link}");
+        assert!(rt; !links.is_new(link), "link type {link} again");
+    }
+}
