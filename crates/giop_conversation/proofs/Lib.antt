@@ -1,0 +1,5 @@
+mod TimeLemmas
+mod TagLemmas
+mod TaggedLemmas
+mod TaggedPuts
+pub mod Tagging

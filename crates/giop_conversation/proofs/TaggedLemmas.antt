@@ -1,0 +1,394 @@
+-- What was written to an out with tags, and what was written below it.
+use Rattle.std.proofs.Common.{◌≡◌, ℕ, zero, suc, ◌+◌, ◌-◌, ◌≤◌, ◌<◌, ◌==◌, ◌||◌, Bool, true, false, List, [], ◌∷◌, ◌++◌, length, take, drop, slice_index, Option, Some, None, Result, Ok, Err, MatchResult, refl, sym, ap, ◌∙◌, arith, append-nil, append_assoc, length-append, length-take, length-drop, take-add, if◌then◌else◌}
+use Rattle.std.proofs.Math.Seq.{take-append_seam, drop-append_seam}
+use Rattle.std.proofs.lemmas.List.{take_all, take-append-drop}
+use Rattle.std.proofs.lemmas.Bool.{and_from, and_parts, le-leb, leb-true, eqb-true, eq-eqb}
+use Rattle.std.proofs.lemmas.Slice.Eq.{bytes_eq-Decides}
+use Rattle.std.specs.Io.KnownBytes.{Appends, Keeps}
+use Rattle.giop_conversation.specs.Tags.{lead, with_tags, without_tags}
+use Rattle.giop_conversation.specs.TaggedText.{is_due, line_size, stopped_at, Stands, StandsIn, due_behind, PutSome, PutNothing, PutLine, PutFront}
+use Rattle.giop_conversation.specs.TaggedState.{identity, body_of, text_of, is_clean, is_tagged, shown}
+use Rattle.giop_conversation.proofs.TagLemmas.{tagged_append, ends_append, tagged_line, ends_take, untagged_tagged, untagged_few, passed}
+
+-- ---- what is begun of a tag
+
+whole_tag : (b : Bool) (tag : List ℕ) → take (length tag - 0) (lead b tag) ≡ lead b tag
+whole_tag true tag = let e : length tag - 0 ≡ length tag =
+    omega arith in rw e (take_all (length tag) tag (omega arith))
+whole_tag false tag = take_all (length tag - 0) [] (omega arith)
+
+no_tag_begun : (b : Bool) (tag : List ℕ) (due : ℕ) → (b ≡ true → due ≡ length tag) →
+    take (length tag - due) (lead b tag) ≡ []
+no_tag_begun true tag due is = let e : length tag - due ≡ 0 = omega (arith, is refl) in rw e refl
+no_tag_begun false tag due is = take_all (length tag - due) [] (omega arith)
+
+begun_is_few : (b : Bool) (tag : List ℕ) (n : ℕ) →
+    length (take n (lead b tag)) ≤ passed b (length tag)
+begun_is_few true tag n = let l = length-take n tag in omega arith
+begun_is_few false tag n = let none : take n (lead false tag) ≡ [] =
+    take_all n [] (omega arith) in rw none (omega arith)
+
+-- a text ended is a text with tags
+pub stopped_ended : (tag text : List ℕ) (due : ℕ) → (is_due text ≡ true → due ≡ length tag) →
+    stopped_at tag text due ≡ with_tags tag text
+unfolding stopped_at
+stopped_ended tag text due is =
+    rw (no_tag_begun (is_due text) tag due is) (append-nil (with_tags tag text))
+
+-- more text behind a text that ended
+pub stopped_more : (tag text more : List ℕ) (due : ℕ) → is_due text ≡ true →
+    stopped_at tag (text ++ more) due ≡ with_tags tag text ++ stopped_at tag more due
+unfolding stopped_at
+stopped_more tag text more due ended =
+    rw (tagged_append true tag text more, ends_append true text more, ended)
+    (append_assoc (with_tags tag text) (with_tags tag more) (take (length tag - due)
+    (lead (is_due more) tag)))
+
+-- ---- octets of a tag, and of a line
+
+tag_behind : (w w' before tag : List ℕ) (text : List ℕ) (due n : ℕ) →
+    due ≤ length tag → n ≤ due → w ≡ before ++ (with_tags tag text ++ take (length tag - due) tag) →
+    w' ≡ w ++ take n (drop (length tag - due) tag) →
+    w' ≡ before ++ (with_tags tag text ++ take (length tag - (due - n)) tag)
+tag_behind w w' before tag text due n within few is is' =
+    let start : length tag - (due - n) ≡ (length tag - due) + n = omega (arith, within, few) in
+    let front = take (length tag - due) tag in
+    let next = take n (drop (length tag - due) tag) in
+    rw (is', is, start, take-add (length tag - due) n tag)
+    (append_assoc before (with_tags tag text ++ front) next
+    ∙ ap (λ t. before ++ t) (append_assoc (with_tags tag text) front next))
+
+pub tag_step : (w w' before tag : List ℕ) (since : ℕ) (text : List ℕ) (due n : ℕ) →
+    Stands w before tag since text due → 0 < due → n ≤ due →
+    w' ≡ w ++ take n (drop (length tag - due) tag) → Stands w' before tag (since + n) text (due - n)
+unfolding stopped_at
+tag_step w w' before tag since text due n stands some few is = by (is_due text) refl
+  where
+    by : (b : Bool) → is_due text ≡ b → Stands w' before tag (since + n) text (due - n)
+    by false ends = absurd (omega (arith, some, stands.inside ends))
+    by true ends =
+        let l = length-append (with_tags tag text) (take (length tag - due) tag) in
+        let l' = length-append (with_tags tag text) (take (length tag - (due - n)) tag) in
+        let t = length-take (length tag - due) tag in
+        let t' = length-take (length tag - (due - n)) tag in
+        let c : since ≡ length (with_tags tag text ++ take (length tag - due) tag) =
+        rw ends at stands.counted in
+        record {
+          whole = rw ends (tag_behind w w' before tag text due n stands.within few (rw ends at stands.whole) is);
+          counted = rw ends (omega (arith, stands.within, few, c, l, l', t, t'));
+          within = omega (arith, stands.within);
+          inside = λ isnt. absurd (cc (ends, isnt));
+        }
+
+-- the tag that is due behind octets of a line
+abbrev pub due_at : List ℕ → List ℕ → ℕ → ℕ
+due_at tag octets n = due_behind tag (slice_index octets (n - 1))
+
+pub due_is : (tag octets text : List ℕ) (n : ℕ) → 0 < n → n ≤ length octets →
+    (due_at tag octets n ≤ length tag)
+    × ((is_due (text ++ take n octets) ≡ true → due_at tag octets n ≡ length tag)
+    × (is_due (text ++ take n octets) ≡ false → due_at tag octets n ≡ 0))
+due_is tag octets text n some within =
+    rw (ends_append true text (take n octets), ends_take (is_due text) octets n some within)
+    (by (slice_index octets (n - 1) == 10))
+  where
+    by : (b : Bool) → ((if b then length tag else 0) ≤ length tag)
+        × ((b ≡ true → (if b then length tag else 0) ≡ length tag)
+        × (b ≡ false → (if b then length tag else 0) ≡ 0))
+    by true = (omega arith, ((λ _. refl), (λ isnt. absurd (cc isnt))))
+    by false = (omega arith, ((λ isnt. absurd (cc isnt)), (λ _. refl)))
+
+line_text : (tag text octets : List ℕ) (n : ℕ) → 0 < n → n ≤ line_size octets → n ≤ length octets →
+    stopped_at tag (text ++ take n octets) (due_at tag octets n) ≡ stopped_at tag text 0
+    ++ take n octets
+unfolding stopped_at
+line_text tag text octets n some line within =
+    let due = due_at tag octets n in
+    let ends = (due_is tag octets text n some within).1.0 in
+    rw (no_tag_begun (is_due (text ++ take n octets)) tag due ends, whole_tag (is_due text) tag)
+    (append-nil (with_tags tag (text ++ take n octets))
+    ∙ (tagged_append true tag text (take n octets)
+    ∙ (ap (λ t. with_tags tag text ++ t) (tagged_line (is_due text) tag octets n some line)
+    ∙ sym (append_assoc (with_tags tag text) (lead (is_due text) tag) (take n octets)))))
+
+pub line_step : (w w' before tag : List ℕ) (since : ℕ) (text octets : List ℕ) (n : ℕ) →
+    Stands w before tag since text 0 → 0 < n → n ≤ line_size octets → n ≤ length octets →
+    w' ≡ w ++ take n octets →
+    Stands w' before tag (since + n) (text ++ take n octets) (due_at tag octets n)
+line_step w w' before tag since text octets n stands some line within is =
+    let whole = line_text tag text octets n some line within in
+    let ends = due_is tag octets text n some within in
+    let l = length-append (stopped_at tag text 0) (take n octets) in
+    let t = length-take n octets in
+    record {
+      whole = rw (whole, is, stands.whole) (append_assoc before (stopped_at tag text 0)
+          (take n octets));
+      counted = rw whole (omega (arith, stands.counted, l, t, within));
+      within = ends.0;
+      inside = ends.1.1;
+    }
+
+-- ---- the same of an out, where what was written to it is known
+
+pub tag_step_in : (a b : Option (List ℕ)) (before tag : List ℕ) (since : ℕ) (text : List ℕ)
+    (due n : ℕ) →
+    StandsIn a before tag since text due → 0 < due → n ≤ due →
+    Appends a b (take n (drop (length tag - due) tag)) →
+    StandsIn b before tag (since + n) text (due - n)
+tag_step_in None b before tag since text due n stands some few appends = absurd stands
+tag_step_in (Some w) None before tag since text due n stands some few appends = absurd appends
+tag_step_in (Some w) (Some w') before tag since text due n stands some few appends =
+    tag_step w w' before tag since text due n stands some few appends
+
+pub line_step_in : (a b : Option (List ℕ)) (before tag : List ℕ) (since : ℕ)
+    (text octets : List ℕ) (n : ℕ) →
+    StandsIn a before tag since text 0 → 0 < n → n ≤ line_size octets → n ≤ length octets →
+    Appends a b (take n octets) →
+    StandsIn b before tag (since + n) (text ++ take n octets) (due_at tag octets n)
+line_step_in None b before tag since text octets n stands some line within appends = absurd stands
+line_step_in (Some w) None before tag since text octets n stands some line within appends =
+    absurd appends
+line_step_in (Some w) (Some w') before tag since text octets n stands some line within appends =
+    line_step w w' before tag since text octets n stands some line within appends
+
+pub kept_in : (a b : Option (List ℕ)) (before tag : List ℕ) (since : ℕ) (text : List ℕ) (due : ℕ) →
+    StandsIn a before tag since text due → Keeps a b → StandsIn b before tag since text due
+kept_in None b before tag since text due stands keeps = absurd stands
+kept_in (Some w) None before tag since text due stands keeps = absurd keeps
+kept_in (Some w) (Some w') before tag since text due stands keeps = rw keeps stands
+
+pub keeps_same : (a : Option (List ℕ)) → Keeps a a
+keeps_same None = tt
+keeps_same (Some w) = refl
+
+take_take : (n m : ℕ) (xs : List ℕ) → n ≤ m → take n (take m xs) ≡ take n xs
+take_take zero m xs few = refl
+take_take (suc n) zero xs few = absurd (omega (arith, few))
+take_take (suc n) (suc m) [] few = refl
+take_take (suc n) (suc m) (x ∷ xs) few =
+    ap (λ rest. x ∷ rest) (take_take n m xs (omega (arith, few)))
+
+-- a put of octets of one line
+pub put_line_ok : (a b : Option (List ℕ)) (tag octets : List ℕ) (since since' due due' n : ℕ) →
+    due ≡ 0 →
+    0 < length octets → line_size octets ≤ length octets → 0 < line_size octets →
+    PutSome a b (take (line_size octets) octets) since since' n →
+    due' ≡ due_behind tag (slice_index octets (n - 1)) →
+    PutLine a b tag octets since since' due due' n
+put_line_ok a b tag octets since since' due due' n none some within line put is =
+    let l = length-take (line_size octets) octets in
+    let few : n ≤ line_size octets = omega (arith, l, put.within) in
+    let first : 0 < n = put.some (omega (arith, l, within, line)) in
+    let fits : n ≤ length octets = omega (arith, few, within) in
+    let appends = rw (take_take n (line_size octets) octets few) at put.written in
+    record {
+      some = first;
+      within = fits;
+      next = is;
+      stands = λ before text stands.
+          rw (is, put.counted) (line_step_in a b before tag since text octets n (rw none at stands) first few fits appends);
+    }
+
+pub put_line_err : (a b : Option (List ℕ)) (tag : List ℕ) (since since' due : ℕ) → due ≡ 0 →
+    PutNothing a b since since' → PutFront a b tag since since' due due
+put_line_err a b tag since since' due none put =
+    record {
+      within = rw none (omega arith);
+      stands = λ before text stands. rw put.counted (kept_in a b before tag since text due stands put.written);
+    }
+
+pub put_after_tag : (a b d : Option (List ℕ)) (tag octets : List ℕ)
+    (since since' since'' due due' due'' n : ℕ) →
+    ((before text : List ℕ) → StandsIn a before tag since text due →
+    StandsIn b before tag since' text due') →
+    PutLine b d tag octets since' since'' due' due'' n →
+    PutLine a d tag octets since since'' due due'' n
+put_after_tag a b d tag octets since since' since'' due due' due'' n first put =
+    record {
+      some = put.some;
+      within = put.within;
+      next = put.next;
+      stands = λ before text stands. put.stands before text (first before text stands);
+    }
+
+pub failed_after_tag : (a b d : Option (List ℕ)) (tag : List ℕ)
+    (since since' since'' due due' due'' : ℕ) →
+    ((before text : List ℕ) → StandsIn a before tag since text due →
+    StandsIn b before tag since' text due') →
+    PutFront b d tag since' since'' due' due'' → PutFront a d tag since since'' due due''
+failed_after_tag a b d tag since since' since'' due due' due'' first put =
+    record {
+      within = put.within;
+      stands = λ before text stands. put.stands before text (first before text stands);
+    }
+
+pub put_both : {E : Type 0} (r : Result ℕ E) (a b d : Option (List ℕ)) (tag octets : List ℕ)
+    (since since' since'' due due' due'' : ℕ) →
+    ((before text : List ℕ) → StandsIn a before tag since text due →
+    StandsIn b before tag since' text due') →
+    MatchResult r (λ n. PutLine b d tag octets since' since'' due' due'' n)
+    (λ _. PutFront b d tag since' since'' due' due'') →
+    MatchResult r (λ n. PutLine a d tag octets since since'' due due'' n)
+    (λ _. PutFront a d tag since since'' due due'')
+put_both (Ok n) a b d tag octets since since' since'' due due' due'' first put =
+    put_after_tag a b d tag octets since since' since'' due due' due'' n first put
+put_both (Err e) a b d tag octets since since' since'' due due' due'' first put =
+    failed_after_tag a b d tag since since' since'' due due' due'' first put
+
+-- ---- what is read off the octets below
+
+text_back : (tag text : List ℕ) (due : ℕ) →
+    without_tags (length tag) (stopped_at tag text due) ≡ text
+unfolding stopped_at
+text_back tag text due =
+    untagged_tagged true tag text (take (length tag - due) (lead (is_due text) tag))
+    ∙ (ap (λ rest. text ++ rest)
+    (untagged_few _ _ _ (begun_is_few (is_due text) tag (length tag - due))) ∙ append-nil text)
+
+record IsRead (w before tag : List ℕ) (since : ℕ) (text : List ℕ) (due : ℕ) : Type 0 where
+  front : take (length w - since) w ≡ before
+  body : body_of since w ≡ stopped_at tag text due
+  back : text_of tag since w ≡ text
+  size : since ≤ length w
+
+is_read : (w before tag : List ℕ) (since : ℕ) (text : List ℕ) (due : ℕ) →
+    Stands w before tag since text due →
+    IsRead w before tag since text due
+is_read w before tag since text due s =
+    let all = stopped_at tag text due in
+    let l : length w ≡ length before + length all = ap length s.whole ∙ length-append before all in
+    let start : length w - since ≡ length before = omega (arith, l, s.counted) in
+    let body : drop (length w - since) w ≡ all = rw start (ap (drop (length before)) s.whole
+    ∙ drop-append_seam before all) in
+    record {
+      front = rw start (ap (take (length before)) s.whole ∙ take-append_seam before all);
+      body = body;
+      back = ap (without_tags (length tag)) body ∙ text_back tag text due;
+      size = omega (arith, l, s.counted);
+    }
+
+or_zero : (b : Bool) (due : ℕ) → (b ≡ false → due ≡ 0) → (b || due == 0) ≡ true
+or_zero true due is = refl
+or_zero false due is = eq-eqb due 0 (is refl)
+
+zero_or : (b : Bool) (due : ℕ) → (b || due == 0) ≡ true → b ≡ false → due ≡ 0
+zero_or true due is inside = absurd (cc inside)
+zero_or false due is inside = eqb-true due 0 is
+
+tagged_is : (w before tag : List ℕ) (since : ℕ) (text : List ℕ) (due failures : ℕ) →
+    Stands w before tag since text due → is_clean tag due failures text ≡ true →
+    is_tagged tag due since failures w ≡ true
+unfolding is_tagged
+tagged_is w before tag since text due failures s clean =
+    let r = is_read w before tag since text due s in
+    rw (r.back, r.body) (
+    and_from _ _ (and_from _ _ (le-leb since (length w) r.size) (le-leb due (length tag) s.within))
+    (and_from _ _ ((bytes_eq-Decides (stopped_at tag text due)
+    (stopped_at tag text due)).1 refl)
+    (and_from _ _ (or_zero (is_due text) due s.inside) clean)))
+
+pub shown_is : (w before tag : List ℕ) (since : ℕ) (text : List ℕ) (due failures : ℕ) →
+    Stands w before tag since text due → is_clean tag due failures text ≡ true →
+    shown tag due since failures w ≡ Some (identity before tag ++ text)
+unfolding shown
+shown_is w before tag since text due failures s clean =
+    let r = is_read w before tag since text due s in
+    rw (tagged_is w before tag since text due failures s clean, r.front, r.back) refl
+
+pub record Shows (w tag : List ℕ) (since due failures : ℕ) (s : List ℕ) : Type 0 where
+  pub before : List ℕ
+  pub text : List ℕ
+  pub stands : Stands w before tag since text due
+  pub clean : is_clean tag due failures text ≡ true
+  pub is : s ≡ identity before tag ++ text
+
+value_of : Option (List ℕ) → List ℕ
+value_of None = []
+value_of (Some s) = s
+
+record HasParts (w tag : List ℕ) (since due failures : ℕ) : Type 0 where
+  size : since ≤ length w
+  within : due ≤ length tag
+  body : body_of since w ≡ stopped_at tag (text_of tag since w) due
+  inside : is_due (text_of tag since w) ≡ false → due ≡ 0
+  clean : is_clean tag due failures (text_of tag since w) ≡ true
+
+has_parts : (w tag : List ℕ) (since due failures : ℕ) → is_tagged tag due since failures w ≡ true →
+    HasParts w tag since due failures
+unfolding is_tagged
+has_parts w tag since due failures holds =
+    let parts = and_parts _ _ holds in
+    let sizes = and_parts _ _ parts.0 in
+    let rest = and_parts _ _ parts.1 in
+    let last = and_parts _ _ rest.1 in
+    record {
+      size = leb-true since (length w) sizes.0;
+      within = leb-true due (length tag) sizes.1;
+      body = (bytes_eq-Decides _ _).0 rest.0;
+      inside = zero_or (is_due (text_of tag since w)) due last.0;
+      clean = last.1;
+    }
+
+pub shows : (w tag : List ℕ) (since due failures : ℕ) (s : List ℕ) →
+    shown tag due since failures w ≡ Some s →
+    Shows w tag since due failures s
+unfolding shown value_of
+shows w tag since due failures s some = by (is_tagged tag due since failures w) refl
+  where
+    by : (b : Bool) → is_tagged tag due since failures w ≡ b → Shows w tag since due failures s
+    by false fails = absurd (cc (rw fails at some))
+    by true holds =
+        let h = has_parts w tag since due failures holds in
+        let start = length w - since in
+        let text = text_of tag since w in
+        let l = length-drop start w in
+        record {
+          before = take start w;
+          text = text;
+          stands = record {
+            whole = sym (take-append-drop start w) ∙ ap (λ b. take start w ++ b) h.body;
+            counted = rw (← h.body) (omega (arith, l, h.size));
+            within = h.within;
+            inside = h.inside;
+          };
+          clean = h.clean;
+          is = sym (ap value_of (rw holds at some));
+        }
+
+-- ---- what a call of writing did
+
+-- the octets before the tag, the tag and the text are those that the identity begins with
+pub record AreSame (before tag text before' tag' text' : List ℕ) : Type 0 where
+  pub same_before : before' ≡ before
+  pub same_tag : tag' ≡ tag
+  pub same_text : text' ≡ text
+
+first_is : List ℕ → ℕ
+first_is [] = 0
+first_is (x ∷ xs) = x
+
+same_parts : (before tag text before' tag' text' : List ℕ) → length before' ≡ length before →
+    length tag' ≡ length tag →
+    (before' ++ tag') ++ text' ≡ (before ++ tag) ++ text →
+    AreSame before tag text before' tag' text'
+same_parts before tag text before' tag' text' l t e =
+    let e' : before' ++ (tag' ++ text') ≡ before ++ (tag ++ text) =
+    sym (append_assoc before' tag' text') ∙ (e ∙ append_assoc before tag text) in
+    let b : before' ≡ before = sym (take-append_seam before' (tag' ++ text'))
+    ∙ (rw (l, e') (take-append_seam before (tag ++ text))) in
+    let r : tag' ++ text' ≡ tag ++ text = sym (drop-append_seam before' (tag' ++ text'))
+    ∙ (rw (l, e') (drop-append_seam before (tag ++ text))) in
+    record {
+      same_before = b;
+      same_tag = sym (take-append_seam tag' text') ∙ (rw (t, r) (take-append_seam tag text));
+      same_text = sym (drop-append_seam tag' text') ∙ (rw (t, r) (drop-append_seam tag text));
+    }
+
+pub identity_is : (before tag text before' tag' text' : List ℕ) →
+    identity before' tag' ++ text' ≡ identity before tag ++ text →
+    AreSame before tag text before' tag' text'
+unfolding first_is
+identity_is before tag text before' tag' text' e =
+    let l : length before' ≡ length before = ap first_is e in
+    let t : length tag' ≡ length tag = ap (λ xs. first_is (drop 1 xs)) e in
+    same_parts before tag text before' tag' text' l t (ap (drop 2) e)

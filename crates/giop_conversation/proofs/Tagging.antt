@@ -1,0 +1,153 @@
+-- What writing lines to an out with tags does to the out below.
+use Rattle.std.proofs.Common.{◌≡◌, ℕ, true, List, [], ◌++◌, length, take, Option, Some, None, option_and_then, refl, sym, ap, ◌∙◌, arith, append-nil, append_assoc}
+use Rattle.std.proofs.lemmas.Bool.{or_right, eqb-true, eq-eqb}
+use Rattle.std.specs.Io.KnownBytes.{Appends}
+use Rattle.giop_print.specs.Output.{Wrote, WroteFront}
+use Rattle.giop_conversation.specs.Tags.{tagged, with_tags}
+use Rattle.giop_conversation.specs.TaggedText.{ends_line, is_due, stopped_at, Stands}
+use Rattle.giop_conversation.specs.TaggedState.{Tagging, tagging_log, identity, is_clean, shown, IsReady, WroteTaggedFront}
+use Rattle.giop_conversation.proofs.TagLemmas.{ends_append}
+use Rattle.giop_conversation.proofs.TaggedLemmas.{stopped_ended, stopped_more, shown_is, shows, Shows, identity_is}
+
+-- text that grew by more, under the same tag
+record HasGrown (t t' : Tagging) (before text more : List ℕ) : Type 0 where
+  below : List ℕ
+  known : t'.whole ≡ Some below
+  tag : t'.tag ≡ t.tag
+  stands : Stands below before t.tag t'.since (text ++ more) t'.due
+  clean : is_clean t.tag t'.due t'.failures (text ++ more) ≡ true
+
+grown_by : (t t' : Tagging) (before text more : List ℕ) (below s : List ℕ) → t'.whole ≡ Some below →
+    s ≡ (identity before t.tag ++ text) ++ more → Shows below t'.tag t'.since t'.due t'.failures s →
+    HasGrown t t' before text more
+grown_by t t' before text more below s known is found =
+    let e : identity found.before t'.tag ++ found.text ≡ identity before t.tag ++ (text ++ more) =
+    sym found.is ∙ (is ∙ append_assoc (identity before t.tag) text more) in
+    let same = identity_is before t.tag (text ++ more) found.before t'.tag found.text e in
+    record {
+      below = below;
+      known = known;
+      tag = same.same_tag;
+      stands = rw (same.same_before, same.same_tag, same.same_text) at found.stands;
+      clean = rw (same.same_tag, same.same_text) at found.clean;
+    }
+
+grown : (t t' : Tagging) (before text more : List ℕ) (whole : Option (List ℕ)) → t'.whole ≡ whole →
+    Appends (Some (identity before t.tag ++ text))
+    (option_and_then (shown t'.tag t'.due t'.since t'.failures) whole) more →
+    HasGrown t t' before text more
+grown t t' before text more None known appends = absurd appends
+grown t t' before text more (Some below) known appends =
+    by (shown t'.tag t'.due t'.since t'.failures below) refl appends
+  where
+    by : (o : Option (List ℕ)) → shown t'.tag t'.due t'.since t'.failures below ≡ o →
+        Appends (Some (identity before t.tag ++ text)) o more → HasGrown t t' before text more
+    by None is appends = absurd appends
+    by (Some s) is appends =
+        grown_by t t' before text more below s known appends (shows _ _ _ _ _ _ is)
+
+ready_is_clean : (t : Tagging) (w : List ℕ) (r : IsReady t w) →
+    is_clean t.tag t.due t.failures r.text ≡ true
+ready_is_clean t w r = or_right _ _ (eq-eqb t.due (length t.tag) r.due)
+
+ready_grown : (t t' : Tagging) (w more : List ℕ) (r : IsReady t w) →
+    Appends (tagging_log t).written (tagging_log t').written more →
+    HasGrown t t' r.before r.text more
+ready_grown t t' w more r appends =
+    let is = shown_is w r.before t.tag t.since r.text t.due t.failures r.stands (ready_is_clean t w r) in
+    grown t t' r.before r.text more t'.whole refl (rw (r.known, is) at appends)
+
+-- below there is more: the text that it grew by, with tags
+ready_below : (t t' : Tagging) (w more : List ℕ) (r : IsReady t w)
+    (g : HasGrown t t' r.before r.text more) →
+    g.below ≡ w ++ stopped_at t.tag more t'.due
+ready_below t t' w more r g =
+    let tags = with_tags t.tag r.text in
+    let old : w ≡ r.before ++ tags = r.stands.whole
+    ∙ ap (λ b. r.before ++ b) (stopped_ended t.tag r.text t.due (λ _. r.due)) in
+    g.stands.whole ∙ (ap (λ b. r.before ++ b) (stopped_more t.tag r.text more t'.due r.ended)
+    ∙ (sym (append_assoc r.before tags (stopped_at t.tag more t'.due))
+    ∙ ap (λ b. b ++ stopped_at t.tag more t'.due) (sym old)))
+
+clean_due : (tag text : List ℕ) (due failures : ℕ) → failures ≡ 0 → is_due text ≡ true →
+    is_clean tag due failures text ≡ true → due ≡ length tag
+clean_due tag text due failures none ended clean =
+    eqb-true due (length tag) (rw (none, ended) at clean)
+
+pub ready_wrote : (t t' : Tagging) (w lines : List ℕ) → IsReady t w →
+    Wrote (tagging_log t) (tagging_log t') lines →
+    is_due lines ≡ true → IsReady t' (w ++ with_tags t.tag lines) × (t'.tag ≡ t.tag)
+ready_wrote t t' w lines r wrote ends =
+    let g = ready_grown t t' w lines r wrote.written in
+    let sound : t'.failures ≡ 0 = wrote.failures ∙ r.sound in
+    let ended : is_due (r.text ++ lines) ≡ true = ends_append true r.text lines
+    ∙ (ap (λ b. ends_line b lines) r.ended ∙ ends) in
+    let due : t'.due ≡ length t.tag =
+    clean_due t.tag (r.text ++ lines) t'.due t'.failures sound ended g.clean in
+    let below : g.below ≡ w ++ with_tags t.tag lines =
+    ready_below t t' w lines r g
+    ∙ ap (λ b. w ++ b) (stopped_ended t.tag lines t'.due (λ _. due)) in (
+      record {
+        known = g.known ∙ ap (λ b. Some b) below;
+        before = r.before;
+        text = r.text ++ lines;
+        stands = rw (g.tag, ← below) g.stands;
+        ended = ended;
+        due = rw g.tag due;
+        sound = sound;
+      },
+      g.tag,
+    )
+
+pub ready_front : (t t' : Tagging) (w lines : List ℕ) → IsReady t w →
+    WroteFront (tagging_log t) (tagging_log t') lines →
+    WroteTaggedFront t' w t.tag lines
+ready_front t t' w lines r wrote =
+    let g = ready_grown t t' w (take wrote.size lines) r wrote.written in
+    record {
+      size = wrote.size;
+      due = t'.due;
+      whole = g.known ∙ ap (λ b. Some b) (ready_below t t' w (take wrote.size lines) r g);
+    }
+
+-- ---- a tag is set
+
+fresh_stands : (w tag : List ℕ) → Stands w w tag 0 [] (length tag)
+unfolding tagged ends_line
+fresh_stands w tag =
+    let none : stopped_at tag [] (length tag) ≡ [] =
+    stopped_ended tag [] (length tag) (λ _. refl) in
+    record {
+      whole = rw (none, append-nil w) refl;
+      counted = rw none refl;
+      within = omega arith;
+      inside = λ isnt. absurd (cc isnt);
+    }
+
+pub ready_with : (t : Tagging) (w tag : List ℕ) → IsReady t w →
+    IsReady (record t { tag = tag; due = length tag; since = 0 }) w
+unfolding ends_line
+ready_with t w tag r =
+    record {
+      known = r.known;
+      before = w;
+      text = [];
+      stands = fresh_stands w tag;
+      ended = refl;
+      due = refl;
+      sound = r.sound;
+    }
+
+pub ready_new : (w : List ℕ) →
+    IsReady (record { whole = Some w; tag = []; due = 0; since = 0; puts = 0; failures = 0 }) w
+unfolding ends_line
+ready_new w =
+    record {
+      known = refl;
+      before = w;
+      text = [];
+      stands = fresh_stands w [];
+      ended = refl;
+      due = refl;
+      sound = refl;
+    }

@@ -1,0 +1,8 @@
+use Rattle.giop_conversation.proofs.TagLemmas.{taken, joined}
+use Rattle.giop_conversation.proofs.laws.lines_with_tags.Goals as goal
+
+pub returns-clause-taken : goal.returns-clause-taken
+returns-clause-taken c = taken
+
+pub returns-clause-joined : goal.returns-clause-joined
+returns-clause-joined c = joined

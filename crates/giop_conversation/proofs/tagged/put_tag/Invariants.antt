@@ -1,0 +1,15 @@
+use Rattle.std.proofs.Common.{ℕ, List, length, ◌≤◌}
+use Rattle.giop_conversation.specs.TaggedText.{StandsIn}
+use Rattle.giop_conversation.proofs.tagged.put_tag.Given as goal
+
+abbrev pub invariant-loop-due : goal.invariant-loop-due
+invariant-loop-due g l =
+    record {
+      within : l.due ≤ length l.tag;
+      stands : (before text : List ℕ) →
+          StandsIn (g.O.Out.log l.initial.out).written before l.tag l.initial.since text l.initial.due →
+          StandsIn (g.O.Out.log l.out).written before l.tag l.since text l.due;
+    }
+
+abbrev pub decreases-loop-due : goal.decreases-loop-due
+decreases-loop-due g l = l.due

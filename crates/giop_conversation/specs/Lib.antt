@@ -1,0 +1,5 @@
+pub mod Times
+pub mod Lines
+pub mod Tags
+pub mod TaggedText
+pub mod TaggedState

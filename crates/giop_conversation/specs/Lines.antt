@@ -1,0 +1,59 @@
+-- The lines of a capture beside those of its streams (docs/FORMATS.md; meaning). Those of a stream have its tag in front (Tags).
+use Rattle.std.specs.Prelude.{ℕ, List, [], ◌∷◌, Option, codes, decimal}
+use Rattle.giop_print.specs.Text.{joined}
+use Rattle.giop_calls.specs.declared.calls.Call.{Call}
+use Rattle.tcp_flow.specs.declared.flow.CloseCause.{CloseCause}
+use Rattle.tcp_flow.specs.declared.flow.CloseCause.TheVariants.{Fin, Reset, Syn, Fault, Gap, Room, End}
+use Rattle.tcp_segment.specs.declared.endpoint.Flow.{Flow}
+use Rattle.tcp_segment.specs.EndpointText.{endpoint_text}
+use Rattle.giop_conversation.specs.Times.{time_text, span_text}
+
+-- the beginning of a stream
+unfoldable pub stream_line : Flow → Option ℕ → List ℕ
+stream_line flow time =
+    joined (codes "stream " ∷ endpoint_text flow.from ∷ codes " > " ∷ endpoint_text flow.to
+    ∷ codes " at " ∷ time_text time
+    ∷ codes "\n" ∷ [])
+
+-- when the header of a message was complete
+unfoldable pub time_line : ℕ → Option ℕ → List ℕ
+time_line message time =
+    joined (codes "m" ∷ decimal message ∷ codes " time " ∷ time_text time ∷ codes "\n" ∷ [])
+
+-- the call that a Reply answers, and how long after it
+unfoldable pub answers_line : ℕ → Call → Option ℕ → List ℕ
+answers_line message call time =
+    joined (codes "m" ∷ decimal message ∷ codes " answers s" ∷ decimal call.stream ∷ codes " m"
+    ∷ decimal call.message
+    ∷ codes " " ∷ call.name.items ∷ codes " after " ∷ span_text call.time time ∷ codes "\n" ∷ [])
+
+-- the exception that a Reply raises, by its repository id
+unfoldable pub raises_line : ℕ → List ℕ → List ℕ
+raises_line message repository =
+    joined (codes "m" ∷ decimal message ∷ codes " raises " ∷ repository ∷ codes "\n" ∷ [])
+
+abbrev pub cause_word : CloseCause → List ℕ
+cause_word Fin = codes "fin"
+cause_word Reset = codes "reset"
+cause_word Syn = codes "syn"
+cause_word Fault = codes "fault"
+cause_word Gap = codes "gap"
+cause_word Room = codes "room"
+cause_word End = codes "end"
+
+-- why a stream closes
+unfoldable pub closed_line : CloseCause → List ℕ
+closed_line cause = joined (codes "closed " ∷ cause_word cause ∷ codes "\n" ∷ [])
+
+-- the fault of the capture itself, and the number of its octet
+unfoldable pub capture_fault_line : List ℕ → ℕ → List ℕ
+capture_fault_line word at =
+    joined (codes "capture fault " ∷ word ∷ codes " at " ∷ decimal at ∷ codes "\n" ∷ [])
+
+-- the sums over all streams, the packets, and the octets of the capture
+unfoldable pub capture_total_line : ℕ → ℕ → ℕ → ℕ → ℕ → List ℕ
+capture_total_line streams messages faults packets octets =
+    joined (codes "total streams " ∷ decimal streams ∷ codes " messages " ∷ decimal messages
+    ∷ codes " faults "
+    ∷ decimal faults ∷ codes " packets " ∷ decimal packets ∷ codes " octets " ∷ decimal octets
+    ∷ codes "\n" ∷ [])

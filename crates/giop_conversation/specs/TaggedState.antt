@@ -1,0 +1,71 @@
+-- What is known of an `Out` that puts a tag in front of each line (state). Contracts see what was written to the out below it,
+-- how much of that since the tag was set, and how many octets of the tag are due before the next octet.
+--
+-- What is written through it is read off what was written below: first what identifies the octets before the tag was set and
+-- the tag, then the text without tags. So what a call of writing did to it tells what it did to the out below.
+use Rattle.std.specs.Prelude.{◌≡◌, ℕ, ◌-◌, Bool, true, not, ◌&&◌, ◌||◌, ◌==◌, nat_le, List, ◌∷◌, ◌++◌, length, take, drop, Option, Some, None, option_and_then, if◌then◌else◌}
+use Rattle.std.specs.Str.{bytes_eq}
+use Rattle.giop_print.specs.Output.{OutLog}
+use Rattle.giop_conversation.specs.Tags.{without_tags}
+use Rattle.giop_conversation.specs.TaggedText.{is_due, stopped_at, Stands}
+
+pub record Tagging : Type 0 where
+  pub whole : Option (List ℕ)  -- what was written to the out below, where that is known
+  pub tag : List ℕ
+  pub due : ℕ  -- how many octets of the tag are to be written before the next octet
+  pub since : ℕ  -- how many octets were written since the tag was set
+  pub puts : ℕ
+  pub failures : ℕ
+
+-- what identifies the octets before the tag was set, and the tag
+abbrev pub identity : List ℕ → List ℕ → List ℕ
+identity before tag = length before ∷ length tag ∷ (before ++ tag)
+
+-- the octets since the tag was set
+abbrev pub body_of : ℕ → List ℕ → List ℕ
+body_of since w = drop (length w - since) w
+
+abbrev pub text_of : List ℕ → ℕ → List ℕ → List ℕ
+text_of tag since w = without_tags (length tag) (body_of since w)
+
+-- no put failed, and the tag of a line that is due is due as a whole
+abbrev pub is_clean : List ℕ → ℕ → ℕ → List ℕ → Bool
+is_clean tag due failures text = (not (failures == 0) || not (is_due text)) || due == length tag
+
+-- the octets since the tag was set are a text with tags, and all but `due` octets of the tag that is due
+unfoldable pub is_tagged : List ℕ → ℕ → ℕ → ℕ → List ℕ → Bool
+is_tagged tag due since failures w =
+    (nat_le since (length w) && nat_le due (length tag))
+    && (bytes_eq (body_of since w) (stopped_at tag (text_of tag since w) due)
+    && ((is_due (text_of tag since w) || due == 0)
+    && is_clean tag due failures (text_of tag since w)))
+
+unfoldable pub shown : List ℕ → ℕ → ℕ → ℕ → List ℕ → Option (List ℕ)
+shown tag due since failures w =
+    if is_tagged tag due since failures w
+    then Some (identity (take (length w - since) w) tag ++ text_of tag since w)
+    else None
+
+abbrev pub tagging_log : Tagging → OutLog
+tagging_log t = record {
+  written = option_and_then (shown t.tag t.due t.since t.failures) t.whole;
+  puts = t.puts;
+  failures = t.failures;
+}
+
+-- No put has failed, this was written to the out below, and the next octet begins a line.
+pub record IsReady (t : Tagging) (w : List ℕ) : Type 0 where
+  pub known : t.whole ≡ Some w
+  pub before : List ℕ
+  pub text : List ℕ
+  pub stands : Stands w before t.tag t.since text t.due
+  pub ended : is_due text ≡ true
+  pub due : t.due ≡ length t.tag
+  pub sound : t.failures ≡ 0
+
+-- A put failed: behind what was written before to the out below there stands a front of the lines with the tag, and maybe
+-- the beginning of a tag.
+pub record WroteTaggedFront (t : Tagging) (w tag lines : List ℕ) : Type 0 where
+  pub size : ℕ
+  pub due : ℕ
+  pub whole : t.whole ≡ Some (w ++ stopped_at tag (take size lines) due)

@@ -1,0 +1,67 @@
+-- A text with tags that is being written: it may stop inside a tag (meaning).
+use Rattle.std.specs.Prelude.{◌≡◌, ℕ, suc, ◌+◌, ◌-◌, ◌≤◌, ◌<◌, Bool, true, false, ◌==◌, List, [], ◌∷◌, ◌++◌, length, take, slice_index, Option, Some, None, if◌then◌else◌}
+use Rattle.std.specs.Io.KnownBytes.{Appends, Keeps}
+use Rattle.giop_conversation.specs.Tags.{lead, with_tags}
+
+-- whether the octet behind a text is the first of a line
+unfoldable pub ends_line : Bool → List ℕ → Bool
+ends_line first [] = first
+ends_line first (x ∷ xs) = ends_line (x == 10) xs
+
+abbrev pub is_due : List ℕ → Bool
+is_due text = ends_line true text
+
+-- how many octets the first line of a text has, its LF among them
+unfoldable pub line_size : List ℕ → ℕ
+line_size [] = 0
+line_size (x ∷ xs) = if x == 10 then 1 else suc (line_size xs)
+
+-- the text with tags, and all but `due` octets of the tag of the line behind it, where one begins there
+unfoldable pub stopped_at : List ℕ → List ℕ → ℕ → List ℕ
+stopped_at tag text due = with_tags tag text ++ take (length tag - due) (lead (is_due text) tag)
+
+-- what was written behind other octets, and how many octets that is
+pub record Stands (w before tag : List ℕ) (since : ℕ) (text : List ℕ) (due : ℕ) : Type 0 where
+  pub whole : w ≡ before ++ stopped_at tag text due
+  pub counted : since ≡ length (stopped_at tag text due)
+  pub within : due ≤ length tag
+  pub inside : is_due text ≡ false → due ≡ 0
+
+-- the same of what was written to an out, where that is known
+abbrev pub StandsIn : Option (List ℕ) → List ℕ → List ℕ → ℕ → List ℕ → ℕ → Type 0
+StandsIn None before tag since text due = ⊥
+StandsIn (Some w) before tag since text due = Stands w before tag since text due
+
+-- how many octets of the tag are due behind an octet
+abbrev pub due_behind : List ℕ → ℕ → ℕ
+due_behind tag x = if x == 10 then length tag else 0
+
+-- ---- what a put did, by what was written before and behind it, and the counts of octets
+
+-- the first n octets were taken, at least one unless there were none
+pub record PutSome (a b : Option (List ℕ)) (octets : List ℕ) (since since' n : ℕ) : Type 0 where
+  pub some : 0 < length octets → 0 < n
+  pub within : n ≤ length octets
+  pub written : Appends a b (take n octets)
+  pub counted : since' ≡ since + n
+
+-- it failed
+pub record PutNothing (a b : Option (List ℕ)) (since since' : ℕ) : Type 0 where
+  pub written : Keeps a b
+  pub counted : since' ≡ since
+
+-- the first n octets were taken, with the tag where one was due
+pub record PutLine (a b : Option (List ℕ)) (tag octets : List ℕ)
+    (since since' due due' n : ℕ) : Type 0 where
+  pub some : 0 < n
+  pub within : n ≤ length octets
+  pub next : due' ≡ due_behind tag (slice_index octets (n - 1))
+  pub stands : (before text : List ℕ) → StandsIn a before tag since text due →
+      StandsIn b before tag since' (text ++ take n octets) due'
+
+-- it failed, maybe inside the tag that was due
+pub record PutFront (a b : Option (List ℕ)) (tag : List ℕ)
+    (since since' due due' : ℕ) : Type 0 where
+  pub within : due' ≤ length tag
+  pub stands : (before text : List ℕ) → StandsIn a before tag since text due →
+      StandsIn b before tag since' text due'

@@ -1,0 +1,30 @@
+-- Lines with a tag in front of each, as those of a stream in a capture (docs/FORMATS.md; meaning). A line ends in LF.
+use Rattle.std.specs.Prelude.{ℕ, zero, suc, Bool, true, false, ◌==◌, List, [], ◌∷◌, ◌++◌, if◌then◌else◌, codes, decimal}
+
+-- the tag of a stream, by its number
+abbrev pub stream_tag : ℕ → List ℕ
+stream_tag number = codes "s" ++ (decimal number ++ codes " ")
+
+-- what stands in front of an octet: the tag, where it is the first of a line
+abbrev pub lead : Bool → List ℕ → List ℕ
+lead true tag = tag
+lead false tag = []
+
+-- the text with the tag in front of each line that begins in it, where its first octet is the first of a line or isn't
+unfoldable pub tagged : Bool → List ℕ → List ℕ → List ℕ
+tagged first tag [] = []
+tagged first tag (x ∷ xs) = lead first tag ++ x ∷ tagged (x == 10) tag xs
+
+-- the lines of a text, the tag in front of each
+abbrev pub with_tags : List ℕ → List ℕ → List ℕ
+with_tags tag text = tagged true tag text
+
+-- the text without its first `skip` octets and without the first `size` octets of each line that begins in it
+unfoldable pub untagged : ℕ → ℕ → List ℕ → List ℕ
+untagged skip size [] = []
+untagged zero size (x ∷ xs) = x ∷ untagged (if x == 10 then size else 0) size xs
+untagged (suc skip) size (x ∷ xs) = untagged skip size xs
+
+-- the lines of a text without their tags, each of so many octets
+abbrev pub without_tags : ℕ → List ℕ → List ℕ
+without_tags size text = untagged size size text

@@ -1,0 +1,31 @@
+//! The laws of lines with tags.
+
+ghost use Rattle.std.specs.Prelude.{◌≡◌, ◌++◌, List, ℕ, [], true, length, Some};
+ghost use Rattle.giop_print.specs.Output.{Wrote, WroteFront};
+ghost use Rattle.giop_conversation.specs.Tags.{with_tags, without_tags};
+ghost use Rattle.giop_conversation.specs.TaggedText.{is_due};
+ghost use Rattle.giop_conversation.specs.TaggedState.{Tagging, tagging_log, IsReady, WroteTaggedFront};
+
+/// What writing whole lines to an out with tags does to the out below.
+pub fn lines_stand_below()
+    // At first, and whenever a tag is set, the next octet begins a line.
+    ensures start { (w : List ℕ) →
+        IsReady (record { whole = Some w; tag = []; due = 0; since = 0; puts = 0; failures = 0 }) w }
+    ensures again { (t : Tagging) (w tag : List ℕ) → IsReady t w →
+        IsReady (record t { tag = tag; due = length tag; since = 0 }) w }
+    // Where lines are written, they stand below, each with the tag in front;
+    ensures wrote { (t after : Tagging) (w lines : List ℕ) → IsReady t w →
+        Wrote (tagging_log t) (tagging_log after) lines → is_due lines ≡ true →
+        IsReady after (w ++ with_tags t.tag lines) × (after.tag ≡ t.tag) }
+    // and where a put fails, a front of them does, and maybe the beginning of a tag.
+    ensures front { (t after : Tagging) (w lines : List ℕ) → IsReady t w →
+        WroteFront (tagging_log t) (tagging_log after) lines →
+        WroteTaggedFront after w t.tag lines }
+{}
+
+/// Lines with tags are the lines again where the tags are taken away, and those of whole lines stand one behind the other.
+pub fn lines_with_tags()
+    ensures taken { (tag text : List ℕ) → without_tags (length tag) (with_tags tag text) ≡ text }
+    ensures joined { (tag first more : List ℕ) → is_due first ≡ true →
+        with_tags tag (first ++ more) ≡ with_tags tag first ++ with_tags tag more }
+{}

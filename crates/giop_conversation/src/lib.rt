@@ -1,0 +1,18 @@
+//! The lines of a capture beside those of its streams, times in them, and lines with the tag of their stream in front.
+#![tactic(auto)]
+
+mod buffer;
+mod laws;
+mod lines;
+mod tag;
+mod tagged;
+mod times;
+
+pub use laws::{lines_stand_below, lines_with_tags};
+pub use lines::{
+    CaptureTotals, answers_line, capture_fault_line, capture_total_line, closed_line, raises_line,
+    stream_line, time_line,
+};
+pub use tag::{Tag, no_tag, stream_tag};
+pub use tagged::Tagged;
+pub use times::{TimeText, span_text, time_text};

@@ -1,0 +1,181 @@
+//! The lines of a capture beside those of its streams, written to any `Out` (docs/FORMATS.md). A function returns Ok where its
+//! whole line was written; else a put failed, and a front of the line was written. Times are nanoseconds since 1970-01-01 UTC.
+
+ghost use Rattle.std.specs.Prelude.{◌≡◌};
+ghost use Rattle.giop_print.specs.Output.{Writes};
+ghost use Rattle.giop_conversation.specs.Lines.{stream_line, time_line, answers_line, raises_line, cause_word, closed_line, capture_fault_line, capture_total_line};
+
+use crate::times::{span_text, time_text};
+use giop_calls::Call;
+use giop_print::{Out, OutFault, put_parts};
+use itoa::Buffer;
+use tcp_flow::CloseCause;
+use tcp_segment::{Flow, endpoint_text};
+
+/// What a whole capture has: its streams, their messages and faults, its packets, and its octets up to its fault.
+#[derive(Clone, Copy, Debug, PartialEq, Eq)]
+pub struct CaptureTotals {
+    pub streams: u64,
+    pub messages: u64,
+    pub faults: u64,
+    pub packets: u64,
+    pub octets: u64,
+}
+
+/// The line of a stream that begins: who sends to whom, and when.
+#[tactic(auto, unfolding(crate::specs::Lines::stream_line))]
+pub fn stream_line<O: Out>(out: &mut O, flow: Flow, time: Option<u128>) -> Result<(), OutFault>
+    ensures { Writes result (O.log out.old) (O.log out.new) (stream_line flow time) }
+{
+    put_parts(
+        out,
+        &[
+            b"stream ",
+            endpoint_text(flow.from).as_slice(),
+            b" > ",
+            endpoint_text(flow.to).as_slice(),
+            b" at ",
+            time_text(time).as_slice(),
+            b"\n",
+        ],
+    )
+}
+
+/// The line of when the header of a message was complete.
+#[tactic(auto, unfolding(crate::specs::Lines::time_line))]
+pub fn time_line<O: Out>(out: &mut O, message: u64, time: Option<u128>) -> Result<(), OutFault>
+    ensures { Writes result (O.log out.old) (O.log out.new) (time_line message time) }
+{
+    let mut digits = Buffer::new();
+    let time = time_text(time);
+    put_parts(
+        out,
+        &[
+            b"m",
+            digits.format(message).as_bytes(),
+            b" time ",
+            time.as_slice(),
+            b"\n",
+        ],
+    )
+}
+
+/// The line of the call that a Reply answers, and how long after it the Reply's header was complete.
+#[tactic(auto, unfolding(crate::specs::Lines::answers_line))]
+pub fn answers_line<O: Out>(
+    out: &mut O,
+    message: u64,
+    call: &Call,
+    time: Option<u128>,
+) -> Result<(), OutFault>
+    ensures { Writes result (O.log out.old) (O.log out.new) (answers_line message call.now time) }
+{
+    let mut message_digits = Buffer::new();
+    let mut stream_digits = Buffer::new();
+    let mut call_digits = Buffer::new();
+    let span = span_text(call.time, time);
+    put_parts(
+        out,
+        &[
+            b"m",
+            message_digits.format(message).as_bytes(),
+            b" answers s",
+            stream_digits.format(call.stream).as_bytes(),
+            b" m",
+            call_digits.format(call.message).as_bytes(),
+            b" ",
+            call.name.as_slice(),
+            b" after ",
+            span.as_slice(),
+            b"\n",
+        ],
+    )
+}
+
+/// The line of the exception that a Reply raises, by its repository id.
+#[tactic(auto, unfolding(crate::specs::Lines::raises_line))]
+pub fn raises_line<O: Out>(out: &mut O, message: u64, repository: &[u8]) -> Result<(), OutFault>
+    ensures { Writes result (O.log out.old) (O.log out.new) (raises_line message repository.now) }
+{
+    let mut digits = Buffer::new();
+    put_parts(
+        out,
+        &[
+            b"m",
+            digits.format(message).as_bytes(),
+            b" raises ",
+            repository,
+            b"\n",
+        ],
+    )
+}
+
+/// The word of why a stream closes.
+fn cause_word(cause: CloseCause) -> &'static [u8]
+    ensures { result.now ≡ cause_word cause }
+{
+    match cause {
+        CloseCause::Fin => b"fin",
+        CloseCause::Reset => b"reset",
+        CloseCause::Syn => b"syn",
+        CloseCause::Fault => b"fault",
+        CloseCause::Gap => b"gap",
+        CloseCause::Room => b"room",
+        CloseCause::End => b"end",
+    }
+}
+
+/// The line of why a stream closes.
+#[tactic(auto, unfolding(crate::specs::Lines::closed_line))]
+pub fn closed_line<O: Out>(out: &mut O, cause: CloseCause) -> Result<(), OutFault>
+    ensures { Writes result (O.log out.old) (O.log out.new) (closed_line cause) }
+{
+    put_parts(out, &[b"closed ", cause_word(cause), b"\n"])
+}
+
+/// The line of a capture's own fault, and the number of its octet, from 1.
+#[tactic(auto, unfolding(crate::specs::Lines::capture_fault_line))]
+pub fn capture_fault_line<O: Out>(out: &mut O, word: &str, at: u64) -> Result<(), OutFault>
+    ensures { Writes result (O.log out.old) (O.log out.new) (capture_fault_line word.now at) }
+{
+    let mut digits = Buffer::new();
+    put_parts(
+        out,
+        &[
+            b"capture fault ",
+            word.as_bytes(),
+            b" at ",
+            digits.format(at).as_bytes(),
+            b"\n",
+        ],
+    )
+}
+
+/// The last line of a capture.
+#[tactic(auto, unfolding(crate::specs::Lines::capture_total_line))]
+pub fn capture_total_line<O: Out>(out: &mut O, totals: CaptureTotals) -> Result<(), OutFault>
+    ensures { Writes result (O.log out.old) (O.log out.new) (capture_total_line totals.streams totals.messages
+        totals.faults totals.packets totals.octets) }
+{
+    let mut streams = Buffer::new();
+    let mut messages = Buffer::new();
+    let mut faults = Buffer::new();
+    let mut packets = Buffer::new();
+    let mut octets = Buffer::new();
+    put_parts(
+        out,
+        &[
+            b"total streams ",
+            streams.format(totals.streams).as_bytes(),
+            b" messages ",
+            messages.format(totals.messages).as_bytes(),
+            b" faults ",
+            faults.format(totals.faults).as_bytes(),
+            b" packets ",
+            packets.format(totals.packets).as_bytes(),
+            b" octets ",
+            octets.format(totals.octets).as_bytes(),
+            b"\n",
+        ],
+    )
+}

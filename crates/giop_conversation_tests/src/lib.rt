@@ -1,0 +1,9 @@
+//! Tests of the lines of a capture, and of lines with tags.
+#![tactic(auto)]
+
+#[cfg(test)]
+mod line_tests;
+#[cfg(test)]
+mod tag_tests;
+#[cfg(test)]
+mod time_tests;

@@ -1,0 +1,54 @@
+//! Lines with tags, in pieces of each size, and where the out below is full.
+
+use giop_conversation::{Tagged, no_tag, stream_tag};
+use giop_print::{Out, OutFault, Sheet, put_all};
+use std::test::Fail;
+
+const LINES: &[u8] = b"m1 end\n\nm2 end\nm3 ";
+
+/// The lines with the tag of stream 12, and behind them a line without one.
+const TAGGED: &[u8] = b"s12 m1 end\ns12 \ns12 m2 end\ns12 m3 total\n";
+
+/// Puts octets in pieces of a size.
+fn put_pieces<O: Out>(out: &mut O, octets: &[u8], size: usize) -> Result<(), OutFault> {
+    let mut rest = octets;
+    while !rest.is_empty() && size > 0 {
+        let (piece, behind) = rest.split_at(size.min(rest.len()));
+        put_all(out, piece)?;
+        rest = behind;
+    }
+    Ok(())
+}
+
+/// Puts the lines with a tag, and a line without one.
+fn put_lines(sheet: Sheet, size: usize) -> Result<Sheet, OutFault> {
+    let mut tagged = Tagged::new(sheet);
+    tagged.set_tag(stream_tag(12));
+    put_pieces(&mut tagged, LINES, size)?;
+    tagged.set_tag(no_tag());
+    put_all(&mut tagged, b"total\n")?;
+    Ok(tagged.into_out())
+}
+
+#[test]
+fn each_line_has_its_tag_in_pieces_of_any_size(rt: HostRuntime) -> Result<(), Fail> {
+    for size in 1..20 {
+        let mut room = [0; 64];
+        let sheet = put_lines(Sheet::new(&mut room), size)?;
+        assert!(rt; sheet.held() == TAGGED, "{size}");
+    }
+    Ok(())
+}
+
+#[test]
+fn a_full_out_has_a_front_of_the_lines(rt: HostRuntime) {
+    for size in 1..30 {
+        let mut room = [0; 64];
+        let mut tagged = Tagged::new(Sheet::new(&mut room[..size]));
+        tagged.set_tag(stream_tag(12));
+        let is_written = put_all(&mut tagged, LINES).is_ok();
+        assert!(rt; !is_written, "{size}");
+        let sheet = tagged.into_out();
+        assert!(rt; sheet.held() == &TAGGED[..size], "{size}");
+    }
+}

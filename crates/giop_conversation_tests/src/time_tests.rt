@@ -1,0 +1,56 @@
+//! Times and spans as text.
+
+use giop_conversation::{span_text, time_text};
+
+/// Times in nanoseconds since 1970-01-01 UTC, with their texts by another reading of the calendar.
+const TIMES: [(Option<u128>, &str); 8] = [
+    (None, "-"),
+    (Some(0), "1970-01-01T00:00:00.000000000Z"),
+    (
+        Some(951_782_399_999_999_999),
+        "2000-02-28T23:59:59.999999999Z",
+    ),
+    (
+        Some(951_782_400_000_000_001),
+        "2000-02-29T00:00:00.000000001Z",
+    ),
+    (
+        Some(4_107_542_400_000_000_000),
+        "2100-03-01T00:00:00.000000000Z",
+    ),
+    (
+        Some(1_795_421_605_580_228_123),
+        "2026-11-23T08:13:25.580228123Z",
+    ),
+    (
+        Some(253_402_300_799_999_999_999),
+        "9999-12-31T23:59:59.999999999Z",
+    ),
+    (Some(253_402_300_800_000_000_000), "-"),
+];
+
+#[test]
+fn a_time_is_a_date_of_the_calendar(rt: HostRuntime) {
+    for (time, want) in TIMES {
+        let text = time_text(time);
+        assert!(rt; text.as_slice() == want.as_bytes(), "{want}");
+    }
+}
+
+/// From one time to another, and the span between them.
+const SPANS: [(Option<u128>, Option<u128>, &str); 6] = [
+    (Some(1_000_000_000), Some(1_000_228_123), "0.000228123"),
+    (Some(7), Some(7), "0.000000000"),
+    (Some(0), Some(61_000_000_000), "61.000000000"),
+    (Some(2_500_000_000), Some(1_000_000_000), "-1.500000000"),
+    (None, Some(1), "-"),
+    (Some(1), None, "-"),
+];
+
+#[test]
+fn a_span_is_in_seconds(rt: HostRuntime) {
+    for (from, to, want) in SPANS {
+        let text = span_text(from, to);
+        assert!(rt; text.as_slice() == want.as_bytes(), "{want}");
+    }
+}
