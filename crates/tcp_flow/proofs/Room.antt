@@ -29,16 +29,16 @@ stays_either f false g h s t = t
 delivered_stays : (F : Reader) (f : Flow) (p : Payload) → Stays f (delivered F f p)
 unfolding delivered with_event
 delivered_stays F f p =
-    let events : List Event = f.events ++ Delivers p.octets ∷ [] in
+    let events : List Event = f.events ++ Delivers f.id p.octets ∷ [] in
     let next : ℕ = onward p.number (length p.octets) in
-    stays_either f (F events) (record { id = f.id; next = next; live = None; fin = f.fin; held = f.held; events = events ++ Closes Fault ∷ [] })
+    stays_either f (F events) (record { id = f.id; next = next; live = None; fin = f.fin; held = f.held; events = events ++ Closes f.id Fault ∷ [] })
     (record { id = f.id; next = next; live = f.live; fin = f.fin; held = f.held; events = events }) (record { held = refl; id = refl }) (record { held = refl; id = refl })
 
 begun_stays : (F : Reader) (f : Flow) (p : Payload) (r : Option ℕ) → Stays f (begun F f p r)
 unfolding begun with_event
 begun_stays F f p None = record { held = refl; id = refl }
 begun_stays F f p (Some i) =
-    let g : Flow = record { id = f.id; next = f.next; live = Some (onward p.number i); fin = f.fin; held = f.held; events = f.events ++ Begins (onward p.number i) ∷ [] } in
+    let g : Flow = record { id = f.id; next = f.next; live = Some (onward p.number i); fin = f.fin; held = f.held; events = f.events ++ Begins f.id (onward p.number i) ∷ [] } in
     let s : Stays g (delivered F g (payload p.flow (onward p.number i) (drop i p.octets))) = delivered_stays F g (payload p.flow (onward p.number i) (drop i p.octets)) in
     record { held = s.held; id = s.id }
 
@@ -52,7 +52,7 @@ taken_stays F f p =
 closed_stays : (f : Flow) (cause : CloseCause) → Stays f (closed f cause)
 unfolding closed with_event
 closed_stays f cause =
-    stays_either f (is_some f.live) (record { id = f.id; next = f.next; live = None; fin = f.fin; held = f.held; events = f.events ++ Closes cause ∷ [] }) f (record { held = refl; id = refl }) (record { held = refl; id = refl })
+    stays_either f (is_some f.live) (record { id = f.id; next = f.next; live = None; fin = f.fin; held = f.held; events = f.events ++ Closes f.id cause ∷ [] }) f (record { held = refl; id = refl }) (record { held = refl; id = refl })
 
 -- what removing own payloads keeps, a flow keeps
 pub record Holds (P : ℕ → List Payload → Type 0) (id : ℕ) (f : Flow) : Type 0 where
@@ -162,14 +162,14 @@ closed_dead : (f : Flow) (cause : CloseCause) → is_some (closed f cause).live 
 unfolding closed with_event
 closed_dead f cause =
     elim (cases_Bool (is_some f.live)) [
-      | inl e ↦ ap (λ (g : Flow). (is_some g.live)) (cond-true (is_some f.live) (record { id = f.id; next = f.next; live = None; fin = f.fin; held = f.held; events = f.events ++ Closes cause ∷ [] }) f e)
-      | inr e ↦ ap (λ (g : Flow). (is_some g.live)) (cond-false (is_some f.live) (record { id = f.id; next = f.next; live = None; fin = f.fin; held = f.held; events = f.events ++ Closes cause ∷ [] }) f e) ∙ e
+      | inl e ↦ ap (λ (g : Flow). (is_some g.live)) (cond-true (is_some f.live) (record { id = f.id; next = f.next; live = None; fin = f.fin; held = f.held; events = f.events ++ Closes f.id cause ∷ [] }) f e)
+      | inr e ↦ ap (λ (g : Flow). (is_some g.live)) (cond-false (is_some f.live) (record { id = f.id; next = f.next; live = None; fin = f.fin; held = f.held; events = f.events ++ Closes f.id cause ∷ [] }) f e) ∙ e
     ]
 
 closed_next : (f : Flow) (cause : CloseCause) → (closed f cause).next ≡ f.next
 unfolding closed with_event
 closed_next f cause =
-    same (λ (g : Flow). g.next) (is_some f.live) (record { id = f.id; next = f.next; live = None; fin = f.fin; held = f.held; events = f.events ++ Closes cause ∷ [] }) f f.next refl refl
+    same (λ (g : Flow). g.next) (is_some f.live) (record { id = f.id; next = f.next; live = None; fin = f.fin; held = f.held; events = f.events ++ Closes f.id cause ∷ [] }) f f.next refl refl
 
 -- a flow without a live stream takes one at least
 dead_shrinks : (F : Reader) (c : Flow) (i m : ℕ) → (is_some c.live) ≡ false → first_of c ≡ Some i → length c.held ≤ suc m → Holds (AtMost m) c.id (drained F c)

@@ -19,13 +19,13 @@ by_state P O s held f h k = subst P h.same (k f.events h.observed)
 pub on_ok_equal : {T E : Type 0} (r : Result T E) (O : List Event → Type 0) (s : FlowState) (held : List Payload) (f g : Flow) → f ≡ g → OnOk r (IsState O s held f) → OnOk r (IsState O s held g)
 on_ok_equal r O s held f g e t = on_ok_weaker r (subst (IsState O s held) e) t
 
-pub delivered_on : (F : Reader) (f : Flow) (p : Payload) → F (f.events ++ Delivers p.octets ∷ []) ≡ false
-    → delivered F f p ≡ record { id = f.id; next = onward p.number (length p.octets); live = f.live; fin = f.fin; held = f.held; events = f.events ++ Delivers p.octets ∷ [] }
+pub delivered_on : (F : Reader) (f : Flow) (p : Payload) → F (f.events ++ Delivers f.id p.octets ∷ []) ≡ false
+    → delivered F f p ≡ record { id = f.id; next = onward p.number (length p.octets); live = f.live; fin = f.fin; held = f.held; events = f.events ++ Delivers f.id p.octets ∷ [] }
 unfolding delivered with_event
 delivered_on F f p e = rw e refl
 
-pub delivered_fault : (F : Reader) (f : Flow) (p : Payload) → F (f.events ++ Delivers p.octets ∷ []) ≡ true
-    → delivered F f p ≡ record { id = f.id; next = onward p.number (length p.octets); live = None; fin = f.fin; held = f.held; events = (f.events ++ Delivers p.octets ∷ []) ++ Closes Fault ∷ [] }
+pub delivered_fault : (F : Reader) (f : Flow) (p : Payload) → F (f.events ++ Delivers f.id p.octets ∷ []) ≡ true
+    → delivered F f p ≡ record { id = f.id; next = onward p.number (length p.octets); live = None; fin = f.fin; held = f.held; events = (f.events ++ Delivers f.id p.octets ∷ []) ++ Closes f.id Fault ∷ [] }
 unfolding delivered with_event
 delivered_fault F f p e = rw e refl
 

@@ -7,7 +7,7 @@ use Rattle.tcp_flow.specs.declared.flow.CloseCause.TheVariants.{Fault}
 use Rattle.tcp_waiting.specs.Numbers.{ahead, onward, age, is_to_come}
 use Rattle.tcp_waiting.specs.Payload.{Payload, payload, window, has_as_much}
 use Rattle.tcp_flow.specs.Flow.{gap, Flow, Event, Begins, Delivers, Closes, Reader, Setting, left, with_event, delivered, begun, taken, header_at, first_of, is_due, at, closed, payload_came, holding, within_bounds, gone_on, fin_came, acknowledgement_came}
-use Rattle.tcp_flow.specs.Laws.{IsPartOf, MayFollow, AllFollow, AllArePartsOf, due_of, IsGapless}
+use Rattle.tcp_flow.specs.Laws.{IsPartOf, OwnMayFollow, MayFollow, AllFollow, AllArePartsOf, due_of, IsGapless}
 use Rattle.tcp_waiting.proofs.Firsts.{first_within, first_own}
 use Rattle.tcp_flow.proofs.Preserving.{gap_keeps, Keeps, relieved_keeps, gone_on_keeps, missed_keeps}
 
@@ -90,27 +90,27 @@ left_due next live p small l h =
 
 delivered_true : (F : Reader) (payloads : List Payload) (g : Flow) (p : Payload) (n : ℕ) → AllArePartsOf payloads g.held → AllFollow payloads g.id None g.events (Some n) → IsPartOf payloads g.id n p.octets → p.number ≡ n → (is_some g.live) ≡ true
     → IsGapless payloads (delivered F g p)
-unfolding delivered with_event MayFollow
+unfolding delivered with_event OwnMayFollow
 delivered_true F payloads g p n held runs has e live =
     let next : ℕ = onward p.number (length p.octets) in
-    let events : List Event = g.events ++ Delivers p.octets ∷ [] in
-    let more : AllFollow payloads g.id None events (Some next) = runs_more payloads g.id None (Some n) (Some next) g.events (Delivers p.octets) runs (has, ap (λ (k : ℕ). onward k (length p.octets)) e) in
-    let closes : AllFollow payloads g.id None (events ++ Closes Fault ∷ []) None = runs_more payloads g.id None (Some next) None events (Closes Fault) more tt in
+    let events : List Event = g.events ++ Delivers g.id p.octets ∷ [] in
+    let more : AllFollow payloads g.id None events (Some next) = runs_more payloads g.id None (Some n) (Some next) g.events (Delivers g.id p.octets) runs (inl (refl, (has, ap (λ (k : ℕ). onward k (length p.octets)) e))) in
+    let closes : AllFollow payloads g.id None (events ++ Closes g.id Fault ∷ []) None = runs_more payloads g.id None (Some next) None events (Closes g.id Fault) more (inl (refl, tt)) in
     either (IsGapless payloads) (F events)
-    (record { id = g.id; next = next; live = None; fin = g.fin; held = g.held; events = events ++ Closes Fault ∷ [] })
+    (record { id = g.id; next = next; live = None; fin = g.fin; held = g.held; events = events ++ Closes g.id Fault ∷ [] })
     (record { id = g.id; next = next; live = g.live; fin = g.fin; held = g.held; events = events })
     (record { next = onward_small p.number (length p.octets); held = held; events = closes })
     (record { next = onward_small p.number (length p.octets); held = held; events = when_true (AllFollow payloads g.id None events) (is_some g.live) (Some next) None live more })
 
 begun_true : (F : Reader) (payloads : List Payload) (g : Flow) (q : Payload) (r : Option ℕ) → IsGapless payloads g → (is_some g.live) ≡ false → IsPartOf payloads g.id q.number q.octets → IsGapless payloads (begun F g q r)
-unfolding begun with_event MayFollow
+unfolding begun with_event OwnMayFollow
 begun_true F payloads g q None t dead has = t
 begun_true F payloads g q (Some i) t dead has =
     let n : ℕ = onward q.number i in
     let none : due_of g ≡ None = cond-false (is_some g.live) (Some g.next) None dead in
-    let begins : AllFollow payloads g.id None (g.events ++ Begins n ∷ []) (Some n) =
-    runs_more payloads g.id None None (Some n) g.events (Begins n) (subst (AllFollow payloads g.id None g.events) none t.events) refl in
-    delivered_true F payloads (record { id = g.id; next = g.next; live = Some n; fin = g.fin; held = g.held; events = g.events ++ Begins n ∷ [] }) (payload q.flow n (drop i q.octets)) n t.held begins
+    let begins : AllFollow payloads g.id None (g.events ++ Begins g.id n ∷ []) (Some n) =
+    runs_more payloads g.id None None (Some n) g.events (Begins g.id n) (subst (AllFollow payloads g.id None g.events) none t.events) (inl (refl, refl)) in
+    delivered_true F payloads (record { id = g.id; next = g.next; live = Some n; fin = g.fin; held = g.held; events = g.events ++ Begins g.id n ∷ [] }) (payload q.flow n (drop i q.octets)) n t.held begins
     (has_more payloads g.id q.number i q.octets has) refl refl
 
 pub taken_true : (F : Reader) (payloads : List Payload) (f : Flow) (p : Payload) → IsGapless payloads f → IsPartOf payloads f.id p.number p.octets → ((is_some f.live) ≡ true → is_to_come f.next p.number ≡ false) → IsGapless payloads (taken F f p)
@@ -132,7 +132,7 @@ taken_true F payloads f p t has reach =
     either (IsGapless payloads) (nat_eq (length q.octets) 0) f (cond (is_some f.live) d b) t live
 
 pub true_keeps : (F : Reader) (payloads : List Payload) → Keeps F (IsGapless payloads)
-unfolding first_of is_due at closed with_event MayFollow
+unfolding first_of is_due at closed with_event OwnMayFollow
 true_keeps F payloads =
     record {
       takes =
@@ -151,12 +151,12 @@ true_keeps F payloads =
           ]);
       closes =
           λ f cause t.
-          let c : Flow = record { id = f.id; next = f.next; live = None; fin = f.fin; held = f.held; events = f.events ++ Closes cause ∷ [] } in
+          let c : Flow = record { id = f.id; next = f.next; live = None; fin = f.fin; held = f.held; events = f.events ++ Closes f.id cause ∷ [] } in
           elim (cases_Bool (is_some f.live)) [
             | inl e ↦
                 (let runs : AllFollow payloads f.id None f.events (Some f.next) = subst (AllFollow payloads f.id None f.events) (cond-true (is_some f.live) (Some f.next) None e) t.events in
                 when_true (IsGapless payloads) (is_some f.live) c f e
-                (record { next = t.next; held = t.held; events = runs_more payloads f.id None (Some f.next) None f.events (Closes cause) runs tt }))
+                (record { next = t.next; held = t.held; events = runs_more payloads f.id None (Some f.next) None f.events (Closes f.id cause) runs (inl (refl, tt)) }))
             | inr e ↦ when_false (IsGapless payloads) (is_some f.live) c f e t
           ];
       fins = λ f n t. record { next = t.next; held = t.held; events = t.events };
@@ -181,10 +181,14 @@ unfolding AllArePartsOf
 all_grow payloads p [] h = tt
 all_grow payloads p (q ∷ ps) h = (has_grow payloads p q.flow q.number q.octets h.0, all_grow payloads p ps h.1)
 
+own_grow : (payloads : List Payload) (p : Payload) (id : ℕ) (before : Option ℕ) (h : Event) (behind : Option ℕ) → OwnMayFollow payloads id before h behind → OwnMayFollow (payloads ++ p ∷ []) id before h behind
+unfolding OwnMayFollow
+own_grow payloads p id (Some due) (Delivers flow xs) (Some next) t = (has_grow payloads p id due xs t.0, t.1)
+own_grow payloads p id before h behind t = t
+
 turns_grow : (payloads : List Payload) (p : Payload) (id : ℕ) (before : Option ℕ) (h : Event) (behind : Option ℕ) → MayFollow payloads id before h behind → MayFollow (payloads ++ p ∷ []) id before h behind
-unfolding MayFollow
-turns_grow payloads p id (Some due) (Delivers xs) (Some next) t = (has_grow payloads p id due xs t.0, t.1)
-turns_grow payloads p id before h behind t = t
+turns_grow payloads p id before h behind (inl t) = inl (t.0, own_grow payloads p id before h behind t.1)
+turns_grow payloads p id before h behind (inr t) = inr t
 
 runs_grow : (payloads : List Payload) (p : Payload) (id : ℕ) (before : Option ℕ) (hs : List Event) (behind : Option ℕ) → AllFollow payloads id before hs behind → AllFollow (payloads ++ p ∷ []) id before hs behind
 unfolding AllFollow

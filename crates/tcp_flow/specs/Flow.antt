@@ -4,16 +4,26 @@ use Rattle.std.specs.Option.{option_map}
 use Rattle.std.specs.List.{remove}
 use Rattle.tcp_flow.specs.declared.flow.CloseCause.{CloseCause}
 use Rattle.tcp_flow.specs.declared.flow.CloseCause.TheVariants.{Fin, Gap, Fault}
+use Rattle.tcp_segment.specs.declared.endpoint.Flow as endpoints
 use Rattle.tcp_waiting.specs.Payload.{Payload, payload, window, first, blocks_of, is_far, has_as_much}
 use Rattle.tcp_waiting.specs.Numbers.{onward, age, is_to_come}
 
--- what happens in a flow: a stream begins at a number, octets are delivered to it, it closes
+-- what happens in flows, each by its id: the id stands for the flow between these endpoints from now on, a stream begins at a
+-- number, octets are delivered to it, it closes
 pub data Event : Type 0 where
-  Begins : ℕ → Event
-  Delivers : List ℕ → Event
-  Closes : CloseCause → Event
+  Opens : ℕ → endpoints.Flow → Event
+  Begins : ℕ → ℕ → Event
+  Delivers : ℕ → List ℕ → Event
+  Closes : ℕ → CloseCause → Event
 
--- whether the reader of the live stream is at a fault, by all that has happened
+-- the flow in which an event happens
+abbrev pub flow_of : Event → ℕ
+flow_of (Opens id flow) = id
+flow_of (Begins id number) = id
+flow_of (Delivers id octets) = id
+flow_of (Closes id cause) = id
+
+-- whether the reader of the stream that octets were delivered to last is at a fault, by all that has happened
 abbrev pub Reader : Type 0
 Reader = List Event → Bool
 
@@ -27,7 +37,7 @@ setting faulted blocks = record { faulted = faulted; blocks = blocks }
 
 -- a flow: its id, the number that is due, the number that its live stream began with, a FIN to
 -- come;
--- what this and other flows hold, in the order of coming; and what has happened
+-- what this and other flows hold, in the order of coming; and what has happened in all of them
 pub record Flow : Type 0 where
   pub id : ℕ
   pub next : ℕ
@@ -61,15 +71,15 @@ with_event f h = record f { events = f.events ++ h ∷ [] }
 unfoldable pub delivered : Reader → Flow → Payload → Flow
 delivered F f p =
     let g : Flow =
-    with_event (record f { next = onward p.number (length p.octets) }) (Delivers p.octets) in
-    cond (F g.events) (with_event (record g { live = None }) (Closes Fault)) g
+    with_event (record f { next = onward p.number (length p.octets) }) (Delivers f.id p.octets) in
+    cond (F g.events) (with_event (record g { live = None }) (Closes f.id Fault)) g
 
 -- the octets from a header on are delivered to a new stream
 unfoldable pub begun : Reader → Flow → Payload → Option ℕ → Flow
 begun F f p None = f
 begun F f p (Some i) =
     delivered F
-    (with_event (record f { live = Some (onward p.number i) }) (Begins (onward p.number i)))
+    (with_event (record f { live = Some (onward p.number i) }) (Begins f.id (onward p.number i)))
     (payload p.flow (onward p.number i) (drop i p.octets))
 
 -- a payload is taken: delivered, or a stream begins in it, or it is nothing
@@ -112,7 +122,7 @@ fin_is_reached next live None = false
 fin_is_reached next live (Some n) = live && not (is_to_come next n)
 
 unfoldable pub closed : Flow → CloseCause → Flow
-closed f cause = cond (is_some f.live) (with_event (record f { live = None }) (Closes cause)) f
+closed f cause = cond (is_some f.live) (with_event (record f { live = None }) (Closes f.id cause)) f
 
 -- a FIN is kept only while a stream is live
 unfoldable pub without_stale_fin : Flow → Flow

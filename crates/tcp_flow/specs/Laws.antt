@@ -1,8 +1,8 @@
 -- What a stream is: octet by octet, without a hole, what payloads of its flow have there.
-use Rattle.std.specs.Prelude.{◌≡◌, ℕ, ◌<◌, ◌^◌, cond, List, [], ◌∷◌, length, drop, get_or, Option, Some, None, is_some, true, false}
+use Rattle.std.specs.Prelude.{◌≡◌, ◌⊎◌, ℕ, ◌<◌, ◌^◌, cond, List, [], ◌∷◌, length, drop, get_or, Option, Some, None, is_some, true, false}
 use Rattle.tcp_waiting.specs.Numbers.{onward, rank}
 use Rattle.tcp_waiting.specs.Payload.{Payload, payload}
-use Rattle.tcp_flow.specs.Flow.{Flow, Event, Begins, Delivers, Closes, first_of}
+use Rattle.tcp_flow.specs.Flow.{Flow, Event, Opens, Begins, Delivers, Closes, flow_of, first_of}
 
 -- octets are at a number what a payload of the flow has from there on
 pub record IsPartOf (payloads : List Payload) (id number : ℕ) (octets : List ℕ) : Type 0 where
@@ -13,13 +13,20 @@ pub record IsPartOf (payloads : List Payload) (id number : ℕ) (octets : List �
   pub number_is : number ≡ onward (get_or payloads index (payload 0 0 [])).number skipped
   pub octets_are : octets ≡ drop skipped (get_or payloads index (payload 0 0 [])).octets
 
--- one event, by the number that is due in the live stream before and behind it
-unfoldable pub MayFollow : List Payload → ℕ → Option ℕ → Event → Option ℕ → Type 0
-MayFollow payloads id None (Begins n) (Some due) = n ≡ due
-MayFollow payloads id (Some due) (Delivers octets) (Some next) =
+-- one event of the flow, by the number that is due in the live stream before and behind it
+unfoldable pub OwnMayFollow : List Payload → ℕ → Option ℕ → Event → Option ℕ → Type 0
+OwnMayFollow payloads id None (Opens flow endpoints) None = Unit {0}
+OwnMayFollow payloads id None (Begins flow n) (Some due) = n ≡ due
+OwnMayFollow payloads id (Some due) (Delivers flow octets) (Some next) =
     IsPartOf payloads id due octets × (next ≡ onward due (length octets))
-MayFollow payloads id (Some due) (Closes cause) None = Unit {0}
-MayFollow payloads id before happening behind = ⊥
+OwnMayFollow payloads id (Some due) (Closes flow cause) None = Unit {0}
+OwnMayFollow payloads id before event behind = ⊥
+
+-- one event of any flow: those of others leave what is due
+abbrev pub MayFollow : List Payload → ℕ → Option ℕ → Event → Option ℕ → Type 0
+MayFollow payloads id before event behind =
+    ((flow_of event ≡ id) × OwnMayFollow payloads id before event behind)
+    ⊎ ((flow_of event ≡ id → ⊥) × (before ≡ behind))
 
 -- all that happens, one after the other
 unfoldable pub AllFollow : List Payload → ℕ → Option ℕ → List Event → Option ℕ → Type 0

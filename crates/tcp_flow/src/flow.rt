@@ -3,6 +3,7 @@
 ghost use Rattle.std.specs.Prelude.{◌≡◌, ◌<◌, ◌≤◌, ◌∷◌, IfSome, IfOk, OnOk, ◌++◌, [], ℕ, List, Bool, length, drop};
 ghost use Rattle.tcp_flow.specs.Flow.{is_header as spec_is_header, header_at as spec_header_at};
 
+use tcp_segment::Flow as Endpoints;
 use tcp_waiting::{Pool, WINDOW, age, is_to_come, onward};
 
 /// Why a stream closed.
@@ -28,32 +29,37 @@ pub enum CloseCause {
 #[derive(Clone, Copy, Debug, Drop, PartialEq, Eq)]
 pub struct ListenerFault;
 
-/// Is told what happens in a flow.
+/// Is told what happens in flows, each by its id.
 pub trait Listener {
-    ghost use Rattle.tcp_flow.specs.Flow.{Event, Begins, Delivers, Closes, Reader};
+    ghost use Rattle.tcp_flow.specs.Flow.{Event, Opens, Begins, Delivers, Closes, Reader};
 
-    /// The listener has observed these events: a relation, so that one that forgets can be a
+    /// The listener has observed these events of all flows: a relation, so that one that forgets can be a
     /// listener.
     ghost observed: { Self → List Event → Type 0 };
 
-    /// Whether the reader of the live stream is at a fault behind these events.
+    /// Whether the reader of the stream that was delivered to last is at a fault behind these events.
     ghost faulted: { Reader };
 
-    /// A stream begins at a sequence number.
-    fn begins(&mut self, number: u32) -> Result<(), ListenerFault>
+    /// The id stands for a flow from now on, of which nothing came.
+    fn opens(&mut self, flow: u32, endpoints: Endpoints) -> Result<(), ListenerFault>
         ensures { (events : List Event) → observed self.old events
-            → OnOk result (observed self.new (events ++ Begins number ∷ [])) };
+            → OnOk result (observed self.new (events ++ Opens flow endpoints ∷ [])) };
 
-    /// The live stream's next octets. Answers whether the stream's reader is at a fault.
-    fn delivers(&mut self, octets: &[u8]) -> Result<bool, ListenerFault>
+    /// A stream of a flow begins at a sequence number.
+    fn begins(&mut self, flow: u32, number: u32) -> Result<(), ListenerFault>
+        ensures { (events : List Event) → observed self.old events
+            → OnOk result (observed self.new (events ++ Begins flow number ∷ [])) };
+
+    /// The next octets of a flow's live stream. Answers whether the stream's reader is at a fault.
+    fn delivers(&mut self, flow: u32, octets: &[u8]) -> Result<bool, ListenerFault>
         ensures { (events : List Event) → observed self.old events → IfOk result (λ at_fault.
-            observed self.new (events ++ Delivers octets.now ∷ [])
-            × (at_fault ≡ faulted (events ++ Delivers octets.now ∷ []))) };
+            observed self.new (events ++ Delivers flow octets.now ∷ [])
+            × (at_fault ≡ faulted (events ++ Delivers flow octets.now ∷ []))) };
 
-    /// The live stream closes.
-    fn closes(&mut self, cause: CloseCause) -> Result<(), ListenerFault>
+    /// A flow's live stream closes.
+    fn closes(&mut self, flow: u32, cause: CloseCause) -> Result<(), ListenerFault>
         ensures { (events : List Event) → observed self.old events
-            → OnOk result (observed self.new (events ++ Closes cause ∷ [])) };
+            → OnOk result (observed self.new (events ++ Closes flow cause ∷ [])) };
 }
 
 /// A flow from its first stream on.
@@ -111,9 +117,9 @@ impl FlowState {
             (delivered T.faulted f (payload self.old.id number octets.now))) }
     {
         self.next = onward(number, octets.len());
-        if to.delivers(octets)? {
+        if to.delivers(self.id, octets)? {
             self.live = None;
-            to.closes(CloseCause::Fault)?;
+            to.closes(self.id, CloseCause::Fault)?;
         }
         Ok(())
     }
@@ -140,7 +146,7 @@ impl FlowState {
         }
         if let Some(at) = header_at(octets) {
             let number = onward(number, at);
-            to.begins(number)?;
+            to.begins(self.id, number)?;
             self.live = Some(number);
             return self.deliver(number, &octets[at..], to);
         }
@@ -190,7 +196,7 @@ impl FlowState {
     {
         if self.is_live() {
             self.live = None;
-            to.closes(cause)?;
+            to.closes(self.id, cause)?;
         }
         Ok(())
     }
@@ -585,8 +591,8 @@ fn is_header(octets: &[u8]) -> bool
         && octets[5] <= 2
 }
 
-/// Where a header stands first.
-fn header_at(octets: &[u8]) -> Option<usize>
+/// Where a GIOP header stands first: `GIOP` 01 and 00, 01 or 02.
+pub fn header_at(octets: &[u8]) -> Option<usize>
     ensures at { result ≡ spec_header_at octets.now }
     ensures within { IfSome result (λ i. i < length octets.now) }
 {

@@ -4,4 +4,4 @@
 
 mod flow;
 
-pub use flow::{CloseCause, FlowState, Listener, ListenerFault};
+pub use flow::{CloseCause, FlowState, Listener, ListenerFault, header_at};

@@ -2,7 +2,7 @@
 
 ghost use Rattle.std.specs.Prelude.{◌≡◌, ◌≤◌, ◌<◌, [], IfOk, get_or, nat_le};
 ghost use Rattle.std.specs.List.{insert, remove};
-ghost use Rattle.std.specs.List.Sorted.{IsBinarySearchResult};
+ghost use Rattle.std.specs.List.Sorted.{IsBinarySearchResult, IsSearchInRange};
 ghost use Rattle.std.specs.Vec.{vec_len, vec_capacity};
 
 use std::alloc::{AllocError, Global};
@@ -48,6 +48,7 @@ impl<K: Ord + Drop> RoomTable<K> {
     /// The place of a key in the order of the keys, or the one where it would stand.
     pub fn place(&self, key: &K) -> Result<usize, usize>
         ensures place { IsBinarySearchResult (λ y. K.cmp y key.now) self.now.keys.items result }
+        ensures range { IsSearchInRange result (vec_len self.now.keys) }
     {
         self.keys.binary_search(key)
     }

@@ -1,6 +1,6 @@
 //! When each room was last used, in memory that is allocated once.
 
-ghost use Rattle.std.specs.Prelude.{◌≡◌, ◌≤◌, ◌<◌, ◌≢◌, ℕ, IfOk, get_or, replicate};
+ghost use Rattle.std.specs.Prelude.{◌≡◌, ◌<◌, IfOk, get_or, set, replicate};
 ghost use Rattle.std.specs.Vec.{vec_len};
 
 use std::alloc::{AllocError, Global};
@@ -23,9 +23,7 @@ impl Stamps {
     /// A room is used.
     pub fn note(&mut self, room: u32, stamp: u64)
         requires { room < vec_len self.old.last }
-        ensures own { get_or self.new.last.items room 0 ≡ stamp }
-        ensures others { (other : ℕ) → other ≢ room
-            → get_or self.new.last.items other 0 ≡ get_or self.old.last.items other 0 }
+        ensures last { self.new.last.items ≡ set self.old.last.items room stamp }
         ensures rooms { vec_len self.new.last ≡ vec_len self.old.last }
     {
         self.last[room as usize] = stamp;

@@ -1,4 +1,4 @@
-mod Counts
+pub mod Counts
 pub mod Firsts
 pub mod Held
 pub mod Packing

@@ -1,0 +1,65 @@
+-- What a flow's step leaves: which connections are known, in which rooms.
+use Rattle.std.proofs.Common.{◌≡◌, ℕ, ◌/◌, Bool, true, false, cond, List, length, Option, Some, None, refl, sym, subst, arith, length-set}
+use Rattle.tcp_segment.specs.Segments.{Segment}
+use Rattle.tcp_flow.specs.declared.flow.FlowState.{FlowState}
+use Rattle.tcp_flow.specs.Flow.{Flow, Reader, Arrival, Octets, End, Acknowledged, setting, step as flow_step, first_payload}
+use Rattle.tcp_flow.specs.State.{state}
+use Rattle.tcp_streams.specs.declared.pair.Side.{Side}
+use Rattle.tcp_streams.specs.declared.pair.Side.TheVariants.{FromLesser, FromGreater}
+use Rattle.tcp_streams.specs.Pairs.{flow_id}
+use Rattle.tcp_connections.specs.Connections.{State, flow_at, flow_state, with_flow, arrived, began, acknowledgement_taken, payload_taken, fin_taken, first_number, number_behind, is_first}
+use Rattle.tcp_connections.proofs.Cases.{arrived_none, arrived_some}
+
+pub record IsKept (w v : State) : Type 0 where
+  pub known : v.known ≡ w.known
+  pub rooms : v.rooms ≡ w.rooms
+  pub free : v.free ≡ w.free
+  pub lasts : v.lasts ≡ w.lasts
+  pub flows : length v.flows ≡ length w.flows
+
+pub kept_self : (w : State) → IsKept w w
+kept_self w = record { known = refl; rooms = refl; free = refl; lasts = refl; flows = refl }
+
+pub with_flow_kept : (w : State) (id : ℕ) (f : Flow) → IsKept w (with_flow w id f)
+unfolding with_flow
+with_flow_kept w id f = record { known = refl; rooms = refl; free = refl; lasts = refl; flows = length-set w.flows id (Some (flow_state f)) }
+
+pub arrived_kept : (F : Reader) (w : State) (id : ℕ) (a : Arrival) → IsKept w (arrived F w id a)
+arrived_kept F w id a = by (flow_at w id) refl
+  where
+    by : (o : Option FlowState) → flow_at w id ≡ o → IsKept w (arrived F w id a)
+    by None e = subst (IsKept w) (sym (arrived_none F w id a e)) (kept_self w)
+    by (Some s) e = subst (IsKept w) (sym (arrived_some F w id a s e)) (with_flow_kept w id (flow_step (setting F w.blocks) (state s w.held w.events) a))
+
+pub began_kept : (F : Reader) (w : State) (id number : ℕ) (octets : List ℕ) → IsKept w (began F w id number octets)
+unfolding began
+began_kept F w id number octets = with_flow_kept w id (first_payload (setting F w.blocks) id number octets w.held w.events)
+
+either : (w : State) (b : Bool) (u v : State) → IsKept w u → IsKept w v → IsKept w (cond b u v)
+either w true u v h k = h
+either w false u v h k = k
+
+pub acknowledgement_kept : (F : Reader) (w : State) (id : ℕ) (s : Segment) → IsKept w (acknowledgement_taken F w id s)
+unfolding acknowledgement_taken
+acknowledgement_kept F w id s =
+    elim s.acknowledgement as (λ (o : Option ℕ). IsKept w (elim o [ None ↦ w | Some number ↦ arrived F w id (Acknowledged number) ])) [
+      | None ↦ kept_self w
+      | Some number ↦ arrived_kept F w id (Acknowledged number)
+    ]
+
+pub payload_kept : (F : Reader) (w : State) (id : ℕ) (s : Segment) → IsKept w (payload_taken F w id s)
+unfolding payload_taken
+payload_kept F w id s =
+    elim (flow_at w id) as (λ (o : Option FlowState). IsKept w (elim o [ None ↦ cond (is_first w.ports s) (began F w id (first_number s) s.payload) w | Some f ↦ cond s.reset w (arrived F w id (Octets (first_number s) s.payload)) ])) [
+      | None ↦ either w (is_first w.ports s) (began F w id (first_number s) s.payload) w (began_kept F w id (first_number s) s.payload) (kept_self w)
+      | Some f ↦ either w s.reset w (arrived F w id (Octets (first_number s) s.payload)) (kept_self w) (arrived_kept F w id (Octets (first_number s) s.payload))
+    ]
+
+pub fin_kept : (F : Reader) (w : State) (id : ℕ) (s : Segment) → IsKept w (fin_taken F w id s)
+unfolding fin_taken
+fin_kept F w id s = either w s.fin (arrived F w id (End (number_behind s))) w (arrived_kept F w id (End (number_behind s))) (kept_self w)
+
+-- an id tells the room
+pub half : (room : ℕ) (side : Side) → flow_id room side / 2 ≡ room
+half room FromLesser = omega arith
+half room FromGreater = omega arith

@@ -1,0 +1,10 @@
+pub mod Cases
+pub mod Changes
+pub mod Forgotten
+pub mod Kept
+pub mod Search
+pub mod Sound
+pub mod Start
+pub mod States
+pub mod Times
+pub mod Unknown

@@ -1,0 +1,163 @@
+-- The code has a state: what a step of one flow, and each other change, leaves.
+use Rattle.std.proofs.Common.{◌≡◌, ℕ, zero, suc, cond, ◌+◌, ◌*◌, ◌<◌, ◌≤◌, List, [], ◌∷◌, ◌++◌, length, set, Option, Some, None, refl, sym, ◌∙◌, ap, subst, arith}
+use Rattle.std.specs.List.{remove}
+use Rattle.std.specs.Prelude.{Result, OnOk}
+use Rattle.tcp_waiting.specs.Payload.{Payload, blocks_of}
+use Rattle.tcp_flow.specs.declared.flow.CloseCause.{CloseCause}
+use Rattle.tcp_flow.specs.declared.flow.FlowState.{FlowState}
+use Rattle.tcp_flow.specs.declared.flow.ListenerFault.{ListenerFault}
+use Rattle.tcp_flow.specs.Flow.{Flow, Event, held_by_others}
+use Rattle.tcp_flow.specs.Laws.{IsSettled}
+use Rattle.tcp_flow.specs.State.{state, IsState as IsFlow}
+use Rattle.tcp_connections.specs.declared.connections.Connections.{Connections}
+use Rattle.tcp_streams.specs.declared.pair.Side.{Side}
+use Rattle.tcp_streams.specs.Lives.{lives}
+use Rattle.tcp_connections.specs.Connections.{State, with_flow, room_at, flow_forgotten, forgotten, goes_before, eldest}
+use Rattle.tcp_connections.specs.State.{IsSound, IsState, IsAt, state_of}
+use Rattle.tcp_connections.proofs.Forgotten.{both_forgotten, forgotten_sound}
+use Rattle.tcp_connections.proofs.Sound.{IsApart, with_flow_sound, forgot_sound, sound_seen}
+
+-- what is so of the code's state, whatever has happened, is so of each that it has
+pub by_state : (P : State → Type 0) (O : List Event → Type 0) (live : List ℕ) (c : Connections) (w : State) → IsState O live c w
+    → ((es : List Event) → IsState O live c (state_of c es) → P (state_of c es)) → P w
+by_state P O live c w h k =
+    subst P h.same (k w.events (record {
+      observed = h.observed;
+      live = h.live;
+      same = refl;
+      sound = subst IsSound (sym h.same) h.sound;
+      free = h.free ∙ sym (ap (λ (v : State). length v.lasts) h.same);
+      room = h.room ∙ sym (ap (λ (v : State). length v.lasts) h.same);
+    }))
+
+pub moved_ok : {X : Type 0} (r : Result X ListenerFault) (O : List Event → Type 0) (live : List ℕ) (c : Connections) (v w : State) → v ≡ w → OnOk r (IsState O live c w) → OnOk r (IsState O live c v)
+moved_ok r O live c v w e h = subst (λ (u : State). OnOk r (IsState O live c u)) (sym e) h
+
+-- no event is part of what is so of a state
+pub sound_any : (c : Connections) (es fs : List Event) → IsSound (state_of c es) → IsSound (state_of c fs)
+sound_any c es fs h = sound_seen (state_of c es) (state_of c es).lasts (state_of c es).segments fs refl h
+
+-- what is no flow's
+abbrev pub rest_of : Connections → List Event → State
+rest_of c es = record (state_of c es) { flows = []; blocks = 0; held = [] }
+
+-- only flows, and what they hold, have changed
+pub changed : (c c' : Connections) (es : List Event) → ((e : List Event) → rest_of c' e ≡ rest_of c e) → (flows : List (Option FlowState)) (held : List Payload)
+    → c'.flows.items ≡ flows → c'.pool.blocks ≡ c.pool.blocks → c'.pool.held ≡ held → state_of c' es ≡ record (state_of c es) { flows = flows; held = held }
+changed c c' es rest flows held f b h =
+    ap (λ (u : State). record u { flows = c'.flows.items; blocks = c'.pool.blocks; held = c'.pool.held }) (rest es)
+    ∙ ap (λ (fs : List (Option FlowState)). record (state_of c es) { flows = fs; blocks = c'.pool.blocks; held = c'.pool.held }) f
+    ∙ ap (λ (n : ℕ). record (state_of c es) { flows = flows; blocks = n; held = c'.pool.held }) b
+    ∙ ap (λ (ps : List Payload). record (state_of c es) { flows = flows; held = ps }) h
+
+-- on Ok, by what has happened
+pub makes_by : (O O' : List Event → Type 0) (live live' : List ℕ) (c c' : Connections) (f : State → State)
+    → ((es : List Event) → IsState O live c (state_of c es) → IsState O' live' c' (f (state_of c es))) → (w : State) → IsState O live c w → IsState O' live' c' (f w)
+makes_by O O' live live' c c' f k w h = by_state (λ (v : State). IsState O' live' c' (f v)) O live c w h k
+
+pub moved : (O : List Event → Type 0) (live : List ℕ) (c : Connections) (v w : State) → v ≡ w → IsState O live c w → IsState O live c v
+moved O live c v w e h = subst (IsState O live c) (sym e) h
+
+pub beside_own : (id own : ℕ) (held held' : List Payload) → own ≡ id → held_by_others own held' ≡ held_by_others own held → held_by_others id held' ≡ held_by_others id held
+beside_own id own held held' e h = subst (λ (n : ℕ). held_by_others n held' ≡ held_by_others n held) e h
+
+-- a flow's step, beside all others
+pub flow_done : (O O' : List Event → Type 0) (live live' : List ℕ) (c c' : Connections) (es : List Event) (id : ℕ) (s' : FlowState) (f : Flow)
+    → IsState O live c (state_of c es) → id < length c.flows.items
+    → IsFlow (λ e. O' e × (live' ≡ lives e)) s' c'.pool.held f
+    → s'.id ≡ id → held_by_others id c'.pool.held ≡ held_by_others id c.pool.held → blocks_of c'.pool.held ≤ c.pool.blocks → IsSettled (state s' c'.pool.held []) → IsApart (state_of c es) id
+    → ((e : List Event) → rest_of c' e ≡ rest_of c e) → c'.flows.items ≡ set c.flows.items id (Some s') → c'.pool.blocks ≡ c.pool.blocks
+    → c'.free.most ≡ c.free.most → c'.table.most ≡ c.table.most
+    → IsState O' live' c' (with_flow (state_of c es) id f)
+unfolding with_flow
+flow_done O O' live live' c c' es id s' f h l n own beside blocks settled apart rest flows pool free room =
+    subst (λ (g : Flow). IsState O' live' c' (with_flow (state_of c es) id g)) n.same
+    (record {
+      observed = n.observed.0;
+      live = n.observed.1;
+      same = changed c c' f.events rest (set c.flows.items id (Some s')) c'.pool.held flows pool refl;
+      sound = with_flow_sound (state_of c es) id (state s' c'.pool.held f.events) h.sound l own beside blocks settled apart;
+      free = free ∙ h.free;
+      room = room ∙ h.room;
+    })
+
+-- a flow that is forgotten, beside all others
+pub forgot_done : (O O' : List Event → Type 0) (live live' : List ℕ) (c c' : Connections) (es : List Event) (id : ℕ) (s' : FlowState) (f : Flow)
+    → IsState O live c (state_of c es) → id < length c.flows.items
+    → IsFlow (λ e. O' e × (live' ≡ lives e)) s' c.pool.held f
+    → ((e : List Event) → rest_of c' e ≡ rest_of c e) → c'.flows.items ≡ set c.flows.items id None → c'.pool.blocks ≡ c.pool.blocks → c'.pool.held ≡ held_by_others id c.pool.held
+    → c'.free.most ≡ c.free.most → c'.table.most ≡ c.table.most
+    → IsState O' live' c' (record (state_of c es) { flows = set c.flows.items id None; held = held_by_others id c.pool.held; events = f.events })
+forgot_done O O' live live' c c' es id s' f h l n rest flows pool held free room =
+    record {
+      observed = n.observed.0;
+      live = n.observed.1;
+      same = changed c c' f.events rest (set c.flows.items id None) (held_by_others id c.pool.held) flows pool held;
+      sound = forgot_sound (state_of c es) id f.events h.sound l;
+      free = free ∙ h.free;
+      room = room ∙ h.room;
+    }
+
+pub sound_of : (O : List Event → Type 0) (live : List ℕ) (c : Connections) (w : State) → IsState O live c w → IsSound (state_of c [])
+sound_of O live c w h = sound_any c w.events [] (subst IsSound (sym h.same) h.sound)
+
+-- nor of which connection makes room
+pub eldest_any : (c : Connections) (es fs : List Event) (n : ℕ) → eldest (state_of c es) n ≡ eldest (state_of c fs) n
+unfolding eldest
+eldest_any c es fs zero = refl
+eldest_any c es fs (suc n) = ap (λ (b : ℕ). cond (goes_before (state_of c fs) n b) n b) (eldest_any c es fs n)
+
+-- ---- A connection is forgotten.
+
+pub known_of : (O : List Event → Type 0) (live : List ℕ) (c : Connections) (w : State) → IsState O live c w → c.table.keys.items ≡ w.known
+known_of O live c w h = ap (λ (u : State). u.known) h.same
+
+pub connection_forgotten : (O' : List Event → Type 0) (live' : List ℕ) (c c' : Connections) (w : State) (place : ℕ) (side : Side) (cause : CloseCause) → IsSound w
+    → IsState O' live' c (both_forgotten w (room_at w place) side cause) → place < length w.known → 2 * room_at w place + 1 < length w.flows
+    → ((e : List Event) → state_of c' e ≡ record (state_of c e) { known = remove c.table.keys.items place; rooms = remove c.table.rooms.items place; free = c.free.free.items ++ room_at w place ∷ [] })
+    → c'.free.most ≡ c.free.most → c'.table.most ≡ c.table.most
+    → IsState O' live' c' (forgotten w place side cause)
+unfolding forgotten
+connection_forgotten O' live' c c' w place side cause sound h l m same free room =
+    let v : State = both_forgotten w (room_at w place) side cause in
+    record {
+      observed = h.observed;
+      live = h.live;
+      same = same v.events ∙ ap (λ (u : State). record u { known = remove u.known place; rooms = remove u.rooms place; free = u.free ++ room_at w place ∷ [] }) h.same;
+      sound = forgotten_sound w place side cause sound h.sound l m;
+      free = free ∙ h.free;
+      room = room ∙ h.room;
+    }
+
+-- how many rooms are free, where a place is that of a connection
+pub some_known : (O : List Event → Type 0) (live : List ℕ) (c : Connections) (w : State) (place : ℕ) → IsState O live c w → place < length w.known → length c.free.free.items < c.free.most
+some_known O live c w place h l = omega (arith, h.sound.all, l, h.free, ap (λ (u : State). length u.free) h.same)
+
+pub forgot_at : (O : List Event → Type 0) (live : List ℕ) (c : Connections) (w : State) (a b : ℕ) (cause : CloseCause) → a ≡ b → IsState O live c (flow_forgotten w a cause) → IsState O live c (flow_forgotten w b cause)
+forgot_at O live c w a b cause e h = subst (λ (n : ℕ). IsState O live c (flow_forgotten w n cause)) e h
+
+-- ---- The capture ends.
+
+pub ends_by : (O O' : List Event → Type 0) (live live' : List ℕ) (c c' : Connections) (f : State → State)
+    → ((es : List Event) → IsAt O live c (state_of c es) → IsAt O' live' c' (f (state_of c es))) → (w : State) → IsAt O live c w → IsAt O' live' c' (f w)
+ends_by O O' live live' c c' f k w h =
+    subst (λ (v : State). IsAt O' live' c' (f v)) h.same (k w.events (record { observed = h.observed; live = h.live; same = refl }))
+
+pub moved_end : (O : List Event → Type 0) (live : List ℕ) (c : Connections) (v w : State) → v ≡ w → IsAt O live c w → IsAt O live c v
+moved_end O live c v w e h = subst (IsAt O live c) (sym e) h
+
+pub before_end : (O : List Event → Type 0) (live : List ℕ) (c : Connections) (w : State) → IsState O live c w → IsAt O live c w
+before_end O live c w h = record { observed = h.observed; live = h.live; same = h.same }
+
+pub close_done : (O' : List Event → Type 0) (live' : List ℕ) (c c' : Connections) (es : List Event) (id : ℕ) (s' : FlowState) (f : Flow)
+    → IsFlow (λ e. O' e × (live' ≡ lives e)) s' c.pool.held f
+    → ((e : List Event) → rest_of c' e ≡ rest_of c e) → c'.flows.items ≡ set c.flows.items id (Some s') → c'.pool.blocks ≡ c.pool.blocks → c'.pool.held ≡ c.pool.held
+    → IsAt O' live' c' (with_flow (state_of c es) id f)
+unfolding with_flow
+close_done O' live' c c' es id s' f n rest flows pool held =
+    subst (λ (g : Flow). IsAt O' live' c' (with_flow (state_of c es) id g)) n.same
+    (record {
+      observed = n.observed.0;
+      live = n.observed.1;
+      same = changed c c' f.events rest (set c.flows.items id (Some s')) c.pool.held flows pool held;
+    })

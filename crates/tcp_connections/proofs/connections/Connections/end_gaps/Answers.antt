@@ -1,0 +1,46 @@
+use Rattle.std.proofs.Common.{◌≡◌, ℕ, ◌<◌, ◌-◌, length, get_or, sym, ap, ◌∙◌, arith}
+use Rattle.tcp_streams.specs.Lives.{lives}
+use Rattle.tcp_connections.specs.Connections.{State, gaps_from, gapped, is_holding, flow_at}
+use Rattle.tcp_connections.proofs.Cases.{gaps_none, gaps_over, gaps_gap, gaps_next}
+use Rattle.tcp_connections.proofs.States.{moved}
+use Rattle.tcp_connections.proofs.connections.Connections.end_gaps.Goals as goal
+
+pub returns-in_default : goal.returns-in_default
+returns-in_default g c = record {
+  does = λ w h.
+      let i = c.loop-left.invariant w h in
+      let over = gaps_over g.L.Listener.faulted c.loop-left.left c.loop-left.rank i.0 (omega (arith, c.live.ensures.none c.in_default.is, ap length i.1.0.live)) in
+      moved _ _ _ _ _ (sym i.1.1 ∙ over) i.1.0;
+}
+
+pub returns : goal.returns
+returns g c = record {
+  does = λ w h.
+      let i = c.loop-left.invariant w h in
+      moved _ _ _ _ _ (sym i.1.1 ∙ gaps_none g.L.Listener.faulted c.loop-left.left c.loop-left.rank i.0 c.loop-left-test.false) i.1.0;
+}
+
+pub loop-left-preserved-then-not-is_holding : goal.loop-left-preserved-then-not-is_holding
+loop-left-preserved-then-not-is_holding g c w h =
+    let F = g.L.Listener.faulted in
+    let i = c.loop-left.invariant w h in
+    let v = i.0 in
+    let less : c.loop-left.rank < length (lives v.events) = omega (arith, c.in-Some.ensures.some.0, ap length i.1.0.live) in
+    let id : c.in-Some.id ≡ get_or (lives v.events) c.loop-left.rank 0 = c.in-Some.ensures.some.1 ∙ ap (λ xs. get_or xs c.loop-left.rank 0) i.1.0.live in
+    let holds = ap (λ (n : ℕ). is_holding v.held (flow_at v n)) (sym id) ∙ sym (ap (λ (u : State). is_holding u.held (flow_at u c.in-Some.id)) i.1.0.same) ∙ sym c.is_holding.ensures ∙ c.if-not-is_holding.true in
+    (v, (i.1.0, sym (gaps_next F c.loop-left.left c.loop-left.rank v c.loop-left-test.true less holds) ∙ i.1.1))
+
+pub loop-left-preserved : goal.loop-left-preserved
+loop-left-preserved g c w h =
+    let F = g.L.Listener.faulted in
+    let i = c.loop-left.invariant w h in
+    let v = i.0 in
+    let less : c.loop-left.rank < length (lives v.events) = omega (arith, c.in-Some.ensures.some.0, ap length i.1.0.live) in
+    let id : c.in-Some.id ≡ get_or (lives v.events) c.loop-left.rank 0 = c.in-Some.ensures.some.1 ∙ ap (λ xs. get_or xs c.loop-left.rank 0) i.1.0.live in
+    let holds = ap (λ (n : ℕ). is_holding v.held (flow_at v n)) (sym id) ∙ sym (ap (λ (u : State). is_holding u.held (flow_at u c.in-Some.id)) i.1.0.same) ∙ sym c.is_holding.ensures ∙ c.if-not-is_holding.false in (
+      gapped F v c.in-Some.id,
+      (
+        c.in_ok-gap.ensures.does v i.1.0,
+        ap (λ (n : ℕ). gaps_from F (c.loop-left.left - 1) c.loop-left.rank (gapped F v n)) id ∙ sym (gaps_gap F c.loop-left.left c.loop-left.rank v c.loop-left-test.true less holds) ∙ i.1.1,
+      ),
+    )

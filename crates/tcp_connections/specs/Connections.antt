@@ -1,0 +1,307 @@
+-- The connections of a capture (RFC 9293): which are known, what their flows hold, and what happens (meaning).
+use Rattle.std.specs.Prelude.{ℕ, zero, suc, ◌+◌, ◌-◌, ◌*◌, ◌==◌, Bool, true, false, cond, not, nat_eq, nat_lt, ◌&&◌, ◌||◌, List, [], ◌∷◌, ◌++◌, length, take, get_or, set, replicate, Option, Some, None, is_some}
+use Rattle.std.specs.Option.{option_map}
+use Rattle.std.specs.List.{insert, remove, list_any}
+use Rattle.std.specs.Ordering.{is_eq, is_lt}
+use Rattle.tcp_segment.specs.declared.endpoint.Flow as endpoints
+use Rattle.tcp_segment.specs.Segments.{Segment}
+use Rattle.tcp_waiting.specs.Numbers.{onward}
+use Rattle.tcp_waiting.specs.Payload.{Payload, first}
+use Rattle.tcp_flow.specs.declared.flow.CloseCause.{CloseCause}
+use Rattle.tcp_flow.specs.declared.flow.CloseCause.TheVariants.{Reset, Syn, Room, Gap, End as CaptureEnd}
+use Rattle.tcp_flow.specs.declared.flow.FlowState.{FlowState}
+use Rattle.tcp_flow.specs.Flow.{Flow, Event, Opens, Reader, Arrival, Octets, End, Acknowledged, setting, header_at, closed, gap, step as flow_step, first_payload, held_by_others}
+use Rattle.tcp_flow.specs.State.{state}
+use Rattle.tcp_rooms.specs.Rooms.{rooms_below}
+use Rattle.tcp_streams.specs.declared.pair.EndpointPair.{EndpointPair}
+use Rattle.tcp_streams.specs.declared.pair.Side.{Side}
+use Rattle.tcp_streams.specs.declared.pair.Side.TheVariants.{FromLesser, FromGreater}
+use Rattle.tcp_streams.specs.Pairs.{compare_pairs, pair_of, opposite, flow_id, flow_from}
+use Rattle.tcp_streams.specs.Lives.{lives, elder_side}
+
+-- the ports that are chosen and the blocks of the pool; the pairs that are known, in their order, and the room of each; the
+-- rooms that are free, the next one last; of each room the number of its last segment; of each id the flow, from its first
+-- stream on; what is held, what has happened, and how many segments came
+pub record State : Type 0 where
+  pub ports : List ℕ
+  pub blocks : ℕ
+  pub known : List EndpointPair
+  pub rooms : List ℕ
+  pub free : List ℕ
+  pub lasts : List ℕ
+  pub flows : List (Option FlowState)
+  pub held : List Payload
+  pub events : List Event
+  pub segments : ℕ
+
+-- no connection is known: there are so many rooms
+abbrev pub none_known : List ℕ → ℕ → ℕ → List Event → State
+none_known ports blocks most events = record {
+  ports = ports;
+  blocks = blocks;
+  known = [];
+  rooms = [];
+  free = rooms_below most;
+  lasts = replicate most 0;
+  flows = replicate (2 * most) None;
+  held = [];
+  events = events;
+  segments = 0;
+}
+
+-- ---- One flow.
+
+abbrev pub flow_at : State → ℕ → Option FlowState
+flow_at w id = get_or w.flows id None
+
+abbrev pub flow_state : Flow → FlowState
+flow_state f = record { id = f.id; next = f.next; live = f.live; fin = f.fin }
+
+unfoldable pub with_flow : State → ℕ → Flow → State
+with_flow w id f =
+    record w { flows = set w.flows id (Some (flow_state f)); held = f.held; events = f.events }
+
+-- something comes for a flow: nothing happens before its first stream
+unfoldable pub arrived : Reader → State → ℕ → Arrival → State
+arrived F w id arrival =
+    elim (flow_at w id) [
+      | None ↦ w
+      | Some s ↦ with_flow w id (flow_step (setting F w.blocks) (state s w.held w.events) arrival)
+    ]
+
+-- the first payload with a header comes for a flow
+unfoldable pub began : Reader → State → ℕ → ℕ → List ℕ → State
+began F w id number octets =
+    with_flow w id (first_payload (setting F w.blocks) id number octets w.held w.events)
+
+-- a gap of a flow
+unfoldable pub gapped : Reader → State → ℕ → State
+gapped F w id =
+    elim (flow_at w id) [
+      | None ↦ w
+      | Some s ↦ with_flow w id (gap F (state s w.held w.events))
+    ]
+
+-- a flow's live stream closes
+unfoldable pub closed_at : State → ℕ → CloseCause → State
+closed_at w id cause =
+    elim (flow_at w id) [
+      | None ↦ w
+      | Some s ↦ with_flow w id (closed (state s w.held w.events) cause)
+    ]
+
+-- a flow is forgotten: its live stream closes, and what it holds falls away
+unfoldable pub flow_forgotten : State → ℕ → CloseCause → State
+flow_forgotten w id cause =
+    elim (flow_at w id) [
+      | None ↦ w
+      | Some s ↦ (record w {
+        flows = set w.flows id None;
+        held = held_by_others id w.held;
+        events = (closed (state s w.held w.events) cause).events;
+      })
+    ]
+
+-- the number that the live stream of a flow began with
+unfoldable pub live_of : Option FlowState → Option ℕ
+live_of None = None
+live_of (Some s) = s.live
+
+abbrev pub live_at : State → ℕ → Option ℕ
+live_at w id = live_of (flow_at w id)
+
+-- ---- Which connections are known.
+
+-- where a pair stands, or would stand, among those that are known
+unfoldable pub place_among : EndpointPair → List EndpointPair → ℕ
+place_among p [] = 0
+place_among p (q ∷ qs) = cond (is_lt (compare_pairs q p)) (suc (place_among p qs)) 0
+
+-- where a pair stands among those that are known
+unfoldable pub place_of : EndpointPair → List EndpointPair → Option ℕ
+place_of p [] = None
+place_of p (q ∷ qs) = cond (is_eq (compare_pairs q p)) (Some 0) (option_map suc (place_of p qs))
+
+abbrev pub room_at : State → ℕ → ℕ
+room_at w place = get_or w.rooms place 0
+
+-- a connection is forgotten: first the flow of one side, then the other
+unfoldable pub forgotten : State → ℕ → Side → CloseCause → State
+forgotten w place side cause =
+    let room : ℕ = room_at w place in
+    let v : State =
+    flow_forgotten (flow_forgotten w (flow_id room side) cause) (flow_id room (opposite side)) cause in
+    record v {
+      known = remove v.known place;
+      rooms = remove v.rooms place;
+      free = v.free ++ room ∷ [];
+    }
+
+abbrev pub is_live : State → ℕ → Bool
+is_live w room =
+    is_some (live_at w (flow_id room FromLesser)) || is_some (live_at w (flow_id room FromGreater))
+
+-- whether the connection at one place makes room rather than that at another: first those without a live stream, then by
+-- their last segments
+abbrev pub goes_before : State → ℕ → ℕ → Bool
+goes_before w a b =
+    cond (is_live w (room_at w a))
+    (is_live w (room_at w b) && nat_lt (get_or w.lasts (room_at w a) 0) (get_or w.lasts (room_at w b) 0))
+    (is_live w (room_at w b) || nat_lt (get_or w.lasts (room_at w a) 0) (get_or w.lasts (room_at w b) 0))
+
+-- of the first so many connections, the place of the one that makes room
+unfoldable pub eldest : State → ℕ → ℕ
+eldest w zero = 0
+eldest w (suc n) = cond (goes_before w n (eldest w n)) n (eldest w n)
+
+-- where as many connections as may be are known, the one that goes first is forgotten
+unfoldable pub with_room : State → State
+with_room w =
+    let place : ℕ = eldest w (length w.known) in
+    cond (nat_lt (length w.known) (length w.lasts)) w
+    (forgotten w place (elder_side (room_at w place) (lives w.events)) Room)
+
+-- the room that is taken next
+unfoldable pub next_room : List ℕ → ℕ
+next_room free = get_or free (length free - 1) 0
+
+unfoldable pub rest_of_rooms : List ℕ → List ℕ
+rest_of_rooms free = take (length free - 1) free
+
+-- a connection is known from now on
+unfoldable pub made_known : State → EndpointPair → State
+made_known w p =
+    let room : ℕ = next_room w.free in
+    let place : ℕ = place_among p w.known in
+    record w {
+      known = insert w.known place p;
+      rooms = insert w.rooms place room;
+      free = rest_of_rooms w.free;
+      lasts = set w.lasts room w.segments;
+      events = (w.events ++ Opens (flow_id room FromLesser) (flow_from p FromLesser) ∷ [])
+          ++ Opens (flow_id room FromGreater) (flow_from p FromGreater) ∷ [];
+    }
+
+-- ---- A segment.
+
+-- the number of the first octet: SYN has one of its own
+abbrev pub first_number : Segment → ℕ
+first_number s = onward s.sequence (cond s.syn 1 0)
+
+-- the number behind the payload
+abbrev pub number_behind : Segment → ℕ
+number_behind s = onward (first_number s) (length s.payload)
+
+abbrev pub is_chosen : List ℕ → endpoints.Flow → Bool
+is_chosen ports flow =
+    nat_eq (length ports) 0 || list_any (λ port. port == flow.from.port) ports
+    || list_any (λ port. port == flow.to.port) ports
+
+-- whether a segment's payload may begin the first stream of its flow
+abbrev pub is_first : List ℕ → Segment → Bool
+is_first ports s = not s.reset && is_chosen ports s.flow && is_some (header_at s.payload)
+
+-- whether a segment begins its connection anew: a SYN without ACK, but not that of the live stream
+abbrev pub is_anew : Option ℕ → Segment → Bool
+is_anew live s =
+    s.syn && not (is_some s.acknowledgement)
+    && not (elim live [ None ↦ false | Some number ↦ nat_eq number (onward s.sequence 1) ])
+
+-- a FIN
+unfoldable pub fin_taken : Reader → State → ℕ → Segment → State
+fin_taken F w id s = cond s.fin (arrived F w id (End (number_behind s))) w
+
+-- a segment of a connection that isn't known
+unfoldable pub unknown_taken : Reader → State → Segment → State
+unknown_taken F w s =
+    let v : State = with_room w in
+    let id : ℕ = flow_id (next_room v.free) (pair_of s.flow).1 in
+    cond (is_first w.ports s)
+    (fin_taken F (began F (made_known v (pair_of s.flow).0) id (first_number s) s.payload) id s) w
+
+-- an acknowledgement, of what the opposite flow sent
+unfoldable pub acknowledgement_taken : Reader → State → ℕ → Segment → State
+acknowledgement_taken F w id s =
+    elim s.acknowledgement [ None ↦ w | Some number ↦ arrived F w id (Acknowledged number) ]
+
+-- a payload: the first of its flow, or a later one
+unfoldable pub payload_taken : Reader → State → ℕ → Segment → State
+payload_taken F w id s =
+    elim (flow_at w id) [
+      | None ↦ cond (is_first w.ports s) (began F w id (first_number s) s.payload) w
+      | Some f ↦ cond s.reset w (arrived F w id (Octets (first_number s) s.payload))
+    ]
+
+-- a RST
+unfoldable pub reset_taken : State → ℕ → Side → Segment → State
+reset_taken w place side s = cond s.reset (forgotten w place side Reset) w
+
+-- a segment of a known connection
+unfoldable pub known_taken : Reader → State → ℕ → Segment → State
+known_taken F w place s =
+    let side : Side = (pair_of s.flow).1 in
+    let room : ℕ = room_at w place in
+    let id : ℕ = flow_id room side in
+    let seen : State = record w { lasts = set w.lasts room w.segments } in
+    let heard : State = acknowledgement_taken F seen (flow_id room (opposite side)) s in
+    reset_taken (fin_taken F (payload_taken F heard id s) id s) place side s
+
+-- one segment more
+unfoldable pub step : Reader → State → Segment → State
+step F w s =
+    let v : State = record w { segments = w.segments + 1 } in
+    let side : Side = (pair_of s.flow).1 in
+    elim (place_of (pair_of s.flow).0 v.known) [
+      | None ↦ unknown_taken F v s
+      | Some place ↦
+          cond (is_anew (live_at v (flow_id (room_at v place) side)) s)
+          (unknown_taken F (forgotten v place side Syn) s) (known_taken F v place s)
+    ]
+
+-- all segments, the first first
+unfoldable pub after : Reader → State → List Segment → State
+after F w [] = w
+after F w (s ∷ ss) = after F (step F w s) ss
+
+-- ---- The end of the capture.
+
+-- whether a flow holds something
+unfoldable pub is_holding : List Payload → Option FlowState → Bool
+is_holding held None = false
+is_holding held (Some s) = is_some (first s.id s.next held)
+
+-- while flows hold something, a gap of the one whose live stream has the least number: those before a rank hold nothing
+unfoldable pub gaps_from : Reader → ℕ → ℕ → State → State
+gaps_from F zero rank w = w
+gaps_from F (suc count) rank w =
+    elim (nat_lt rank (length (lives w.events))) [
+      | false ↦ w
+      | true ↦
+          (let id : ℕ = get_or (lives w.events) rank 0 in
+          elim (is_holding w.held (flow_at w id)) [
+            | true ↦ gaps_from F count rank (gapped F w id)
+            | false ↦ gaps_from F count (suc rank) w
+          ])
+    ]
+
+-- how a flow's live stream closes at the end
+unfoldable pub end_cause : Option FlowState → CloseCause
+end_cause None = CaptureEnd
+end_cause (Some s) = cond (is_some s.fin) Gap CaptureEnd
+
+-- the live streams close by their order, at most so many
+unfoldable pub all_closed : ℕ → State → State
+all_closed zero w = w
+all_closed (suc count) w =
+    elim (nat_lt 0 (length (lives w.events))) [
+      | false ↦ w
+      | true ↦
+          (let id : ℕ = get_or (lives w.events) 0 0 in
+          all_closed count (closed_at w id (end_cause (flow_at w id))))
+    ]
+
+-- the capture ends
+unfoldable pub ended : Reader → State → State
+ended F w =
+    let v : State = gaps_from F (length w.held + length (lives w.events)) 0 w in
+    all_closed (length (lives v.events)) v

@@ -1,0 +1,3 @@
+pub mod Elders
+pub mod Order
+pub mod Told

@@ -1,0 +1,13 @@
+use Rattle.std.proofs.Common.{◌≡◌, ◌++◌, ◌∷◌, [], sym, ◌∙◌}
+use Rattle.tcp_flow.specs.Flow.{Delivers}
+use Rattle.tcp_streams.specs.Lives.{behind}
+use Rattle.tcp_streams.proofs.Order.{lives_more}
+use Rattle.tcp_streams.proofs.Told.{told_if}
+use Rattle.tcp_streams.proofs.streams.StreamsListener.delivers.Goals as goal
+
+pub returns : goal.returns
+unfolding behind
+returns g c events o =
+    told_if c.delivers.result (λ b. g.L.Listener.observed c.delivers.new.self (events ++ Delivers c.args.flow c.args.octets.now ∷ []))
+    (λ b. b ≡ g.L.Listener.faulted (events ++ Delivers c.args.flow c.args.octets.now ∷ [])) _ (c.delivers.ensures events o.0)
+    (o.1 ∙ sym (lives_more [] events (Delivers c.args.flow c.args.octets.now)))

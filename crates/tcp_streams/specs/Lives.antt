@@ -1,0 +1,40 @@
+-- Which streams live, by the order of their beginnings (meaning).
+use Rattle.std.specs.Prelude.{ℕ, suc, cond, nat_eq, List, [], ◌∷◌, ◌++◌, Option, Some, None}
+use Rattle.std.specs.Option.{option_map}
+use Rattle.tcp_streams.specs.declared.pair.Side.{Side}
+use Rattle.tcp_streams.specs.declared.pair.Side.TheVariants.{FromLesser, FromGreater}
+use Rattle.tcp_streams.specs.Pairs.{flow_id}
+use Rattle.tcp_flow.specs.Flow.{Event, Opens, Begins, Delivers, Closes}
+
+-- where a number stands first
+unfoldable pub index_of : ℕ → List ℕ → Option ℕ
+index_of n [] = None
+index_of n (x ∷ xs) = cond (nat_eq x n) (Some 0) (option_map suc (index_of n xs))
+
+-- the first such number is taken away
+unfoldable pub without : ℕ → List ℕ → List ℕ
+without n [] = []
+without n (x ∷ xs) = cond (nat_eq x n) xs (x ∷ without n xs)
+
+-- the flows whose streams live, behind one more event: a stream that begins is the last
+unfoldable pub behind : List ℕ → Event → List ℕ
+behind live (Opens id endpoints) = live
+behind live (Begins id number) = live ++ id ∷ []
+behind live (Delivers id octets) = live
+behind live (Closes id cause) = without id live
+
+-- those behind all events, from these on
+unfoldable pub lives_from : List ℕ → List Event → List ℕ
+lives_from live [] = live
+lives_from live (e ∷ es) = lives_from (behind live e) es
+
+-- the flows whose streams live behind all events, by the order in which these streams began: that of their numbers
+abbrev pub lives : List Event → List ℕ
+lives events = lives_from [] events
+
+-- of a room's streams that live, the side of the first
+unfoldable pub elder_side : ℕ → List ℕ → Side
+elder_side room [] = FromLesser
+elder_side room (id ∷ ids) =
+    cond (nat_eq id (flow_id room FromLesser)) FromLesser
+    (cond (nat_eq id (flow_id room FromGreater)) FromGreater (elder_side room ids))

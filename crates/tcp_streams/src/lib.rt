@@ -1,0 +1,10 @@
+//! The two flows of a connection, and the streams that live in the flows of all connections, in the order of their beginnings.
+#![tactic(auto)]
+
+mod pair;
+mod sides;
+mod streams;
+
+pub use pair::{EndpointPair, Side};
+pub use sides::{flow_from, flow_id, other, pair_of};
+pub use streams::Streams;

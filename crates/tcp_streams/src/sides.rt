@@ -1,0 +1,68 @@
+//! The two flows of a connection, and the ids that they have while it is known.
+
+ghost use Rattle.std.specs.Prelude.{◌≡◌, ◌≤◌, ◌+◌, ◌*◌, ◌<◌, ◌^◌};
+ghost use Rattle.tcp_streams.specs.Pairs.{pair_of as spec_pair_of, flow_id as spec_flow_id, opposite, flow_from as spec_flow_from};
+
+use crate::pair::{EndpointPair, Side};
+use std::cmp::Ordering;
+use tcp_segment::Flow;
+
+/// Between whom a flow goes, and who sends.
+pub fn pair_of(flow: Flow) -> (EndpointPair, Side)
+    ensures { result ≡ spec_pair_of flow }
+{
+    match flow.from.cmp(&flow.to) {
+        Ordering::Greater => (
+            EndpointPair {
+                lesser: flow.to,
+                greater: flow.from,
+            },
+            Side::FromGreater,
+        ),
+        Ordering::Less | Ordering::Equal => (
+            EndpointPair {
+                lesser: flow.from,
+                greater: flow.to,
+            },
+            Side::FromLesser,
+        ),
+    }
+}
+
+/// The id of a flow: twice the room of its connection, and 1 more where the greater endpoint sends.
+pub fn flow_id(room: u32, side: Side) -> u32
+    requires { room < 2 ^ 31 }
+    ensures id { result ≡ spec_flow_id room side }
+    ensures bound { result ≤ 2 * room + 1 }
+{
+    match side {
+        Side::FromLesser => 2 * room,
+        Side::FromGreater => 2 * room + 1,
+    }
+}
+
+/// The side of the other flow of a connection.
+pub fn other(side: Side) -> Side
+    ensures { result ≡ opposite side }
+{
+    match side {
+        Side::FromLesser => Side::FromGreater,
+        Side::FromGreater => Side::FromLesser,
+    }
+}
+
+/// The flow of a pair, by who sends.
+pub fn flow_from(pair: EndpointPair, side: Side) -> Flow
+    ensures { result ≡ spec_flow_from pair side }
+{
+    match side {
+        Side::FromLesser => Flow {
+            from: pair.lesser,
+            to: pair.greater,
+        },
+        Side::FromGreater => Flow {
+            from: pair.greater,
+            to: pair.lesser,
+        },
+    }
+}

@@ -1,0 +1,119 @@
+//! The streams that live, in the order of their beginnings, beside the listener to which they are told.
+
+ghost use Rattle.std.specs.Prelude.{◌≡◌, ◌≤◌, ◌<◌, ◌*◌, ◌^◌, [], List, ℕ, length, get_or, IfOk, IfSome, None};
+ghost use Rattle.std.specs.VecDeque.{deque_capacity};
+ghost use Rattle.tcp_streams.specs.Lives.{lives, without, index_of as spec_index_of, elder_side};
+
+use crate::pair::Side;
+use crate::sides::flow_id;
+use std::alloc::{AllocError, Global};
+use std::collections::VecDeque;
+use tcp_flow::{CloseCause, Listener, ListenerFault};
+use tcp_segment::Flow;
+
+/// A listener, and the flows of the streams that live, by the order in which these began.
+#[derive(Drop)]
+pub struct Streams<L: Listener + Drop> {
+    /// What happens is told to it.
+    pub listener: L,
+    live: VecDeque<u32>,
+}
+
+impl<L: Listener + Drop> Streams<L> {
+    /// No stream lives. There is memory for two streams of so many connections; no other call allocates.
+    pub fn new(alloc: Global, listener: L, connections: u32) -> Result<Streams<L>, AllocError>
+        ensures listener { IfOk result (λ s. s.listener ≡ listener) }
+        ensures live { IfOk result (λ s. s.live.items ≡ []) }
+        ensures room { IfOk result (λ s. 2 * connections ≤ deque_capacity s.live) }
+    {
+        let live = VecDeque::with_capacity(alloc, 2 * connections as usize)?;
+        Ok(Streams { listener, live })
+    }
+
+    /// The flow whose live stream has the number of this rank among those that live.
+    pub fn live(&self, rank: usize) -> Option<u32>
+        ensures none { (result ≡ None) → length self.now.live.items ≤ rank }
+        ensures some { IfSome result (λ id. (rank < length self.now.live.items)
+            × (id ≡ get_or self.now.live.items rank 0)) }
+    {
+        self.live.get(rank).copied()
+    }
+
+    /// Of the streams of a room, the side whose stream began first.
+    pub fn elder_side(&self, room: u32) -> Side
+        requires { room < 2 ^ 31 }
+        ensures { result ≡ elder_side room self.now.live.items }
+    {
+        let mut index = 0;
+        while index < self.live.len() {
+            let id = self.live[index];
+            if id == flow_id(room, Side::FromLesser) {
+                return Side::FromLesser;
+            }
+            if id == flow_id(room, Side::FromGreater) {
+                return Side::FromGreater;
+            }
+            index += 1;
+        }
+        Side::FromLesser
+    }
+
+    /// How many streams live.
+    pub fn len(&self) -> usize
+        ensures { result ≡ length self.now.live.items }
+    {
+        self.live.len()
+    }
+}
+
+/// Where a number stands first.
+fn index_of(numbers: &VecDeque<u32>, wanted: u32) -> Option<usize>
+    ensures { result ≡ spec_index_of wanted numbers.now.items }
+{
+    let mut index = 0;
+    while index < numbers.len() {
+        if numbers[index] == wanted {
+            return Some(index);
+        }
+        index += 1;
+    }
+    None
+}
+
+/// The first such number is taken away.
+fn take_away(numbers: &mut VecDeque<u32>, wanted: u32)
+    ensures { numbers.new.items ≡ without wanted numbers.old.items }
+{
+    let Some(index) = index_of(numbers, wanted) else {
+        return;
+    };
+    numbers.remove(index);
+}
+
+impl<L: Listener + Drop> Listener for Streams<L> {
+    ghost observed = { λ s events. L.observed s.listener events × (s.live.items ≡ lives events) };
+
+    ghost faulted = { L.faulted };
+
+    fn opens(&mut self, flow: u32, endpoints: Flow) -> Result<(), ListenerFault> {
+        self.listener.opens(flow, endpoints)
+    }
+
+    fn begins(&mut self, flow: u32, number: u32) -> Result<(), ListenerFault> {
+        // A flow has at most one live stream, so there is room.
+        if self.live.len() >= self.live.capacity() {
+            return Err(ListenerFault);
+        }
+        self.live.push_back_reserved(flow);
+        self.listener.begins(flow, number)
+    }
+
+    fn delivers(&mut self, flow: u32, octets: &[u8]) -> Result<bool, ListenerFault> {
+        self.listener.delivers(flow, octets)
+    }
+
+    fn closes(&mut self, flow: u32, cause: CloseCause) -> Result<(), ListenerFault> {
+        take_away(&mut self.live, flow);
+        self.listener.closes(flow, cause)
+    }
+}

@@ -1,0 +1,32 @@
+//! A listener that keeps nothing of what it is told.
+
+ghost use Rattle.std.specs.Prelude.{Unit, false};
+
+use tcp_flow::{CloseCause, Listener, ListenerFault};
+use tcp_segment::Flow;
+
+/// Keeps nothing. Its readers are never at a fault.
+#[derive(Drop)]
+pub struct Silent;
+
+impl Listener for Silent {
+    ghost observed = { λ s events. Unit {0} };
+
+    ghost faulted = { λ events. false };
+
+    fn opens(&mut self, _flow: u32, _endpoints: Flow) -> Result<(), ListenerFault> {
+        Ok(())
+    }
+
+    fn begins(&mut self, _flow: u32, _number: u32) -> Result<(), ListenerFault> {
+        Ok(())
+    }
+
+    fn delivers(&mut self, _flow: u32, _octets: &[u8]) -> Result<bool, ListenerFault> {
+        Ok(false)
+    }
+
+    fn closes(&mut self, _flow: u32, _cause: CloseCause) -> Result<(), ListenerFault> {
+        Ok(())
+    }
+}

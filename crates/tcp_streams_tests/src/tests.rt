@@ -1,0 +1,71 @@
+//! A pair and its flows, and streams by the order of their beginnings.
+
+use crate::silent::Silent;
+use tcp_flow::{CloseCause, Listener};
+use tcp_segment::{Address, Endpoint, Flow};
+use tcp_streams::{Side, Streams, flow_from, flow_id, other, pair_of};
+
+/// Endpoints, the lesser first.
+const IN_ORDER: [(Address, u16, Address, u16); 4] = [
+    (
+        Address::V4([10, 0, 0, 1]),
+        1000,
+        Address::V4([10, 0, 0, 2]),
+        2809,
+    ),
+    (
+        Address::V4([10, 0, 0, 1]),
+        1000,
+        Address::V4([10, 0, 0, 1]),
+        2809,
+    ),
+    (Address::V4([255, 0, 0, 1]), 9, Address::V6([0; 16]), 1),
+    (Address::V6([0; 16]), 65535, Address::V6([1; 16]), 0),
+];
+
+#[test]
+fn a_pair_is_the_same_whoever_sends(rt: HostRuntime) {
+    for (address, port, greater, greater_port) in IN_ORDER {
+        let from = Endpoint { address, port };
+        let to = Endpoint {
+            address: greater,
+            port: greater_port,
+        };
+        let flow = Flow { from, to };
+        let (pair, side) = pair_of(flow);
+        let (same, opposite) = pair_of(flow.opposite());
+        assert_eq!(rt; pair, same, "port {port}");
+        assert_eq!(rt; pair.lesser, from, "port {port}");
+        assert_eq!(rt; side, Side::FromLesser, "port {port}");
+        assert_eq!(rt; opposite, other(side), "port {port}");
+        assert_eq!(rt; flow_from(pair, side), flow, "port {port}");
+        assert_eq!(rt; flow_from(pair, opposite), flow.opposite(), "port {port}");
+    }
+}
+
+#[test]
+fn the_flows_of_a_room_have_ids_side_by_side(rt: HostRuntime) {
+    for (room, lesser, greater) in [(0, 0, 1), (7, 14, 15), (65_535, 131_070, 131_071)] {
+        assert_eq!(rt; flow_id(room, Side::FromLesser), lesser, "room {room}");
+        assert_eq!(rt; flow_id(room, Side::FromGreater), greater, "room {room}");
+    }
+}
+
+#[test]
+fn streams_that_live_stand_in_the_order_of_their_beginnings(rt: HostRuntime) {
+    let Ok(mut streams) = Streams::new(rt.alloc(), Silent, 3) else {
+        return;
+    };
+    for flow in [5, 0, 2] {
+        assert!(rt; streams.begins(flow, 1).is_ok(), "flow {flow}");
+    }
+    assert!(rt; streams.closes(0, CloseCause::Fin).is_ok());
+    assert!(rt; streams.begins(0, 1).is_ok());
+    assert!(rt; streams.delivers(0, b"GIOP").is_ok());
+    assert_eq!(rt; streams.len(), 3);
+    for (rank, flow) in [(0, Some(5)), (1, Some(2)), (2, Some(0)), (3, None)] {
+        assert_eq!(rt; streams.live(rank), flow, "rank {rank}");
+    }
+    assert_eq!(rt; streams.elder_side(2), Side::FromGreater);
+    assert_eq!(rt; streams.elder_side(1), Side::FromLesser);
+}
