@@ -1,0 +1,102 @@
+//! One direction of a conversation, which knows the calls of both.
+
+ghost use Rattle.std.specs.Prelude.{◌≡◌};
+ghost use Rattle.std.specs.Option.{option_map};
+ghost use Rattle.giop_conversations.specs.Sides.{SideState, answered_operation, after_event, requested, kept_name};
+ghost use Rattle.giop_conversations.specs.SideLaws.{stays_known};
+
+use arrayvec::ArrayVec;
+use giop_calls::{Call, Calls};
+use giop_message::Correspondent;
+use giop_sig::{Catalogue, OpId};
+use std::mem::swap;
+
+/// The correspondent of one direction's stream, by the calls of both: its Requests are added to its own, and its Replies
+/// take those of the other.
+#[derive(Drop)]
+pub struct Side<'a> {
+    pub catalogue: &'a Catalogue,
+    pub own: Calls,
+    pub theirs: Calls,
+}
+
+impl Side<'_> {
+    /// Becomes the correspondent of the other direction.
+    pub fn turn(&mut self)
+        ensures own { self.new.own ≡ self.old.theirs }
+        ensures theirs { self.new.theirs ≡ self.old.own }
+    {
+        swap(&mut self.own, &mut self.theirs);
+    }
+}
+
+impl Correspondent for Side<'_> {
+    ghost State = { SideState };
+
+    ghost state = { λ s. record { table = s.catalogue.now; own = s.own; theirs = s.theirs } };
+
+    ghost answer = { answered_operation };
+
+    ghost notified = { after_event };
+
+    fn operation(&self, id: u32) -> Option<OpId> {
+        let call = self.theirs.find(id)?;
+        self.catalogue.operation(call.name.as_slice())
+    }
+
+    fn called(
+        &mut self,
+        number: u64,
+        id: u32,
+        name: Option<&[u8]>,
+        _operation: Option<OpId>,
+        expects_reply: bool,
+    ) {
+        request(&mut self.own, number, id, name, expects_reply);
+    }
+
+    fn answered(&mut self, _number: u64, id: u32) {
+        self.theirs.take(id);
+    }
+
+    ghost known = { λ C s event k h. stays_known C s event k };
+}
+
+/// A Request takes an older call of its id away, and makes one, if its call line can be shown and it expects a reply.
+fn request(
+    calls: &mut Calls,
+    number: u64,
+    id: u32,
+    name: Option<&[u8]>,
+    expects_reply: bool,
+)
+    ensures { calls.new ≡ requested number id (option_map (λ x. x.now) name.entry) expects_reply
+        calls.old }
+{
+    let Some(name) = name else {
+        calls.take(id);
+        return;
+    };
+    if !expects_reply {
+        calls.take(id);
+        return;
+    }
+    let call = Call {
+        name: kept(name),
+        stream: 1,
+        message: number,
+        time: None,
+    };
+    calls.add(id, call);
+}
+
+/// The octets of a name. A longer one than a call has room for can't be shown, and isn't kept.
+fn kept(name: &[u8]) -> ArrayVec<u8, 128>
+    ensures { result.items ≡ kept_name name.now }
+{
+    let mut octets = ArrayVec::new();
+    if octets.try_extend_from_slice(name).is_err() {
+        return ArrayVec::new();
+    }
+    octets
+}
