@@ -18,6 +18,7 @@ pub mod AnswersAgree
 pub mod EngineView
 pub mod FramingView
 pub mod FramingSteps
+pub mod Stops
 pub mod EngineHolds
 pub mod Pieces
 pub mod Octet

@@ -1,6 +1,9 @@
 //! The faults that framing gives a message, and why a call of an engine fails. Stream faults, which end a stream, are
 //! defined beside the checkpoint that stores them.
 
+ghost use Rattle.std.specs.Prelude.{◌≡◌};
+ghost use Rattle.giop_stream.specs.Stops.{stop_number};
+
 pub use giop_checkpoint::{LoadFault, StreamFault};
 use giop_print::OutFault;
 use thiserror::Error;
@@ -48,4 +51,16 @@ pub enum Stop {
     /// The engine was failed before the call; nothing is written.
     #[error("the engine was failed")]
     Failed,
+}
+
+impl Stop {
+    /// The number of the refusal (docs/FORMATS.md, Refusals).
+    pub fn number(&self) -> u8
+        ensures { result ≡ stop_number self.now }
+    {
+        match self {
+            Stop::Out(_) => 1,
+            Stop::Failed => 2,
+        }
+    }
 }

@@ -7,6 +7,7 @@ mod engine;
 mod fault;
 mod finish;
 mod framing;
+mod going_on;
 mod header;
 mod kinds;
 mod laws;
@@ -20,6 +21,7 @@ mod status;
 
 pub use engine::{Engine, any_pieces, remaining, text_begins};
 pub use fault::{FramingFault, LoadFault, NewFault, Stop, StreamFault};
+pub use going_on::{go_on, has_checkpoint};
 pub use laws::{
     after_a_stop, answers_agree, answers_go_on, each_joined, each_slot, each_step, one_of_each,
     open_messages,

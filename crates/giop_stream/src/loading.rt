@@ -1,6 +1,6 @@
 //! Reads the checkpoint of an engine: its fixed part and its records, each checked (docs/FORMATS.md, Checkpoints).
 
-ghost use Rattle.std.specs.Prelude.{◌≡◌, ℕ, List, ◌+◌, ◌<◌, ◌≤◌, ◌^◌, ◌*◌, length, drop, true, Option, Some, None, IfOk, IfErr, IfSome, IsSomeAnd, [], ◌∷◌, ◌++◌, flat_map, replicate};
+ghost use Rattle.std.specs.Prelude.{◌≡◌, ℕ, List, ◌+◌, ◌<◌, ◌≤◌, ◌^◌, ◌*◌, length, drop, true, false, Option, Some, None, IfOk, IfErr, IfSome, IsSome, IsSomeAnd, [], ◌∷◌, ◌++◌, flat_map, replicate};
 ghost use Rattle.giop_sig.specs.Table.{Table};
 ghost use Rattle.giop_message.specs.MessageState.{Follows};
 ghost use Rattle.giop_message.specs.Signatures.{RequestTable, Answers, by_list};
@@ -194,7 +194,6 @@ fn add_all(
     requires lengths { AreRecords count records.now }
     requires ready { AreReady catalogue.now (octets + 1) slots.old }
     ensures ready { result ≡ true → AreReady catalogue.now (octets + 1) slots.new }
-    ensures none { count ≡ 0 → (result ≡ true) × (slots.new ≡ slots.old) }
     ensures again { (l : Answers) (held : List Held) (own : Option Own) →
         AreLeft catalogue.now l (octets + 1) count records.now held own →
         length slots.old.slots.entries + length held ≤ slots.old.slots.most → slots.old.own ≡ None →
@@ -202,18 +201,18 @@ fn add_all(
         × IsOwn catalogue.now l slots.new.own own }
     ensures most { slots.new.slots.most ≡ slots.old.slots.most }
 {
-    if count == 0 {
-        return true;
+    let mut rest = records;
+    for _ in 0..count {
+        let Some(behind) = add_first(slots, catalogue, octets, rest) else {
+            return false;
+        };
+        rest = behind;
     }
-    let Some(rest) = add_first(slots, catalogue, octets, records) else {
-        return false;
-    };
-    add_all(slots, catalogue, octets, count - 1, rest)
+    true
 }
 
-/// Adds the message of the first of these records, where it is in its range, and returns the records after it. It isn't
-/// inlined, so that no stack frame of the recursion has room for a record.
-#[inline(never)]
+/// Adds the message of the first of these records, where it is in its range, and returns the records after it. None is
+/// added after that of the current message.
 fn add_first<'a>(
     slots: &mut Slots,
     catalogue: &Catalogue,
@@ -227,11 +226,15 @@ fn add_first<'a>(
     ensures rest { IfSome result (λ rest. rest.now ≡ drop (used records.now) records.now) }
     ensures again { (l : Answers) (count : ℕ) (held : List Held) (own : Option Own) →
         (count ≡ 0 → ⊥) → AreLeft catalogue.now l (octets + 1) count records.now held own →
-        length slots.old.slots.entries + length held ≤ slots.old.slots.most →
+        length slots.old.slots.entries + length held ≤ slots.old.slots.most → slots.old.own ≡ None →
         IsSomeAnd result (λ rest. HasAddedFirst catalogue.now l (octets + 1) count
         slots.old slots.new rest.now held own) }
+    ensures last { IsSome slots.old.own → result ≡ None }
     ensures most { slots.new.slots.most ≡ slots.old.slots.most }
 {
+    if slots.own.is_some() {
+        return None;
+    }
     let Some(first) = first_record(records) else {
         return None;
     };

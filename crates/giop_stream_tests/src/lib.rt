@@ -3,6 +3,8 @@
 #![tactic(auto)]
 
 #[cfg(test)]
+mod going_on;
+#[cfg(test)]
 mod known;
 #[cfg(test)]
 mod limits;

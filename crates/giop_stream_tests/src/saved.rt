@@ -2,25 +2,14 @@
 
 ghost use Rattle.giop_stream.specs.EngineHolds.{AreOf};
 
-use super::known::declared;
+use super::known::{DECLARED, STREAM, declared};
 use giop_print::Sheet;
 use giop_sig::{Catalogue, Requests};
 use giop_stream::{Engine, Stop};
 use std::alloc::Global;
 use std::test::Fail;
 
-/// The operations of the stream.
-const DECLARED: &[u8] =
-    b"signatures 1;\noperation void big(in ulonglong n);\noperation void nop();\n";
-
-/// Two Requests with fragments to follow: 5 for `big`, with the first half of its number, and 6 for `nop`.
-const STREAM: &[u8] =
-    b"GIOP\x01\x02\x02\x00\x00\x00\x00\x28\x00\x00\x00\x05\x03\x00\x00\x00\x00\x00\x00\x00\
-\x00\x00\x00\x01A\x00\x00\x00\x00\x00\x00\x04big\x00\x00\x00\x00\x00\x00\x00\x00\x00\x01\x02\x03\x04\
-GIOP\x01\x02\x02\x00\x00\x00\x00\x24\x00\x00\x00\x06\x03\x00\x00\x00\x00\x00\x00\x00\
-\x00\x00\x00\x01A\x00\x00\x00\x00\x00\x00\x04nop\x00\x00\x00\x00\x00\x00\x00\x00\x00";
-
-/// How many octets its checkpoint has.
+/// How many octets the checkpoint of the stream has.
 const LENGTH: usize = 656;
 
 /// A header of CloseConnection in 1.0, big endian, without a payload: its line has more than 20 octets.

@@ -1,5 +1,5 @@
 -- The slots that are read from a checkpoint's records are those that were written.
-use Rattle.std.proofs.Common.{◌≡◌, ℕ, suc, ◌+◌, ◌-◌, ◌<◌, ◌≤◌, Bool, true, List, [], ◌∷◌, ◌++◌, length, flat_map, replicate, arith, Option, Some, None, inl, inr, ◌⊎◌, refl, sym, ap, ◌∙◌, subst, append_assoc, append-nil}
+use Rattle.std.proofs.Common.{◌≡◌, ℕ, suc, ◌+◌, ◌-◌, ◌<◌, ◌≤◌, zero, Bool, true, false, List, [], ◌∷◌, ◌++◌, length, drop, flat_map, replicate, arith, Option, Some, None, inl, inr, ◌⊎◌, refl, sym, ap, ◌∙◌, subst, append_assoc, append-nil}
 use Rattle.std.specs.Prelude.{is_some, IsSomeAnd}
 use Rattle.std.specs.List.{AllByRecursion as Each}
 use Rattle.std.proofs.lemmas.List.{length-append}
@@ -11,7 +11,7 @@ use Rattle.giop_message.specs.Stored.{Stored}
 use Rattle.giop_checkpoint.specs.declared.record.Record.{Record}
 use Rattle.giop_checkpoint.specs.declared.record.FirstRecord.{FirstRecord}
 use Rattle.giop_checkpoint.specs.declared.record.RecordKind.TheVariants as record_kinds
-use Rattle.giop_checkpoint.specs.Records.{Entry, EntryHasRange, entry_octets}
+use Rattle.giop_checkpoint.specs.Records.{Entry, EntryHasRange, AreRecords, entry_octets, used}
 use Rattle.giop_stream.specs.SlotsRepresent.{OpenEntry}
 use Rattle.giop_stream.specs.declared.slots.Slots.{Slots}
 use Rattle.giop_stream.specs.Events.{MessageKey}
@@ -366,6 +366,9 @@ module _ (C : Table) (l : Answers) (at count : ℕ) (octets : List ℕ) where
 
 -- ---- all records
 
+false_not_true : false ≡ true → ⊥
+false_not_true e = cc
+
 -- all that was left was added
 abbrev pub IsAll : Table → Answers → Bool → Slots → Slots → List Held → Option Own → Type 0
 IsAll C l result before after held own = (result ≡ true) × HasAdded C l before after held × IsOwn C l after.own own
@@ -414,7 +417,7 @@ module _ (C : Table) (l : Answers) (at count : ℕ) (before mid after : Slots) (
     (none : count - 1 ≡ 0 → (result ≡ true) × (after ≡ mid))
     (again : (hs : List Held) (o : Option Own) → AreLeft C l at (count - 1) rest hs o →
     length mid.slots.entries + length hs ≤ mid.slots.most → mid.own ≡ None → IsAll C l result mid after hs o) where
-  pub all_again : (held : List Held) (own : Option Own) → HasAddedFirst C l at count before mid rest held own →
+  all_again : (held : List Held) (own : Option Own) → HasAddedFirst C l at count before mid rest held own →
       length before.slots.entries + length held ≤ before.slots.most → before.own ≡ None → IsAll C l result before after held own
   all_again held own (inl f) room bare =
       let few = room_here (length before.slots.entries) before.slots.most held f.here f.others room f.held_are in
@@ -432,3 +435,50 @@ module _ (C : Table) (l : Answers) (at count : ℕ) (before mid after : Slots) (
         subst (λ (o : Option Own). IsOwn C l after.own o) (sym f.own_here)
             (subst (λ (s : Slots). IsOwn C l s.own (Some f.here)) (sym done.1) f.is),
       )
+
+-- Up to `mid` these records were added, and so many are left, in `rest`: whatever adds those has added all.
+abbrev pub Completes : Table → Answers → ℕ → ℕ → List ℕ → Slots → Slots → ℕ → List ℕ → Type 0
+Completes C l at count octets before mid left rest =
+    (result : Bool) (after : Slots) → (left ≡ 0 → (result ≡ true) × (after ≡ mid)) →
+    ((hs : List Held) (o : Option Own) → AreLeft C l at left rest hs o →
+    length mid.slots.entries + length hs ≤ mid.slots.most → mid.own ≡ None → IsAll C l result mid after hs o) →
+    (held : List Held) (own : Option Own) → AreLeft C l at count octets held own →
+    length before.slots.entries + length held ≤ before.slots.most → before.own ≡ None →
+    IsAll C l result before after held own
+
+module _ (C : Table) (l : Answers) (at count : ℕ) (octets : List ℕ) (before : Slots) where
+  pub none_yet : Completes C l at count octets before before count octets
+  none_yet result after none again held own left room bare = again held own left room bare
+
+  module _ (mid : Slots) (left : ℕ) (rest : List ℕ) (before_here : Completes C l at count octets before mid left rest) where
+    pub one_more : (next : Slots) (behind : List ℕ) → (left ≡ 0 → ⊥) → next.slots.most ≡ mid.slots.most →
+        ((hs : List Held) (o : Option Own) → AreLeft C l at left rest hs o →
+        length mid.slots.entries + length hs ≤ mid.slots.most → mid.own ≡ None →
+        HasAddedFirst C l at left mid next behind hs o) →
+        Completes C l at count octets before next (left - 1) behind
+    one_more next behind some same_most first result after none again =
+        before_here result after (λ z. absurd (some z))
+        (λ hs o are room bare. all_again C l at left mid next after behind result same_most none again hs o (first hs o are room bare) room bare)
+
+    pub no_more : left ≡ 0 → (held : List Held) (own : Option Own) → AreLeft C l at count octets held own →
+        length before.slots.entries + length held ≤ before.slots.most → before.own ≡ None → IsAll C l true before mid held own
+    no_more none =
+        before_here true mid (λ z. (refl, refl))
+        (λ hs o are room bare. let made = all_none C l at left rest mid hs o are none bare in (refl, made.0, made.1))
+
+    pub not_one : (left ≡ 0 → ⊥) → ((hs : List Held) (o : Option Own) → AreLeft C l at left rest hs o →
+        length mid.slots.entries + length hs ≤ mid.slots.most → mid.own ≡ None → ⊥) →
+        (held : List Held) (own : Option Own) → AreLeft C l at count octets held own →
+        length before.slots.entries + length held ≤ before.slots.most → before.own ≡ None → ⊥
+    not_one some fails held own are room bare =
+        let all : IsAll C l false before mid held own = before_here false mid (λ z. absurd (some z))
+        (λ hs o here space none. absurd (fails hs o here space none)) held own are room bare in
+        false_not_true all.0
+
+-- the records that are left after the first of so many
+pub records_left : (n : ℕ) (xs : List ℕ) → (n ≡ 0 → ⊥) → AreRecords n xs →
+    (used xs ≤ length xs) × AreRecords (n - 1) (drop (used xs) xs)
+records_left zero xs some are = absurd (some refl)
+records_left (suc n) xs some are =
+    let fewer : suc n - 1 ≡ n = omega arith in
+    (are.0, subst (λ k. AreRecords k (drop (used xs) xs)) (sym fewer) are.1)

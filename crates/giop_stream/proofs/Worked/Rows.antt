@@ -43,7 +43,7 @@ named_closes least header xs = if nat_lt (length xs) least then (Fault, codes "s
 unfoldable pub small_reading : ℕ → MessageReader
 small_reading least = record { reads = λ number. named_reads; closes = λ number. named_closes least }
 
--- with as many open messages allowed as in a new engine
+-- with 16 open messages allowed
 unfoldable pub small : ℕ → Rules
 small least = record { reading = small_reading least; most = 16 }
 

@@ -1,14 +1,15 @@
-use Rattle.std.proofs.Common.{◌+◌}
+use Rattle.std.proofs.Common.{◌+◌, is_some, sym, ap, ◌∙◌}
+use Rattle.std.proofs.lemmas.Bool.{false≢true}
 use Rattle.giop_stream.proofs.Restored.Loaded.{front_is, front_found, first_added}
 use Rattle.giop_stream.proofs.loading.add_first.Goals as goal
 
 pub returns-in_default-clause-again : goal.returns-in_default-clause-again
-returns-in_default-clause-again c l count held own some left room =
+returns-in_default-clause-again c l count held own some left room bare =
     absurd (front_found c.args.catalogue.now l (c.args.octets + 1) count c.args.records.now held own left some
     c.in_default.ensures.again)
 
 pub returns-then-not-add-clause-again : goal.returns-then-not-add-clause-again
-returns-then-not-add-clause-again c l count held own some left room =
+returns-then-not-add-clause-again c l count held own some left room bare =
     let C = c.args.catalogue.now in
     let at = c.args.octets + 1 in
     let front = front_is C l at count c.args.records.now c.in-Some.first some c.in-Some.ensures.again held own left in
@@ -17,9 +18,13 @@ returns-then-not-add-clause-again c l count held own some left room =
     absurd (cc (added.0, c.if-not-add.true))
 
 pub returns-clause-again : goal.returns-clause-again
-returns-clause-again c l count held own some left room =
+returns-clause-again c l count held own some left room bare =
     let C = c.args.catalogue.now in
     let at = c.args.octets + 1 in
     let front = front_is C l at count c.args.records.now c.in-Some.first some c.in-Some.ensures.again held own left in
     (first_added C l at count c.in-Some.first c.args.slots.now c.add.new.slots c.add.result
     (c.add.ensures.one_open l) (c.add.ensures.one_current l) held own front room).1
+
+pub returns-then-is_some-clause-again : goal.returns-then-is_some-clause-again
+returns-then-is_some-clause-again c l count held own some left room bare =
+    absurd (false≢true (sym (ap is_some bare) ∙ sym c.is_some.ensures ∙ c.if-is_some.true))

@@ -1,0 +1,98 @@
+//! A stream that is read on from its checkpoint to its end.
+
+ghost use Rattle.giop_stream.specs.EngineHolds.{AreOf};
+
+use super::known::{DECLARED, STREAM, declared};
+use giop_print::Sheet;
+use giop_sig::{Catalogue, Requests};
+use giop_stream::{Engine, LoadFault, Totals, go_on, has_checkpoint};
+use std::alloc::Global;
+use std::test::Fail;
+
+/// The Fragments that end the two Requests of the stream: one for the first, that of the second, the last of the first.
+const REST: &[u8] = b"GIOP\x01\x02\x02\x07\x00\x00\x00\x06\x00\x00\x00\x05\x05\x06\
+GIOP\x01\x02\x00\x07\x00\x00\x00\x04\x00\x00\x00\x06\
+GIOP\x01\x02\x00\x07\x00\x00\x00\x06\x00\x00\x00\x05\x07\x08";
+
+/// What is written of them and of the end.
+const LINES: &[u8] = b"m3 start 1.2 big Fragment size 6 more
+m3 header.request_id ulong 5
+m3 continues m1
+m4 start 1.2 big Fragment size 4
+m4 header.request_id ulong 6
+m4 continues m2
+m2 end
+m5 start 1.2 big Fragment size 6
+m5 header.request_id ulong 5
+m5 continues m1
+m1 body.n ulonglong 72623859790382856
+m1 end
+total messages 5 faults 0 octets 152
+";
+
+/// What they come to.
+const TOTALS: Totals = Totals {
+    messages: 5,
+    faults: 0,
+    octets: 152,
+};
+
+/// What differs where the stream is read on from its checkpoint, and from one without its last octet; empty if nothing
+/// does.
+fn rest_differs(
+    alloc: Global,
+    catalogue: &Catalogue,
+    requests: &Requests,
+    checkpoint: &[u8],
+) -> &'static str
+    requires { AreOf catalogue.now requests.now }
+{
+    let mut room = [0; 2048];
+    let mut out = Sheet::new(&mut room);
+    if go_on(alloc, catalogue, requests, checkpoint, REST, &mut out) != Ok(Ok(TOTALS)) {
+        return "the totals";
+    }
+    if out.held() != LINES {
+        return "the lines";
+    }
+    let Some((_, short)) = checkpoint.split_last() else {
+        return "the octets";
+    };
+    if go_on(alloc, catalogue, requests, short, REST, &mut out) != Err(LoadFault::Length) {
+        return "the refusal";
+    }
+    if out.held() == LINES {
+        ""
+    } else {
+        "the lines of a refusal"
+    }
+}
+
+/// What differs where the stream is read, saved and read on; empty if nothing does.
+fn going_on_differs(alloc: Global, catalogue: &Catalogue, requests: &Requests) -> &'static str
+    requires { AreOf catalogue.now requests.now }
+{
+    let mut room = [0; 2048];
+    let mut sheet = Sheet::new(&mut room);
+    let Ok(mut engine) = Engine::new(alloc, catalogue, requests, 16) else {
+        return "the memory";
+    };
+    if engine.feed(STREAM, &mut sheet).is_err() {
+        return "the feed";
+    }
+    has_checkpoint(&engine);
+    let mut octets = [0; 2048];
+    let mut saved = Sheet::new(&mut octets);
+    if engine.save(&mut saved).is_err() {
+        return "the save";
+    }
+    rest_differs(alloc, catalogue, requests, saved.held())
+}
+
+#[test]
+fn a_stream_is_read_on_from_its_checkpoint_to_its_end(rt: HostRuntime) -> Result<(), Fail> {
+    let known = declared(rt.alloc(), DECLARED)?;
+    let differs = going_on_differs(rt.alloc(), &known.0, &known.1);
+    assert!(rt; differs.is_empty(), "{differs}");
+    Ok(())
+}
