@@ -7,6 +7,16 @@ use std::test::Fail;
 
 const SIZE: usize = 1_048_576;
 
+#[test]
+fn a_mebibyte_of_one_thing_is_read(rt: HostRuntime) -> Result<(), Fail> {
+    letters_are_a_word(&rt)?;
+    digits_are_no_number(&rt)?;
+    no_repository_id(&rt)?;
+    gaps_end_a_text(&rt)?;
+    line_feeds_are_counted(&rt)?;
+    tokens_are_read(&rt)
+}
+
 fn is_refused<T: Drop>(taken: Result<T, Refusal>, kind: SigFaultKind, left: usize) -> bool {
     match taken {
         Ok(_) => false,
@@ -23,8 +33,8 @@ fn is_one_word(text: &[u8]) -> bool {
     is_word && is_refused(identifier(text), SigFaultKind::Limit, SIZE)
 }
 
-#[test]
-fn a_mebibyte_of_letters_is_a_word(rt: HostRuntime) -> Result<(), Fail> {
+/// A mebibyte of letters is a word.
+fn letters_are_a_word(rt: &(impl Abort + AllocGlobal)) -> Result<(), Fail> {
     let text = repeated(rt.alloc(), b"", b"w", SIZE)?;
     assert!(rt; is_one_word(&text));
     Ok(())
@@ -37,23 +47,23 @@ fn is_no_number(rt: &(impl Abort + AllocGlobal), first: &[u8], left: usize) -> R
     Ok(())
 }
 
-#[test]
-fn a_mebibyte_of_digits_is_no_number(rt: HostRuntime) -> Result<(), Fail> {
-    is_no_number(&rt, b"", SIZE)?;
-    is_no_number(&rt, b"-", SIZE + 1)
+/// A mebibyte of digits is no number, behind a sign neither.
+fn digits_are_no_number(rt: &(impl Abort + AllocGlobal)) -> Result<(), Fail> {
+    is_no_number(rt, b"", SIZE)?;
+    is_no_number(rt, b"-", SIZE + 1)
 }
 
-#[test]
-fn a_mebibyte_is_no_repository_id(rt: HostRuntime) -> Result<(), Fail> {
+/// A mebibyte behind a quote is no repository id.
+fn no_repository_id(rt: &(impl Abort + AllocGlobal)) -> Result<(), Fail> {
     let text = repeated(rt.alloc(), b"\"", b"r", SIZE)?;
     assert!(rt; is_refused(repository_id(&text), SigFaultKind::Token, SIZE + 1));
     Ok(())
 }
 
-#[test]
-fn a_mebibyte_of_gaps_ends_a_text(rt: HostRuntime) -> Result<(), Fail> {
+/// A mebibyte of each gap ends a text.
+fn gaps_end_a_text(rt: &(impl Abort + AllocGlobal)) -> Result<(), Fail> {
     for gap in &[" ", "/", "\n", "//\n"] {
-        is_passed_over(&rt, gap.as_bytes())?;
+        is_passed_over(rt, gap.as_bytes())?;
     }
     Ok(())
 }
@@ -64,8 +74,8 @@ fn is_passed_over(rt: &(impl Abort + AllocGlobal), gap: &[u8]) -> Result<(), Fai
     Ok(())
 }
 
-#[test]
-fn a_mebibyte_of_line_feeds_is_counted(rt: HostRuntime) -> Result<(), Fail> {
+/// A mebibyte of line feeds is counted.
+fn line_feeds_are_counted(rt: &(impl Abort + AllocGlobal)) -> Result<(), Fail> {
     let text = repeated(rt.alloc(), b"", b"\n", SIZE)?;
     assert!(rt; line_in(&text, 0) == Some(1_048_576));
     Ok(())
@@ -84,8 +94,8 @@ fn count(text: &[u8]) -> Option<usize> {
     None
 }
 
-#[test]
-fn a_mebibyte_of_tokens_is_read(rt: HostRuntime) -> Result<(), Fail> {
+/// A mebibyte of tokens is read.
+fn tokens_are_read(rt: &(impl Abort + AllocGlobal)) -> Result<(), Fail> {
     let text = repeated(rt.alloc(), b"", b"a;", SIZE / 2)?;
     assert!(rt; count(&text) == Some(SIZE));
     Ok(())

@@ -8,6 +8,11 @@ use std::test::Fail;
 
 #[test]
 fn reserved_words_are_no_names(rt: HostRuntime) {
+    are_no_names(&rt);
+    are_free(&rt);
+}
+
+fn are_no_names(rt: &impl Abort) {
     for reserved in RESERVED.split(' ') {
         assert!(rt; is_no_name(reserved.as_bytes()), "{reserved}");
     }
@@ -26,8 +31,7 @@ fn is_no_name(word: &[u8]) -> bool {
     is_reserved(word) && is_operation && identifier(word) == Err(syntax)
 }
 
-#[test]
-fn other_words_are_free(rt: HostRuntime) {
+fn are_free(rt: &impl Abort) {
     for free in FREE.split(' ') {
         assert!(rt; !is_reserved(free.as_bytes()), "{free}");
     }
@@ -42,9 +46,15 @@ static SIZES: [(usize, bool, bool); 4] = [
 ];
 
 #[test]
-fn a_name_has_at_most_64_octets_and_an_operations_128(rt: HostRuntime) -> Result<(), Fail> {
+fn names_and_repository_ids_have_their_lengths(rt: HostRuntime) -> Result<(), Fail> {
+    names_are_limited(&rt)?;
+    ids_are_limited(&rt)
+}
+
+/// A name has at most 64 octets, and an operation's 128.
+fn names_are_limited(rt: &(impl Abort + AllocGlobal)) -> Result<(), Fail> {
     for (size, is_name, is_operation) in &SIZES {
-        is_limited(&rt, *size, *is_name, *is_operation)?;
+        is_limited(rt, *size, *is_name, *is_operation)?;
     }
     Ok(())
 }
@@ -85,10 +95,10 @@ fn is_taken_or_limited(name: Result<(&[u8], &[u8]), Refusal>, size: usize, is_ta
 /// How many octets, and whether a repository id may have them.
 static ID_SIZES: [(usize, bool); 4] = [(0, false), (1, true), (128, true), (129, false)];
 
-#[test]
-fn a_repository_id_has_1_to_128_octets(rt: HostRuntime) -> Result<(), Fail> {
+/// A repository id has 1 to 128 octets.
+fn ids_are_limited(rt: &(impl Abort + AllocGlobal)) -> Result<(), Fail> {
     for (size, is_id) in &ID_SIZES {
-        is_an_id(&rt, *size, *is_id)?;
+        is_an_id(rt, *size, *is_id)?;
     }
     Ok(())
 }

@@ -12,6 +12,8 @@ const AFTER: &[u8] = b" x";
 fn readers_take_one_token(rt: HostRuntime) {
     let differs = taken_differs(AFTER);
     assert!(rt; differs.is_empty(), "{differs}");
+    let differs = told_differs(AFTER);
+    assert!(rt; differs.is_empty(), "{differs}");
 }
 
 /// Which reader takes another token.
@@ -26,12 +28,6 @@ fn taken_differs(after: &[u8]) -> &'static str {
         return "a number";
     }
     ""
-}
-
-#[test]
-fn readers_tell_what_they_took(rt: HostRuntime) {
-    let differs = told_differs(AFTER);
-    assert!(rt; differs.is_empty(), "{differs}");
 }
 
 /// Which reader tells something else.
@@ -66,6 +62,8 @@ fn readers_look_ahead(rt: HostRuntime) {
     assert!(rt; differs.is_empty(), "the mark of {differs}");
     let differs = keyword_ahead_differs(AFTER);
     assert!(rt; differs.is_empty(), "the keyword of {differs}");
+    let differs = end_differs(SigFaultKind::Token);
+    assert!(rt; differs.is_empty(), "the end of {differs}");
 }
 
 /// Which text begins otherwise with a mark.
@@ -117,14 +115,19 @@ fn is_not_in(text: &[u8]) -> bool {
     }
 }
 
-#[test]
-fn a_text_ends_behind_its_last_token(rt: HostRuntime) {
-    let token = Refusal {
-        kind: SigFaultKind::Token,
-        left: 3,
-    };
-    assert!(rt; ends(b" // x") == Ok(true) && ends(b" ;") == Ok(false));
-    assert!(rt; ends(b" / x") == Err(token));
+/// Which text ends otherwise: one ends behind its last token.
+fn end_differs(token: SigFaultKind) -> &'static str {
+    if ends(b" // x") != Ok(true) {
+        return "a comment";
+    }
+    if ends(b" ;") != Ok(false) {
+        return "a mark";
+    }
+    if refuses(ends(b" / x"), token, 3) {
+        ""
+    } else {
+        "no token"
+    }
 }
 
 /// Whether a reader refuses a text with so many octets left.
