@@ -1,6 +1,6 @@
 //! A listener that keeps nothing of what it is told.
 
-ghost use Rattle.std.specs.Prelude.{Unit, false};
+ghost use Rattle.std.specs.Prelude.{false};
 
 use tcp_flow::{CloseCause, Listener, ListenerFault};
 use tcp_segment::Flow;
