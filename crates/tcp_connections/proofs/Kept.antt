@@ -16,13 +16,14 @@ pub record IsKept (w v : State) : Type 0 where
   pub free : v.free ≡ w.free
   pub lasts : v.lasts ≡ w.lasts
   pub flows : length v.flows ≡ length w.flows
+  pub segments : v.segments ≡ w.segments
 
 pub kept_self : (w : State) → IsKept w w
-kept_self w = record { known = refl; rooms = refl; free = refl; lasts = refl; flows = refl }
+kept_self w = record { known = refl; rooms = refl; free = refl; lasts = refl; flows = refl; segments = refl }
 
 pub with_flow_kept : (w : State) (id : ℕ) (f : Flow) → IsKept w (with_flow w id f)
 unfolding with_flow
-with_flow_kept w id f = record { known = refl; rooms = refl; free = refl; lasts = refl; flows = length-set w.flows id (Some (flow_state f)) }
+with_flow_kept w id f = record { known = refl; rooms = refl; free = refl; lasts = refl; flows = length-set w.flows id (Some (flow_state f)); segments = refl }
 
 pub arrived_kept : (F : Reader) (w : State) (id : ℕ) (a : Arrival) → IsKept w (arrived F w id a)
 arrived_kept F w id a = by (flow_at w id) refl

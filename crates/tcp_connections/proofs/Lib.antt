@@ -1,5 +1,6 @@
 pub mod Cases
 pub mod Changes
+pub mod Counted
 pub mod Forgotten
 pub mod Kept
 pub mod Search

@@ -1,7 +1,7 @@
 -- The code has a state: what a step of one flow, and each other change, leaves.
 use Rattle.std.proofs.Common.{◌≡◌, ℕ, zero, suc, cond, ◌+◌, ◌*◌, ◌<◌, ◌≤◌, List, [], ◌∷◌, ◌++◌, length, set, Option, Some, None, refl, sym, ◌∙◌, ap, subst, arith}
 use Rattle.std.specs.List.{remove}
-use Rattle.std.specs.Prelude.{Result, OnOk}
+use Rattle.std.specs.Prelude.{Result, Ok, Err, OnOk}
 use Rattle.tcp_waiting.specs.Payload.{Payload, blocks_of}
 use Rattle.tcp_flow.specs.declared.flow.CloseCause.{CloseCause}
 use Rattle.tcp_flow.specs.declared.flow.FlowState.{FlowState}
@@ -32,6 +32,11 @@ by_state P O live c w h k =
 
 pub moved_ok : {X : Type 0} (r : Result X ListenerFault) (O : List Event → Type 0) (live : List ℕ) (c : Connections) (v w : State) → v ≡ w → OnOk r (IsState O live c w) → OnOk r (IsState O live c v)
 moved_ok r O live c v w e h = subst (λ (u : State). OnOk r (IsState O live c u)) (sym e) h
+
+-- how many segments came, by the state that the code has
+pub segments_of : {X : Type 0} (r : Result X ListenerFault) (O : List Event → Type 0) (live : List ℕ) (c : Connections) (w : State) (n : ℕ) → w.segments ≡ n → OnOk r (IsState O live c w) → OnOk r (c.segments ≡ n)
+segments_of (Ok x) O live c w n e h = ap (λ (u : State). u.segments) h.same ∙ e
+segments_of (Err x) O live c w n e h = tt
 
 -- no event is part of what is so of a state
 pub sound_any : (c : Connections) (es fs : List Event) → IsSound (state_of c es) → IsSound (state_of c fs)

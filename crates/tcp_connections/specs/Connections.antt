@@ -51,12 +51,15 @@ none_known ports blocks most events = record {
 
 -- ---- One flow.
 
+-- a flow from its first stream on, by its id
 abbrev pub flow_at : State → ℕ → Option FlowState
 flow_at w id = get_or w.flows id None
 
+-- what is kept of a flow
 abbrev pub flow_state : Flow → FlowState
 flow_state f = record { id = f.id; next = f.next; live = f.live; fin = f.fin }
 
+-- a flow is so from now on
 unfoldable pub with_flow : State → ℕ → Flow → State
 with_flow w id f =
     record w { flows = set w.flows id (Some (flow_state f)); held = f.held; events = f.events }
@@ -107,6 +110,7 @@ unfoldable pub live_of : Option FlowState → Option ℕ
 live_of None = None
 live_of (Some s) = s.live
 
+-- the same by the flow's id
 abbrev pub live_at : State → ℕ → Option ℕ
 live_at w id = live_of (flow_at w id)
 
@@ -122,6 +126,7 @@ unfoldable pub place_of : EndpointPair → List EndpointPair → Option ℕ
 place_of p [] = None
 place_of p (q ∷ qs) = cond (is_eq (compare_pairs q p)) (Some 0) (option_map suc (place_of p qs))
 
+-- the room of the connection at a place
 abbrev pub room_at : State → ℕ → ℕ
 room_at w place = get_or w.rooms place 0
 
@@ -130,24 +135,30 @@ unfoldable pub forgotten : State → ℕ → Side → CloseCause → State
 forgotten w place side cause =
     let room : ℕ = room_at w place in
     let v : State =
-    flow_forgotten (flow_forgotten w (flow_id room side) cause) (flow_id room (opposite side)) cause in
+    flow_forgotten (flow_forgotten w (flow_id room side) cause)
+    (flow_id room (opposite side)) cause in
     record v {
       known = remove v.known place;
       rooms = remove v.rooms place;
       free = v.free ++ room ∷ [];
     }
 
+-- whether a room's connection has a live stream
 abbrev pub is_live : State → ℕ → Bool
 is_live w room =
     is_some (live_at w (flow_id room FromLesser)) || is_some (live_at w (flow_id room FromGreater))
+
+-- whether the connection at one place was last seen before that at another
+abbrev pub is_older : State → ℕ → ℕ → Bool
+is_older w a b =
+    nat_lt (get_or w.lasts (room_at w a) 0) (get_or w.lasts (room_at w b) 0)
 
 -- whether the connection at one place makes room rather than that at another: first those without a live stream, then by
 -- their last segments
 abbrev pub goes_before : State → ℕ → ℕ → Bool
 goes_before w a b =
-    cond (is_live w (room_at w a))
-    (is_live w (room_at w b) && nat_lt (get_or w.lasts (room_at w a) 0) (get_or w.lasts (room_at w b) 0))
-    (is_live w (room_at w b) || nat_lt (get_or w.lasts (room_at w a) 0) (get_or w.lasts (room_at w b) 0))
+    cond (is_live w (room_at w a)) (is_live w (room_at w b) && is_older w a b)
+    (is_live w (room_at w b) || is_older w a b)
 
 -- of the first so many connections, the place of the one that makes room
 unfoldable pub eldest : State → ℕ → ℕ
@@ -165,6 +176,7 @@ with_room w =
 unfoldable pub next_room : List ℕ → ℕ
 next_room free = get_or free (length free - 1) 0
 
+-- the rooms that are free behind it
 unfoldable pub rest_of_rooms : List ℕ → List ℕ
 rest_of_rooms free = take (length free - 1) free
 
@@ -192,6 +204,7 @@ first_number s = onward s.sequence (cond s.syn 1 0)
 abbrev pub number_behind : Segment → ℕ
 number_behind s = onward (first_number s) (length s.payload)
 
+-- whether one of a flow's ports is chosen, as each is where none is named
 abbrev pub is_chosen : List ℕ → endpoints.Flow → Bool
 is_chosen ports flow =
     nat_eq (length ports) 0 || list_any (λ port. port == flow.from.port) ports

@@ -37,6 +37,7 @@ pub record IsSound (w : State) : Type 0 where
       (id : ℕ) (s : FlowState) → flow_at w id ≡ Some s → IsSettled (state s w.held [])
   pub vacant : (id : ℕ) → flow_at w id ≡ None → count_of id w.held ≡ 0
 
+-- what the code has, with what has happened
 abbrev pub state_of : Connections → List Event → State
 state_of c events = record {
   ports = c.ports.items;
@@ -68,6 +69,7 @@ pub record IsAt (O : List Event → Type 0) (streams : List ℕ) (c : Connection
   pub live : streams ≡ lives w.events
   pub same : state_of c w.events ≡ w
 
+-- the code has a state
 abbrev pub HasState : (List Event → Type 0) → List ℕ → Connections → Type 0
 HasState O live c = (w : State) × IsState O live c w
 

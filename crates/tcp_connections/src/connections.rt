@@ -212,7 +212,8 @@ impl Connections {
         to: &mut Streams<L>,
     ) -> Result<(), ListenerFault>
         requires state { HasState (L.observed to.old.listener) to.old.live.items self.old }
-        ensures does { Makes result (λ w. acknowledgement_taken L.faulted w id (segment_view segment.entry))
+        ensures does { Makes result
+            (λ w. acknowledgement_taken L.faulted w id (segment_view segment.entry))
             (L.observed to.old.listener) to.old.live.items self.old
             (L.observed to.new.listener) to.new.live.items self.new }
     {
@@ -287,8 +288,8 @@ impl Connections {
         requires whole { length segment.payload.now ≤ 262_144 }
         requires taken { 0 < times (id / 2) self.old.table.rooms.items }
         requires vacant { get_or self.old.flows.items id None ≡ None }
-        ensures does { Makes result (λ w. began L.faulted w id (spec_first_number (segment_view segment.entry))
-            (segment_view segment.entry).payload)
+        ensures does { Makes result (λ w. began L.faulted w id
+            (spec_first_number (segment_view segment.entry)) (segment_view segment.entry).payload)
             (L.observed to.old.listener) to.old.live.items self.old
             (L.observed to.new.listener) to.new.live.items self.new }
     {
@@ -499,7 +500,8 @@ impl Connections {
         requires whole { length segment.payload.now ≤ 262_144 }
         requires side { (spec_pair_of segment.flow).1 ≡ side }
         requires place { place < vec_len self.old.table.keys }
-        ensures does { Makes result (λ w. known_taken L.faulted w place (segment_view segment.entry))
+        ensures does { Makes result
+            (λ w. known_taken L.faulted w place (segment_view segment.entry))
             (L.observed to.old.listener) to.old.live.items self.old
             (L.observed to.new.listener) to.new.live.items self.new }
     {
@@ -524,6 +526,7 @@ impl Connections {
         ensures does { Makes result (λ w. step L.faulted w (segment_view segment.entry))
             (L.observed to.old.listener) to.old.live.items self.old
             (L.observed to.new.listener) to.new.live.items self.new }
+        ensures count { OnOk result (self.new.segments ≡ self.old.segments + 1) }
     {
         self.segments += 1;
         let (pair, side) = pair_of(segment.flow);
@@ -541,7 +544,8 @@ impl Connections {
     /// While flows hold something, a gap of the one whose live stream has the least number.
     fn end_gaps<L: Listener + Drop>(&mut self, to: &mut Streams<L>) -> Result<(), ListenerFault>
         requires state { HasState (L.observed to.old.listener) to.old.live.items self.old }
-        ensures does { Makes result (λ w. gaps_from L.faulted (length w.held + length (lives w.events)) 0 w)
+        ensures does { Makes result
+            (λ w. gaps_from L.faulted (length w.held + length (lives w.events)) 0 w)
             (L.observed to.old.listener) to.old.live.items self.old
             (L.observed to.new.listener) to.new.live.items self.new }
     {
@@ -582,7 +586,8 @@ impl Connections {
     /// streams close by their order.
     pub fn end<L: Listener + Drop>(&mut self, to: &mut Streams<L>) -> Result<(), ListenerFault>
         requires state { HasState (L.observed to.old.listener) to.old.live.items self.old }
-        ensures does { (w : State) → IsState (L.observed to.old.listener) to.old.live.items self.old w
+        ensures does { (w : State)
+            → IsState (L.observed to.old.listener) to.old.live.items self.old w
             → OnOk result (IsAt (L.observed to.new.listener) to.new.live.items self.new
             (ended L.faulted w)) }
     {
