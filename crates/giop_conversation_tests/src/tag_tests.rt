@@ -11,11 +11,8 @@ const TAGGED: &[u8] = b"s12 m1 end\ns12 \ns12 m2 end\ns12 m3 total\n";
 
 /// Puts octets in pieces of a size.
 fn put_pieces<O: Out>(out: &mut O, octets: &[u8], size: usize) -> Result<(), OutFault> {
-    let mut rest = octets;
-    while !rest.is_empty() && size > 0 {
-        let (piece, behind) = rest.split_at(size.min(rest.len()));
+    for piece in octets.chunks(size.max(1)) {
         put_all(out, piece)?;
-        rest = behind;
     }
     Ok(())
 }
