@@ -92,7 +92,7 @@ def definitions(text: str) -> list[tuple[str, int, int]]:
 
 
 # What is used by nothing yet: public calls that wait for the crate above them.
-AWAITED = frozenset(("acknowledged", "gapless_beside", "give_back", "has_fin"))
+AWAITED = frozenset(("gapless_beside",))
 
 
 def unused(files: dict[Path, str]) -> list[str]:

@@ -3,3 +3,5 @@ pub mod Lines
 pub mod Tags
 pub mod TaggedText
 pub mod TaggedState
+pub mod Exchanges
+pub mod ExchangeLaws

@@ -2,12 +2,14 @@
 #![tactic(auto)]
 
 mod buffer;
+mod exchange;
 mod laws;
 mod lines;
 mod tag;
 mod tagged;
 mod times;
 
+pub use exchange::{Answering, Exchange, answers_are_known};
 pub use laws::{lines_stand_below, lines_with_tags};
 pub use lines::{
     CaptureTotals, answers_line, capture_fault_line, capture_total_line, closed_line, raises_line,

@@ -1,0 +1,76 @@
+-- What an exchange answers are operations of its table, and fewer behind each header.
+use Rattle.std.proofs.Common.{◌≡◌, ℕ, ◌<◌, ◌==◌, Bool, true, false, List, [], ◌∷◌, length, Option, Some, None, IfSome, option_and_then, refl, sym, ◌∙◌}
+use Rattle.std.specs.List.{find}
+use Rattle.std.specs.Option.{option_map}
+use Rattle.std.proofs.lemmas.Bool.{eqb-true, eqb-false}
+use Rattle.giop_entry_table.specs.declared.entry_table.Entry.{Entry}
+use Rattle.giop_calls.specs.declared.calls.Call.{Call}
+use Rattle.giop_calls.specs.Outstanding.{without}
+use Rattle.giop_sig.specs.Table.{Table, operation_in, operation_number, op_id, no_operation}
+use Rattle.std.proofs.lemmas.List.Quantifiers.{position-Some}
+use Rattle.giop_message.specs.MessageState.{AreKnown}
+use Rattle.giop_message.specs.HeaderEnds.{CallEvent, Requested, Replied, HasKnownOperation}
+use Rattle.giop_conversation.specs.Exchanges.{Exchanged, answer_of, call_of, notified}
+
+-- behind a Reply none of its id is found,
+none_found : (id : ℕ) (es : List (Entry Call)) → find (λ e. e.key == id) (without id es) ≡ None
+none_found id [] = refl
+none_found id (e ∷ es) = by (e.key == id) refl (none_found id es)
+  where
+    by : (b : Bool) → (e.key == id) ≡ b → find (λ e. e.key == id) (without id es) ≡ None →
+        find (λ e. e.key == id) (without id (e ∷ es)) ≡ None
+    by true is rest = rw is rest
+    by false is rest = rw (is, is) rest
+
+-- and the others are, as before
+others_found : (id other : ℕ) (es : List (Entry Call)) → (other == id) ≡ false →
+    find (λ e. e.key == other) (without id es) ≡ find (λ e. e.key == other) es
+others_found id other [] apart = refl
+others_found id other (e ∷ es) apart =
+    by (e.key == id) refl (e.key == other) refl (others_found id other es apart)
+  where
+    by : (b : Bool) → (e.key == id) ≡ b → (c : Bool) → (e.key == other) ≡ c →
+        find (λ e. e.key == other) (without id es) ≡ find (λ e. e.key == other) es →
+        find (λ e. e.key == other) (without id (e ∷ es)) ≡ find (λ e. e.key == other) (e ∷ es)
+    by true is true here rest =
+        absurd (eqb-false other id apart (sym (eqb-true _ _ here) ∙ eqb-true _ _ is))
+    by true is false here rest = rw (is, here) rest
+    by false is true here rest = rw (is, here) refl
+    by false is false here rest = rw (is, here) rest
+
+-- a call with another in its place
+fits_still : (C table : Table) (id other : ℕ) (es : List (Entry Call)) →
+    IfSome (option_and_then (λ call. operation_in table call.name.items) (option_map (λ e. e.value) (find (λ e. e.key == other) es)))
+    (λ o. o.0 < length C.operations) →
+    IfSome (option_and_then (λ call. operation_in table call.name.items) (option_map (λ e. e.value) (find (λ e. e.key == other) (without id es))))
+    (λ o. o.0 < length C.operations)
+fits_still C table id other es fits = by (other == id) refl
+  where
+    by : (b : Bool) → (other == id) ≡ b →
+        IfSome (option_and_then (λ call. operation_in table call.name.items) (option_map (λ e. e.value) (find (λ e. e.key == other) (without id es))))
+        (λ o. o.0 < length C.operations)
+    by true is =
+        let same : other ≡ id = eqb-true _ _ is in
+        rw (same, none_found id es) tt
+    by false is = rw (others_found id other es is) fits
+
+pub known_still : (C : Table) (s : Exchanged) (event : CallEvent) → AreKnown C (answer_of s) →
+    HasKnownOperation C event → AreKnown C (answer_of (notified s event))
+known_still C s (Requested number id name operation expects) known fits = known
+known_still C s (Replied number id) known fits = λ other. fits_still C s.table id other s.opposite.entries (known other)
+
+-- an operation of a name is one of the table
+in_table : (C : Table) (name : List ℕ) → IfSome (operation_in C name) (λ o. o.0 < length C.operations)
+in_table C name = by (operation_number C name) refl
+  where
+    by : (o : Option ℕ) → operation_number C name ≡ o → IfSome (option_map op_id o) (λ o. o.0 < length C.operations)
+    by None is = tt
+    by (Some i) is = (position-Some _ _ i no_operation is).0
+
+by_call : (C : Table) (o : Option Call) →
+    IfSome (option_and_then (λ call. operation_in C call.name.items) o) (λ o. o.0 < length C.operations)
+by_call C None = tt
+by_call C (Some call) = in_table C call.name.items
+
+pub all_known : (s : Exchanged) → AreKnown s.table (answer_of s)
+all_known s id = by_call s.table (call_of s.opposite id)

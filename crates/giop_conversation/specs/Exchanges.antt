@@ -1,0 +1,62 @@
+-- The calls of a connection, as the correspondent of a stream of it knows them (meaning). Of both directions the calls are kept
+-- that have no reply yet: those of the stream that is read, and those of the opposite one, which its Replies answer.
+use Rattle.std.specs.Prelude.{◌≡◌, ℕ, ◌&&◌, ◌==◌, Bool, List, [], ◌∷◌, ◌++◌, length, Option, Some, None, nat_le, option_and_then, if◌then◌else◌}
+use Rattle.std.specs.List.{find}
+use Rattle.std.specs.Option.{option_map}
+use Rattle.giop_entry_table.specs.declared.entry_table.Entry.{Entry}
+use Rattle.giop_entry_table.specs.EntryTable.{Entries}
+use Rattle.giop_calls.specs.declared.calls.Call.{Call}
+use Rattle.giop_calls.specs.Outstanding.{without, newest}
+use Rattle.giop_sig.specs.Table.{Table, operation_in}
+use Rattle.giop_message.specs.Signatures.{Answer}
+use Rattle.giop_message.specs.HeaderEnds.{CallEvent, Requested, Replied}
+
+-- a Reply that answers a call: its number in its stream, and the call
+pub record Answering : Type 0 where
+  pub message : ℕ
+  pub call : Call
+
+pub record Exchanged : Type 0 where
+  pub table : Table  -- the operations by their names
+  pub own : Entries Call  -- the calls of the stream that is read
+  pub opposite : Entries Call  -- those that its Replies answer
+  pub stream : ℕ  -- the number of the stream that is read
+  pub time : Option ℕ  -- that of the packet that is read
+  pub replied : ℕ  -- the number of the last Reply whose header has ended; 0 where there is none
+  pub answered : Option Answering  -- what that Reply answers
+
+abbrev pub with_entries : Entries Call → List (Entry Call) → Entries Call
+with_entries calls es = record calls { entries = es }
+
+-- the outstanding call of an id
+abbrev pub call_of : Entries Call → ℕ → Option Call
+call_of calls id = option_map (λ e. e.value) (find (λ e. e.key == id) calls.entries)
+
+-- a Reply of an id has results of the operation of the call that it answers
+abbrev pub answer_of : Exchanged → Answer
+answer_of s id = option_and_then (λ call. operation_in s.table call.name.items) (call_of s.opposite id)
+
+-- the name by which a call is kept: one that a call line shows, where a reply is expected
+abbrev pub kept_name : Option (List ℕ) → Bool → Option (List ℕ)
+kept_name None expects = None
+kept_name (Some name) expects = if expects && nat_le (length name) 128 then Some name else None
+
+abbrev pub call_named : Exchanged → ℕ → List ℕ → Call
+call_named s number name = record { name = record { items = name }; stream = s.stream; message = number; time = s.time }
+
+-- the calls of the stream behind a Request of this number and id: an older one of its id goes
+abbrev pub requested : Exchanged → ℕ → ℕ → Option (List ℕ) → Entries Call
+requested s number id None = with_entries s.own (without id s.own.entries)
+requested s number id (Some name) =
+    with_entries s.own (newest s.own.most
+    (without id s.own.entries ++ record { key = id; value = call_named s number name } ∷ []))
+
+-- behind the header of a Request, and behind that of a Reply, which takes the call that it answers
+abbrev pub notified : Exchanged → CallEvent → Exchanged
+notified s (Requested number id name operation expects) =
+    record s { own = requested s number id (kept_name name expects) }
+notified s (Replied number id) = record s {
+  opposite = with_entries s.opposite (without id s.opposite.entries);
+  replied = number;
+  answered = option_map (λ call. record { message = number; call = call }) (call_of s.opposite id);
+}

@@ -1,0 +1,203 @@
+//! The calls of a connection, as the correspondent of the stream that is read.
+
+ghost use Rattle.std.specs.Prelude.{◌≡◌, [], None, IfOk, MatchOption};
+ghost use Rattle.std.specs.Option.{option_map};
+ghost use Rattle.giop_sig.specs.Table.{Table};
+ghost use Rattle.giop_message.specs.MessageState.{AreKnown};
+ghost use Rattle.giop_conversation.specs.Exchanges.{Exchanged, kept_name, answer_of};
+
+use arrayvec::ArrayVec;
+use giop_calls::{Call, Calls, NAME_ROOM};
+use giop_message::Correspondent;
+use giop_sig::{Catalogue, OpId};
+use std::alloc::{AllocError, Global};
+use std::marker::Model;
+use std::mem;
+
+/// A Reply that answers a call.
+#[derive(Drop)]
+pub struct Answering {
+    /// The number of the Reply in its stream, from 1.
+    pub message: u64,
+    /// The call that it answers.
+    pub call: Call,
+}
+
+/// The calls of both directions of a connection that have no reply yet. It is the correspondent of a stream of the
+/// connection: Requests in it add calls, and Replies answer those of the opposite direction.
+#[derive(Drop)]
+pub struct Exchange<'a> {
+    catalogue: &'a Catalogue,
+    own: Calls,
+    opposite: Calls,
+    stream: u64,
+    time: Option<u128>,
+    replied: u64,
+    answered: Option<Answering>,
+}
+
+impl<'a> Model for Exchange<'a> {
+    ghost use Rattle.giop_conversation.specs.Exchanges.{Exchanged};
+
+    ghost Value = { Exchanged };
+
+    ghost use Rattle.std.specs.Option.{option_map};
+
+    ghost view = { λ e. record {
+      table = e.catalogue.now;
+      own = e.own;
+      opposite = e.opposite;
+      stream = e.stream;
+      time = e.time;
+      replied = e.replied;
+      answered = option_map (λ a. record { message = a.message; call = a.call }) e.answered;
+    } };
+}
+
+impl<'a> Exchange<'a> {
+    /// No calls, and memory for so many of each direction.
+    pub fn new(
+        alloc: Global,
+        catalogue: &'a Catalogue,
+        most: u32,
+    ) -> Result<Exchange<'a>, AllocError>
+        ensures { IfOk result (λ e. e ≡ record {
+          table = catalogue.now;
+          own = record { most = most; entries = [] };
+          opposite = record { most = most; entries = [] };
+          stream = 0;
+          time = None;
+          replied = 0;
+          answered = None;
+        }) }
+    {
+        Ok(Exchange {
+            catalogue,
+            own: Calls::new(alloc, most)?,
+            opposite: Calls::new(alloc, most)?,
+            stream: 0,
+            time: None,
+            replied: 0,
+            answered: None,
+        })
+    }
+
+    /// From now on a stream of the other direction is read.
+    pub fn turn(&mut self)
+        ensures { self.new ≡ record self.old { own = self.old.opposite; opposite = self.old.own } }
+    {
+        mem::swap(&mut self.own, &mut self.opposite);
+    }
+
+    /// The stream that is read, by its number, and the time of the packet, in nanoseconds since 1970-01-01 UTC.
+    pub fn read_in(&mut self, stream: u64, time: Option<u128>)
+        ensures { self.new ≡ record self.old {
+          stream = stream;
+          time = time;
+          replied = 0;
+          answered = None;
+        } }
+    {
+        self.stream = stream;
+        self.time = time;
+        self.replied = 0;
+        self.answered = None;
+    }
+
+    /// The number of the last Reply whose header has ended, of the octets that were read since `read_in`; 0 where there is none.
+    pub fn replied(&self) -> u64
+        ensures { result ≡ self.now.replied }
+    {
+        self.replied
+    }
+
+    /// What the last Reply answers; it is handed out once.
+    pub fn take_answered(&mut self) -> Option<Answering>
+        ensures value { option_map (λ a. record { message = a.message; call = a.call }) result ≡ self.old.answered }
+        ensures taken { self.new ≡ record self.old { answered = None } }
+    {
+        self.answered.take()
+    }
+
+    /// Forgets the calls of the stream that is read. Their memory is kept.
+    pub fn forget(&mut self)
+        ensures { self.new ≡ record self.old { own = record self.old.own { entries = [] } } }
+    {
+        self.own.clear();
+    }
+}
+
+/// The name by which a call is kept: at most 128 octets, where a reply is expected.
+fn kept_name(name: Option<&[u8]>, expects_reply: bool) -> Option<ArrayVec<u8, NAME_ROOM>>
+    ensures { option_map (λ x. x.items) result
+        ≡ kept_name (option_map (λ x. x.now) name.entry) expects_reply }
+{
+    let Some(name) = name else {
+        return None;
+    };
+    if !expects_reply {
+        return None;
+    }
+    let mut kept = ArrayVec::new();
+    if kept.try_extend_from_slice(name).is_err() {
+        return None;
+    }
+    Some(kept)
+}
+
+impl<'a> Correspondent for Exchange<'a> {
+    ghost use Rattle.giop_conversation.specs.Exchanges.{Exchanged, answer_of, notified};
+    ghost use Rattle.giop_conversation.specs.ExchangeLaws.{known_still};
+
+    ghost State = { Exchanged };
+
+    ghost state = { λ e. e };
+
+    ghost answer = { answer_of };
+
+    ghost notified = { notified };
+
+    fn operation(&self, id: u32) -> Option<OpId> {
+        let call = self.opposite.find(id)?;
+        self.catalogue.operation(call.name.as_slice())
+    }
+
+    fn called(
+        &mut self,
+        number: u64,
+        id: u32,
+        name: Option<&[u8]>,
+        _operation: Option<OpId>,
+        expects_reply: bool,
+    ) {
+        match kept_name(name, expects_reply) {
+            Some(name) => {
+                let call = Call {
+                    name,
+                    stream: self.stream,
+                    message: number,
+                    time: self.time,
+                };
+                self.own.add(id, call);
+            }
+            None => {
+                self.own.take(id);
+            }
+        }
+    }
+
+    fn answered(&mut self, number: u64, id: u32) {
+        self.replied = number;
+        self.answered = self.opposite.take(id).map(|call| Answering {
+            message: number,
+            call,
+        });
+    }
+
+    ghost known = { known_still };
+}
+
+/// Each operation that an exchange answers is one of its catalogue.
+pub fn answers_are_known()
+    ensures { (s : Exchanged) → AreKnown s.table (answer_of s) }
+{}
