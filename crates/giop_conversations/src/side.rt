@@ -63,13 +63,7 @@ impl Correspondent for Side<'_> {
 }
 
 /// A Request takes an older call of its id away, and makes one, if its call line can be shown and it expects a reply.
-fn request(
-    calls: &mut Calls,
-    number: u64,
-    id: u32,
-    name: Option<&[u8]>,
-    expects_reply: bool,
-)
+fn request(calls: &mut Calls, number: u64, id: u32, name: Option<&[u8]>, expects_reply: bool)
     ensures { calls.new ≡ requested number id (option_map (λ x. x.now) name.entry) expects_reply
         calls.old }
 {
