@@ -1,9 +1,7 @@
 -- How a run over a source goes on with one read.
-use Rattle.std.proofs.Common.{◌≡◌, ◌∙◌, ℕ, ◌+◌, ◌<◌, ◌≤◌, Bool, true, false, List, [], ◌++◌, Option, Some, None, Err, Ok, Result, sym, ap, append_assoc, inl, inr, ◌⊎◌, arith}
-use Rattle.std.specs.Option.{IsSome}
-use Rattle.std.specs.Io.KnownBytes.{Consumes, IsAtEnd}
+use Rattle.std.proofs.Common.{◌≡◌, ◌∙◌, ℕ, ◌+◌, ◌<◌, ◌≤◌, Bool, true, false, List, [], ◌++◌, Option, Some, None, Err, Ok, length, take, length-take, length-append, sym, ap, append_assoc, inr, arith}
+use Rattle.std.specs.Io.KnownBytes.{Consumes}
 use Rattle.capture_file.specs.declared.capture.Capture.{Capture}
-use Rattle.capture_file.specs.Reading.{fault}
 use Rattle.giop_print.specs.Output.{counted}
 use Rattle.giop_run.specs.SourceLog.{SourceLog}
 use Rattle.giop_run.specs.declared.fault.RunFault.{RunFault}
@@ -25,11 +23,20 @@ one_more_read before so_far turns after most below one room = omega arith
 
 -- the octets of a read, of which the packets were handed on
 pub handed_once : (goes_on : Bool) (HasTaken : List Taken → Type 0) (c : Capture) (p s : List ℕ)
-    (before after : SourceLog) → Consumes before.left after.left s → HandedWhole goes_on HasTaken c p s
-    → HasReadOnce (Ok goes_on) HasTaken c p s before after
-handed_once true HasTaken c p s before after given handed = record { given = given; handed = handed }
-handed_once false HasTaken c p s before after given (read, rest, handed, shows) =
+    (before after : SourceLog) → 0 < length s → Consumes before.left after.left s
+    → HandedWhole goes_on HasTaken c p s → HasReadOnce (Ok goes_on) HasTaken c p s before after
+handed_once true HasTaken c p s before after some given handed =
+    (record { given = given; handed = handed }, some)
+handed_once false HasTaken c p s before after some given (read, rest, handed, shows) =
     record { given = given; read = read; rest = rest; handed = handed; over = inr shows }
+
+-- a read of some octets gives as many
+pub some_given : (into : List ℕ) (n : ℕ) → n ≤ length into → 0 < n → 0 < length (take n into)
+some_given into n within some = let l = length-take n into in omega arith
+
+-- one octet more at least, for each read
+pub longer : (s t : List ℕ) (turns : ℕ) → turns ≤ length s → 0 < length t → turns + 1 ≤ length (s ++ t)
+longer s t turns so_far some = let l = length-append s t in omega arith
 
 -- what was handed on of more octets is so of all of them
 handed_behind : (HasTaken : List Taken → Type 0) (c : Capture) (s t read rest : List ℕ)

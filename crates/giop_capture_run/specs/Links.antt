@@ -1,5 +1,5 @@
 -- Which link types of a capture are told, of those whose packets aren't read (meaning).
-use Rattle.std.specs.Prelude.{ℕ, ◌==◌, ◌||◌, Bool, true, false, cond, not, ltb, List, [], ◌∷◌, ◌++◌, length}
+use Rattle.std.specs.Prelude.{ℕ, ◌==◌, ◌||◌, Bool, cond, not, ltb, List, [], ◌∷◌, ◌++◌, length}
 use Rattle.std.specs.List.{list_any}
 
 -- a link type is new where it was not told, and where fewer than so many were

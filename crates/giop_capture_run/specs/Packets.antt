@@ -1,5 +1,5 @@
 -- The packets of a capture that were handed on (meaning).
-use Rattle.std.specs.Prelude.{◌≡◌, ℕ, List, [], ◌∷◌, ◌++◌, length, Bool, true, false, IsSome, map, Result, Ok, Err, ◌⊎◌}
+use Rattle.std.specs.Prelude.{◌≡◌, ℕ, List, [], ◌++◌, length, Bool, true, false, IsSome, map, Result, Ok, Err, ◌⊎◌, ◌<◌, ◌≤◌, ◌^◌}
 use Rattle.std.specs.Io.KnownBytes.{Consumes, IsAtEnd}
 use Rattle.capture_file.specs.declared.capture.Capture.{Capture}
 use Rattle.capture_file.specs.declared.part.Head.{Head}
@@ -52,11 +52,13 @@ pub record ReadToEnd (HasTaken : List Taken → Type 0) (c : Capture) (p s : Lis
   pub handed : HandedOn HasTaken c p s read rest
   pub over : (IsAtEnd after.left × (rest ≡ [])) ⊎ IsSome (fault (p ++ read))
 
--- what a run did, by its result: where the listener failed, it alone knows what it has taken
+-- What a run did, by its result: where the listener failed, it alone knows what it has taken. Where the reads were used up, each
+-- gave an octet.
 abbrev pub Ran : Result (Unit {0}) RunFault → (List Taken → Type 0) → Capture → List ℕ → SourceLog → SourceLog → Type 0
 Ran (Ok _) HasTaken c s before after = ReadToEnd HasTaken c [] s before after
 Ran (Err faults.Read) HasTaken c s before after = ReadAll HasTaken c [] s before after
-Ran (Err faults.Turns) HasTaken c s before after = ReadAll HasTaken c [] s before after
+Ran (Err faults.Turns) HasTaken c s before after =
+    ReadAll HasTaken c [] s before after × (2 ^ 40 ≤ length s)
 Ran (Err faults.Out) HasTaken c s before after = Consumes before.left after.left s
 Ran (Err faults.Failed) HasTaken c s before after = ⊥
 
@@ -64,7 +66,7 @@ Ran (Err faults.Failed) HasTaken c s before after = ⊥
 
 -- what a read and its packets came to, behind p: true where the reading goes on
 abbrev pub HasReadOnce : Result Bool RunFault → (List Taken → Type 0) → Capture → List ℕ → List ℕ → SourceLog → SourceLog → Type 0
-HasReadOnce (Ok true) HasTaken c p s before after = ReadAll HasTaken c p s before after
+HasReadOnce (Ok true) HasTaken c p s before after = ReadAll HasTaken c p s before after × (0 < length s)
 HasReadOnce (Ok false) HasTaken c p s before after = ReadToEnd HasTaken c p s before after
 HasReadOnce (Err faults.Read) HasTaken c p s before after = ReadAll HasTaken c p s before after
 HasReadOnce (Err faults.Turns) HasTaken c p s before after = ⊥

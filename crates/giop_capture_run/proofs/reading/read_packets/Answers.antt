@@ -1,8 +1,8 @@
 -- Each outcome of reading a capture, from the reads before it.
-use Rattle.std.proofs.Common.{◌+◌, [], ◌++◌, arith}
+use Rattle.std.proofs.Common.{◌+◌, ◌++◌, arith}
 use Rattle.std.proofs.lemmas.Result.{err_from_is_err_and}
 use Rattle.giop_capture_run.specs.Packets.{taken_of}
-use Rattle.giop_capture_run.proofs.ReadingOn.{one_more_read, all_after, end_after, failed_after}
+use Rattle.giop_capture_run.proofs.ReadingOn.{one_more_read, all_after, end_after, longer, failed_after}
 use Rattle.giop_capture_run.proofs.reading.read_packets.Goals as goal
 
 pub returns-in_err-read_once-clause-ran : goal.returns-in_err-read_once-clause-ran
@@ -37,7 +37,8 @@ loop-turn-preserved g c =
           let so_far = c.loop-turn.invariant.all taken in
           let flushed = c.in_ok-flush.ensures.flushed (taken_of so_far.0) so_far.1.handed.taken in
           let once = c.in_ok-read_once.ensures.once so_far.0 so_far.1.handed.reads flushed in
-          (so_far.0 ++ once.0, all_after _ _ _ _ so_far.0 once.0 _ _ _ so_far.1 (rw c.if-not-branch.false at once.1));
+          let more = rw c.if-not-branch.false at once.1 in
+          (so_far.0 ++ once.0, all_after _ _ _ _ so_far.0 once.0 _ _ _ so_far.1 more.0, longer so_far.0 once.0 c.loop-turn._turn so_far.2 more.1);
       count = let more = c.in_ok-read_once.ensures.count in let below = c.loop-turn.invariant.count in omega arith;
       reads = one_more_read _ _ _ _ (c.loop-turn._turn + 1) c.loop-turn.invariant.reads c.in_ok-read_once.ensures.reads (omega arith);
     }

@@ -1,5 +1,5 @@
 -- All that the source gave so far was read, and its packets were handed on.
-use Rattle.std.proofs.Common.{◌≤◌, ◌+◌, ◌*◌, ℕ, List, []}
+use Rattle.std.proofs.Common.{◌≤◌, ◌+◌, ◌*◌, ℕ, List, [], length}
 use Rattle.capture_file.specs.CaptureState.{octets_of}
 use Rattle.giop_capture_run.specs.Packets.{ReadAll}
 use Rattle.giop_capture_run.proofs.reading.read_packets.Given as goal
@@ -8,7 +8,8 @@ abbrev pub invariant-loop-turn : goal.invariant-loop-turn
 invariant-loop-turn g l =
     record {
       all : g.L.PacketListener.taken l.fn.to [] → (s : List ℕ)
-          × ReadAll (g.L.PacketListener.taken l.to) l.capture [] s (g.S.Source.log l.fn.source) (g.S.Source.log l.source);
+          × ReadAll (g.L.PacketListener.taken l.to) l.capture [] s (g.S.Source.log l.fn.source) (g.S.Source.log l.source)
+          × (l._turn ≤ length s);
       count : octets_of l.capture ≤ l._turn * 65536;
       reads : (g.S.Source.log l.source).reads ≤ (g.S.Source.log l.fn.source).reads + l._turn;
     }
