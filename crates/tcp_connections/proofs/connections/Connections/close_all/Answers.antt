@@ -5,13 +5,11 @@ use Rattle.tcp_connections.proofs.Cases.{closes_none, closes_over, closes_one}
 use Rattle.tcp_connections.proofs.States.{moved_end}
 use Rattle.tcp_connections.proofs.connections.Connections.close_all.Goals as goal
 
-pub returns-in_default : goal.returns-in_default
-returns-in_default g c = record {
-  does = λ w h.
-      let i = c.loop-left.invariant w h in
-      let over = closes_over c.loop-left.left i.0 (omega (arith, c.live.ensures.none c.in_default.is, ap length i.1.0.live)) in
-      moved_end _ _ _ _ _ (sym i.1.1 ∙ over) i.1.0;
-}
+pub returns-in_default-clause-does : goal.returns-in_default-clause-does
+returns-in_default-clause-does g c w h =
+    let i = c.loop-left.invariant w h in
+    let over = closes_over c.loop-left.left i.0 (omega (arith, c.live.ensures.none c.in_default.is, ap length i.1.0.live)) in
+    moved_end _ _ _ _ _ (sym i.1.1 ∙ over) i.1.0
 
 pub loop-left-preserved : goal.loop-left-preserved
 loop-left-preserved g c w h =
@@ -24,9 +22,7 @@ loop-left-preserved g c w h =
     let same = ap (closed_at v c.in-Some.id) cause ∙ ap (λ n. closed_at v n (end_cause (flow_at v n))) id in
     (closed_at v c.in-Some.id c.end_cause.result, (c.in_ok-close.ensures.does v i.1.0, ap (all_closed (c.loop-left.left - 1)) same ∙ sym goes ∙ i.1.1))
 
-pub returns : goal.returns
-returns g c = record {
-  does = λ w h.
-      let i = c.loop-left.invariant w h in
-      moved_end _ _ _ _ _ (sym i.1.1 ∙ closes_none c.loop-left.left i.0 c.loop-left-test.false) i.1.0;
-}
+pub returns-clause-does : goal.returns-clause-does
+returns-clause-does g c w h =
+    let i = c.loop-left.invariant w h in
+    moved_end _ _ _ _ _ (sym i.1.1 ∙ closes_none c.loop-left.left i.0 c.loop-left-test.false) i.1.0

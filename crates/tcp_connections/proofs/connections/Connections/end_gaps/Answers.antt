@@ -5,20 +5,16 @@ use Rattle.tcp_connections.proofs.Cases.{gaps_none, gaps_over, gaps_gap, gaps_ne
 use Rattle.tcp_connections.proofs.States.{moved}
 use Rattle.tcp_connections.proofs.connections.Connections.end_gaps.Goals as goal
 
-pub returns-in_default : goal.returns-in_default
-returns-in_default g c = record {
-  does = λ w h.
-      let i = c.loop-left.invariant w h in
-      let over = gaps_over g.L.Listener.faulted c.loop-left.left c.loop-left.rank i.0 (omega (arith, c.live.ensures.none c.in_default.is, ap length i.1.0.live)) in
-      moved _ _ _ _ _ (sym i.1.1 ∙ over) i.1.0;
-}
+pub returns-in_default-clause-does : goal.returns-in_default-clause-does
+returns-in_default-clause-does g c w h =
+    let i = c.loop-left.invariant w h in
+    let over = gaps_over g.L.Listener.faulted c.loop-left.left c.loop-left.rank i.0 (omega (arith, c.live.ensures.none c.in_default.is, ap length i.1.0.live)) in
+    moved _ _ _ _ _ (sym i.1.1 ∙ over) i.1.0
 
-pub returns : goal.returns
-returns g c = record {
-  does = λ w h.
-      let i = c.loop-left.invariant w h in
-      moved _ _ _ _ _ (sym i.1.1 ∙ gaps_none g.L.Listener.faulted c.loop-left.left c.loop-left.rank i.0 c.loop-left-test.false) i.1.0;
-}
+pub returns-clause-does : goal.returns-clause-does
+returns-clause-does g c w h =
+    let i = c.loop-left.invariant w h in
+    moved _ _ _ _ _ (sym i.1.1 ∙ gaps_none g.L.Listener.faulted c.loop-left.left c.loop-left.rank i.0 c.loop-left-test.false) i.1.0
 
 pub loop-left-preserved-then-not-is_holding : goal.loop-left-preserved-then-not-is_holding
 loop-left-preserved-then-not-is_holding g c w h =
