@@ -6,13 +6,14 @@ use Rattle.tcp_waiting.specs.Payload.{Payload, blocks_of}
 use Rattle.tcp_flow.specs.declared.flow.CloseCause.{CloseCause}
 use Rattle.tcp_flow.specs.declared.flow.FlowState.{FlowState}
 use Rattle.tcp_flow.specs.declared.flow.ListenerFault.{ListenerFault}
-use Rattle.tcp_flow.specs.Flow.{Flow, Event, held_by_others}
+use Rattle.tcp_flow.specs.Flow.{Flow, Event, CaptureEvent, OfCapture, held_by_others}
 use Rattle.tcp_flow.specs.Laws.{IsSettled}
 use Rattle.tcp_flow.specs.State.{state, IsState as IsFlow}
 use Rattle.tcp_connections.specs.declared.connections.Connections.{Connections}
 use Rattle.tcp_streams.specs.declared.pair.Side.{Side}
-use Rattle.tcp_streams.specs.Lives.{lives}
-use Rattle.tcp_connections.specs.Connections.{State, with_flow, room_at, flow_forgotten, forgotten, goes_before, eldest}
+use Rattle.tcp_streams.specs.Lives.{lives, behind}
+use Rattle.tcp_streams.proofs.Order.{lives_more}
+use Rattle.tcp_connections.specs.Connections.{State, with_flow, with_capture_event, room_at, flow_forgotten, forgotten, goes_before, eldest}
 use Rattle.tcp_connections.specs.State.{IsSound, IsState, IsAt, state_of}
 use Rattle.tcp_connections.proofs.Forgotten.{both_forgotten, forgotten_sound}
 use Rattle.tcp_connections.proofs.Sound.{IsApart, with_flow_sound, forgot_sound, sound_seen}
@@ -166,3 +167,20 @@ close_done O' live' c c' es id s' f n rest flows pool held =
       live = n.observed.1;
       same = changed c c' f.events rest (set c.flows.items id (Some s')) c.pool.held flows pool held;
     })
+
+-- ---- The listener is told of the capture.
+
+pub told_capture : (O O' : List Event → Type 0) (live : List ℕ) (c : Connections) (w : State) (event : CaptureEvent) → IsState O live c w → O' (w.events ++ OfCapture event ∷ [])
+    → IsState O' live c (with_capture_event w event)
+unfolding behind
+told_capture O O' live c w event h o =
+    let events : List Event = w.events ++ OfCapture event ∷ [] in
+    let same : state_of c events ≡ record w { events = events } = ap (λ (u : State). record u { events = events }) h.same in
+    record {
+      observed = o;
+      live = h.live ∙ sym (lives_more [] w.events (OfCapture event));
+      same = same;
+      sound = subst IsSound same (sound_any c w.events events (subst IsSound (sym h.same) h.sound));
+      free = h.free;
+      room = h.room;
+    }
