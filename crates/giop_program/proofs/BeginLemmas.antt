@@ -8,9 +8,17 @@ use Rattle.giop_stream.specs.EngineView.{EngineView}
 use Rattle.giop_run.specs.declared.fault.RunFault.{RunFault}
 use Rattle.giop_run.specs.declared.running.Ending.{Ending}
 use Rattle.giop_run.specs.declared.running.Report.{Report}
-use Rattle.giop_run.specs.Console.{Dumped}
+use Rattle.giop_print.specs.Output.{OutLog}
+use Rattle.giop_run.specs.SourceLog.{SourceLog}
+use Rattle.giop_run.specs.Console.{Dumped, unread}
 use Rattle.giop_run.specs.Files.{Asked, Folder, GoesOn, ending_of, stream_of, setup_by}
-use Rattle.giop_run.specs.Running.{setup_of}
+use Rattle.giop_run.specs.Running.{Ran, RunSetup, setup_of}
+
+-- a run of a source that is a reader of which nothing was read
+pub dumped_by : (w : RunSetup) (r : Result Report RunFault) (p s : List ℕ) (a b : SourceLog) (x y : OutLog)
+    (told : Option (List ℕ)) → a ≡ unread told → Ran w r p s a b x y → Dumped w r p told x y
+dumped_by w r p s a b x y told is ran =
+    record { octets = s; after = b; did = subst (λ a. Ran w r p s a b x y) is ran }
 
 goes_on : (held : Folder) (asked : Option (List ℕ)) (most : ℕ) (C : Table) (l : RequestTable) (Held Is : ℕ → List ℕ → Type 0)
     → GoesOn held asked most C l Held → ((n : ℕ) (p : List ℕ) → Held n p → Is n p) → GoesOn held asked most C l Is

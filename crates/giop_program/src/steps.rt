@@ -15,8 +15,8 @@ use super::arguments::Arguments;
 use clap::Error;
 use clap::error::ErrorKind;
 use giop_run::{
-    Disk, Ending, Flush, Inputs, Lines, ProgramFault, Report, Retrying, RunFault, Saves, catalogue,
-    dump, requests, resumed, status, unreadable,
+    Disk, Ending, Flush, Inputs, Lines, ProgramFault, Reading, Report, Retrying, RunFault, Saves,
+    catalogue, dump, requests, resumed, status, unreadable,
 };
 use giop_sig::{Catalogue, Requests};
 use giop_stream::{Engine, Totals};
@@ -193,7 +193,8 @@ fn dumped<'a, 'c, R: Read + Drop, O: Flush>(
     ensures kept { IfOk result (λ report. HasKept ending report.kept) }
     ensures flushed { OnOk result (O.kept out.new ≡ []) }
 {
-    match dump(reader, out, engine, ending) {
+    let mut source = Reading::new(reader);
+    match dump(&mut source, out, engine, ending) {
         Ok(report) => Ok(report),
         Err(fault) => Err(ProgramFault::Run(fault)),
     }

@@ -10,7 +10,6 @@ use Rattle.giop_stream.specs.EngineView.{EngineView}
 use Rattle.giop_print.proofs.Writing.{wrote-append, wrote-front, front-append, wrote-nil}
 use Rattle.giop_run.specs.SourceLog.{SourceLog}
 use Rattle.giop_run.specs.Running.{Given, IsOver, ReadsSpent, Ran, RunSetup, setup_of, reads_by, end_text}
-use Rattle.giop_run.specs.Console.{Dumped}
 use Rattle.giop_run.specs.Flushing.{Flushed, FlushFailed}
 use Rattle.giop_run.specs.RunSteps.{HasFed, Fed, FailedBefore, OneRead, HasReadAndFed, ReadToEnd, PutFailed, Completed, Closed, Going}
 use Rattle.giop_stream.specs.declared.status.Totals.{Totals}
@@ -299,7 +298,3 @@ closed_on w (Err fault.Failed) p s e a b x y z f q = absurd q
 -- it was closed at its end
 pub ran_closed : (w : RunSetup) (r : Result Report RunFault) (p s : List ℕ) (e : EngineView) (a b : SourceLog) (x y z : OutLog) → ReadToEnd (reads_by w) p s e a b x y → (e.table ≡ w.table) × (e.request_table ≡ w.request_table) × (e.most ≡ w.most) → Closed (setup_of e w.ending) r (p ++ s) y z → Ran w r p s a b x z
 ran_closed w r p s e a b x y z f same q = closed_on w r p s e a b x y z f (closed_by w e r (p ++ s) y z same q)
-
--- a run, by the octets that the source has left
-pub dumped_by : (w : RunSetup) (r : Result Report RunFault) (p s : List ℕ) (a b : SourceLog) (x y : OutLog) (told : Option (List ℕ)) → a.left ≡ told → Ran w r p s a b x y → Dumped w r p told x y
-dumped_by w r p s a b x y told l ran = record { octets = s; before = a; after = b; reader = l; did = ran }

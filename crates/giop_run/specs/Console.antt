@@ -9,13 +9,15 @@ use Rattle.giop_run.specs.declared.fault.RunFault.{RunFault}
 use Rattle.giop_run.specs.declared.fault.ProgramFault.{ProgramFault}
 use Rattle.giop_run.specs.declared.fault.ProgramFault.TheVariants as faults
 
--- a run of an engine that held p did this with a reader, whose octets are known where `told` is Some, and an out
+-- a reader of which nothing was read, whose octets are known where `told` is Some
+abbrev pub unread : Option (List ℕ) → SourceLog
+unread told = record { left = told; reads = 0; failures = 0; ends = 0 }
+
+-- a run of an engine that held p did this with such a reader and an out
 pub record Dumped (w : RunSetup) (ran : Result Report RunFault) (p : List ℕ) (told : Option (List ℕ)) (x y : OutLog) : Type 0 where
   pub octets : List ℕ
-  pub before : SourceLog
   pub after : SourceLog
-  pub reader : before.left ≡ told
-  pub did : Ran w ran p octets before after x y
+  pub did : Ran w ran p octets (unread told) after x y
 
 -- the status of what failed: arguments that can't be read, a file that is refused, a file that can't be read or written or a
 -- run that failed, no memory

@@ -1,33 +1,35 @@
-//! Runs an engine from a reader to an out that is flushed, and gives the program's status.
+//! Runs an engine from a source to an out that is flushed, and gives the program's status.
 
-ghost use Rattle.std.specs.Prelude.{◌≡◌, List, ℕ, [], true, Err, OnOk, IfOk};
+ghost use Rattle.std.specs.Prelude.{◌≡◌, ◌+◌, ◌^◌, ◌≤◌, List, ℕ, [], true, Err, OnOk, IfOk};
 ghost use Rattle.giop_stream.specs.EngineHolds.{Holds};
-ghost use Rattle.giop_run.specs.Running.{HasKept, setup_of};
-ghost use Rattle.giop_run.specs.Console.{Dumped, exit_status};
+ghost use Rattle.giop_run.specs.Running.{HasKept, Ran, Refused, setup_of};
+ghost use Rattle.giop_run.specs.Console.{exit_status};
 
 use super::fault::{ProgramFault, RunFault};
 use super::flush::{Flush, Flushed};
-use super::reading::Reading;
 use super::running::{Ending, Report, run_by};
+use super::source::Source;
 use giop_stream::{Engine, Totals};
-use std::io::Read;
 
-/// Feeds what the reader gives to an engine, and flushes the lines before each read and at the end.
-pub fn dump<'a, R: Read + Drop, O: Flush>(
-    reader: R,
+/// A run, as `run` is, that flushes the lines before each read and at the end. A flush that fails is a failed put.
+pub fn dump<'a, S: Source, O: Flush>(
+    source: &mut S,
     out: &mut O,
     engine: Engine<'a>,
     ending: Ending,
 ) -> Result<Report<'a>, RunFault>
-    ensures dumped { (p : List ℕ) → Holds engine.entry p
-        → Dumped (setup_of engine.entry ending) result p
-        (R.remaining reader) (O.log out.old) (O.log out.new) }
-    ensures kept { IfOk result (λ report. HasKept ending report.kept) }
+    ensures ran { (p : List ℕ) → Holds engine.entry p → (s : List ℕ)
+        × Ran (setup_of engine.entry ending) result p s
+        (S.log source.old) (S.log source.new) (O.log out.old) (O.log out.new) }
+    ensures failed { engine.entry.failed ≡ true
+        → Refused result (S.log source.old) (S.log source.new) (O.log out.old) (O.log out.new) }
+    // Of every engine, also of one that holds no stream.
     ensures sound { result ≡ Err RunFault.Failed → engine.entry.failed ≡ true }
+    ensures reads { (S.log source.new).reads ≤ (S.log source.old).reads + 2 ^ 40 }
+    ensures kept { IfOk result (λ report. HasKept ending report.kept) }
     ensures flushed { OnOk result (O.kept out.new ≡ []) }
 {
-    let mut source = Reading::new(reader);
-    run_by::<Reading<R>, O, Flushed>(&mut source, out, engine, ending)
+    run_by::<S, O, Flushed>(source, out, engine, ending)
 }
 
 /// The status that the program ends with: 0, or 1 where a fault was counted, or that of what failed.

@@ -4,7 +4,7 @@ ghost use Rattle.giop_stream.specs.EngineHolds.{AreOf};
 
 use super::close::{CLOSE, CLOSED, COMPLETED, built_in, engine};
 use super::fakes::{FailingReader, FailingWriter};
-use giop_run::{Ending, Flush, Lines, ProgramFault, RunFault, dump, status};
+use giop_run::{Ending, Flush, Lines, ProgramFault, Reading, RunFault, dump, status};
 use giop_sig::{Catalogue, Requests};
 use giop_stream::{Engine, Totals};
 use std::cell::{Cell, RefCell};
@@ -27,7 +27,8 @@ fn finished<R: Read + Drop, O: Flush>(
     out: &mut O,
     engine: Engine,
 ) -> Result<Totals, RunFault> {
-    match dump(reader, out, engine, Ending::Finish) {
+    let mut source = Reading::new(reader);
+    match dump(&mut source, out, engine, Ending::Finish) {
         Ok(report) => Ok(report.totals),
         Err(fault) => Err(fault),
     }
