@@ -1,8 +1,9 @@
 -- The years and months that days make.
-use Rattle.std.proofs.Common.{◌≡◌, ℕ, zero, suc, ◌+◌, ◌-◌, ◌≤◌, ◌<◌, Bool, true, false, nat_le, inl, inr, refl, sym, arith, add-one}
+use Rattle.std.proofs.Common.{◌≡◌, ℕ, zero, suc, ◌+◌, ◌-◌, ◌*◌, ◌/◌, ◌≤◌, ◌<◌, Bool, true, false, nat_le, inl, inr, refl, sym, arith, add-one}
+use Rattle.std.proofs.lemmas.Bool.Decides.{nat_tests}
 use Rattle.std.proofs.lemmas.Bool.{cases_lt, leb-true, leb-false}
 use Rattle.httpdate.specs.Calendar.{days_in_year, days_of_years, days_in_month, days_of_months}
-use Rattle.httpdate.proofs.CalendarLemmas.{days_of_months_all, days_of_months_more}
+use Rattle.httpdate.proofs.CalendarLemmas.{days_of_years_closed, days_of_months_all, days_of_months_more}
 use Rattle.giop_conversation.specs.Times.{last_within, years, years_of, months_of}
 
 rises : (f : ℕ → ℕ) → ((n : ℕ) → f n ≤ f (suc n)) → (k more : ℕ) → f k ≤ f (more + k)
@@ -68,9 +69,16 @@ pub month_next : (year n : ℕ) →
     days_of_months year (n + 1) ≡ days_of_months year n + days_in_month year (n + 1)
 month_next year n = rw add-one (month_more year n)
 
-pub year_none : days_of_years 0 ≡ 0
+-- no year is longer than 366 days
+pub years_short : (n : ℕ) → days_of_years n ≤ 366 * n
 unfolding days_of_years
-year_none = refl
+years_short zero = omega arith
+years_short (suc n) = grind (arith, nat_tests, years_short n)
+
+-- without a walk over the years
+pub years_closed : (n : ℕ) →
+    365 * (n + 369) + (n + 369) / 4 - (n + 369) / 100 + (n + 369) / 400 - 134774 ≡ days_of_years n
+years_closed n = omega (arith, days_of_years_closed n)
 
 pub month_none : (year : ℕ) → days_of_months year 0 ≡ 0
 unfolding days_of_months

@@ -49,15 +49,29 @@ fn days_in_month(year: u16, month: u8) -> u16
     }
 }
 
+/// The days of the first so many years from 1970 on.
+fn days_of_years(passed: u16) -> u32
+    requires { passed ≤ years }
+    ensures { result ≡ calendar.days_of_years passed }
+{
+    let since_1601 = u32::from(passed) + 369;
+    365 * since_1601 + since_1601 / 4 - since_1601 / 100 + since_1601 / 400 - 134_774
+}
+
 /// The whole years from 1970 on that so many days make, and the days that are left; none from the year 10000 on.
 fn years_of(days: u128) -> Option<(u16, u16)>
     ensures { MatchOption result (calendar.days_of_years years ≤ days)
         (λ found. (days < calendar.days_of_years years) × (found.0 ≡ years_of days) × (found.0 < years)
         × (found.1 ≡ days - calendar.days_of_years found.0) × (found.1 < calendar.days_in_year (1970 + found.0))) }
 {
-    let mut left = days;
-    for passed in 0..YEARS {
-        let length = u128::from(days_in_year(1970 + passed));
+    let Ok(whole) = u32::try_from(days) else {
+        return None;
+    };
+    // No year is longer than 366 days.
+    let first = (whole / 366).min(u32::from(YEARS)) as u16;
+    let mut left = whole - days_of_years(first);
+    for passed in first..YEARS {
+        let length = u32::from(days_in_year(1970 + passed));
         if left < length {
             return Some((passed, left as u16));
         }
