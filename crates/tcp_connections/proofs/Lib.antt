@@ -3,6 +3,7 @@ pub mod Changes
 pub mod Counted
 pub mod Forgotten
 pub mod Kept
+pub mod Living
 pub mod Search
 pub mod Sound
 pub mod Start
