@@ -1,6 +1,7 @@
 pub mod Cases
 pub mod Changes
 pub mod Counted
+pub mod Ending
 pub mod Forgotten
 pub mod Kept
 pub mod Living
