@@ -374,6 +374,7 @@ impl Connections {
         ensures does { Ends result (λ w. closed_at w id cause)
             (L.observed to.old.listener) to.old.live.items self.old
             (L.observed to.new.listener) to.new.live.items self.new }
+        ensures held { self.new.pool.held ≡ self.old.pool.held }
         ensures cause { OnErr result (L.failed to.new.listener) }
     {
         let Some(mut flow) = self.flow(id) else {
@@ -563,6 +564,7 @@ impl Connections {
             (λ w. gaps_from L.faulted (length w.held + length (lives w.events)) 0 w)
             (L.observed to.old.listener) to.old.live.items self.old
             (L.observed to.new.listener) to.new.live.items self.new }
+        ensures held { OnOk result (self.new.pool.held ≡ []) }
         ensures cause { OnErr result (L.failed to.new.listener) }
     {
         let mut left = self.pool.len() + to.len();
@@ -586,6 +588,7 @@ impl Connections {
         ensures does { Ends result (λ w. all_closed (length (lives w.events)) w)
             (L.observed to.old.listener) to.old.live.items self.old
             (L.observed to.new.listener) to.new.live.items self.new }
+        ensures held { self.new.pool.held ≡ self.old.pool.held }
         ensures cause { OnErr result (L.failed to.new.listener) }
     {
         let mut left = to.len();
@@ -599,14 +602,15 @@ impl Connections {
         Ok(())
     }
 
-    /// The capture ends: while flows hold something, a gap of the one whose live stream has the least number; then the live
-    /// streams close by their order.
+    /// The capture ends: while flows hold something, a gap of the one whose live stream has the least number, until nothing is
+    /// held; then the live streams close by their order.
     pub fn end<L: Listener + Drop>(&mut self, to: &mut Streams<L>) -> Result<(), ListenerFault>
         requires state { HasState (L.observed to.old.listener) to.old.live.items self.old }
         ensures does { (w : State)
             → IsState (L.observed to.old.listener) to.old.live.items self.old w
             → OnOk result (IsAt (L.observed to.new.listener) to.new.live.items self.new
             (ended L.faulted w)) }
+        ensures held { OnOk result (self.new.pool.held ≡ []) }
         ensures cause { OnErr result (L.failed to.new.listener) }
     {
         self.end_gaps(to)?;

@@ -8,7 +8,8 @@ use Rattle.tcp_connections.specs.Connections.{State, flow_at, acknowledgement_ta
 use Rattle.tcp_connections.specs.State.{state_of}
 use Rattle.tcp_connections.proofs.Cases.{acknowledged_none, acknowledged_some, arrived_none, arrived_some}
 use Rattle.tcp_connections.proofs.Sound.{some_within, apart_some}
-use Rattle.tcp_connections.proofs.States.{makes_by, moved, flow_done, beside_own}
+use Rattle.tcp_connections.proofs.Living.{step_turn}
+use Rattle.tcp_connections.proofs.States.{makes_by, moved, flow_done, beside_own, turn_start, small_id}
 use Rattle.tcp_connections.proofs.connections.Connections.acknowledgement.Goals as goal
 
 pub returns-in_default-clause-does : goal.returns-in_default-clause-does
@@ -36,4 +37,4 @@ returns-clause-does g c w h =
     (record c.args.self.now { flows = with_item c.args.self.now.flows c.args.id (Some c.acknowledged.new.self); pool = c.acknowledged.new.pool }) es c.args.id c.acknowledged.new.self _ h0 (some_within S.flows c.args.id c.in-Some-flow.flow e) done
     (c.acknowledged.ensures.id ∙ own) (beside_own c.args.id c.in-Some-flow.flow.id S.held c.acknowledged.new.pool.held own (c.in_ok-acknowledged.ensures.beside f (record { observed = (h0.observed, h0.live); same = refl })))
     fewer (c.in_ok-acknowledged.ensures.settled f (record { observed = (h0.observed, h0.live); same = refl }) (h0.sound.settled c.args.id c.in-Some-flow.flow e))
-    (apart_some S c.args.id c.in-Some-flow.flow h0.sound e) (λ es. refl) refl c.acknowledged.ensures.blocks refl refl)) w h
+    (apart_some S c.args.id c.in-Some-flow.flow h0.sound e) (step_turn _ c.args.id es f _ (small_id S c.args.id h0.sound (some_within S.flows c.args.id c.in-Some-flow.flow e)) (turn_start _ _ _ es c.args.id c.in-Some-flow.flow h0 e)) (λ es. refl) refl c.acknowledged.ensures.blocks refl refl)) w h

@@ -5,7 +5,8 @@ use Rattle.tcp_waiting.proofs.Counts.{first_none}
 use Rattle.tcp_connections.specs.Connections.{State, began, first_number}
 use Rattle.tcp_connections.specs.State.{state_of}
 use Rattle.tcp_connections.proofs.Sound.{apart_taken}
-use Rattle.tcp_connections.proofs.States.{makes_by, moved, flow_done, sound_of}
+use Rattle.tcp_connections.proofs.Living.{first_turn}
+use Rattle.tcp_connections.proofs.States.{makes_by, moved, flow_done, sound_of, small_id}
 use Rattle.tcp_connections.proofs.connections.Connections.begin.Goals as goal
 
 pub begin-requires-clause-none : goal.begin-requires-clause-none
@@ -23,4 +24,4 @@ returns-clause-does g c w h =
     (flow_done (g.L.Listener.observed c.args.to.now.listener) (g.L.Listener.observed c.begin.new.to.listener) c.args.to.now.live.items c.begin.new.to.live.items c.args.self.now _ es c.args.id _ _ h0 within
     (c.in_ok-flow.ensures.does es (h0.observed, h0.live)) c.in_ok-flow.ensures.id (c.in_ok-flow.ensures.beside es (h0.observed, h0.live))
     fewer (c.in_ok-flow.ensures.settled es (h0.observed, h0.live))
-    (apart_taken S c.args.id h0.sound c.requires.taken) (λ es. refl) refl c.begin.ensures.blocks refl refl)) w h
+    (apart_taken S c.args.id h0.sound c.requires.taken) (first_turn _ c.args.id _ _ _ es (small_id S c.args.id h0.sound within)) (λ es. refl) refl c.begin.ensures.blocks refl refl)) w h

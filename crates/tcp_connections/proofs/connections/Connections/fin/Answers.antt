@@ -8,7 +8,8 @@ use Rattle.tcp_connections.specs.Connections.{State, flow_at, with_flow, fin_tak
 use Rattle.tcp_connections.specs.State.{state_of}
 use Rattle.tcp_connections.proofs.Cases.{no_fin, a_fin, arrived_none, arrived_some}
 use Rattle.tcp_connections.proofs.Sound.{some_within, apart_some}
-use Rattle.tcp_connections.proofs.States.{makes_by, moved, flow_done, beside_own}
+use Rattle.tcp_connections.proofs.Living.{step_turn}
+use Rattle.tcp_connections.proofs.States.{makes_by, moved, flow_done, beside_own, turn_start, small_id}
 use Rattle.tcp_connections.proofs.connections.Connections.fin.Goals as goal
 
 pub returns-then-not-segment-clause-does : goal.returns-then-not-segment-clause-does
@@ -36,4 +37,4 @@ returns-clause-does g c w h =
     (record c.args.self.now { flows = with_item c.args.self.now.flows c.args.id (Some c.fin.new.self); pool = c.fin.new.pool }) es c.args.id c.fin.new.self _ h0 (some_within S.flows c.args.id c.in-Some.flow e) done
     (c.fin.ensures.id ∙ own) (beside_own c.args.id c.in-Some.flow.id S.held c.fin.new.pool.held own (c.in_ok-fin.ensures.beside f (record { observed = (h0.observed, h0.live); same = refl })))
     fewer (c.in_ok-fin.ensures.settled f (record { observed = (h0.observed, h0.live); same = refl }) (h0.sound.settled c.args.id c.in-Some.flow e))
-    (apart_some S c.args.id c.in-Some.flow h0.sound e) (λ es. refl) refl c.fin.ensures.blocks refl refl)) w h
+    (apart_some S c.args.id c.in-Some.flow h0.sound e) (step_turn _ c.args.id es f _ (small_id S c.args.id h0.sound (some_within S.flows c.args.id c.in-Some.flow e)) (turn_start _ _ _ es c.args.id c.in-Some.flow h0 e)) (λ es. refl) refl c.fin.ensures.blocks refl refl)) w h

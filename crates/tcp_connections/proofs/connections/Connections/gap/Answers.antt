@@ -7,7 +7,8 @@ use Rattle.tcp_connections.specs.Connections.{State, flow_at, gapped}
 use Rattle.tcp_connections.specs.State.{state_of}
 use Rattle.tcp_connections.proofs.Cases.{gapped_none, gapped_some}
 use Rattle.tcp_connections.proofs.Sound.{some_within, apart_some}
-use Rattle.tcp_connections.proofs.States.{makes_by, moved, flow_done, beside_own}
+use Rattle.tcp_connections.proofs.Living.{gap_turn}
+use Rattle.tcp_connections.proofs.States.{makes_by, moved, flow_done, beside_own, turn_start, small_id}
 use Rattle.tcp_connections.proofs.connections.Connections.gap.Goals as goal
 
 pub returns-in_default-clause-does : goal.returns-in_default-clause-does
@@ -29,4 +30,4 @@ returns-clause-does g c w h =
     (record c.args.self.now { flows = with_item c.args.self.now.flows c.args.id (Some c.gap.new.self); pool = c.gap.new.pool }) es c.args.id c.gap.new.self _ h0 (some_within S.flows c.args.id c.in-Some.flow e) done
     (c.gap.ensures.id ∙ own) (beside_own c.args.id c.in-Some.flow.id S.held c.gap.new.pool.held own (c.in_ok-gap.ensures.beside f (record { observed = (h0.observed, h0.live); same = refl })))
     fewer (c.in_ok-gap.ensures.settled f (record { observed = (h0.observed, h0.live); same = refl }))
-    (apart_some S c.args.id c.in-Some.flow h0.sound e) (λ es. refl) refl c.gap.ensures.blocks refl refl)) w h
+    (apart_some S c.args.id c.in-Some.flow h0.sound e) (gap_turn _ c.args.id es f (small_id S c.args.id h0.sound (some_within S.flows c.args.id c.in-Some.flow e)) (turn_start _ _ _ es c.args.id c.in-Some.flow h0 e)) (λ es. refl) refl c.gap.ensures.blocks refl refl)) w h

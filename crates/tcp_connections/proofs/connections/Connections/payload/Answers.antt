@@ -8,7 +8,8 @@ use Rattle.tcp_connections.specs.Connections.{State, flow_at, payload_taken, fir
 use Rattle.tcp_connections.specs.State.{state_of}
 use Rattle.tcp_connections.proofs.Cases.{payload_reset, payload_later, arrived_some}
 use Rattle.tcp_connections.proofs.Sound.{some_within, apart_some}
-use Rattle.tcp_connections.proofs.States.{makes_by, moved, flow_done, beside_own, sound_of}
+use Rattle.tcp_connections.proofs.Living.{step_turn}
+use Rattle.tcp_connections.proofs.States.{makes_by, moved, flow_done, beside_own, sound_of, turn_start, small_id}
 use Rattle.tcp_connections.proofs.connections.Connections.payload.Goals as goal
 
 pub payload-requires-clause-room : goal.payload-requires-clause-room
@@ -36,4 +37,4 @@ returns-clause-does g c w h =
     (record c.args.self.now { flows = with_item c.args.self.now.flows c.args.id (Some c.payload.new.self); pool = c.payload.new.pool }) es c.args.id c.payload.new.self _ h0 (some_within S.flows c.args.id c.in-Some.flow e) done
     (c.payload.ensures.id ∙ own) (beside_own c.args.id c.in-Some.flow.id S.held c.payload.new.pool.held own (c.in_ok-payload.ensures.beside f (record { observed = (h0.observed, h0.live); same = refl })))
     fewer (c.in_ok-payload.ensures.settled f (record { observed = (h0.observed, h0.live); same = refl }))
-    (apart_some S c.args.id c.in-Some.flow h0.sound e) (λ es. refl) refl c.payload.ensures.blocks refl refl)) w h
+    (apart_some S c.args.id c.in-Some.flow h0.sound e) (step_turn _ c.args.id es f _ (small_id S c.args.id h0.sound (some_within S.flows c.args.id c.in-Some.flow e)) (turn_start _ _ _ es c.args.id c.in-Some.flow h0 e)) (λ es. refl) refl c.payload.ensures.blocks refl refl)) w h
