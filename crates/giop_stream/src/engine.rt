@@ -221,6 +221,29 @@ impl<'a> Engine<'a> {
         self.failed = false;
     }
 
+    /// Writes the closing of the stream, and returns its totals, with a truncated end counted as a fault. The engine stays
+    /// as it is; `restart` makes it ready for another stream.
+    pub fn close<O: Out>(&self, out: &mut O) -> Result<Totals, Stop>
+        // The closing of what it holds is written, whatever operations the ids of messages answered.
+        ensures text { (a : Answers) (p : List ℕ) → HoldsBy self.now a p
+            → StopWrites result (O.log out.old) (O.log out.new)
+            (closing (rules_with self.now a) p) }
+        ensures totals { (a : Answers) (p : List ℕ) → HoldsBy self.now a p →
+            IfOk result (λ t. t ≡ final (rules_with self.now a) p) }
+        // A failed engine writes nothing, and only a failed one returns `Failed`.
+        ensures failed { self.now.failed ≡ true →
+            (result ≡ Err Stop.Failed) × (O.log out.new ≡ O.log out.old) }
+        ensures sound { result ≡ Err Stop.Failed → self.now.failed ≡ true }
+    {
+        if self.failed {
+            return Err(Stop::Failed);
+        }
+        match self.framing.finish(out) {
+            Ok(()) => Ok(self.framing.final_totals()),
+            Err(fault) => Err(Stop::Out(fault)),
+        }
+    }
+
     /// Ends the stream: writes its closing, and returns its totals, with a truncated end counted as a fault.
     pub fn finish<O: Out>(self, out: &mut O) -> Result<Totals, Stop>
         // The closing of what it holds is written.
@@ -239,13 +262,7 @@ impl<'a> Engine<'a> {
             (result ≡ Err Stop.Failed) × (O.log out.new ≡ O.log out.old) }
         ensures sound { result ≡ Err Stop.Failed → self.entry.failed ≡ true }
     {
-        if self.failed {
-            return Err(Stop::Failed);
-        }
-        match self.framing.finish(out) {
-            Ok(()) => Ok(self.framing.final_totals()),
-            Err(fault) => Err(Stop::Out(fault)),
-        }
+        self.close(out)
     }
 
     /// Writes the checkpoint of what was read, and returns how many octets it has (docs/FORMATS.md, Checkpoints). A
