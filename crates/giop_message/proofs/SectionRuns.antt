@@ -22,6 +22,7 @@ use Rattle.giop_decode.specs.Noted.{Noted, nothing_noted, noted_of, is_header_ro
 use Rattle.giop_decode.specs.DecoderState as decoders
 use Rattle.giop_decode.specs.Runs.{TakesRun, BreaksOff}
 use Rattle.giop_message.specs.declared.message.Message.{Message as Struct_of}
+use Rattle.giop_message.specs.declared.part.Part.{Part}
 use Rattle.giop_message.specs.declared.part.Section.{Section}
 use Rattle.giop_message.specs.declared.part.Part.TheVariants as parts
 use Rattle.giop_message.specs.declared.part.Section.TheVariants as sections
@@ -391,3 +392,12 @@ module _ {C : Table} {answers : Answers} {number : ℕ} {header : List ℕ} {m :
   rest_none {r} is more =
       let x = subst (Stands C answers number header s) is f.stands in
       past_none C (answers number) number header s more (ap (λ z. waits (stage_of z)) x.1)
+
+  -- and past the header no octet ends it
+  pub past_header : Fits C m → in_header m.part ≡ false → (more : List ℕ) → header_ends number header s more ≡ []
+  past_header fits past = go m.part refl past
+    where
+      go : (part : Part) → m.part ≡ part → in_header part ≡ false → (more : List ℕ) → header_ends number header s more ≡ []
+      go (parts.Typed section d) is past more = section_none (standing f is fits) past more
+      go (parts.Padding body_type_id) is past more = padding_none is more
+      go (parts.Rest r) is past more = rest_none is more

@@ -31,7 +31,7 @@ impl Message {
     ghost use Rattle.giop_message.specs.MessageSteps.{last_rest_text};
     ghost use Rattle.giop_message.specs.ReaderOfTable.{first_request_id};
     ghost use Rattle.giop_message.specs.HeaderEnds.{AgreesAtEnds, header_ends, after_ends};
-    ghost use Rattle.giop_message.specs.MessageState.{AreKnown, Fits, Follows, due_text, TookAll, reach, closing_text, is_short};
+    ghost use Rattle.giop_message.specs.MessageState.{AreKnown, Fits, Follows, in_header, due_text, TookAll, reach, closing_text, is_short};
 
     /// A message of this number whose header has come.
     pub fn start(catalogue: &Catalogue, number: u64, header: [u8; 12]) -> Message
@@ -189,6 +189,21 @@ impl Message {
             Part::Typed(section, decoder) => id_behind(*section, decoder, self.id),
             Part::Padding(_) => self.id,
             Part::Rest(_) => self.id,
+        }
+    }
+
+    /// Whether its header is still to end. Where this is false it has none, or it has ended.
+    pub fn is_in_header(&self) -> bool
+        ensures value { result ≡ in_header self.now.part }
+        // No octet ends it then.
+        ensures past { result ≡ false → (C : Table) → Fits C self.now →
+            (answers : Answers) (number : ℕ) (header s more : List ℕ) →
+            Follows C answers number header self.now s → header_ends number header s more ≡ [] }
+    {
+        match &self.part {
+            Part::Typed(section, _) => section.is_header(),
+            Part::Padding(_) => false,
+            Part::Rest(_) => false,
         }
     }
 }

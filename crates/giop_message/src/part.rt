@@ -20,6 +20,18 @@ pub enum Section {
 
 impl Section {
     ghost use Rattle.giop_message.specs.Messages.{root_of};
+    ghost use Rattle.giop_message.specs.MessageState.{is_header};
+
+    /// Whether it is the header.
+    pub(crate) fn is_header(self) -> bool
+        ensures { result ≡ is_header self }
+    {
+        match self {
+            Section::Header => true,
+            Section::Exception => false,
+            Section::Body => false,
+        }
+    }
 
     /// The root of its lines.
     pub(crate) fn root(self) -> Root

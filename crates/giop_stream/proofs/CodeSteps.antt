@@ -12,5 +12,6 @@ pub mod Runs
 pub mod OutsideMessages
 pub mod HeaderRuns
 pub mod HeaderEndSteps
+pub mod QuietOctets
 pub mod StreamAgreement
 pub mod AnswersGoOn

@@ -21,6 +21,7 @@ pub mod FramingSteps
 pub mod Stops
 pub mod EngineHolds
 pub mod Pieces
+pub mod PieceLimit
 pub mod Octet
 pub mod EngineState
 pub mod EngineStep

@@ -1,6 +1,6 @@
 //! The engine: one direction of a connection in, its lines out.
 
-ghost use Rattle.std.specs.Prelude.{◌≡◌, ◌≤◌, ◌++◌, ◌+◌, Err, ℕ, List, [], true, false, length, drop, IfOk, IfErr, OnOk, OnErr};
+ghost use Rattle.std.specs.Prelude.{◌≡◌, ◌<◌, ◌≤◌, ◌++◌, ◌+◌, Err, ℕ, List, [], true, false, length, drop, IfOk, IfErr, OnOk, OnErr};
 ghost use Rattle.std.specs.List.{concat};
 ghost use Rattle.giop_print.specs.Output.{counted};
 ghost use Rattle.giop_sig.specs.Table.{Table};
@@ -11,7 +11,8 @@ ghost use Rattle.giop_message.specs.HeaderEnds.{AgreesAtEnds, after_ends};
 ghost use Rattle.giop_stream.specs.HeaderEndsOfStream.{header_ends_from};
 ghost use Rattle.giop_message.specs.MessageState.{AreKnown};
 ghost use Rattle.giop_stream.specs.Rules.{rules, most_open};
-ghost use Rattle.giop_stream.specs.Framing.{cut, fault_of};
+ghost use Rattle.giop_stream.specs.Framing.{cut, fault_of, messages};
+ghost use Rattle.giop_stream.specs.PieceLimit.{IsQuiet};
 ghost use Rattle.giop_stream.specs.Stream.{text, closing, final};
 ghost use Rattle.giop_stream.specs.EngineHolds.{AreOf, Holds, HoldsBy, StopWrites, Leaves, added, rules_of, rules_with, status_of};
 ghost use Rattle.giop_stream.specs.Pieces.{fed, remaining, whole_text};
@@ -162,6 +163,10 @@ impl<'a> Engine<'a> {
         ensures leaves { Leaves result self.old self.new }
         // A failed engine writes nothing.
         ensures failed { self.old.failed ≡ true → O.log out.new ≡ O.log out.old }
+        // Of one that holds a stream, by whatever answers, it is refused only where a put fails, and no put fails else.
+        ensures cause { (a : Answers) (p : List ℕ) → HoldsBy self.old a p →
+            OnErr result ((O.log out.new).failures ≡ counted (O.log out.old).failures)
+            × OnOk result ((O.log out.new).failures ≡ (O.log out.old).failures) }
         // The types, the requests and the limit of open messages stay the same.
         ensures same { (self.new.table ≡ self.old.table) × (self.new.request_table ≡ self.old.request_table) }
         ensures most { self.new.most ≡ self.old.most }
@@ -221,6 +226,29 @@ impl<'a> Engine<'a> {
         self.failed = false;
     }
 
+    /// Writes the closing of the stream, and returns its totals, with a truncated end counted as a fault. The engine stays
+    /// as it is; `restart` makes it ready for another stream.
+    pub fn close<O: Out>(&self, out: &mut O) -> Result<Totals, Stop>
+        // The closing of what it holds is written, whatever operations the ids of messages answered.
+        ensures text { (a : Answers) (p : List ℕ) → HoldsBy self.now a p
+            → StopWrites result (O.log out.old) (O.log out.new)
+            (closing (rules_with self.now a) p) }
+        ensures totals { (a : Answers) (p : List ℕ) → HoldsBy self.now a p →
+            IfOk result (λ t. t ≡ final (rules_with self.now a) p) }
+        // A failed engine writes nothing, and only a failed one returns `Failed`.
+        ensures failed { self.now.failed ≡ true →
+            (result ≡ Err Stop.Failed) × (O.log out.new ≡ O.log out.old) }
+        ensures sound { result ≡ Err Stop.Failed → self.now.failed ≡ true }
+    {
+        if self.failed {
+            return Err(Stop::Failed);
+        }
+        match self.framing.finish(out) {
+            Ok(()) => Ok(self.framing.final_totals()),
+            Err(fault) => Err(Stop::Out(fault)),
+        }
+    }
+
     /// Ends the stream: writes its closing, and returns its totals, with a truncated end counted as a fault.
     pub fn finish<O: Out>(self, out: &mut O) -> Result<Totals, Stop>
         // The closing of what it holds is written.
@@ -239,13 +267,7 @@ impl<'a> Engine<'a> {
             (result ≡ Err Stop.Failed) × (O.log out.new ≡ O.log out.old) }
         ensures sound { result ≡ Err Stop.Failed → self.entry.failed ≡ true }
     {
-        if self.failed {
-            return Err(Stop::Failed);
-        }
-        match self.framing.finish(out) {
-            Ok(()) => Ok(self.framing.final_totals()),
-            Err(fault) => Err(Stop::Out(fault)),
-        }
+        self.close(out)
     }
 
     /// Writes the checkpoint of what was read, and returns how many octets it has (docs/FORMATS.md, Checkpoints). A
@@ -272,9 +294,24 @@ impl<'a> Engine<'a> {
         }
     }
 
+    /// How many of the next octets may be fed in one piece, so that behind no octet but the piece's last a message's
+    /// header of 12 octets is complete, or the header of a message ends: at least one. Who writes lines of their own
+    /// behind such octets feeds pieces of at most this many.
+    pub fn piece_limit(&self) -> usize
+        ensures some { 1 ≤ result }
+        // Fewer octets complete no header.
+        ensures quiet { (a : Answers) (p octets : List ℕ) → HoldsBy self.now a p →
+            length octets < result → IsQuiet (rules_with self.now a) p octets }
+    {
+        self.framing.piece_limit()
+    }
+
     /// The totals of what was read; after a failed put those from before that call.
     pub fn totals(&self) -> Totals
-        ensures { result ≡ self.now.stream.totals }
+        ensures value { result ≡ self.now.stream.totals }
+        // The messages are those whose header of 12 octets is complete.
+        ensures messages { (a : Answers) (p : List ℕ) → HoldsBy self.now a p →
+            result.messages ≡ length (messages (cut p)) }
     {
         self.framing.totals
     }

@@ -14,6 +14,7 @@ mod laws;
 mod lines;
 mod loading;
 mod open_message;
+mod piece_limit;
 mod runs;
 mod saving;
 mod slots;

@@ -1,6 +1,6 @@
 //! What is done to one message that has begun and not ended; it is `None` once it is over (faulted or ended).
 
-ghost use Rattle.std.specs.Prelude.{◌≡◌, ◌+◌, ◌≤◌, ◌^◌, ℕ, List, length, Option, None, OnOk, IfOk, if◌then◌else◌};
+ghost use Rattle.std.specs.Prelude.{◌≡◌, ◌+◌, ◌≤◌, ◌^◌, ℕ, false, List, [], length, Option, None, OnOk, IfOk, if◌then◌else◌};
 ghost use Rattle.giop_sig.specs.Table.{Table};
 ghost use Rattle.giop_message.specs.Signatures.{Answers};
 ghost use Rattle.giop_message.specs.ReaderOfTable.{message_reader};
@@ -64,6 +64,18 @@ pub fn take_octets<O: Out, Q: Correspondent>(
     }
     forget(message);
     Ok(true)
+}
+
+/// Whether the header of a message is still to end; of one that is over none ends.
+pub fn is_in_header(message: &Option<Message>) -> bool
+    ensures { result ≡ false → (C : Table) (a : Answers) (n : ℕ) (w : MessageKey) (o : Option (List ℕ))
+        (octets : List ℕ) → IsReady C n message.now → RepresentsMessage C a message.now w o →
+        run_header_ends w o octets ≡ [] }
+{
+    match message {
+        Some(m) => m.is_in_header(),
+        None => false,
+    }
 }
 
 /// Faults a message of this number, unless it is over; returns whether it does.

@@ -1,6 +1,6 @@
 //! The messages that have begun and not ended: the open ones in their slots, and the current one, which is being read.
 
-ghost use Rattle.std.specs.Prelude.{◌≡◌, ◌+◌, ◌≤◌, ◌^◌, ℕ, [], length, Option, Some, None, OnOk, IfOk, if◌then◌else◌};
+ghost use Rattle.std.specs.Prelude.{◌≡◌, ◌+◌, ◌≤◌, ◌^◌, ℕ, false, [], length, Option, Some, None, OnOk, IfOk, if◌then◌else◌};
 ghost use Rattle.giop_print.specs.Output.{Writes};
 ghost use Rattle.giop_sig.specs.Table.{Table};
 ghost use Rattle.giop_message.specs.Signatures.{Answers};
@@ -10,7 +10,7 @@ ghost use Rattle.giop_stream.specs.Rules.{most_open};
 ghost use Rattle.giop_stream.specs.Effects.{Tracked, IsNotOpen};
 
 use crate::fault::FramingFault;
-use crate::open_message::{close_message, fault_message, take_octets};
+use crate::open_message::{close_message, fault_message, is_in_header, take_octets};
 use giop_entry_table::EntryTable;
 use giop_message::{Correspondent, Message};
 use giop_print::{Out, OutFault, cancelled_line, unfinished_line};
@@ -180,6 +180,23 @@ impl Slots {
                 None => Ok(false),
             },
             Payload::Nobody => Ok(false),
+        }
+    }
+
+    /// Whether the header of the payload's owner is still to end.
+    pub fn is_in_header(&self) -> bool
+        ensures { result ≡ false → (C : Table) (a : Answers) (n : ℕ) (c : Tracked)
+            (owner_of_next : Option MessageKey) (octets : List ℕ) → AreReady C n self.now →
+            SlotsRepresent C a self.now c owner_of_next →
+            owner_header_ends c owner_of_next octets ≡ [] }
+    {
+        match self.payload {
+            Payload::Own => is_in_header(&self.own),
+            Payload::Open(k) => match self.slots.get(k) {
+                Some(slot) => is_in_header(&slot.message),
+                None => false,
+            },
+            Payload::Nobody => false,
         }
     }
 

@@ -202,9 +202,9 @@ from_one R p x = append-nil (header_ends_at R p x)
 
 -- ---- octets of a header that they do not complete
 
-record Heads (p : List ℕ) (n : ℕ) : Type 0 where
-  no_current : (cut p).current ≡ None
-  few : length (cut p).held + n < 12
+pub record Heads (p : List ℕ) (n : ℕ) : Type 0 where
+  pub no_current : (cut p).current ≡ None
+  pub few : length (cut p).held + n < 12
 
 abbrev Right : ℕ → Cut → Type 0
 Right k c = (c.current ≡ None) × (length c.held + k < 12)
@@ -215,7 +215,7 @@ unfolding header_case
 head_case first n whole front (Some word) k h = (refl, omega (arith, h))
 head_case first n whole front None k h = rw (ne_eqb (length front) 12 (λ e. omega (arith, h, e))) (refl, h)
 
-heads_on : (p : List ℕ) (x k : ℕ) → Heads p (suc k) → Heads (p ++ x ∷ []) k
+pub heads_on : (p : List ℕ) (x k : ℕ) → Heads p (suc k) → Heads (p ++ x ∷ []) k
 unfolding of_parts
 heads_on p x k h = let both = go (cut p).stop refl in record { no_current = both.0; few = both.1 }
   where

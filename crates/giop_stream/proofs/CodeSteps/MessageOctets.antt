@@ -148,7 +148,7 @@ module _ (C : Table) (l : Answers) (most : ℕ) (s : State) (reached : IsReached
             let same : m.header ≡ (cut p).held = header_at ∙ ap (λ (o : Option Message). header_of o (cut p).held) e in
             absurd (omega (arith, full, ap length same, fits_at.short))
 
-  messages_at : m.totals.messages ≡ length (messages (cut p))
+  pub messages_at : m.totals.messages ≡ length (messages (cut p))
   unfolding state_of tally
   messages_at = ap (λ (t : Totals). t.messages) at_p.totals ∙ so.starts
 
@@ -299,6 +299,10 @@ module _ (C : Table) (l : Answers) (most : ℕ) (s : State) (reached : IsReached
 
     pub come_is : m.payload_count ≡ length c.payload
     come_is = come_at free ∙ ap payload_count_of cur
+
+    -- its last octet is still to come
+    pub lacks_at : length c.payload < size c.header
+    lacks_at = at_hand.lacks
 
     all_messages : length (messages (cut p)) ≡ length (cut p).whole + 1
     unfolding messages

@@ -13,7 +13,7 @@ use Rattle.giop_stream.proofs.Cuts.Cutting.{next, parts_by, cut_grows, next_stop
 use Rattle.giop_stream.proofs.Events.AfterMoreEvents.{message_lines_same, lines_stopped}
 use Rattle.giop_stream.proofs.CodeSteps.EngineAlive.{early_events}
 
-cut_stays : (p : List ℕ) (x : ℕ) (found : ℕ × StreamFault) → (cut p).stop ≡ Some found → cut (p ++ x ∷ []) ≡ cut p
+pub cut_stays : (p : List ℕ) (x : ℕ) (found : ℕ × StreamFault) → (cut p).stop ≡ Some found → cut (p ++ x ∷ []) ≡ cut p
 cut_stays p x found h =
     let parts = parts_by (cut p) (cut p).current (Some found) refl h in
     cut_grows p x ∙ (ap (next (length p) x) parts ∙ (next_stopped (cut p).whole (cut p).current (cut p).held found (length p) x ∙ sym parts))

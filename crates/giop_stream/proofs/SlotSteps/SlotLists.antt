@@ -124,6 +124,12 @@ pub all_later : (C : Table) (n n' : ℕ) (ks : List OpenEntry) → n ≤ n' → 
 all_later C n n' [] less h = tt
 all_later C n n' (k ∷ ks) less h = (later_ready C n n' k.value.message less h.0, all_later C n n' ks less h.1)
 
+pub ready_at : (C : Table) (n : ℕ) (ks : List OpenEntry) (k : ℕ) (v : Contents) → option_map (λ e. e.value) (slice_get ks k) ≡ Some v
+    → Each (λ slot. IsReady C n slot.value.message) ks → IsReady C n v.message
+ready_at C n [] k v e hs = absurd cc
+ready_at C n (y ∷ ks) zero v e hs = let same : y.value ≡ v = cc in rw same at hs.0
+ready_at C n (y ∷ ks) (suc k) v e hs = ready_at C n ks k v e hs.1
+
 pub value_ready : (C : Table) (n : ℕ) (ks : List OpenEntry) (k : ℕ) (v : Contents) → IsReady C n v.message
     → Each (λ slot. IsReady C n slot.value.message) ks → Each (λ slot. IsReady C n slot.value.message) (revalued ks k v)
 value_ready C n [] k v h hs = tt

@@ -11,4 +11,4 @@ returns-in_err-flush-clause-closed g c =
 
 pub returns-clause-closed : goal.returns-clause-closed
 returns-clause-closed g c =
-    λ p h. rw c.totals-totals.ensures (closed_kept c.args.engine p _ _ _ h c.in_ok-flush.ensures.flushed)
+    λ p h. rw c.totals-totals.ensures.value (closed_kept c.args.engine p _ _ _ h c.in_ok-flush.ensures.flushed)

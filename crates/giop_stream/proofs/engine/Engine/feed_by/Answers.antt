@@ -10,6 +10,8 @@ use Rattle.giop_stream.specs.EngineHolds.{added, status_of}
 use Rattle.giop_stream.proofs.SlotSteps.Parts.{in_turn}
 use Rattle.giop_stream.proofs.SlotSteps.Adding.{added_text}
 use Rattle.giop_stream.proofs.CodeSteps.EngineLaws.{run_holds, stop_is}
+use Rattle.giop_stream.proofs.CodeSteps.StreamAgreement.{held_agree}
+use Rattle.giop_stream.proofs.CodeSteps.AnswersGoOn.{goes_on}
 use Rattle.giop_stream.proofs.engine.Engine.feed_by.Goals as goal
 
 pub returns-in-Ok-clause-held : goal.returns-in-Ok-clause-held
@@ -65,3 +67,24 @@ returns-in-Ok-clause-told g c a p h agrees =
     let C = c.self.inside.catalogue.now in
     let R = rules_by C a c.self.inside.framing.slots.slots.most in
     rw (← c.self.view_is) (c.in-Ok.ensures.told a (state_of R p) (record { stream = p; octets = held.octets; held = refl }) held.shows (rw (← c.self.view_is) at agrees))
+
+-- By answers that agree with the correspondent, and with those by which the stream was read, as there always are.
+pub returns-in-Ok-clause-cause : goal.returns-in-Ok-clause-cause
+returns-in-Ok-clause-cause g c a p h =
+    let held = rw (← c.self.view_is) at h in
+    let C = c.self.inside.catalogue.now in
+    let most = c.self.inside.framing.slots.slots.most in
+    let some = goes_on C most g.Q.Correspondent.answer g.Q.Correspondent.notified c.args.piece.now p a (g.Q.Correspondent.state c.args.correspondent.now) in
+    let agreeing = held_agree _ a some.0 p some.1 held in
+    let does = c.in-Ok.ensures.does some.0 (state_of (rules_by C some.0 most) p) (record { stream = p; octets = held.octets; held = refl }) agreeing.shows some.2 in
+    (tt, does.text.failures)
+
+pub returns-in-Err-clause-cause : goal.returns-in-Err-clause-cause
+returns-in-Err-clause-cause g c a p h =
+    let held = rw (← c.self.view_is) at h in
+    let C = c.self.inside.catalogue.now in
+    let most = c.self.inside.framing.slots.slots.most in
+    let some = goes_on C most g.Q.Correspondent.answer g.Q.Correspondent.notified c.args.piece.now p a (g.Q.Correspondent.state c.args.correspondent.now) in
+    let agreeing = held_agree _ a some.0 p some.1 held in
+    let does = c.in-Err.ensures.does some.0 (state_of (rules_by C some.0 most) p) (record { stream = p; octets = held.octets; held = refl }) agreeing.shows some.2 in
+    (does.text.failures, tt)
