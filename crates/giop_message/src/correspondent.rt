@@ -6,7 +6,7 @@ ghost use Rattle.giop_sig.specs.Table.{Table};
 ghost use Rattle.giop_sig.specs.RequestList.{kept_operation};
 ghost use Rattle.giop_message.specs.Signatures.{RequestTable, Answer};
 ghost use Rattle.giop_message.specs.MessageState.{AreKnown};
-ghost use Rattle.giop_message.specs.HeaderEnds.{CallEvent, Requested, Replied, HasKnownOperation};
+ghost use Rattle.giop_message.specs.HeaderEnds.{CallEvent, Requested, Replied, Raised, HasKnownOperation};
 
 use giop_sig::{OpId, Requests};
 
@@ -46,6 +46,12 @@ pub trait Correspondent {
     fn answered(&mut self, number: u64, id: u32)
         ensures { state self.new ≡ notified (state self.old) (Replied number id) };
 
+    /// A Reply raises an exception whose name is complete: the message's number in its stream, from 1, and the repository
+    /// id of a user exception, once it has ended, or of a system exception, once its body has ended, if a call line could
+    /// show it.
+    fn raised(&mut self, number: u64, name: &[u8])
+        ensures { state self.new ≡ notified (state self.old) (Raised number name.now) };
+
     /// Where it answers operations of a table alone, and is told of one of that table, it still does.
     ghost known: { (C : Table) (s : State) (event : CallEvent) → AreKnown C (answer s) →
         HasKnownOperation C event → AreKnown C (answer (notified s event)) };
@@ -75,6 +81,8 @@ impl<'a> Correspondent for &'a Requests {
     ) {}
 
     fn answered(&mut self, _number: u64, _id: u32) {}
+
+    fn raised(&mut self, _number: u64, _name: &[u8]) {}
 
     ghost known = { λ C s event k h. k };
 }

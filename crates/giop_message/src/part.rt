@@ -15,6 +15,8 @@ pub enum Section {
     Header,
     /// The repository id of an exception.
     Exception,
+    /// The body of a system exception.
+    SystemException,
     Body,
 }
 
@@ -28,6 +30,7 @@ impl Section {
         match self {
             Section::Header => Root::Header,
             Section::Exception => Root::Exception,
+            Section::SystemException => Root::Body,
             Section::Body => Root::Body,
         }
     }

@@ -7,7 +7,7 @@ use Rattle.giop_checkpoint.specs.declared.fault.StreamFault.{StreamFault}
 use Rattle.giop_sig.specs.Table.{Table}
 use Rattle.giop_decode.specs.Noted.{Noted}
 use Rattle.giop_message.specs.Signatures.{Answer, Answers, signatures_of}
-use Rattle.giop_message.specs.HeaderEnds.{HeaderEnd, CallEvent, header_end, header_noted, header_ends, call_event, after_event, AgreesAtEnds}
+use Rattle.giop_message.specs.HeaderEnds.{HeaderEnd, CallEvent, Header_end, header_noted, header_ends, call_event, after_event, AgreesAtEnds}
 use Rattle.giop_message.proofs.MessageLaws.{header_noted_before, is_causal}
 use Rattle.giop_stream.specs.Rules.{Rules, rules_by}
 use Rattle.giop_stream.specs.HeaderOctets.{fronts}
@@ -190,7 +190,7 @@ module _ (C : Table) (most : ℕ) where
     known : octets_of (R a) p w.number ≡ Some s
     before : header_noted w.header s ≡ None
     now : header_noted w.header (s ++ x ∷ []) ≡ Some n
-    ends : header_ends_at (R a) p x ≡ header_end w.number w.header n ∷ []
+    ends : header_ends_at (R a) p x ≡ Header_end w.number w.header n ∷ []
 
   ends_case : (a : Answers) (p : List ℕ) (x : ℕ) → (header_ends_at (R a) p x ≡ []) ⊎ EndsHere a p x
   unfolding header_ends tracked_after
@@ -304,7 +304,7 @@ module _ (C : Table) (most : ℕ) where
           let ends : header_ends_at (R b) p x ≡ [] = sym (ends_agree p x a b agree) ∙ none in
           (b, agree, subst (λ (es : List HeaderEnd). AgreesAtEnds answer notified C st b (es ++ header_ends_from (R b) (p ++ x ∷ []) q)) (sym ends) more.2)
       | inr h ↦
-          let e = header_end h.w.number h.w.header h.n in
+          let e = Header_end h.w.number h.w.header h.n in
           let now = put a p x h (answer st) in
           let more = goes_on q (p ++ x ∷ []) now (after_event notified st (call_event C e)) in
           let b = more.0 in
