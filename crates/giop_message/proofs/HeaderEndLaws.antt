@@ -16,8 +16,8 @@ use Rattle.giop_message.specs.Signatures.{Answer, Answers, signatures_of}
 use Rattle.giop_message.specs.Messages.{Stage, In_typed, In_padding, In_rest, Over, section_then, of_header, rest, message, message_lines, stage_of, close, is_request, after_header}
 use Rattle.giop_message.specs.ReaderOfTable.{is_over, timed_line_of, closing_of, remarks_by, closes_by}
 use Rattle.giop_message.specs.MessageState.{is_header}
-use Rattle.giop_message.proofs.Raises.{is_settled, raised_stays, raised_settled, raised_before}
-use Rattle.giop_message.specs.HeaderEnds.{HeaderEnd, CallEvent, noted_if_whole, noted_by_type, header_noted, ends_between, raised, raises_between, header_ends, call_event, after_event, after_ends, AgreesAtEnds}
+use Rattle.giop_message.proofs.Raises.{is_settled, raised_stays, raised_settled, raised_before, raised_apart}
+use Rattle.giop_message.specs.HeaderEnds.{HeaderEnd, Header_end, Exception_end, CallEvent, noted_if_whole, noted_by_type, header_noted, ends_between, raised, raises_between, header_ends, call_event, after_event, after_ends, AgreesAtEnds}
 
 -- ---- what is noted of a whole header stays the same
 
@@ -129,6 +129,40 @@ header_ends_none number header s = rw (append-nil s, raises_same number (raised 
     go : (o : Option Noted) → ends_between number header o o ++ [] ≡ []
     go None = refl
     go (Some h) = refl
+
+-- ---- one octet ends a header, or a name, or neither
+
+name_or_none : (number : ℕ) (a b : Option (List ℕ)) →
+    (raises_between number a b ≡ []) ⊎ ((name : List ℕ) × (raises_between number a b ≡ Exception_end number name ∷ []))
+name_or_none number (Some n) b = inl refl
+name_or_none number None None = inl refl
+name_or_none number None (Some n) = inr (n, refl)
+
+pub one_octet : (number : ℕ) (header s : List ℕ) (x : ℕ) →
+    (header_ends number header s (x ∷ []) ≡ [])
+    ⊎ (((n : Noted) × (header_noted header s ≡ None) × (header_noted header (s ++ x ∷ []) ≡ Some n)
+    × (header_ends number header s (x ∷ []) ≡ Header_end number header n ∷ []))
+    ⊎ ((name : List ℕ) × (header_ends number header s (x ∷ []) ≡ Exception_end number name ∷ [])))
+unfolding header_ends
+one_octet number header s x = go (header_noted header s) (header_noted header (s ++ x ∷ [])) refl refl
+  where
+    Before : Option (List ℕ)
+    Before = raised header s
+
+    Now : Option (List ℕ)
+    Now = raised header (s ++ x ∷ [])
+
+    go : (o q : Option Noted) → header_noted header s ≡ o → header_noted header (s ++ x ∷ []) ≡ q →
+        (ends_between number header o q ++ raises_between number Before Now ≡ [])
+        ⊎ (((n : Noted) × (o ≡ None) × (q ≡ Some n)
+        × (ends_between number header o q ++ raises_between number Before Now ≡ Header_end number header n ∷ []))
+        ⊎ ((name : List ℕ) × (ends_between number header o q ++ raises_between number Before Now ≡ Exception_end number name ∷ [])))
+    go (Some h) q e f = elim (name_or_none number Before Now) [
+      | inl none ↦ inl none
+      | inr one ↦ inr (inr one)
+    ]
+    go None None e f = inl (rw (raised_before header s e, raised_before header (s ++ x ∷ []) f) refl)
+    go None (Some n) e f = inr (inl (n, refl, refl, rw (raised_before header s e, raised_apart header s x e) refl))
 
 -- ---- none where a message is past its header
 

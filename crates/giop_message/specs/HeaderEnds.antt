@@ -1,5 +1,5 @@
--- Where the header of a message ends, and the name of an exception that a Reply raises, and what the correspondent, the
--- other side of the conversation, is told there (meaning).
+-- Where the header of a message ends, where the name of an exception that a Reply raises does, and what the correspondent,
+-- the other side of the conversation, is told there (meaning).
 use Rattle.std.specs.Prelude.{◌≡◌, ◌<◌, ℕ, Bool, true, false, List, [], ◌∷◌, ◌++◌, length, Option, Some, None, IfSome, option_and_then, option_map, ◌==◌, ◌+◌, nat_lt, drop, if◌then◌else◌}
 use Rattle.giop_sig.specs.declared.types.OpId.{OpId}
 use Rattle.giop_cdr.specs.Alignment.{padding}

@@ -11,7 +11,7 @@ ghost use Rattle.giop_message.specs.HeaderEnds.{CallEvent, Requested, Replied, R
 use giop_sig::{OpId, Requests};
 
 /// What is known of the calls that the replies of a stream answer. Where the header of a Reply ends it is asked, if the
-/// body has results; then it is told of that header.
+/// body has results; then it is told of that header, and later of the exception that the Reply raises.
 pub trait Correspondent {
     /// What it knows.
     ghost State: { Type 0 };
@@ -46,9 +46,10 @@ pub trait Correspondent {
     fn answered(&mut self, number: u64, id: u32)
         ensures { state self.new ≡ notified (state self.old) (Replied number id) };
 
-    /// A Reply raises an exception whose name is complete: the message's number in its stream, from 1, and the repository
-    /// id of a user exception, once it has ended, or of a system exception, once its body has ended, if a call line could
-    /// show it.
+    /// A Reply raises an exception: the message's number in its stream, from 1, and the exception's name, of 1 to 128
+    /// octets, each in 21..7e. Of a USER_EXCEPTION it is the repository id, told once that has ended; of a
+    /// SYSTEM_EXCEPTION the exception_id, told once its body has ended. Of another name nothing is told (GIOP Message
+    /// Formats, Reply Body).
     fn raised(&mut self, number: u64, name: &[u8])
         ensures { state self.new ≡ notified (state self.old) (Raised number name.now) };
 

@@ -82,7 +82,7 @@ impl Message {
             AgreesAtEnds Q.answer Q.notified catalogue.now (Q.state correspondent.old) answers
             (header_ends number header s octets.now) →
             TookAll catalogue.now answers number header self.new s octets.now found) }
-        // and the correspondent was told of the header.
+        // and the correspondent was told of the header, and of the exception that a Reply raises.
         ensures told { IfOk result (λ found. (answers : Answers) (number : ℕ) (header s : List ℕ) →
             Follows catalogue.now answers number header self.old s →
             AgreesAtEnds Q.answer Q.notified catalogue.now (Q.state correspondent.old) answers
