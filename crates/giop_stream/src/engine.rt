@@ -295,11 +295,11 @@ impl<'a> Engine<'a> {
     }
 
     /// How many of the next octets may be fed in one piece, so that behind no octet but the piece's last a message's
-    /// header of 12 octets is complete, or the header of a message ends: at least one. Who writes lines of their own
-    /// behind such octets feeds pieces of at most this many.
+    /// header of 12 octets is complete, or the header of a message or the name of the exception that it raises ends: at
+    /// least one. Who writes lines of their own behind such octets feeds pieces of at most this many.
     pub fn piece_limit(&self) -> usize
         ensures some { 1 ≤ result }
-        // Fewer octets complete no header.
+        // Fewer octets complete no header, and no name.
         ensures quiet { (a : Answers) (p octets : List ℕ) → HoldsBy self.now a p →
             length octets < result → IsQuiet (rules_with self.now a) p octets }
     {

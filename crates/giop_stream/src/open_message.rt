@@ -66,14 +66,15 @@ pub fn take_octets<O: Out, Q: Correspondent>(
     Ok(true)
 }
 
-/// Whether the header of a message is still to end; of one that is over none ends.
-pub fn is_in_header(message: &Option<Message>) -> bool
+/// Whether the header of a message, or the name of the exception that it raises, may still end; of one that is over none
+/// does.
+pub fn may_tell(message: &Option<Message>) -> bool
     ensures { result ≡ false → (C : Table) (a : Answers) (n : ℕ) (w : MessageKey) (o : Option (List ℕ))
         (octets : List ℕ) → IsReady C n message.now → RepresentsMessage C a message.now w o →
         run_header_ends w o octets ≡ [] }
 {
     match message {
-        Some(m) => m.is_in_header(),
+        Some(m) => m.may_tell(),
         None => false,
     }
 }

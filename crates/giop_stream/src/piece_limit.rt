@@ -1,4 +1,4 @@
-//! How many octets may come in one piece before one that begins a message or may end a header.
+//! How many octets may come in one piece before one that begins a message, or may end a header or the name of an exception.
 
 ghost use Rattle.std.specs.Prelude.{◌≡◌, ◌+◌, ◌≤◌, ◌<◌, ℕ, List, length};
 
@@ -18,7 +18,8 @@ impl Framing {
     ghost use Rattle.giop_stream.specs.FramingView.{framing_view};
     ghost use Rattle.giop_stream.specs.ViewOfState.{Shows, IsReached};
 
-    /// How many of the next octets may come in one piece: before the last of them no message begins, and no header ends.
+    /// How many of the next octets may come in one piece: before the last of them no message begins, and no header and no
+    /// name of an exception ends.
     pub fn piece_limit(&self) -> usize
         ensures some { 1 ≤ result }
         ensures quiet { (C : Table) (a : Answers) (s : State) (octets : List ℕ)
@@ -34,7 +35,7 @@ impl Framing {
         if held < HEADER {
             return HEADER - held;
         }
-        if self.payload_count < 4 || self.slots.is_in_header() {
+        if self.payload_count < 4 || self.slots.may_tell() {
             return 1;
         }
         let left = size_of(self.header.as_slice()).saturating_sub(self.payload_count);

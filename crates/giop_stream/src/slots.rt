@@ -10,7 +10,7 @@ ghost use Rattle.giop_stream.specs.Rules.{most_open};
 ghost use Rattle.giop_stream.specs.Effects.{Tracked, IsNotOpen};
 
 use crate::fault::FramingFault;
-use crate::open_message::{close_message, fault_message, is_in_header, take_octets};
+use crate::open_message::{close_message, fault_message, may_tell, take_octets};
 use giop_entry_table::EntryTable;
 use giop_message::{Correspondent, Message};
 use giop_print::{Out, OutFault, cancelled_line, unfinished_line};
@@ -183,17 +183,17 @@ impl Slots {
         }
     }
 
-    /// Whether the header of the payload's owner is still to end.
-    pub fn is_in_header(&self) -> bool
+    /// Whether a header or the name of an exception may still end in the payload of its owner.
+    pub fn may_tell(&self) -> bool
         ensures { result ≡ false → (C : Table) (a : Answers) (n : ℕ) (c : Tracked)
             (owner_of_next : Option MessageKey) (octets : List ℕ) → AreReady C n self.now →
             SlotsRepresent C a self.now c owner_of_next →
             owner_header_ends c owner_of_next octets ≡ [] }
     {
         match self.payload {
-            Payload::Own => is_in_header(&self.own),
+            Payload::Own => may_tell(&self.own),
             Payload::Open(k) => match self.slots.get(k) {
-                Some(slot) => is_in_header(&slot.message),
+                Some(slot) => may_tell(&slot.message),
                 None => false,
             },
             Payload::Nobody => false,

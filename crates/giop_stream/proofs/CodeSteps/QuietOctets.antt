@@ -1,5 +1,5 @@
--- Octets in which no message begins and no header ends: those before the last octet of a header of 12, and those of a message
--- whose header has ended.
+-- Octets in which no message begins, and no header and no name of an exception ends: those before the last octet of a header
+-- of 12, and those of a message of which nothing more is told.
 use Rattle.std.proofs.Common.{inl, inr, ◌≡◌, ℕ, suc, ◌+◌, ◌-◌, ◌<◌, ◌≤◌, Bool, true, false, List, [], ◌∷◌, ◌++◌, length, Option, Some, None, refl, sym, ap, subst, ◌∙◌, append_assoc, append-nil, arith}
 use Rattle.std.specs.Prelude.{◌⊎◌, ◌==◌, is_some, nat_lt}
 use Rattle.std.proofs.lemmas.Bool.{cases_lt, lt-ltb, le-ltb, ne_eqb, false≢true}
@@ -33,7 +33,7 @@ use Rattle.giop_stream.proofs.CodeSteps.PayloadRunSteps.{Within, within_on, octe
 use Rattle.giop_stream.proofs.CodeSteps.MessageOctets.{runs_on, header_at, knows_at, no_current, has_current, header_is, come_is, lacks_at}
 use Rattle.giop_stream.proofs.CodeSteps.HeaderEndSteps.{Heads, heads_on, owner_on, at_free, at_none, at_stop, at_limit}
 
--- no octets of their owner end its header
+-- no octets of their owner end its header or a name
 abbrev pub Settled : Tracked → Option MessageKey → Type 0
 Settled c who = (octets : List ℕ) → owner_header_ends c who octets ≡ []
 

@@ -25,5 +25,5 @@ returns-clause-quiet c C a s octets r ready h less =
     (none_by c.args.self.now.stopped (sym c.is_some.ensures ∙ c.if-is_some.false))
     (omega (arith, c.len-held.ensures.value, c.len-held.ensures.fits, c.if-held-lt-HEADER.false))
     (omega (arith, c.if-self-lt4.false))
-    (λ tracked who keeps q. c.is_in_header.ensures c.if-is_in_header.false C a _ tracked who q ready keeps)
+    (λ tracked who keeps q. c.may_tell.ensures c.if-may_tell.false C a _ tracked who q ready keeps)
     (omega (arith, less, c.saturating_sub-left.ensures, c.size_of.ensures, left))
