@@ -1,6 +1,6 @@
 //! Where a correspondent is told of the exception that a Reply raises.
 ghost use Rattle.std.specs.Prelude.{ℕ, Option, None};
-ghost use Rattle.giop_message_tests.specs.Heard.{heard};
+ghost use Rattle.giop_message_tests.specs.Listened.{listened};
 
 use crate::known::{front, spelled};
 use giop_message::{Correspondent, Message};
@@ -23,7 +23,7 @@ impl Correspondent for Listener {
 
     ghost answer = { λ raised id. None };
 
-    ghost notified = { heard };
+    ghost notified = { listened };
 
     fn operation(&self, _id: u32) -> Option<OpId> {
         None

@@ -3,7 +3,7 @@
 use Rattle.std.specs.Prelude.{ℕ, Option, Some, length}
 use Rattle.giop_message.specs.HeaderEnds.{CallEvent, Requested, Replied, Raised}
 
-abbrev pub heard : Option (ℕ × ℕ) → CallEvent → Option (ℕ × ℕ)
-heard before (Requested number id name operation expects) = before
-heard before (Replied number id) = before
-heard before (Raised number name) = Some (number, length name)
+abbrev pub listened : Option (ℕ × ℕ) → CallEvent → Option (ℕ × ℕ)
+listened before (Requested number id name operation expects) = before
+listened before (Replied number id) = before
+listened before (Raised number name) = Some (number, length name)
