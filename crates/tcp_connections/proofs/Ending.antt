@@ -105,10 +105,10 @@ either : {X : Type 0} (P : X → Type 0) (b : Bool) (x y : X) → P x → P y �
 either P true x y p q = p
 either P false x y p q = q
 
-shut_tail : (id : ℕ) (others : List ℕ) (g : Flow) (cause : CloseCause) → IsOther id others → IsTail id others g
+closing_tail : (id : ℕ) (others : List ℕ) (g : Flow) (cause : CloseCause) → IsOther id others → IsTail id others g
     → IsTail id others (record { id = g.id; next = g.next; live = None; fin = g.fin; held = g.held; events = g.events ++ Closes g.id cause ∷ [] })
 unfolding behind
-shut_tail id others g cause o t =
+closing_tail id others g cause o t =
     let more : lives (g.events ++ Closes g.id cause ∷ []) ≡ without id (lives g.events) = lives_more [] g.events (Closes g.id cause) ∙ ap (λ (n : ℕ). without n (lives g.events)) t.same in
     record {
       same = t.same;
@@ -123,7 +123,7 @@ closed_tail : (id : ℕ) (others : List ℕ) (g : Flow) (cause : CloseCause) →
 unfolding closed with_event
 closed_tail id others g cause o t =
     either (IsTail id others) (is_some g.live) (record { id = g.id; next = g.next; live = None; fin = g.fin; held = g.held; events = g.events ++ Closes g.id cause ∷ [] }) g
-    (shut_tail id others g cause o t) t
+    (closing_tail id others g cause o t) t
 
 delivered_tail : (F : Reader) (id : ℕ) (others : List ℕ) (g : Flow) (p : Payload) → IsOther id others → IsTail id others g → IsTail id others (delivered F g p)
 unfolding delivered with_event behind
@@ -131,7 +131,7 @@ delivered_tail F id others g p o t =
     let more = lives_more [] g.events (Delivers g.id p.octets) in
     let d : Flow = record { id = g.id; next = onward p.number (length p.octets); live = g.live; fin = g.fin; held = g.held; events = g.events ++ Delivers g.id p.octets ∷ [] } in
     let u : IsTail id others d = record { same = t.same; tail = elim t.tail [ inl e ↦ inl (more ∙ e) | inr e ↦ inr (more ∙ e) ] } in
-    either (IsTail id others) (F d.events) (record { id = d.id; next = d.next; live = None; fin = d.fin; held = d.held; events = d.events ++ Closes d.id Fault ∷ [] }) d (shut_tail id others d Fault o u) u
+    either (IsTail id others) (F d.events) (record { id = d.id; next = d.next; live = None; fin = d.fin; held = d.held; events = d.events ++ Closes d.id Fault ∷ [] }) d (closing_tail id others d Fault o u) u
 
 begun_last : (id : ℕ) (others xs : List ℕ) → IsOther id others → without id xs ≡ others → begun id xs ≡ others ++ id ∷ []
 unfolding begun
