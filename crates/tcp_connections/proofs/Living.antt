@@ -50,10 +50,10 @@ either : {X : Type 0} (P : X → Type 0) (b : Bool) (x y : X) → P x → P y �
 either P true x y p q = p
 either P false x y p q = q
 
-closing : (id : ℕ) (es : List Event) (g : Flow) (cause : CloseCause) → IsTurn id es g
+closing_turn : (id : ℕ) (es : List Event) (g : Flow) (cause : CloseCause) → IsTurn id es g
     → IsTurn id es (record { id = g.id; next = g.next; live = None; fin = g.fin; held = g.held; events = g.events ++ Closes g.id cause ∷ [] })
 unfolding behind
-closing id es g cause t =
+closing_turn id es g cause t =
     record {
       same = t.same;
       own = λ e. absurd (true≢false (sym e));
@@ -64,7 +64,7 @@ pub closed_turn : (id : ℕ) (es : List Event) (g : Flow) (cause : CloseCause) �
 unfolding closed with_event
 closed_turn id es g cause t =
     either (IsTurn id es) (is_some g.live) (record { id = g.id; next = g.next; live = None; fin = g.fin; held = g.held; events = g.events ++ Closes g.id cause ∷ [] }) g
-    (closing id es g cause t) t
+    (closing_turn id es g cause t) t
 
 delivered_turn : (F : Reader) (id : ℕ) (es : List Event) (g : Flow) (p : Payload) → IsTurn id es g → IsTurn id es (delivered F g p)
 unfolding delivered with_event behind
@@ -77,7 +77,7 @@ delivered_turn F id es g p t =
       own = λ e. subst (λ (xs : List ℕ). 0 < times id xs) (sym more) (t.own e);
       beside = λ j n. ap (times j) more ∙ t.beside j n;
     } in
-    either (IsTurn id es) (F d.events) (record { id = d.id; next = d.next; live = None; fin = d.fin; held = d.held; events = d.events ++ Closes d.id Fault ∷ [] }) d (closing id es d Fault u) u
+    either (IsTurn id es) (F d.events) (record { id = d.id; next = d.next; live = None; fin = d.fin; held = d.held; events = d.events ++ Closes d.id Fault ∷ [] }) d (closing_turn id es d Fault u) u
 
 begun_turn : (F : Reader) (id : ℕ) (es : List Event) (g : Flow) (q : Payload) (r : Option ℕ) → id < most_ids → IsTurn id es g → IsTurn id es (flow_begun F g q r)
 unfolding flow_begun with_event behind

@@ -2,6 +2,8 @@
 #![tactic(auto)]
 
 #[cfg(test)]
+mod generated_rows;
+#[cfg(test)]
 mod rows;
 mod running;
 mod teller;

@@ -2,7 +2,7 @@
 
 ghost use Rattle.std.specs.Prelude.{◌≤◌, length, IfSome};
 
-use crate::teller::{Teller, Told};
+use crate::teller::Teller;
 use arrayvec::ArrayVec;
 use std::alloc::Global;
 use tcp_connections::Connections;
@@ -49,9 +49,10 @@ fn segment_of(step: Step) -> Option<Segment<'static>>
     })
 }
 
-/// What is told of segments, and of the end of the capture. None where there is no memory, a payload is too long, or
-/// fewer than 1 or more than 65,536 connections may be known.
-pub fn told_of(alloc: Global, connections: u32, steps: &[Step]) -> Option<Vec<Told>> {
+/// The listener behind segments, and the end of the capture, with room for so many events; or behind those up to the one at
+/// which it failed. None where there is no memory, a payload is too long, or fewer than 1 or more than 65,536 connections may
+/// be known.
+pub fn told_of(alloc: Global, connections: u32, room: usize, steps: &[Step]) -> Option<Teller> {
     if connections == 0 || connections > 65_536 {
         return None;
     }
@@ -60,6 +61,7 @@ pub fn told_of(alloc: Global, connections: u32, steps: &[Step]) -> Option<Vec<To
     };
     let teller = Teller {
         told: Vec::new(alloc),
+        room,
         has_failed: false,
     };
     let Ok(mut streams) = Streams::new(alloc, teller) else {
@@ -71,12 +73,10 @@ pub fn told_of(alloc: Global, connections: u32, steps: &[Step]) -> Option<Vec<To
             return None;
         };
         if known.take(segment, &mut streams).is_err() {
-            return None;
+            return Some(streams.listener);
         }
         index += 1;
     }
-    if known.end(&mut streams).is_err() {
-        return None;
-    }
-    Some(streams.listener.told)
+    let _ended = known.end(&mut streams);
+    Some(streams.listener)
 }

@@ -16,10 +16,11 @@ pub enum Told {
     Closes(u32, CloseCause),
 }
 
-/// Keeps what it is told. Its readers are never at a fault, and it fails where there is no memory.
+/// Keeps what it is told. Its readers are never at a fault, and it fails where it has no room left, or no memory.
 #[derive(Drop)]
 pub struct Teller {
     pub told: Vec<Told>,
+    pub room: usize,
     pub has_failed: bool,
 }
 
@@ -27,7 +28,7 @@ impl Teller {
     fn tell(&mut self, told: Told) -> Result<(), ListenerFault>
         ensures { OnErr result (self.new.has_failed ≡ true) }
     {
-        if self.told.push(told).is_ok() {
+        if self.told.len() < self.room && self.told.push(told).is_ok() {
             return Ok(());
         }
         self.has_failed = true;
