@@ -1,5 +1,5 @@
--- The headers that end in octets of a stream, in the order in which they do (meaning). At each of them the correspondent
--- is asked and told (giop_message, HeaderEnds).
+-- The headers and the names of raised exceptions that end in octets of a stream, in the order in which they do (meaning). At
+-- each header the correspondent is asked, and at each of both it is told (giop_message, HeaderEnds).
 use Rattle.std.specs.Prelude.{ℕ, Bool, false, List, [], ◌∷◌, ◌++◌, length, Option, Some, None, is_none, ◌&&◌, nat_lt, if◌then◌else◌}
 use Rattle.giop_sig.specs.Table.{Table}
 use Rattle.giop_message.specs.Signatures.{Answers, signatures_of}
@@ -10,7 +10,7 @@ use Rattle.giop_stream.specs.Events.{MessageKey, open_after}
 use Rattle.giop_stream.specs.Effects.{Tracked, tracked_after}
 use Rattle.giop_stream.specs.PayloadOwner.{owner_of_next}
 
--- the header of a message that ends in `octets`, after the octets of it that came before; none of a message that is over
+-- what ends of a message in `octets`, after the octets of it that came before; nothing of a message that is over
 abbrev pub run_header_ends : MessageKey → Option (List ℕ) → List ℕ → List HeaderEnd
 run_header_ends w None octets = []
 run_header_ends w (Some s) octets = header_ends w.number w.header s octets
@@ -39,7 +39,7 @@ current_header_ends R p (Some m) octets = owner_header_ends (tracked_after R p) 
 unfoldable pub header_ends_at : Rules → List ℕ → ℕ → List HeaderEnd
 header_ends_at R p x = if is_none (cut p).stop && nat_lt (length p) limit then current_header_ends R p (cut p).current (x ∷ []) else []
 
--- the headers that end in these octets after the stream p
+-- what ends in these octets after the stream p
 unfoldable pub header_ends_from : Rules → List ℕ → List ℕ → List HeaderEnd
 header_ends_from R p [] = []
 header_ends_from R p (x ∷ xs) = header_ends_at R p x ++ header_ends_from R (p ++ x ∷ []) xs
