@@ -24,7 +24,6 @@ use Rattle.giop_decode.specs.Noted.{Noted, nothing_noted, noted, noted_of, is_he
 use Rattle.giop_decode.specs.DecoderState as decoders
 use Rattle.giop_decode.specs.Runs.{TakesRun, BreaksOff}
 use Rattle.giop_message.specs.declared.message.Message.{Message as Struct_of}
-use Rattle.giop_message.specs.declared.part.Part.{Part}
 use Rattle.giop_message.specs.declared.part.Section.{Section}
 use Rattle.giop_message.specs.declared.part.Part.TheVariants as parts
 use Rattle.giop_message.specs.declared.part.Section.TheVariants as sections
@@ -33,10 +32,10 @@ use Rattle.giop_message.specs.declared.body_type.BodyTypeId.{BodyTypeId}
 use Rattle.giop_message.specs.Headers.{minor, kind, order}
 use Rattle.giop_message.specs.Signatures.{Signatures, Answer, Answers, signatures_of}
 use Rattle.giop_message.specs.Messages.{LineAt, with_front, section_then, section_and_rest, message, message_lines, stage_of, root_of, after}
-use Rattle.giop_message.specs.HeaderEnds.{HeaderEnd, CallEvent, Header_end, noted_if_whole, noted_by_type, header_noted, ends_between, named_if_whole, raised, raises_between, header_ends, operation_of, raise_event, after_event, after_ends, AgreesAtEnds}
+use Rattle.giop_message.specs.HeaderEnds.{HeaderEnd, CallEvent, Header_end, noted_if_whole, noted_by_type, header_noted, ends_between, named_if_whole, raised, raises_between, header_ends, is_told, tells_more, may_tell, operation_of, raise_event, after_event, after_ends, AgreesAtEnds}
 use Rattle.giop_message.specs.ReaderOfTable.{first_request_id}
 use Rattle.giop_message.specs.Text.{fault_word}
-use Rattle.giop_message.specs.MessageState.{due_text, IsFirst, Decodes, Stands, FitsPart, Fits, is_header, in_header, is_told, may_tell, Follows, FaultedAt}
+use Rattle.giop_message.specs.MessageState.{due_text, IsFirst, Decodes, Stands, FitsPart, Fits, is_header, in_header, Follows, FaultedAt}
 use Rattle.giop_message.specs.MessageSteps.{request_call, section_event, Arrives, WritesRun}
 use Rattle.giop_message.proofs.Dues.{text_both}
 use Rattle.giop_message.proofs.HeaderEndLaws.{waits, past_none, settled_none, header_ends_both, answers_first}
@@ -290,6 +289,12 @@ body_short : (S : Signatures) (header : List ℕ) (h : Noted) (lines : List Line
 unfolding section_then stage_of is_settled
 body_short S header h lines at outer leaf = refl
 
+told_short : (S : Signatures) (header : List ℕ) (section : Section) (h : Noted) (lines : List Line)
+    (at : ℕ) (outer : List OpenPart) (leaf : Leaf) →
+    tells_more (stage_of (section_and_rest S header section h (Short lines at outer leaf))) ≡ is_told section
+unfolding section_then stage_of tells_more
+told_short S header section h lines at outer leaf = refl
+
 short_tail : (S : Signatures) (header : List ℕ) (section : Section) (before : List LineAt) (lines : List Line)
     (at : ℕ) (outer : List OpenPart) (leaf : Leaf) (xs : List ℕ) →
     tail_name header (offset_of (with_front before (section_and_rest S header section nothing_noted (Short lines at outer leaf)))) xs
@@ -340,6 +345,13 @@ module _ (t : Standing) where
   stands_short =
       let i = inside t in
       i.is ∙ ap (λ r. with_front (begun t).before (section_and_rest (S t) header section nothing_noted r)) i.was_short
+
+  -- whether more may be told
+  pub section_value : is_told section ≡ may_tell (S t) header s
+  unfolding may_tell
+  section_value =
+      sym (ap (λ z. tells_more (stage_of z)) stands_short
+      ∙ (ap tells_more (stage_front _ _) ∙ told_short (S t) header section nothing_noted _ _ _ _))
 
   -- another section ends none
   section_none : is_header section ≡ false → (more : List ℕ) →
@@ -516,12 +528,6 @@ module _ {t : Standing} {octets : List ℕ} {n : ℕ} {d' : Decoder} where
 
 -- ---- padding, and a rest
 
-body_only : (section : Section) → is_told section ≡ false → section ≡ sections.Body
-body_only sections.Header e = absurd (false≢true (sym e))
-body_only sections.Exception e = absurd (false≢true (sym e))
-body_only sections.SystemException e = absurd (false≢true (sym e))
-body_only sections.Body e = refl
-
 module _ {C : Table} {answers : Answers} {number : ℕ} {header : List ℕ} {m : Struct_of} {s : List ℕ}
     (f : Follows C answers number header m s) where
   pub padding_none : {body_type_id : BodyTypeId} → m.part ≡ parts.Padding body_type_id → (x : ℕ) →
@@ -539,17 +545,16 @@ module _ {C : Table} {answers : Answers} {number : ℕ} {header : List ℕ} {m :
       rw (past_none C (answers number) number header s more (ap (λ z. waits (stage_of z)) stands.1))
       (settled_none C (answers number) number header s more (ap (λ z. is_settled (stage_of z)) stands.1))
 
-  -- and no octet ends a header or a name where no more is told
-  pub nothing_told : Fits C m → may_tell m.part ≡ false → (more : List ℕ) → header_ends number header s more ≡ []
-  unfolding header_ends
-  nothing_told fits past = go m.part refl past
-    where
-      go : (part : Part) → m.part ≡ part → may_tell part ≡ false → (more : List ℕ) →
-          ends_between number header (header_noted header s) (header_noted header (s ++ more))
-          ++ raises_between number (raised header s) (raised header (s ++ more)) ≡ []
-      go (parts.Typed section d) is past more =
-          let t = standing f is fits in
-          let in_it = body_only section past in
-          rw (section_none t (ap is_header in_it) more, body_none t in_it more) refl
-      go (parts.Padding body_type_id) is past more = absurd (false≢true (sym past))
-      go (parts.Rest r) is past more = rest_none is more
+  -- whether more may be told
+  pub padding_value : {body_type_id : BodyTypeId} → m.part ≡ parts.Padding body_type_id →
+      true ≡ may_tell (signatures_of C (answers number)) header s
+  unfolding may_tell tells_more stage_of
+  padding_value {body_type_id} is =
+      let stands = subst (Stands C answers number header s) is f.stands in
+      sym (ap (λ z. tells_more (stage_of z)) stands.1)
+
+  pub rest_value : {r : Rest} → m.part ≡ parts.Rest r → false ≡ may_tell (signatures_of C (answers number)) header s
+  unfolding may_tell tells_more stage_of
+  rest_value {r} is =
+      let stands = subst (Stands C answers number header s) is f.stands in
+      sym (ap (λ z. tells_more (stage_of z)) stands.1)

@@ -11,8 +11,10 @@ use Rattle.giop_decode.specs.ReadResult.{plain, Read, Done, Short, Fault}
 use Rattle.giop_decode.specs.Reading.{read}
 use Rattle.giop_decode.specs.Noted.{Noted, nothing_noted, noted}
 use Rattle.giop_message.specs.Headers.{minor, kind, order}
-use Rattle.giop_message.specs.Signatures.{Answer, Answers}
-use Rattle.giop_message.specs.Messages.{is_shown}
+use Rattle.giop_message.specs.declared.part.Section.{Section}
+use Rattle.giop_message.specs.declared.part.Section.TheVariants as sections
+use Rattle.giop_message.specs.Signatures.{Signatures, Answer, Answers}
+use Rattle.giop_message.specs.Messages.{Stage, In_typed, In_padding, In_rest, Over, message, stage_of, is_shown}
 
 -- ---- where a header ends
 
@@ -92,6 +94,26 @@ unfoldable pub header_ends : ℕ → List ℕ → List ℕ → List ℕ → List
 header_ends number header s more =
     ends_between number header (header_noted header s) (header_noted header (s ++ more))
     ++ raises_between number (raised header s) (raised header (s ++ more))
+
+-- ---- where a header or a name may still end
+
+-- where it ends the correspondent is told of it: a header, and what has the name of an exception
+abbrev pub is_told : Section → Bool
+is_told sections.Header = true
+is_told sections.Exception = true
+is_told sections.SystemException = true
+is_told sections.Body = false
+
+unfoldable pub tells_more : Stage → Bool
+tells_more (In_typed section h outer leaf) = is_told section
+tells_more (In_padding b) = true
+tells_more (In_rest offset held) = false
+tells_more Over = false
+
+-- A message of this header and these octets after it is in its header, in the padding behind that, in the repository id of an
+-- exception, or in the body of a system exception. Elsewhere no header and no name ends any more.
+unfoldable pub may_tell : Signatures → List ℕ → List ℕ → Bool
+may_tell S header s = tells_more (stage_of (message S header s))
 
 -- ---- what is told there
 

@@ -139,19 +139,6 @@ in_header (parts.Typed section d) = is_header section
 in_header (parts.Padding body_type_id) = false
 in_header (parts.Rest r) = false
 
--- where it ends the correspondent is told of it: a header, and what has the name of an exception
-abbrev pub is_told : Section → Bool
-is_told sections.Header = true
-is_told sections.Exception = true
-is_told sections.SystemException = true
-is_told sections.Body = false
-
--- The correspondent may still be told: of the header, or, behind that and behind its padding, of the exception that is raised.
-abbrev pub may_tell : Part → Bool
-may_tell (parts.Typed section d) = is_told section
-may_tell (parts.Padding body_type_id) = true
-may_tell (parts.Rest r) = false
-
 -- The message's fields are those of a reading of its header and these octets after it. While the header is read its
 -- decoder has the request id.
 pub record Follows (C : Table) (answers : Answers) (number : ℕ) (header : List ℕ) (m : Message) (s : List ℕ) : Type 0 where

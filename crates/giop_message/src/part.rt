@@ -22,7 +22,7 @@ pub enum Section {
 
 impl Section {
     ghost use Rattle.giop_message.specs.Messages.{root_of};
-    ghost use Rattle.giop_message.specs.MessageState.{is_told};
+    ghost use Rattle.giop_message.specs.HeaderEnds.{is_told};
 
     /// Whether the correspondent is told where it ends: of the header, or of the exception that is raised.
     pub(crate) fn is_told(self) -> bool

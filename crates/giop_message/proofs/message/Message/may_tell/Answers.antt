@@ -1,10 +1,12 @@
-use Rattle.std.proofs.Common.{sym, ◌∙◌}
-use Rattle.giop_message.proofs.SectionRuns.{nothing_told}
+use Rattle.std.proofs.Common.{◌∙◌}
+use Rattle.giop_message.proofs.SectionRuns.{standing, section_value, padding_value, rest_value}
 use Rattle.giop_message.proofs.message.Message.may_tell.Goals as goal
 
-pub returns-in-Typed-clause-past : goal.returns-in-Typed-clause-past
-returns-in-Typed-clause-past c e C fits answers number header s more f =
-    nothing_told f fits (rw c.in-Typed.is (sym c.is_told.ensures ∙ e)) more
+pub returns-in-Typed : goal.returns-in-Typed
+returns-in-Typed c C answers number header s fits f = c.is_told.ensures ∙ section_value (standing f c.in-Typed.is fits)
 
-pub returns-in-Rest-clause-past : goal.returns-in-Rest-clause-past
-returns-in-Rest-clause-past c e C fits answers number header s more f = nothing_told f fits (rw c.in-Rest.is e) more
+pub returns-in-Padding : goal.returns-in-Padding
+returns-in-Padding c C answers number header s fits f = padding_value f c.in-Padding.is
+
+pub returns-in-Rest : goal.returns-in-Rest
+returns-in-Rest c C answers number header s fits f = rest_value f c.in-Rest.is
