@@ -3,3 +3,5 @@ mod TagLemmas
 mod TaggedLemmas
 mod TaggedPuts
 pub mod Tagging
+mod FollowedLemmas
+mod FailingLemmas
