@@ -5,3 +5,5 @@ mod TaggedPuts
 pub mod Tagging
 mod FollowedLemmas
 mod FailingLemmas
+mod LineEnds
+mod StampedLemmas

@@ -5,6 +5,7 @@ pub mod TaggedText
 pub mod TaggedState
 pub mod Exchanges
 pub mod ExchangeLaws
+pub mod Stamped
 pub mod Failing
 pub mod Directions
 pub mod Followed
