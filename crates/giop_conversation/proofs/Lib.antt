@@ -7,3 +7,6 @@ mod FollowedLemmas
 mod FailingLemmas
 mod LineEnds
 mod StampedLemmas
+mod StreamReadLemmas
+mod DumpLemmas
+mod ToldLemmas

@@ -1,7 +1,5 @@
 -- All that is written is whole lines.
 use Rattle.std.proofs.Common.{◌≡◌, ℕ, Bool, true, false, List, [], ◌∷◌, ◌++◌, length, drop, flat_map, Option, Some, None, refl, sym, ap, ◌∙◌, codes, decimal, nat_lt, if◌then◌else◌}
-use Rattle.std.proofs.Math.Seq.{drop-append_seam}
-use Rattle.giop_checkpoint.specs.declared.fault.StreamFault.{StreamFault}
 use Rattle.giop_print.specs.Text.{joined}
 use Rattle.giop_print.specs.Lines.{order_word, type_word, more_word, start_line, fault_line, stream_fault_line, continues_line, cancelled_line, unfinished_line, total_line}
 use Rattle.giop_message.specs.Headers.{minor, order, kind, size, has_more}
@@ -165,6 +163,9 @@ unfolding capture_total_line
 capture_total_ends streams messages faults packets octets =
     ends_joined true (codes "total streams " ∷ decimal streams ∷ codes " messages " ∷ decimal messages ∷ codes " faults "
     ∷ decimal faults ∷ codes " packets " ∷ decimal packets ∷ codes " octets " ∷ decimal octets ∷ [])
+
+pub closing_lines_end : (R : Rules) (p : List ℕ) (cause : CloseCause) → is_due (closed_line cause ++ closing R p) ≡ true
+closing_lines_end R p cause = ends_both (closed_line cause) (closing R p) (closed_line_ends cause) (closing_ends R p)
 
 -- ---- the lines that are due behind octets
 

@@ -1,9 +1,9 @@
 -- What is written of octets that come in parts, and of a piece before whose last octet nothing is due.
-use Rattle.std.proofs.Common.{◌≡◌, ℕ, zero, suc, ◌+◌, ◌-◌, ◌<◌, ◌≤◌, Bool, true, false, List, [], ◌∷◌, ◌++◌, length, take, drop, Option, Some, None, refl, sym, ap, subst, ◌∙◌, arith, append-nil, append_assoc, nat_lt, if◌then◌else◌, option_map}
+use Rattle.std.proofs.Common.{◌≡◌, ℕ, zero, suc, ◌<◌, ◌≤◌, false, List, [], ◌∷◌, ◌++◌, length, Option, Some, None, refl, sym, ap, subst, ◌∙◌, arith, append-nil, append_assoc, nat_lt, if◌then◌else◌}
 use Rattle.giop_sig.specs.Table.{Table}
 use Rattle.giop_message.specs.Signatures.{Answers}
 use Rattle.giop_message.specs.HeaderEnds.{HeaderEnd, CallEvent, Requested, Replied, call_event, after_event, after_ends, AgreesAtEnds}
-use Rattle.giop_message.proofs.MessageLaws.{told_both, answers_first, answers_then}
+use Rattle.giop_message.proofs.MessageLaws.{answers_first, answers_then}
 use Rattle.giop_stream.specs.Rules.{Rules, rules_by}
 use Rattle.giop_stream.specs.HeaderEndsOfStream.{header_ends_at, header_ends_from}
 use Rattle.giop_stream.specs.EngineHolds.{added}
@@ -120,6 +120,18 @@ agrees_then R C a s p q r table agrees =
     let behind = answers_then answer_of notified C s a (header_ends_from R p q) (header_ends_from R (p ++ q) r) both in
     agrees_otherwise C a (header_ends_from R (p ++ q) r) (told R s p q) None
     (subst (λ (D : Table). AgreesAtEnds answer_of notified C (after_ends notified D s (header_ends_from R p q)) a (header_ends_from R (p ++ q) r)) (sym table) behind)
+
+pub agrees_behind : (R : Rules) (C : Table) (a : Answers) (q : List ℕ) (s : Exchanged) (p r : List ℕ) → s.table ≡ C →
+    AgreesAtEnds answer_of notified C s a (header_ends_from R p (q ++ r)) →
+    AgreesAtEnds answer_of notified C (exchanged R s p q) a (header_ends_from R (p ++ q) r)
+unfolding exchanged
+agrees_behind R C a [] s p r table agrees =
+    subst (λ (f : List ℕ). AgreesAtEnds answer_of notified C s a (header_ends_from R f r)) (sym (append-nil p)) agrees
+agrees_behind R C a (x ∷ xs) s p r table agrees =
+    let s' = taken (told R s p (x ∷ [])) in
+    subst (λ (f : List ℕ). AgreesAtEnds answer_of notified C (exchanged R s' (p ++ x ∷ []) xs) a (header_ends_from R f r))
+    (append_assoc p (x ∷ []) xs)
+    (agrees_behind R C a xs s' (p ++ x ∷ []) r (told_table R s p (x ∷ []) ∙ table) (agrees_then R C a s p (x ∷ []) (xs ++ r) table agrees))
 
 -- ---- a piece before whose last octet nothing is due
 

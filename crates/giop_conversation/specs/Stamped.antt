@@ -7,8 +7,14 @@ use Rattle.giop_stream.specs.Rules.{Rules}
 use Rattle.giop_stream.specs.Framing.{cut, messages}
 use Rattle.giop_stream.specs.HeaderEndsOfStream.{header_ends_from}
 use Rattle.giop_stream.specs.EngineHolds.{added}
-use Rattle.giop_conversation.specs.Lines.{time_line, answers_line}
+use Rattle.tcp_segment.specs.declared.endpoint.Flow.{Flow}
+use Rattle.giop_conversation.specs.Lines.{stream_line, time_line, answers_line}
 use Rattle.giop_conversation.specs.Exchanges.{Exchanged, Answering, notified}
+
+-- the line with which a stream begins, where who sends to whom is known
+abbrev pub begin_lines : Option Flow → Option ℕ → List ℕ
+begin_lines None time = []
+begin_lines (Some flow) time = stream_line flow time
 
 -- how many messages of the stream p have begun: the header of 12 octets is complete
 abbrev pub begun : List ℕ → ℕ

@@ -7,6 +7,13 @@ ghost use Rattle.giop_stream.specs.EngineHolds.{AreOf, status_of};
 ghost use Rattle.giop_conversation.specs.Failing.{FailsByPut};
 ghost use Rattle.giop_conversation.specs.Directions.{HasRead};
 ghost use Rattle.giop_conversation.specs.Followed.{direction, other, parity_of as spec_parity_of};
+ghost use Rattle.giop_stream.specs.Stream.{final};
+ghost use Rattle.giop_conversation.specs.Tags.{stream_tag};
+ghost use Rattle.giop_conversation.specs.TaggedState.{IsReady};
+ghost use Rattle.giop_conversation.specs.Stamped.{begin_lines};
+ghost use Rattle.giop_conversation.specs.StreamReads.{WritesTagged};
+ghost use Rattle.giop_conversation.specs.Captured.{Setup, Connection, setup, side, new_connection, opened, begun, closed_lines, rules_in};
+ghost use Rattle.giop_conversation.specs.DumpHeld.{HasCalls, HoldsConnection, ReadsBy};
 
 use crate::direction::Direction;
 use crate::exchange::Exchange;
@@ -14,7 +21,7 @@ use crate::limits::{Limits, NoMemory};
 use crate::tagged::Tagged;
 use giop_print::{Out, OutFault};
 use giop_sig::{Catalogue, Requests};
-use giop_stream::{Status, Totals};
+use giop_stream::{Status, Totals, answers_agree, answers_go_on};
 use std::alloc::Global;
 use tcp_flow::CloseCause;
 use tcp_segment::Flow;
@@ -59,6 +66,9 @@ impl<'a> Conversation<'a> {
         requires range { (1 ≤ limits.messages) × (limits.messages ≤ most_open) }
         ensures even { IfOk result (λ c. HasRead c.even.engine []) }
         ensures odd { IfOk result (λ c. HasRead c.odd.engine []) }
+        ensures held { IfOk result (λ c.
+            (let S = setup catalogue.now limits.messages limits.calls limits.connections in
+            HoldsConnection S c (new_connection S))) }
     {
         Ok(Conversation {
             parity: Parity::Even,
@@ -73,6 +83,9 @@ impl<'a> Conversation<'a> {
         ensures even { self.new.even ≡ self.old.even }
         ensures odd { self.new.odd ≡ self.old.odd }
         ensures parity { self.new.parity ≡ parity }
+        // The calls of a connection stay, those of the flow as the exchange's own.
+        ensures calls { (c : Connection) → HasCalls self.old.parity self.old.exchange c →
+            HasCalls parity self.new.exchange c }
     {
         if self.parity != parity {
             self.exchange.turn();
@@ -84,6 +97,8 @@ impl<'a> Conversation<'a> {
     pub fn open(&mut self, parity: Parity, flow: Flow)
         ensures even { self.new.even.engine ≡ self.old.even.engine }
         ensures odd { self.new.odd.engine ≡ self.old.odd.engine }
+        ensures held { (S : Setup) (c : Connection) → HoldsConnection S self.old c →
+            HoldsConnection S self.new (opened parity flow c) }
     {
         self.face(parity);
         self.exchange.forget();
@@ -104,6 +119,12 @@ impl<'a> Conversation<'a> {
         ensures read { HasRead (direction parity self.new).engine [] }
         ensures other { direction (other parity) self.new ≡ direction (other parity) self.old }
         ensures fails { FailsByPut result out.old out.new }
+        ensures held { (S : Setup) (c : Connection) → HoldsConnection S self.old c →
+            HoldsConnection S self.new (begun parity stream c) }
+        // Below stands its line with the tag of the stream, or a front of it.
+        ensures text { (S : Setup) (c : Connection) (w : List ℕ) → HoldsConnection S self.old c →
+            IsReady out.old w → WritesTagged result out.new w (stream_tag stream)
+            (begin_lines (side parity c).flow time) }
     {
         match parity {
             Parity::Even => self.even.begin(stream, time, out),
@@ -125,7 +146,13 @@ impl<'a> Conversation<'a> {
             IfOk result (λ s. s ≡ status_of (fault_of (cut (p ++ octets.now)).stop)) }
         ensures other { direction (other parity) self.new ≡ direction (other parity) self.old }
         ensures fails { FailsByPut result out.old out.new }
+        // By answers that are those of the calls, below stand the lines of the octets, each with the tag of the stream, or a
+        // front of them; and it holds the connection behind them.
+        ensures text { (S : Setup) (c : Connection) (w : List ℕ) → HoldsConnection S self.old c →
+            IsReady out.old w → ReadsBy S c parity octets.now time w result self.new out.new }
     {
+        answers_agree();
+        answers_go_on::<Exchange<'a>>();
         self.face(parity);
         match parity {
             Parity::Even => self.even.read(&mut self.exchange, octets, time, out),
@@ -141,6 +168,12 @@ impl<'a> Conversation<'a> {
         out: &mut Tagged<O>,
     ) -> Result<Totals, OutFault>
         ensures fails { FailsByPut result out.old out.new }
+        // Below stand why, and then the closing, each line with the tag of the stream; or a front of them.
+        ensures text { (S : Setup) (c : Connection) (w : List ℕ) → HoldsConnection S self.now c →
+            IsReady out.old w → WritesTagged result out.new w (stream_tag (side parity c).stream)
+            (closed_lines S parity cause c) }
+        ensures totals { (S : Setup) (c : Connection) → HoldsConnection S self.now c →
+            IfOk result (λ t. t ≡ final (rules_in S (side parity c).answers) (side parity c).octets) }
     {
         match parity {
             Parity::Even => self.even.close(cause, out),

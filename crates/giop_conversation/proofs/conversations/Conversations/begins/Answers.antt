@@ -1,9 +1,10 @@
-use Rattle.std.proofs.Common.{List, ◌≡◌, ◌/◌, ◌++◌, ◌∷◌, [], vec_len, refl}
+use Rattle.std.proofs.Common.{◌/◌, ◌++◌, ◌∷◌, [], vec_len, refl}
 use Rattle.std.proofs.Math.ListN.{set}
 use Rattle.tcp_flow.specs.Flow.{Begins}
 use Rattle.giop_conversation.specs.Followed.{HaveFollowed}
 use Rattle.giop_conversation.proofs.FailingLemmas.{once, none_failed}
 use Rattle.giop_conversation.proofs.FollowedLemmas.{element, no_element, stream_begun, of_begins, followed_beyond, on_ok}
+use Rattle.giop_conversation.proofs.ToldLemmas.{begun_told, begun_beyond, still_sound}
 use Rattle.giop_conversation.proofs.conversations.Conversations.begins.Goals as goal
 
 pub returns-in-Some-clause-follows : goal.returns-in-Some-clause-follows
@@ -27,3 +28,27 @@ returns-in-None-clause-follows g c = λ events number follows.
     followed_beyond rooms.items events (Begins c.args.flow number) c.args.flow follows
     (no_element rooms.items (vec_len rooms) (c.args.flow / 2) rooms.ok.0 c.in-None.ensures.variant.1)
     (of_begins c.args.flow number)
+
+pub returns-in-Some-clause-told : goal.returns-in-Some-clause-told
+returns-in-Some-clause-told g c = λ S written events number told.
+    let now = c.args.self.now in
+    let rooms = now.rooms in
+    let t = now.totals in
+    let old = c.in-Some.room.now in
+    let here = element rooms.items (vec_len rooms) (c.args.flow / 2) old rooms.ok.0 (c.in-Some.ensures.variant.0 refl) c.in-Some.ensures.value in
+    begun_told S written events rooms.items now.out now.time t.streams t.messages t.faults now.cut c.begin.result c.args.flow number
+    c.sum_within-self.result old c.begin.new.self c.begin.new.out c.sum_within-self.ensures told here
+    (λ k. rw c.parity_of.ensures at (c.begin.ensures.held S k)) (λ k w. rw c.parity_of.ensures at (c.begin.ensures.text S k w))
+
+pub returns-in-None-clause-told : goal.returns-in-None-clause-told
+returns-in-None-clause-told g c = λ S written events number told.
+    let now = c.args.self.now in
+    let rooms = now.rooms in
+    let t = now.totals in
+    begun_beyond S written events rooms.items now.out now.time t.streams t.messages t.faults now.cut c.args.flow number
+    c.sum_within-self.result c.sum_within-self.ensures told
+    (no_element rooms.items (vec_len rooms) (c.args.flow / 2) rooms.ok.0 c.in-None.ensures.variant.1)
+
+pub returns-then-has_failed-clause-told : goal.returns-then-has_failed-clause-told
+returns-then-has_failed-clause-told g c = λ S written events number told.
+    absurd (still_sound c.args.self.now.out.failures told.holds.ready.sound (c.if-has_failed.ensures.0 refl))
