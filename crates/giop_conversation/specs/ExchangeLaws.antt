@@ -9,7 +9,7 @@ use Rattle.giop_calls.specs.Outstanding.{without}
 use Rattle.giop_sig.specs.Table.{Table, operation_in, operation_number, op_id, no_operation}
 use Rattle.std.proofs.lemmas.List.Quantifiers.{position-Some}
 use Rattle.giop_message.specs.MessageState.{AreKnown}
-use Rattle.giop_message.specs.HeaderEnds.{CallEvent, Requested, Replied, HasKnownOperation}
+use Rattle.giop_message.specs.HeaderEnds.{CallEvent, Requested, Replied, Raised, HasKnownOperation}
 use Rattle.giop_conversation.specs.Exchanges.{Exchanged, answer_of, call_of, notified}
 
 -- behind a Reply none of its id is found,
@@ -58,6 +58,7 @@ pub known_still : (C : Table) (s : Exchanged) (event : CallEvent) → AreKnown C
     HasKnownOperation C event → AreKnown C (answer_of (notified s event))
 known_still C s (Requested number id name operation expects) known fits = known
 known_still C s (Replied number id) known fits = λ other. fits_still C s.table id other s.opposite.entries (known other)
+known_still C s (Raised number name) known fits = known
 
 -- an operation of a name is one of the table
 in_table : (C : Table) (name : List ℕ) → IfSome (operation_in C name) (λ o. o.0 < length C.operations)

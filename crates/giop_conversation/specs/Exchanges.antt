@@ -9,7 +9,7 @@ use Rattle.giop_calls.specs.declared.calls.Call.{Call}
 use Rattle.giop_calls.specs.Outstanding.{without, newest}
 use Rattle.giop_sig.specs.Table.{Table, operation_in}
 use Rattle.giop_message.specs.Signatures.{Answer}
-use Rattle.giop_message.specs.HeaderEnds.{CallEvent, Requested, Replied}
+use Rattle.giop_message.specs.HeaderEnds.{CallEvent, Requested, Replied, Raised}
 
 -- a Reply that answers a call: its number in its stream, and the call
 pub record Answering : Type 0 where
@@ -51,7 +51,8 @@ requested s number id (Some name) =
     with_entries s.own (newest s.own.most
     (without id s.own.entries ++ record { key = id; value = call_named s number name } ∷ []))
 
--- behind the header of a Request, and behind that of a Reply, which takes the call that it answers
+-- behind the header of a Request, and behind that of a Reply, which takes the call that it answers; a raised exception
+-- changes nothing
 abbrev pub notified : Exchanged → CallEvent → Exchanged
 notified s (Requested number id name operation expects) =
     record s { own = requested s number id (kept_name name expects) }
@@ -60,3 +61,4 @@ notified s (Replied number id) = record s {
   replied = number;
   answered = option_map (λ call. record { message = number; call = call }) (call_of s.opposite id);
 }
+notified s (Raised number name) = s

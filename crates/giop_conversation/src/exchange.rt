@@ -201,6 +201,8 @@ impl<'a> Correspondent for Exchange<'a> {
         });
     }
 
+    fn raised(&mut self, _number: u64, _name: &[u8]) {}
+
     ghost known = { known_still };
 }
 

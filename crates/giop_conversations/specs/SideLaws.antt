@@ -9,7 +9,7 @@ use Rattle.giop_entry_table.specs.declared.entry_table.Entry.{Entry}
 use Rattle.giop_calls.specs.declared.calls.Call.{Call}
 use Rattle.giop_calls.specs.Outstanding.{without}
 use Rattle.giop_message.specs.MessageState.{AreKnown}
-use Rattle.giop_message.specs.HeaderEnds.{CallEvent, Requested, Replied}
+use Rattle.giop_message.specs.HeaderEnds.{CallEvent, Requested, Replied, Raised}
 use Rattle.giop_conversations.specs.Sides.{SideState, answered_operation, after_event}
 
 module _ {V : Type 0} where
@@ -43,6 +43,7 @@ module _ {V : Type 0} where
 pub stays_known : (C : Table) (s : SideState) (event : CallEvent) →
     AreKnown C (answered_operation s) → AreKnown C (answered_operation (after_event s event))
 stays_known C s (Requested number gone name operation expects) known id = known id
+stays_known C s (Raised number name) known id = known id
 stays_known C s (Replied number gone) known id = by (id == gone) refl
   where
     by : (b : Bool) → (id == gone) ≡ b →

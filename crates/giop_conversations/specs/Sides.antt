@@ -6,7 +6,7 @@ use Rattle.giop_sig.specs.Table.{Table, operation_in}
 use Rattle.giop_entry_table.specs.EntryTable.{Entries}
 use Rattle.giop_calls.specs.declared.calls.Call.{Call}
 use Rattle.giop_calls.specs.Outstanding.{without, newest}
-use Rattle.giop_message.specs.HeaderEnds.{CallEvent, Requested, Replied}
+use Rattle.giop_message.specs.HeaderEnds.{CallEvent, Requested, Replied, Raised}
 
 -- the types of the operations, the calls of this direction, and those of the other, which its replies answer
 pub record SideState : Type 0 where
@@ -43,3 +43,4 @@ after_event s (Requested number id name operation expects) =
     record s { own = requested number id name expects s.own }
 after_event s (Replied number id) =
     record s { theirs = record s.theirs { entries = without id s.theirs.entries } }
+after_event s (Raised number name) = s

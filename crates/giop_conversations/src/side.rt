@@ -59,6 +59,8 @@ impl Correspondent for Side<'_> {
         self.theirs.take(id);
     }
 
+    fn raised(&mut self, _number: u64, _name: &[u8]) {}
+
     ghost known = { λ C s event k h. stays_known C s event k };
 }
 

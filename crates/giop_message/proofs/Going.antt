@@ -17,7 +17,7 @@ use Rattle.giop_message.specs.declared.part.Section.{Section}
 use Rattle.giop_message.specs.declared.part.Section.TheVariants as sections
 use Rattle.giop_message.specs.Headers.{minor, kind, order}
 use Rattle.giop_message.specs.Signatures.{Signatures}
-use Rattle.giop_message.specs.Messages.{ValueLine, RestLine, FaultLine, LineAt, line_at, calls, section_lines, BodyType, Untyped, Typed, UserException, In_padding, In_rest, Over, Message, ReadTo, with_front, section_then, rest_in, rest, typed, option_typed, members_of, after_exception, body, body_of, has_body, padded, after_header, of_header, message, root_of, may_call, after, section_and_rest}
+use Rattle.giop_message.specs.Messages.{ValueLine, RestLine, FaultLine, LineAt, line_at, calls, section_lines, BodyType, Untyped, Typed, UserException, SystemException, In_padding, In_rest, Over, Message, ReadTo, with_front, section_then, rest_in, rest, typed, option_typed, members_of, after_exception, body, body_of, has_body, padded, after_header, of_header, message, root_of, may_call, after, section_and_rest}
 use Rattle.giop_message.specs.StageSteps.{rest_step, message_step, advance, goes_on}
 
 -- a reader for which one octet more is one step
@@ -130,12 +130,12 @@ rest_goes S header at s b = rest_in_goes S header (length s / 32) (length (s ++ 
 
 -- ---- the padding
 
-padded_waits : (S : Signatures) (header : List ℕ) (t : BodyType) (at : ℕ) (s : List ℕ) →
+pub padded_waits : (S : Signatures) (header : List ℕ) (t : BodyType) (at : ℕ) (s : List ℕ) →
     length s < padding at 8 → padded S header t at s ≡ ReadTo [] (at + length s) (In_padding t)
 unfolding padded
 padded_waits S header t at s h = rw lt-ltb refl
 
-padded_begins : (S : Signatures) (header : List ℕ) (t : BodyType) (at : ℕ) (s : List ℕ) →
+pub padded_begins : (S : Signatures) (header : List ℕ) (t : BodyType) (at : ℕ) (s : List ℕ) →
     padding at 8 ≤ length s → padded S header t at s
     ≡ body S header t (at + padding at 8) (drop (padding at 8) s)
 unfolding padded
@@ -207,6 +207,7 @@ module _ (S : Signatures) (header : List ℕ) (P : (ℕ → List ℕ → Message
   body_has Untyped = rests
   body_has (Typed T) = typed_has T
   body_has UserException = reads sections.Exception S.exception_id exception_has
+  body_has SystemException = reads sections.SystemException S.system_exception (λ h. rests)
 
   header_has : (h : Noted) → P (after_header S header h)
   unfolding after_header
@@ -222,6 +223,7 @@ module _ (S : Signatures) (header : List ℕ) (P : (ℕ → List ℕ → Message
   pub after_has : (section : Section) (h : Noted) → P (after S header section h)
   after_has sections.Header h = header_has h
   after_has sections.Exception h = exception_has h
+  after_has sections.SystemException h = rests
   after_has sections.Body h = rests
 
   message_by : (found : Option Ty) → P (of_header S header found)

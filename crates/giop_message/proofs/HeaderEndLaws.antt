@@ -1,4 +1,4 @@
--- The headers that end in octets of a message, and the state of a correspondent after them.
+-- The headers and the names of exceptions that end in octets of a message, and the state of a correspondent after them.
 use Rattle.std.proofs.Common.{◌≡◌, ℕ, ◌+◌, Bool, true, false, List, [], ◌∷◌, ◌++◌, Option, Some, None, refl, sym, ap, subst, ◌∙◌, append-nil, append_assoc, take, drop, take-add, map, ◌⊎◌, inl, inr}
 use Rattle.std.proofs.lemmas.List.{take-append-drop}
 use Rattle.std.proofs.lemmas.Bool.{false≢true}
@@ -16,7 +16,8 @@ use Rattle.giop_message.specs.Signatures.{Answer, Answers, signatures_of}
 use Rattle.giop_message.specs.Messages.{Stage, In_typed, In_padding, In_rest, Over, section_then, of_header, rest, message, message_lines, stage_of, close, is_request, after_header}
 use Rattle.giop_message.specs.ReaderOfTable.{is_over, timed_line_of, closing_of, remarks_by, closes_by}
 use Rattle.giop_message.specs.MessageState.{is_header}
-use Rattle.giop_message.specs.HeaderEnds.{HeaderEnd, CallEvent, noted_if_whole, noted_by_type, header_noted, ends_between, header_ends, call_event, after_event, after_ends, AgreesAtEnds}
+use Rattle.giop_message.proofs.Raises.{is_settled, raised_stays, raised_settled, raised_before, raised_apart}
+use Rattle.giop_message.specs.HeaderEnds.{HeaderEnd, Header_end, Exception_end, CallEvent, noted_if_whole, noted_by_type, header_noted, ends_between, raised, raises_between, header_ends, tells_more, may_tell, call_event, after_event, after_ends, AgreesAtEnds}
 
 -- ---- what is noted of a whole header stays the same
 
@@ -78,21 +79,90 @@ both_between number header (Some h) None c f g = absurd (let no = f h refl in cc
 both_between number header None None c f g = refl
 both_between number header None (Some k) c f g = ap (ends_between number header None) (g k refl)
 
+raises_both : (number : ℕ) (a b c : Option (List ℕ)) →
+    ((n : List ℕ) → a ≡ Some n → b ≡ Some n) → ((n : List ℕ) → b ≡ Some n → c ≡ Some n) →
+    raises_between number a c ≡ raises_between number a b ++ raises_between number b c
+raises_both number (Some n) (Some m) c f g = refl
+raises_both number (Some n) None c f g = absurd (let no = f n refl in cc)
+raises_both number None None c f g = refl
+raises_both number None (Some m) c f g = ap (raises_between number None) (g m refl)
+
+-- Where a name is complete no header ends.
+crossed : (number : ℕ) (header : List ℕ) (a b : Option (List ℕ)) (k l : Option Noted) → (k ≡ None → b ≡ None) →
+    ends_between number header k l ++ raises_between number a b ≡ raises_between number a b ++ ends_between number header k l
+crossed number header a b (Some h) l f = sym (append-nil (raises_between number a b))
+crossed number header (Some n) b None l f = append-nil (ends_between number header None l)
+crossed number header None b None l f = rw (f refl) (append-nil (ends_between number header None l))
+
+exchanged : (us bs cs ds : List HeaderEnd) → bs ++ cs ≡ cs ++ bs → (us ++ bs) ++ (cs ++ ds) ≡ (us ++ cs) ++ (bs ++ ds)
+exchanged us bs cs ds e =
+    append_assoc us bs (cs ++ ds)
+    ∙ (ap (λ (z : List HeaderEnd). us ++ z) (sym (append_assoc bs cs ds) ∙ (ap (λ (z : List HeaderEnd). z ++ ds) e ∙ append_assoc cs bs ds))
+    ∙ sym (append_assoc us cs (bs ++ ds)))
+
 pub header_ends_both : (number : ℕ) (header s xs ys : List ℕ) →
     header_ends number header s (xs ++ ys) ≡ header_ends number header s xs ++ header_ends number header (s ++ xs) ys
 unfolding header_ends
 header_ends_both number header s xs ys =
-    ap (λ z. ends_between number header (header_noted header s) (header_noted header z)) (sym (append_assoc s xs ys))
-    ∙ both_between number header (header_noted header s) (header_noted header (s ++ xs)) (header_noted header ((s ++ xs) ++ ys))
-    (λ h e. header_noted_stays header s xs h e) (λ h e. header_noted_stays header (s ++ xs) ys h e)
+    let one = header_noted header s in
+    let two = header_noted header (s ++ xs) in
+    let three = header_noted header ((s ++ xs) ++ ys) in
+    let uno = raised header s in
+    let due = raised header (s ++ xs) in
+    let tre = raised header ((s ++ xs) ++ ys) in
+    ap (λ z. ends_between number header one (header_noted header z) ++ raises_between number uno (raised header z)) (sym (append_assoc s xs ys))
+    ∙ (ap (λ (z : List HeaderEnd). z ++ raises_between number uno tre)
+    (both_between number header one two three (λ h e. header_noted_stays header s xs h e) (λ h e. header_noted_stays header (s ++ xs) ys h e))
+    ∙ (ap (λ (z : List HeaderEnd). (ends_between number header one two ++ ends_between number header two three) ++ z)
+    (raises_both number uno due tre (λ n e. raised_stays header s xs n e) (λ n e. raised_stays header (s ++ xs) ys n e))
+    ∙ exchanged (ends_between number header one two) (ends_between number header two three) (raises_between number uno due)
+    (raises_between number due tre) (crossed number header uno due two three (raised_before header (s ++ xs)))))
+
+raises_same : (number : ℕ) (a : Option (List ℕ)) → raises_between number a a ≡ []
+raises_same number None = refl
+raises_same number (Some n) = refl
 
 pub header_ends_none : (number : ℕ) (header s : List ℕ) → header_ends number header s [] ≡ []
 unfolding header_ends
-header_ends_none number header s = rw (append-nil s) (go (header_noted header s))
+header_ends_none number header s = rw (append-nil s, raises_same number (raised header s)) (go (header_noted header s))
   where
-    go : (o : Option Noted) → ends_between number header o o ≡ []
+    go : (o : Option Noted) → ends_between number header o o ++ [] ≡ []
     go None = refl
     go (Some h) = refl
+
+-- ---- one octet ends a header, or a name, or neither
+
+name_or_none : (number : ℕ) (a b : Option (List ℕ)) →
+    (raises_between number a b ≡ []) ⊎ ((name : List ℕ) × (raises_between number a b ≡ Exception_end number name ∷ []))
+name_or_none number (Some n) b = inl refl
+name_or_none number None None = inl refl
+name_or_none number None (Some n) = inr (n, refl)
+
+pub one_octet : (number : ℕ) (header s : List ℕ) (x : ℕ) →
+    (header_ends number header s (x ∷ []) ≡ [])
+    ⊎ (((n : Noted) × (header_noted header s ≡ None) × (header_noted header (s ++ x ∷ []) ≡ Some n)
+    × (header_ends number header s (x ∷ []) ≡ Header_end number header n ∷ []))
+    ⊎ ((name : List ℕ) × (header_ends number header s (x ∷ []) ≡ Exception_end number name ∷ [])))
+unfolding header_ends
+one_octet number header s x = go (header_noted header s) (header_noted header (s ++ x ∷ [])) refl refl
+  where
+    Before : Option (List ℕ)
+    Before = raised header s
+
+    Now : Option (List ℕ)
+    Now = raised header (s ++ x ∷ [])
+
+    go : (o q : Option Noted) → header_noted header s ≡ o → header_noted header (s ++ x ∷ []) ≡ q →
+        (ends_between number header o q ++ raises_between number Before Now ≡ [])
+        ⊎ (((n : Noted) × (o ≡ None) × (q ≡ Some n)
+        × (ends_between number header o q ++ raises_between number Before Now ≡ Header_end number header n ∷ []))
+        ⊎ ((name : List ℕ) × (ends_between number header o q ++ raises_between number Before Now ≡ Exception_end number name ∷ [])))
+    go (Some h) q e f = elim (name_or_none number Before Now) [
+      | inl none ↦ inl none
+      | inr one ↦ inr (inr one)
+    ]
+    go None None e f = inl (rw (raised_before header s e, raised_before header (s ++ x ∷ []) f) refl)
+    go None (Some n) e f = inr (inl (n, refl, refl, rw (raised_before header s e, raised_apart header s x e) refl))
 
 -- ---- none where a message is past its header
 
@@ -117,10 +187,17 @@ past_by C answer number header (Some T) s more e = go (read (plain (order header
     go (Fault lines at why U) e = absurd (false≢true (sym e))
 
 pub past_none : (C : Table) (answer : Answer) (number : ℕ) (header s more : List ℕ) →
-    waits (stage_of (message (signatures_of C answer) header s)) ≡ false → header_ends number header s more ≡ []
-unfolding header_ends header_noted message signatures_of
+    waits (stage_of (message (signatures_of C answer) header s)) ≡ false →
+    ends_between number header (header_noted header s) (header_noted header (s ++ more)) ≡ []
+unfolding header_noted message signatures_of
 past_none C answer number header s more e =
     past_by C answer number header (header_type (minor header) (kind header)) s more e
+
+-- nor a name, where none is to come any more
+pub settled_none : (C : Table) (answer : Answer) (number : ℕ) (header s more : List ℕ) →
+    is_settled (stage_of (message (signatures_of C answer) header s)) ≡ true →
+    raises_between number (raised header s) (raised header (s ++ more)) ≡ []
+settled_none C answer number header s more e = rw (raised_settled C answer header s more e) (raises_same number (raised header s))
 
 over_by : (C : Table) (answer : Answer) (number : ℕ) (header : List ℕ) (found : Option Ty) (s more : List ℕ) →
     is_over (stage_of (of_header (signatures_of C answer) header found 12 s)) ≡ true →
@@ -141,12 +218,46 @@ over_by C answer number header (Some T) s more e = go (read (plain (order header
         let late = fault_none header T (read (plain (order header)) [] T 12 (s ++ more)) (fault_stays header T more s (ap (faulted header T) is)) in
         rw late refl
 
+over_header : (C : Table) (answer : Answer) (number : ℕ) (header s more : List ℕ) →
+    is_over (stage_of (message (signatures_of C answer) header s)) ≡ true →
+    ends_between number header (header_noted header s) (header_noted header (s ++ more)) ≡ []
+unfolding header_noted message signatures_of
+over_header C answer number header s more e =
+    over_by C answer number header (header_type (minor header) (kind header)) s more e
+
+over_settled : (g : Stage) → is_over g ≡ true → is_settled g ≡ true
+unfolding is_over is_settled
+over_settled Over e = refl
+over_settled (In_typed section h outer leaf) e = absurd (false≢true e)
+over_settled (In_padding b) e = absurd (false≢true e)
+over_settled (In_rest offset held) e = refl
+
 -- none ends after a fault
 pub over_none : (C : Table) (answer : Answer) (number : ℕ) (header s more : List ℕ) →
     is_over (stage_of (message (signatures_of C answer) header s)) ≡ true → header_ends number header s more ≡ []
-unfolding header_ends header_noted message signatures_of
+unfolding header_ends
 over_none C answer number header s more e =
-    over_by C answer number header (header_type (minor header) (kind header)) s more e
+    rw (over_header C answer number header s more e)
+    (settled_none C answer number header s more (over_settled (stage_of (message (signatures_of C answer) header s)) e))
+
+-- Where no more is told none ends.
+pub nothing_told : (C : Table) (answer : Answer) (number : ℕ) (header s more : List ℕ) →
+    may_tell (signatures_of C answer) header s ≡ false → header_ends number header s more ≡ []
+unfolding header_ends may_tell tells_more waits is_settled is_over
+nothing_told C answer number header s more e = go (stage_of (message (signatures_of C answer) header s)) refl e
+  where
+    go : (g : Stage) → stage_of (message (signatures_of C answer) header s) ≡ g → tells_more g ≡ false →
+        ends_between number header (header_noted header s) (header_noted header (s ++ more))
+        ++ raises_between number (raised header s) (raised header (s ++ more)) ≡ []
+    go (In_typed sections.Header h outer leaf) is e = absurd (false≢true (sym e))
+    go (In_typed sections.Exception h outer leaf) is e = absurd (false≢true (sym e))
+    go (In_typed sections.SystemException h outer leaf) is e = absurd (false≢true (sym e))
+    go (In_typed sections.Body h outer leaf) is e =
+        rw (past_none C answer number header s more (ap waits is)) (settled_none C answer number header s more (ap is_settled is))
+    go (In_padding b) is e = absurd (false≢true (sym e))
+    go (In_rest offset held) is e =
+        rw (past_none C answer number header s more (ap waits is)) (settled_none C answer number header s more (ap is_settled is))
+    go Over is e = over_none C answer number header s more (ap is_over is)
 
 -- ---- events, and then others
 

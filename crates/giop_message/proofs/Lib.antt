@@ -16,6 +16,7 @@ mod Runs
 mod SectionRuns
 mod Rests
 mod Dues
+mod Raises
 mod HeaderEndLaws
 mod MessageAgreement
 mod Closing

@@ -48,6 +48,14 @@ through_exception C x y header (Done lines at rest) = rw (members_agree C x y (n
 through_exception C x y header (Short lines at outer leaf) = refl
 through_exception C x y header (Fault lines at why T) = refl
 
+through_system : (C : Table) (x y : Answer) (header : List ℕ) (r : Read) →
+    section_and_rest (signatures_of C x) header sections.SystemException nothing_noted r
+    ≡ section_and_rest (signatures_of C y) header sections.SystemException nothing_noted r
+unfolding section_then
+through_system C x y header (Done lines at rest) = refl
+through_system C x y header (Short lines at outer leaf) = refl
+through_system C x y header (Fault lines at why T) = refl
+
 through_body : (C : Table) (x y : Answer) (header : List ℕ) (r : Read) →
     section_and_rest (signatures_of C x) header sections.Body nothing_noted r ≡ section_and_rest (signatures_of C y) header sections.Body nothing_noted r
 unfolding section_then
@@ -81,6 +89,7 @@ module _ (C : Table) (a b : Answers) (number : ℕ) (header s : List ℕ) where
           ≡ section_and_rest (signatures_of C (b number)) header section' nothing_noted (read (plain (order header)) [] k.T (12 + length k.front) k.octets)
       go sections.Header d' k none' = through_header C (a number) (b number) header _ (sym (header_read C (a number) number header s d' k) ∙ none')
       go sections.Exception d' k none' = through_exception C (a number) (b number) header _
+      go sections.SystemException d' k none' = through_system C (a number) (b number) header _
       go sections.Body d' k none' = through_body C (a number) (b number) header _
 
   stands_new : (p : Part) → header_noted header s ≡ None → Stands C a number header s p → Stands C b number header s p

@@ -12,32 +12,34 @@ use Rattle.giop_print.specs.declared.path.Root.{Root}
 use Rattle.giop_print.specs.declared.path.Root.TheVariants as roots
 use Rattle.giop_sig.specs.Types.{Ty}
 use Rattle.giop_sig.specs.Table.{Table}
+use Rattle.giop_sig.specs.HeaderTypes.{header_type}
 use Rattle.giop_decode.specs.declared.decoder.Decoder.{Decoder}
 use Rattle.giop_decode.specs.declared.progress.Kind.{Kind}
 use Rattle.giop_decode.specs.declared.progress.Progress.{Progress}
 use Rattle.giop_decode.specs.declared.progress.Progress.TheVariants as progress
 use Rattle.giop_decode.specs.ReadResult.{plain, Line, OpenPart, Leaf, Read, Done, Short, Fault}
 use Rattle.giop_decode.specs.Reading.{read}
-use Rattle.giop_decode.specs.Noted.{Noted, nothing_noted, noted_of, is_header_root}
+use Rattle.giop_decode.specs.ReadingSteps.{resumes}
+use Rattle.giop_decode.specs.Noted.{Noted, nothing_noted, noted, noted_of, is_header_root}
 use Rattle.giop_decode.specs.DecoderState as decoders
 use Rattle.giop_decode.specs.Runs.{TakesRun, BreaksOff}
 use Rattle.giop_message.specs.declared.message.Message.{Message as Struct_of}
-use Rattle.giop_message.specs.declared.part.Part.{Part}
 use Rattle.giop_message.specs.declared.part.Section.{Section}
 use Rattle.giop_message.specs.declared.part.Part.TheVariants as parts
 use Rattle.giop_message.specs.declared.part.Section.TheVariants as sections
 use Rattle.giop_message.specs.declared.part.Rest.{Rest}
 use Rattle.giop_message.specs.declared.body_type.BodyTypeId.{BodyTypeId}
-use Rattle.giop_message.specs.Headers.{order}
+use Rattle.giop_message.specs.Headers.{minor, kind, order}
 use Rattle.giop_message.specs.Signatures.{Signatures, Answer, Answers, signatures_of}
-use Rattle.giop_message.specs.Messages.{section_then, section_and_rest, message, message_lines, stage_of, root_of, after}
-use Rattle.giop_message.specs.HeaderEnds.{CallEvent, header_end, noted_if_whole, noted_by_type, header_noted, ends_between, header_ends, call_event, after_event, after_ends, AgreesAtEnds}
+use Rattle.giop_message.specs.Messages.{LineAt, with_front, section_then, section_and_rest, message, message_lines, stage_of, root_of, after}
+use Rattle.giop_message.specs.HeaderEnds.{HeaderEnd, CallEvent, Header_end, noted_if_whole, noted_by_type, header_noted, ends_between, named_if_whole, raised, raises_between, header_ends, is_told, tells_more, may_tell, operation_of, raise_event, after_event, after_ends, AgreesAtEnds}
 use Rattle.giop_message.specs.ReaderOfTable.{first_request_id}
 use Rattle.giop_message.specs.Text.{fault_word}
 use Rattle.giop_message.specs.MessageState.{due_text, IsFirst, Decodes, Stands, FitsPart, Fits, is_header, in_header, Follows, FaultedAt}
-use Rattle.giop_message.specs.MessageSteps.{request_call, Arrives, WritesRun}
+use Rattle.giop_message.specs.MessageSteps.{request_call, section_event, Arrives, WritesRun}
 use Rattle.giop_message.proofs.Dues.{text_both}
-use Rattle.giop_message.proofs.HeaderEndLaws.{waits, past_none, header_ends_both, answers_first}
+use Rattle.giop_message.proofs.HeaderEndLaws.{waits, past_none, settled_none, header_ends_both, answers_first}
+use Rattle.giop_message.proofs.Raises.{is_raising, raises_here, pads_here, is_settled, offset_of, tail_name, named_on, EndsHere, raised_before, raised_inside, raised_pads, raised_ended}
 use Rattle.giop_message.proofs.Octets.{stage_front}
 use Rattle.giop_message.proofs.Parts.{Begun, start, reading, Inside}
 use Rattle.giop_message.proofs.Followings.{header_only, id_noted, Moved, is_at, follows_on}
@@ -268,7 +270,7 @@ module _ {t : Standing} {octets : List ℕ} {n : ℕ} {d' : Decoder} where
       FaultedAt (S t) header s octets n
   went_wrong why k = fault_comes (begun t) s (octets_of t) (inside t) octets n why k.within (last (progress.Fault why) k)
 
--- ---- where a header ends
+-- ---- where a header ends, or a name
 
 waits_short : (S : Signatures) (header : List ℕ) (section : Section) (h : Noted) (lines : List Line)
     (at : ℕ) (outer : List OpenPart) (leaf : Leaf) →
@@ -276,19 +278,59 @@ waits_short : (S : Signatures) (header : List ℕ) (section : Section) (h : Note
 unfolding section_then stage_of waits
 waits_short S header section h lines at outer leaf = refl
 
+raises_short : (S : Signatures) (header : List ℕ) (section : Section) (h : Noted) (lines : List Line)
+    (at : ℕ) (outer : List OpenPart) (leaf : Leaf) →
+    raises_here (stage_of (section_and_rest S header section h (Short lines at outer leaf))) ≡ is_raising section
+unfolding section_then stage_of raises_here
+raises_short S header section h lines at outer leaf = refl
+
+body_short : (S : Signatures) (header : List ℕ) (h : Noted) (lines : List Line) (at : ℕ) (outer : List OpenPart) (leaf : Leaf) →
+    is_settled (stage_of (section_and_rest S header sections.Body h (Short lines at outer leaf))) ≡ true
+unfolding section_then stage_of is_settled
+body_short S header h lines at outer leaf = refl
+
+told_short : (S : Signatures) (header : List ℕ) (section : Section) (h : Noted) (lines : List Line)
+    (at : ℕ) (outer : List OpenPart) (leaf : Leaf) →
+    tells_more (stage_of (section_and_rest S header section h (Short lines at outer leaf))) ≡ is_told section
+unfolding section_then stage_of tells_more
+told_short S header section h lines at outer leaf = refl
+
+short_tail : (S : Signatures) (header : List ℕ) (section : Section) (before : List LineAt) (lines : List Line)
+    (at : ℕ) (outer : List OpenPart) (leaf : Leaf) (xs : List ℕ) →
+    tail_name header (offset_of (with_front before (section_and_rest S header section nothing_noted (Short lines at outer leaf)))) xs
+    (stage_of (with_front before (section_and_rest S header section nothing_noted (Short lines at outer leaf))))
+    ≡ named_if_whole (noted (is_header_root (root_of section)) nothing_noted lines)
+    (resumes (plain (order header)) [] (Short [] at outer leaf) xs)
+unfolding section_then with_front offset_of stage_of tail_name
+short_tail S header section before lines at outer leaf xs = refl
+
+raising_root : (section : Section) → is_raising section ≡ true → is_header_root (root_of section) ≡ false
+raising_root sections.Header e = absurd (false≢true e)
+raising_root sections.Exception e = refl
+raising_root sections.SystemException e = refl
+raising_root sections.Body e = absurd (false≢true e)
+
 module _ (t : Standing) where
   open t use {C, answers, number, header, m, s, follows, section, d, is}
+
+  header_reads : section ≡ sections.Header → (xs : List ℕ) →
+      (header_type (minor header) (kind header) ≡ Some (opened t).T)
+      × (read (plain (order header)) [] (opened t).T 12 (s ++ xs) ≡ ReadWith t xs)
+  header_reads in_it xs =
+      let o = opened t in
+      let first = subst (λ x. IsFirst header x o.T o.before o.front) in_it o.first in
+      let P = plain (order header) in (
+        first.0,
+        ap (λ (z : List ℕ). read P [] o.T 12 (z ++ xs)) (o.since ∙ ap (λ (f : List ℕ). f ++ o.octets) first.2)
+            ∙ ap (λ (f : List ℕ). read P [] o.T (12 + length f) (o.octets ++ xs)) (sym first.2),
+      )
 
   -- what is noted of a header is what its decoder reads
   header_is : section ≡ sections.Header → (xs : List ℕ) → header_noted header (s ++ xs) ≡ noted_if_whole (ReadWith t xs)
   unfolding header_noted
   header_is in_it xs =
-      let o = opened t in
-      let first = subst (λ x. IsFirst header x o.T o.before o.front) in_it o.first in
-      let P = plain (order header) in
-      ap (λ f. noted_by_type header f (s ++ xs)) first.0
-      ∙ (ap (λ (z : List ℕ). noted_if_whole (read P [] o.T 12 (z ++ xs))) (o.since ∙ ap (λ (f : List ℕ). f ++ o.octets) first.2)
-      ∙ ap (λ (f : List ℕ). noted_if_whole (read P [] o.T (12 + length f) (o.octets ++ xs))) (sym first.2))
+      let both = header_reads in_it xs in
+      ap (λ f. noted_by_type header f (s ++ xs)) both.0 ∙ ap noted_if_whole both.1
 
   header_short : section ≡ sections.Header → header_noted header s ≡ None
   header_short in_it =
@@ -296,59 +338,170 @@ module _ (t : Standing) where
       ap (header_noted header) (sym (append-nil s))
       ∙ (header_is in_it [] ∙ (ap (λ (z : List ℕ). noted_if_whole (reading (begun t) z)) (append-nil (octets_of t)) ∙ ap noted_if_whole i.was_short))
 
-  -- another section ends none
-  section_none : is_header section ≡ false → (more : List ℕ) → header_ends number header s more ≡ []
-  section_none past more =
+  -- the message, by what its section has begun and not ended
+  stands_short : message (S t) header s
+      ≡ with_front (begun t).before (section_and_rest (S t) header section nothing_noted
+      (Short (inside t).lines (start (begun t) + length (octets_of t)) (inside t).outer (inside t).leaf))
+  stands_short =
       let i = inside t in
-      let w = begun t in
+      i.is ∙ ap (λ r. with_front (begun t).before (section_and_rest (S t) header section nothing_noted r)) i.was_short
+
+  -- whether more may be told
+  pub section_value : is_told section ≡ may_tell (S t) header s
+  unfolding may_tell
+  section_value =
+      sym (ap (λ z. tells_more (stage_of z)) stands_short
+      ∙ (ap tells_more (stage_front _ _) ∙ told_short (S t) header section nothing_noted _ _ _ _))
+
+  -- another section ends none
+  section_none : is_header section ≡ false → (more : List ℕ) →
+      ends_between number header (header_noted header s) (header_noted header (s ++ more)) ≡ []
+  section_none past more =
       past_none C (answers number) number header s more
-      (ap (λ z. waits (stage_of z)) i.is
-      ∙ (ap waits (stage_front w.before (section_and_rest (S t) header section nothing_noted (reading w (octets_of t))))
-      ∙ (ap (λ r. waits (stage_of (section_and_rest (S t) header section nothing_noted r))) i.was_short
-      ∙ (waits_short (S t) header section nothing_noted i.lines _ i.outer i.leaf ∙ past))))
+      (ap (λ z. waits (stage_of z)) stands_short
+      ∙ (ap waits (stage_front _ _) ∙ (waits_short (S t) header section nothing_noted _ _ _ _ ∙ past)))
+
+  body_none : section ≡ sections.Body → (more : List ℕ) →
+      raises_between number (raised header s) (raised header (s ++ more)) ≡ []
+  body_none in_it more =
+      settled_none C (answers number) number header s more
+      (ap (λ z. is_settled (stage_of z)) stands_short
+      ∙ (ap is_settled (stage_front _ _)
+      ∙ (ap (λ x. is_settled (stage_of (section_and_rest (S t) header x nothing_noted
+      (Short (inside t).lines (start (begun t) + length (octets_of t)) (inside t).outer (inside t).leaf)))) in_it
+      ∙ body_short (S t) header nothing_noted _ _ _ _)))
+
+  -- the name of an exception is what its decoder reads
+  name_is : is_raising section ≡ true → (xs : List ℕ) →
+      raised header (s ++ xs) ≡ named_if_whole nothing_noted (ReadWith t xs)
+  name_is raises xs =
+      let i = inside t in
+      let n = start (begun t) + length (octets_of t) in
+      let here = ap (λ z. raises_here (stage_of z)) stands_short
+      ∙ (ap raises_here (stage_front _ _) ∙ (raises_short (S t) header section nothing_noted _ _ _ _ ∙ raises)) in
+      raised_inside C (answers number) header s xs here
+      ∙ (ap (λ z. tail_name header (offset_of z) xs (stage_of z)) stands_short
+      ∙ (short_tail (S t) header section (begun t).before i.lines n i.outer i.leaf xs
+      ∙ (ap (λ b. named_if_whole (noted b nothing_noted i.lines) (resumes (plain (order header)) [] (Short [] n i.outer i.leaf) xs))
+      (raising_root section raises)
+      ∙ sym (named_on header nothing_noted (opened t).T (start (begun t)) (octets_of t) xs i.lines n i.outer i.leaf i.was_short))))
+
+  name_short : is_raising section ≡ true → raised header s ≡ None
+  name_short raises =
+      let i = inside t in
+      ap (raised header) (sym (append-nil s))
+      ∙ (name_is raises [] ∙ (ap (λ (z : List ℕ). named_if_whole nothing_noted (reading (begun t) z)) (append-nil (octets_of t))
+      ∙ ap (named_if_whole nothing_noted) i.was_short))
 
 -- an answer other than the end
 abbrev IsNoEnd : Progress → Type 0
 IsNoEnd progress.Done = ⊥
 IsNoEnd p = Unit {0}
 
-answer_none : (end : ℕ) (named : Bool) (p : Progress) (r : Read) → decoders.IsAnswer end named p r → IsNoEnd p → noted_if_whole r ≡ None
-answer_none end named p (Short lines at outer leaf) a other = refl
-answer_none end named p (Fault lines at why T) a other = refl
+answer_none : (end : ℕ) (named : Bool) (p : Progress) (r : Read) → decoders.IsAnswer end named p r → IsNoEnd p →
+    (noted_if_whole r ≡ None) × (named_if_whole nothing_noted r ≡ None)
+answer_none end named p (Short lines at outer leaf) a other = (refl, refl)
+answer_none end named p (Fault lines at why T) a other = (refl, refl)
 answer_none end named progress.More (Done lines at rest) a other = absurd a
 answer_none end named progress.Named (Done lines at rest) a other = absurd a
 answer_none end named progress.Done (Done lines at rest) a other = absurd other
 answer_none end named (progress.Fault kind) (Done lines at rest) a other = absurd a
 
-answer_whole : (end : ℕ) (named : Bool) (r : Read) → decoders.IsAnswer end named progress.Done r → noted_if_whole r ≡ Some (noted_of true r)
-answer_whole end named (Done lines at rest) a = refl
+answer_whole : (end : ℕ) (named : Bool) (r : Read) → decoders.IsAnswer end named progress.Done r →
+    (noted_if_whole r ≡ Some (noted_of true r)) × (named_if_whole nothing_noted r ≡ (noted_of false r).name) × EndsHere r
+answer_whole end named (Done lines at rest) a = (refl, refl, a)
 answer_whole end named (Short lines at outer leaf) a = absurd a
 answer_whole end named (Fault lines at why T) a = absurd a
+
+-- what ends where a section does, by its reading
+abbrev section_ends : Section → ℕ → List ℕ → Read → List HeaderEnd
+section_ends sections.Header number header r = Header_end number header (noted_of true r) ∷ []
+section_ends sections.Exception number header r = raises_between number None (noted_of false r).name
+section_ends sections.SystemException number header r = raises_between number None (noted_of false r).name
+section_ends sections.Body number header r = []
+
+module _ (C : Table) (number : ℕ) (header : List ℕ) {St : Type 0} (notified : St → CallEvent → St) (st : St) where
+  name_ends : (name : Option (List ℕ)) →
+      after_event notified st (raise_event number name) ≡ after_ends notified C st (raises_between number None name)
+  name_ends None = refl
+  name_ends (Some name) = refl
+
+  event_ends : (x : Section) (r : Read) →
+      after_event notified st (section_event x number header r (operation_of C header (noted_of true r)))
+      ≡ after_ends notified C st (section_ends x number header r)
+  event_ends sections.Header r = refl
+  event_ends sections.Exception r = name_ends (noted_of false r).name
+  event_ends sections.SystemException r = name_ends (noted_of false r).name
+  event_ends sections.Body r = refl
 
 module _ {t : Standing} {octets : List ℕ} {n : ℕ} {d' : Decoder} where
   open t use {C, answers, number, header, m, s, follows, section}
 
-  -- octets that end no section end no header
+  -- octets that end no section end no header and no name
   pub none_ends : {p : Progress} → Took t octets n d' p → IsNoEnd p → header_ends number header s (take n octets) ≡ []
   unfolding header_ends
-  none_ends {p} k other = go (is_header section) refl
+  none_ends {p} k other = go section refl
     where
-      go : (b : Bool) → is_header section ≡ b →
-          ends_between number header (header_noted header s) (header_noted header (s ++ take n octets)) ≡ []
-      go false e = section_none t e (take n octets)
-      go true e =
-          let in_it = header_only section e in
-          let a = last_answer (begun t) s (octets_of t) (inside t) (take n octets) p (last p k) in
-          let none = header_is t in_it (take n octets) ∙ answer_none a.0 a.1 p (ReadWith t (take n octets)) a.2 other in
-          rw (header_short t in_it, none) refl
+      xs : List ℕ
+      xs = take n octets
+
+      none : (noted_if_whole (ReadWith t xs) ≡ None) × (named_if_whole nothing_noted (ReadWith t xs) ≡ None)
+      none =
+          let a = last_answer (begun t) s (octets_of t) (inside t) xs p (last p k) in
+          answer_none a.0 a.1 p (ReadWith t xs) a.2 other
+
+      raising : is_raising section ≡ true → is_header section ≡ false →
+          ends_between number header (header_noted header s) (header_noted header (s ++ xs))
+          ++ raises_between number (raised header s) (raised header (s ++ xs)) ≡ []
+      raising raises past = rw (section_none t past xs, name_short t raises, name_is t raises xs, none.1) refl
+
+      go : (x : Section) → section ≡ x →
+          ends_between number header (header_noted header s) (header_noted header (s ++ xs))
+          ++ raises_between number (raised header s) (raised header (s ++ xs)) ≡ []
+      go sections.Header e =
+          let before = header_short t e in
+          let now = header_is t e xs ∙ none.0 in
+          rw (raised_before header s before, raised_before header (s ++ xs) now, before, now) refl
+      go sections.Exception e = raising (ap is_raising e) (ap is_header e)
+      go sections.SystemException e = raising (ap is_raising e) (ap is_header e)
+      go sections.Body e = rw (section_none t (ap is_header e) xs, body_none t e xs) refl
+
+  done_ends : Took t octets n d' progress.Done →
+      header_ends number header s (take n octets) ≡ section_ends section number header (ReadWith t (take n octets))
+  unfolding header_ends
+  done_ends k = go section refl ∙ ap (λ x. section_ends x number header (ReadWith t xs)) refl
+    where
+      xs : List ℕ
+      xs = take n octets
+
+      whole : (noted_if_whole (ReadWith t xs) ≡ Some (noted_of true (ReadWith t xs)))
+          × (named_if_whole nothing_noted (ReadWith t xs) ≡ (noted_of false (ReadWith t xs)).name) × EndsHere (ReadWith t xs)
+      whole =
+          let a = last_answer (begun t) s (octets_of t) (inside t) xs progress.Done (last progress.Done k) in
+          answer_whole a.0 a.1 (ReadWith t xs) a.2
+
+      raising : is_raising section ≡ true → is_header section ≡ false →
+          ends_between number header (header_noted header s) (header_noted header (s ++ xs))
+          ++ raises_between number (raised header s) (raised header (s ++ xs))
+          ≡ raises_between number None (noted_of false (ReadWith t xs)).name
+      raising raises past = rw (section_none t past xs, name_short t raises, name_is t raises xs, whole.1) refl
+
+      go : (x : Section) → section ≡ x →
+          ends_between number header (header_noted header s) (header_noted header (s ++ xs))
+          ++ raises_between number (raised header s) (raised header (s ++ xs)) ≡ section_ends x number header (ReadWith t xs)
+      go sections.Header e =
+          let before = header_short t e in
+          let now = header_is t e xs ∙ whole.0 in
+          let reads = header_reads t e xs in
+          let none = raised_ended header (s ++ xs) (opened t).T reads.0 (subst EndsHere (sym reads.1) whole.2) in
+          rw (raised_before header s before, none, before, now) refl
+      go sections.Exception e = raising (ap is_raising e) (ap is_header e)
+      go sections.SystemException e = raising (ap is_raising e) (ap is_header e)
+      go sections.Body e = rw (section_none t (ap is_header e) xs, body_none t e xs) refl
 
   one_ends : Took t octets n d' progress.Done → section ≡ sections.Header →
-      header_ends number header s (take n octets) ≡ header_end number header (noted_of true (ReadWith t (take n octets))) ∷ []
-  unfolding header_ends
-  one_ends k in_it =
-      let a = last_answer (begun t) s (octets_of t) (inside t) (take n octets) progress.Done (last progress.Done k) in
-      let some = header_is t in_it (take n octets) ∙ answer_whole a.0 a.1 (ReadWith t (take n octets)) a.2 in
-      rw (header_short t in_it, some) refl
+      header_ends number header s (take n octets) ≡ Header_end number header (noted_of true (ReadWith t (take n octets))) ∷ []
+  one_ends k in_it = done_ends k ∙ ap (λ x. section_ends x number header (ReadWith t (take n octets))) in_it
 
   module _ {St : Type 0} (answer : St → Answer) (notified : St → CallEvent → St) (st : St) where
     -- a header that ends is answered by the state before it,
@@ -361,43 +514,47 @@ module _ {t : Standing} {octets : List ℕ} {n : ℕ} {d' : Decoder} where
         let here = subst (AgreesAtEnds answer notified C st a) (one_ends k (header_only section e)) front in
         here.0
 
-    -- which is told of it
+    -- which is told of it, and of a name
     pub told_here : (now : St) → Took t octets n d' progress.Done →
-        now ≡ cond (is_header section) (after_event notified st (call_event C (header_end m.number m.header (noted_of true (ReadWith t (take n octets)))))) st →
+        now ≡ after_event notified st (section_event section m.number m.header (ReadWith t (take n octets))
+        (operation_of C m.header (noted_of true (ReadWith t (take n octets))))) →
         now ≡ after_ends notified C st (header_ends number header s (take n octets))
-    told_here now k told = go (is_header section) refl
-      where
-        go : (b : Bool) → is_header section ≡ b → now ≡ after_ends notified C st (header_ends number header s (take n octets))
-        go false e =
-            told ∙ (ap (λ x. cond x (after_event notified st (call_event C (header_end m.number m.header (noted_of true (ReadWith t (take n octets)))))) st) e
-            ∙ sym (ap (after_ends notified C st) (section_none t e (take n octets))))
-        go true e =
-            told ∙ (ap (λ x. cond x (after_event notified st (call_event C (header_end m.number m.header (noted_of true (ReadWith t (take n octets)))))) st) e
-            ∙ (ap (λ x. after_event notified st (call_event C (header_end x m.header (noted_of true (ReadWith t (take n octets)))))) follows.same_number
-            ∙ (ap (λ x. after_event notified st (call_event C (header_end number x (noted_of true (ReadWith t (take n octets)))))) follows.same_header
-            ∙ sym (ap (after_ends notified C st) (one_ends k (header_only section e))))))
+    told_here now k told =
+        let r = ReadWith t (take n octets) in
+        told
+        ∙ (ap (λ x. after_event notified st (section_event section x m.header r (operation_of C m.header (noted_of true r)))) follows.same_number
+        ∙ (ap (λ x. after_event notified st (section_event section number x r (operation_of C x (noted_of true r)))) follows.same_header
+        ∙ (event_ends C number header notified st section r ∙ sym (ap (after_ends notified C st) (done_ends k)))))
 
 -- ---- padding, and a rest
 
 module _ {C : Table} {answers : Answers} {number : ℕ} {header : List ℕ} {m : Struct_of} {s : List ℕ}
     (f : Follows C answers number header m s) where
-  pub padding_none : {body_type_id : BodyTypeId} → m.part ≡ parts.Padding body_type_id → (more : List ℕ) → header_ends number header s more ≡ []
-  unfolding waits stage_of
-  padding_none {body_type_id} is more =
-      let x = subst (Stands C answers number header s) is f.stands in
-      past_none C (answers number) number header s more (ap (λ z. waits (stage_of z)) x.1)
+  pub padding_none : {body_type_id : BodyTypeId} → m.part ≡ parts.Padding body_type_id → (x : ℕ) →
+      header_ends number header s (x ∷ []) ≡ []
+  unfolding header_ends waits pads_here stage_of
+  padding_none {body_type_id} is x =
+      let stands = subst (Stands C answers number header s) is f.stands in
+      let names = raised_pads C (answers number) header s x (ap (λ z. pads_here (stage_of z)) stands.1) in
+      rw (past_none C (answers number) number header s (x ∷ []) (ap (λ z. waits (stage_of z)) stands.1), names.0, names.1) refl
 
   pub rest_none : {r : Rest} → m.part ≡ parts.Rest r → (more : List ℕ) → header_ends number header s more ≡ []
-  unfolding waits stage_of
+  unfolding header_ends waits is_settled stage_of
   rest_none {r} is more =
-      let x = subst (Stands C answers number header s) is f.stands in
-      past_none C (answers number) number header s more (ap (λ z. waits (stage_of z)) x.1)
+      let stands = subst (Stands C answers number header s) is f.stands in
+      rw (past_none C (answers number) number header s more (ap (λ z. waits (stage_of z)) stands.1))
+      (settled_none C (answers number) number header s more (ap (λ z. is_settled (stage_of z)) stands.1))
 
-  -- and past the header no octet ends it
-  pub past_header : Fits C m → in_header m.part ≡ false → (more : List ℕ) → header_ends number header s more ≡ []
-  past_header fits past = go m.part refl past
-    where
-      go : (part : Part) → m.part ≡ part → in_header part ≡ false → (more : List ℕ) → header_ends number header s more ≡ []
-      go (parts.Typed section d) is past more = section_none (standing f is fits) past more
-      go (parts.Padding body_type_id) is past more = padding_none is more
-      go (parts.Rest r) is past more = rest_none is more
+  -- whether more may be told
+  pub padding_value : {body_type_id : BodyTypeId} → m.part ≡ parts.Padding body_type_id →
+      true ≡ may_tell (signatures_of C (answers number)) header s
+  unfolding may_tell tells_more stage_of
+  padding_value {body_type_id} is =
+      let stands = subst (Stands C answers number header s) is f.stands in
+      sym (ap (λ z. tells_more (stage_of z)) stands.1)
+
+  pub rest_value : {r : Rest} → m.part ≡ parts.Rest r → false ≡ may_tell (signatures_of C (answers number)) header s
+  unfolding may_tell tells_more stage_of
+  rest_value {r} is =
+      let stands = subst (Stands C answers number header s) is f.stands in
+      sym (ap (λ z. tells_more (stage_of z)) stands.1)

@@ -93,6 +93,7 @@ follows_by : (S : Signatures) (header : List ℕ) (section : Section) (h : Noted
 unfolding after_header after_exception body is_unaligned
 follows_by S header sections.Header h n = by_tests S header h n (has_body header) (minor header == 2) (nat_lt 0 (padding n 8)) refl
 follows_by S header sections.Exception h n = option_body S header (members_of S h.name) n
+follows_by S header sections.SystemException h n = refl
 follows_by S header sections.Body h n = refl
 
 pub left_padded : (S : Signatures) (header : List ℕ) (section : Section) (h : Noted) (n : ℕ) →
@@ -170,4 +171,5 @@ wanted_agree C a b header sections.Exception h same = go h.name
     go : (name : Option (List ℕ)) → type_if (members_of (signatures_of C a) name) ≡ type_if (members_of (signatures_of C b) name)
     go None = refl
     go (Some name) = refl
+wanted_agree C a b header sections.SystemException h same = refl
 wanted_agree C a b header sections.Body h same = refl

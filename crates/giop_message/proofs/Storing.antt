@@ -29,6 +29,7 @@ abbrev wanted_octet : BodyTypeId → ℕ
 wanted_octet body_type_ids.Nothing = 0
 wanted_octet (body_type_ids.Type of) = 1
 wanted_octet body_type_ids.Exception = 2
+wanted_octet body_type_ids.SystemException = 3
 
 said : (body_type_id : BodyTypeId) (octets : List ℕ) → IsPaddingOf octets body_type_id
     → get_or octets 0 0 ≡ wanted_octet body_type_id
@@ -41,6 +42,7 @@ pub nothing_again : (body_type_id : BodyTypeId) (octets : List ℕ) → IsPaddin
 nothing_again body_type_ids.Nothing octets e first = refl
 nothing_again (body_type_ids.Type of) octets e first = absurd (omega (arith, said (body_type_ids.Type of) octets e))
 nothing_again body_type_ids.Exception octets e first = absurd (omega (arith, said body_type_ids.Exception octets e))
+nothing_again body_type_ids.SystemException octets e first = absurd (omega (arith, said body_type_ids.SystemException octets e))
 
 pub type_again : (body_type_id : BodyTypeId) (octets : List ℕ) (n : ℕ) → IsPaddingOf octets body_type_id
     → get_or octets 0 0 ≡ 1
@@ -51,12 +53,22 @@ type_again body_type_ids.Nothing octets n e first number = absurd (omega (arith,
 type_again (body_type_ids.Type of) octets n e first number =
     rw (number of.0 (replicate 203 0) e.range (ap (drop 1) e.is)) refl
 type_again body_type_ids.Exception octets n e first number = absurd (omega (arith, said body_type_ids.Exception octets e))
+type_again body_type_ids.SystemException octets n e first number = absurd (omega (arith, said body_type_ids.SystemException octets e))
 
 pub exception_again : (body_type_id : BodyTypeId) (octets : List ℕ) → IsPaddingOf octets body_type_id
-    → get_or octets 0 0 ≢ 0 → get_or octets 0 0 ≢ 1 → body_type_ids.Exception ≡ body_type_id
-exception_again body_type_ids.Nothing octets e other another = absurd (other (said body_type_ids.Nothing octets e))
-exception_again (body_type_ids.Type of) octets e other another = absurd (another (said (body_type_ids.Type of) octets e))
-exception_again body_type_ids.Exception octets e other another = refl
+    → get_or octets 0 0 ≡ 2 → body_type_ids.Exception ≡ body_type_id
+exception_again body_type_ids.Nothing octets e first = absurd (omega (arith, said body_type_ids.Nothing octets e))
+exception_again (body_type_ids.Type of) octets e first = absurd (omega (arith, said (body_type_ids.Type of) octets e))
+exception_again body_type_ids.Exception octets e first = refl
+exception_again body_type_ids.SystemException octets e first = absurd (omega (arith, said body_type_ids.SystemException octets e))
+
+pub system_again : (body_type_id : BodyTypeId) (octets : List ℕ) → IsPaddingOf octets body_type_id
+    → get_or octets 0 0 ≢ 0 → get_or octets 0 0 ≢ 1 → get_or octets 0 0 ≢ 2
+    → body_type_ids.SystemException ≡ body_type_id
+system_again body_type_ids.Nothing octets e none type exception = absurd (none (said body_type_ids.Nothing octets e))
+system_again (body_type_ids.Type of) octets e none type exception = absurd (type (said (body_type_ids.Type of) octets e))
+system_again body_type_ids.Exception octets e none type exception = absurd (exception (said body_type_ids.Exception octets e))
+system_again body_type_ids.SystemException octets e none type exception = refl
 
 -- ---- a rest
 

@@ -1,27 +1,29 @@
--- Where the header of a message ends, and what the correspondent, the other side of the conversation, is told there
--- (meaning).
-use Rattle.std.specs.Prelude.{◌≡◌, ◌<◌, ℕ, Bool, true, List, [], ◌∷◌, ◌++◌, length, Option, Some, None, IfSome, option_and_then, ◌==◌, if◌then◌else◌}
+-- Where the header of a message ends, where the name of an exception that a Reply raises does, and what the correspondent,
+-- the other side of the conversation, is told there (meaning).
+use Rattle.std.specs.Prelude.{◌≡◌, ◌<◌, ℕ, Bool, true, false, List, [], ◌∷◌, ◌++◌, length, Option, Some, None, IfSome, option_and_then, option_map, ◌==◌, ◌+◌, nat_lt, drop, if◌then◌else◌}
 use Rattle.giop_sig.specs.declared.types.OpId.{OpId}
+use Rattle.giop_cdr.specs.Alignment.{padding}
+use Rattle.giop_sig.specs.declared.types.Fixed.TheVariants.{ExceptionId, SystemException}
 use Rattle.giop_sig.specs.Types.{Ty}
 use Rattle.giop_sig.specs.Table.{Table, operation_in}
-use Rattle.giop_sig.specs.HeaderTypes.{header_type}
+use Rattle.giop_sig.specs.HeaderTypes.{header_type, fixed_type}
 use Rattle.giop_decode.specs.ReadResult.{plain, Read, Done, Short, Fault}
 use Rattle.giop_decode.specs.Reading.{read}
 use Rattle.giop_decode.specs.Noted.{Noted, nothing_noted, noted}
 use Rattle.giop_message.specs.Headers.{minor, kind, order}
-use Rattle.giop_message.specs.Signatures.{Answer, Answers}
-use Rattle.giop_message.specs.Messages.{is_shown}
+use Rattle.giop_message.specs.declared.part.Section.{Section}
+use Rattle.giop_message.specs.declared.part.Section.TheVariants as sections
+use Rattle.giop_message.specs.Signatures.{Signatures, Answer, Answers}
+use Rattle.giop_message.specs.Messages.{Stage, In_typed, In_padding, In_rest, Over, message, stage_of, is_shown}
 
 -- ---- where a header ends
 
--- a header that ends: the message's number, the 12 octets that it begins with, and what is noted of the others
-pub record HeaderEnd : Type 0 where
-  pub number : ℕ
-  pub header : List ℕ
-  pub notes : Noted
-
-abbrev pub header_end : ℕ → List ℕ → Noted → HeaderEnd
-header_end number header n = record { number = number; header = header; notes = n }
+-- what ends in a message of this number
+pub data HeaderEnd : Type 0 where
+  -- its header: the 12 octets that it begins with, and what is noted of the others
+  Header_end : ℕ → List ℕ → Noted → HeaderEnd
+  -- the exception that it raises: its name, of at most 128 octets
+  Exception_end : ℕ → List ℕ → HeaderEnd
 
 abbrev pub noted_if_whole : Read → Option Noted
 noted_if_whole (Done lines at s) = Some (noted true nothing_noted lines)
@@ -40,11 +42,78 @@ header_noted header s = noted_by_type header (header_type (minor header) (kind h
 abbrev pub ends_between : ℕ → List ℕ → Option Noted → Option Noted → List HeaderEnd
 ends_between number header (Some before) now = []
 ends_between number header None None = []
-ends_between number header None (Some n) = header_end number header n ∷ []
+ends_between number header None (Some n) = Header_end number header n ∷ []
 
--- the header that ends in these octets after `s`, in a list of one, or none
+-- ---- what a Reply raises
+
+-- the name that a whole reading has, after what was noted before: the last string, where that has at most 128 octets
+abbrev pub named_if_whole : Noted → Read → Option (List ℕ)
+named_if_whole h (Done lines at s) = (noted false h lines).name
+named_if_whole h (Short lines at outer leaf) = None
+named_if_whole h (Fault lines at why T) = None
+
+-- by the type that has the name, where there is one
+abbrev pub named_by_type : List ℕ → Option Ty → ℕ → List ℕ → Option (List ℕ)
+named_by_type header None at s = None
+named_by_type header (Some T) at s = named_if_whole nothing_noted (read (plain (order header)) [] T at s)
+
+-- after a header that ends at this offset: in 1.2 a body begins at the next multiple of 8
+abbrev pub named_behind : List ℕ → Option Ty → ℕ → List ℕ → Option (List ℕ)
+named_behind header found at s =
+    if minor header == 2
+    then (if nat_lt (length s) (padding at 8) then None else named_by_type header found (at + padding at 8) (drop (padding at 8) s))
+    else named_by_type header found at s
+
+-- The type that has the name, by the status of a Reply: of USER_EXCEPTION the repository id, of SYSTEM_EXCEPTION its body.
+abbrev pub raising : Option ℕ → Option Ty
+raising None = None
+raising (Some status) =
+    if status == 1 then Some (fixed_type ExceptionId) else (if status == 2 then Some (fixed_type SystemException) else None)
+
+abbrev pub raised_after : List ℕ → Read → Option (List ℕ)
+raised_after header (Done lines at s) = named_behind header (raising (noted true nothing_noted lines).status) at s
+raised_after header (Short lines at outer leaf) = None
+raised_after header (Fault lines at why T) = None
+
+abbrev pub raised_by_type : List ℕ → Option Ty → List ℕ → Option (List ℕ)
+raised_by_type header None s = None
+raised_by_type header (Some T) s = raised_after header (read (plain (order header)) [] T 12 s)
+
+-- The name of the exception that a Reply raises, once the repository id or the body of the system exception is complete,
+-- by the octets `s` that follow the 12 of its header (GIOP Message Formats, Reply Body).
+unfoldable pub raised : List ℕ → List ℕ → Option (List ℕ)
+raised header s = if kind header == 1 then raised_by_type header (header_type (minor header) (kind header)) s else None
+
+abbrev pub raises_between : ℕ → Option (List ℕ) → Option (List ℕ) → List HeaderEnd
+raises_between number (Some before) now = []
+raises_between number None None = []
+raises_between number None (Some name) = Exception_end number name ∷ []
+
+-- what ends in these octets after `s`: the header, and the name of an exception
 unfoldable pub header_ends : ℕ → List ℕ → List ℕ → List ℕ → List HeaderEnd
-header_ends number header s more = ends_between number header (header_noted header s) (header_noted header (s ++ more))
+header_ends number header s more =
+    ends_between number header (header_noted header s) (header_noted header (s ++ more))
+    ++ raises_between number (raised header s) (raised header (s ++ more))
+
+-- ---- where a header or a name may still end
+
+-- where it ends the correspondent is told of it: a header, and what has the name of an exception
+abbrev pub is_told : Section → Bool
+is_told sections.Header = true
+is_told sections.Exception = true
+is_told sections.SystemException = true
+is_told sections.Body = false
+
+unfoldable pub tells_more : Stage → Bool
+tells_more (In_typed section h outer leaf) = is_told section
+tells_more (In_padding b) = true
+tells_more (In_rest offset held) = false
+tells_more Over = false
+
+-- A message of this header and these octets after it is in its header, in the padding behind that, in the repository id of an
+-- exception, or in the body of a system exception. Elsewhere no header and no name ends any more.
+unfoldable pub may_tell : Signatures → List ℕ → List ℕ → Bool
+may_tell S header s = tells_more (stage_of (message S header s))
 
 -- ---- what is told there
 
@@ -56,6 +125,8 @@ pub data CallEvent : Type 0 where
   Requested : ℕ → ℕ → Option (List ℕ) → Option OpId → Bool → CallEvent
   -- a Reply: its number, and the id of the request that it answers
   Replied : ℕ → ℕ → CallEvent
+  -- a Reply that raises an exception: its number, and the exception's name, where a call line could show it
+  Raised : ℕ → List ℕ → CallEvent
 
 abbrev pub shown : Option (List ℕ) → Option (List ℕ)
 shown None = None
@@ -86,8 +157,13 @@ header_event number header n operation =
     else if kind header == 1 then reply_event number n.request_id
     else None
 
+-- by the number of a Reply, and the name of the exception that it raises
+abbrev pub raise_event : ℕ → Option (List ℕ) → Option CallEvent
+raise_event number name = option_map (Raised number) (shown name)
+
 abbrev pub call_event : Table → HeaderEnd → Option CallEvent
-call_event C e = header_event e.number e.header e.notes (operation_of C e.header e.notes)
+call_event C (Header_end number header n) = header_event number header n (operation_of C header n)
+call_event C (Exception_end number name) = raise_event number (Some name)
 
 -- ---- the states of a correspondent: what each answers, and the one that follows an event
 
@@ -100,11 +176,16 @@ abbrev pub after_ends : {St : Type 0} → (St → CallEvent → St) → Table �
 after_ends notified C st [] = st
 after_ends notified C st (e ∷ es) = after_ends notified C (after_event notified st (call_event C e)) es
 
--- Each message whose header ends is answered as the state before its event answers.
+-- A message whose header ends is answered as the state before its event answers.
+abbrev pub IsAnswered : {St : Type 0} → (St → Answer) → St → Answers → HeaderEnd → Type 0
+IsAnswered answer st a (Header_end number header n) = a number ≡ answer st
+IsAnswered answer st a (Exception_end number name) = Unit {0}
+
+-- each of them is
 abbrev pub AgreesAtEnds : {St : Type 0} → (St → Answer) → (St → CallEvent → St) → Table → St → Answers → List HeaderEnd → Type 0
 AgreesAtEnds answer notified C st a [] = Unit {0}
 AgreesAtEnds answer notified C st a (e ∷ es) =
-    (a e.number ≡ answer st) × AgreesAtEnds answer notified C (after_event notified st (call_event C e)) a es
+    IsAnswered answer st a e × AgreesAtEnds answer notified C (after_event notified st (call_event C e)) a es
 
 -- the operation is one of the table
 abbrev pub IsKnownOperation : Table → Option OpId → Type 0
@@ -113,3 +194,4 @@ IsKnownOperation C operation = IfSome operation (λ o. o.0 < length C.operations
 abbrev pub HasKnownOperation : Table → CallEvent → Type 0
 HasKnownOperation C (Requested number id name operation expects) = IsKnownOperation C operation
 HasKnownOperation C (Replied number id) = Unit {0}
+HasKnownOperation C (Raised number name) = Unit {0}

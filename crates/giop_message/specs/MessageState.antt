@@ -22,7 +22,7 @@ use Rattle.giop_message.specs.Headers.{minor, kind, order}
 use Rattle.giop_message.specs.MessageReader.{LineClass, TimedLine}
 use Rattle.giop_message.specs.Text.{line_class_text}
 use Rattle.giop_message.specs.Signatures.{Signatures, RequestTable, Answer, Answers, signatures_of}
-use Rattle.giop_message.specs.Messages.{MessageLine, ShortLine, LineAt, BodyType, Untyped, Typed, UserException, In_padding, In_rest, ReadTo, with_front, section_and_rest, root_of, message, message_lines, stage_of}
+use Rattle.giop_message.specs.Messages.{MessageLine, ShortLine, LineAt, BodyType, Untyped, Typed, UserException, SystemException, In_padding, In_rest, ReadTo, with_front, section_and_rest, root_of, message, message_lines, stage_of}
 use Rattle.giop_message.specs.ReaderOfTable.{line_class_of, text_of, first_request_id, is_over}
 
 -- ---- what is written
@@ -72,12 +72,14 @@ abbrev pub body_type : Table → BodyTypeId → BodyType
 body_type C body_type_ids.Nothing = Untyped
 body_type C (body_type_ids.Type of) = Typed (tree C of.0)
 body_type C body_type_ids.Exception = UserException
+body_type C body_type_ids.SystemException = SystemException
 
 -- a type of the table
 abbrev pub IsKnown : Table → BodyTypeId → Type 0
 IsKnown C body_type_ids.Nothing = Unit {0}
 IsKnown C (body_type_ids.Type of) = of.0 < length C.types
 IsKnown C body_type_ids.Exception = Unit {0}
+IsKnown C body_type_ids.SystemException = Unit {0}
 
 -- the part fits a message that has taken so many octets
 abbrev pub FitsPart : Table → ℕ → Part → Type 0
@@ -100,6 +102,7 @@ abbrev pub IsFirst : List ℕ → Section → Ty → List LineAt → List ℕ �
 IsFirst header sections.Header T before front =
     (header_type (minor header) (kind header) ≡ Some T) × (before ≡ []) × (front ≡ [])
 IsFirst header sections.Exception T before front = Unit {0}
+IsFirst header sections.SystemException T before front = Unit {0}
 IsFirst header sections.Body T before front = Unit {0}
 
 -- Lines, and then a section that begins after them: a decoder reads its octets as a value of a type.
@@ -128,6 +131,7 @@ Stands C answers number header s (parts.Rest r) =
 abbrev pub is_header : Section → Bool
 is_header sections.Header = true
 is_header sections.Exception = false
+is_header sections.SystemException = false
 is_header sections.Body = false
 
 abbrev pub in_header : Part → Bool

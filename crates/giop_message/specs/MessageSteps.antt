@@ -1,14 +1,15 @@
 -- What the parts of a message's code do: the text of an octet, and where a message is after a part that has ended
 -- (steps). Only private contracts cite it.
-use Rattle.std.specs.Prelude.{◌≡◌, ℕ, ◌+◌, Bool, true, false, List, [], ◌∷◌, ◌++◌, length, take, Option, Some, Result, MatchResult, ◌&&◌, ◌==◌, nat_lt, if◌then◌else◌}
+use Rattle.std.specs.Prelude.{◌≡◌, ℕ, ◌+◌, Bool, true, false, List, [], ◌∷◌, ◌++◌, length, take, Option, Some, None, Result, MatchResult, ◌&&◌, ◌==◌, nat_lt, if◌then◌else◌}
 use Rattle.giop_cdr.specs.Alignment.{padding}
 use Rattle.giop_print.specs.Lines.{call_line, fault_line, rest_line}
 use Rattle.giop_print.specs.Output.{OutLog, Wrote, WroteFront}
+use Rattle.giop_sig.specs.declared.types.OpId.{OpId}
 use Rattle.giop_sig.specs.Types.{Ty}
 use Rattle.giop_sig.specs.Table.{Table}
 use Rattle.giop_decode.specs.ReadResult.{plain, Read, Done, Short, Fault}
 use Rattle.giop_decode.specs.Reading.{read}
-use Rattle.giop_decode.specs.Noted.{Noted, nothing_noted}
+use Rattle.giop_decode.specs.Noted.{Noted, nothing_noted, noted_of}
 use Rattle.giop_decode.specs.DecoderState.{KeepsNoted}
 use Rattle.giop_message.specs.declared.message.Message.{Message}
 use Rattle.giop_message.specs.declared.part.Section.{Section}
@@ -20,6 +21,7 @@ use Rattle.giop_message.specs.Text.{fault_word}
 use Rattle.giop_message.specs.Signatures.{Signatures, Answers, signatures_of}
 use Rattle.giop_message.specs.Messages
 use Rattle.giop_message.specs.Messages.{LineAt, BodyType, Untyped, is_shown, is_request, has_body, body_of, members_of, type_if, with_front, section_and_rest, root_of, message}
+use Rattle.giop_message.specs.HeaderEnds.{CallEvent, header_event, raise_event}
 use Rattle.giop_message.specs.MessageState.{due_text, IsFirst, Stands, Follows, FaultedAt}
 
 -- the line of a reading's fault, whose octet has this place in the stream
@@ -41,6 +43,7 @@ request_call number header h = if is_request header then called_text number h.re
 abbrev pub body_type_after : Signatures → List ℕ → Section → Noted → BodyType
 body_type_after S header sections.Header h = if has_body header then body_of S header h else Untyped
 body_type_after S header sections.Exception h = type_if (members_of S h.name)
+body_type_after S header sections.SystemException h = Untyped
 body_type_after S header sections.Body h = Untyped
 
 -- In 1.2 there is padding in front of a body that would begin at this offset.
@@ -51,6 +54,7 @@ is_unaligned header at = (minor header == 2) && nat_lt 0 (padding at 8)
 abbrev pub is_padded : List ℕ → Section → ℕ → Bool
 is_padded header sections.Header at = has_body header && is_unaligned header at
 is_padded header sections.Exception at = false
+is_padded header sections.SystemException at = false
 is_padded header sections.Body at = false
 
 -- a message of this number and header, that has taken so many octets
@@ -83,6 +87,13 @@ IsTyped part = ⊥
 abbrev pub Ended : Part → Section → Read → Type 0
 Ended (parts.Typed held d) section r = (held ≡ section) × KeepsNoted (root_of section) d r
 Ended part section r = ⊥
+
+-- what is told where a section ends, by its reading, and the operation that it names if it is a header
+abbrev pub section_event : Section → ℕ → List ℕ → Read → Option OpId → Option CallEvent
+section_event sections.Header number header r operation = header_event number header (noted_of true r) operation
+section_event sections.Exception number header r operation = raise_event number (noted_of false r).name
+section_event sections.SystemException number header r operation = raise_event number (noted_of false r).name
+section_event sections.Body number header r operation = None
 
 -- the last part of a rest
 abbrev pub held_text : ℕ → ℕ → List ℕ → List ℕ

@@ -64,16 +64,19 @@ section_lines root is_request h (l ∷ ls) =
 
 -- ---- where a message is
 
--- The type of a body: none, this one, or that of the exception whose repository id comes first.
+-- The type of a body: none, this one, that of the exception whose repository id comes first, or that of a system
+-- exception.
 pub data BodyType : Type 0 where
   Untyped : BodyType
   Typed : Ty → BodyType
   UserException : BodyType
+  SystemException : BodyType
 
 -- the root of a section's lines
 abbrev pub root_of : Section → Root
 root_of sections.Header = roots.Header
 root_of sections.Exception = roots.Exception
+root_of sections.SystemException = roots.Body
 root_of sections.Body = roots.Body
 
 pub data Stage : Type 0 where
@@ -136,6 +139,8 @@ body S header Untyped at s = rest at s
 body S header (Typed T) at s = typed (order header) T at s
 body S header UserException at s =
     section_then sections.Exception false (after_exception S header) nothing_noted (read (plain (order header)) [] S.exception_id at s)
+body S header SystemException at s =
+    section_then sections.SystemException false (λ h. rest) nothing_noted (read (plain (order header)) [] S.system_exception at s)
 
 unfoldable pub type_if : Option Ty → BodyType
 type_if None = Untyped
@@ -157,7 +162,7 @@ reply_body S id None = Untyped
 reply_body S id (Some status) =
     if status == 0 then result_body S id
     else (if status == 1 then UserException
-    else (if status == 2 then Typed S.system_exception
+    else (if status == 2 then SystemException
     else (if (status == 3) || (status == 4) then Typed S.forward
     else (if status == 5 then Typed S.addressing
     else Untyped))))
@@ -199,12 +204,14 @@ message S header s = of_header S header (S.header (minor header) (kind header)) 
 abbrev pub may_call : List ℕ → Section → Bool
 may_call header sections.Header = is_request header
 may_call header sections.Exception = false
+may_call header sections.SystemException = false
 may_call header sections.Body = false
 
 -- what follows a section, by what is noted of it
 abbrev pub after : Signatures → List ℕ → Section → Noted → ℕ → List ℕ → Message
 after S header sections.Header = after_header S header
 after S header sections.Exception = after_exception S header
+after S header sections.SystemException = λ h. rest
 after S header sections.Body = λ h. rest
 
 -- a section that goes on from what was noted of it, and what follows it

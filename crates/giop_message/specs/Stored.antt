@@ -2,14 +2,14 @@
 -- apart. Of these 16 are its own:
 --
 --     at  octets
---      0       1  the part that it is in: 0 header, 1 repository id, 2 body, 3 padding, 4 rest
+--      0       1  the part that it is in: 0 header, 1 repository id, 2 body, 3 padding, 4 rest, 5 system exception
 --      1       8  offset of its next octet, at least 12
 --      9       5  whether its request id was read, 0 or 1, and the id; zero in the header, whose decoder has it
 --     14       2  zero
 --
 -- and 208 are those of the decoder of a header, a repository id or a body, or of padding:
 --
---      0       1  the body after it: 0 none, 1 of a type, 2 an exception
+--      0       1  the body after it: 0 none, 1 of a type, 2 an exception, 3 a system exception
 --      1       4  the type; else 0
 --      5     203  zero
 --
@@ -45,6 +45,7 @@ use Rattle.giop_message.specs.MessageState.{in_header}
 abbrev pub section_octet : Section → ℕ
 section_octet sections.Header = 0
 section_octet sections.Exception = 1
+section_octet sections.SystemException = 5
 section_octet sections.Body = 2
 
 -- the octet of a part
@@ -66,6 +67,7 @@ abbrev pub body_type_octets : BodyTypeId → List ℕ
 body_type_octets body_type_ids.Nothing = 0 ∷ four 0
 body_type_octets (body_type_ids.Type of) = 1 ∷ four of.0
 body_type_octets body_type_ids.Exception = 2 ∷ four 0
+body_type_octets body_type_ids.SystemException = 3 ∷ four 0
 
 -- the 208 octets of the padding in front of such a body
 unfoldable pub padding_octets : BodyTypeId → List ℕ
@@ -82,6 +84,7 @@ abbrev pub BodyTypeIdHasRange : BodyTypeId → Type 0
 BodyTypeIdHasRange body_type_ids.Nothing = Unit {0}
 BodyTypeIdHasRange (body_type_ids.Type of) = of.0 < 2 ^ 32
 BodyTypeIdHasRange body_type_ids.Exception = Unit {0}
+BodyTypeIdHasRange body_type_ids.SystemException = Unit {0}
 
 -- these 208 octets are those of the padding in front of such a body
 pub record IsPaddingOf (octets : List ℕ) (body_type_id : BodyTypeId) : Type 0 where

@@ -27,6 +27,7 @@ pub(crate) fn id_behind(section: Section, decoder: &Decoder, before: Option<u32>
     match section {
         Section::Header => decoder.request_id(),
         Section::Exception => before,
+        Section::SystemException => before,
         Section::Body => before,
     }
 }
@@ -38,8 +39,8 @@ impl Message {
     ghost use Rattle.giop_message.specs.Headers.{order};
     ghost use Rattle.giop_message.specs.Messages.{body, rest, typed, after};
     ghost use Rattle.giop_message.specs.MessageState.{AreKnown, IsKnown, Fits, in_header, body_type};
-    ghost use Rattle.giop_message.specs.HeaderEnds.{header_end, after_event, call_event};
-    ghost use Rattle.giop_message.specs.MessageSteps.{is_padded, is_unaligned, Arrives, Enters, IsTyped, Ended};
+    ghost use Rattle.giop_message.specs.HeaderEnds.{after_event, operation_of};
+    ghost use Rattle.giop_message.specs.MessageSteps.{is_padded, is_unaligned, Arrives, Enters, IsTyped, Ended, section_event};
 
     /// Begins the rest.
     fn begin_rest(&mut self)
@@ -116,6 +117,10 @@ impl Message {
                 let of = catalogue.fixed(Fixed::ExceptionId);
                 self.begin(catalogue, Section::Exception, of);
             }
+            BodyTypeId::SystemException => {
+                let of = catalogue.fixed(Fixed::SystemException);
+                self.begin(catalogue, Section::SystemException, of);
+            }
         }
     }
 
@@ -133,10 +138,9 @@ impl Message {
         ensures id { (section : Within) (r : MessageReader) → Ended self.old.part section r →
             self.new.id ≡ cond (is_header section) (noted_of true r).request_id self.old.id }
         ensures told { (section : Within) (r : MessageReader) → Ended self.old.part section r →
-            Q.state correspondent.new ≡ cond (is_header section)
-            (after_event Q.notified (Q.state correspondent.old)
-            (call_event catalogue.now (header_end self.old.number self.old.header (noted_of true r))))
-            (Q.state correspondent.old) }
+            Q.state correspondent.new ≡ after_event Q.notified (Q.state correspondent.old)
+            (section_event section self.old.number self.old.header r
+            (operation_of catalogue.now self.old.header (noted_of true r))) }
         ensures arrives { (answers : Answers) (number : ℕ) (header s : List ℕ) (section : Within)
             (r : MessageReader) → Ended self.old.part section r →
             (is_header section ≡ true → answers number ≡ Q.answer (Q.state correspondent.old)) →
@@ -180,6 +184,7 @@ impl Message {
         match section {
             Section::Header => kind_of(&self.header) < 2 && self.is_unaligned(),
             Section::Exception => false,
+            Section::SystemException => false,
             Section::Body => false,
         }
     }

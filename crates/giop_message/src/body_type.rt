@@ -19,12 +19,14 @@ use giop_decode::Decoder;
 use giop_print::Root;
 use giop_sig::{Catalogue, Fixed, OpId, Shape, TypeId};
 
-/// The type of a body: none, this one, or that of the exception whose repository id comes first.
+/// The type of a body: none, this one, that of the exception whose repository id comes first, or that of a system
+/// exception.
 #[derive(Clone, Copy, Debug, PartialEq, Eq)]
 pub enum BodyTypeId {
     Nothing,
     Type(TypeId),
     Exception,
+    SystemException,
 }
 
 /// The type of what follows a section, by what its decoder has noted.
@@ -48,6 +50,7 @@ pub fn body_type_after<Q: Correspondent>(
     match section {
         Section::Header => header_body(catalogue, correspondent, header, decoder, operation),
         Section::Exception => members_body(catalogue, decoder.name()),
+        Section::SystemException => BodyTypeId::Nothing,
         Section::Body => BodyTypeId::Nothing,
     }
 }
@@ -153,7 +156,7 @@ fn reply_body<Q: Correspondent>(
     match status {
         0 => result_body(catalogue, correspondent, id),
         1 => BodyTypeId::Exception,
-        2 => BodyTypeId::Type(catalogue.fixed(Fixed::SystemException)),
+        2 => BodyTypeId::SystemException,
         3 | 4 => BodyTypeId::Type(catalogue.fixed(Fixed::Forward)),
         5 => BodyTypeId::Type(catalogue.fixed(Fixed::Addressing)),
         _ => BodyTypeId::Nothing,
@@ -169,6 +172,7 @@ pub fn body_may_be_missing(catalogue: &Catalogue, body_type_id: BodyTypeId) -> b
         BodyTypeId::Nothing => true,
         BodyTypeId::Type(of) => is_empty(catalogue, of),
         BodyTypeId::Exception => false,
+        BodyTypeId::SystemException => false,
     }
 }
 

@@ -6,12 +6,12 @@ ghost use Rattle.giop_sig.specs.Table.{Table};
 ghost use Rattle.giop_sig.specs.RequestList.{kept_operation};
 ghost use Rattle.giop_message.specs.Signatures.{RequestTable, Answer};
 ghost use Rattle.giop_message.specs.MessageState.{AreKnown};
-ghost use Rattle.giop_message.specs.HeaderEnds.{CallEvent, Requested, Replied, HasKnownOperation};
+ghost use Rattle.giop_message.specs.HeaderEnds.{CallEvent, Requested, Replied, Raised, HasKnownOperation};
 
 use giop_sig::{OpId, Requests};
 
 /// What is known of the calls that the replies of a stream answer. Where the header of a Reply ends it is asked, if the
-/// body has results; then it is told of that header.
+/// body has results; then it is told of that header, and later of the exception that the Reply raises.
 pub trait Correspondent {
     /// What it knows.
     ghost State: { Type 0 };
@@ -46,6 +46,13 @@ pub trait Correspondent {
     fn answered(&mut self, number: u64, id: u32)
         ensures { state self.new ≡ notified (state self.old) (Replied number id) };
 
+    /// A Reply raises an exception: the message's number in its stream, from 1, and the exception's name, of 1 to 128
+    /// octets, each in 21..7e. Of a USER_EXCEPTION it is the repository id, told once that has ended; of a
+    /// SYSTEM_EXCEPTION the exception_id, told once its body has ended. Of another name nothing is told (GIOP Message
+    /// Formats, Reply Body).
+    fn raised(&mut self, number: u64, name: &[u8])
+        ensures { state self.new ≡ notified (state self.old) (Raised number name.now) };
+
     /// Where it answers operations of a table alone, and is told of one of that table, it still does.
     ghost known: { (C : Table) (s : State) (event : CallEvent) → AreKnown C (answer s) →
         HasKnownOperation C event → AreKnown C (answer (notified s event)) };
@@ -75,6 +82,8 @@ impl<'a> Correspondent for &'a Requests {
     ) {}
 
     fn answered(&mut self, _number: u64, _id: u32) {}
+
+    fn raised(&mut self, _number: u64, _name: &[u8]) {}
 
     ghost known = { λ C s event k h. k };
 }

@@ -30,8 +30,8 @@ impl Message {
     ghost use Rattle.giop_message.specs.Messages.{message, message_lines, stage_of, close};
     ghost use Rattle.giop_message.specs.MessageSteps.{last_rest_text};
     ghost use Rattle.giop_message.specs.ReaderOfTable.{first_request_id};
-    ghost use Rattle.giop_message.specs.HeaderEnds.{AgreesAtEnds, header_ends, after_ends};
-    ghost use Rattle.giop_message.specs.MessageState.{AreKnown, Fits, Follows, in_header, due_text, TookAll, reach, closing_text, is_short};
+    ghost use Rattle.giop_message.specs.HeaderEnds.{AgreesAtEnds, may_tell, header_ends, after_ends};
+    ghost use Rattle.giop_message.specs.MessageState.{AreKnown, Fits, Follows, due_text, TookAll, reach, closing_text, is_short};
 
     /// A message of this number whose header has come.
     pub fn start(catalogue: &Catalogue, number: u64, header: [u8; 12]) -> Message
@@ -82,7 +82,7 @@ impl Message {
             AgreesAtEnds Q.answer Q.notified catalogue.now (Q.state correspondent.old) answers
             (header_ends number header s octets.now) →
             TookAll catalogue.now answers number header self.new s octets.now found) }
-        // and the correspondent was told of the header.
+        // and the correspondent was told of the header, and of the exception that a Reply raises.
         ensures told { IfOk result (λ found. (answers : Answers) (number : ℕ) (header s : List ℕ) →
             Follows catalogue.now answers number header self.old s →
             AgreesAtEnds Q.answer Q.notified catalogue.now (Q.state correspondent.old) answers
@@ -192,17 +192,16 @@ impl Message {
         }
     }
 
-    /// Whether its header is still to end. Where this is false it has none, or it has ended.
-    pub fn is_in_header(&self) -> bool
-        ensures value { result ≡ in_header self.now.part }
-        // No octet ends it then.
-        ensures past { result ≡ false → (C : Table) → Fits C self.now →
-            (answers : Answers) (number : ℕ) (header s more : List ℕ) →
-            Follows C answers number header self.now s → header_ends number header s more ≡ [] }
+    /// Whether the correspondent may still be told of its header, or of the exception that it raises: in the header, in
+    /// the padding behind it, in the repository id of an exception, and in the body of a system exception.
+    pub fn may_tell(&self) -> bool
+        ensures { (C : Table) (answers : Answers) (number : ℕ) (header s : List ℕ) → Fits C self.now →
+            Follows C answers number header self.now s →
+            result ≡ may_tell (signatures_of C (answers number)) header s }
     {
         match &self.part {
-            Part::Typed(section, _) => section.is_header(),
-            Part::Padding(_) => false,
+            Part::Typed(section, _) => section.is_told(),
+            Part::Padding(_) => true,
             Part::Rest(_) => false,
         }
     }

@@ -1,14 +1,17 @@
-//! What the correspondent of a stream is told where the header of a message ends.
+//! What the correspondent of a stream is told where the header of a message ends, and where the name of an exception that
+//! a Reply raises does.
 
-ghost use Rattle.std.specs.Prelude.{◌≡◌, ◌<◌, length, true, cond};
+ghost use Rattle.std.specs.Prelude.{◌≡◌, ◌<◌, length, true};
 ghost use Rattle.std.specs.Option.{option_map};
 ghost use Rattle.giop_sig.specs.Table.{Table};
 ghost use Rattle.giop_decode.specs.ReadResult.{Read};
-ghost use Rattle.giop_decode.specs.Noted.{noted_of};
+ghost use Rattle.giop_print.specs.declared.path.Root.{Root as PathRoot};
+ghost use Rattle.giop_decode.specs.Noted.{noted_of, is_header_root};
 ghost use Rattle.giop_decode.specs.DecoderState.{KeepsNoted};
 ghost use Rattle.giop_message.specs.Messages.{root_of};
 ghost use Rattle.giop_message.specs.MessageState.{AreKnown, is_header};
-ghost use Rattle.giop_message.specs.HeaderEnds.{IsKnownOperation, after_event, header_event, operation_of, expects_reply, shown, request_event, reply_event};
+ghost use Rattle.giop_message.specs.HeaderEnds.{IsKnownOperation, after_event, header_event, operation_of, expects_reply, shown, request_event, reply_event, raise_event};
+ghost use Rattle.giop_message.specs.MessageSteps.{section_event};
 
 use crate::correspondent::Correspondent;
 use crate::header::kind_of;
@@ -33,6 +36,7 @@ pub fn operation_of(
     match section {
         Section::Header => named_operation(catalogue, header, decoder),
         Section::Exception => None,
+        Section::SystemException => None,
         Section::Body => None,
     }
 }
@@ -54,7 +58,8 @@ fn named_operation(catalogue: &Catalogue, header: &[u8], decoder: &Decoder) -> O
     catalogue.operation(name)
 }
 
-/// Tells the correspondent of the section of a message that has ended, if it is a header, with the operation that it names.
+/// Tells the correspondent of the section of a message that has ended: of a header, with the operation that it names, or
+/// of the exception that a Reply raises.
 pub fn notify_of_section<Q: Correspondent>(
     correspondent: &mut Q,
     number: u64,
@@ -68,14 +73,13 @@ pub fn notify_of_section<Q: Correspondent>(
         AreKnown C (Q.answer (Q.state correspondent.old)) →
         AreKnown C (Q.answer (Q.state correspondent.new)) }
     ensures told { (r : Read) → KeepsNoted (root_of section) decoder.now r →
-        Q.state correspondent.new ≡ cond (is_header section)
-        (after_event Q.notified (Q.state correspondent.old)
-        (header_event number header.now (noted_of true r) operation))
-        (Q.state correspondent.old) }
+        Q.state correspondent.new ≡ after_event Q.notified (Q.state correspondent.old)
+        (section_event section number header.now r operation) }
 {
     match section {
         Section::Header => notify_of_header(correspondent, number, header, decoder, operation),
-        Section::Exception => {}
+        Section::Exception => notify_of_exception(correspondent, number, decoder),
+        Section::SystemException => notify_of_exception(correspondent, number, decoder),
         Section::Body => {}
     }
 }
@@ -149,6 +153,20 @@ fn notify_of_reply<Q: Correspondent>(correspondent: &mut Q, number: u64, decoder
 {
     if let Some(id) = decoder.request_id() {
         correspondent.answered(number, id);
+    }
+}
+
+/// Tells of the exception that a Reply raises: its name, the last string that the decoder has read, if a call line could
+/// show it.
+fn notify_of_exception<Q: Correspondent>(correspondent: &mut Q, number: u64, decoder: &Decoder)
+    ensures known { (C : Table) → AreKnown C (Q.answer (Q.state correspondent.old)) →
+        AreKnown C (Q.answer (Q.state correspondent.new)) }
+    ensures told { (root : PathRoot) (r : Read) → KeepsNoted root decoder.now r →
+        Q.state correspondent.new ≡ after_event Q.notified (Q.state correspondent.old)
+        (raise_event number (noted_of (is_header_root root) r).name) }
+{
+    if let Some(name) = shown(decoder.name()) {
+        correspondent.raised(number, name);
     }
 }
 

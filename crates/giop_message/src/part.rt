@@ -15,20 +15,23 @@ pub enum Section {
     Header,
     /// The repository id of an exception.
     Exception,
+    /// The body of a system exception.
+    SystemException,
     Body,
 }
 
 impl Section {
     ghost use Rattle.giop_message.specs.Messages.{root_of};
-    ghost use Rattle.giop_message.specs.MessageState.{is_header};
+    ghost use Rattle.giop_message.specs.HeaderEnds.{is_told};
 
-    /// Whether it is the header.
-    pub(crate) fn is_header(self) -> bool
-        ensures { result ≡ is_header self }
+    /// Whether the correspondent is told where it ends: of the header, or of the exception that is raised.
+    pub(crate) fn is_told(self) -> bool
+        ensures { result ≡ is_told self }
     {
         match self {
             Section::Header => true,
-            Section::Exception => false,
+            Section::Exception => true,
+            Section::SystemException => true,
             Section::Body => false,
         }
     }
@@ -40,6 +43,7 @@ impl Section {
         match self {
             Section::Header => Root::Header,
             Section::Exception => Root::Exception,
+            Section::SystemException => Root::Body,
             Section::Body => Root::Body,
         }
     }

@@ -64,7 +64,8 @@ impl BodyTypeId {
         match octets[0] {
             0 => BodyTypeId::Nothing,
             1 => BodyTypeId::Type(TypeId(four_at(octets, 1))),
-            _ => BodyTypeId::Exception,
+            2 => BodyTypeId::Exception,
+            _ => BodyTypeId::SystemException,
         }
     }
 
@@ -76,6 +77,7 @@ impl BodyTypeId {
             BodyTypeId::Nothing => true,
             BodyTypeId::Type(of) => catalogue.has(of),
             BodyTypeId::Exception => true,
+            BodyTypeId::SystemException => true,
         }
     }
 }
@@ -132,6 +134,7 @@ impl Part {
             2 => Part::restore_typed(catalogue, Section::Body, octets, frames),
             3 => Part::restore_padding(catalogue, octets, frames),
             4 => Part::restore_rest(at, octets, frames),
+            5 => Part::restore_typed(catalogue, Section::SystemException, octets, frames),
             _ => None,
         }
     }

@@ -22,6 +22,7 @@ impl Section {
         match self {
             Section::Header => 0,
             Section::Exception => 1,
+            Section::SystemException => 5,
             Section::Body => 2,
         }
     }
@@ -39,6 +40,7 @@ impl BodyTypeId {
             BodyTypeId::Nothing => (0, 0),
             BodyTypeId::Type(of) => (1, of.0),
             BodyTypeId::Exception => (2, 0),
+            BodyTypeId::SystemException => (3, 0),
         };
         let mut out: ArrayVec<u8, 208> = ArrayVec::new();
         out.push(what);

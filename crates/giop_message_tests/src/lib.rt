@@ -1,8 +1,11 @@
-//! Tests of messages: what is known of their headers, and messages that are stored and restored.
+//! Tests of messages: what is known of their headers, what is told of exceptions, and messages that are stored and
+//! restored.
 #![tactic(auto)]
 
 #[cfg(test)]
 mod known;
+#[cfg(test)]
+mod raised;
 #[cfg(test)]
 mod rows;
 #[cfg(test)]

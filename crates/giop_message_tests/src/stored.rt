@@ -126,13 +126,13 @@ struct Case {
     frames: &'static str,
 }
 
-/// In padding, in its rest, and behind "IDL:" in the first string of a body.
-const CASES: [Case; 3] = [
+/// In padding, in its rest, and behind "IDL:" in the first string of a body, or of a system exception.
+const CASES: [Case; 5] = [
     Case {
-        name: "in front of a system exception",
-        octets: "47494f50 0102 01 01 37000000 01000000 02000000 01000000 07000000 01000000 aa",
+        name: "in front of a forward",
+        octets: "47494f50 0102 01 01 37000000 01000000 03000000 01000000 07000000 01000000 aa",
         own: "03 0000000000000021 01 00000001 0000",
-        part: "01 00000019 00*203",
+        part: "01 00000015 00*203",
         frames: "",
     },
     Case {
@@ -148,6 +148,20 @@ const CASES: [Case; 3] = [
         own: "02 000000000000002c 01 00000001 0000",
         part: "00 02 0000000000000001 04 01 0000000b 00000009 00000000 00 00*8 04 49444c3a 00*28 00*5 00*5 00 00*129 00*2",
         frames: "00000015 00000000 00000002 00*12 0000000b 00*20",
+    },
+    Case {
+        name: "in front of a system exception",
+        octets: "47494f50 0102 01 01 37000000 01000000 02000000 01000000 07000000 01000000 aa",
+        own: "03 0000000000000021 01 00000001 0000",
+        part: "03 00000000 00*203",
+        frames: "",
+    },
+    Case {
+        name: "in the id of a system exception",
+        octets: "47494f50 0100 00 01 0000002a 00000000 00000001 00000002 0000000a 49444c3a",
+        own: "05 0000000000000020 01 00000001 0000",
+        part: "00 02 0000000000000001 00 01 0000000b 00000009 00000000 00 00*8 04 49444c3a 00*28 00*5 00*5 00 00*129 00*2",
+        frames: "00000019 00000000 00000003 00*12 0000000b 00*20",
     },
 ];
 
@@ -226,17 +240,19 @@ fn stored_differs(
 }
 
 /// Octets that no message stores, each in a line: the case, the octet's index, and its value instead of the one there.
-static WRONG: &str = r#"0 0 5 a part of no kind
+static WRONG: &str = r#"0 0 6 a part of no kind
 0 8 11 a next octet in the message header
 0 9 2 a request id that was neither said nor not
 0 15 1 an octet without a use behind the id
-0 16 3 a body of no kind
+0 16 4 a body of no kind
 0 20 41 a type that the catalogue doesn't have
 0 223 1 an octet without a use behind a type
 1 23 45 more octets of a rest than there were
 1 24 32 a last part that is full
 1 28 1 an octet without a use behind a last part
-2 0 0 a request id beside that of the header's decoder"#;
+2 0 0 a request id beside that of the header's decoder
+3 20 1 a type beside a system exception
+4 223 1 an octet without a use behind a system exception"#;
 
 #[test]
 fn octets_that_no_message_stores_are_refused(rt: HostRuntime) -> Result<(), Fail> {
@@ -265,9 +281,9 @@ fn is_refused(catalogue: &Catalogue, line: &str) -> bool {
     let (Ok(case), Ok(at), Ok(octet)) = (case, at, octet) else {
         return false;
     };
-    let mut fixed = fixed_of(&CASES[case % 3]);
+    let mut fixed = fixed_of(&CASES[case % 5]);
     let mut room = [0; 256];
-    let held = spelled(CASES[case % 3].frames, &mut room);
+    let held = spelled(CASES[case % 5].frames, &mut room);
     let frames = front(&room, held);
     if !is_restored(catalogue, &fixed, frames) {
         return false;
@@ -305,6 +321,6 @@ fn padding_and_a_rest_have_no_frames(rt: HostRuntime) -> Result<(), Fail> {
 
 /// Whether a case is restored without a frame, and refused with one.
 fn has_no_frame(catalogue: &Catalogue, case: usize) -> bool {
-    let fixed = fixed_of(&CASES[case % 3]);
+    let fixed = fixed_of(&CASES[case % 5]);
     is_restored(catalogue, &fixed, &[]) && !is_restored(catalogue, &fixed, &[0; 24])
 }

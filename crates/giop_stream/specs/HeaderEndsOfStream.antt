@@ -1,14 +1,16 @@
--- The headers that end in octets of a stream, in the order in which they do (meaning). At each of them the correspondent
--- is asked and told (giop_message, HeaderEnds).
-use Rattle.std.specs.Prelude.{ℕ, List, [], ◌∷◌, ◌++◌, length, Option, Some, None, is_none, ◌&&◌, nat_lt, if◌then◌else◌}
-use Rattle.giop_message.specs.HeaderEnds.{HeaderEnd, header_ends}
+-- The headers and the names of raised exceptions that end in octets of a stream, in the order in which they do (meaning). At
+-- each header the correspondent is asked, and at each of both it is told (giop_message, HeaderEnds).
+use Rattle.std.specs.Prelude.{ℕ, Bool, false, List, [], ◌∷◌, ◌++◌, length, Option, Some, None, is_none, ◌&&◌, nat_lt, if◌then◌else◌}
+use Rattle.giop_sig.specs.Table.{Table}
+use Rattle.giop_message.specs.Signatures.{Answers, signatures_of}
+use Rattle.giop_message.specs.HeaderEnds.{HeaderEnd, may_tell, header_ends}
 use Rattle.giop_stream.specs.Rules.{Rules}
 use Rattle.giop_stream.specs.Framing.{Message, limit, cut}
 use Rattle.giop_stream.specs.Events.{MessageKey, open_after}
 use Rattle.giop_stream.specs.Effects.{Tracked, tracked_after}
 use Rattle.giop_stream.specs.PayloadOwner.{owner_of_next}
 
--- the header of a message that ends in `octets`, after the octets of it that came before; none of a message that is over
+-- what ends of a message in `octets`, after the octets of it that came before; nothing of a message that is over
 abbrev pub run_header_ends : MessageKey → Option (List ℕ) → List ℕ → List HeaderEnd
 run_header_ends w None octets = []
 run_header_ends w (Some s) octets = header_ends w.number w.header s octets
@@ -17,6 +19,16 @@ run_header_ends w (Some s) octets = header_ends w.number w.header s octets
 abbrev pub owner_header_ends : Tracked → Option MessageKey → List ℕ → List HeaderEnd
 owner_header_ends c None octets = []
 owner_header_ends c (Some w) octets = run_header_ends w (c.known w.number) octets
+
+-- whether a header or the name of an exception may still end in the message, where the ids of each message answer these
+-- operations; not in one that is over
+abbrev pub run_may_tell : Table → Answers → MessageKey → Option (List ℕ) → Bool
+run_may_tell C a w None = false
+run_may_tell C a w (Some s) = may_tell (signatures_of C (a w.number)) w.header s
+
+abbrev pub owner_may_tell : Table → Answers → Tracked → Option MessageKey → Bool
+owner_may_tell C a c None = false
+owner_may_tell C a c (Some w) = run_may_tell C a w (c.known w.number)
 
 -- of octets of a payload after the stream p, which belong to the current message or to the one that it continues
 abbrev pub current_header_ends : Rules → List ℕ → Option Message → List ℕ → List HeaderEnd
@@ -27,7 +39,7 @@ current_header_ends R p (Some m) octets = owner_header_ends (tracked_after R p) 
 unfoldable pub header_ends_at : Rules → List ℕ → ℕ → List HeaderEnd
 header_ends_at R p x = if is_none (cut p).stop && nat_lt (length p) limit then current_header_ends R p (cut p).current (x ∷ []) else []
 
--- the headers that end in these octets after the stream p
+-- what ends in these octets after the stream p
 unfoldable pub header_ends_from : Rules → List ℕ → List ℕ → List HeaderEnd
 header_ends_from R p [] = []
 header_ends_from R p (x ∷ xs) = header_ends_at R p x ++ header_ends_from R (p ++ x ∷ []) xs

@@ -21,9 +21,9 @@ pub mod FramingSteps
 pub mod Stops
 pub mod EngineHolds
 pub mod Pieces
-pub mod PieceLimit
 pub mod Octet
 pub mod EngineState
+pub mod PieceLimit
 pub mod EngineStep
 pub mod ViewOfState
 pub mod Checkpoint

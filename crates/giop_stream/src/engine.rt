@@ -12,7 +12,7 @@ ghost use Rattle.giop_stream.specs.HeaderEndsOfStream.{header_ends_from};
 ghost use Rattle.giop_message.specs.MessageState.{AreKnown};
 ghost use Rattle.giop_stream.specs.Rules.{rules, most_open};
 ghost use Rattle.giop_stream.specs.Framing.{cut, fault_of, messages};
-ghost use Rattle.giop_stream.specs.PieceLimit.{IsQuiet};
+ghost use Rattle.giop_stream.specs.PieceLimit.{IsQuiet, piece_limit};
 ghost use Rattle.giop_stream.specs.Stream.{text, closing, final};
 ghost use Rattle.giop_stream.specs.EngineHolds.{AreOf, Holds, HoldsBy, StopWrites, Leaves, added, rules_of, rules_with, status_of};
 ghost use Rattle.giop_stream.specs.Pieces.{fed, remaining, whole_text};
@@ -295,11 +295,13 @@ impl<'a> Engine<'a> {
     }
 
     /// How many of the next octets may be fed in one piece, so that behind no octet but the piece's last a message's
-    /// header of 12 octets is complete, or the header of a message ends: at least one. Who writes lines of their own
-    /// behind such octets feeds pieces of at most this many.
+    /// header of 12 octets is complete, or the header of a message or the name of the exception that it raises ends: at
+    /// least one. Who writes lines of their own behind such octets feeds pieces of at most this many.
     pub fn piece_limit(&self) -> usize
         ensures some { 1 ≤ result }
-        // Fewer octets complete no header.
+        ensures value { (a : Answers) (p : List ℕ) → HoldsBy self.now a p →
+            result ≡ piece_limit self.now.table a self.now.most p }
+        // Fewer octets complete no header, and no name.
         ensures quiet { (a : Answers) (p octets : List ℕ) → HoldsBy self.now a p →
             length octets < result → IsQuiet (rules_with self.now a) p octets }
     {

@@ -1,6 +1,6 @@
 //! What is done to one message that has begun and not ended; it is `None` once it is over (faulted or ended).
 
-ghost use Rattle.std.specs.Prelude.{◌≡◌, ◌+◌, ◌≤◌, ◌^◌, ℕ, false, List, [], length, Option, None, OnOk, IfOk, if◌then◌else◌};
+ghost use Rattle.std.specs.Prelude.{◌≡◌, ◌+◌, ◌≤◌, ◌^◌, ℕ, List, length, Option, None, OnOk, IfOk, if◌then◌else◌};
 ghost use Rattle.giop_sig.specs.Table.{Table};
 ghost use Rattle.giop_message.specs.Signatures.{Answers};
 ghost use Rattle.giop_message.specs.ReaderOfTable.{message_reader};
@@ -10,7 +10,7 @@ ghost use Rattle.giop_stream.specs.Effects.{part_of, lines_of};
 ghost use Rattle.giop_stream.specs.SlotsRepresent.{RepresentsMessage, IsReady, event};
 ghost use Rattle.giop_stream.specs.DoesEffect.{DoesPart, WritesLines, one_if};
 ghost use Rattle.giop_stream.specs.PayloadRuns.{run_part};
-ghost use Rattle.giop_stream.specs.HeaderEndsOfStream.{run_header_ends};
+ghost use Rattle.giop_stream.specs.HeaderEndsOfStream.{run_header_ends, run_may_tell};
 ghost use Rattle.giop_message.specs.HeaderEnds.{AgreesAtEnds, after_ends};
 
 use crate::fault::FramingFault;
@@ -66,14 +66,14 @@ pub fn take_octets<O: Out, Q: Correspondent>(
     Ok(true)
 }
 
-/// Whether the header of a message is still to end; of one that is over none ends.
-pub fn is_in_header(message: &Option<Message>) -> bool
-    ensures { result ≡ false → (C : Table) (a : Answers) (n : ℕ) (w : MessageKey) (o : Option (List ℕ))
-        (octets : List ℕ) → IsReady C n message.now → RepresentsMessage C a message.now w o →
-        run_header_ends w o octets ≡ [] }
+/// Whether the header of a message, or the name of the exception that it raises, may still end; of one that is over none
+/// does.
+pub fn may_tell(message: &Option<Message>) -> bool
+    ensures { (C : Table) (a : Answers) (n : ℕ) (w : MessageKey) (o : Option (List ℕ)) →
+        IsReady C n message.now → RepresentsMessage C a message.now w o → result ≡ run_may_tell C a w o }
 {
     match message {
-        Some(m) => m.is_in_header(),
+        Some(m) => m.may_tell(),
         None => false,
     }
 }

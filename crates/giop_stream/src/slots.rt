@@ -1,6 +1,6 @@
 //! The messages that have begun and not ended: the open ones in their slots, and the current one, which is being read.
 
-ghost use Rattle.std.specs.Prelude.{◌≡◌, ◌+◌, ◌≤◌, ◌^◌, ℕ, false, [], length, Option, Some, None, OnOk, IfOk, if◌then◌else◌};
+ghost use Rattle.std.specs.Prelude.{◌≡◌, ◌+◌, ◌≤◌, ◌^◌, ℕ, [], length, Option, Some, None, OnOk, IfOk, if◌then◌else◌};
 ghost use Rattle.giop_print.specs.Output.{Writes};
 ghost use Rattle.giop_sig.specs.Table.{Table};
 ghost use Rattle.giop_message.specs.Signatures.{Answers};
@@ -10,7 +10,7 @@ ghost use Rattle.giop_stream.specs.Rules.{most_open};
 ghost use Rattle.giop_stream.specs.Effects.{Tracked, IsNotOpen};
 
 use crate::fault::FramingFault;
-use crate::open_message::{close_message, fault_message, is_in_header, take_octets};
+use crate::open_message::{close_message, fault_message, may_tell, take_octets};
 use giop_entry_table::EntryTable;
 use giop_message::{Correspondent, Message};
 use giop_print::{Out, OutFault, cancelled_line, unfinished_line};
@@ -61,7 +61,7 @@ impl Slots {
     ghost use Rattle.giop_stream.specs.DoesEffect.{DoesEffect, one_if, never};
     ghost use Rattle.giop_stream.specs.OpenSlots.{Slot as Held, left_open};
     ghost use Rattle.giop_stream.specs.PayloadRuns.{run_effect};
-    ghost use Rattle.giop_stream.specs.HeaderEndsOfStream.{owner_header_ends};
+    ghost use Rattle.giop_stream.specs.HeaderEndsOfStream.{owner_header_ends, owner_may_tell};
     ghost use Rattle.giop_message.specs.HeaderEnds.{AgreesAtEnds, after_ends};
 
     /// No message, where so many may be open.
@@ -183,17 +183,16 @@ impl Slots {
         }
     }
 
-    /// Whether the header of the payload's owner is still to end.
-    pub fn is_in_header(&self) -> bool
-        ensures { result ≡ false → (C : Table) (a : Answers) (n : ℕ) (c : Tracked)
-            (owner_of_next : Option MessageKey) (octets : List ℕ) → AreReady C n self.now →
-            SlotsRepresent C a self.now c owner_of_next →
-            owner_header_ends c owner_of_next octets ≡ [] }
+    /// Whether a header or the name of an exception may still end in the payload of its owner.
+    pub fn may_tell(&self) -> bool
+        ensures { (C : Table) (a : Answers) (n : ℕ) (c : Tracked) (owner_of_next : Option MessageKey) →
+            AreReady C n self.now → SlotsRepresent C a self.now c owner_of_next →
+            result ≡ owner_may_tell C a c owner_of_next }
     {
         match self.payload {
-            Payload::Own => is_in_header(&self.own),
+            Payload::Own => may_tell(&self.own),
             Payload::Open(k) => match self.slots.get(k) {
-                Some(slot) => is_in_header(&slot.message),
+                Some(slot) => may_tell(&slot.message),
                 None => false,
             },
             Payload::Nobody => false,

@@ -7,8 +7,8 @@ use Rattle.giop_checkpoint.specs.declared.fault.StreamFault.{StreamFault}
 use Rattle.giop_sig.specs.Table.{Table}
 use Rattle.giop_decode.specs.Noted.{Noted}
 use Rattle.giop_message.specs.Signatures.{Answer, Answers, signatures_of}
-use Rattle.giop_message.specs.HeaderEnds.{HeaderEnd, CallEvent, header_end, header_noted, header_ends, call_event, after_event, AgreesAtEnds}
-use Rattle.giop_message.proofs.MessageLaws.{header_noted_before, is_causal}
+use Rattle.giop_message.specs.HeaderEnds.{HeaderEnd, CallEvent, Header_end, Exception_end, header_noted, header_ends, call_event, after_event, AgreesAtEnds}
+use Rattle.giop_message.proofs.MessageLaws.{header_noted_before, one_octet, is_causal}
 use Rattle.giop_stream.specs.Rules.{Rules, rules_by}
 use Rattle.giop_stream.specs.HeaderOctets.{fronts}
 use Rattle.giop_stream.specs.Framing.{Message, with_payload, limit, cut, messages}
@@ -190,46 +190,68 @@ module _ (C : Table) (most : ℕ) where
     known : octets_of (R a) p w.number ≡ Some s
     before : header_noted w.header s ≡ None
     now : header_noted w.header (s ++ x ∷ []) ≡ Some n
-    ends : header_ends_at (R a) p x ≡ header_end w.number w.header n ∷ []
+    ends : header_ends_at (R a) p x ≡ Header_end w.number w.header n ∷ []
 
-  ends_case : (a : Answers) (p : List ℕ) (x : ℕ) → (header_ends_at (R a) p x ≡ []) ⊎ EndsHere a p x
-  unfolding header_ends tracked_after
+  -- or the name of an exception
+  record NamesHere (a : Answers) (p : List ℕ) (x : ℕ) : Type 0 where
+    number : ℕ
+    name : List ℕ
+    ends : header_ends_at (R a) p x ≡ Exception_end number name ∷ []
+
+  abbrev Here : Answers → List ℕ → ℕ → Type 0
+  Here a p x = (header_ends_at (R a) p x ≡ []) ⊎ (EndsHere a p x ⊎ NamesHere a p x)
+
+  ends_case : (a : Answers) (p : List ℕ) (x : ℕ) → Here a p x
+  unfolding tracked_after
   ends_case a p x = by_stop (cut p).stop refl
     where
-      by_notes : (m : Message) (w : MessageKey) (s : List ℕ) → (cut p).stop ≡ None → length p < limit → (cut p).current ≡ Some m
+      by_octets : (m : Message) (w : MessageKey) (s : List ℕ) → (cut p).stop ≡ None → length p < limit → (cut p).current ≡ Some m
           → owner_of_next (open_after most p) m ≡ Some w → octets_of (R a) p w.number ≡ Some s
-          → header_ends_at (R a) p x ≡ header_ends w.number w.header s (x ∷ [])
-          → (o q : Option Noted) → header_noted w.header s ≡ o → header_noted w.header (s ++ x ∷ []) ≡ q
-          → (header_ends_at (R a) p x ≡ []) ⊎ EndsHere a p x
-      by_notes m w s free room current owner known is (Some o) q e f = inl (is ∙ rw e refl)
-      by_notes m w s free room current owner known is None None e f = inl (is ∙ rw (e, f) refl)
-      by_notes m w s free room current owner known is None (Some n) e f =
-          inr (record { m = m; w = w; s = s; n = n; free = free; room = room; current = current; owner = owner; known = known; before = e; now = f; ends = is ∙ rw (e, f) refl })
+          → header_ends_at (R a) p x ≡ header_ends w.number w.header s (x ∷ []) → Here a p x
+      by_octets m w s free room current owner known is = elim (one_octet w.number w.header s x) [
+        | inl none ↦ inl (is ∙ none)
+        | inr some ↦ elim some [
+          | inl h ↦
+              inr (inl (record {
+                m = m;
+                w = w;
+                s = s;
+                n = h.0;
+                free = free;
+                room = room;
+                current = current;
+                owner = owner;
+                known = known;
+                before = h.1;
+                now = h.2;
+                ends = is ∙ h.3;
+              }))
+          | inr h ↦ inr (inr (record { number = w.number; name = h.0; ends = is ∙ h.1 }))
+        ]
+      ]
 
       by_known : (m : Message) (w : MessageKey) → (cut p).stop ≡ None → length p < limit → (cut p).current ≡ Some m
           → owner_of_next (open_after most p) m ≡ Some w
           → header_ends_at (R a) p x ≡ run_header_ends w (octets_of (R a) p w.number) (x ∷ [])
-          → (o : Option (List ℕ)) → octets_of (R a) p w.number ≡ o → (header_ends_at (R a) p x ≡ []) ⊎ EndsHere a p x
+          → (o : Option (List ℕ)) → octets_of (R a) p w.number ≡ o → Here a p x
       by_known m w free room current owner is None e = inl (is ∙ ap (λ o. run_header_ends w o (x ∷ [])) e)
       by_known m w free room current owner is (Some s) e =
-          by_notes m w s free room current owner e (is ∙ ap (λ o. run_header_ends w o (x ∷ [])) e) (header_noted w.header s)
-          (header_noted w.header (s ++ x ∷ [])) refl refl
+          by_octets m w s free room current owner e (is ∙ ap (λ o. run_header_ends w o (x ∷ [])) e)
 
       by_owner : (m : Message) → (cut p).stop ≡ None → length p < limit → (cut p).current ≡ Some m
           → header_ends_at (R a) p x ≡ owner_header_ends (tracked_after (R a) p) (owner_of_next (open_after most p) m) (x ∷ [])
-          → (o : Option MessageKey) → owner_of_next (open_after most p) m ≡ o → (header_ends_at (R a) p x ≡ []) ⊎ EndsHere a p x
+          → (o : Option MessageKey) → owner_of_next (open_after most p) m ≡ o → Here a p x
       by_owner m free room current is None e = inl (is ∙ ap (λ o. owner_header_ends (tracked_after (R a) p) o (x ∷ [])) e)
       by_owner m free room current is (Some w) e =
           by_known m w free room current e (is ∙ ap (λ o. owner_header_ends (tracked_after (R a) p) o (x ∷ [])) e) (octets_of (R a) p w.number) refl
 
-      by_current : (cut p).stop ≡ None → length p < limit → (o : Option Message) → (cut p).current ≡ o
-          → (header_ends_at (R a) p x ≡ []) ⊎ EndsHere a p x
+      by_current : (cut p).stop ≡ None → length p < limit → (o : Option Message) → (cut p).current ≡ o → Here a p x
       by_current free room None e = inl (at_none (R a) p x e)
       by_current free room (Some m) e =
           by_owner m free room e (at_free (R a) p x free room ∙ ap (λ o. current_header_ends (R a) p o (x ∷ [])) e)
           (owner_of_next (open_after most p) m) refl
 
-      by_stop : (o : Option (ℕ × StreamFault)) → (cut p).stop ≡ o → (header_ends_at (R a) p x ≡ []) ⊎ EndsHere a p x
+      by_stop : (o : Option (ℕ × StreamFault)) → (cut p).stop ≡ o → Here a p x
       by_stop (Some found) e = inl (at_stop (R a) p x found e)
       by_stop None e = elim (cases_lt (length p) limit) [
         | inl room ↦ by_current e room (cut p).current refl
@@ -303,13 +325,22 @@ module _ (C : Table) (most : ℕ) where
           let agree = agree_back p x a b more.1 in
           let ends : header_ends_at (R b) p x ≡ [] = sym (ends_agree p x a b agree) ∙ none in
           (b, agree, subst (λ (es : List HeaderEnd). AgreesAtEnds answer notified C st b (es ++ header_ends_from (R b) (p ++ x ∷ []) q)) (sym ends) more.2)
-      | inr h ↦
-          let e = header_end h.w.number h.w.header h.n in
-          let now = put a p x h (answer st) in
-          let more = goes_on q (p ++ x ∷ []) now (after_event notified st (call_event C e)) in
-          let b = more.0 in
-          let agree = agree_both p a now b (agree_put a p x h (answer st)) (agree_back p x now b more.1) in
-          let ends : header_ends_at (R b) p x ≡ e ∷ [] = sym (ends_agree p x a b agree) ∙ h.ends in
-          let here : b h.w.number ≡ answer st = sym (agree_for a p x h now b more.1) ∙ rw (eq-eqb h.w.number h.w.number refl) refl in
-          (b, agree, subst (λ (es : List HeaderEnd). AgreesAtEnds answer notified C st b (es ++ header_ends_from (R b) (p ++ x ∷ []) q)) (sym ends) (here, more.2))
+      | inr some ↦ elim some [
+        | inl h ↦
+            let e = Header_end h.w.number h.w.header h.n in
+            let now = put a p x h (answer st) in
+            let more = goes_on q (p ++ x ∷ []) now (after_event notified st (call_event C e)) in
+            let b = more.0 in
+            let agree = agree_both p a now b (agree_put a p x h (answer st)) (agree_back p x now b more.1) in
+            let ends : header_ends_at (R b) p x ≡ e ∷ [] = sym (ends_agree p x a b agree) ∙ h.ends in
+            let here : b h.w.number ≡ answer st = sym (agree_for a p x h now b more.1) ∙ rw (eq-eqb h.w.number h.w.number refl) refl in
+            (b, agree, subst (λ (es : List HeaderEnd). AgreesAtEnds answer notified C st b (es ++ header_ends_from (R b) (p ++ x ∷ []) q)) (sym ends) (here, more.2))
+        | inr h ↦
+            let e = Exception_end h.number h.name in
+            let more = goes_on q (p ++ x ∷ []) a (after_event notified st (call_event C e)) in
+            let b = more.0 in
+            let agree = agree_back p x a b more.1 in
+            let ends : header_ends_at (R b) p x ≡ e ∷ [] = sym (ends_agree p x a b agree) ∙ h.ends in
+            (b, agree, subst (λ (es : List HeaderEnd). AgreesAtEnds answer notified C st b (es ++ header_ends_from (R b) (p ++ x ∷ []) q)) (sym ends) (tt, more.2))
+      ]
     ]

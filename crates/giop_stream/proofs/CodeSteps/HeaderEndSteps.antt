@@ -11,7 +11,7 @@ use Rattle.giop_message.specs.Signatures.{RequestTable, Answer, Answers, by_list
 use Rattle.giop_message.specs.Messages.{message, stage_of}
 use Rattle.giop_message.specs.ReaderOfTable.{message_reader, is_over}
 use Rattle.giop_message.specs.MessageState.{Follows}
-use Rattle.giop_message.specs.HeaderEnds.{HeaderEnd, CallEvent, header_ends, call_event, after_event, after_ends, AgreesAtEnds}
+use Rattle.giop_message.specs.HeaderEnds.{HeaderEnd, Header_end, Exception_end, CallEvent, header_ends, call_event, after_event, after_ends, IsAnswered, AgreesAtEnds}
 use Rattle.giop_message.proofs.MessageLaws.{header_ends_both, header_ends_none, over_none, octet_over, told_both, answers_first, answers_then}
 use Rattle.giop_stream.specs.declared.slots.Slot.{Slot as Contents}
 use Rattle.giop_stream.specs.declared.slots.Slots.{Slots}
@@ -263,8 +263,12 @@ module _ {St : Type 0} (answer : St → Answer) (notified : St → CallEvent →
 pub list_answers : (C : Table) (l : RequestTable) (es : List HeaderEnd)
     → AgreesAtEnds (λ (k : RequestTable) id. kept_operation k id) (λ k t. k) C l (by_list l) es
 list_answers C l [] = tt
-list_answers C l (e ∷ es) = (refl, rest (call_event C e) (list_answers C l es))
+list_answers C l (e ∷ es) = (here e, rest (call_event C e) (list_answers C l es))
   where
+    here : (f : HeaderEnd) → IsAnswered (λ (k : RequestTable) id. kept_operation k id) l (by_list l) f
+    here (Header_end number header n) = refl
+    here (Exception_end number name) = tt
+
     rest : (o : Option CallEvent) → AgreesAtEnds (λ (k : RequestTable) id. kept_operation k id) (λ k t. k) C l (by_list l) es
         → AgreesAtEnds (λ (k : RequestTable) id. kept_operation k id) (λ k t. k) C (after_event (λ (k : RequestTable) t. k) l o) (by_list l) es
     rest None h = h

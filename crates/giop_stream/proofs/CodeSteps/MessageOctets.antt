@@ -300,10 +300,6 @@ module _ (C : Table) (l : Answers) (most : ℕ) (s : State) (reached : IsReached
     pub come_is : m.payload_count ≡ length c.payload
     come_is = come_at free ∙ ap payload_count_of cur
 
-    -- its last octet is still to come
-    pub lacks_at : length c.payload < size c.header
-    lacks_at = at_hand.lacks
-
     all_messages : length (messages (cut p)) ≡ length (cut p).whole + 1
     unfolding messages
     all_messages = rw cur (length_push (cut p).whole c)

@@ -1,17 +1,18 @@
--- Octets in which no message begins and no header ends: those before the last octet of a header of 12, and those of a message
--- whose header has ended.
+-- Octets in which no message begins, and no header and no name of an exception ends: those before the last octet of a header
+-- of 12, and those of a message of which nothing more is told.
 use Rattle.std.proofs.Common.{inl, inr, ◌≡◌, ℕ, suc, ◌+◌, ◌-◌, ◌<◌, ◌≤◌, Bool, true, false, List, [], ◌∷◌, ◌++◌, length, Option, Some, None, refl, sym, ap, subst, ◌∙◌, append_assoc, append-nil, arith}
-use Rattle.std.specs.Prelude.{◌⊎◌, ◌==◌, is_some, nat_lt}
+use Rattle.std.specs.Prelude.{◌⊎◌, ◌==◌, ◌||◌, ◌^◌, is_some, nat_lt, if◌then◌else◌}
 use Rattle.std.proofs.lemmas.Bool.{cases_lt, lt-ltb, le-ltb, ne_eqb, false≢true}
 use Rattle.std.proofs.lemmas.List.{length_push}
 use Rattle.giop_checkpoint.specs.declared.fault.StreamFault.{StreamFault}
 use Rattle.giop_checkpoint.specs.declared.fault.StreamFault.TheVariants.{StreamLimit}
 use Rattle.giop_sig.specs.Table.{Table}
-use Rattle.giop_message.specs.Signatures.{Answers}
+use Rattle.giop_message.specs.Signatures.{Answers, signatures_of}
+use Rattle.giop_message.proofs.MessageLaws.{is_causal, nothing_told}
 use Rattle.giop_message.specs.Headers.{size}
 use Rattle.giop_message.specs.declared.message.Message.{Message as CodeMessage}
 use Rattle.giop_message.specs.MessageState.{Follows}
-use Rattle.giop_message.specs.HeaderEnds.{HeaderEnd, header_ends}
+use Rattle.giop_message.specs.HeaderEnds.{HeaderEnd, may_tell}
 use Rattle.giop_stream.specs.HeaderOctets.{wrong}
 use Rattle.giop_stream.specs.Rules.{Rules, rules_by}
 use Rattle.giop_stream.specs.Framing.{Message, Cut, limit, cut, messages, fault_of}
@@ -19,37 +20,48 @@ use Rattle.giop_stream.specs.Events.{MessageKey, Takes, open_after}
 use Rattle.giop_stream.specs.Effects.{Tracked, tracked_after, with_octet}
 use Rattle.giop_stream.specs.SlotsRepresent.{RepresentsMessage, SlotsRepresent, effect_to}
 use Rattle.giop_stream.specs.PayloadOwner.{owner_of_next, owner_of_next_in}
-use Rattle.giop_stream.specs.HeaderEndsOfStream.{run_header_ends, owner_header_ends, current_header_ends, header_ends_at, header_ends_from}
-use Rattle.giop_stream.specs.PieceLimit.{IsQuiet}
+use Rattle.giop_stream.specs.HeaderEndsOfStream.{run_may_tell, owner_may_tell, run_header_ends, owner_header_ends, current_header_ends, header_ends_at, header_ends_from}
+use Rattle.giop_stream.specs.PieceLimit.{IsQuiet, may_tell_in, limit_in, piece_limit}
 use Rattle.giop_stream.specs.Octet.{header_of}
 use Rattle.giop_stream.specs.EngineView.{FramingView}
-use Rattle.giop_stream.specs.EngineState.{State, state_of}
+use Rattle.giop_stream.specs.EngineState.{State, unless, state_of}
 use Rattle.giop_stream.specs.ViewOfState.{IsReached, Shows}
 use Rattle.giop_stream.proofs.Cuts.Cutting.{of_parts, next, parts_by, cut_grows, next_limit, next_payload, next_front, next_stopped, settled_messages}
 use Rattle.giop_stream.proofs.Cuts.CutFrom.{end_message, header_case}
 use Rattle.giop_stream.proofs.Cuts.Stopped.{cut_stays}
+use Rattle.giop_stream.proofs.Events.Soundness.{CurrentFits}
+use Rattle.giop_stream.proofs.Events.StepCases.{if_some}
+use Rattle.giop_stream.proofs.SlotSteps.Parts.{in_turn}
+use Rattle.giop_stream.proofs.CodeSteps.EngineAlive.{sound}
 use Rattle.giop_stream.proofs.CodeSteps.MessageEnds.{goes_off}
 use Rattle.giop_stream.proofs.CodeSteps.PayloadRunSteps.{Within, within_on, octet_adds, octet_owner}
-use Rattle.giop_stream.proofs.CodeSteps.MessageOctets.{runs_on, header_at, knows_at, no_current, has_current, header_is, come_is, lacks_at}
+use Rattle.giop_stream.proofs.CodeSteps.MessageOctets.{runs_on, header_at, knows_at, no_current, has_current, header_is, come_is}
 use Rattle.giop_stream.proofs.CodeSteps.HeaderEndSteps.{Heads, heads_on, owner_on, at_free, at_none, at_stop, at_limit}
 
--- no octets of their owner end its header
+-- no octets of their owner end its header or a name
 abbrev pub Settled : Tracked → Option MessageKey → Type 0
 Settled c who = (octets : List ℕ) → owner_header_ends c who octets ≡ []
 
 -- ---- one message
 
-pub over_ends : (C : Table) (a : Answers) (w : MessageKey) (o : Option (List ℕ)) (octets : List ℕ) → RepresentsMessage C a None w o
-    → run_header_ends w o octets ≡ []
-over_ends C a w None octets k = refl
-over_ends C a w (Some s) octets k = absurd k
+pub over_value : (C : Table) (a : Answers) (w : MessageKey) (o : Option (List ℕ)) → RepresentsMessage C a None w o → false ≡ run_may_tell C a w o
+over_value C a w None k = refl
+over_value C a w (Some s) k = absurd k
 
-pub given_ends : (C : Table) (a : Answers) (m : CodeMessage) (w : MessageKey) (o : Option (List ℕ)) (octets : List ℕ)
-    → RepresentsMessage C a (Some m) w o
-    → ((s : List ℕ) → Follows C a w.number w.header m s → header_ends w.number w.header s octets ≡ [])
-    → run_header_ends w o octets ≡ []
-given_ends C a m w (Some s) octets k f = f s k
-given_ends C a m w None octets k f = absurd k
+pub given_value : (C : Table) (a : Answers) (m : CodeMessage) (w : MessageKey) (o : Option (List ℕ)) (b : Bool)
+    → RepresentsMessage C a (Some m) w o → ((s : List ℕ) → Follows C a w.number w.header m s → b ≡ may_tell (signatures_of C (a w.number)) w.header s)
+    → b ≡ run_may_tell C a w o
+given_value C a m w (Some s) b k f = f s k
+given_value C a m w None b k f = absurd k
+
+-- its octets end no header and no name where none may still end
+run_past : (C : Table) (a : Answers) (w : MessageKey) (o : Option (List ℕ)) (octets : List ℕ) → run_may_tell C a w o ≡ false → run_header_ends w o octets ≡ []
+run_past C a w None octets e = refl
+run_past C a w (Some s) octets e = nothing_told C (a w.number) w.number w.header s octets e
+
+owner_past : (C : Table) (a : Answers) (c : Tracked) (who : Option MessageKey) → owner_may_tell C a c who ≡ false → Settled c who
+owner_past C a c None e octets = refl
+owner_past C a c (Some w) e octets = run_past C a w (c.known w.number) octets e
 
 -- ---- the stream
 
@@ -246,51 +258,108 @@ module _ (C : Table) (a : Answers) (most : ℕ) where
         none_end = λ j. one.ends j ++ more.none_end j;
       }
 
--- ---- by the fields
+-- ---- as many as may come in one piece
 
-module _ (C : Table) (a : Answers) (most : ℕ) (s : State) (r : IsReached C a most s) (m : FramingView) (h : Shows C a m s) (octets : List ℕ) where
-  abbrev Quiet : Type 0
-  Quiet = IsQuiet (rules_by C a most) r.stream octets
+neither : (b d : Bool) → (b || d) ≡ false → (b ≡ false) × (d ≡ false)
+neither false d e = (refl, e)
+neither true d e = absurd (false≢true (sym e))
 
-  pub quiet_none : length octets ≡ 0 → Quiet
-  quiet_none none = go octets none
+named_by : (n : ℕ) → nat_lt n 4 ≡ false → 4 ≤ n
+named_by n e = elim (cases_lt n 4) [
+  | inl less ↦ absurd (false≢true (sym e ∙ lt-ltb n 4 less))
+  | inr more ↦ more
+]
+
+module _ (C : Table) (a : Answers) (most : ℕ) (p octets : List ℕ) where
+  quiet_payload : (m : Message) → (cut p).stop ≡ None → (cut p).current ≡ Some m → (b : Bool)
+      → may_tell_in C a most p m ≡ b
+      → length octets < (if b then 1 else (size m.header - length m.payload) + 12) → IsQuiet (rules_by C a most) p octets
+  quiet_payload m free current true e less = none octets (omega (arith, less))
     where
-      go : (xs : List ℕ) → length xs ≡ 0 → IsQuiet (rules_by C a most) r.stream xs
-      go [] e = nothing_quiet (rules_by C a most) r.stream
-      go (x ∷ xs) e = absurd (omega (arith, e))
+      none : (xs : List ℕ) → length xs ≡ 0 → IsQuiet (rules_by C a most) p xs
+      none [] e = nothing_quiet (rules_by C a most) p
+      none (x ∷ xs) e = absurd (omega (arith, e))
+  quiet_payload m free current false e less =
+      let both = neither (nat_lt (length m.payload) 4) (owner_may_tell C a (tracked_after (rules_by C a most) p) (owner_of_next (open_after most p) m)) e in
+      let fit = if_some (CurrentFits (length p) (cut p)) (cut p).current m current
+      ((sound (rules_by C a most) (is_causal (λ number. signatures_of C (a number))) (in_turn C a) p).fits free).current in
+      all_quiet C a most octets p (inr (inr (record {
+        m = m;
+        free = free;
+        current = current;
+        named = named_by (length m.payload) both.0;
+        settled = owner_past C a (tracked_after (rules_by C a most) p) (owner_of_next (open_after most p) m) both.1;
+        few = omega (arith, less, fit.lacks);
+      })))
 
-  pub quiet_stopped : is_some m.stopped ≡ true → Quiet
-  unfolding state_of
-  quiet_stopped over = go (cut r.stream).stop refl
+  pub limit_quiet : length octets < piece_limit C a most p → IsQuiet (rules_by C a most) p octets
+  unfolding piece_limit
+  limit_quiet less = go (cut p).stop refl (cut p).current refl less
+    where
+      go : (stop : Option (ℕ × StreamFault)) → (cut p).stop ≡ stop → (current : Option Message) → (cut p).current ≡ current
+          → length octets < unless stop (2 ^ 64 - 1) (limit_in C a most p current) → IsQuiet (rules_by C a most) p octets
+      go (Some found) e current f less = all_quiet C a most octets p (inl (found, e))
+      go None e None f less = all_quiet C a most octets p (inr (inl (record { no_current = f; few = omega (arith, less) })))
+      go None e (Some m) f less = quiet_payload m e f (may_tell_in C a most p m) refl less
+
+-- ---- the same number by the fields
+
+module _ (C : Table) (a : Answers) (most : ℕ) (s : State) (r : IsReached C a most s) (m : FramingView) (h : Shows C a m s) where
+  abbrev pub limit_is : ℕ → Type 0
+  limit_is n = piece_limit C a most r.stream ≡ n
+
+  pub limit_stopped : is_some m.stopped ≡ true → limit_is (2 ^ 64 - 1)
+  unfolding state_of piece_limit
+  limit_stopped over = go (cut r.stream).stop refl
     where
       stops : m.stopped ≡ fault_of (cut r.stream).stop
       stops = h.stopped ∙ ap (λ (t : State). t.stop) r.held
 
-      go : (o : Option (ℕ × StreamFault)) → (cut r.stream).stop ≡ o → Quiet
-      go (Some found) e = all_quiet C a most octets r.stream (inl (found, e))
+      go : (o : Option (ℕ × StreamFault)) → (cut r.stream).stop ≡ o → limit_is (2 ^ 64 - 1)
+      go (Some found) e = rw e refl
       go None e = absurd (let no : is_some m.stopped ≡ false = ap is_some (stops ∙ ap fault_of e) in false≢true (sym no ∙ over))
 
   module _ (free : m.stopped ≡ None) where
-    pub quiet_head : length m.header + length octets < 12 → Quiet
-    quiet_head few =
-        let none = no_current C a most s r m h free (omega (arith, few)) in
+    pub limit_head : length m.header < 12 → limit_is (12 - length m.header)
+    unfolding piece_limit
+    limit_head few =
+        let none = no_current C a most s r m h free few in
         let held = header_at C a most s r m h free ∙ ap (λ (o : Option Message). header_of o (cut r.stream).held) none in
-        all_quiet C a most octets r.stream (inr (inl (record { no_current = none; few = omega (arith, few, ap length held) })))
+        rw (runs_on C a most s r m h free, none) (ap (λ (z : List ℕ). 12 - length z) (sym held))
 
-    pub quiet_payload : length m.header ≡ 12 → 4 ≤ m.payload_count
-        → ((c : Tracked) (who : Option MessageKey) → SlotsRepresent C a m.slots c who → Settled c who)
-        → length octets < (size m.header - m.payload_count) + 12 → Quiet
-    quiet_payload full named settled few =
-        let here = has_current C a most s r m h free full in
-        let count = come_is C a most s r m h free here.0 here.1 in
-        let same = ap size (header_is C a most s r m h free here.0 here.1) in
-        let lacks = lacks_at C a most s r m h free here.0 here.1 in
-        all_quiet C a most octets r.stream (inr (inr (record {
-          m = here.0;
-          free = runs_on C a most s r m h free;
-          current = here.1;
-          named = omega (arith, named, count);
-          settled = settled (tracked_after (rules_by C a most) r.stream) (owner_of_next (open_after most r.stream) here.0)
-              (subst (λ (o : Option Message). SlotsRepresent C a m.slots (tracked_after (rules_by C a most) r.stream) (owner_of_next_in (open_after most r.stream) o)) here.1 (knows_at C a most s r m h free));
-          few = omega (arith, few, count, same, lacks);
-        })))
+    module _ (full : length m.header ≡ 12) where
+      here : (c : Message) × ((cut r.stream).current ≡ Some c)
+      here = has_current C a most s r m h free full
+
+      count : m.payload_count ≡ length here.0.payload
+      count = come_is C a most s r m h free here.0 here.1
+
+      keeps : SlotsRepresent C a m.slots (tracked_after (rules_by C a most) r.stream) (owner_of_next (open_after most r.stream) here.0)
+      keeps =
+          subst (λ (o : Option Message). SlotsRepresent C a m.slots (tracked_after (rules_by C a most) r.stream) (owner_of_next_in (open_after most r.stream) o)) here.1
+          (knows_at C a most s r m h free)
+
+      -- whether the slots say that a header or a name may still end in the payload of the owner
+      abbrev pub SlotsSay : Bool → Type 0
+      SlotsSay b = (c : Tracked) (who : Option MessageKey) → SlotsRepresent C a m.slots c who → owner_may_tell C a c who ≡ b
+
+      pub limit_early : m.payload_count < 4 → limit_is 1
+      unfolding piece_limit
+      limit_early early =
+          rw (runs_on C a most s r m h free, here.1, lt-ltb (length here.0.payload) 4 (omega (arith, early, count))) refl
+
+      pub limit_telling : SlotsSay true → limit_is 1
+      unfolding piece_limit
+      limit_telling say =
+          rw (runs_on C a most s r m h free, here.1, say _ _ keeps) (go (nat_lt (length here.0.payload) 4))
+        where
+          go : (b : Bool) → (let n : ℕ = if b || true then 1 else (size here.0.header - length here.0.payload) + 12 in n) ≡ 1
+          go true = refl
+          go false = refl
+
+      pub limit_payload : 4 ≤ m.payload_count → SlotsSay false → limit_is ((size m.header - m.payload_count) + 12)
+      unfolding piece_limit
+      limit_payload named say =
+          let header = header_is C a most s r m h free here.0 here.1 in
+          rw (runs_on C a most s r m h free, here.1, le-ltb (length here.0.payload) 4 (omega (arith, named, count)), say _ _ keeps)
+          (λ j. (size (sym header j) - sym count j) + 12)

@@ -9,3 +9,7 @@ returns-in-Nothing c = rw c.in-Nothing.is refl
 pub returns-in-Exception : goal.returns-in-Exception
 unfolding body_may_be_missing
 returns-in-Exception c = rw c.in-Exception.is refl
+
+pub returns-in-SystemException : goal.returns-in-SystemException
+unfolding body_may_be_missing
+returns-in-SystemException c = rw c.in-SystemException.is refl

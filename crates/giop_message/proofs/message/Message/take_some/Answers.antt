@@ -1,7 +1,7 @@
-use Rattle.std.proofs.Common.{◌+◌, ◌∷◌, [], ◌++◌, length, take, get_or, refl, sym, ap}
+use Rattle.std.proofs.Common.{◌+◌, ◌∷◌, [], ◌++◌, length, take, get_or, refl, sym, ap, ◌∙◌}
 use Rattle.giop_print.proofs.Writing.{wrote-append, wrote-nil}
 use Rattle.giop_message.specs.Signatures.{signatures_of}
-use Rattle.giop_message.specs.HeaderEnds.{after_ends}
+use Rattle.giop_message.specs.HeaderEnds.{header_ends, after_ends}
 use Rattle.giop_message.proofs.Followings.{same_fields}
 use Rattle.giop_message.proofs.Rests.{no_text, rest_text, rest_follows}
 use Rattle.giop_message.proofs.SectionRuns.{run_front, run_failed, first_alone, standing, took, by_reads, ReadWith, text_broken, failed_behind, text_more, text_done, text_named, text_wrong, keeps_noted_header, went_on, went_done, went_wrong, none_ends, answered_here, told_here, padding_none, rest_none}
@@ -164,7 +164,7 @@ returns-in_ok-fault_line-in-Fault-clause-told g c answers number header s f =
 
 pub returns-in-Padding-clause-told : goal.returns-in-Padding-clause-told
 returns-in-Padding-clause-told g c answers number header s f =
-    sym (ap (after_ends g.Q.Correspondent.notified c.args.catalogue.now (g.Q.Correspondent.state c.args.correspondent.now)) (padding_none f c.in-Padding.is (take 1 c.args.octets.now)))
+    sym (ap (after_ends g.Q.Correspondent.notified c.args.catalogue.now (g.Q.Correspondent.state c.args.correspondent.now)) (ap (header_ends number header s) (first_alone c.args.octets.now c.requires.some) ∙ padding_none f c.in-Padding.is (get_or c.args.octets.now 0 0)))
 
 pub returns-in_ok-take-in-Rest-clause-told : goal.returns-in_ok-take-in-Rest-clause-told
 returns-in_ok-take-in-Rest-clause-told g c answers number header s f =

@@ -14,3 +14,6 @@ returns-in-3-clause-fits c = c.restore_padding.ensures.fits c.args.at
 
 pub returns-in-4-clause-fits : goal.returns-in-4-clause-fits
 returns-in-4-clause-fits c = c.restore_rest.ensures.fits c.args.catalogue.now
+
+pub returns-in-5-clause-fits : goal.returns-in-5-clause-fits
+returns-in-5-clause-fits c = c.restore_typed-in-5.ensures.fits c.args.at

@@ -1,4 +1,4 @@
-use Rattle.std.proofs.Common.{◌≡◌, ℕ, ◌+◌, List, refl, arith}
+use Rattle.std.proofs.Common.{◌≡◌, ℕ, ◌+◌, ◌<◌, List, refl, arith}
 use Rattle.giop_decode.specs.declared.decoder.Decoder.{Decoder}
 use Rattle.giop_decode.specs.DecoderState as decoder
 use Rattle.giop_decode.specs.Stored as decoders
@@ -14,18 +14,26 @@ use Rattle.giop_message.proofs.part.Part.restore_typed.Goals as goal
 same : (own section : Section) → section_octet own ≡ section_octet section → section ≡ own
 same sections.Header sections.Header e = refl
 same sections.Exception sections.Exception e = refl
+same sections.SystemException sections.SystemException e = refl
 same sections.Body sections.Body e = refl
 same sections.Header sections.Exception e = absurd (omega (arith, e))
+same sections.Header sections.SystemException e = absurd (omega (arith, e))
 same sections.Header sections.Body e = absurd (omega (arith, e))
 same sections.Exception sections.Header e = absurd (omega (arith, e))
+same sections.Exception sections.SystemException e = absurd (omega (arith, e))
 same sections.Exception sections.Body e = absurd (omega (arith, e))
+same sections.SystemException sections.Header e = absurd (omega (arith, e))
+same sections.SystemException sections.Exception e = absurd (omega (arith, e))
+same sections.SystemException sections.Body e = absurd (omega (arith, e))
 same sections.Body sections.Header e = absurd (omega (arith, e))
 same sections.Body sections.Exception e = absurd (omega (arith, e))
+same sections.Body sections.SystemException e = absurd (omega (arith, e))
 
-small : (n : ℕ) (section : Section) → 3 + n ≡ section_octet section → ⊥
-small n sections.Header e = omega (arith, e)
-small n sections.Exception e = omega (arith, e)
-small n sections.Body e = omega (arith, e)
+small : (n : ℕ) (section : Section) → n < 2 → 3 + n ≡ section_octet section → ⊥
+small n sections.Header few e = omega (arith, e)
+small n sections.Exception few e = omega (arith, e)
+small n sections.SystemException few e = omega (arith, few, e)
+small n sections.Body few e = omega (arith, e)
 
 again : (C : Table) (section : Section) (e : Decoder) (octets frames : List ℕ) →
     ((d : Decoder) → decoder.Fits C d → decoders.Stored d octets frames → ReadsOn C d e) →
@@ -33,8 +41,8 @@ again : (C : Table) (section : Section) (e : Decoder) (octets frames : List ℕ)
     PartStored p octets frames → GoesOn C p (parts.Typed section e)
 again C section e octets frames reads at (parts.Typed own d) fits octet stored =
     (same own section octet, reads d fits stored)
-again C section e octets frames reads at (parts.Padding body_type_id) fits octet stored = absurd (small 0 section octet)
-again C section e octets frames reads at (parts.Rest r) fits octet stored = absurd (small 1 section octet)
+again C section e octets frames reads at (parts.Padding body_type_id) fits octet stored = absurd (small 0 section (omega arith) octet)
+again C section e octets frames reads at (parts.Rest r) fits octet stored = absurd (small 1 section (omega arith) octet)
 
 pub returns-clause-again : goal.returns-clause-again
 returns-clause-again c at p fits octet stored =
