@@ -5,3 +5,12 @@ pub mod TaggedText
 pub mod TaggedState
 pub mod Exchanges
 pub mod ExchangeLaws
+pub mod Stamped
+pub mod Failing
+pub mod StreamReads
+pub mod Directions
+pub mod Followed
+pub mod Follows
+pub mod Captured
+pub mod DumpHeld
+pub mod DumpTold

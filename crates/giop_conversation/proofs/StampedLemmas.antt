@@ -1,0 +1,257 @@
+-- What is written of octets that come in parts, and of a piece before whose last octet nothing is due.
+use Rattle.std.proofs.Common.{◌≡◌, ℕ, zero, suc, ◌<◌, ◌≤◌, false, List, [], ◌∷◌, ◌++◌, length, Option, Some, None, refl, sym, ap, subst, ◌∙◌, arith, append-nil, append_assoc, nat_lt, if◌then◌else◌}
+use Rattle.giop_sig.specs.Table.{Table}
+use Rattle.giop_message.specs.Signatures.{Answers}
+use Rattle.giop_message.specs.HeaderEnds.{HeaderEnd, CallEvent, Requested, Replied, call_event, after_event, after_ends, AgreesAtEnds}
+use Rattle.giop_message.proofs.MessageLaws.{answers_first, answers_then}
+use Rattle.giop_stream.specs.Rules.{Rules, rules_by}
+use Rattle.giop_stream.specs.HeaderEndsOfStream.{header_ends_at, header_ends_from}
+use Rattle.giop_stream.specs.EngineHolds.{added}
+use Rattle.giop_stream.specs.PieceLimit.{IsQuiet}
+use Rattle.giop_stream.proofs.StreamLaws.{added_both_by, header_ends_both}
+use Rattle.giop_conversation.specs.Lines.{time_line}
+use Rattle.giop_conversation.specs.Exchanges.{Exchanged, Answering, answer_of, notified}
+use Rattle.giop_conversation.specs.Stamped.{begun, time_due, answers_due, told, taken, lines_due, exchanged, stamped}
+
+-- ---- in two parts
+
+pub exchanged_both : (R : Rules) (q : List ℕ) (s : Exchanged) (p r : List ℕ) →
+    exchanged R s p (q ++ r) ≡ exchanged R (exchanged R s p q) (p ++ q) r
+unfolding exchanged
+exchanged_both R [] s p r = ap (λ (f : List ℕ). exchanged R s f r) (sym (append-nil p))
+exchanged_both R (x ∷ xs) s p r =
+    let s' = taken (told R s p (x ∷ [])) in
+    exchanged_both R xs s' (p ++ x ∷ []) r
+    ∙ ap (λ (f : List ℕ). exchanged R (exchanged R s' (p ++ x ∷ []) xs) f r) (append_assoc p (x ∷ []) xs)
+
+pub stamped_both : (R : Rules) (q : List ℕ) (s : Exchanged) (p r : List ℕ) →
+    stamped R s p (q ++ r) ≡ stamped R s p q ++ stamped R (exchanged R s p q) (p ++ q) r
+unfolding stamped exchanged
+stamped_both R [] s p r = ap (λ (f : List ℕ). stamped R s f r) (sym (append-nil p))
+stamped_both R (x ∷ xs) s p r =
+    let s' = taken (told R s p (x ∷ [])) in
+    let first = added R p (x ∷ []) ++ lines_due R s p (x ∷ []) in
+    let rest = stamped R s' (p ++ x ∷ []) xs in
+    let last = λ (f : List ℕ). stamped R (exchanged R s' (p ++ x ∷ []) xs) f r in
+    ap (λ (t : List ℕ). first ++ t) (stamped_both R xs s' (p ++ x ∷ []) r
+    ∙ ap (λ (f : List ℕ). rest ++ last f) (append_assoc p (x ∷ []) xs))
+    ∙ sym (append_assoc first rest (last (p ++ x ∷ xs)))
+
+-- ---- what is told
+
+table_stays : (s : Exchanged) (event : CallEvent) → (notified s event).table ≡ s.table
+table_stays s (Requested number id name operation expects) = refl
+table_stays s (Replied number id) = refl
+
+time_stays : (s : Exchanged) (event : CallEvent) → (notified s event).time ≡ s.time
+time_stays s (Requested number id name operation expects) = refl
+time_stays s (Replied number id) = refl
+
+after_stays : {X : Type 0} (f : Exchanged → X) → ((s : Exchanged) (event : CallEvent) → f (notified s event) ≡ f s) →
+    (C : Table) (es : List HeaderEnd) (s : Exchanged) → f (after_ends notified C s es) ≡ f s
+after_stays f stays C [] s = refl
+after_stays f stays C (e ∷ es) s = after_stays f stays C es (after_event notified s (call_event C e)) ∙ by (call_event C e)
+  where
+    by : (event : Option CallEvent) → f (after_event notified s event) ≡ f s
+    by None = refl
+    by (Some event) = stays s event
+
+pub told_table : (R : Rules) (s : Exchanged) (p octets : List ℕ) → (told R s p octets).table ≡ s.table
+told_table R s p octets = after_stays (λ s. s.table) table_stays s.table (header_ends_from R p octets) s
+
+pub told_time : (R : Rules) (s : Exchanged) (p octets : List ℕ) → (told R s p octets).time ≡ s.time
+told_time R s p octets = after_stays (λ s. s.time) time_stays s.table (header_ends_from R p octets) s
+
+pub exchanged_table : (R : Rules) (octets : List ℕ) (s : Exchanged) (p : List ℕ) → (exchanged R s p octets).table ≡ s.table
+unfolding exchanged
+exchanged_table R [] s p = refl
+exchanged_table R (x ∷ xs) s p = exchanged_table R xs (taken (told R s p (x ∷ []))) (p ++ x ∷ []) ∙ told_table R s p (x ∷ [])
+
+pub exchanged_time : (R : Rules) (octets : List ℕ) (s : Exchanged) (p : List ℕ) → (exchanged R s p octets).time ≡ s.time
+unfolding exchanged
+exchanged_time R [] s p = refl
+exchanged_time R (x ∷ xs) s p = exchanged_time R xs (taken (told R s p (x ∷ []))) (p ++ x ∷ []) ∙ told_time R s p (x ∷ [])
+
+-- nothing waits to be written
+abbrev pub IsTaken : Exchanged → Type 0
+IsTaken s = s.answered ≡ None
+
+pub taken_stays : (s : Exchanged) → IsTaken s → taken s ≡ s
+taken_stays s none = λ j. record s { answered = sym none j }
+
+pub exchanged_taken : (R : Rules) (octets : List ℕ) (s : Exchanged) (p : List ℕ) → IsTaken s → IsTaken (exchanged R s p octets)
+unfolding exchanged
+exchanged_taken R [] s p none = none
+exchanged_taken R (x ∷ xs) s p none = exchanged_taken R xs (taken (told R s p (x ∷ []))) (p ++ x ∷ []) refl
+
+-- ---- answers that agree, where what a Reply answers was taken
+
+otherwise_after : (C : Table) (a : Answers) (es : List HeaderEnd) (s : Exchanged) (other : Option Answering) →
+    ((t : Exchanged) → AgreesAtEnds answer_of notified C t a es →
+    AgreesAtEnds answer_of notified C (record t { answered = other }) a es) →
+    (event : Option CallEvent) → AgreesAtEnds answer_of notified C (after_event notified s event) a es →
+    AgreesAtEnds answer_of notified C (after_event notified (record s { answered = other }) event) a es
+otherwise_after C a es s other alike None rest = alike s rest
+otherwise_after C a es s other alike (Some (Requested number id name operation expects)) rest =
+    alike (notified s (Requested number id name operation expects)) rest
+otherwise_after C a es s other alike (Some (Replied number id)) rest = rest
+
+agrees_otherwise : (C : Table) (a : Answers) (es : List HeaderEnd) (s : Exchanged) (other : Option Answering) →
+    AgreesAtEnds answer_of notified C s a es → AgreesAtEnds answer_of notified C (record s { answered = other }) a es
+agrees_otherwise C a [] s other agrees = tt
+agrees_otherwise C a (e ∷ es) s other agrees = (
+  agrees.0,
+  otherwise_after C a es s other (λ t h. agrees_otherwise C a es t other h) (call_event C e) agrees.1,
+)
+
+-- those that agree for octets agree for the first of them, and for the others behind them
+pub agrees_first : (R : Rules) (C : Table) (a : Answers) (s : Exchanged) (p q r : List ℕ) →
+    AgreesAtEnds answer_of notified C s a (header_ends_from R p (q ++ r)) →
+    AgreesAtEnds answer_of notified C s a (header_ends_from R p q)
+agrees_first R C a s p q r agrees =
+    answers_first answer_of notified C s a (header_ends_from R p q) (header_ends_from R (p ++ q) r)
+    (subst (λ (es : List HeaderEnd). AgreesAtEnds answer_of notified C s a es) (header_ends_both R p q r) agrees)
+
+pub agrees_then : (R : Rules) (C : Table) (a : Answers) (s : Exchanged) (p q r : List ℕ) → s.table ≡ C →
+    AgreesAtEnds answer_of notified C s a (header_ends_from R p (q ++ r)) →
+    AgreesAtEnds answer_of notified C (taken (told R s p q)) a (header_ends_from R (p ++ q) r)
+agrees_then R C a s p q r table agrees =
+    let both = subst (λ (es : List HeaderEnd). AgreesAtEnds answer_of notified C s a es) (header_ends_both R p q r) agrees in
+    let behind = answers_then answer_of notified C s a (header_ends_from R p q) (header_ends_from R (p ++ q) r) both in
+    agrees_otherwise C a (header_ends_from R (p ++ q) r) (told R s p q) None
+    (subst (λ (D : Table). AgreesAtEnds answer_of notified C (after_ends notified D s (header_ends_from R p q)) a (header_ends_from R (p ++ q) r)) (sym table) behind)
+
+pub agrees_behind : (R : Rules) (C : Table) (a : Answers) (q : List ℕ) (s : Exchanged) (p r : List ℕ) → s.table ≡ C →
+    AgreesAtEnds answer_of notified C s a (header_ends_from R p (q ++ r)) →
+    AgreesAtEnds answer_of notified C (exchanged R s p q) a (header_ends_from R (p ++ q) r)
+unfolding exchanged
+agrees_behind R C a [] s p r table agrees =
+    subst (λ (f : List ℕ). AgreesAtEnds answer_of notified C s a (header_ends_from R f r)) (sym (append-nil p)) agrees
+agrees_behind R C a (x ∷ xs) s p r table agrees =
+    let s' = taken (told R s p (x ∷ [])) in
+    subst (λ (f : List ℕ). AgreesAtEnds answer_of notified C (exchanged R s' (p ++ x ∷ []) xs) a (header_ends_from R f r))
+    (append_assoc p (x ∷ []) xs)
+    (agrees_behind R C a xs s' (p ++ x ∷ []) r (told_table R s p (x ∷ []) ∙ table) (agrees_then R C a s p (x ∷ []) (xs ++ r) table agrees))
+
+-- ---- a piece before whose last octet nothing is due
+
+-- fewer octets than so many are quiet
+abbrev pub AreQuiet : Rules → ℕ → List ℕ → Type 0
+AreQuiet R n p = (front : List ℕ) → length front < n → IsQuiet R p front
+
+same_is_not_less : (n : ℕ) → nat_lt n n ≡ false
+same_is_not_less n = search arith
+
+no_ends : (xs ys : List HeaderEnd) → xs ++ ys ≡ [] → (xs ≡ []) × (ys ≡ [])
+no_ends [] ys none = (refl, none)
+no_ends (x ∷ xs) ys none = absurd cc
+
+module _ (C : Table) (a : Answers) (most : ℕ) where
+  abbrev R : Rules
+  R = rules_by C a most
+
+  -- an octet behind which nothing is due
+  quiet_octet : (s : Exchanged) (p : List ℕ) (x : ℕ) → IsTaken s → IsQuiet R p (x ∷ []) →
+      (lines_due R s p (x ∷ []) ≡ []) × (taken (told R s p (x ∷ [])) ≡ s)
+  unfolding lines_due
+  quiet_octet s p x none quiet =
+      let tells : told R s p (x ∷ []) ≡ s = ap (after_ends notified s.table s) quiet.none_end in
+      let time : time_due p (x ∷ []) s.time ≡ [] =
+      ap (λ n. if nat_lt (begun p) n then time_line n s.time else []) quiet.none_begin
+      ∙ ap (λ b. if b then time_line (begun p) s.time else []) (same_is_not_less (begun p)) in
+      let answers : answers_due (told R s p (x ∷ [])).answered s.time ≡ [] =
+      ap (λ (t : Exchanged). answers_due t.answered s.time) tells ∙ ap (λ o. answers_due o s.time) none in (
+        ap (λ (t : List ℕ). t ++ answers_due (told R s p (x ∷ [])).answered s.time) time ∙ answers,
+        ap taken tells ∙ taken_stays s none,
+      )
+
+  -- those behind it are quiet as they were
+  quiet_then : (n : ℕ) (p : List ℕ) (x : ℕ) → AreQuiet R (suc n) p → 0 < n → AreQuiet R n (p ++ x ∷ [])
+  unfolding header_ends_from
+  quiet_then n p x quiet some = λ front fewer.
+      let all = quiet (x ∷ front) (omega arith) in
+      let first = quiet (x ∷ []) (omega arith) in
+      record {
+        none_begin = ap begun (append_assoc p (x ∷ []) front) ∙ (all.none_begin ∙ sym first.none_begin);
+        none_end = (no_ends (header_ends_at R p x) (header_ends_from R (p ++ x ∷ []) front) all.none_end).1;
+      }
+
+  -- what is due behind a piece is due behind its last octet
+  ends_then : (p : List ℕ) (x : ℕ) (rest : List ℕ) → IsQuiet R p (x ∷ []) →
+      header_ends_from R (p ++ x ∷ []) rest ≡ header_ends_from R p (x ∷ rest)
+  unfolding header_ends_from
+  ends_then p x rest quiet =
+      ap (λ (es : List HeaderEnd). es ++ header_ends_from R (p ++ x ∷ []) rest)
+      (sym (no_ends (header_ends_at R p x) [] quiet.none_end).0)
+
+  time_then : (time : Option ℕ) (p : List ℕ) (x : ℕ) (rest : List ℕ) → IsQuiet R p (x ∷ []) →
+      time_due (p ++ x ∷ []) rest time ≡ time_due p (x ∷ rest) time
+  time_then time p x rest quiet =
+      ap (λ (f : List ℕ). if nat_lt (begun (p ++ x ∷ [])) (begun f) then time_line (begun f) time else []) (append_assoc p (x ∷ []) rest)
+      ∙ ap (λ n. if nat_lt n (begun (p ++ x ∷ rest)) then time_line (begun (p ++ x ∷ rest)) time else []) quiet.none_begin
+
+  told_then : (s : Exchanged) (p : List ℕ) (x : ℕ) (rest : List ℕ) → IsQuiet R p (x ∷ []) →
+      told R s (p ++ x ∷ []) rest ≡ told R s p (x ∷ rest)
+  told_then s p x rest quiet = ap (after_ends notified s.table s) (ends_then p x rest quiet)
+
+  due_then : (s : Exchanged) (p : List ℕ) (x : ℕ) (rest : List ℕ) → IsQuiet R p (x ∷ []) →
+      lines_due R s (p ++ x ∷ []) rest ≡ lines_due R s p (x ∷ rest)
+  unfolding lines_due
+  due_then s p x rest quiet =
+      ap (λ (t : List ℕ). t ++ answers_due (told R s (p ++ x ∷ []) rest).answered s.time) (time_then s.time p x rest quiet)
+      ∙ ap (λ (t : Exchanged). time_due p (x ∷ rest) s.time ++ answers_due t.answered s.time) (told_then s p x rest quiet)
+
+  -- by its first octet and the others
+  stamped_first : (s : Exchanged) (p : List ℕ) (x : ℕ) (rest : List ℕ) →
+      stamped R s p (x ∷ rest)
+      ≡ (added R p (x ∷ []) ++ lines_due R s p (x ∷ [])) ++ stamped R (taken (told R s p (x ∷ []))) (p ++ x ∷ []) rest
+  unfolding stamped
+  stamped_first s p x rest = refl
+
+  exchanged_first : (s : Exchanged) (p : List ℕ) (x : ℕ) (rest : List ℕ) →
+      exchanged R s p (x ∷ rest) ≡ exchanged R (taken (told R s p (x ∷ []))) (p ++ x ∷ []) rest
+  unfolding exchanged
+  exchanged_first s p x rest = refl
+
+  stamped_one : (s : Exchanged) (p : List ℕ) (x : ℕ) → stamped R s p (x ∷ []) ≡ added R p (x ∷ []) ++ lines_due R s p (x ∷ [])
+  unfolding stamped
+  stamped_one s p x = append-nil (added R p (x ∷ []) ++ lines_due R s p (x ∷ []))
+
+  exchanged_one : (s : Exchanged) (p : List ℕ) (x : ℕ) → exchanged R s p (x ∷ []) ≡ taken (told R s p (x ∷ []))
+  unfolding exchanged
+  exchanged_one s p x = refl
+
+  pub piece_text : (piece : List ℕ) (n : ℕ) (s : Exchanged) (p : List ℕ) → IsTaken s → AreQuiet R n p →
+      0 < length piece → length piece ≤ n →
+      stamped R s p piece ≡ added R p piece ++ lines_due R s p piece
+  piece_text [] n s p none quiet some within = absurd (omega (arith, some))
+  piece_text (x ∷ []) n s p none quiet some within = stamped_one s p x
+  piece_text (x ∷ y ∷ zs) zero s p none quiet some within = absurd (omega (arith, within))
+  piece_text (x ∷ y ∷ zs) (suc n) s p none quiet some within =
+      let here = quiet (x ∷ []) (omega (arith, within)) in
+      let octet = quiet_octet s p x none here in
+      let rest = y ∷ zs in
+      let behind = piece_text rest n s (p ++ x ∷ []) none (quiet_then n p x quiet (omega (arith, within))) (omega arith) (omega (arith, within)) in
+      let first = added R p (x ∷ []) in
+      stamped_first s p x rest
+      ∙ (ap (λ (t : List ℕ). (first ++ t) ++ stamped R (taken (told R s p (x ∷ []))) (p ++ x ∷ []) rest) octet.0
+      ∙ (ap (λ (t : List ℕ). t ++ stamped R (taken (told R s p (x ∷ []))) (p ++ x ∷ []) rest) (append-nil first)
+      ∙ (ap (λ (t : Exchanged). first ++ stamped R t (p ++ x ∷ []) rest) octet.1
+      ∙ (ap (λ (t : List ℕ). first ++ t) behind
+      ∙ (sym (append_assoc first (added R (p ++ x ∷ []) rest) (lines_due R s (p ++ x ∷ []) rest))
+      ∙ (ap (λ (t : List ℕ). t ++ lines_due R s (p ++ x ∷ []) rest) (sym (added_both_by C a most p (x ∷ []) rest))
+      ∙ ap (λ (t : List ℕ). added R p (x ∷ rest) ++ t) (due_then s p x rest here)))))))
+
+  pub piece_told : (piece : List ℕ) (n : ℕ) (s : Exchanged) (p : List ℕ) → IsTaken s → AreQuiet R n p →
+      0 < length piece → length piece ≤ n → exchanged R s p piece ≡ taken (told R s p piece)
+  piece_told [] n s p none quiet some within = absurd (omega (arith, some))
+  piece_told (x ∷ []) n s p none quiet some within = exchanged_one s p x
+  piece_told (x ∷ y ∷ zs) zero s p none quiet some within = absurd (omega (arith, within))
+  piece_told (x ∷ y ∷ zs) (suc n) s p none quiet some within =
+      let here = quiet (x ∷ []) (omega (arith, within)) in
+      let octet = quiet_octet s p x none here in
+      let rest = y ∷ zs in
+      exchanged_first s p x rest
+      ∙ (ap (λ (t : Exchanged). exchanged R t (p ++ x ∷ []) rest) octet.1
+      ∙ (piece_told rest n s (p ++ x ∷ []) none (quiet_then n p x quiet (omega (arith, within))) (omega arith) (omega (arith, within))
+      ∙ ap taken (told_then s p x rest here)))

@@ -1,0 +1,299 @@
+-- What calls of a direction write, by what the calls in them do.
+use Rattle.std.proofs.Common.{◌≡◌, ℕ, ◌+◌, true, false, ◌<◌, ◌≤◌, List, [], ◌++◌, length, length-take, min, take, drop, Option, Some, None, Result, Ok, Err, MatchResult, refl, sym, ap, subst, ◌∙◌, arith, append-nil, append_assoc, take-add, nat_lt, if◌then◌else◌}
+use Rattle.std.proofs.lemmas.List.{take-append-drop, take_all, drop_all}
+use Rattle.std.proofs.lemmas.Bool.{false≢true}
+use Rattle.giop_print.specs.Output.{OutLog, Wrote, WroteFront, Writes}
+use Rattle.giop_print.proofs.Writing.{wrote-nil, wrote-append, wrote-front, front-append}
+use Rattle.giop_sig.specs.Table.{Table}
+use Rattle.giop_message.specs.Signatures.{Answers}
+use Rattle.giop_message.specs.HeaderEnds.{AgreesAtEnds, after_ends}
+use Rattle.giop_stream.specs.Rules.{Rules, rules_by}
+use Rattle.giop_stream.specs.HeaderOctets.{fronts, wrong, first_wrong, first_wrong_octet}
+use Rattle.giop_stream.specs.Framing.{limit, limited, cut_from, cut, messages}
+use Rattle.giop_stream.specs.Events.{events_from, events}
+use Rattle.giop_stream.specs.AnswersAgree.{AnswersAgree}
+use Rattle.giop_stream.specs.HeaderEndsOfStream.{header_ends_from}
+use Rattle.giop_stream.specs.declared.fault.Stop.{Stop}
+use Rattle.giop_stream.specs.declared.fault.Stop.TheVariants as stop
+use Rattle.giop_stream.specs.EngineView.{EngineView}
+use Rattle.giop_stream.specs.EngineHolds.{HoldsBy, StopWrites, Leaves, added, rules_with}
+use Rattle.giop_stream.specs.Stream.{text}
+use Rattle.tcp_segment.specs.declared.endpoint.Flow.{Flow}
+use Rattle.giop_conversation.specs.Tags.{with_tags, tagged}
+use Rattle.giop_conversation.specs.TaggedText.{ends_line, is_due, stopped_at}
+use Rattle.giop_conversation.specs.TaggedState.{Tagging, tagging_log, IsReady, WroteTaggedFront}
+use Rattle.giop_conversation.specs.Lines.{time_line}
+use Rattle.giop_conversation.specs.Exchanges.{Exchanged, answer_of, notified}
+use Rattle.giop_conversation.specs.StreamReads.{AgreeWith, IsSetAlike, HasCome, HasStood, WritesTagged, reading_in}
+use Rattle.giop_conversation.specs.Stamped.{begin_lines, begun, time_due, answers_due, told, taken, lines_due, exchanged, stamped}
+use Rattle.giop_conversation.proofs.Tagging.{ready_wrote, ready_front, ready_with}
+use Rattle.giop_conversation.proofs.StampedLemmas.{IsTaken, AreQuiet, exchanged_both, stamped_both, exchanged_table, exchanged_time, exchanged_taken, agrees_behind, piece_text, piece_told}
+use Rattle.giop_conversation.proofs.LineEnds.{none_ends, stream_line_ends, stamped_ends}
+
+-- an engine that had not failed writes a front where a put fails
+pub stop_front : (A : Type 0) (why : Stop) (before after : OutLog) (due : List ℕ) (e e' : EngineView) →
+    e.failed ≡ false → Leaves {A = A} (Err why) e e' → StopWrites {A = A} (Err why) before after due →
+    WroteFront before after due
+stop_front A (stop.Out f) before after due e e' sound leaves writes = writes
+stop_front A stop.Failed before after due e e' sound leaves writes = absurd (false≢true (sym sound ∙ leaves.0))
+
+-- and so does one of which the closing is written
+pub closing_front : (A : Type 0) (why : Stop) (before after : OutLog) (due : List ℕ) (e : EngineView) →
+    e.failed ≡ false → ((let failed : Result A Stop = Err stop.Failed in Err why ≡ failed) → e.failed ≡ true) →
+    StopWrites {A = A} (Err why) before after due → WroteFront before after due
+closing_front A (stop.Out f) before after due e sound only writes = writes
+closing_front A stop.Failed before after due e sound only writes = absurd (false≢true (sym sound ∙ only refl))
+
+-- lines written by one call and then by another
+pub writes_both : {A E : Type 0} (r : Result A E) (a b c : OutLog) (x y : List ℕ) → Wrote a b x → Writes r b c y → Writes r a c (x ++ y)
+writes_both (Ok v) a b c x y first second = wrote-append a b c x y first second
+writes_both (Err e) a b c x y first second = wrote-front a b c x y first second
+
+-- whole lines stand below
+pub writes_below : {A E : Type 0} (r : Result A E) (t after : Tagging) (w lines : List ℕ) → IsReady t w → is_due lines ≡ true →
+    Writes r (tagging_log t) (tagging_log after) lines → WritesTagged r after w t.tag lines
+writes_below (Ok v) t after w lines ready ends wrote = (ready_wrote t after w lines ready wrote ends).0
+writes_below (Err e) t after w lines ready ends wrote = ready_front t after w lines ready wrote
+
+pub begin_lines_end : (flow : Option Flow) (time : Option ℕ) → is_due (begin_lines flow time) ≡ true
+begin_lines_end None time = none_ends
+begin_lines_end (Some flow) time = stream_line_ends flow time
+
+-- the same once a tag is set
+pub below_tag : {A E : Type 0} (r : Result A E) (t set after : Tagging) (w lines tag due : List ℕ) → IsReady t w →
+    set ≡ record t { tag = tag; due = length tag; since = 0 } → tag ≡ due → is_due lines ≡ true →
+    Writes r (tagging_log set) (tagging_log after) lines → WritesTagged r after w due lines
+below_tag r t set after w lines tag due ready is same ends writes =
+    let now = record t { tag = tag; due = length tag; since = 0 } in
+    subst (λ (g : List ℕ). WritesTagged r after w g lines) same
+    (writes_below r now after w lines (ready_with t w tag ready) ends
+    (subst (λ (s : Tagging). Writes r (tagging_log s) (tagging_log after) lines) is writes))
+
+-- a front of some lines is one of those and others
+pub front_of : {A E : Type 0} (r : Result A E) (a b : OutLog) (x y : List ℕ) (e : E) → r ≡ Err e → WroteFront a b x →
+    Writes r a b (x ++ y)
+front_of r a b x y e is front = subst (λ (q : Result _ _). Writes q a b (x ++ y)) (sym is) (front-append a b x y front)
+
+-- ---- a piece
+
+-- the lines of a front of some octets are a front of their lines
+pub front_lines : (R : Rules) (s : Exchanged) (p octets : List ℕ) (n : ℕ) (a b : OutLog) →
+    WroteFront a b (stamped R s p (take n octets)) → WroteFront a b (stamped R s p octets)
+front_lines R s p octets n a b front =
+    let rest = stamped R (exchanged R s p (take n octets)) (p ++ take n octets) (drop n octets) in
+    let both : stamped R s p octets ≡ stamped R s p (take n octets) ++ rest =
+    ap (stamped R s p) (sym (take-append-drop n octets)) ∙ stamped_both R (take n octets) s p (drop n octets) in
+    subst (WroteFront a b) (sym both) (front-append a b (stamped R s p (take n octets)) rest front)
+
+pub piece_size : (octets : List ℕ) (limit n : ℕ) → n ≡ min limit (length octets) → 1 ≤ limit → 0 < length octets →
+    (0 < length (take n octets)) × (length (take n octets) ≤ limit)
+piece_size octets limit n is some any =
+    let l = length-take n octets in (omega (arith, l, is, some, any), omega (arith, l, is, some, any))
+
+module _ (C : Table) (a : Answers) (most : ℕ) where
+  abbrev R : Rules
+  R = rules_by C a most
+
+  due_is : (s s' : Exchanged) (p piece : List ℕ) (before behind : ℕ) (time : Option ℕ) → s.table ≡ C → s.time ≡ time →
+      s' ≡ after_ends notified C s (header_ends_from R p piece) → before ≡ begun p → behind ≡ begun (p ++ piece) →
+      (if nat_lt before behind then time_line behind time else []) ++ answers_due s'.answered time ≡ lines_due R s p piece
+  unfolding lines_due
+  due_is s s' p piece before behind time table now is first second =
+      let tells : s' ≡ told R s p piece = is ∙ ap (λ (D : Table). after_ends notified D s (header_ends_from R p piece)) (sym table) in
+      ap (λ n. (if nat_lt n behind then time_line behind time else []) ++ answers_due s'.answered time) first
+      ∙ (ap (λ n. (if nat_lt (begun p) n then time_line n time else []) ++ answers_due s'.answered time) second
+      ∙ (ap (λ (t : Exchanged). time_due p piece time ++ answers_due t.answered time) tells
+      ∙ ap (λ (t : Option ℕ). time_due p piece t ++ answers_due (told R s p piece).answered t) (sym now)))
+
+  pub piece_written : {A E : Type 0} (r : Result A E) (s s' : Exchanged) (p piece : List ℕ) (n before behind : ℕ)
+      (time : Option ℕ) (old fed new : OutLog) → IsTaken s → s.table ≡ C → s.time ≡ time → AreQuiet R n p → 0 < length piece →
+      length piece ≤ n → Wrote old fed (added R p piece) → s' ≡ after_ends notified C s (header_ends_from R p piece) →
+      before ≡ begun p → behind ≡ begun (p ++ piece) →
+      Writes r fed new ((if nat_lt before behind then time_line behind time else []) ++ answers_due s'.answered time) →
+      Writes r old new (stamped R s p piece)
+  piece_written r s s' p piece n before behind time old fed new none table now quiet some within wrote is first second writes =
+      let due = due_is s s' p piece before behind time table now is first second in
+      subst (λ (t : List ℕ). Writes r old new t) (sym (piece_text C a most piece n s p none quiet some within))
+      (writes_both r old fed new (added R p piece) (lines_due R s p piece) wrote (subst (λ (t : List ℕ). Writes r fed new t) due writes))
+
+  pub piece_calls : (s s' s'' : Exchanged) (p piece : List ℕ) (n : ℕ) → IsTaken s → s.table ≡ C → AreQuiet R n p →
+      0 < length piece → length piece ≤ n → s' ≡ after_ends notified C s (header_ends_from R p piece) → s'' ≡ taken s' →
+      s'' ≡ exchanged R s p piece
+  piece_calls s s' s'' p piece n none table quiet some within is behind =
+      behind ∙ (ap taken (is ∙ ap (λ (D : Table). after_ends notified D s (header_ends_from R p piece)) (sym table))
+      ∙ sym (piece_told C a most piece n s p none quiet some within))
+
+  -- where the feeding of the piece failed
+  pub piece_front : (s : Exchanged) (p piece : List ℕ) (n : ℕ) (old new : OutLog) → IsTaken s → AreQuiet R n p →
+      0 < length piece → length piece ≤ n → WroteFront old new (added R p piece) → WroteFront old new (stamped R s p piece)
+  piece_front s p piece n old new none quiet some within front =
+      subst (WroteFront old new) (sym (piece_text C a most piece n s p none quiet some within))
+      (front-append old new (added R p piece) (lines_due R s p piece) front)
+
+-- ---- pieces, one after the other
+
+same_rules : (e e' : EngineView) (a : Answers) → IsSetAlike e' e → rules_with e' a ≡ rules_with e a
+same_rules e e' a same = λ j. rules_by (same.table j) a (same.most j)
+
+-- how far the octets have been read
+abbrev pub HasReadTo : EngineView → EngineView → Answers → List ℕ → List ℕ → ℕ → Exchanged → Exchanged → Tagging → Tagging → Type 0
+HasReadTo e e' a p octets at s s' before after =
+    HasCome e' a (p ++ take at octets) before after (stamped (rules_with e a) s p (take at octets)) s'
+    (exchanged (rules_with e a) s p (take at octets))
+
+pub read_none : (e : EngineView) (a : Answers) (p octets : List ℕ) (s : Exchanged) (t : Tagging) → HoldsBy e a p →
+    HasReadTo e e a p octets 0 s s t t
+unfolding stamped exchanged
+read_none e a p octets s t holds =
+    record { holds = subst (HoldsBy e a) (sym (append-nil p)) holds; wrote = wrote-nil (tagging_log t); told = refl }
+
+pub agree_on : (e e' : EngineView) (a : Answers) (p octets : List ℕ) (at : ℕ) (s s' : Exchanged) → IsSetAlike e' e →
+    s.table ≡ e.table → s' ≡ exchanged (rules_with e a) s p (take at octets) → AgreeWith e a s p octets →
+    AgreeWith e' a s' (p ++ take at octets) (drop at octets)
+agree_on e e' a p octets at s s' same table told agrees =
+    let parts : AgreeWith e a s p (take at octets ++ drop at octets) =
+    subst (λ (os : List ℕ). AgreeWith e a s p os) (sym (take-append-drop at octets)) agrees in
+    let behind = agrees_behind (rules_with e a) e.table a (take at octets) s p (drop at octets) table parts in
+    let now = subst (λ (x : Exchanged). AgreesAtEnds answer_of notified e.table x a (header_ends_from (rules_with e a) (p ++ take at octets) (drop at octets)))
+    (sym told) behind in
+    subst (λ (R : Rules). AgreesAtEnds answer_of notified e'.table s' a (header_ends_from R (p ++ take at octets) (drop at octets)))
+    (sym (same_rules e e' a same))
+    (subst (λ (C : Table). AgreesAtEnds answer_of notified C s' a (header_ends_from (rules_with e a) (p ++ take at octets) (drop at octets)))
+    (sym same.table) now)
+
+-- the calls as they are read on
+pub table_on : (e e' : EngineView) (a : Answers) (p octets : List ℕ) (at : ℕ) (s s' : Exchanged) → IsSetAlike e' e →
+    s.table ≡ e.table → s' ≡ exchanged (rules_with e a) s p (take at octets) → s'.table ≡ e'.table
+table_on e e' a p octets at s s' same table told =
+    ap (λ (x : Exchanged). x.table) told
+    ∙ (exchanged_table (rules_with e a) (take at octets) s p ∙ (table ∙ sym same.table))
+
+pub time_on : (R : Rules) (p octets : List ℕ) (s s' : Exchanged) (time : Option ℕ) → s.time ≡ time →
+    s' ≡ exchanged R s p octets → s'.time ≡ time
+time_on R p octets s s' time now told = ap (λ (x : Exchanged). x.time) told ∙ (exchanged_time R octets s p ∙ now)
+
+pub taken_on : (R : Rules) (p octets : List ℕ) (s s' : Exchanged) → IsTaken s → s' ≡ exchanged R s p octets → IsTaken s'
+taken_on R p octets s s' none told = ap (λ (x : Exchanged). x.answered) told ∙ exchanged_taken R octets s p none
+
+-- the lines of some octets and then those of others
+lines_on : (e e' : EngineView) (a : Answers) (p front more : List ℕ) (s s' : Exchanged) → IsSetAlike e' e →
+    s' ≡ exchanged (rules_with e a) s p front →
+    stamped (rules_with e a) s p front ++ stamped (rules_with e' a) s' (p ++ front) more
+    ≡ stamped (rules_with e a) s p (front ++ more)
+lines_on e e' a p front more s s' same told =
+    ap (λ (R : Rules). stamped (rules_with e a) s p front ++ stamped R s' (p ++ front) more) (same_rules e e' a same)
+    ∙ (ap (λ (x : Exchanged). stamped (rules_with e a) s p front ++ stamped (rules_with e a) x (p ++ front) more) told
+    ∙ sym (stamped_both (rules_with e a) front s p more))
+
+calls_on : (e e' : EngineView) (a : Answers) (p front more : List ℕ) (s s' : Exchanged) → IsSetAlike e' e →
+    s' ≡ exchanged (rules_with e a) s p front →
+    exchanged (rules_with e' a) s' (p ++ front) more ≡ exchanged (rules_with e a) s p (front ++ more)
+calls_on e e' a p front more s s' same told =
+    ap (λ (R : Rules). exchanged R s' (p ++ front) more) (same_rules e e' a same)
+    ∙ (ap (λ (x : Exchanged). exchanged (rules_with e a) x (p ++ front) more) told
+    ∙ sym (exchanged_both (rules_with e a) front s p more))
+
+pub come_on : (e e' e'' : EngineView) (a : Answers) (p octets : List ℕ) (at n : ℕ) (s s' s'' : Exchanged) (t t' t'' : Tagging) →
+    IsSetAlike e' e → HasReadTo e e' a p octets at s s' t t' →
+    HasCome e'' a ((p ++ take at octets) ++ take n (drop at octets)) t' t''
+    (stamped (rules_with e' a) s' (p ++ take at octets) (take n (drop at octets))) s''
+    (exchanged (rules_with e' a) s' (p ++ take at octets) (take n (drop at octets))) →
+    HasReadTo e e'' a p octets (at + n) s s'' t t''
+come_on e e' e'' a p octets at n s s' s'' t t' t'' same so_far more =
+    let front = take at octets in
+    let piece = take n (drop at octets) in
+    let both : front ++ piece ≡ take (at + n) octets = sym (take-add at n octets) in
+    let lines = lines_on e e' a p front piece s s' same so_far.told ∙ ap (stamped (rules_with e a) s p) both in
+    record {
+      holds = subst (HoldsBy e'' a) (append_assoc p front piece ∙ ap (λ (f : List ℕ). p ++ f) both) more.holds;
+      wrote = subst (λ (l : List ℕ). Wrote (tagging_log t) (tagging_log t'') l) lines
+          (wrote-append (tagging_log t) (tagging_log t') (tagging_log t'') (stamped (rules_with e a) s p front)
+          (stamped (rules_with e' a) s' (p ++ front) piece) so_far.wrote more.wrote);
+      told = more.told ∙ (calls_on e e' a p front piece s s' same so_far.told ∙ ap (exchanged (rules_with e a) s p) both);
+    }
+
+pub front_on : (e e' : EngineView) (a : Answers) (p octets : List ℕ) (at : ℕ) (s s' : Exchanged) (t t' t'' : Tagging) →
+    IsSetAlike e' e → HasReadTo e e' a p octets at s s' t t' →
+    WroteFront (tagging_log t') (tagging_log t'') (stamped (rules_with e' a) s' (p ++ take at octets) (drop at octets)) →
+    WroteFront (tagging_log t) (tagging_log t'') (stamped (rules_with e a) s p octets)
+front_on e e' a p octets at s s' t t' t'' same so_far front =
+    let first = take at octets in
+    let rest = drop at octets in
+    let lines = lines_on e e' a p first rest s s' same so_far.told ∙ ap (stamped (rules_with e a) s p) (take-append-drop at octets) in
+    subst (WroteFront (tagging_log t) (tagging_log t'')) lines
+    (wrote-front (tagging_log t) (tagging_log t') (tagging_log t'') (stamped (rules_with e a) s p first)
+    (stamped (rules_with e' a) s' (p ++ first) rest) so_far.wrote front)
+
+pub agree_none : (e : EngineView) (a : Answers) (p : List ℕ) (s : Exchanged) → AgreeWith e a s p []
+unfolding header_ends_from
+agree_none e a p s = tt
+
+none_added : (R : Rules) (p : List ℕ) → added R p [] ≡ []
+unfolding added
+none_added R p =
+    ap (λ (f : List ℕ). drop (length (text R p)) (text R f)) (append-nil p)
+    ∙ drop_all (length (text R p)) (text R p) (omega arith)
+
+none_told : (C : Table) (R : Rules) (p : List ℕ) (s : Exchanged) → after_ends notified C s (header_ends_from R p []) ≡ s
+unfolding header_ends_from
+none_told C R p s = refl
+
+-- all octets, and then none: below stand their lines
+pub stands_at_end : {A E : Type 0} (r : Result A E) (e e' e'' : EngineView) (a : Answers) (p octets w tag due : List ℕ) (at : ℕ)
+    (s s' s'' : Exchanged) (old t t' t'' : Tagging) → length octets ≤ at → HasReadTo e e' a p octets at s s' t t' →
+    IsReady old w → t ≡ record old { tag = tag; due = length tag; since = 0 } → tag ≡ due →
+    MatchResult r
+    (λ _. HasCome e'' a ((p ++ take at octets) ++ []) t' t'' (added (rules_with e' a) (p ++ take at octets) []) s''
+    (after_ends notified e'.table s' (header_ends_from (rules_with e' a) (p ++ take at octets) [])))
+    (λ _. WroteFront (tagging_log t') (tagging_log t'') (added (rules_with e' a) (p ++ take at octets) [])) →
+    MatchResult r
+    (λ _. HasStood e'' a (p ++ octets) t'' (w ++ with_tags due (stamped (rules_with e a) s p octets)) s'' (exchanged (rules_with e a) s p octets))
+    (λ _. WroteTaggedFront t'' w due (stamped (rules_with e a) s p octets))
+stands_at_end {A} {E} (Ok v) e e' e'' a p octets w tag due at s s' s'' old t t' t'' past so_far ready set same more =
+    let all : take at octets ≡ octets = take_all at octets past in
+    let R = rules_with e a in
+    let wrote : Wrote (tagging_log t) (tagging_log t'') (stamped R s p octets) =
+    subst (λ (l : List ℕ). Wrote (tagging_log t) (tagging_log t'') l)
+    (ap (λ (l : List ℕ). stamped R s p (take at octets) ++ l) (none_added (rules_with e' a) (p ++ take at octets))
+    ∙ (append-nil (stamped R s p (take at octets)) ∙ ap (stamped R s p) all))
+    (wrote-append (tagging_log t) (tagging_log t') (tagging_log t'') (stamped R s p (take at octets)) _ so_far.wrote more.wrote) in
+    let r : Result A E = Ok v in
+    record {
+      holds = subst (HoldsBy e'' a) (append-nil (p ++ take at octets) ∙ ap (λ (f : List ℕ). p ++ f) all) more.holds;
+      ready = below_tag r old t t'' w (stamped R s p octets) tag due ready set same
+          (stamped_ends e.table a e.most octets p s) wrote;
+      told = more.told ∙ (none_told e'.table (rules_with e' a) (p ++ take at octets) s' ∙ (so_far.told ∙ ap (exchanged R s p) all));
+    }
+stands_at_end {A} {E} (Err x) e e' e'' a p octets w tag due at s s' s'' old t t' t'' past so_far ready set same more =
+    let all : take at octets ≡ octets = take_all at octets past in
+    let R = rules_with e a in
+    let front : WroteFront (tagging_log t) (tagging_log t'') (stamped R s p octets) =
+    subst (WroteFront (tagging_log t) (tagging_log t''))
+    (ap (λ (l : List ℕ). stamped R s p (take at octets) ++ l) (none_added (rules_with e' a) (p ++ take at octets))
+    ∙ (append-nil (stamped R s p (take at octets)) ∙ ap (stamped R s p) all))
+    (wrote-front (tagging_log t) (tagging_log t') (tagging_log t'') (stamped R s p (take at octets)) _ so_far.wrote more) in
+    let r : Result A E = Err x in
+    below_tag r old t t'' w (stamped R s p octets) tag due ready set same (stamped_ends e.table a e.most octets p s) front
+
+-- no lines
+pub nothing : (w : List ℕ) → w ++ with_tags [] [] ≡ w
+unfolding tagged
+nothing w = append-nil w
+
+pub nothing_stopped : (w : List ℕ) → w ++ stopped_at [] (take 0 []) 0 ≡ w
+unfolding stopped_at tagged ends_line
+nothing_stopped w = append-nil w
+
+-- ---- the start
+
+pub agree_start : (most : ℕ) (a b : Answers) → AnswersAgree most [] a b
+unfolding events events_from messages cut limited limit cut_from first_wrong_octet fronts first_wrong wrong
+agree_start most a b = tt
+
+pub reading_starts : (e : EngineView) (stream : ℕ) (time : Option ℕ) (s0 s1 s2 : Exchanged) (C : Table) (number : ℕ) →
+    s1 ≡ record s0 { table = C } → s2 ≡ record s1 { stream = number; time = time; replied = 0; answered = None } →
+    e.table ≡ C → number ≡ stream → s2 ≡ reading_in e stream time s0
+reading_starts e stream time s0 s1 s2 C number first second same numbered =
+    second
+    ∙ (ap (λ (x : Exchanged). record x { stream = number; time = time; replied = 0; answered = None }) first
+    ∙ λ j. record s0 { table = sym same j; stream = numbered j; time = time; replied = 0; answered = None })

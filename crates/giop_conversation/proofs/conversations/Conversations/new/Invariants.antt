@@ -1,0 +1,15 @@
+use Rattle.std.proofs.Common.{◌≡◌, vec_len, replicate}
+use Rattle.giop_conversation.specs.Captured.{setup, new_connection}
+use Rattle.giop_conversation.specs.DumpHeld.{AreHeld}
+use Rattle.std.specs.List.{All}
+use Rattle.giop_conversation.proofs.FollowedLemmas.{IsNew}
+use Rattle.giop_conversation.proofs.conversations.Conversations.new.Given as goal
+
+abbrev pub invariant-loop-room : goal.invariant-loop-room
+invariant-loop-room g l =
+    record {
+      rooms : All IsNew l.rooms.items;
+      held : (let S = setup l.catalogue l.limits.messages l.limits.calls l.limits.connections in
+          AreHeld S l.rooms.items (replicate l._room (new_connection S)));
+      count : vec_len l.rooms ≡ l._room;
+    }

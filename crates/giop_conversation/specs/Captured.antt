@@ -1,0 +1,251 @@
+-- The text of a capture, by what happens in it (docs/FORMATS.md, Captures; meaning). A flow is named by its id: half of it is
+-- the place of its connection, and the flow is the connection's one with an even id or the other one.
+use Rattle.std.specs.Prelude.{◌≡◌, ℕ, ◌+◌, ◌-◌, ◌^◌, ◌/◌, min, Bool, true, false, ◌||◌, List, [], ◌∷◌, ◌++◌, Option, Some, None, IfSome, slice_get, set, replicate}
+use Rattle.giop_print.specs.Output.{counted}
+use Rattle.giop_sig.specs.Table.{Table}
+use Rattle.giop_entry_table.specs.EntryTable.{Entries}
+use Rattle.giop_calls.specs.declared.calls.Call.{Call}
+use Rattle.giop_message.specs.Signatures.{Answers}
+use Rattle.giop_message.specs.HeaderEnds.{AgreesAtEnds}
+use Rattle.giop_stream.specs.Rules.{Rules, rules_by}
+use Rattle.giop_stream.specs.AnswersAgree.{AnswersAgree}
+use Rattle.giop_stream.specs.HeaderEndsOfStream.{header_ends_from}
+use Rattle.giop_stream.specs.Stream.{closing, final}
+use Rattle.tcp_segment.specs.declared.endpoint.Flow.{Flow}
+use Rattle.tcp_flow.specs.Flow.{Event, Opens, Begins, Delivers, Closes, OfCapture, PacketArrives, HasFault}
+use Rattle.tcp_flow.specs.declared.flow.CloseCause.{CloseCause}
+use Rattle.tcp_flow.specs.declared.flow.CloseCause.TheVariants.{Fin, Reset, Syn, Fault, Gap, Room, End}
+use Rattle.giop_conversation.specs.declared.conversation.Parity.{Parity}
+use Rattle.giop_conversation.specs.declared.conversation.Parity.TheVariants.{Even, Odd}
+use Rattle.giop_conversation.specs.Tags.{stream_tag, with_tags}
+use Rattle.giop_conversation.specs.Lines.{closed_line, capture_fault_line, capture_total_line}
+use Rattle.giop_conversation.specs.Exchanges.{Exchanged, answer_of, notified}
+use Rattle.giop_conversation.specs.Stamped.{begin_lines, exchanged, stamped}
+use Rattle.giop_conversation.specs.Followed.{parity_of, other}
+
+-- what is set before a capture is read: the types, how many messages of a stream may be open at once, how many calls of a flow may
+-- be outstanding, and how many connections are known at once
+pub record Setup : Type 0 where
+  pub table : Table
+  pub messages : ℕ
+  pub calls : ℕ
+  pub connections : ℕ
+
+abbrev pub setup : Table → ℕ → ℕ → ℕ → Setup
+setup table messages calls connections =
+    record { table = table; messages = messages; calls = calls; connections = connections }
+
+-- ---- a connection
+
+-- one flow of a connection
+pub record Side : Type 0 where
+  pub flow : Option Flow  -- who sends to whom
+  pub stream : ℕ  -- the number of its last stream, from 1; 0 where none has begun
+  pub octets : List ℕ  -- what was delivered of that stream
+  pub answers : Answers  -- which operations the ids of the stream's messages answer
+  pub calls : Entries Call  -- its outstanding calls
+
+pub record Connection : Type 0 where
+  pub even : Side
+  pub odd : Side
+
+abbrev pub side : Parity → Connection → Side
+side Even c = c.even
+side Odd c = c.odd
+
+abbrev pub with_side : Parity → Connection → Side → Connection
+with_side Even c s = record c { even = s }
+with_side Odd c s = record c { odd = s }
+
+-- the rules that a stream is read by, where the ids of its messages answer these operations
+abbrev pub rules_in : Setup → Answers → Rules
+rules_in S a = rules_by S.table a S.messages
+
+-- the calls of the connection, as the stream of a flow is read in a packet of this time
+abbrev pub calls_in : Setup → Parity → Option ℕ → Connection → Exchanged
+calls_in S parity time c = record {
+  table = S.table;
+  own = (side parity c).calls;
+  opposite = (side (other parity) c).calls;
+  stream = (side parity c).stream;
+  time = time;
+  replied = 0;
+  answered = None;
+}
+
+-- who sends to whom in a flow; it has no calls
+abbrev pub opened : Parity → Flow → Connection → Connection
+opened parity flow c =
+    with_side parity c (record (side parity c) {
+      flow = Some flow;
+      calls = record (side parity c).calls { entries = [] };
+    })
+
+-- a stream of this number begins in a flow
+abbrev pub begun : Parity → ℕ → Connection → Connection
+begun parity stream c = with_side parity c (record (side parity c) { stream = stream; octets = [] })
+
+-- the calls of the connection behind octets that are delivered in a packet of this time, where the ids of the stream's messages
+-- answer these operations
+abbrev pub calls_behind : Setup → Answers → Parity → List ℕ → Option ℕ → Connection → Exchanged
+calls_behind S a parity octets time c =
+    exchanged (rules_in S a) (calls_in S parity time c) (side parity c).octets octets
+
+-- the connection behind them
+abbrev pub delivered : Setup → Answers → Parity → List ℕ → Option ℕ → Connection → Connection
+delivered S a parity octets time c =
+    let behind = calls_behind S a parity octets time c in
+    with_side (other parity)
+    (with_side parity c (record (side parity c) {
+      octets = (side parity c).octets ++ octets;
+      answers = a;
+      calls = behind.own;
+    }))
+    (record (side (other parity) c) { calls = behind.opposite })
+
+-- their lines, without the tag
+abbrev pub delivered_lines : Setup → Answers → Parity → List ℕ → Option ℕ → Connection → List ℕ
+delivered_lines S a parity octets time c =
+    stamped (rules_in S a) (calls_in S parity time c) (side parity c).octets octets
+
+-- These answers are those of the calls: they are the stream's for what was delivered before, and a Reply whose header ends in
+-- the octets has results of the operation of the call that it answers.
+pub record IsAnswered (S : Setup) (a : Answers) (parity : Parity) (octets : List ℕ)
+    (time : Option ℕ) (c : Connection) : Type 0 where
+  pub before : AnswersAgree S.messages (side parity c).octets (side parity c).answers a
+  pub now : AgreesAtEnds answer_of notified S.table (calls_in S parity time c) a
+      (header_ends_from (rules_in S a) (side parity c).octets octets)
+
+-- the lines with which the stream of a flow closes: why, and its closing
+abbrev pub closed_lines : Setup → Parity → CloseCause → Connection → List ℕ
+closed_lines S parity cause c =
+    closed_line cause ++ closing (rules_in S (side parity c).answers) (side parity c).octets
+
+-- ---- the capture
+
+pub record Dump : Type 0 where
+  pub connections : List Connection
+  pub streams : ℕ  -- how many streams have begun
+  pub messages : ℕ  -- how many messages and faults the streams had that have closed
+  pub faults : ℕ
+  pub is_cut : Bool  -- whether a stream was cut by a gap or for room, or the capture has a fault
+  pub time : Option ℕ  -- that of the packet that is read
+  pub text : List ℕ  -- all that was written
+
+abbrev pub new_side : Setup → Side
+new_side S = record {
+  flow = None;
+  stream = 0;
+  octets = [];
+  answers = λ number id. None;
+  calls = record { most = S.calls; entries = [] };
+}
+
+abbrev pub new_connection : Setup → Connection
+new_connection S = record { even = new_side S; odd = new_side S }
+
+-- before a capture is read, where this was written
+abbrev pub start : Setup → List ℕ → Dump
+start S written = record {
+  connections = replicate S.connections (new_connection S);
+  streams = 0;
+  messages = 0;
+  faults = 0;
+  is_cut = false;
+  time = None;
+  text = written;
+}
+
+-- sums stay at their greatest
+abbrev pub sum_within : ℕ → ℕ → ℕ
+sum_within a b = min (a + b) (2 ^ 64 - 1)
+
+-- the connection of a flow, where there is one
+abbrev pub connection_of : Dump → ℕ → Option Connection
+connection_of d id = slice_get d.connections (id / 2)
+
+abbrev pub with_connection : Dump → ℕ → Connection → Dump
+with_connection d id c = record d { connections = set d.connections (id / 2) c }
+
+abbrev pub opened_in : Dump → ℕ → Flow → Option Connection → Dump
+opened_in d id flow None = d
+opened_in d id flow (Some c) = with_connection d id (opened (parity_of id) flow c)
+
+-- the line of a stream that begins, with the stream's tag
+abbrev pub text_of_begin : Dump → ℕ → Option Connection → List ℕ
+text_of_begin d id None = []
+text_of_begin d id (Some c) =
+    with_tags (stream_tag (counted d.streams)) (begin_lines (side (parity_of id) c).flow d.time)
+
+abbrev pub begun_in : Dump → ℕ → Option Connection → Dump
+begun_in d id None = record d { streams = counted d.streams }
+begun_in d id (Some c) =
+    record (with_connection d id (begun (parity_of id) (counted d.streams) c)) {
+      streams = counted d.streams;
+      text = d.text ++ text_of_begin d id (Some c);
+    }
+
+abbrev pub delivered_in : Setup → Answers → Dump → ℕ → List ℕ → Option Connection → Dump
+delivered_in S a d id octets None = d
+delivered_in S a d id octets (Some c) =
+    record (with_connection d id (delivered S a (parity_of id) octets d.time c)) {
+      text = d.text ++ with_tags (stream_tag (side (parity_of id) c).stream)
+          (delivered_lines S a (parity_of id) octets d.time c);
+    }
+
+-- whether a stream that closes is cut
+abbrev pub cuts : CloseCause → Bool
+cuts Gap = true
+cuts Room = true
+cuts Fin = false
+cuts Reset = false
+cuts Syn = false
+cuts Fault = false
+cuts End = false
+
+abbrev pub closed_in : Setup → Dump → ℕ → CloseCause → Option Connection → Dump
+closed_in S d id cause None = d
+closed_in S d id cause (Some c) =
+    let s = side (parity_of id) c in
+    let totals = final (rules_in S s.answers) s.octets in
+    record d {
+      messages = sum_within d.messages totals.messages;
+      faults = sum_within d.faults totals.faults;
+      is_cut = d.is_cut || cuts cause;
+      text = d.text ++ with_tags (stream_tag s.stream) (closed_lines S (parity_of id) cause c);
+    }
+
+-- behind an event, where the ids of the messages of the stream that is read answer these operations
+abbrev pub stepped : Setup → Answers → Dump → Event → Dump
+stepped S a d (Opens id flow) = opened_in d id flow (connection_of d id)
+stepped S a d (Begins id number) = begun_in d id (connection_of d id)
+stepped S a d (Delivers id octets) = delivered_in S a d id octets (connection_of d id)
+stepped S a d (Closes id cause) = closed_in S d id cause (connection_of d id)
+stepped S a d (OfCapture (PacketArrives time)) = record d { time = time }
+stepped S a d (OfCapture (HasFault word at)) =
+    record d { is_cut = true; text = d.text ++ capture_fault_line word at }
+
+-- These answers are those of the calls, where octets are delivered.
+abbrev pub Answered : Setup → Answers → Dump → Event → Type 0
+Answered S a d (Delivers id octets) =
+    IfSome (connection_of d id) (λ c. IsAnswered S a (parity_of id) octets d.time c)
+Answered S a d (Opens id flow) = Unit {0}
+Answered S a d (Begins id number) = Unit {0}
+Answered S a d (Closes id cause) = Unit {0}
+Answered S a d (OfCapture event) = Unit {0}
+
+-- An event leads from one dump to the next.
+pub record Step (S : Setup) (d : Dump) (e : Event) (behind : Dump) : Type 0 where
+  pub answers : Answers
+  pub answered : Answered S answers d e
+  pub is : behind ≡ stepped S answers d e
+
+-- Events lead from one dump to another.
+abbrev pub Leads : Setup → Dump → List Event → Dump → Type 0
+Leads S d [] behind = behind ≡ d
+Leads S d (e ∷ es) behind = (between : Dump) × Step S d e between × Leads S between es behind
+
+-- the text of a capture of so many packets and octets, its last line included
+abbrev pub finished_text : Dump → ℕ → ℕ → List ℕ
+finished_text d packets octets =
+    d.text ++ capture_total_line d.streams d.messages d.faults packets octets

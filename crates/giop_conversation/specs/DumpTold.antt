@@ -1,0 +1,11 @@
+-- The connections of a capture have told what the events of the capture lead to (state).
+use Rattle.std.specs.Prelude.{ℕ, List}
+use Rattle.tcp_flow.specs.Flow.{Event}
+use Rattle.giop_conversation.specs.declared.conversations.Conversations.{Conversations}
+use Rattle.giop_conversation.specs.Captured.{Setup}
+use Rattle.giop_conversation.specs.DumpHeld.{HasTold}
+
+-- Behind what was written below before there stands the text of these events, and no more.
+abbrev pub Told : {O : Type 0} → Setup → List ℕ → List Event → Conversations O → Type 0
+Told S written events c =
+    HasTold S written events c.rooms.items c.out c.time c.totals.streams c.totals.messages c.totals.faults c.cut

@@ -1,0 +1,55 @@
+-- The lines of a stream in a capture, without its tag (docs/FORMATS.md, Captures; meaning): those that the stream has by itself,
+-- and behind the lines of an octet those that are due there: when a message began, where that octet is the 12th of its header,
+-- and which call a Reply answers, where the Reply's header ends.
+use Rattle.std.specs.Prelude.{ℕ, List, [], ◌∷◌, ◌++◌, length, Option, Some, None, nat_lt, if◌then◌else◌}
+use Rattle.giop_message.specs.HeaderEnds.{after_ends}
+use Rattle.giop_stream.specs.Rules.{Rules}
+use Rattle.giop_stream.specs.Framing.{cut, messages}
+use Rattle.giop_stream.specs.HeaderEndsOfStream.{header_ends_from}
+use Rattle.giop_stream.specs.EngineHolds.{added}
+use Rattle.tcp_segment.specs.declared.endpoint.Flow.{Flow}
+use Rattle.giop_conversation.specs.Lines.{stream_line, time_line, answers_line}
+use Rattle.giop_conversation.specs.Exchanges.{Exchanged, Answering, notified}
+
+-- the line with which a stream begins, where who sends to whom is known
+abbrev pub begin_lines : Option Flow → Option ℕ → List ℕ
+begin_lines None time = []
+begin_lines (Some flow) time = stream_line flow time
+
+-- how many messages of the stream p have begun: the header of 12 octets is complete
+abbrev pub begun : List ℕ → ℕ
+begun p = length (messages (cut p))
+
+-- when a message began, where one did in these octets after the stream p
+abbrev pub time_due : List ℕ → List ℕ → Option ℕ → List ℕ
+time_due p octets time =
+    if nat_lt (begun p) (begun (p ++ octets)) then time_line (begun (p ++ octets)) time else []
+
+-- which call a Reply answers, where it answers one
+abbrev pub answers_due : Option Answering → Option ℕ → List ℕ
+answers_due None time = []
+answers_due (Some a) time = answers_line a.message a.call time
+
+-- the calls of the connection, told of the headers that end in these octets after the stream p
+abbrev pub told : Rules → Exchanged → List ℕ → List ℕ → Exchanged
+told R s p octets = after_ends notified s.table s (header_ends_from R p octets)
+
+-- the same once its line was written
+abbrev pub taken : Exchanged → Exchanged
+taken s = record s { answered = None }
+
+-- the lines that are due behind these octets after the stream p, which came in a packet of the time that the exchange has
+unfoldable pub lines_due : Rules → Exchanged → List ℕ → List ℕ → List ℕ
+lines_due R s p octets = time_due p octets s.time ++ answers_due (told R s p octets).answered s.time
+
+-- the calls of the connection behind these octets after the stream p
+unfoldable pub exchanged : Rules → Exchanged → List ℕ → List ℕ → Exchanged
+exchanged R s p [] = s
+exchanged R s p (x ∷ xs) = exchanged R (taken (told R s p (x ∷ []))) (p ++ x ∷ []) xs
+
+-- what is written of these octets after the stream p: behind the lines of each octet those that are due there
+unfoldable pub stamped : Rules → Exchanged → List ℕ → List ℕ → List ℕ
+stamped R s p [] = []
+stamped R s p (x ∷ xs) =
+    (added R p (x ∷ []) ++ lines_due R s p (x ∷ []))
+    ++ stamped R (taken (told R s p (x ∷ []))) (p ++ x ∷ []) xs

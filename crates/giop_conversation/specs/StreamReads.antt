@@ -1,0 +1,47 @@
+-- What calls of a direction do with octets of its stream, and what they write (state).
+use Rattle.std.specs.Prelude.{◌≡◌, ℕ, List, ◌++◌, Option, None, Result, MatchResult}
+use Rattle.giop_print.specs.Output.{Wrote}
+use Rattle.giop_message.specs.Signatures.{Answers}
+use Rattle.giop_message.specs.HeaderEnds.{AgreesAtEnds}
+use Rattle.giop_stream.specs.EngineView.{EngineView}
+use Rattle.giop_stream.specs.EngineHolds.{HoldsBy, rules_with}
+use Rattle.giop_stream.specs.HeaderEndsOfStream.{header_ends_from}
+use Rattle.giop_conversation.specs.Tags.{with_tags}
+use Rattle.giop_conversation.specs.TaggedState.{Tagging, tagging_log, IsReady, WroteTaggedFront}
+use Rattle.giop_conversation.specs.Exchanges.{Exchanged, answer_of, notified}
+
+-- These answers agree with the calls of the connection at each header that ends in these octets after the stream p: each Reply
+-- has results of the operation of the call that it answers.
+abbrev pub AgreeWith : EngineView → Answers → Exchanged → List ℕ → List ℕ → Type 0
+AgreeWith e a s p octets =
+    AgreesAtEnds answer_of notified e.table s a (header_ends_from (rules_with e a) p octets)
+
+-- an engine reads by the same types, and allows as many open messages
+pub record IsSetAlike (e before : EngineView) : Type 0 where
+  pub table : e.table ≡ before.table
+  pub most : e.most ≡ before.most
+
+-- the calls of the connection, as a stream of this number is read in a packet of this time
+abbrev pub reading_in : EngineView → ℕ → Option ℕ → Exchanged → Exchanged
+reading_in e stream time s =
+    record s { table = e.table; stream = stream; time = time; replied = 0; answered = None }
+
+-- The engine holds the stream p, these lines were written through the out with tags, and the calls are these.
+pub record HasCome (e : EngineView) (a : Answers) (p : List ℕ) (before after : Tagging)
+    (lines : List ℕ) (calls due : Exchanged) : Type 0 where
+  pub holds : HoldsBy e a p
+  pub wrote : Wrote (tagging_log before) (tagging_log after) lines
+  pub told : calls ≡ due
+
+-- The engine holds the stream p, this was written to the out below, and the calls are these.
+pub record HasStood (e : EngineView) (a : Answers) (p : List ℕ) (after : Tagging)
+    (below : List ℕ) (calls due : Exchanged) : Type 0 where
+  pub holds : HoldsBy e a p
+  pub ready : IsReady after below
+  pub told : calls ≡ due
+
+-- Behind what was written to the out below there stand these lines, each with the tag in front; or a front of them, and maybe the
+-- beginning of a tag, where a put failed.
+abbrev pub WritesTagged : {A E : Type 0} → Result A E → Tagging → List ℕ → List ℕ → List ℕ → Type 0
+WritesTagged result after w tag lines =
+    MatchResult result (λ _. IsReady after (w ++ with_tags tag lines)) (λ _. WroteTaggedFront after w tag lines)

@@ -1,0 +1,277 @@
+//! All connections of a capture: their streams as these begin, go on and close, and the lines of these.
+
+ghost use Rattle.std.specs.Prelude.{◌≡◌, ◌≤◌, ◌<◌, ◌+◌, ◌*◌, ◌/◌, ◌++◌, ◌∷◌, ◌||◌, ℕ, List, [], length, nat_lt, IfOk, OnOk, Err, Some, MatchResult};
+ghost use Rattle.std.specs.Vec.{vec_len};
+ghost use Rattle.tcp_flow.specs.Flow.{Event, Opens, Begins, Delivers, Closes, OfCapture, PacketArrives, HasFault};
+ghost use Rattle.giop_stream.specs.Rules.{most_open};
+ghost use Rattle.giop_stream.specs.EngineHolds.{AreOf};
+ghost use Rattle.giop_conversation.specs.Failing.{FailsOnce};
+ghost use Rattle.giop_conversation.specs.Follows.{Follows};
+ghost use Rattle.giop_conversation.specs.Captured.{Setup, setup, cuts, sum_within as spec_sum_within};
+ghost use Rattle.giop_conversation.specs.DumpHeld.{HasToldFront, HasFinished, HasFinishedFront};
+ghost use Rattle.giop_conversation.specs.DumpTold.{Told};
+ghost use Rattle.giop_conversation.specs.Followed.{reader_faulted, is_stopped as spec_is_stopped};
+
+use crate::conversation::{Conversation, parity_of};
+use crate::limits::{Limits, NoMemory};
+use crate::lines::{CaptureTotals, capture_fault_line, capture_total_line};
+use crate::tag::no_tag;
+use crate::tagged::Tagged;
+use giop_print::{Out, OutFault};
+use giop_sig::{Catalogue, Requests};
+use giop_stream::Status;
+use std::alloc::Global;
+use tcp_flow::CloseCause;
+use tcp_segment::Flow;
+
+/// Whether a stream is at a fault, by its status.
+fn is_stopped(status: Status) -> bool
+    ensures { result ≡ spec_is_stopped status }
+{
+    match status {
+        Status::Running => false,
+        Status::Stopped(_) => true,
+    }
+}
+
+/// A sum that stays at its greatest.
+fn sum_within(a: u64, b: u64) -> u64
+    ensures { result ≡ spec_sum_within a b }
+{
+    a.saturating_add(b)
+}
+
+/// Whether a capture is cut once a stream closes: whether it was, or octets of the stream are missing or were no more waited for.
+fn is_cut(before: bool, cause: CloseCause) -> bool
+    ensures { result ≡ (before || cuts cause) }
+{
+    match cause {
+        CloseCause::Gap | CloseCause::Room => true,
+        CloseCause::Fin
+        | CloseCause::Reset
+        | CloseCause::Syn
+        | CloseCause::Fault
+        | CloseCause::End => before,
+    }
+}
+
+/// Whether anything is to be told of a capture at its end: whether it was cut, or a fault was counted.
+fn is_faulted(cut: bool, faults: u64) -> bool
+    ensures { result ≡ (cut || nat_lt 0 faults) }
+{
+    cut || faults > 0
+}
+
+/// All connections of a capture, with an `Out` for their lines. A flow is named by its id: the room of its connection is half
+/// of it, and its last bit tells which of the two flows it is. Flows beyond the rooms are passed over. After a failed put
+/// nothing more is written, and each call that writes fails.
+#[derive(Drop)]
+pub struct Conversations<'a, O: Out + Drop> {
+    rooms: Vec<Conversation<'a>>,
+    out: Tagged<O>,
+    time: Option<u128>,
+    totals: CaptureTotals,
+    cut: bool,
+}
+
+impl<'a, O: Out + Drop> Conversations<'a, O> {
+    ghost use Rattle.std.specs.Borrow.{Lends, sem};
+    ghost use mir.Syntax.{named};
+    ghost use Rattle.giop_conversation.specs.contracts.conversations.Conversations.{the_row};
+
+    /// No stream has begun. All memory is taken here.
+    pub fn new(
+        alloc: Global,
+        catalogue: &'a Catalogue,
+        requests: &'a Requests,
+        limits: Limits,
+        out: O,
+    ) -> Result<Conversations<'a, O>, NoMemory>
+        requires of { AreOf catalogue.now requests.now }
+        requires range { (1 ≤ limits.messages) × (limits.messages ≤ most_open) }
+        ensures follows { IfOk result (λ c. Follows c []) }
+        ensures rooms { IfOk result (λ c. vec_len c.rooms ≡ limits.connections) }
+        ensures fails { IfOk result (λ c. c.out.failures ≡ 0) }
+        ensures told { (written : List ℕ) → (O.log out).written ≡ Some written → IfOk result (λ c.
+            Told (setup catalogue.now limits.messages limits.calls limits.connections) written [] c) }
+    {
+        let mut rooms = Vec::with_capacity(alloc, limits.connections as usize)?;
+        for _room in 0..limits.connections {
+            let conversation = Conversation::new(alloc, catalogue, requests, limits)?;
+            let Ok(()) = rooms.push(conversation) else {
+                return Err(NoMemory);
+            };
+        }
+        let totals = CaptureTotals {
+            streams: 0,
+            messages: 0,
+            faults: 0,
+            packets: 0,
+            octets: 0,
+        };
+        Ok(Conversations {
+            rooms,
+            out: Tagged::new(out),
+            time: None,
+            totals,
+            cut: false,
+        })
+    }
+
+    /// The time of the packet that is read, in nanoseconds since 1970-01-01 UTC.
+    pub fn set_time(&mut self, time: Option<u128>)
+        ensures value { self.new ≡ record self.old { time = time } }
+        ensures told { (S : Setup) (written : List ℕ) (events : List Event) → Told S written events self.old →
+            Told S written (events ++ OfCapture (PacketArrives time) ∷ []) self.new }
+    {
+        self.time = time;
+    }
+
+    /// An id stands for a flow from now on, of which nothing came. Calls of it that were kept are forgotten.
+    pub fn opens(&mut self, flow: u32, endpoints: Flow)
+        ensures follows { (events : List Event) → Follows self.old events →
+            Follows self.new (events ++ Opens flow endpoints ∷ []) }
+        ensures out { self.new.out ≡ self.old.out }
+        ensures told { (S : Setup) (written : List ℕ) (events : List Event) → Told S written events self.old →
+            Told S written (events ++ Opens flow endpoints ∷ []) self.new }
+    {
+        match self.rooms.get_mut(flow as usize / 2) {
+            Some(room) => room.open(parity_of(flow), endpoints),
+            None => {}
+        }
+    }
+
+    /// A stream of a flow begins.
+    pub fn begins(&mut self, flow: u32) -> Result<(), OutFault>
+        ensures follows { (events : List Event) (number : ℕ) → Follows self.old events →
+            OnOk result (Follows self.new (events ++ Begins flow number ∷ [])) }
+        // Below stands the text of all events, or a front of it.
+        ensures told { (S : Setup) (written : List ℕ) (events : List Event) (number : ℕ) →
+            Told S written events self.old →
+            MatchResult result (λ _. Told S written (events ++ Begins flow number ∷ []) self.new)
+            (λ _. HasToldFront S written (events ++ Begins flow number ∷ []) self.new.out) }
+        ensures fails { FailsOnce result self.new.out }
+    {
+        if self.out.has_failed() {
+            return Err(OutFault);
+        }
+        self.totals.streams = sum_within(self.totals.streams, 1);
+        match self.rooms.get_mut(flow as usize / 2) {
+            Some(room) => room.begin(
+                parity_of(flow),
+                self.totals.streams,
+                self.time,
+                &mut self.out,
+            ),
+            None => Ok(()),
+        }
+    }
+
+    /// The next octets of a flow's stream. Answers whether the stream is at a fault.
+    pub fn delivers(&mut self, flow: u32, octets: &[u8]) -> Result<bool, OutFault>
+        ensures follows { (events : List Event) → Follows self.old events → IfOk result (λ at_fault.
+            Follows self.new (events ++ Delivers flow octets.now ∷ [])
+            × (at_fault ≡ reader_faulted (events ++ Delivers flow octets.now ∷ []))) }
+        // Below stands the text of all events, or a front of it.
+        ensures told { (S : Setup) (written : List ℕ) (events : List Event) → Told S written events self.old →
+            MatchResult result (λ _. Told S written (events ++ Delivers flow octets.now ∷ []) self.new)
+            (λ _. HasToldFront S written (events ++ Delivers flow octets.now ∷ []) self.new.out) }
+        ensures fails { FailsOnce result self.new.out }
+    {
+        if self.out.has_failed() {
+            return Err(OutFault);
+        }
+        match self.rooms.get_mut(flow as usize / 2) {
+            Some(room) => match room.read(parity_of(flow), octets, self.time, &mut self.out) {
+                Ok(status) => Ok(is_stopped(status)),
+                Err(fault) => Err(fault),
+            },
+            // Nothing is known of its stream.
+            None => Err(self.out.refuse()),
+        }
+    }
+
+    /// The stream of a flow closes.
+    pub fn closes(&mut self, flow: u32, cause: CloseCause) -> Result<(), OutFault>
+        ensures follows { (events : List Event) → Follows self.old events →
+            OnOk result (Follows self.new (events ++ Closes flow cause ∷ [])) }
+        // Below stands the text of all events, or a front of it.
+        ensures told { (S : Setup) (written : List ℕ) (events : List Event) → Told S written events self.old →
+            MatchResult result (λ _. Told S written (events ++ Closes flow cause ∷ []) self.new)
+            (λ _. HasToldFront S written (events ++ Closes flow cause ∷ []) self.new.out) }
+        ensures fails { FailsOnce result self.new.out }
+    {
+        if self.out.has_failed() {
+            return Err(OutFault);
+        }
+        match self.rooms.get(flow as usize / 2) {
+            Some(room) => match room.close(parity_of(flow), cause, &mut self.out) {
+                Ok(totals) => {
+                    self.totals.messages = sum_within(self.totals.messages, totals.messages);
+                    self.totals.faults = sum_within(self.totals.faults, totals.faults);
+                    self.cut = is_cut(self.cut, cause);
+                    Ok(())
+                }
+                Err(fault) => Err(fault),
+            },
+            None => Ok(()),
+        }
+    }
+
+    /// The capture has a fault of its own, at its octet of this number, from 1: it ends there.
+    pub fn fault(&mut self, word: &str, at: u64) -> Result<(), OutFault>
+        ensures follows { (events : List Event) → Follows self.old events →
+            OnOk result (Follows self.new events) }
+        // Below stands the text of all events, or a front of it.
+        ensures told { (S : Setup) (written : List ℕ) (events : List Event) → Told S written events self.old →
+            MatchResult result (λ _. Told S written (events ++ OfCapture (HasFault word.now at) ∷ []) self.new)
+            (λ _. HasToldFront S written (events ++ OfCapture (HasFault word.now at) ∷ []) self.new.out) }
+        ensures fails { FailsOnce result self.new.out }
+    {
+        if self.out.has_failed() {
+            return Err(OutFault);
+        }
+        self.cut = true;
+        self.out.set_tag(no_tag());
+        capture_fault_line(&mut self.out, word, at)
+    }
+
+    /// The last line, with how many packets and octets the capture has. Answers whether a fault was counted, a stream was cut
+    /// by a gap or for room, or the capture has a fault.
+    pub fn finish(&mut self, packets: u64, octets: u64) -> Result<bool, OutFault>
+        ensures fails { FailsOnce result self.new.out }
+        ensures value { IfOk result (λ is_faulted.
+            is_faulted ≡ (self.old.cut || nat_lt 0 self.old.totals.faults)) }
+        // Below stands the text of all events, and then the last line; or a front of them.
+        ensures told { (S : Setup) (written : List ℕ) (events : List Event) → Told S written events self.old →
+            MatchResult result
+            (λ is_faulted. HasFinished S written events packets octets self.new.out is_faulted)
+            (λ _. HasFinishedFront S written events packets octets self.new.out) }
+    {
+        if self.out.has_failed() {
+            return Err(OutFault);
+        }
+        self.totals.packets = packets;
+        self.totals.octets = octets;
+        self.out.set_tag(no_tag());
+        capture_total_line(&mut self.out, self.totals)?;
+        Ok(is_faulted(self.cut, self.totals.faults))
+    }
+
+    /// The out below. What is written to it past this one has no tags.
+    pub fn out_mut(&mut self) -> &mut O
+        ensures value { (O.log result.now).written ≡ self.old.out.whole }
+        ensures* writes_back { sem 𝓛 (Lends
+            (the_row (record { mir = named 1; lft = [] }) O.row O.Out) O.row self.entry result
+            (λ w. record self.old { out = record self.old.out { whole = (O.log w).written } })) }
+    {
+        self.out.out_mut()
+    }
+
+    /// The out below.
+    pub fn into_out(self) -> O
+        ensures { (O.log result).written ≡ self.entry.out.whole }
+    {
+        self.out.into_out()
+    }
+}
