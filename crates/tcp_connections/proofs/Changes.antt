@@ -5,7 +5,8 @@ use Rattle.tcp_segment.specs.declared.endpoint.Flow.{Flow as Endpoints}
 use Rattle.tcp_flow.specs.Flow.{Event, Opens}
 use Rattle.tcp_streams.specs.declared.pair.EndpointPair.{EndpointPair}
 use Rattle.tcp_streams.specs.declared.pair.Side.TheVariants.{FromLesser, FromGreater}
-use Rattle.tcp_streams.specs.Lives.{lives}
+use Rattle.tcp_streams.specs.Lives.{lives, behind}
+use Rattle.tcp_streams.proofs.Order.{lives_more}
 use Rattle.tcp_streams.specs.Pairs.{flow_id, flow_from}
 use Rattle.tcp_connections.specs.declared.connections.Connections.{Connections}
 use Rattle.tcp_connections.specs.Connections.{State, place_of, place_among, next_room, rest_of_rooms, made_known}
@@ -23,6 +24,7 @@ noted O live c c' w room h same free table =
       observed = h.observed;
       live = h.live;
       same = same w.events ∙ ap (λ (u : State). record u { lasts = set u.lasts room u.segments }) h.same;
+      told = h.told;
       sound = sound_seen w (set w.lasts room w.segments) w.segments w.events long h.sound;
       free = free ∙ h.free ∙ sym long;
       room = table ∙ h.room ∙ sym long;
@@ -37,6 +39,7 @@ counted O live c c' w h same free table =
       observed = h.observed;
       live = h.live;
       same = same w.events ∙ ap (λ (u : State). record u { segments = u.segments + 1 }) h.same;
+      told = h.told;
       sound = sound_seen w w.lasts (w.segments + 1) w.events refl h.sound;
       free = free ∙ h.free;
       room = table ∙ h.room;
@@ -44,6 +47,13 @@ counted O live c c' w h same free table =
 
 abbrev pub opened : ℕ → EndpointPair → List Event → List Event
 opened room p events = (events ++ Opens (flow_id room FromLesser) (flow_from p FromLesser) ∷ []) ++ Opens (flow_id room FromGreater) (flow_from p FromGreater) ∷ []
+
+opened_lives : (room : ℕ) (p : EndpointPair) (events : List Event) → lives (opened room p events) ≡ lives events
+unfolding behind
+opened_lives room p events =
+    let lesser : Event = Opens (flow_id room FromLesser) (flow_from p FromLesser) in
+    let greater : Event = Opens (flow_id room FromGreater) (flow_from p FromGreater) in
+    lives_more [] (events ++ lesser ∷ []) greater ∙ lives_more [] events lesser
 
 -- what the code made is what the definition makes
 made_is : (w : State) (p : EndpointPair) (rest : List ℕ) (room : ℕ) → w.free ≡ rest ++ room ∷ []
@@ -72,6 +82,7 @@ made O O' live live' c c' w p rest room h observed living free new state most ta
       same =
           state (opened room p w.events)
           ∙ ap (λ (u : State). record u { known = insert u.known (place_among p u.known) p; rooms = insert u.rooms (place_among p u.known) room; free = rest; lasts = set u.lasts room u.segments; events = opened room p w.events }) h.same;
+      told = λ id e. subst (λ (xs : List ℕ). 0 < times id xs) (sym (opened_lives room p w.events)) (h.told id e);
       sound = known_sound w p rest room (set w.lasts room w.segments) (opened room p w.events) h.sound had unknown long;
       free = most ∙ h.free ∙ sym long;
       room = table ∙ h.room ∙ sym long;

@@ -1,8 +1,10 @@
 pub mod Cases
 pub mod Changes
 pub mod Counted
+pub mod Ending
 pub mod Forgotten
 pub mod Kept
+pub mod Living
 pub mod Search
 pub mod Sound
 pub mod Start

@@ -1,20 +1,25 @@
 -- The code has a state: what a step of one flow, and each other change, leaves.
-use Rattle.std.proofs.Common.{◌≡◌, ℕ, zero, suc, cond, ◌+◌, ◌*◌, ◌<◌, ◌≤◌, List, [], ◌∷◌, ◌++◌, length, set, Option, Some, None, refl, sym, ◌∙◌, ap, subst, arith}
+use Rattle.std.proofs.Common.{◌≡◌, ℕ, zero, suc, true, cond, ◌+◌, ◌*◌, ◌<◌, ◌≤◌, List, [], ◌∷◌, ◌++◌, length, set, get_or, Option, Some, None, is_some, refl, sym, ◌∙◌, ap, subst, arith, inl, inr, true≢false, get_or-set_same, get_or-set_other}
+use Rattle.std.proofs.lemmas.Bool.{cases_eq}
+use Rattle.std.proofs.lemmas.List.{length-replicate}
 use Rattle.std.specs.List.{remove}
 use Rattle.std.specs.Prelude.{Result, Ok, Err, OnOk}
 use Rattle.tcp_waiting.specs.Payload.{Payload, blocks_of}
 use Rattle.tcp_flow.specs.declared.flow.CloseCause.{CloseCause}
 use Rattle.tcp_flow.specs.declared.flow.FlowState.{FlowState}
 use Rattle.tcp_flow.specs.declared.flow.ListenerFault.{ListenerFault}
-use Rattle.tcp_flow.specs.Flow.{Flow, Event, held_by_others}
+use Rattle.tcp_flow.specs.Flow.{Flow, Event, CaptureEvent, OfCapture, held_by_others}
 use Rattle.tcp_flow.specs.Laws.{IsSettled}
 use Rattle.tcp_flow.specs.State.{state, IsState as IsFlow}
 use Rattle.tcp_connections.specs.declared.connections.Connections.{Connections}
 use Rattle.tcp_streams.specs.declared.pair.Side.{Side}
-use Rattle.tcp_streams.specs.Lives.{lives}
-use Rattle.tcp_connections.specs.Connections.{State, with_flow, room_at, flow_forgotten, forgotten, goes_before, eldest}
-use Rattle.tcp_connections.specs.State.{IsSound, IsState, IsAt, state_of}
+use Rattle.tcp_streams.specs.Lives.{lives, behind, most_ids}
+use Rattle.tcp_streams.proofs.Order.{lives_more}
+use Rattle.tcp_connections.specs.Connections.{State, none_known, flow_at, live_at, live_of, with_flow, with_capture_event, room_at, flow_forgotten, forgotten, goes_before, eldest}
+use Rattle.tcp_connections.specs.State.{IsSound, IsState, IsAt, state_of, times}
+use Rattle.tcp_connections.proofs.Living.{IsTurn, no_turn}
 use Rattle.tcp_connections.proofs.Forgotten.{both_forgotten, forgotten_sound}
+use Rattle.tcp_connections.proofs.Times.{none_there}
 use Rattle.tcp_connections.proofs.Sound.{IsApart, with_flow_sound, forgot_sound, sound_seen}
 
 -- what is so of the code's state, whatever has happened, is so of each that it has
@@ -25,6 +30,7 @@ by_state P O live c w h k =
       observed = h.observed;
       live = h.live;
       same = refl;
+      told = subst (λ (v : State). (id : ℕ) → is_some (live_at v id) ≡ true → 0 < times id (lives v.events)) (sym h.same) h.told;
       sound = subst IsSound (sym h.same) h.sound;
       free = h.free ∙ sym (ap (λ (v : State). length v.lasts) h.same);
       room = h.room ∙ sym (ap (λ (v : State). length v.lasts) h.same);
@@ -66,21 +72,47 @@ moved O live c v w e h = subst (IsState O live c) (sym e) h
 pub beside_own : (id own : ℕ) (held held' : List Payload) → own ≡ id → held_by_others own held' ≡ held_by_others own held → held_by_others id held' ≡ held_by_others id held
 beside_own id own held held' e h = subst (λ (n : ℕ). held_by_others n held' ≡ held_by_others n held) e h
 
+-- the streams that live are told, where a flow is another, and so is what has happened
+told_flow : (w : State) (id : ℕ) (o : Option FlowState) (events : List Event) → ((j : ℕ) → is_some (live_at w j) ≡ true → 0 < times j (lives w.events)) → id < length w.flows
+    → (is_some (live_of o) ≡ true → 0 < times id (lives events)) → ((j : ℕ) → (j ≡ id → ⊥) → times j (lives events) ≡ times j (lives w.events))
+    → (j : ℕ) → is_some (live_of (get_or (set w.flows id o) j None)) ≡ true → 0 < times j (lives events)
+told_flow w id o events told l own beside j e =
+    elim (cases_eq j id) [
+      | inl y ↦
+          (let at : get_or (set w.flows id o) j None ≡ o = ap (λ (k : ℕ). get_or (set w.flows id o) k None) y ∙ get_or-set_same w.flows id o None l in
+          subst (λ (k : ℕ). 0 < times k (lives events)) (sym y) (own (sym (ap (λ (p : Option FlowState). is_some (live_of p)) at) ∙ e)))
+      | inr n ↦
+          (let at : get_or (set w.flows id o) j None ≡ flow_at w j = get_or-set_other w.flows id j o None n in
+          let had : 0 < times j (lives w.events) = told j (sym (ap (λ (p : Option FlowState). is_some (live_of p)) at) ∙ e) in
+          omega (arith, had, beside j n))
+    ]
+
+-- a flow that the code has, before it does anything
+pub turn_start : (O : List Event → Type 0) (live : List ℕ) (c : Connections) (es : List Event) (id : ℕ) (s : FlowState) → IsState O live c (state_of c es) → flow_at (state_of c es) id ≡ Some s
+    → IsTurn id es (state s c.pool.held es)
+unfolding live_of
+turn_start O live c es id s h e = no_turn id (state s c.pool.held es) (h.sound.ids id s e) (λ l. h.told id (ap (λ (o : Option FlowState). is_some (live_of o)) e ∙ l))
+
+pub small_id : (w : State) (id : ℕ) → IsSound w → id < length w.flows → id < most_ids
+small_id w id h l = omega (arith, h.flows, h.most, l)
+
 -- a flow's step, beside all others
 pub flow_done : (O O' : List Event → Type 0) (live live' : List ℕ) (c c' : Connections) (es : List Event) (id : ℕ) (s' : FlowState) (f : Flow)
     → IsState O live c (state_of c es) → id < length c.flows.items
     → IsFlow (λ e. O' e × (live' ≡ lives e)) s' c'.pool.held f
-    → s'.id ≡ id → held_by_others id c'.pool.held ≡ held_by_others id c.pool.held → blocks_of c'.pool.held ≤ c.pool.blocks → IsSettled (state s' c'.pool.held []) → IsApart (state_of c es) id
+    → s'.id ≡ id → held_by_others id c'.pool.held ≡ held_by_others id c.pool.held → blocks_of c'.pool.held ≤ c.pool.blocks → IsSettled (state s' c'.pool.held []) → IsApart (state_of c es) id → IsTurn id es f
     → ((e : List Event) → rest_of c' e ≡ rest_of c e) → c'.flows.items ≡ set c.flows.items id (Some s') → c'.pool.blocks ≡ c.pool.blocks
     → c'.free.most ≡ c.free.most → c'.table.most ≡ c.table.most
     → IsState O' live' c' (with_flow (state_of c es) id f)
-unfolding with_flow
-flow_done O O' live live' c c' es id s' f h l n own beside blocks settled apart rest flows pool free room =
+unfolding with_flow live_of
+flow_done O O' live live' c c' es id s' f h l n own beside blocks settled apart turn rest flows pool free room =
     subst (λ (g : Flow). IsState O' live' c' (with_flow (state_of c es) id g)) n.same
     (record {
       observed = n.observed.0;
       live = n.observed.1;
       same = changed c c' f.events rest (set c.flows.items id (Some s')) c'.pool.held flows pool refl;
+      told = told_flow (state_of c es) id (Some s') f.events h.told l
+          (λ e. turn.own (sym (ap (λ (g : Flow). is_some g.live) n.same) ∙ e)) turn.beside;
       sound = with_flow_sound (state_of c es) id (state s' c'.pool.held f.events) h.sound l own beside blocks settled apart;
       free = free ∙ h.free;
       room = room ∙ h.room;
@@ -90,14 +122,17 @@ flow_done O O' live live' c c' es id s' f h l n own beside blocks settled apart 
 pub forgot_done : (O O' : List Event → Type 0) (live live' : List ℕ) (c c' : Connections) (es : List Event) (id : ℕ) (s' : FlowState) (f : Flow)
     → IsState O live c (state_of c es) → id < length c.flows.items
     → IsFlow (λ e. O' e × (live' ≡ lives e)) s' c.pool.held f
+    → IsTurn id es f
     → ((e : List Event) → rest_of c' e ≡ rest_of c e) → c'.flows.items ≡ set c.flows.items id None → c'.pool.blocks ≡ c.pool.blocks → c'.pool.held ≡ held_by_others id c.pool.held
     → c'.free.most ≡ c.free.most → c'.table.most ≡ c.table.most
     → IsState O' live' c' (record (state_of c es) { flows = set c.flows.items id None; held = held_by_others id c.pool.held; events = f.events })
-forgot_done O O' live live' c c' es id s' f h l n rest flows pool held free room =
+unfolding live_of
+forgot_done O O' live live' c c' es id s' f h l n turn rest flows pool held free room =
     record {
       observed = n.observed.0;
       live = n.observed.1;
       same = changed c c' f.events rest (set c.flows.items id None) (held_by_others id c.pool.held) flows pool held;
+      told = told_flow (state_of c es) id None f.events h.told l (λ e. absurd (true≢false (sym e))) turn.beside;
       sound = forgot_sound (state_of c es) id f.events h.sound l;
       free = free ∙ h.free;
       room = room ∙ h.room;
@@ -129,6 +164,7 @@ connection_forgotten O' live' c c' w place side cause sound h l m same free room
       observed = h.observed;
       live = h.live;
       same = same v.events ∙ ap (λ (u : State). record u { known = remove u.known place; rooms = remove u.rooms place; free = u.free ++ room_at w place ∷ [] }) h.same;
+      told = h.told;
       sound = forgotten_sound w place side cause sound h.sound l m;
       free = free ∙ h.free;
       room = room ∙ h.room;
@@ -166,3 +202,42 @@ close_done O' live' c c' es id s' f n rest flows pool held =
       live = n.observed.1;
       same = changed c c' f.events rest (set c.flows.items id (Some s')) c.pool.held flows pool held;
     })
+
+-- ---- No connection is known so far.
+
+none_live : (ports : List ℕ) (blocks most : ℕ) (events : List Event) (id : ℕ) → is_some (live_at (none_known ports blocks most events) id) ≡ true → 0 < times id (lives events)
+unfolding live_of
+none_live ports blocks most events id e = absurd (true≢false (sym e ∙ ap (λ (o : Option FlowState). is_some (live_of o)) (none_there (2 * most) id)))
+
+-- what `new` makes, beside a listener that has observed these events
+pub starts : (O : List Event → Type 0) (live : List ℕ) (c : Connections) (ports : List ℕ) (blocks most : ℕ) (events : List Event) → O events → live ≡ lives events
+    → state_of c events ≡ none_known ports blocks most events → IsSound (state_of c []) → c.free.most ≡ most → c.table.most ≡ most → IsState O live c (state_of c events)
+starts O live c ports blocks most events o lived same sound free room =
+    let many : length (state_of c events).lasts ≡ most = ap (λ (w : State). length w.lasts) same ∙ length-replicate most 0 in
+    record {
+      observed = o;
+      live = lived;
+      same = refl;
+      told = subst (λ (w : State). (id : ℕ) → is_some (live_at w id) ≡ true → 0 < times id (lives w.events)) (sym same) (none_live ports blocks most events);
+      sound = sound_any c [] events sound;
+      free = free ∙ sym many;
+      room = room ∙ sym many;
+    }
+
+-- ---- The listener is told of the capture.
+
+pub told_capture : (O O' : List Event → Type 0) (live : List ℕ) (c : Connections) (w : State) (event : CaptureEvent) → IsState O live c w → O' (w.events ++ OfCapture event ∷ [])
+    → IsState O' live c (with_capture_event w event)
+unfolding behind
+told_capture O O' live c w event h o =
+    let events : List Event = w.events ++ OfCapture event ∷ [] in
+    let same : state_of c events ≡ record w { events = events } = ap (λ (u : State). record u { events = events }) h.same in
+    record {
+      observed = o;
+      live = h.live ∙ sym (lives_more [] w.events (OfCapture event));
+      same = same;
+      told = λ id e. subst (λ (xs : List ℕ). 0 < times id xs) (sym (lives_more [] w.events (OfCapture event))) (h.told id e);
+      sound = subst IsSound same (sound_any c w.events events (subst IsSound (sym h.same) h.sound));
+      free = h.free;
+      room = h.room;
+    }

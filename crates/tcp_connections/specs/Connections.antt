@@ -10,7 +10,7 @@ use Rattle.tcp_waiting.specs.Payload.{Payload, first}
 use Rattle.tcp_flow.specs.declared.flow.CloseCause.{CloseCause}
 use Rattle.tcp_flow.specs.declared.flow.CloseCause.TheVariants.{Reset, Syn, Room, Gap, End as CaptureEnd}
 use Rattle.tcp_flow.specs.declared.flow.FlowState.{FlowState}
-use Rattle.tcp_flow.specs.Flow.{Flow, Event, Opens, Reader, Arrival, Octets, End, Acknowledged, setting, header_at, closed, gap, step as flow_step, first_payload, held_by_others}
+use Rattle.tcp_flow.specs.Flow.{Flow, Event, CaptureEvent, Opens, OfCapture, Reader, Arrival, Octets, End, Acknowledged, setting, header_at, closed, gap, step as flow_step, first_payload, held_by_others}
 use Rattle.tcp_flow.specs.State.{state}
 use Rattle.tcp_rooms.specs.Rooms.{rooms_below}
 use Rattle.tcp_streams.specs.declared.pair.EndpointPair.{EndpointPair}
@@ -275,6 +275,12 @@ step F w s =
 unfoldable pub after : Reader → State → List Segment → State
 after F w [] = w
 after F w (s ∷ ss) = after F (step F w s) ss
+
+-- ---- What happens in the capture beside its segments.
+
+-- the listener is told of it, and nothing else changes
+abbrev pub with_capture_event : State → CaptureEvent → State
+with_capture_event w event = record w { events = w.events ++ OfCapture event ∷ [] }
 
 -- ---- The end of the capture.
 

@@ -1,5 +1,5 @@
 -- The code's connections, with what has happened, and what is so of each.
-use Rattle.std.specs.Prelude.{◌≡◌, ℕ, cond, nat_eq, ◌+◌, ◌*◌, ◌<◌, ◌≤◌, List, [], ◌∷◌, length, Some, None, OnOk, Result}
+use Rattle.std.specs.Prelude.{◌≡◌, ℕ, cond, nat_eq, ◌+◌, ◌*◌, ◌<◌, ◌≤◌, true, List, [], ◌∷◌, length, Some, None, is_some, OnOk, Result}
 use Rattle.std.specs.List.Sorted.{IsStrictlySortedBy}
 use Rattle.tcp_waiting.specs.Payload.{count_of, blocks_of}
 use Rattle.tcp_flow.specs.declared.flow.FlowState.{FlowState}
@@ -10,7 +10,7 @@ use Rattle.tcp_flow.specs.State.{state}
 use Rattle.tcp_connections.specs.declared.connections.Connections.{Connections}
 use Rattle.tcp_streams.specs.Pairs.{compare_pairs}
 use Rattle.tcp_streams.specs.Lives.{lives}
-use Rattle.tcp_connections.specs.Connections.{State, flow_at}
+use Rattle.tcp_connections.specs.Connections.{State, flow_at, live_at}
 
 -- how often a number stands in a list
 unfoldable pub times : ℕ → List ℕ → ℕ
@@ -52,12 +52,14 @@ state_of c events = record {
   segments = c.segments;
 }
 
--- the code has a state: the listener has observed all that has happened, and the streams that live are those
+-- the code has a state: the listener has observed all that has happened, and the streams that live are those; each live stream
+-- of a flow is one of them
 pub record IsState (O : List Event → Type 0) (streams : List ℕ) (c : Connections) (w : State)
     : Type 0 where
   pub observed : O w.events
   pub live : streams ≡ lives w.events
   pub same : state_of c w.events ≡ w
+  pub told : (id : ℕ) → is_some (live_at w id) ≡ true → 0 < times id (lives w.events)
   pub sound : IsSound w
   pub free : c.free.most ≡ length w.lasts
   pub room : c.table.most ≡ length w.lasts

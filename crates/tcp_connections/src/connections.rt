@@ -1,6 +1,6 @@
 //! The connections that are known, in memory that is allocated once.
 
-ghost use Rattle.std.specs.Prelude.{◌≡◌, ◌≤◌, ◌<◌, ◌+◌, ◌*◌, ◌/◌, ◌^◌, [], List, ℕ, length, get_or, cond, IfOk, IfSome, OnOk, None};
+ghost use Rattle.std.specs.Prelude.{◌≡◌, ◌≤◌, ◌<◌, ◌+◌, ◌*◌, ◌/◌, ◌^◌, [], List, ℕ, length, get_or, cond, IfOk, IfSome, OnOk, OnErr, None};
 ghost use Rattle.std.specs.Vec.{vec_len};
 ghost use Rattle.tcp_segment.specs.Segments.{segment_view};
 ghost use Rattle.tcp_streams.specs.Pairs.{pair_of as spec_pair_of};
@@ -216,6 +216,7 @@ impl Connections {
             (λ w. acknowledgement_taken L.faulted w id (segment_view segment.entry))
             (L.observed to.old.listener) to.old.live.items self.old
             (L.observed to.new.listener) to.new.live.items self.new }
+        ensures cause { OnErr result (L.failed to.new.listener) }
     {
         let Some(number) = segment.acknowledgement else {
             return Ok(());
@@ -242,6 +243,7 @@ impl Connections {
         ensures does { Makes result (λ w. payload_taken L.faulted w id (segment_view segment.entry))
             (L.observed to.old.listener) to.old.live.items self.old
             (L.observed to.new.listener) to.new.live.items self.new }
+        ensures cause { OnErr result (L.failed to.new.listener) }
     {
         let Some(mut flow) = self.flow(id) else {
             return self.first_payload(id, segment, to);
@@ -269,6 +271,7 @@ impl Connections {
         ensures does { Makes result (λ w. payload_taken L.faulted w id (segment_view segment.entry))
             (L.observed to.old.listener) to.old.live.items self.old
             (L.observed to.new.listener) to.new.live.items self.new }
+        ensures cause { OnErr result (L.failed to.new.listener) }
     {
         if !self.is_first(segment) {
             return Ok(());
@@ -292,6 +295,7 @@ impl Connections {
             (spec_first_number (segment_view segment.entry)) (segment_view segment.entry).payload)
             (L.observed to.old.listener) to.old.live.items self.old
             (L.observed to.new.listener) to.new.live.items self.new }
+        ensures cause { OnErr result (L.failed to.new.listener) }
     {
         let number = first_number(segment);
         let flow = FlowState::begin(id, number, segment.payload, &mut self.pool, to)?;
@@ -310,6 +314,7 @@ impl Connections {
         ensures does { Makes result (λ w. fin_taken L.faulted w id (segment_view segment.entry))
             (L.observed to.old.listener) to.old.live.items self.old
             (L.observed to.new.listener) to.new.live.items self.new }
+        ensures cause { OnErr result (L.failed to.new.listener) }
     {
         if !segment.fin {
             return Ok(());
@@ -335,6 +340,7 @@ impl Connections {
         ensures does { Makes result (λ w. reset_taken w place side (segment_view segment.entry))
             (L.observed to.old.listener) to.old.live.items self.old
             (L.observed to.new.listener) to.new.live.items self.new }
+        ensures cause { OnErr result (L.failed to.new.listener) }
     {
         if !segment.reset {
             return Ok(());
@@ -348,6 +354,7 @@ impl Connections {
         ensures does { Makes result (λ w. gapped L.faulted w id)
             (L.observed to.old.listener) to.old.live.items self.old
             (L.observed to.new.listener) to.new.live.items self.new }
+        ensures cause { OnErr result (L.failed to.new.listener) }
     {
         let Some(mut flow) = self.flow(id) else {
             return Ok(());
@@ -367,6 +374,8 @@ impl Connections {
         ensures does { Ends result (λ w. closed_at w id cause)
             (L.observed to.old.listener) to.old.live.items self.old
             (L.observed to.new.listener) to.new.live.items self.new }
+        ensures held { self.new.pool.held ≡ self.old.pool.held }
+        ensures cause { OnErr result (L.failed to.new.listener) }
     {
         let Some(mut flow) = self.flow(id) else {
             return Ok(());
@@ -387,6 +396,7 @@ impl Connections {
         ensures does { Makes result (λ w. flow_forgotten w id cause)
             (L.observed to.old.listener) to.old.live.items self.old
             (L.observed to.new.listener) to.new.live.items self.new }
+        ensures cause { OnErr result (L.failed to.new.listener) }
     {
         let Some(mut flow) = self.flow(id) else {
             return Ok(());
@@ -410,6 +420,7 @@ impl Connections {
         ensures does { Makes result (λ w. forgotten w place side cause)
             (L.observed to.old.listener) to.old.live.items self.old
             (L.observed to.new.listener) to.new.live.items self.new }
+        ensures cause { OnErr result (L.failed to.new.listener) }
     {
         let room = self.table.room(place);
         self.forget_flow(flow_id(room, side), cause, to)?;
@@ -425,6 +436,7 @@ impl Connections {
         ensures does { Makes result (λ w. with_room w)
             (L.observed to.old.listener) to.old.live.items self.old
             (L.observed to.new.listener) to.new.live.items self.new }
+        ensures cause { OnErr result (L.failed to.new.listener) }
     {
         if !self.table.is_full() {
             return Ok(());
@@ -447,6 +459,7 @@ impl Connections {
             (L.observed to.old.listener) to.old.live.items self.old
             (L.observed to.new.listener) to.new.live.items self.new }
         ensures room { IfOk result (λ room. room ≡ next_room self.old.free.free.items) }
+        ensures cause { OnErr result (L.failed to.new.listener) }
     {
         let place = self.place_for(&pair);
         // As many rooms are free as connections may still be known.
@@ -477,6 +490,7 @@ impl Connections {
         ensures does { Makes result (λ w. unknown_taken L.faulted w (segment_view segment.entry))
             (L.observed to.old.listener) to.old.live.items self.old
             (L.observed to.new.listener) to.new.live.items self.new }
+        ensures cause { OnErr result (L.failed to.new.listener) }
     {
         if !self.is_first(segment) {
             return Ok(());
@@ -504,6 +518,7 @@ impl Connections {
             (λ w. known_taken L.faulted w place (segment_view segment.entry))
             (L.observed to.old.listener) to.old.live.items self.old
             (L.observed to.new.listener) to.new.live.items self.new }
+        ensures cause { OnErr result (L.failed to.new.listener) }
     {
         let room = self.table.room(place);
         let id = flow_id(room, side);
@@ -527,6 +542,7 @@ impl Connections {
             (L.observed to.old.listener) to.old.live.items self.old
             (L.observed to.new.listener) to.new.live.items self.new }
         ensures count { OnOk result (self.new.segments ≡ self.old.segments + 1) }
+        ensures cause { OnErr result (L.failed to.new.listener) }
     {
         self.segments += 1;
         let (pair, side) = pair_of(segment.flow);
@@ -548,6 +564,8 @@ impl Connections {
             (λ w. gaps_from L.faulted (length w.held + length (lives w.events)) 0 w)
             (L.observed to.old.listener) to.old.live.items self.old
             (L.observed to.new.listener) to.new.live.items self.new }
+        ensures held { OnOk result (self.new.pool.held ≡ []) }
+        ensures cause { OnErr result (L.failed to.new.listener) }
     {
         let mut left = self.pool.len() + to.len();
         let mut rank = 0;
@@ -570,6 +588,8 @@ impl Connections {
         ensures does { Ends result (λ w. all_closed (length (lives w.events)) w)
             (L.observed to.old.listener) to.old.live.items self.old
             (L.observed to.new.listener) to.new.live.items self.new }
+        ensures held { self.new.pool.held ≡ self.old.pool.held }
+        ensures cause { OnErr result (L.failed to.new.listener) }
     {
         let mut left = to.len();
         while left > 0 {
@@ -582,14 +602,16 @@ impl Connections {
         Ok(())
     }
 
-    /// The capture ends: while flows hold something, a gap of the one whose live stream has the least number; then the live
-    /// streams close by their order.
+    /// The capture ends: while flows hold something, a gap of the one whose live stream has the least number, until nothing is
+    /// held; then the live streams close by their order.
     pub fn end<L: Listener + Drop>(&mut self, to: &mut Streams<L>) -> Result<(), ListenerFault>
         requires state { HasState (L.observed to.old.listener) to.old.live.items self.old }
         ensures does { (w : State)
             → IsState (L.observed to.old.listener) to.old.live.items self.old w
             → OnOk result (IsAt (L.observed to.new.listener) to.new.live.items self.new
             (ended L.faulted w)) }
+        ensures held { OnOk result (self.new.pool.held ≡ []) }
+        ensures cause { OnErr result (L.failed to.new.listener) }
     {
         self.end_gaps(to)?;
         self.close_all(to)

@@ -3,5 +3,7 @@
 #![tactic(auto)]
 
 mod connections;
+mod laws;
 
 pub use connections::Connections;
+pub use laws::capture_event_is_told;

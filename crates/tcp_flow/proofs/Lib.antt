@@ -1,5 +1,8 @@
+pub mod Content
 pub mod Direct
+pub mod Order
 pub mod Others
+pub mod Places
 pub mod Preserving
 pub mod Lefts
 pub mod Room

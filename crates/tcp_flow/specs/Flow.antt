@@ -8,20 +8,28 @@ use Rattle.tcp_segment.specs.declared.endpoint.Flow as endpoints
 use Rattle.tcp_waiting.specs.Payload.{Payload, payload, window, first, blocks_of, is_far, has_as_much}
 use Rattle.tcp_waiting.specs.Numbers.{onward, age, is_to_come}
 
+-- what happens in a capture beside its flows: a packet arrives, at a time in nanoseconds since 1970-01-01 UTC where it has one;
+-- it has a fault, of this word, at the octet of this number
+pub data CaptureEvent : Type 0 where
+  PacketArrives : Option ℕ → CaptureEvent
+  HasFault : List ℕ → ℕ → CaptureEvent
+
 -- what happens in flows, each by its id: the id stands for the flow between these endpoints from now on, a stream begins at a
--- number, octets are delivered to it, it closes
+-- number, octets are delivered to it, it closes; and what happens in the capture, which whoever reads it tells between segments
 pub data Event : Type 0 where
   Opens : ℕ → endpoints.Flow → Event
   Begins : ℕ → ℕ → Event
   Delivers : ℕ → List ℕ → Event
   Closes : ℕ → CloseCause → Event
+  OfCapture : CaptureEvent → Event
 
--- the flow in which an event happens
-abbrev pub flow_of : Event → ℕ
-flow_of (Opens id flow) = id
-flow_of (Begins id number) = id
-flow_of (Delivers id octets) = id
-flow_of (Closes id cause) = id
+-- the flow in which an event happens, where it happens in one
+abbrev pub flow_of : Event → Option ℕ
+flow_of (Opens id flow) = Some id
+flow_of (Begins id number) = Some id
+flow_of (Delivers id octets) = Some id
+flow_of (Closes id cause) = Some id
+flow_of (OfCapture event) = None
 
 -- whether the reader of the stream that octets were delivered to last is at a fault, by all that has happened
 abbrev pub Reader : Type 0

@@ -22,11 +22,11 @@ OwnMayFollow payloads id (Some due) (Delivers flow octets) (Some next) =
 OwnMayFollow payloads id (Some due) (Closes flow cause) None = Unit {0}
 OwnMayFollow payloads id before event behind = ⊥
 
--- one event of any flow: those of others leave what is due
+-- one event: those of other flows and of the capture leave what is due
 abbrev pub MayFollow : List Payload → ℕ → Option ℕ → Event → Option ℕ → Type 0
 MayFollow payloads id before event behind =
-    ((flow_of event ≡ id) × OwnMayFollow payloads id before event behind)
-    ⊎ ((flow_of event ≡ id → ⊥) × (before ≡ behind))
+    ((flow_of event ≡ Some id) × OwnMayFollow payloads id before event behind)
+    ⊎ ((flow_of event ≡ Some id → ⊥) × (before ≡ behind))
 
 -- all that happens, one after the other
 unfoldable pub AllFollow : List Payload → ℕ → Option ℕ → List Event → Option ℕ → Type 0

@@ -1,6 +1,6 @@
 //! One flow of a TCP connection, from its first stream on.
 
-ghost use Rattle.std.specs.Prelude.{◌≡◌, ◌<◌, ◌≤◌, ◌∷◌, IfSome, IfOk, OnOk, ◌++◌, [], ℕ, List, Bool, length, drop};
+ghost use Rattle.std.specs.Prelude.{◌≡◌, ◌<◌, ◌≤◌, ◌∷◌, IfSome, IfOk, OnOk, OnErr, ◌++◌, [], ℕ, List, Bool, length, drop};
 ghost use Rattle.tcp_flow.specs.Flow.{is_header as spec_is_header, header_at as spec_header_at};
 
 use tcp_segment::Flow as Endpoints;
@@ -33,33 +33,40 @@ pub struct ListenerFault;
 pub trait Listener {
     ghost use Rattle.tcp_flow.specs.Flow.{Event, Opens, Begins, Delivers, Closes, Reader};
 
-    /// The listener has observed these events of all flows: a relation, so that one that forgets can be a
-    /// listener.
+    /// The listener has observed these events of all flows, and of the capture: a relation, so that one that forgets can
+    /// be a listener.
     ghost observed: { Self → List Event → Type 0 };
+
+    /// It has failed: what it writes to failed a put, or the like. From then on nothing is promised.
+    ghost failed: { Self → Type 0 };
 
     /// Whether the reader of the stream that was delivered to last is at a fault behind these events.
     ghost faulted: { Reader };
 
     /// The id stands for a flow from now on, of which nothing came.
     fn opens(&mut self, flow: u32, endpoints: Endpoints) -> Result<(), ListenerFault>
-        ensures { (events : List Event) → observed self.old events
-            → OnOk result (observed self.new (events ++ Opens flow endpoints ∷ [])) };
+        ensures does { (events : List Event) → observed self.old events
+            → OnOk result (observed self.new (events ++ Opens flow endpoints ∷ [])) }
+        ensures cause { OnErr result (failed self.new) };
 
     /// A stream of a flow begins at a sequence number.
     fn begins(&mut self, flow: u32, number: u32) -> Result<(), ListenerFault>
-        ensures { (events : List Event) → observed self.old events
-            → OnOk result (observed self.new (events ++ Begins flow number ∷ [])) };
+        ensures does { (events : List Event) → observed self.old events
+            → OnOk result (observed self.new (events ++ Begins flow number ∷ [])) }
+        ensures cause { OnErr result (failed self.new) };
 
     /// The next octets of a flow's live stream. Answers whether the stream's reader is at a fault.
     fn delivers(&mut self, flow: u32, octets: &[u8]) -> Result<bool, ListenerFault>
-        ensures { (events : List Event) → observed self.old events → IfOk result (λ at_fault.
+        ensures does { (events : List Event) → observed self.old events → IfOk result (λ at_fault.
             observed self.new (events ++ Delivers flow octets.now ∷ [])
-            × (at_fault ≡ faulted (events ++ Delivers flow octets.now ∷ []))) };
+            × (at_fault ≡ faulted (events ++ Delivers flow octets.now ∷ []))) }
+        ensures cause { OnErr result (failed self.new) };
 
     /// A flow's live stream closes.
     fn closes(&mut self, flow: u32, cause: CloseCause) -> Result<(), ListenerFault>
-        ensures { (events : List Event) → observed self.old events
-            → OnOk result (observed self.new (events ++ Closes flow cause ∷ [])) };
+        ensures does { (events : List Event) → observed self.old events
+            → OnOk result (observed self.new (events ++ Closes flow cause ∷ [])) }
+        ensures cause { OnErr result (failed self.new) };
 }
 
 /// A flow from its first stream on.
@@ -115,6 +122,7 @@ impl FlowState {
             → IsState (T.observed to.old) self.old held f → OnOk result
             (IsState (T.observed to.new) self.new held
             (delivered T.faulted f (payload self.old.id number octets.now))) }
+        ensures cause { OnErr result (T.failed to.new) }
     {
         self.next = onward(number, octets.len());
         if to.delivers(self.id, octets)? {
@@ -136,6 +144,7 @@ impl FlowState {
             → IsState (T.observed to.old) self.old held f → OnOk result
             (IsState (T.observed to.new) self.new held
             (taken T.faulted f (payload self.old.id number octets.now))) }
+        ensures cause { OnErr result (T.failed to.new) }
     {
         let (number, octets) = self.left(number, octets);
         if octets.is_empty() {
@@ -160,6 +169,7 @@ impl FlowState {
             (drained T.faulted f)) }
         ensures id { self.new.id ≡ self.old.id }
         ensures blocks { pool.new.blocks ≡ pool.old.blocks }
+        ensures cause { OnErr result (T.failed to.new) }
     {
         let mut first = pool.first(self.id, self.next);
         while let Some(index) = first {
@@ -193,6 +203,7 @@ impl FlowState {
             → IsState (T.observed to.old) self.old held f → IsGapless payloads f
             → OnOk result (IsGapless payloads (closed f cause)) }
         ensures id { self.new.id ≡ self.old.id }
+        ensures cause { OnErr result (T.failed to.new) }
     {
         if self.is_live() {
             self.live = None;
@@ -208,6 +219,7 @@ impl FlowState {
             (gone_on T.faulted f)) }
         ensures id { self.new.id ≡ self.old.id }
         ensures blocks { pool.new.blocks ≡ pool.old.blocks }
+        ensures cause { OnErr result (T.failed to.new) }
     {
         self.drain(pool, to)?;
         self.end(pool, to)?;
@@ -221,6 +233,7 @@ impl FlowState {
             → OnOk result (IsState (T.observed to.new) self.new pool.new.held (ended T.faulted f)) }
         ensures id { self.new.id ≡ self.old.id }
         ensures blocks { pool.new.blocks ≡ pool.old.blocks }
+        ensures cause { OnErr result (T.failed to.new) }
     {
         if self.fin_is_reached() {
             self.close(CloseCause::Fin, to)?;
@@ -262,6 +275,7 @@ impl FlowState {
             → OnOk result (IsSettled (state self.new pool.new.held [])) }
         ensures id { self.new.id ≡ self.old.id }
         ensures blocks { pool.new.blocks ≡ pool.old.blocks }
+        ensures cause { OnErr result (T.failed to.new) }
     {
         self.close(CloseCause::Gap, to)?;
         self.go_on(pool, to)?;
@@ -335,6 +349,7 @@ impl FlowState {
             (within_bounds (setting T.faulted pool.old.blocks) count f)) }
         ensures id { self.new.id ≡ self.old.id }
         ensures blocks { pool.new.blocks ≡ pool.old.blocks }
+        ensures cause { OnErr result (T.failed to.new) }
     {
         let mut left = count;
         while left > 0 {
@@ -364,6 +379,7 @@ impl FlowState {
             (payload self.old.id number octets.now))) }
         ensures id { self.new.id ≡ self.old.id }
         ensures blocks { pool.new.blocks ≡ pool.old.blocks }
+        ensures cause { OnErr result (T.failed to.new) }
     {
         let (number, octets) = self.left(number, octets);
         if octets.is_empty() {
@@ -396,6 +412,7 @@ impl FlowState {
             (fin_came T.faulted f number)) }
         ensures id { self.new.id ≡ self.old.id }
         ensures blocks { pool.new.blocks ≡ pool.old.blocks }
+        ensures cause { OnErr result (T.failed to.new) }
     {
         if self.is_live() && age(self.next, number) == 0 {
             self.fin = Some(number);
@@ -416,6 +433,7 @@ impl FlowState {
             (acknowledgement_came T.faulted (length pool.old.held) number f)) }
         ensures id { self.new.id ≡ self.old.id }
         ensures blocks { pool.new.blocks ≡ pool.old.blocks }
+        ensures cause { OnErr result (T.failed to.new) }
     {
         let mut left = pool.len();
         while left > 0 {
@@ -472,6 +490,7 @@ impl FlowState {
             → IfOk result (λ flow. IsSettled (state flow pool.new.held [])) }
         ensures id { IfOk result (λ flow. flow.id ≡ id) }
         ensures blocks { pool.new.blocks ≡ pool.old.blocks }
+        ensures cause { OnErr result (T.failed to.new) }
     {
         let mut flow = FlowState::new(id, number);
         flow.payload(number, octets, pool, to)?;
@@ -505,6 +524,7 @@ impl FlowState {
             → OnOk result (IsSettled (state self.new pool.new.held [])) }
         ensures id { self.new.id ≡ self.old.id }
         ensures blocks { pool.new.blocks ≡ pool.old.blocks }
+        ensures cause { OnErr result (T.failed to.new) }
     {
         self.take_payload(number, octets, pool, to)?;
         // Its range is known once it is read.
@@ -536,6 +556,7 @@ impl FlowState {
             → OnOk result (IsSettled (state self.new pool.new.held [])) }
         ensures id { self.new.id ≡ self.old.id }
         ensures blocks { pool.new.blocks ≡ pool.old.blocks }
+        ensures cause { OnErr result (T.failed to.new) }
     {
         self.take_fin(number, pool, to)?;
         // Its range is known once it is read.
@@ -570,6 +591,7 @@ impl FlowState {
             && spec_is_to_come self.new.next number) ≡ false) }
         ensures id { self.new.id ≡ self.old.id }
         ensures blocks { pool.new.blocks ≡ pool.old.blocks }
+        ensures cause { OnErr result (T.failed to.new) }
     {
         self.take_acknowledgement(number, pool, to)?;
         // Its range is known once it is read.

@@ -3,5 +3,7 @@
 #![tactic(auto)]
 
 mod flow;
+mod laws;
 
 pub use flow::{CloseCause, FlowState, Listener, ListenerFault, header_at};
+pub use laws::order_makes_no_difference;

@@ -1,3 +1,4 @@
 pub mod Elders
+pub mod Ids
 pub mod Order
 pub mod Told

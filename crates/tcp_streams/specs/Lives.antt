@@ -1,10 +1,11 @@
 -- Which streams live, by the order of their beginnings (meaning).
-use Rattle.std.specs.Prelude.{ℕ, suc, cond, nat_eq, List, [], ◌∷◌, ◌++◌, Option, Some, None}
+use Rattle.std.specs.Prelude.{ℕ, suc, ◌<◌, cond, eqb, nat_eq, nat_lt, List, [], ◌∷◌, ◌++◌, Option, Some, None}
 use Rattle.std.specs.Option.{option_map}
+use Rattle.std.specs.List.{AllByRecursion, IsDistinct}
 use Rattle.tcp_streams.specs.declared.pair.Side.{Side}
 use Rattle.tcp_streams.specs.declared.pair.Side.TheVariants.{FromLesser, FromGreater}
 use Rattle.tcp_streams.specs.Pairs.{flow_id}
-use Rattle.tcp_flow.specs.Flow.{Event, Opens, Begins, Delivers, Closes}
+use Rattle.tcp_flow.specs.Flow.{Event, Opens, Begins, Delivers, Closes, OfCapture}
 
 -- where a number stands first
 unfoldable pub index_of : ℕ → List ℕ → Option ℕ
@@ -16,12 +17,25 @@ unfoldable pub without : ℕ → List ℕ → List ℕ
 without n [] = []
 without n (x ∷ xs) = cond (nat_eq x n) xs (x ∷ without n xs)
 
--- the flows whose streams live, behind one more event: a stream that begins is the last
+-- the ids that flows have are below this: two for each of 65,536 connections
+abbrev pub most_ids : ℕ
+most_ids = 131072
+
+-- each is the id of a flow, and stands there once
+abbrev pub AreIds : List ℕ → Type 0
+AreIds ids = AllByRecursion (λ id. id < most_ids) ids × IsDistinct eqb ids
+
+-- the flows whose streams live, behind the beginning of one: it is the last, and the only one of its flow
+unfoldable pub begun : ℕ → List ℕ → List ℕ
+begun id live = cond (nat_lt id most_ids) (without id live ++ id ∷ []) live
+
+-- the same behind one more event
 unfoldable pub behind : List ℕ → Event → List ℕ
 behind live (Opens id endpoints) = live
-behind live (Begins id number) = live ++ id ∷ []
+behind live (Begins id number) = begun id live
 behind live (Delivers id octets) = live
 behind live (Closes id cause) = without id live
+behind live (OfCapture event) = live
 
 -- those behind all events, from these on
 unfoldable pub lives_from : List ℕ → List Event → List ℕ

@@ -2,7 +2,8 @@
 
 ghost use Rattle.std.specs.Prelude.{◌≡◌, ◌≤◌, ◌<◌, ◌*◌, ◌^◌, [], List, ℕ, length, get_or, IfOk, IfSome, None};
 ghost use Rattle.std.specs.VecDeque.{deque_capacity};
-ghost use Rattle.tcp_streams.specs.Lives.{lives, without, index_of as spec_index_of, elder_side};
+ghost use Rattle.std.proofs.Props.{props};
+ghost use Rattle.tcp_streams.specs.Lives.{lives, without, begun, most_ids, AreIds, index_of as spec_index_of, elder_side};
 
 use crate::pair::Side;
 use crate::sides::flow_id;
@@ -11,22 +12,27 @@ use std::collections::VecDeque;
 use tcp_flow::{CloseCause, Listener, ListenerFault};
 use tcp_segment::Flow;
 
-/// A listener, and the flows of the streams that live, by the order in which these began.
+/// Flows have ids below this: two for each of 65,536 connections.
+const MOST_IDS: u32 = 131_072;
+
+/// A listener, and the flows of the streams that live, by the order in which these began. There is room for one stream of
+/// each flow.
 #[derive(Drop)]
 pub struct Streams<L: Listener + Drop> {
     /// What happens is told to it.
     pub listener: L,
     live: VecDeque<u32>,
+    ghost room: { most_ids ≤ deque_capacity live },
+    ghost ids: { AreIds live.items } by { Prim.hlevel props },
 }
 
 impl<L: Listener + Drop> Streams<L> {
-    /// No stream lives. There is memory for two streams of so many connections; no other call allocates.
-    pub fn new(alloc: Global, listener: L, connections: u32) -> Result<Streams<L>, AllocError>
+    /// No stream lives. There is memory for one stream of each flow; no other call allocates.
+    pub fn new(alloc: Global, listener: L) -> Result<Streams<L>, AllocError>
         ensures listener { IfOk result (λ s. s.listener ≡ listener) }
         ensures live { IfOk result (λ s. s.live.items ≡ []) }
-        ensures room { IfOk result (λ s. 2 * connections ≤ deque_capacity s.live) }
     {
-        let live = VecDeque::with_capacity(alloc, 2 * connections as usize)?;
+        let live = VecDeque::with_capacity(alloc, MOST_IDS as usize)?;
         Ok(Streams { listener, live })
     }
 
@@ -82,7 +88,8 @@ fn index_of(numbers: &VecDeque<u32>, wanted: u32) -> Option<usize>
 
 /// The first such number is taken away.
 fn take_away(numbers: &mut VecDeque<u32>, wanted: u32)
-    ensures { numbers.new.items ≡ without wanted numbers.old.items }
+    ensures items { numbers.new.items ≡ without wanted numbers.old.items }
+    ensures capacity { deque_capacity numbers.new ≡ deque_capacity numbers.old }
 {
     let Some(index) = index_of(numbers, wanted) else {
         return;
@@ -90,8 +97,23 @@ fn take_away(numbers: &mut VecDeque<u32>, wanted: u32)
     numbers.remove(index);
 }
 
+/// A stream of a flow begins: it is the last.
+fn begin(live: &mut VecDeque<u32>, flow: u32)
+    requires room { most_ids ≤ deque_capacity live.old }
+    requires ids { AreIds live.old.items }
+    ensures items { live.new.items ≡ begun flow live.old.items }
+    ensures capacity { deque_capacity live.new ≡ deque_capacity live.old }
+{
+    if flow < MOST_IDS {
+        take_away(live, flow);
+        live.push_back_reserved(flow);
+    }
+}
+
 impl<L: Listener + Drop> Listener for Streams<L> {
     ghost observed = { λ s events. L.observed s.listener events × (s.live.items ≡ lives events) };
+
+    ghost failed = { λ s. L.failed s.listener };
 
     ghost faulted = { L.faulted };
 
@@ -100,11 +122,7 @@ impl<L: Listener + Drop> Listener for Streams<L> {
     }
 
     fn begins(&mut self, flow: u32, number: u32) -> Result<(), ListenerFault> {
-        // A flow has at most one live stream, so there is room.
-        if self.live.len() >= self.live.capacity() {
-            return Err(ListenerFault);
-        }
-        self.live.push_back_reserved(flow);
+        begin(&mut self.live, flow);
         self.listener.begins(flow, number)
     }
 

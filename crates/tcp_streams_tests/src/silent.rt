@@ -12,6 +12,8 @@ pub struct Silent;
 impl Listener for Silent {
     ghost observed = { λ s events. Unit {0} };
 
+    ghost failed = { λ s. ⊥ };
+
     ghost faulted = { λ events. false };
 
     fn opens(&mut self, _flow: u32, _endpoints: Flow) -> Result<(), ListenerFault> {

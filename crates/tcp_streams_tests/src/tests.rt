@@ -53,7 +53,7 @@ fn the_flows_of_a_room_have_ids_side_by_side(rt: HostRuntime) {
 
 #[test]
 fn streams_that_live_stand_in_the_order_of_their_beginnings(rt: HostRuntime) {
-    let Ok(mut streams) = Streams::new(rt.alloc(), Silent, 3) else {
+    let Ok(mut streams) = Streams::new(rt.alloc(), Silent) else {
         return;
     };
     for flow in [5, 0, 2] {

@@ -32,22 +32,20 @@ give_back-requires g c =
     let less = some_known _ _ _ _ c.args.place n (omega (arith, c.requires.place, c.args.self.now.table.keys.ok.0, ap length k)) in
     omega (arith, less, c.forget_flow-2.new.self.free.free.ok.0)
 
-pub returns : goal.returns
-returns g c = record {
-  does = λ w h.
-      let place = c.args.place in
-      let side = c.args.side in
-      let cause = c.args.cause in
-      let at = c.room-room.ensures ∙ ap (λ (u : State). get_or u.rooms place 0) h.same in
-      let own : c.flow_id.result ≡ flow_id (room_at w place) side = c.flow_id.ensures.id ∙ ap (λ (r : ℕ). flow_id r side) at in
-      let other : c.flow_id-2.result ≡ flow_id (room_at w place) (opposite side) =
-      c.flow_id-2.ensures.id ∙ ap (λ (r : ℕ). flow_id r c.other.result) at ∙ ap (flow_id (room_at w place)) c.other.ensures in
-      let l : place < length w.known = omega (arith, c.requires.place, c.args.self.now.table.keys.ok.0, ap length (known_of _ _ _ _ h)) in
-      let below = room_below w place h.sound l in
-      let first = forgot_at _ _ _ w _ _ cause own (c.in_ok-forget_flow.ensures.does w h) in
-      let both = forgot_at _ _ _ _ _ _ cause other (c.in_ok-forget_flow-2.ensures.does _ first) in
-      connection_forgotten (g.L.Listener.observed c.forget_flow-2.new.to.listener) c.forget_flow-2.new.to.live.items c.forget_flow-2.new.self (record c.forget_flow-2.new.self { table = c.forget.new.self; free = c.give_back.new.self }) w place side cause h.sound both l (omega (arith, below, h.sound.flows))
-      (λ es. entered c.forget_flow-2.new.self (record c.forget_flow-2.new.self { table = c.forget.new.self; free = c.give_back.new.self }) es (λ es. refl) _ _ _ _ c.forget.ensures.keys c.forget.ensures.rooms
-      (c.give_back.ensures.free ∙ ap (λ (r : ℕ). c.forget_flow-2.new.self.free.free.items ++ r ∷ []) at) refl)
-      c.give_back.ensures.most c.forget.ensures.most;
-}
+pub returns-clause-does : goal.returns-clause-does
+returns-clause-does g c w h =
+    let place = c.args.place in
+    let side = c.args.side in
+    let cause = c.args.cause in
+    let at = c.room-room.ensures ∙ ap (λ (u : State). get_or u.rooms place 0) h.same in
+    let own : c.flow_id.result ≡ flow_id (room_at w place) side = c.flow_id.ensures.id ∙ ap (λ (r : ℕ). flow_id r side) at in
+    let other : c.flow_id-2.result ≡ flow_id (room_at w place) (opposite side) =
+    c.flow_id-2.ensures.id ∙ ap (λ (r : ℕ). flow_id r c.other.result) at ∙ ap (flow_id (room_at w place)) c.other.ensures in
+    let l : place < length w.known = omega (arith, c.requires.place, c.args.self.now.table.keys.ok.0, ap length (known_of _ _ _ _ h)) in
+    let below = room_below w place h.sound l in
+    let first = forgot_at _ _ _ w _ _ cause own (c.in_ok-forget_flow.ensures.does w h) in
+    let both = forgot_at _ _ _ _ _ _ cause other (c.in_ok-forget_flow-2.ensures.does _ first) in
+    connection_forgotten (g.L.Listener.observed c.forget_flow-2.new.to.listener) c.forget_flow-2.new.to.live.items c.forget_flow-2.new.self (record c.forget_flow-2.new.self { table = c.forget.new.self; free = c.give_back.new.self }) w place side cause h.sound both l (omega (arith, below, h.sound.flows))
+    (λ es. entered c.forget_flow-2.new.self (record c.forget_flow-2.new.self { table = c.forget.new.self; free = c.give_back.new.self }) es (λ es. refl) _ _ _ _ c.forget.ensures.keys c.forget.ensures.rooms
+    (c.give_back.ensures.free ∙ ap (λ (r : ℕ). c.forget_flow-2.new.self.free.free.items ++ r ∷ []) at) refl)
+    c.give_back.ensures.most c.forget.ensures.most

@@ -33,7 +33,7 @@ returns-clause-does g c w h =
     c.flow_id-lesser.result c.flow_id-greater.result (flow_id room FromLesser) (flow_id room FromGreater)
     c.flow_from.result c.flow_from-2.result (flow_from pair FromLesser) (flow_from pair FromGreater)
     c.flow_id-lesser.ensures.id c.flow_from.ensures c.flow_id-greater.ensures.id c.flow_from-2.ensures
-    (c.in_ok-opens-2.ensures _ (c.in_ok-opens.ensures w.events (h.observed, h.live))) in
+    (c.in_ok-opens-2.ensures.does _ (c.in_ok-opens.ensures.does w.events (h.observed, h.live))) in
     made (g.L.Listener.observed c.args.to.now.listener) (g.L.Listener.observed c.opens-2.new.self.listener) c.args.to.now.live.items c.opens-2.new.self.live.items c.args.self.now
     (record c.args.self.now { table = c.add.new.self; free = c.take.new.self; stamps = c.note.new.self }) w pair c.take.new.self.free.items room h told.0 told.1 (c.take.ensures.some room c.in-Some.is) c.requires.new
     (λ es. entered c.args.self.now (record c.args.self.now { table = c.add.new.self; free = c.take.new.self; stamps = c.note.new.self }) es (λ es. refl) _ _ _ _

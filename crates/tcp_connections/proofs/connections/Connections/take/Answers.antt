@@ -1,4 +1,4 @@
-use Rattle.std.proofs.Common.{◌≡◌, ◌+◌, ◌<◌, ℕ, [], Bool, true, false, Option, Some, None, get_or, refl, sym, ap, ◌∙◌, arith}
+use Rattle.std.proofs.Common.{◌≡◌, ◌+◌, ℕ, [], true, false, Some, None, get_or, refl, sym, ap, ◌∙◌, arith}
 use Rattle.tcp_segment.specs.Segments.{segment_view}
 use Rattle.tcp_flow.specs.declared.flow.CloseCause.TheVariants.{Syn}
 use Rattle.tcp_streams.specs.Pairs.{pair_of, flow_id}

@@ -74,13 +74,11 @@ reset-requires-clause-place g c =
     let known = known_of _ _ _ _ n ∙ (fin_kept F paid c.flow_id-id.result V).known ∙ (payload_kept F heard c.flow_id-id.result V).known ∙ (acknowledgement_kept F seen c.flow_id.result V).known ∙ sym (known_of _ _ _ _ h) in
     omega (arith, c.requires.place, c.args.self.now.table.keys.ok.0, ap length known, c.fin.new.self.table.keys.ok.0)
 
-pub returns : goal.returns
-returns g c = record {
-  does = λ w h.
-      let at = c.room-room.ensures ∙ ap (λ (u : State). get_or u.rooms c.args.place 0) h.same in
-      moved_ok c.reset.result _ _ _ _ _
-      (known_is g.L.Listener.faulted w c.args.place (segment_view c.args.segment) c.room-room.result c.args.side c.flow_id-id.result c.flow_id.result at (sym c.requires.side) c.flow_id-id.ensures.id
-      (c.flow_id.ensures.id ∙ ap (flow_id c.room-room.result) c.other.ensures))
-      (c.reset.ensures.does _ (c.in_ok-fin.ensures.does _ (c.in_ok-payload.ensures.does _ (c.in_ok-acknowledgement.ensures.does _
-      (noted _ _ c.args.self.now _ w c.room-room.result h (λ e. ap (λ (ns : List ℕ). record (state_of c.args.self.now e) { lasts = ns }) c.note.ensures.last) refl refl)))));
-}
+pub returns-clause-does : goal.returns-clause-does
+returns-clause-does g c w h =
+    let at = c.room-room.ensures ∙ ap (λ (u : State). get_or u.rooms c.args.place 0) h.same in
+    moved_ok c.reset.result _ _ _ _ _
+    (known_is g.L.Listener.faulted w c.args.place (segment_view c.args.segment) c.room-room.result c.args.side c.flow_id-id.result c.flow_id.result at (sym c.requires.side) c.flow_id-id.ensures.id
+    (c.flow_id.ensures.id ∙ ap (flow_id c.room-room.result) c.other.ensures))
+    (c.reset.ensures.does _ (c.in_ok-fin.ensures.does _ (c.in_ok-payload.ensures.does _ (c.in_ok-acknowledgement.ensures.does _
+    (noted _ _ c.args.self.now _ w c.room-room.result h (λ e. ap (λ (ns : List ℕ). record (state_of c.args.self.now e) { lasts = ns }) c.note.ensures.last) refl refl)))))

@@ -9,12 +9,10 @@ use Rattle.tcp_connections.proofs.States.{known_of, moved, moved_ok}
 use Rattle.tcp_connections.proofs.Unknown.{room_enough, next_below, next_vacant, next_taken, made_flows}
 use Rattle.tcp_connections.proofs.connections.Connections.take_unknown.Goals as goal
 
-pub returns-then-not-is_first : goal.returns-then-not-is_first
-returns-then-not-is_first g c = record {
-  does = λ w h.
-      moved _ _ _ _ _ (unknown_nothing g.L.Listener.faulted w (segment_view c.args.segment)
-      (sym (ap (λ (u : State). is_first u.ports (segment_view c.args.segment)) h.same) ∙ sym c.is_first.ensures ∙ c.if-not-is_first.true)) h;
-}
+pub returns-then-not-is_first-clause-does : goal.returns-then-not-is_first-clause-does
+returns-then-not-is_first-clause-does g c w h =
+    moved _ _ _ _ _ (unknown_nothing g.L.Listener.faulted w (segment_view c.args.segment)
+    (sym (ap (λ (u : State). is_first u.ports (segment_view c.args.segment)) h.same) ∙ sym c.is_first.ensures ∙ c.if-not-is_first.true)) h
 
 pub make_known-requires-clause-state : goal.make_known-requires-clause-state
 make_known-requires-clause-state g c = (_, c.in_ok-make_room.ensures.does c.requires.state.0 c.requires.state.1)
@@ -83,19 +81,17 @@ pub fin-requires : goal.fin-requires
 fin-requires g c =
     record { state = (_, c.in_ok-begin.ensures.does _ (c.in_ok-room.ensures.does _ (c.in_ok-make_room.ensures.does c.requires.state.0 c.requires.state.1))) }
 
-pub returns : goal.returns
-returns g c = record {
-  does = λ w h.
-      let F = g.L.Listener.faulted in
-      let V = segment_view c.args.segment in
-      let v : State = with_room w in
-      let n = c.in_ok-make_room.ensures.does w h in
-      let room = c.in_ok-room.ensures.room ∙ ap next_room (ap (λ (u : State). u.free) n.same) in
-      let id = c.flow_id-id.ensures.id ∙ ap (λ (r : ℕ). flow_id r c.args.side) room in
-      let first = sym (ap (λ (u : State). is_first u.ports V) h.same) ∙ sym c.is_first.ensures ∙ c.if-not-is_first.false in
-      moved_ok c.fin.result _ _ _ _ _
-      (unknown_first F w V first
-      ∙ ap (λ q. fin_taken F (began F (made_known v q.0) (flow_id (next_room v.free) q.1) (first_number V) V.payload) (flow_id (next_room v.free) q.1) V) c.requires.pair
-      ∙ ap (λ (i : ℕ). fin_taken F (began F (made_known v c.args.pair) i (first_number V) V.payload) i V) (sym id))
-      (c.fin.ensures.does _ (c.in_ok-begin.ensures.does _ (c.in_ok-room.ensures.does _ n)));
-}
+pub returns-clause-does : goal.returns-clause-does
+returns-clause-does g c w h =
+    let F = g.L.Listener.faulted in
+    let V = segment_view c.args.segment in
+    let v : State = with_room w in
+    let n = c.in_ok-make_room.ensures.does w h in
+    let room = c.in_ok-room.ensures.room ∙ ap next_room (ap (λ (u : State). u.free) n.same) in
+    let id = c.flow_id-id.ensures.id ∙ ap (λ (r : ℕ). flow_id r c.args.side) room in
+    let first = sym (ap (λ (u : State). is_first u.ports V) h.same) ∙ sym c.is_first.ensures ∙ c.if-not-is_first.false in
+    moved_ok c.fin.result _ _ _ _ _
+    (unknown_first F w V first
+    ∙ ap (λ q. fin_taken F (began F (made_known v q.0) (flow_id (next_room v.free) q.1) (first_number V) V.payload) (flow_id (next_room v.free) q.1) V) c.requires.pair
+    ∙ ap (λ (i : ℕ). fin_taken F (began F (made_known v c.args.pair) i (first_number V) V.payload) i V) (sym id))
+    (c.fin.ensures.does _ (c.in_ok-begin.ensures.does _ (c.in_ok-room.ensures.does _ n)))

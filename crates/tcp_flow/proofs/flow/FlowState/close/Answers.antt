@@ -13,7 +13,7 @@ returns-in_ok-closes-clause-does g c held f h =
     by_state (λ f. G (closed f c.args.cause)) _ c.args.self.now held f h (λ events o.
     let s = state c.args.self.now held events in
     subst G (sym (cond-true (is_some c.args.self.now.live) (with_event (record s { live = None }) (Closes c.args.self.now.id c.args.cause)) s (sym c.is_live.ensures ∙ c.if-is_live.true)))
-    (record { observed = c.in_ok-closes.ensures events o; same = refl }))
+    (record { observed = c.in_ok-closes.ensures.does events o; same = refl }))
 
 pub returns-else-is_live-clause-does : goal.returns-else-is_live-clause-does
 unfolding closed with_event

@@ -11,9 +11,9 @@ returns-in_ok-closes-clause-does g c held f h =
     let p = payload c.args.self.now.id c.args.number c.args.octets.now in
     let G = IsState (g.T.Listener.observed c.closes.new.self) _ held in
     by_state (λ f. G (delivered F f p)) _ c.args.self.now held f h (λ events o.
-    let d = c.in_ok-delivers.ensures events o in
+    let d = c.in_ok-delivers.ensures.does events o in
     subst G (sym (delivered_fault F (state c.args.self.now held events) p (sym d.1 ∙ c.if-branch.true)))
-    (record { observed = c.in_ok-closes.ensures _ d.0; same = rw c.onward-self.ensures refl }))
+    (record { observed = c.in_ok-closes.ensures.does _ d.0; same = rw c.onward-self.ensures refl }))
 
 pub returns-else-branch-clause-does : goal.returns-else-branch-clause-does
 returns-else-branch-clause-does g c held f h =
@@ -21,6 +21,6 @@ returns-else-branch-clause-does g c held f h =
     let p = payload c.args.self.now.id c.args.number c.args.octets.now in
     let G = IsState (g.T.Listener.observed c.delivers.new.self) _ held in
     by_state (λ f. G (delivered F f p)) _ c.args.self.now held f h (λ events o.
-    let d = c.in_ok-delivers.ensures events o in
+    let d = c.in_ok-delivers.ensures.does events o in
     subst G (sym (delivered_on F (state c.args.self.now held events) p (sym d.1 ∙ c.if-branch.false)))
     (record { observed = d.0; same = rw c.onward-self.ensures refl }))

@@ -38,7 +38,7 @@ returns-in-Some-clause-does g c held f h =
     let e = taken_dead F (state c.args.self.now held events) p q c.left-number.ensures.left (sym c.is_empty.ensures ∙ c.if-is_empty.false) (sym c.is_live.ensures ∙ c.if-is_live.false) in
     on_ok_equal c.deliver-in-Some.result _ _ held _ _
     (sym (e ∙ rw (sym c.header_at.ensures.at ∙ c.in-Some.is, whole_tail c.left-number.result.1.now c.in-Some.at, c.onward-number.ensures) refl))
-    (c.deliver-in-Some.ensures.does held _ (record { observed = c.in_ok-begins.ensures events o; same = refl })))
+    (c.deliver-in-Some.ensures.does held _ (record { observed = c.in_ok-begins.ensures.does events o; same = refl })))
 
 pub returns-clause-does : goal.returns-clause-does
 unfolding begun

@@ -1,0 +1,69 @@
+-- That the order in which payloads come makes no difference, where they agree on their octets and nothing is given up
+-- (meaning).
+use Rattle.std.specs.Prelude.{◌≡◌, ◌⊎◌, ℕ, ◌+◌, ◌<◌, ◌≤◌, ◌^◌, cond, nat_eq, List, [], ◌∷◌, ◌++◌, length, take, drop, is_some, true, false}
+use Rattle.std.specs.List.{AllByRecursion}
+use Rattle.tcp_waiting.specs.Numbers.{onward}
+use Rattle.tcp_flow.specs.Flow.{Flow, Event, Opens, Begins, Delivers, Closes, OfCapture, Arrival, Octets, End, Acknowledged, Setting, first_of, after}
+
+-- the octets that an event delivers to a flow
+abbrev pub octets_in : ℕ → Event → List ℕ
+octets_in id (Opens flow endpoints) = []
+octets_in id (Begins flow number) = []
+octets_in id (Delivers flow octets) = cond (nat_eq flow id) octets []
+octets_in id (Closes flow cause) = []
+octets_in id (OfCapture event) = []
+
+-- those of all events, one behind another
+unfoldable pub octets_of : ℕ → List Event → List ℕ
+octets_of id [] = []
+octets_of id (e ∷ es) = octets_in id e ++ octets_of id es
+
+-- how many streams of a flow an event closes
+abbrev pub closes_in : ℕ → Event → ℕ
+closes_in id (Opens flow endpoints) = 0
+closes_in id (Begins flow number) = 0
+closes_in id (Delivers flow octets) = 0
+closes_in id (Closes flow cause) = cond (nat_eq flow id) 1 0
+closes_in id (OfCapture event) = 0
+
+-- how many all events close
+unfoldable pub closes_of : ℕ → List Event → ℕ
+closes_of id [] = 0
+closes_of id (e ∷ es) = closes_in id e + closes_of id es
+
+-- octets are at a number what a content, which begins at `start`, has from a place on
+pub record Agrees (start : ℕ) (content : List ℕ) (place number : ℕ) (octets : List ℕ) : Type 0 where
+  pub number_is : number ≡ onward start place
+  pub within : place + length octets ≤ length content
+  pub octets_are : octets ≡ take (length octets) (drop place content)
+
+-- what comes is a payload of the content
+unfoldable pub IsOfContent : ℕ → List ℕ → Arrival → Type 0
+IsOfContent start content (Octets n octets) =
+    (place : ℕ) × Agrees start content place n octets
+IsOfContent start content (End n) = ⊥
+IsOfContent start content (Acknowledged n) = ⊥
+
+-- one of these comes
+unfoldable pub StandsIn : List Arrival → Arrival → Type 0
+StandsIn [] c = ⊥
+StandsIn (d ∷ ds) c = (c ≡ d) ⊎ StandsIn ds c
+
+-- a live stream of which `at` octets of a content have come, and nothing waits
+pub record IsAt (start at : ℕ) (content : List ℕ) (f : Flow) : Type 0 where
+  pub live : is_some f.live ≡ true
+  pub next : f.next ≡ onward start at
+  pub within : at ≤ length content
+  pub waits : is_some (first_of f) ≡ false
+
+-- Of the same payloads, in two orders in which no stream closes, the same is delivered. The content is shorter than half of
+-- all sequence numbers, so that none of its octets is taken for one that has come.
+abbrev pub OrderMakesNoDifference : Type 0
+OrderMakesNoDifference =
+    (A : Setting) (f : Flow) (start at : ℕ) (content : List ℕ) (ps qs : List Arrival)
+    → length content < 2 ^ 31 → IsAt start at content f
+    → AllByRecursion (IsOfContent start content) ps
+    → AllByRecursion (StandsIn qs) ps → AllByRecursion (StandsIn ps) qs
+    → closes_of f.id (after A f ps).events ≡ closes_of f.id f.events
+    → closes_of f.id (after A f qs).events ≡ closes_of f.id f.events
+    → octets_of f.id (after A f ps).events ≡ octets_of f.id (after A f qs).events

@@ -1,0 +1,7 @@
+use Rattle.std.proofs.Common.{sym, subst}
+use Rattle.tcp_streams.specs.Lives.{AreIds}
+use Rattle.tcp_streams.proofs.Ids.{none_ids}
+use Rattle.tcp_streams.proofs.streams.Streams.new.Goals as goal
+
+pub invariant_of-result-clause-ids : goal.invariant_of-result-clause-ids
+invariant_of-result-clause-ids g c = subst AreIds (sym c.in_ok-live.ensures.items) none_ids
