@@ -1,10 +1,16 @@
-//! The program `giopcap` without its `main`: its arguments, and the steps from them to a status.
+//! The program `giopcap` without its `main` and its conversations: its arguments, and the packets of a capture up to its end.
 #![tactic(auto)]
 
 mod arguments;
 mod links;
+mod listening;
+mod notices;
+mod packets;
 mod reading;
 
 pub use arguments::{Arguments, PORTS_ROOM};
 pub use links::UnreadLinks;
+pub use listening::CaptureListener;
+pub use notices::{Notice, Notices};
+pub use packets::PacketReader;
 pub use reading::{PacketListener, read_packets};

@@ -1,0 +1,82 @@
+//! The program's steps after its words: signatures, the opening of the capture, room, reading. The first that fails determines
+//! the status.
+
+use crate::run::run;
+use crate::teller::Teller;
+use capture_file::Capture;
+use giop_capture_run::{Arguments, Notices, PacketReader};
+use giop_conversation::{Conversations, Limits};
+use giop_run::{Inputs, Lines, ProgramFault, Reading, catalogue, requests, unreadable};
+use giop_sig::{Catalogue, Requests};
+use std::alloc::{AllocError, Global};
+use std::io::{Read, Write};
+use tcp_connections::Connections;
+use tcp_streams::Streams;
+
+/// The steps after the words. Answers whether a fault was counted, a stream was cut, or the capture has a fault.
+pub fn perform_capture<'a, R: Inputs + AllocGlobal, W: Write + Drop, N: Notices + Drop>(
+    rt: &R,
+    asked: Arguments<'a>,
+    writer: W,
+    notices: N,
+) -> Result<bool, ProgramFault<'a>> {
+    let catalogue = catalogue(rt, asked.signatures)?;
+    match asked.capture {
+        None => dump(rt, rt.standard_input(), asked, &catalogue, writer, notices),
+        Some(name) => match rt.open(name) {
+            Ok(file) => dump(rt, file, asked, &catalogue, writer, notices),
+            Err(error) => Err(unreadable(name, &error)),
+        },
+    }
+}
+
+/// The steps after the opening of the capture.
+fn dump<'a, R: Inputs + AllocGlobal, F: Read + Drop, W: Write + Drop, N: Notices + Drop>(
+    rt: &R,
+    file: F,
+    asked: Arguments<'a>,
+    catalogue: &Catalogue,
+    writer: W,
+    notices: N,
+) -> Result<bool, ProgramFault<'a>> {
+    let requests = requests(rt, None, catalogue)?;
+    let name = asked.capture;
+    let Ok(mut capture) = Capture::new(rt.alloc()) else {
+        return Err(ProgramFault::OutOfMemory);
+    };
+    let Ok(mut reader) = reader(rt.alloc(), asked, catalogue, &requests, writer, notices) else {
+        return Err(ProgramFault::OutOfMemory);
+    };
+    match run(&mut Reading::new(file), name, &mut capture, &mut reader) {
+        Ok(faulty) => Ok(faulty),
+        Err(fault) => Err(ProgramFault::Run(fault)),
+    }
+}
+
+/// Takes all memory for the connections and conversations of a capture.
+fn reader<'c, W: Write + Drop, N: Notices + Drop>(
+    alloc: Global,
+    asked: Arguments<'_>,
+    catalogue: &'c Catalogue,
+    requests: &'c Requests,
+    writer: W,
+    notices: N,
+) -> Result<PacketReader<Teller<'c, Lines<W>>, N>, AllocError> {
+    let limits = Limits {
+        connections: asked.connections,
+        messages: asked.open,
+        calls: asked.calls,
+    };
+    let lines = Lines::new(alloc, writer)?;
+    let Ok(conversations) = Conversations::new(alloc, catalogue, requests, limits, lines) else {
+        return Err(AllocError);
+    };
+    let connections = Connections::new(
+        alloc,
+        asked.connections,
+        asked.pool as usize,
+        asked.ports,
+    )?;
+    let streams = Streams::new(alloc, Teller::new(conversations), asked.connections)?;
+    Ok(PacketReader::new(connections, streams, notices))
+}
