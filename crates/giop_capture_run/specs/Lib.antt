@@ -1,2 +1,4 @@
 pub mod Links
 pub mod Packets
+pub mod Arrivals
+pub mod PacketState

@@ -10,7 +10,7 @@ mod reading;
 
 pub use arguments::{Arguments, PORTS_ROOM};
 pub use links::UnreadLinks;
-pub use listening::CaptureListener;
-pub use notices::{Notice, Notices};
+pub use listening::{CaptureListener, PacketListener};
+pub use notices::Notices;
 pub use packets::PacketReader;
-pub use reading::{PacketListener, read_packets};
+pub use reading::read_packets;

@@ -1,17 +1,28 @@
 //! The packets of a capture as what happens in its flows.
 
+ghost use Rattle.std.specs.Prelude.{◌≡◌, ◌<◌, ◌≤◌, ◌+◌, ◌^◌, List, ℕ, [], ◌∷◌, ◌++◌, length, OnOk, OnErr};
+ghost use Rattle.tcp_segment.specs.Segments.{segment_view};
+ghost use Rattle.tcp_segment.specs.Links.{is_link_read as spec_is_link_read};
+ghost use Rattle.capture_file.specs.FaultWords.{fault_word};
+ghost use Rattle.tcp_flow.specs.Flow.{HasFault};
+ghost use Rattle.tcp_connections.specs.Connections.{State, with_capture_event, step, ended};
+ghost use Rattle.tcp_connections.specs.State.{IsState, IsAt, HasState, Makes};
+ghost use Rattle.giop_capture_run.specs.Packets.{Taken};
+ghost use Rattle.giop_capture_run.specs.Arrivals.{links_noted};
+ghost use Rattle.giop_capture_run.specs.PacketState.{HasRead};
+
 use crate::links::UnreadLinks;
-use crate::listening::CaptureListener;
-use crate::notices::{Notice, Notices};
-use crate::reading::PacketListener;
+use crate::listening::{CaptureListener, PacketListener};
+use crate::notices::Notices;
 use capture_file::{CaptureFault, Packet};
 use giop_print::OutFault;
 use tcp_connections::Connections;
 use tcp_flow::ListenerFault;
-use tcp_segment::{Segment, is_link_read, segment};
+use tcp_segment::{is_link_read, segment};
 use tcp_streams::Streams;
 
-/// Reads the packets of a capture: a listener is told of their times and of what their segments do to the connections.
+/// Reads the packets of a capture: a listener is told of their times and of what their segments do to the connections, and
+/// another of the link types that aren't read.
 #[derive(Drop)]
 pub struct PacketReader<L: CaptureListener + Drop, N: Notices + Drop> {
     connections: Connections,
@@ -20,17 +31,35 @@ pub struct PacketReader<L: CaptureListener + Drop, N: Notices + Drop> {
     notices: N,
 }
 
-/// What a failed listener is to a reader of packets.
-fn told(heard: Result<(), ListenerFault>) -> Result<(), OutFault> {
-    match heard {
+/// What a failed listener is to whoever hands packets on.
+fn heard(answer: Result<(), ListenerFault>) -> Result<(), OutFault>
+    ensures { result ≡ elim answer [ Ok value ↦ Ok value | Err fault ↦ Err (record {}) ] }
+{
+    match answer {
         Ok(()) => Ok(()),
         Err(ListenerFault) => Err(OutFault),
     }
 }
 
+/// The first packet of a link type that isn't read is told.
+fn note_link<N: Notices>(unread: &mut UnreadLinks, notices: &mut N, link: u16)
+    ensures links { unread.new.told.items ≡ links_noted unread.old.told.items link }
+    ensures told { N.told notices.old unread.old.told.items
+        → N.told notices.new unread.new.told.items }
+{
+    if !is_link_read(link) && unread.is_new(link) {
+        notices.link_is_unread(link);
+    }
+}
+
 impl<L: CaptureListener + Drop, N: Notices + Drop> PacketReader<L, N> {
     /// No packet was read, and no link type told.
-    pub fn new(connections: Connections, streams: Streams<L>, notices: N) -> PacketReader<L, N> {
+    pub fn new(connections: Connections, streams: Streams<L>, notices: N) -> PacketReader<L, N>
+        ensures { (w : State) → IsState (L.observed streams.listener) streams.live.items connections w
+            → w.segments ≡ 0 → N.told notices []
+            → HasRead (L.observed result.streams.listener) (N.told result.notices) L.faulted
+            result.connections result.streams.live.items result.unread.told.items w [] }
+    {
         PacketReader {
             connections,
             streams,
@@ -39,52 +68,61 @@ impl<L: CaptureListener + Drop, N: Notices + Drop> PacketReader<L, N> {
         }
     }
 
-    /// The first packet of a link type that isn't read is told.
-    fn note_link(&mut self, link: u16) {
-        if !is_link_read(link) && self.unread.is_new(link) {
-            self.notices.notice(Notice::UnreadLink { link });
-        }
-    }
-
-    /// A segment comes.
-    fn take(&mut self, segment: Segment<'_>) -> Result<(), OutFault> {
-        told(self.connections.take(segment, &mut self.streams))
-    }
-
     /// The capture has a fault, and ends there.
-    pub fn has_fault(&mut self, fault: CaptureFault) -> Result<(), OutFault> {
-        told(self.streams.listener.has_fault(fault))
+    pub fn has_fault(&mut self, fault: CaptureFault) -> Result<(), OutFault>
+        ensures does { (w : State) → IsState (L.observed self.old.streams.listener)
+            self.old.streams.live.items self.old.connections w
+            → OnOk result (IsState (L.observed self.new.streams.listener)
+            self.new.streams.live.items self.new.connections
+            (with_capture_event w (HasFault (fault_word fault.kind) fault.place))) }
+        ensures cause { OnErr result (L.failed self.new.streams.listener) }
+    {
+        heard(self.streams.listener.has_fault(fault))
     }
 
     /// The capture ends: its streams close.
-    pub fn end(&mut self) -> Result<(), OutFault> {
-        told(self.connections.end(&mut self.streams))
+    pub fn end(&mut self) -> Result<(), OutFault>
+        requires state { HasState (L.observed self.old.streams.listener)
+            self.old.streams.live.items self.old.connections }
+        ensures does { (w : State) → IsState (L.observed self.old.streams.listener)
+            self.old.streams.live.items self.old.connections w
+            → OnOk result (IsAt (L.observed self.new.streams.listener)
+            self.new.streams.live.items self.new.connections (ended L.faulted w)) }
+        ensures cause { OnErr result (L.failed self.new.streams.listener) }
+    {
+        heard(self.connections.end(&mut self.streams))
     }
 
     /// Who is told.
-    pub fn listener(&mut self) -> &mut L {
-        &mut self.streams.listener
-    }
-
-    /// Takes a notice.
-    pub fn notice(&mut self, notice: Notice<'_>) {
-        self.notices.notice(notice);
+    pub fn into_listener(self) -> L
+        ensures { result ≡ self.streams.listener }
+    {
+        let streams = self.streams;
+        streams.listener
     }
 }
 
 impl<L: CaptureListener + Drop, N: Notices + Drop> PacketListener for PacketReader<L, N> {
-    ghost taken = { λ s packets. Unit {0} };
+    ghost use Rattle.tcp_connections.specs.Connections.{State};
+    ghost use Rattle.giop_capture_run.specs.PacketState.{HasRead};
+
+    ghost Start = { State };
+
+    ghost taken = { λ r start packets. HasRead (L.observed r.streams.listener) (N.told r.notices)
+        L.faulted r.connections r.streams.live.items r.unread.told.items start packets };
+
+    ghost failed = { λ r. L.failed r.streams.listener };
 
     fn packet(&mut self, packet: Packet<'_>) -> Result<(), OutFault> {
-        told(self.streams.listener.arrives(packet.time))?;
-        self.note_link(packet.link);
-        match segment(packet.link, packet.octets) {
-            Some(segment) => self.take(segment),
-            None => Ok(()),
-        }
+        self.streams.listener.arrives(packet.time);
+        note_link(&mut self.unread, &mut self.notices, packet.link);
+        let Some(segment) = segment(packet.link, packet.octets) else {
+            return Ok(());
+        };
+        heard(self.connections.take(segment, &mut self.streams))
     }
 
     fn flush(&mut self) -> Result<(), OutFault> {
-        told(self.streams.listener.flush())
+        heard(self.streams.listener.flush())
     }
 }
