@@ -2,3 +2,4 @@ pub mod Links
 pub mod Packets
 pub mod Arrivals
 pub mod PacketState
+pub mod CaptureRun

@@ -2,6 +2,7 @@
 #![tactic(auto)]
 
 mod arguments;
+mod ending;
 mod links;
 mod listening;
 mod notices;
@@ -9,6 +10,7 @@ mod packets;
 mod reading;
 
 pub use arguments::{Arguments, PORTS_ROOM};
+pub use ending::read_capture;
 pub use links::UnreadLinks;
 pub use listening::{CaptureListener, PacketListener};
 pub use notices::Notices;

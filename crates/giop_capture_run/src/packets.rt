@@ -75,6 +75,7 @@ impl<L: CaptureListener + Drop, N: Notices + Drop> PacketReader<L, N> {
             → OnOk result (IsState (L.observed self.new.streams.listener)
             self.new.streams.live.items self.new.connections
             (with_capture_event w (HasFault (fault_word fault.kind) fault.place))) }
+        ensures notices { self.new.notices ≡ self.old.notices }
         ensures cause { OnErr result (L.failed self.new.streams.listener) }
     {
         heard(self.streams.listener.has_fault(fault))
@@ -88,6 +89,7 @@ impl<L: CaptureListener + Drop, N: Notices + Drop> PacketReader<L, N> {
             self.old.streams.live.items self.old.connections w
             → OnOk result (IsAt (L.observed self.new.streams.listener)
             self.new.streams.live.items self.new.connections (ended L.faulted w)) }
+        ensures notices { self.new.notices ≡ self.old.notices }
         ensures cause { OnErr result (L.failed self.new.streams.listener) }
     {
         heard(self.connections.end(&mut self.streams))
