@@ -64,7 +64,7 @@ fn reader<'c, W: Write + Drop, N: Notices + Drop>(
 ) -> Result<PacketReader<Teller<'c, Lines<W>>, N>, AllocError> {
     let limits = Limits {
         connections: asked.connections,
-        messages: asked.open,
+        messages: asked.messages,
         calls: asked.calls,
     };
     let lines = Lines::new(alloc, writer)?;

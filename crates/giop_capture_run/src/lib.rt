@@ -8,6 +8,7 @@ mod listening;
 mod notices;
 mod packets;
 mod reading;
+mod room;
 
 pub use arguments::{Arguments, PORTS_ROOM};
 pub use ending::read_capture;
@@ -16,3 +17,4 @@ pub use listening::{CaptureListener, PacketListener};
 pub use notices::Notices;
 pub use packets::PacketReader;
 pub use reading::read_packets;
+pub use room::packet_reader;
