@@ -1,6 +1,6 @@
 //! A capture from its first packet to its end.
 
-ghost use Rattle.std.specs.Prelude.{◌≡◌, ◌≤◌, ◌+◌, ◌^◌, List, ℕ, [], Err, IfOk, OnOk, OnErr};
+ghost use Rattle.std.specs.Prelude.{◌≡◌, ◌⊎◌, ◌≤◌, ◌+◌, ◌^◌, List, ℕ, [], Err, IfOk, OnOk, OnErr};
 ghost use Rattle.capture_file.specs.CaptureState.{Reads};
 ghost use Rattle.capture_file.specs.Reading.{final_fault};
 ghost use Rattle.tcp_connections.specs.Connections.{State, ended};
@@ -38,6 +38,8 @@ pub fn read_capture<S: Source, L: CaptureListener + Drop, N: Notices + Drop>(
         reader.new.connections reader.new.streams.live.items capture.new w s
         (S.log source.old) (S.log source.new) }
     ensures cause { result ≡ Err RunFault.Out → L.failed reader.new.streams.listener }
+    ensures flushed { (result ≡ Err RunFault.Read) ⊎ (result ≡ Err RunFault.Turns)
+        → L.flushed reader.new.streams.listener }
     ensures reads { (S.log source.new).reads ≤ (S.log source.old).reads + 2 ^ 40 }
 {
     read_packets(source, capture, reader)?;

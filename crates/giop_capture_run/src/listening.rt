@@ -19,6 +19,9 @@ pub trait PacketListener {
     /// It has failed: from then on nothing is promised.
     ghost failed: { Self → Type 0 };
 
+    /// All that it has written is to be seen.
+    ghost flushed: { Self → Type 0 };
+
     /// The next packet. It has at most 262,144 octets, and fewer than 2^63 were taken before.
     fn packet(&mut self, packet: Packet<'_>) -> Result<(), OutFault>
         requires taken { (start : Start) × (packets : List Taken)
@@ -32,6 +35,7 @@ pub trait PacketListener {
     fn flush(&mut self) -> Result<(), OutFault>
         ensures does { (start : Start) (packets : List Taken) → taken self.old start packets
             → OnOk result (taken self.new start packets) }
+        ensures flushed { OnOk result (flushed self.new) }
         ensures cause { OnErr result (failed self.new) };
 }
 
@@ -39,6 +43,9 @@ pub trait PacketListener {
 pub trait CaptureListener: Listener {
     ghost use Rattle.tcp_flow.specs.Flow.{Event, OfCapture, PacketArrives, HasFault};
     ghost use Rattle.capture_file.specs.FaultWords.{fault_word};
+
+    /// All that it has written is to be seen.
+    ghost flushed: { Self → Type 0 };
 
     /// The next packet is read, which came at this time: nanoseconds since 1970-01-01 UTC, where it has one.
     fn arrives(&mut self, time: Option<u128>)
@@ -56,5 +63,6 @@ pub trait CaptureListener: Listener {
     fn flush(&mut self) -> Result<(), ListenerFault>
         ensures does { (events : List Event) → Self.observed self.old events
             → OnOk result (Self.observed self.new events) }
+        ensures flushed { OnOk result (flushed self.new) }
         ensures cause { OnErr result (Self.failed self.new) };
 }

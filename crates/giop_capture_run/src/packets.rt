@@ -115,6 +115,8 @@ impl<L: CaptureListener + Drop, N: Notices + Drop> PacketListener for PacketRead
 
     ghost failed = { λ r. L.failed r.streams.listener };
 
+    ghost flushed = { λ r. L.flushed r.streams.listener };
+
     fn packet(&mut self, packet: Packet<'_>) -> Result<(), OutFault> {
         self.streams.listener.arrives(packet.time);
         note_link(&mut self.unread, &mut self.notices, packet.link);

@@ -1,6 +1,6 @@
 //! The packets of a capture, from a source to a listener, in the order of the capture.
 
-ghost use Rattle.std.specs.Prelude.{◌≡◌, ◌+◌, ◌<◌, ◌≤◌, ◌^◌, List, ℕ, [], ◌∷◌, ◌++◌, length, OnOk, OnErr, IfOk, IfErr, Err};
+ghost use Rattle.std.specs.Prelude.{◌≡◌, ◌≢◌, ◌⊎◌, ◌+◌, ◌<◌, ◌≤◌, ◌^◌, List, ℕ, [], ◌∷◌, ◌++◌, length, OnOk, OnErr, IfOk, IfErr, Err};
 ghost use Rattle.capture_file.specs.CaptureState.{Reads, octets_of};
 ghost use Rattle.giop_capture_run.specs.Packets.{Taken, taken_of, packet_view, KeepsUp, HandedWhole, HasReadOnce, Ran};
 ghost use Rattle.giop_print.specs.Output.{counted};
@@ -60,6 +60,8 @@ fn read_once<S: Source, L: PacketListener>(
     ensures count { OnOk result (octets_of capture.new ≤ octets_of capture.old + 65_536) }
     ensures reads { (S.log source.new).reads ≡ counted (S.log source.old).reads }
     ensures cause { result ≡ Err RunFault.Out → L.failed to.new }
+    ensures kept { result ≡ Err RunFault.Read → to.new ≡ to.old }
+    ensures ends { result ≢ Err RunFault.Turns }
 {
     let Ok(given) = source.read(buffer) else {
         return Err(RunFault::Read);
@@ -77,6 +79,7 @@ fn read_once<S: Source, L: PacketListener>(
 fn flush<L: PacketListener>(to: &mut L) -> Result<(), RunFault>
     ensures flushed { (start : L.Start) (packets : List Taken) → L.taken to.old start packets
         → OnOk result (L.taken to.new start packets) }
+    ensures seen { OnOk result (L.flushed to.new) }
     ensures cause { IfErr result (λ fault. (fault ≡ RunFault.Out) × L.failed to.new) }
 {
     match to.flush() {
@@ -98,6 +101,7 @@ pub fn read_packets<S: Source, L: PacketListener>(
         → (s : List ℕ) × Ran result (L.taken to.new start) capture.new s
         (S.log source.old) (S.log source.new) }
     ensures cause { result ≡ Err RunFault.Out → L.failed to.new }
+    ensures flushed { (result ≡ Err RunFault.Read) ⊎ (result ≡ Err RunFault.Turns) → L.flushed to.new }
     ensures reads { (S.log source.new).reads ≤ (S.log source.old).reads + 2 ^ 40 }
 {
     let mut buffer = [0; ROOM];
