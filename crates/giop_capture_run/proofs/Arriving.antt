@@ -1,6 +1,6 @@
 -- What one packet more does.
-use Rattle.std.proofs.Common.{◌≡◌, ◌∙◌, ℕ, ◌+◌, ◌<◌, ◌≤◌, List, [], ◌∷◌, ◌++◌, Option, Some, None, Ok, Err, length, subst, sym, ap, refl, arith}
-use Rattle.std.specs.Prelude.{Result, OnOk, if◌then◌else◌}
+use Rattle.std.proofs.Common.{◌≡◌, ◌∙◌, ℕ, ◌+◌, ◌≤◌, List, [], ◌∷◌, ◌++◌, Option, Some, Ok, Err, length, subst, sym, ap, refl, arith}
+use Rattle.std.specs.Prelude.{Result, OnOk}
 use Rattle.std.proofs.lemmas.List.{length-append}
 use Rattle.std.specs.Option.{option_map}
 use Rattle.tcp_segment.specs.declared.tcp.Segment as code
@@ -8,12 +8,12 @@ use Rattle.tcp_segment.specs.Segments.{Segment, segment, segment_view}
 use Rattle.tcp_flow.specs.declared.flow.ListenerFault.{ListenerFault}
 use Rattle.tcp_flow.specs.Flow.{Event, Reader, OfCapture, PacketArrives}
 use Rattle.tcp_connections.specs.declared.connections.Connections.{Connections}
-use Rattle.tcp_connections.specs.Connections.{State, with_capture_event, step}
+use Rattle.tcp_connections.specs.Connections.{State, with_capture_event}
 use Rattle.tcp_connections.specs.State.{IsState}
 use Rattle.tcp_connections.proofs.States.{told_capture}
 use Rattle.giop_print.specs.declared.sink.OutFault.{OutFault}
 use Rattle.giop_capture_run.specs.Packets.{Taken}
-use Rattle.giop_capture_run.specs.Arrivals.{with_segment, packet_arrived, after_packets, links_noted, links_from, links_told}
+use Rattle.giop_capture_run.specs.Arrivals.{with_segment, packet_arrived, after_packets, links_noted, links_from}
 use Rattle.giop_capture_run.specs.PacketState.{HasRead}
 use Rattle.giop_capture_run.proofs.ShortSegments.{short}
 

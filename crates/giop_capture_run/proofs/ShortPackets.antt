@@ -1,8 +1,7 @@
 -- A packet has at most 262,144 octets.
-use Rattle.std.proofs.Common.{◌≡◌, ℕ, zero, suc, ◌+◌, ◌-◌, ◌≤◌, List, [], ◌∷◌, ◌++◌, Bool, true, false, Some, None, Option, length, take, drop, refl, arith, inl, inr, min}
-use Rattle.std.specs.Prelude.{nat_lt, nat_le, ◌==◌, slice_get, if◌then◌else◌}
-use Rattle.std.proofs.lemmas.List.{length-append, length-drop, length-take}
-use Rattle.std.proofs.lemmas.Bool.Decides.{leb_tells}
+use Rattle.std.proofs.Common.{◌≡◌, ℕ, zero, suc, ◌+◌, ◌≤◌, List, [], ◌∷◌, ◌++◌, Bool, true, false, Some, None, Option, length, drop, arith}
+use Rattle.std.specs.Prelude.{nat_lt, ◌==◌, if◌then◌else◌}
+use Rattle.std.proofs.lemmas.List.{length-drop, length-take}
 use Rattle.capture_file.specs.declared.fault.FaultKind.{FaultKind}
 use Rattle.capture_file.specs.declared.part.ByteOrder.{ByteOrder}
 use Rattle.capture_file.specs.declared.part.LengthByOrder.{LengthByOrder}
@@ -16,14 +15,14 @@ use Rattle.capture_file.specs.declared.part.Interface.{Interface}
 use Rattle.capture_file.specs.declared.part.Outcome.{Outcome}
 use Rattle.capture_file.specs.declared.part.Outcome.TheVariants.{Continues, EndsPacket, Fails}
 use Rattle.capture_file.specs.Parts.{front, packet_offset}
-use Rattle.capture_file.specs.Records.{beginning, file_version, file_rest, record_header, most_captured}
-use Rattle.capture_file.specs.Blocks.{section_length, length_by_order, section, byte_order_magic, section_version, block_header, block_of, interface_header, options, option_header, time_unit, of_interface, enhanced_interface, enhanced_header, of_first_interface, simple_header, block_end, packet_of}
+use Rattle.capture_file.specs.Records.{beginning, file_version, file_rest, record_header}
+use Rattle.capture_file.specs.Blocks.{section_length, section, byte_order_magic, section_version, block_header, block_of, interface_header, options, option_header, time_unit, of_interface, enhanced_interface, enhanced_header, of_first_interface, simple_header, block_end, packet_of}
 use Rattle.capture_file.specs.Numbers.{four_at}
 use Rattle.capture_file.specs.Format.{next}
 use Rattle.capture_file.specs.Parts.{size}
 use Rattle.capture_file.specs.declared.capture.Capture.{Capture}
 use Rattle.capture_file.specs.CaptureState.{Reads}
-use Rattle.capture_file.specs.Reading.{PacketRecord, ParserState, Ending, Within, Reading, end_of, packet_in, behind, reading_from, start, reading, packets}
+use Rattle.capture_file.specs.Reading.{PacketRecord, ParserState, Within, Reading, end_of, packet_in, behind, reading_from, start, reading, packets}
 
 -- the packet at a part's front, if it has one, is no longer than may be
 abbrev IsShort : Part → Type 0

@@ -1,13 +1,13 @@
 -- A segment's payload is no longer than its packet.
-use Rattle.std.proofs.Common.{◌≡◌, ℕ, zero, suc, ◌+◌, ◌≤◌, List, Bool, true, false, Some, None, Option, length, take, drop, refl, arith, option_map}
+use Rattle.std.proofs.Common.{◌≡◌, ℕ, zero, suc, ◌≤◌, List, Bool, true, false, Some, None, Option, length, take, drop, arith, option_map}
 use Rattle.std.specs.Prelude.{if◌then◌else◌, ◌==◌}
 use Rattle.std.proofs.lemmas.List.{length-drop, length-take}
 use Rattle.tcp_segment.specs.declared.frame.Version.{Version}
 use Rattle.tcp_segment.specs.declared.frame.Version.TheVariants.{V4, V6}
-use Rattle.tcp_segment.specs.Octets.{◌>>=◌, provided, two_at}
-use Rattle.tcp_segment.specs.Frames.{Packet, is_tag, behind_tag, behind_tags, version_of_type, typed, ethernet, cooked, cooked_2, loopback, version_of_raw, raw, packet_of}
+use Rattle.tcp_segment.specs.Octets.{◌>>=◌, provided}
+use Rattle.tcp_segment.specs.Frames.{Packet, is_tag, behind_tag, behind_tags, version_of_type, typed, ethernet, cooked, cooked_2, loopback, raw, packet_of}
 use Rattle.tcp_segment.specs.Datagrams.{Datagram, limited, behind_header, ipv4, behind_extension, behind_extensions, payload_of, behind_headers, between_hosts, ipv6, datagram_by, datagram_of}
-use Rattle.tcp_segment.specs.Segments.{Segment, header_size, segment_behind, segment_in, segment}
+use Rattle.tcp_segment.specs.Segments.{Segment, header_size, segment_in, segment}
 
 -- what there is, if anything, has at most so many octets
 abbrev IsWithin : {A : Type 0} → (A → ℕ) → ℕ → Option A → Type 0

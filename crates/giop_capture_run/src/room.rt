@@ -26,12 +26,7 @@ pub fn packet_reader<L: CaptureListener + Drop, N: Notices + Drop>(
         r.connections r.streams.live.items r.unread.told.items
         (none_known asked.entry.ports.items asked.entry.pool asked.entry.connections []) []) }
 {
-    let connections = Connections::new(
-        alloc,
-        asked.connections,
-        asked.pool as usize,
-        asked.ports,
-    )?;
+    let connections = Connections::new(alloc, asked.connections, asked.pool as usize, asked.ports)?;
     let streams = Streams::new(alloc, listener)?;
     Ok(PacketReader::new(connections, streams, notices))
 }

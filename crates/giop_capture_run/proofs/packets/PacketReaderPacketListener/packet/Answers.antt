@@ -1,5 +1,5 @@
 -- The listener is told of the packet, and its segment comes.
-use Rattle.std.proofs.Common.{◌≡◌, ◌∙◌, ◌++◌, ◌∷◌, [], None, Some, sym, ap, arith}
+use Rattle.std.proofs.Common.{◌≡◌, ◌∙◌, None, Some, sym, ap, arith}
 use Rattle.std.specs.Option.{option_map}
 use Rattle.tcp_segment.specs.Segments.{segment, segment_view}
 use Rattle.tcp_flow.specs.Flow.{PacketArrives}
