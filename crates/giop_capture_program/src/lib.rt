@@ -2,7 +2,6 @@
 #![tactic(auto)]
 
 mod console;
-mod run;
 mod steps;
 mod teller;
 

@@ -1,25 +1,22 @@
 //! The program's steps after its words: signatures, the opening of the capture, room, reading. The first that fails determines
 //! the status.
 
-use crate::run::run;
 use crate::teller::Teller;
 use capture_file::Capture;
-use giop_capture_run::{Arguments, Notices, PacketReader};
+use giop_capture_run::{Arguments, Ending, Notices, PacketReader, dump_capture, packet_reader};
 use giop_conversation::{Conversations, Limits};
 use giop_run::{Inputs, Lines, ProgramFault, Reading, catalogue, requests, unreadable};
 use giop_sig::{Catalogue, Requests};
 use std::alloc::{AllocError, Global};
 use std::io::{Read, Write};
-use tcp_connections::Connections;
-use tcp_streams::Streams;
 
-/// The steps after the words. Answers whether a fault was counted, a stream was cut, or the capture has a fault.
+/// The steps after the words. Answers how the dump ended.
 pub fn perform_capture<'a, R: Inputs + AllocGlobal, W: Write + Drop, N: Notices + Drop>(
     rt: &R,
     asked: Arguments<'a>,
     writer: W,
     notices: N,
-) -> Result<bool, ProgramFault<'a>> {
+) -> Result<Ending, ProgramFault<'a>> {
     let catalogue = catalogue(rt, asked.signatures)?;
     match asked.capture {
         None => dump(rt, rt.standard_input(), asked, &catalogue, writer, notices),
@@ -38,17 +35,16 @@ fn dump<'a, R: Inputs + AllocGlobal, F: Read + Drop, W: Write + Drop, N: Notices
     catalogue: &Catalogue,
     writer: W,
     notices: N,
-) -> Result<bool, ProgramFault<'a>> {
+) -> Result<Ending, ProgramFault<'a>> {
     let requests = requests(rt, None, catalogue)?;
-    let name = asked.capture;
     let Ok(mut capture) = Capture::new(rt.alloc()) else {
         return Err(ProgramFault::OutOfMemory);
     };
     let Ok(mut reader) = reader(rt.alloc(), asked, catalogue, &requests, writer, notices) else {
         return Err(ProgramFault::OutOfMemory);
     };
-    match run(&mut Reading::new(file), name, &mut capture, &mut reader) {
-        Ok(faulty) => Ok(faulty),
+    match dump_capture(&mut Reading::new(file), &mut capture, &mut reader) {
+        Ok(ending) => Ok(ending),
         Err(fault) => Err(ProgramFault::Run(fault)),
     }
 }
@@ -71,12 +67,5 @@ fn reader<'c, W: Write + Drop, N: Notices + Drop>(
     let Ok(conversations) = Conversations::new(alloc, catalogue, requests, limits, lines) else {
         return Err(AllocError);
     };
-    let connections = Connections::new(
-        alloc,
-        asked.connections,
-        asked.pool as usize,
-        asked.ports,
-    )?;
-    let streams = Streams::new(alloc, Teller::new(conversations), asked.connections)?;
-    Ok(PacketReader::new(connections, streams, notices))
+    packet_reader(alloc, asked, Teller::new(conversations), notices)
 }

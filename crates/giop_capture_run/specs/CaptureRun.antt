@@ -1,5 +1,5 @@
 -- What the reading of a whole capture came to (state).
-use Rattle.std.specs.Prelude.{◌≡◌, ℕ, List, [], ◌++◌, Option, IsSome, Result, Ok, Err, ◌⊎◌}
+use Rattle.std.specs.Prelude.{◌≡◌, ℕ, Bool, true, false, if◌then◌else◌, Some, None, List, [], ◌++◌, Option, IsSome, Result, Ok, Err, ◌⊎◌}
 use Rattle.std.specs.Io.KnownBytes.{Consumes, IsAtEnd}
 use Rattle.capture_file.specs.declared.capture.Capture.{Capture}
 use Rattle.capture_file.specs.declared.fault.CaptureFault.{CaptureFault}
@@ -11,6 +11,10 @@ use Rattle.tcp_connections.specs.Connections.{State}
 use Rattle.tcp_connections.specs.State.{IsAt}
 use Rattle.giop_run.specs.SourceLog.{SourceLog}
 use Rattle.giop_run.specs.declared.fault.RunFault.{RunFault}
+use Rattle.capture_file.specs.declared.fault.FaultKind.{FaultKind}
+use Rattle.capture_file.specs.declared.fault.FaultKind.TheVariants as kinds
+use Rattle.giop_capture_run.specs.declared.ending.Ending.{Ending}
+use Rattle.giop_capture_run.specs.declared.ending.Ending.TheVariants as endings
 use Rattle.giop_capture_run.specs.Packets.{Taken, taken_of, Ran}
 use Rattle.giop_capture_run.specs.Arrivals.{capture_ended, links_told}
 
@@ -37,3 +41,27 @@ CaptureRan (Ok found) HasTaken O Told F connections live c start s before after 
     ReadWhole O Told F connections live c start s before after found
 CaptureRan (Err failed) HasTaken O Told F connections live c start s before after =
     Ran (Err failed) HasTaken c s before after
+
+-- what was read begins like no capture
+abbrev pub is_magic : FaultKind → Bool
+is_magic kinds.Magic = true
+is_magic _ = false
+
+-- how a dump ended, by the fault of the capture and whether its listener was told of one
+abbrev pub ending_of : Option CaptureFault → Bool → Ending
+ending_of (Some fault) faulty =
+    if is_magic fault.kind then endings.NoCapture else (if faulty then endings.Faulty else endings.Whole)
+ending_of None faulty = if faulty then endings.Faulty else endings.Whole
+
+-- A capture was read whole, and all that is due of it was written: its listener was told of all before the last lines, which
+-- say whether it was told of a fault.
+pub record Dumped {L N : Type 0} (ending : Ending) (observed : L → List Event → Type 0) (faulty : L → Bool) (F : Reader)
+    (told : N → List ℕ → Type 0) (c : Capture) (start : State) (before after : SourceLog) : Type 0 where
+  pub listener : L
+  pub notices : N
+  pub connections : Connections
+  pub live : List ℕ
+  pub octets : List ℕ
+  pub found : Option CaptureFault
+  pub whole : ReadWhole (observed listener) (told notices) F connections live c start octets before after found
+  pub ends : ending ≡ ending_of found (faulty listener)

@@ -1,19 +1,19 @@
 //! A capture from its first packet to its end.
 
-ghost use Rattle.std.specs.Prelude.{◌≡◌, ◌⊎◌, ◌≤◌, ◌+◌, ◌^◌, List, ℕ, [], Err, IfOk, OnOk, OnErr};
+ghost use Rattle.std.specs.Prelude.{◌≡◌, ◌≢◌, ◌⊎◌, ◌≤◌, ◌+◌, ◌^◌, List, ℕ, [], Err, IfOk, OnOk, OnErr};
 ghost use Rattle.capture_file.specs.CaptureState.{Reads};
 ghost use Rattle.capture_file.specs.Reading.{final_fault};
 ghost use Rattle.tcp_connections.specs.Connections.{State, ended};
 ghost use Rattle.tcp_connections.specs.State.{HasState, IsState, IsAt};
 ghost use Rattle.giop_capture_run.specs.Arrivals.{with_fault};
 ghost use Rattle.giop_capture_run.specs.PacketState.{HasRead};
-ghost use Rattle.giop_capture_run.specs.CaptureRun.{CaptureRan};
+ghost use Rattle.giop_capture_run.specs.CaptureRun.{CaptureRan, Dumped, ending_of};
 
 use crate::listening::CaptureListener;
 use crate::notices::Notices;
 use crate::packets::PacketReader;
 use crate::reading::read_packets;
-use capture_file::{Capture, CaptureFault};
+use capture_file::{Capture, CaptureFault, FaultKind};
 use giop_print::OutFault;
 use giop_run::{RunFault, Source};
 
@@ -46,6 +46,57 @@ pub fn read_capture<S: Source, L: CaptureListener + Drop, N: Notices + Drop>(
     match end(capture, reader) {
         Ok(fault) => Ok(fault),
         Err(_) => Err(RunFault::Out),
+    }
+}
+
+/// How the dump of a capture ended that was read to its end.
+#[derive(Clone, Copy, Debug, PartialEq, Eq)]
+pub enum Ending {
+    /// No fault was counted, and no stream was cut.
+    Whole,
+    /// A fault of a message, a stream or the capture was counted, or a stream was cut.
+    Faulty,
+    /// What was read begins like no capture.
+    NoCapture,
+}
+
+/// Reads a capture of which nothing was read from a source, up to its end, and writes all that is due of it. Answers how it ended.
+pub fn dump_capture<S: Source, L: CaptureListener + Drop, N: Notices + Drop>(
+    source: &mut S,
+    capture: &mut Capture,
+    reader: &mut PacketReader<L, N>,
+) -> Result<Ending, RunFault>
+    requires start { Reads capture.old [] }
+    requires reader { (w : State) × HasRead (L.observed reader.old.streams.listener)
+        (N.told reader.old.notices) L.faulted reader.old.connections
+        reader.old.streams.live.items reader.old.unread.told.items w [] }
+    ensures dumped { (w : State) → HasRead (L.observed reader.old.streams.listener)
+        (N.told reader.old.notices) L.faulted reader.old.connections
+        reader.old.streams.live.items reader.old.unread.told.items w []
+        → IfOk result (λ ending. Dumped ending L.observed L.faulty L.faulted (N.told) capture.new w
+        (S.log source.old) (S.log source.new)) }
+    ensures flushed { OnOk result (L.flushed reader.new.streams.listener) }
+    ensures seen { (result ≡ Err RunFault.Read) ⊎ (result ≡ Err RunFault.Turns)
+        → L.flushed reader.new.streams.listener }
+    ensures cause { result ≡ Err RunFault.Out → L.failed reader.new.streams.listener }
+    ensures sound { result ≢ Err RunFault.Failed }
+    ensures reads { (S.log source.new).reads ≤ (S.log source.old).reads + 2 ^ 40 }
+{
+    let fault = read_capture(source, capture, reader)?;
+    match reader.finish(capture.packets(), capture.octets()) {
+        Ok(is_faulty) => Ok(ending_of(fault, is_faulty)),
+        Err(_) => Err(RunFault::Out),
+    }
+}
+
+/// How a dump ended, by the fault of the capture and whether its listener was told of one.
+fn ending_of(fault: Option<CaptureFault>, is_faulty: bool) -> Ending
+    ensures { result ≡ ending_of fault is_faulty }
+{
+    match fault {
+        Some(fault) if fault.kind == FaultKind::Magic => Ending::NoCapture,
+        _ if is_faulty => Ending::Faulty,
+        _ => Ending::Whole,
     }
 }
 

@@ -11,7 +11,7 @@ mod reading;
 mod room;
 
 pub use arguments::{Arguments, PORTS_ROOM};
-pub use ending::read_capture;
+pub use ending::{Ending, dump_capture, read_capture};
 pub use links::UnreadLinks;
 pub use listening::{CaptureListener, PacketListener};
 pub use notices::Notices;

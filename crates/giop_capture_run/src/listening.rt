@@ -1,6 +1,6 @@
 //! Who takes the packets of a capture, and who is told what happens in it.
 
-ghost use Rattle.std.specs.Prelude.{◌≡◌, ◌<◌, ◌≤◌, ◌^◌, List, ℕ, [], ◌∷◌, ◌++◌, length, OnOk, OnErr};
+ghost use Rattle.std.specs.Prelude.{◌≡◌, ◌<◌, ◌≤◌, ◌^◌, List, ℕ, [], ◌∷◌, ◌++◌, length, Bool, IfOk, OnOk, OnErr};
 
 use capture_file::{CaptureFault, Packet};
 use giop_print::OutFault;
@@ -47,6 +47,9 @@ pub trait CaptureListener: Listener {
     /// All that it has written is to be seen.
     ghost flushed: { Self → Type 0 };
 
+    /// Whether what it was told of has a fault, or a stream that was cut.
+    ghost faulty: { Self → Bool };
+
     /// The next packet is read, which came at this time: nanoseconds since 1970-01-01 UTC, where it has one.
     fn arrives(&mut self, time: Option<u128>)
         ensures { (events : List Event) → Self.observed self.old events
@@ -63,6 +66,13 @@ pub trait CaptureListener: Listener {
     fn flush(&mut self) -> Result<(), ListenerFault>
         ensures does { (events : List Event) → Self.observed self.old events
             → OnOk result (Self.observed self.new events) }
+        ensures flushed { OnOk result (flushed self.new) }
+        ensures cause { OnErr result (Self.failed self.new) };
+
+    /// The capture has ended, with so many packets and octets: what is still to be written is, and is to be seen. Answers
+    /// whether what it was told of has a fault, or a stream that was cut.
+    fn finish(&mut self, packets: u64, octets: u64) -> Result<bool, ListenerFault>
+        ensures value { IfOk result (λ is_faulty. is_faulty ≡ faulty self.old) }
         ensures flushed { OnOk result (flushed self.new) }
         ensures cause { OnErr result (Self.failed self.new) };
 }

@@ -1,6 +1,6 @@
 //! The packets of a capture as what happens in its flows.
 
-ghost use Rattle.std.specs.Prelude.{◌≡◌, ◌<◌, ◌≤◌, ◌+◌, ◌^◌, List, ℕ, [], ◌∷◌, ◌++◌, length, OnOk, OnErr};
+ghost use Rattle.std.specs.Prelude.{◌≡◌, ◌<◌, ◌≤◌, ◌+◌, ◌^◌, List, ℕ, [], ◌∷◌, ◌++◌, length, IfOk, OnOk, OnErr};
 ghost use Rattle.tcp_segment.specs.Segments.{segment_view};
 ghost use Rattle.tcp_segment.specs.Links.{is_link_read as spec_is_link_read};
 ghost use Rattle.capture_file.specs.FaultWords.{fault_word};
@@ -95,12 +95,18 @@ impl<L: CaptureListener + Drop, N: Notices + Drop> PacketReader<L, N> {
         heard(self.connections.end(&mut self.streams))
     }
 
-    /// Who is told.
-    pub fn into_listener(self) -> L
-        ensures { result ≡ self.streams.listener }
+    /// What is still to be written is, with how many packets and octets the capture has. Answers whether the listener was told
+    /// of a fault, or of a stream that was cut.
+    pub fn finish(&mut self, packets: u64, octets: u64) -> Result<bool, OutFault>
+        ensures value { IfOk result
+            (λ is_faulty. is_faulty ≡ L.faulty self.old.streams.listener) }
+        ensures flushed { OnOk result (L.flushed self.new.streams.listener) }
+        ensures cause { OnErr result (L.failed self.new.streams.listener) }
     {
-        let streams = self.streams;
-        streams.listener
+        match self.streams.listener.finish(packets, octets) {
+            Ok(is_faulty) => Ok(is_faulty),
+            Err(ListenerFault) => Err(OutFault),
+        }
     }
 }
 
