@@ -1,6 +1,15 @@
 //! The program's steps after its words: signatures, the opening of the capture, room, reading. The first that fails determines
 //! the status.
 
+ghost use Rattle.std.specs.Prelude.{◌⊎◌, [], IfOk, IfErr};
+ghost use Rattle.giop_stream.specs.EngineHolds.{AreOf};
+ghost use Rattle.tcp_connections.specs.Connections.{none_known};
+ghost use Rattle.giop_conversation.specs.Follows.{Follows};
+ghost use Rattle.giop_conversation.specs.Followed.{reader_faulted};
+ghost use Rattle.giop_run.specs.Files.{NoStream, stream_of};
+ghost use Rattle.giop_capture_run.specs.PacketState.{HasRead};
+ghost use Rattle.giop_capture_program.specs.Steps.{CaptureDumped, NotDumped, RunFailed, capture_of};
+
 use crate::teller::Teller;
 use capture_file::Capture;
 use giop_capture_run::{Arguments, Ending, Notices, PacketReader, dump_capture, packet_reader};
@@ -16,7 +25,12 @@ pub fn perform_capture<'a, R: Inputs + AllocGlobal, W: Write + Drop, N: Notices 
     asked: Arguments<'a>,
     writer: W,
     notices: N,
-) -> Result<Ending, ProgramFault<'a>> {
+) -> Result<Ending, ProgramFault<'a>>
+    requires told { N.told notices [] }
+    ensures dumped { IfOk result (λ ending. CaptureDumped ending N.told asked.entry
+        (stream_of (R.held rt.now) (R.given rt.now) (capture_of asked.entry))) }
+    ensures refused { IfErr result (NotDumped (R.held rt.now) asked.entry) }
+{
     let catalogue = catalogue(rt, asked.signatures)?;
     match asked.capture {
         None => dump(rt, rt.standard_input(), asked, &catalogue, writer, notices),
@@ -35,7 +49,13 @@ fn dump<'a, R: Inputs + AllocGlobal, F: Read + Drop, W: Write + Drop, N: Notices
     catalogue: &Catalogue,
     writer: W,
     notices: N,
-) -> Result<Ending, ProgramFault<'a>> {
+) -> Result<Ending, ProgramFault<'a>>
+    requires told { N.told notices [] }
+    ensures dumped { IfOk result (λ ending.
+        CaptureDumped ending N.told asked.entry (F.remaining file)) }
+    ensures refused { IfErr result (λ fault.
+        NoStream (capture_of asked.entry) fault ⊎ RunFailed fault) }
+{
     let requests = requests(rt, None, catalogue)?;
     let Ok(mut capture) = Capture::new(rt.alloc()) else {
         return Err(ProgramFault::OutOfMemory);
@@ -57,7 +77,13 @@ fn reader<'c, W: Write + Drop, N: Notices + Drop>(
     requests: &'c Requests,
     writer: W,
     notices: N,
-) -> Result<PacketReader<Teller<'c, Lines<W>>, N>, AllocError> {
+) -> Result<PacketReader<Teller<'c, Lines<W>>, N>, AllocError>
+    requires of { AreOf catalogue.now requests.now }
+    requires told { N.told notices [] }
+    ensures { IfOk result (λ r. HasRead (Follows r.streams.listener.conversations) (N.told r.notices)
+        reader_faulted r.connections r.streams.live.items r.unread.told.items
+        (none_known asked.entry.ports.items asked.entry.pool asked.entry.connections []) []) }
+{
     let limits = Limits {
         connections: asked.connections,
         messages: asked.messages,
