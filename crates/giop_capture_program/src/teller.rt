@@ -19,7 +19,7 @@ pub struct Teller<'a, O: Flush + Drop> {
 impl<'a, O: Flush + Drop> Teller<'a, O> {
     /// Tells these conversations.
     pub fn new(conversations: Conversations<'a, O>) -> Teller<'a, O>
-        ensures conversations { result.conversations ≡ conversations }
+        ensures conversations { result.conversations ≡ conversations.entry }
     {
         Teller {
             conversations,
