@@ -1,7 +1,7 @@
 //! The program's steps after its words: signatures, the opening of the capture, room, reading. The first that fails determines
 //! the status.
 
-ghost use Rattle.std.specs.Prelude.{◌⊎◌, [], IfOk, IfErr};
+ghost use Rattle.std.specs.Prelude.{◌≡◌, ◌⊎◌, [], Some, IfOk, IfErr};
 ghost use Rattle.giop_stream.specs.EngineHolds.{AreOf};
 ghost use Rattle.tcp_connections.specs.Connections.{none_known};
 ghost use Rattle.giop_conversation.specs.Follows.{Follows};
@@ -32,12 +32,40 @@ pub fn perform_capture<'a, R: Inputs + AllocGlobal, W: Write + Drop, N: Notices 
     ensures refused { IfErr result (NotDumped (R.held rt.now) asked.entry) }
 {
     let catalogue = catalogue(rt, asked.signatures)?;
-    match asked.capture {
-        None => dump(rt, rt.standard_input(), asked, &catalogue, writer, notices),
-        Some(name) => match rt.open(name) {
-            Ok(file) => dump(rt, file, asked, &catalogue, writer, notices),
-            Err(error) => Err(unreadable(name, &error)),
-        },
+    open_and_dump(rt, asked, &catalogue, writer, notices)
+}
+
+/// The steps after the signatures.
+fn open_and_dump<'a, R: Inputs + AllocGlobal, W: Write + Drop, N: Notices + Drop>(
+    rt: &R,
+    asked: Arguments<'a>,
+    catalogue: &Catalogue,
+    writer: W,
+    notices: N,
+) -> Result<Ending, ProgramFault<'a>>
+    requires told { N.told notices [] }
+    ensures dumped { IfOk result (λ ending. CaptureDumped ending N.told asked.entry
+        (stream_of (R.held rt.now) (R.given rt.now) (capture_of asked.entry))) }
+    ensures refused { IfErr result (λ fault.
+        NoStream (capture_of asked.entry) fault ⊎ RunFailed fault) }
+{
+    let Some(name) = asked.capture else {
+        return dump(rt, rt.standard_input(), asked, catalogue, writer, notices);
+    };
+    match opened(rt, name) {
+        Ok(file) => dump(rt, file, asked, catalogue, writer, notices),
+        Err(fault) => Err(fault),
+    }
+}
+
+/// Opens the file of a capture; nothing was read of it.
+fn opened<'a, R: Inputs>(rt: &R, name: &'a str) -> Result<R::File, ProgramFault<'a>>
+    ensures ok { IfOk result (λ file. R.File.remaining file ≡ R.held rt.now name.entry.now) }
+    ensures err { IfErr result (NoStream (Some name.entry.now)) }
+{
+    match rt.open(name) {
+        Ok(file) => Ok(file),
+        Err(error) => Err(unreadable(name, &error)),
     }
 }
 
