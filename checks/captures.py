@@ -5,7 +5,7 @@ connections. Each has the lines by the number of octets of the capture with whic
 another reading of docs/FORMATS.md has them. A row runs with the capture as a file, with the capture as standard input, and with
 the capture in pieces on a pipe that stays open, where the lines have to come as soon as they are due, and none before.
 
-Then some captures are dumped with each call of the program failing, as checks/calls.py does it for giopdump, and with each of
+What is said of words and of steps that fail is tried by a list. Then some captures are dumped with each call of the program failing, as checks/calls.py does it for giopdump, and with each of
 its requests for memory refused, as checks/memory.py does.
 """
 
@@ -15,6 +15,7 @@ import json
 import lzma
 import os
 import re
+import resource
 import select
 import subprocess
 import sys
@@ -250,11 +251,82 @@ def cases(folder: Path, known: Dict[str, Row]) -> List[Case]:
     return [Case(name, words, stream, status, b"", GIOPCAP) for name, words, stream, status in given]
 
 
+# Words, the status, and what is written and said; what is wrong with the words is told in the words of clap, and begins so.
+# Of steps that fail, the first in the order of the steps decides. The files are those of `files_of_words`.
+WORDS: List[Tuple[Tuple[str, ...], int, str, str]] = [
+    (("--version",), 0, "giopcap 1.0.0\n", ""),
+    (("--unknown", "--signatures", "wrong.sig"), 2, "", "error: "),
+    (("a", "b"), 2, "", "error: "),
+    (("--port",), 2, "", "error: "),
+    (("--open", "016x"), 2, "", "error: "),
+    (("\udcff",), 2, "", "giopcap: a word of the command line is not UTF-8\n"),
+    (("--signatures", "none.sig", "none.pcap"), 4, "", "giopcap: none.sig: cannot read\n"),
+    (("--signatures", ".", "empty.pcap"), 4, "", "giopcap: .: cannot read\n"),
+    (("--signatures", "wrong.sig", "none.pcap"), 3, "", "giopcap: wrong.sig:2: unknown-type\n"),
+    (("none.pcap",), 4, "", "giopcap: none.pcap: cannot read\n"),
+    (("no\nne\xe9",), 4, "", "giopcap: no\\x0ane\\xc3\\xa9: cannot read\n"),
+    ((".",), 4, "", "giopcap: read failed\n"),
+    (
+        ("--port", "0", "--port", "65535", "empty.pcap"),
+        0,
+        "total streams 0 messages 0 faults 0 packets 0 octets 24\n",
+        "",
+    ),
+    (
+        ("-",),
+        1,
+        "capture fault magic at 4\n" + "total streams 0 messages 0 faults 0 packets 0 octets 4\n",
+        "giopcap: -: not a capture\n",
+    ),
+    (
+        ("no\nname",),
+        1,
+        "capture fault magic at 4\n" + "total streams 0 messages 0 faults 0 packets 0 octets 4\n",
+        "giopcap: no\\x0aname: not a capture\n",
+    ),
+]
+
+
+def files_of_words(folder: Path) -> None:
+    """Makes the files that the words name."""
+    (folder / "wrong.sig").write_text("signatures 1;\nstruct A { B b; };\n")
+    (folder / "empty.pcap").write_bytes(octets_of("a1b2c3d4 00020004 00*8 00040000 00000065"))
+    for name in ("-", "no\nname"):
+        (folder / name).write_bytes(b"GIOP\x01\x00")
+
+
+def run_words(folder: Path, seen: Differences) -> None:
+    """Runs the list, and the program where it may map less than it takes."""
+    files_of_words(folder)
+    for words, status, lines, said in WORDS:
+        run = run_in(folder, words)
+        is_said = run.said.startswith(said.encode()) if said == "error: " else run.said == said.encode()
+        as_wanted = (run.status, run.lines) == (status, lines.encode()) and is_said
+        seen.note(as_wanted, f"words {words}", run)
+    run = run_in(folder, ("empty.pcap",), limit=40_000_000)
+    as_wanted = (run.status, run.lines, run.said) == (5, b"", b"giopcap: out of memory\n")
+    seen.note(as_wanted, "without enough memory", run)
+
+
+def run_in(folder: Path, words: Tuple[str, ...], limit: int = resource.RLIM_INFINITY) -> Ended:
+    """Runs the program with octets on standard input that nothing may read."""
+
+    def limited() -> None:
+        resource.setrlimit(resource.RLIMIT_AS, (limit, limit))
+
+    done = subprocess.run(
+        [str(GIOPCAP), *words], cwd=folder, input=b"GIOP", capture_output=True, preexec_fn=limited, timeout=SECONDS
+    )
+    return ended(done.stdout, done.stderr, done.returncode)
+
+
 def main(library: str) -> int:
     """Prints figures; 1 where something differs."""
     seen = Differences()
     with tempfile.TemporaryDirectory() as name:
         folder = Path(name)
+        run_words(folder, seen)
+        print(f"words: {seen.runs} runs")
         known = run_rows(folder, seen)
         tried = cases(folder, known)
         calls = [fail_all(library, case, seen) for case in tried]
