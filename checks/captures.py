@@ -231,7 +231,7 @@ def cases(folder: Path, known: Dict[str, Row]) -> List[Case]:
     """No octets, a capture with its types, as a file too, one with held packets, what is no capture, a link type that isn't
     read, and what is refused."""
     naming, few = ("--signatures", str(EXAMPLES / "naming.sig")), ("--connections", "2")
-    session = TOP / "scripts/tests/session.pcap"
+    session = TOP / "examples/session.pcap"
     bad, link = known["real: a wire that loses and reorders packets"], known["link type 147"]
     types = folder / "bad.sig"
     types.write_text(bad.signatures)

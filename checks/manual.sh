@@ -14,7 +14,7 @@ export PATH=$(dirname "$giopdump"):$(dirname "$giopcap"):$PWD/scripts:$PATH PYTH
 folder=$(mktemp -d)
 trap 'rm -rf "$folder"' EXIT
 cp examples/naming* "$folder"
-cp scripts/tests/session.pcap "$folder"
+cp examples/session.pcap "$folder"
 gzip -k "$folder/session.pcap"
 cp scripts/tests/session.lines "$folder/orders.lines"
 
@@ -48,7 +48,6 @@ statuses=$(sed -nE 's/^\| ([0-5]) \|.*/\1/p' docs/FORMATS.md | sort -u)
 [ "$(echo $statuses)" = "0 1 2 3 4 5" ]
 check_page giopdump $statuses
 check_page giopcap $statuses
-check_page giopdump-pcap 1 2 4
 check_page giop-json 0 2 3 4
 check_page giop-stat 0 2 3 4
 check_page giop-chart 0 2 3 4

@@ -34,7 +34,7 @@ giopdump examples/naming.giop > "$folder/lines"
 grep -q '"operation":"resolve"' <(giop-json "$folder/lines")
 grep -q '^resolve ' <(giop-stat "$folder/lines")
 grep -q '=> "server" \[label="resolve"\]' <(giop-chart "$folder/lines")
-giopcap --signatures examples/naming.sig scripts/tests/session.pcap > "$folder/lines"
+giopcap --signatures examples/naming.sig examples/session.pcap > "$folder/lines"
 grep -qE '^s6 m2 answers s5 m2 resolve after 0\.[0-9]{9}$' "$folder/lines"
 grep -q '"operation":"resolve"' <(giop-json "$folder/lines")
 gzip -cd "$root/usr/share/man/man1/giopdump.1.gz" | grep -q '^.Dt GIOPDUMP'
