@@ -36,10 +36,6 @@ from memory import refuse_each
 DATA = TOP / "checks/data"
 ROWS = ("captures-worked.json", "captures-generated.json.xz", "captures-real.json.xz")
 
-# Whether the program writes `raises` lines. The rows have them. While it writes none they are left out of the rows, and then
-# the check says how many these were.
-RAISES = False
-
 MOST_PIECES = 400  # of a capture
 
 
@@ -83,21 +79,19 @@ def octets_of(capture: str) -> bytes:
     return b"".join(bytes.fromhex(digits) * int(times or 1) for digits, _, times in parts)
 
 
-def row_of(told: Dict[str, Any]) -> Tuple[Row, int]:
-    """A row of a file, and how many lines of it are left out."""
-    left_out, text, due = 0, b"", []
+def row_of(told: Dict[str, Any]) -> Row:
+    """A row of a file."""
+    text, due = b"", []
     for at, lines in told["lines"].items():
-        kept = [line for line in lines if RAISES or " raises " not in line]
-        left_out += len(lines) - len(kept)
-        text += "".join(f"{line}\n" for line in kept).encode()
+        text += "".join(f"{line}\n" for line in lines).encode()
         if at != "end":
             due.append((int(at), text))
     words, unread = tuple(told["words"]), tuple(told["unread"])
     octets = octets_of(told["capture"])
-    return Row(told["name"], words, told["signatures"], octets, tuple(due), text, unread, told["status"]), left_out
+    return Row(told["name"], words, told["signatures"], octets, tuple(due), text, unread, told["status"])
 
 
-def rows_of(name: str) -> List[Tuple[Row, int]]:
+def rows_of(name: str) -> List[Row]:
     """The rows of a file."""
     octets = (DATA / name).read_bytes()
     return [row_of(told) for told in json.loads(lzma.decompress(octets) if name.endswith(".xz") else octets)]
@@ -216,14 +210,10 @@ def run_rows(folder: Path, seen: Differences) -> Dict[str, Row]:
     known: Dict[str, Row] = {}
     for name in ROWS:
         rows = rows_of(name)
-        for row, _ in rows:
+        for row in rows:
             runner.run(row)
             known[row.name] = row
-        left_out = sum(more for _, more in rows)
-        print(
-            f"{name}: {len(rows)} rows, {sum(row.lines.count(10) for row, _ in rows)} lines"
-            + (f"; {left_out} lines with raises aren't compared" if left_out else "")
-        )
+        print(f"{name}: {len(rows)} rows, {sum(row.lines.count(10) for row in rows)} lines")
     return known
 
 
