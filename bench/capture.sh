@@ -4,6 +4,8 @@
 #              other, with a request list, where packets, times and answers are known already
 #   late       the same, with packets that come too late
 #   short      5,000 connections of twelve messages each
+#   segments   ten times as many octets in small segments of 200 connections by turns, in order, of messages that have no
+#              lines: what packets, segments and flows take
 #   beside     a capture that is twenty times smaller, on which the giopcap of the first line and `tshark -V` run, where
 #              tshark is there; where it isn't, that is said
 # It proves and builds the programs first, unless both are named, and needs python3 and GNU time. The programs run by turns, five
@@ -32,7 +34,7 @@ fi
 run() {
     figure=$1 file=$2
     shift 2
-    /usr/bin/time -a -o "$work/$figure.runs" -f '%e %U %S %M' "$@" <"$file" >"$work/lines"
+    /usr/bin/time -q -a -o "$work/$figure.runs" -f '%e %U %S %M' "$@" <"$file" >"$work/lines"
 }
 
 # Prints the figures of the runs under a name, over so many octets.
@@ -85,6 +87,15 @@ END
     [ "$sort" != long ] || figures giopdump "$size"
     echo
 done
+
+python3 "$top/bench/segments.py" $((octets * 10)) >"$work/capture"
+size=$(wc -c <"$work/capture")
+for _ in 1 2 3 4 5; do
+    run giopcap "$work/capture" "$giopcap" || [ $? -eq 1 ] # each of its streams has faults
+done
+heading segments
+figures giopcap "$size"
+echo
 
 python3 "$top/bench/exchanges.py" long $((octets / 20)) >"$work/capture"
 size=$(wc -c <"$work/capture")
