@@ -9,7 +9,7 @@ for program in giopdump giopcap; do
 done
 
 passed=0 failed=0 not_run=0
-for script in edits edits_faults words python program idl views package manual readme memory calls checkpoints captures generated; do
+for script in edits edits_faults words python program idl views package manual readme memory calls checkpoints captures streams generated; do
     echo "== checks/$script.sh"
     "checks/$script.sh"
     case $? in
