@@ -1,5 +1,5 @@
 -- What an engine and an out with tags do where a put fails.
-use Rattle.std.proofs.Common.{◌≡◌, ℕ, zero, suc, ◌<◌, true, false, List, Result, Ok, Err, MatchResult, refl, sym, ◌∙◌, arith}
+use Rattle.std.proofs.Common.{◌≡◌, ℕ, zero, suc, ◌<◌, true, false, List, Result, Ok, Err, refl, sym, ◌∙◌, arith}
 use Rattle.std.proofs.lemmas.Bool.{false≢true}
 use Rattle.giop_print.specs.Output.{OutLog, counted}
 use Rattle.giop_stream.specs.declared.fault.Stop.{Stop}

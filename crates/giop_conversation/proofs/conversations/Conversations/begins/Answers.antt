@@ -1,4 +1,4 @@
-use Rattle.std.proofs.Common.{List, ◌≡◌, ◌/◌, ◌++◌, ◌∷◌, [], vec_len, refl}
+use Rattle.std.proofs.Common.{◌/◌, ◌++◌, ◌∷◌, [], vec_len, refl}
 use Rattle.std.proofs.Math.ListN.{set}
 use Rattle.tcp_flow.specs.Flow.{Begins}
 use Rattle.giop_conversation.specs.Followed.{HaveFollowed}

@@ -1,4 +1,4 @@
-use Rattle.std.proofs.Common.{◌≡◌, ◌<◌, MatchResult}
+use Rattle.std.proofs.Common.{◌≡◌, ◌<◌}
 use Rattle.std.proofs.lemmas.Result.{MatchResult-from_err}
 use Rattle.tcp_flow.specs.Flow.{Closes}
 use Rattle.giop_conversation.proofs.FailingLemmas.{counted_more}

@@ -1,4 +1,4 @@
-use Rattle.std.proofs.Common.{List, ◌≡◌, ◌/◌, ◌++◌, ◌∷◌, [], vec_len, refl, ◌∙◌}
+use Rattle.std.proofs.Common.{◌/◌, vec_len, refl, ◌∙◌}
 use Rattle.giop_conversation.proofs.FailingLemmas.{counted_more}
 use Rattle.giop_conversation.proofs.FollowedLemmas.{element, octets_read, fault_told}
 use Rattle.giop_conversation.proofs.conversations.Conversations.delivers.Goals as goal

@@ -1,4 +1,4 @@
-use Rattle.std.proofs.Common.{◌≡◌, ◌+◌, ap, ◌∙◌, arith}
+use Rattle.std.proofs.Common.{◌+◌, ap, ◌∙◌}
 use Rattle.std.proofs.lemmas.List.Elements.{All-push}
 use Rattle.giop_conversation.proofs.FollowedLemmas.{IsNew, followed_none}
 use Rattle.giop_conversation.proofs.conversations.Conversations.new.Goals as goal

@@ -1,6 +1,5 @@
-use Rattle.std.proofs.Common.{◌≡◌, ◌≤◌, [], vec_len, vec_capacity}
+use Rattle.std.proofs.Common.{◌≡◌, vec_len}
 use Rattle.std.specs.List.{All}
-use Rattle.giop_conversation.specs.Directions.{HasRead}
 use Rattle.giop_conversation.proofs.FollowedLemmas.{IsNew}
 use Rattle.giop_conversation.proofs.conversations.Conversations.new.Given as goal
 

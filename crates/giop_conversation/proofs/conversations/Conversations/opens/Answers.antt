@@ -1,4 +1,4 @@
-use Rattle.std.proofs.Common.{◌≡◌, ◌/◌, vec_len, refl}
+use Rattle.std.proofs.Common.{◌/◌, vec_len, refl}
 use Rattle.tcp_flow.specs.Flow.{Opens}
 use Rattle.giop_conversation.proofs.FollowedLemmas.{element, opened, none_of_opens, followed_still}
 use Rattle.giop_conversation.proofs.conversations.Conversations.opens.Goals as goal

@@ -1,5 +1,4 @@
-use Rattle.std.proofs.Common.{ℕ, List, ◌++◌, ◌∙◌}
-use Rattle.giop_message.specs.Signatures.{Answers}
+use Rattle.std.proofs.Common.{◌++◌, ◌∙◌}
 use Rattle.giop_stream.specs.declared.status.Status.{Status}
 use Rattle.giop_stream.specs.EngineHolds.{added, rules_with}
 use Rattle.giop_conversation.specs.TaggedState.{tagging_log}

@@ -1,7 +1,6 @@
-use Rattle.std.proofs.Common.{ℕ, List, ◌++◌, ◌≤◌, length, take, drop, take-add, append-nil, append_assoc, length-drop, ◌∙◌, arith}
+use Rattle.std.proofs.Common.{◌++◌, ◌≤◌, length, take, drop, take-add, append-nil, append_assoc, length-drop, ◌∙◌, arith}
 use Rattle.std.proofs.lemmas.List.{take_all}
 use Rattle.giop_print.proofs.Writing.{rest_from}
-use Rattle.giop_conversation.specs.Directions.{HasRead}
 use Rattle.giop_conversation.proofs.direction.Direction.read.Goals as goal
 
 pub loop-at-preserved : goal.loop-at-preserved
