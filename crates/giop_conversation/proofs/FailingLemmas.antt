@@ -1,7 +1,7 @@
 -- What an engine and an out with tags do where a put fails.
 use Rattle.std.proofs.Common.{◌≡◌, ℕ, zero, suc, ◌<◌, true, false, List, Result, Ok, Err, refl, sym, ◌∙◌, arith}
 use Rattle.std.proofs.lemmas.Bool.{false≢true}
-use Rattle.giop_print.specs.Output.{OutLog, counted}
+use Rattle.giop_print.specs.Output.{OutLog, counted, WroteFront}
 use Rattle.giop_stream.specs.declared.fault.Stop.{Stop}
 use Rattle.giop_stream.specs.declared.fault.Stop.TheVariants as stop
 use Rattle.giop_print.specs.Output.{Writes}
@@ -47,3 +47,19 @@ once (Err e) before after none fails = rw fails (counted_more before.failures)
 pub none_failed : (n : ℕ) → (0 < n → false ≡ true) → n ≡ 0
 none_failed zero h = refl
 none_failed (suc n) h = absurd (false≢true (h (omega arith)))
+
+-- what such an engine writes is a front of what was due
+pub stop_front : (A : Type 0) (why : Stop) (before after : OutLog) (due : List ℕ)
+    (e e' : EngineView) → e.failed ≡ false → Leaves {A = A} (Err why) e e' →
+    StopWrites {A = A} (Err why) before after due → WroteFront before after due
+stop_front A (stop.Out f) before after due e e' sound leaves writes = writes
+stop_front A stop.Failed before after due e e' sound leaves writes =
+    absurd (false≢true (sym sound ∙ leaves.0))
+
+pub closing_front : (A : Type 0) (why : Stop) (before after : OutLog) (due : List ℕ)
+    (e : EngineView) → e.failed ≡ false →
+    ((let failed : Result A Stop = Err stop.Failed in Err why ≡ failed) → e.failed ≡ true) →
+    StopWrites {A = A} (Err why) before after due → WroteFront before after due
+closing_front A (stop.Out f) before after due e sound only writes = writes
+closing_front A stop.Failed before after due e sound only writes =
+    absurd (false≢true (sym sound ∙ only refl))

@@ -5,3 +5,4 @@ mod TaggedPuts
 pub mod Tagging
 mod FollowedLemmas
 mod FailingLemmas
+mod StampedLemmas

@@ -9,3 +9,4 @@ pub mod Failing
 pub mod Directions
 pub mod Followed
 pub mod Follows
+pub mod Stamped
