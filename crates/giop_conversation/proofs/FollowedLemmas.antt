@@ -267,3 +267,13 @@ fault_told rooms events flow octets old status follows here tells =
 pub on_ok : {A E : Type 0} (r : Result A E) (P : Type 0) → P → OnOk r P
 on_ok (Ok x) P h = h
 on_ok (Err e) P h = tt
+
+-- the direction of a flow
+pub the_direction : (rooms : List Conversation) (flow : ℕ) (c : Conversation) (d : DirectionView) →
+    slice_get rooms (flow / 2) ≡ Some c → direction_of rooms flow ≡ Some d →
+    direction (parity_of flow) c ≡ d
+the_direction rooms flow c d here there = let both = rw here at there in cc
+
+pub no_direction : (rooms : List Conversation) (flow : ℕ) (d : DirectionView) →
+    slice_get rooms (flow / 2) ≡ None → direction_of rooms flow ≡ Some d → ⊥
+no_direction rooms flow d nothing there = let both = rw nothing at there in cc

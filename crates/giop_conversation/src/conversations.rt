@@ -1,16 +1,20 @@
 //! All connections of a capture: their streams as these begin, go on and close, and the lines of these.
 
-ghost use Rattle.std.specs.Prelude.{◌≡◌, ◌≤◌, ◌<◌, ◌+◌, ◌*◌, ◌/◌, ◌++◌, ◌∷◌, ◌||◌, ℕ, List, [], length, nat_lt, IfOk, OnOk, Err};
+ghost use Rattle.std.specs.Prelude.{◌≡◌, ◌≤◌, ◌<◌, ◌+◌, ◌*◌, ◌/◌, ◌++◌, ◌∷◌, ◌||◌, ℕ, List, [], length, nat_lt, IfOk, OnOk, Err, Some};
 ghost use Rattle.std.specs.Vec.{vec_len};
 ghost use Rattle.tcp_flow.specs.Flow.{Event, Opens, Begins, Delivers, Closes};
 ghost use Rattle.giop_stream.specs.Rules.{most_open};
-ghost use Rattle.giop_stream.specs.EngineHolds.{AreOf};
-ghost use Rattle.giop_print.specs.Output.{Writes};
-ghost use Rattle.giop_conversation.specs.Lines.{capture_fault_line as spec_capture_fault_line};
+ghost use Rattle.giop_stream.specs.EngineHolds.{AreOf, HoldsBy, rules_with};
+ghost use Rattle.giop_print.specs.Output.{counted, Writes};
+ghost use Rattle.giop_message.specs.Signatures.{Answers};
+ghost use Rattle.giop_stream.specs.Stream.{closing};
+ghost use Rattle.giop_conversation.specs.Tags.{stream_tag};
+ghost use Rattle.giop_conversation.specs.Directions.{DirectionView};
+ghost use Rattle.giop_conversation.specs.Lines.{begin_lines, closed_line, capture_fault_line as spec_capture_fault_line};
 ghost use Rattle.giop_conversation.specs.TaggedState.{tagging_log, tagged_by};
 ghost use Rattle.giop_conversation.specs.Failing.{FailsOnce};
 ghost use Rattle.giop_conversation.specs.Follows.{Follows};
-ghost use Rattle.giop_conversation.specs.Followed.{reader_faulted, is_stopped as spec_is_stopped};
+ghost use Rattle.giop_conversation.specs.Followed.{direction_of, reader_faulted, is_stopped as spec_is_stopped};
 
 use crate::conversation::{Conversation, parity_of};
 use crate::limits::{Limits, NoMemory};
@@ -110,6 +114,11 @@ impl<'a, O: Out + Drop> Conversations<'a, O> {
     pub fn begins(&mut self, flow: u32) -> Result<(), OutFault>
         ensures follows { (events : List Event) (number : ℕ) → Follows self.old events →
             OnOk result (Follows self.new (events ++ Begins flow number ∷ [])) }
+        // Its line is written, with the next number in front.
+        ensures lines { (d : DirectionView) → direction_of self.old.rooms.items flow ≡ Some d →
+            self.old.out.failures ≡ 0 → Writes result
+            (tagging_log (tagged_by self.old.out (stream_tag (counted self.old.totals.streams))))
+            (tagging_log self.new.out) (begin_lines d.flow self.old.time) }
         ensures fails { FailsOnce result self.new.out }
     {
         if self.out.has_failed() {
@@ -151,6 +160,12 @@ impl<'a, O: Out + Drop> Conversations<'a, O> {
     pub fn closes(&mut self, flow: u32, cause: CloseCause) -> Result<(), OutFault>
         ensures follows { (events : List Event) → Follows self.old events →
             OnOk result (Follows self.new (events ++ Closes flow cause ∷ [])) }
+        // Why it closes is written, and its closing, with its tag.
+        ensures lines { (d : DirectionView) (a : Answers) (p : List ℕ) →
+            direction_of self.old.rooms.items flow ≡ Some d → self.old.out.failures ≡ 0 →
+            HoldsBy d.engine a p →
+            Writes result (tagging_log (tagged_by self.old.out (stream_tag d.stream)))
+            (tagging_log self.new.out) (closed_line cause ++ closing (rules_with d.engine a) p) }
         ensures fails { FailsOnce result self.new.out }
     {
         if self.out.has_failed() {
