@@ -116,6 +116,7 @@ reading_is S parity time c d s h k = λ j. record {
   time = time;
   replied = 0;
   answered = None;
+  raised = None;
 }
 
 -- ---- lines without a tag

@@ -3,7 +3,7 @@ mod TagLemmas
 mod TaggedLemmas
 mod TaggedPuts
 pub mod Tagging
-mod FollowedLemmas
+pub mod FollowedLemmas
 mod FailingLemmas
 mod LineEnds
 mod StampedLemmas

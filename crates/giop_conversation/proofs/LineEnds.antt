@@ -22,8 +22,8 @@ use Rattle.tcp_segment.specs.EndpointText.{endpoint_text}
 use Rattle.giop_conversation.specs.Times.{time_text, span_text}
 use Rattle.giop_conversation.specs.Lines.{stream_line, time_line, answers_line, raises_line, cause_word, closed_line, capture_fault_line, capture_total_line}
 use Rattle.giop_conversation.specs.TaggedText.{ends_line, is_due}
-use Rattle.giop_conversation.specs.Exchanges.{Exchanged, Answering}
-use Rattle.giop_conversation.specs.Stamped.{begun, time_due, answers_due, told, lines_due, stamped}
+use Rattle.giop_conversation.specs.Exchanges.{Exchanged, Answering, Raising}
+use Rattle.giop_conversation.specs.Stamped.{begun, time_due, answers_due, raises_due, told, lines_due, stamped}
 use Rattle.giop_conversation.proofs.TagLemmas.{ends_append}
 
 -- parts of which the last is LF
@@ -180,11 +180,17 @@ answers_due_ends : (answered : Option Answering) (time : Option ℕ) → is_due 
 answers_due_ends None time = none_ends
 answers_due_ends (Some a) time = answers_line_ends a.message a.call time
 
+raises_due_ends : (raised : Option Raising) → is_due (raises_due raised) ≡ true
+raises_due_ends None = none_ends
+raises_due_ends (Some r) = raises_line_ends r.message r.name
+
 pub lines_due_end : (R : Rules) (s : Exchanged) (p octets : List ℕ) → is_due (lines_due R s p octets) ≡ true
 unfolding lines_due
 lines_due_end R s p octets =
-    ends_both (time_due p octets s.time) (answers_due (told R s p octets).answered s.time)
-    (time_due_ends p octets s.time) (answers_due_ends (told R s p octets).answered s.time)
+    let behind = told R s p octets in
+    ends_both (time_due p octets s.time) (answers_due behind.answered s.time ++ raises_due behind.raised)
+    (time_due_ends p octets s.time) (ends_both (answers_due behind.answered s.time) (raises_due behind.raised)
+    (answers_due_ends behind.answered s.time) (raises_due_ends behind.raised))
 
 -- all that is written of octets
 pub stamped_ends : (C : Table) (a : Answers) (most : ℕ) (octets p : List ℕ) (s : Exchanged) →

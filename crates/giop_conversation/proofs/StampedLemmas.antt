@@ -2,7 +2,7 @@
 use Rattle.std.proofs.Common.{◌≡◌, ℕ, zero, suc, ◌<◌, ◌≤◌, false, List, [], ◌∷◌, ◌++◌, length, Option, Some, None, refl, sym, ap, subst, ◌∙◌, arith, append-nil, append_assoc, nat_lt, if◌then◌else◌}
 use Rattle.giop_sig.specs.Table.{Table}
 use Rattle.giop_message.specs.Signatures.{Answers}
-use Rattle.giop_message.specs.HeaderEnds.{HeaderEnd, CallEvent, Requested, Replied, call_event, after_event, after_ends, AgreesAtEnds}
+use Rattle.giop_message.specs.HeaderEnds.{HeaderEnd, Header_end, Exception_end, IsAnswered, CallEvent, Requested, Replied, Raised, call_event, after_event, after_ends, AgreesAtEnds}
 use Rattle.giop_message.proofs.MessageLaws.{answers_first, answers_then}
 use Rattle.giop_stream.specs.Rules.{Rules, rules_by}
 use Rattle.giop_stream.specs.HeaderEndsOfStream.{header_ends_at, header_ends_from}
@@ -10,8 +10,8 @@ use Rattle.giop_stream.specs.EngineHolds.{added}
 use Rattle.giop_stream.specs.PieceLimit.{IsQuiet}
 use Rattle.giop_stream.proofs.StreamLaws.{added_both_by, header_ends_both}
 use Rattle.giop_conversation.specs.Lines.{time_line}
-use Rattle.giop_conversation.specs.Exchanges.{Exchanged, Answering, answer_of, notified}
-use Rattle.giop_conversation.specs.Stamped.{begun, time_due, answers_due, told, taken, lines_due, exchanged, stamped}
+use Rattle.giop_conversation.specs.Exchanges.{Exchanged, Answering, Raising, answer_of, notified}
+use Rattle.giop_conversation.specs.Stamped.{begun, time_due, answers_due, raises_due, told, taken, lines_due, exchanged, stamped}
 
 -- ---- in two parts
 
@@ -42,10 +42,12 @@ stamped_both R (x ∷ xs) s p r =
 table_stays : (s : Exchanged) (event : CallEvent) → (notified s event).table ≡ s.table
 table_stays s (Requested number id name operation expects) = refl
 table_stays s (Replied number id) = refl
+table_stays s (Raised number name) = refl
 
 time_stays : (s : Exchanged) (event : CallEvent) → (notified s event).time ≡ s.time
 time_stays s (Requested number id name operation expects) = refl
 time_stays s (Replied number id) = refl
+time_stays s (Raised number name) = refl
 
 after_stays : {X : Type 0} (f : Exchanged → X) → ((s : Exchanged) (event : CallEvent) → f (notified s event) ≡ f s) →
     (C : Table) (es : List HeaderEnd) (s : Exchanged) → f (after_ends notified C s es) ≡ f s
@@ -73,35 +75,45 @@ exchanged_time R [] s p = refl
 exchanged_time R (x ∷ xs) s p = exchanged_time R xs (taken (told R s p (x ∷ []))) (p ++ x ∷ []) ∙ told_time R s p (x ∷ [])
 
 -- nothing waits to be written
-abbrev pub IsTaken : Exchanged → Type 0
-IsTaken s = s.answered ≡ None
+pub record IsTaken (s : Exchanged) : Type 0 where
+  pub answered : s.answered ≡ None
+  pub raised : s.raised ≡ None
 
 pub taken_stays : (s : Exchanged) → IsTaken s → taken s ≡ s
-taken_stays s none = λ j. record s { answered = sym none j }
+taken_stays s none = λ j. record s { answered = sym none.answered j; raised = sym none.raised j }
 
 pub exchanged_taken : (R : Rules) (octets : List ℕ) (s : Exchanged) (p : List ℕ) → IsTaken s → IsTaken (exchanged R s p octets)
 unfolding exchanged
 exchanged_taken R [] s p none = none
-exchanged_taken R (x ∷ xs) s p none = exchanged_taken R xs (taken (told R s p (x ∷ []))) (p ++ x ∷ []) refl
+exchanged_taken R (x ∷ xs) s p none = exchanged_taken R xs (taken (told R s p (x ∷ []))) (p ++ x ∷ []) (record { answered = refl; raised = refl })
 
 -- ---- answers that agree, where what a Reply answers was taken
 
-otherwise_after : (C : Table) (a : Answers) (es : List HeaderEnd) (s : Exchanged) (other : Option Answering) →
-    ((t : Exchanged) → AgreesAtEnds answer_of notified C t a es →
-    AgreesAtEnds answer_of notified C (record t { answered = other }) a es) →
-    (event : Option CallEvent) → AgreesAtEnds answer_of notified C (after_event notified s event) a es →
-    AgreesAtEnds answer_of notified C (after_event notified (record s { answered = other }) event) a es
-otherwise_after C a es s other alike None rest = alike s rest
-otherwise_after C a es s other alike (Some (Requested number id name operation expects)) rest =
-    alike (notified s (Requested number id name operation expects)) rest
-otherwise_after C a es s other alike (Some (Replied number id)) rest = rest
+answered_alike : (C : Table) (a : Answers) (e : HeaderEnd) (s : Exchanged) (answered : Option Answering) (raised : Option Raising) →
+    IsAnswered answer_of s a e → IsAnswered answer_of (record s { answered = answered; raised = raised }) a e
+answered_alike C a (Header_end number header n) s answered raised is = is
+answered_alike C a (Exception_end number name) s answered raised is = tt
 
-agrees_otherwise : (C : Table) (a : Answers) (es : List HeaderEnd) (s : Exchanged) (other : Option Answering) →
-    AgreesAtEnds answer_of notified C s a es → AgreesAtEnds answer_of notified C (record s { answered = other }) a es
-agrees_otherwise C a [] s other agrees = tt
-agrees_otherwise C a (e ∷ es) s other agrees = (
-  agrees.0,
-  otherwise_after C a es s other (λ t h. agrees_otherwise C a es t other h) (call_event C e) agrees.1,
+otherwise_after : (C : Table) (a : Answers) (es : List HeaderEnd) (s : Exchanged) (answered : Option Answering) (raised : Option Raising) →
+    ((t : Exchanged) (x : Option Answering) (y : Option Raising) → AgreesAtEnds answer_of notified C t a es →
+    AgreesAtEnds answer_of notified C (record t { answered = x; raised = y }) a es) →
+    (event : Option CallEvent) → AgreesAtEnds answer_of notified C (after_event notified s event) a es →
+    AgreesAtEnds answer_of notified C (after_event notified (record s { answered = answered; raised = raised }) event) a es
+otherwise_after C a es s answered raised alike None rest = alike s answered raised rest
+otherwise_after C a es s answered raised alike (Some (Requested number id name operation expects)) rest =
+    alike (notified s (Requested number id name operation expects)) answered raised rest
+otherwise_after C a es s answered raised alike (Some (Replied number id)) rest =
+    alike (notified s (Replied number id)) (notified s (Replied number id)).answered raised rest
+otherwise_after C a es s answered raised alike (Some (Raised number name)) rest =
+    alike (notified s (Raised number name)) answered (notified s (Raised number name)).raised rest
+
+agrees_otherwise : (C : Table) (a : Answers) (es : List HeaderEnd) (s : Exchanged) (answered : Option Answering) (raised : Option Raising) →
+    AgreesAtEnds answer_of notified C s a es →
+    AgreesAtEnds answer_of notified C (record s { answered = answered; raised = raised }) a es
+agrees_otherwise C a [] s answered raised agrees = tt
+agrees_otherwise C a (e ∷ es) s answered raised agrees = (
+  answered_alike C a e s answered raised agrees.0,
+  otherwise_after C a es s answered raised (λ t x y h. agrees_otherwise C a es t x y h) (call_event C e) agrees.1,
 )
 
 -- those that agree for octets agree for the first of them, and for the others behind them
@@ -118,7 +130,7 @@ pub agrees_then : (R : Rules) (C : Table) (a : Answers) (s : Exchanged) (p q r :
 agrees_then R C a s p q r table agrees =
     let both = subst (λ (es : List HeaderEnd). AgreesAtEnds answer_of notified C s a es) (header_ends_both R p q r) agrees in
     let behind = answers_then answer_of notified C s a (header_ends_from R p q) (header_ends_from R (p ++ q) r) both in
-    agrees_otherwise C a (header_ends_from R (p ++ q) r) (told R s p q) None
+    agrees_otherwise C a (header_ends_from R (p ++ q) r) (told R s p q) None None
     (subst (λ (D : Table). AgreesAtEnds answer_of notified C (after_ends notified D s (header_ends_from R p q)) a (header_ends_from R (p ++ q) r)) (sym table) behind)
 
 pub agrees_behind : (R : Rules) (C : Table) (a : Answers) (q : List ℕ) (s : Exchanged) (p r : List ℕ) → s.table ≡ C →
@@ -159,9 +171,10 @@ module _ (C : Table) (a : Answers) (most : ℕ) where
       let time : time_due p (x ∷ []) s.time ≡ [] =
       ap (λ n. if nat_lt (begun p) n then time_line n s.time else []) quiet.none_begin
       ∙ ap (λ b. if b then time_line (begun p) s.time else []) (same_is_not_less (begun p)) in
-      let answers : answers_due (told R s p (x ∷ [])).answered s.time ≡ [] =
-      ap (λ (t : Exchanged). answers_due t.answered s.time) tells ∙ ap (λ o. answers_due o s.time) none in (
-        ap (λ (t : List ℕ). t ++ answers_due (told R s p (x ∷ [])).answered s.time) time ∙ answers,
+      let reply : answers_due (told R s p (x ∷ [])).answered s.time ++ raises_due (told R s p (x ∷ [])).raised ≡ [] =
+      ap (λ (t : Exchanged). answers_due t.answered s.time ++ raises_due t.raised) tells
+      ∙ (ap (λ (o : Option Answering). answers_due o s.time ++ raises_due s.raised) none.answered ∙ ap raises_due none.raised) in (
+        ap (λ (t : List ℕ). t ++ (answers_due (told R s p (x ∷ [])).answered s.time ++ raises_due (told R s p (x ∷ [])).raised)) time ∙ reply,
         ap taken tells ∙ taken_stays s none,
       )
 
@@ -198,8 +211,9 @@ module _ (C : Table) (a : Answers) (most : ℕ) where
       lines_due R s (p ++ x ∷ []) rest ≡ lines_due R s p (x ∷ rest)
   unfolding lines_due
   due_then s p x rest quiet =
-      ap (λ (t : List ℕ). t ++ answers_due (told R s (p ++ x ∷ []) rest).answered s.time) (time_then s.time p x rest quiet)
-      ∙ ap (λ (t : Exchanged). time_due p (x ∷ rest) s.time ++ answers_due t.answered s.time) (told_then s p x rest quiet)
+      ap (λ (t : List ℕ). t ++ (answers_due (told R s (p ++ x ∷ []) rest).answered s.time ++ raises_due (told R s (p ++ x ∷ []) rest).raised))
+      (time_then s.time p x rest quiet)
+      ∙ ap (λ (t : Exchanged). time_due p (x ∷ rest) s.time ++ (answers_due t.answered s.time ++ raises_due t.raised)) (told_then s p x rest quiet)
 
   -- by its first octet and the others
   stamped_first : (s : Exchanged) (p : List ℕ) (x : ℕ) (rest : List ℕ) →

@@ -25,7 +25,7 @@ use Rattle.giop_conversation.specs.TaggedState.{Tagging, tagging_log, IsReady, W
 use Rattle.giop_conversation.specs.Lines.{time_line}
 use Rattle.giop_conversation.specs.Exchanges.{Exchanged, answer_of, notified}
 use Rattle.giop_conversation.specs.StreamReads.{AgreeWith, IsSetAlike, HasCome, HasStood, WritesTagged, reading_in}
-use Rattle.giop_conversation.specs.Stamped.{begin_lines, begun, time_due, answers_due, told, taken, lines_due, exchanged, stamped}
+use Rattle.giop_conversation.specs.Stamped.{begin_lines, begun, time_due, answers_due, raises_due, told, taken, lines_due, exchanged, stamped}
 use Rattle.giop_conversation.proofs.Tagging.{ready_wrote, ready_front, ready_with}
 use Rattle.giop_conversation.proofs.StampedLemmas.{IsTaken, AreQuiet, exchanged_both, stamped_both, exchanged_table, exchanged_time, exchanged_taken, agrees_behind, piece_text, piece_told}
 use Rattle.giop_conversation.proofs.LineEnds.{none_ends, stream_line_ends, stamped_ends}
@@ -96,20 +96,20 @@ module _ (C : Table) (a : Answers) (most : ℕ) where
 
   due_is : (s s' : Exchanged) (p piece : List ℕ) (before behind : ℕ) (time : Option ℕ) → s.table ≡ C → s.time ≡ time →
       s' ≡ after_ends notified C s (header_ends_from R p piece) → before ≡ begun p → behind ≡ begun (p ++ piece) →
-      (if nat_lt before behind then time_line behind time else []) ++ answers_due s'.answered time ≡ lines_due R s p piece
+      (if nat_lt before behind then time_line behind time else []) ++ (answers_due s'.answered time ++ raises_due s'.raised) ≡ lines_due R s p piece
   unfolding lines_due
   due_is s s' p piece before behind time table now is first second =
       let tells : s' ≡ told R s p piece = is ∙ ap (λ (D : Table). after_ends notified D s (header_ends_from R p piece)) (sym table) in
-      ap (λ n. (if nat_lt n behind then time_line behind time else []) ++ answers_due s'.answered time) first
-      ∙ (ap (λ n. (if nat_lt (begun p) n then time_line n time else []) ++ answers_due s'.answered time) second
-      ∙ (ap (λ (t : Exchanged). time_due p piece time ++ answers_due t.answered time) tells
-      ∙ ap (λ (t : Option ℕ). time_due p piece t ++ answers_due (told R s p piece).answered t) (sym now)))
+      ap (λ n. (if nat_lt n behind then time_line behind time else []) ++ (answers_due s'.answered time ++ raises_due s'.raised)) first
+      ∙ (ap (λ n. (if nat_lt (begun p) n then time_line n time else []) ++ (answers_due s'.answered time ++ raises_due s'.raised)) second
+      ∙ (ap (λ (t : Exchanged). time_due p piece time ++ (answers_due t.answered time ++ raises_due t.raised)) tells
+      ∙ ap (λ (t : Option ℕ). time_due p piece t ++ (answers_due (told R s p piece).answered t ++ raises_due (told R s p piece).raised)) (sym now)))
 
   pub piece_written : {A E : Type 0} (r : Result A E) (s s' : Exchanged) (p piece : List ℕ) (n before behind : ℕ)
       (time : Option ℕ) (old fed new : OutLog) → IsTaken s → s.table ≡ C → s.time ≡ time → AreQuiet R n p → 0 < length piece →
       length piece ≤ n → Wrote old fed (added R p piece) → s' ≡ after_ends notified C s (header_ends_from R p piece) →
       before ≡ begun p → behind ≡ begun (p ++ piece) →
-      Writes r fed new ((if nat_lt before behind then time_line behind time else []) ++ answers_due s'.answered time) →
+      Writes r fed new ((if nat_lt before behind then time_line behind time else []) ++ (answers_due s'.answered time ++ raises_due s'.raised)) →
       Writes r old new (stamped R s p piece)
   piece_written r s s' p piece n before behind time old fed new none table now quiet some within wrote is first second writes =
       let due = due_is s s' p piece before behind time table now is first second in
@@ -173,7 +173,12 @@ pub time_on : (R : Rules) (p octets : List ℕ) (s s' : Exchanged) (time : Optio
 time_on R p octets s s' time now told = ap (λ (x : Exchanged). x.time) told ∙ (exchanged_time R octets s p ∙ now)
 
 pub taken_on : (R : Rules) (p octets : List ℕ) (s s' : Exchanged) → IsTaken s → s' ≡ exchanged R s p octets → IsTaken s'
-taken_on R p octets s s' none told = ap (λ (x : Exchanged). x.answered) told ∙ exchanged_taken R octets s p none
+taken_on R p octets s s' none told =
+    let taken = exchanged_taken R octets s p none in
+    record {
+      answered = ap (λ (x : Exchanged). x.answered) told ∙ taken.answered;
+      raised = ap (λ (x : Exchanged). x.raised) told ∙ taken.raised;
+    }
 
 -- the lines of some octets and then those of others
 lines_on : (e e' : EngineView) (a : Answers) (p front more : List ℕ) (s s' : Exchanged) → IsSetAlike e' e →
@@ -291,9 +296,9 @@ unfolding events events_from messages cut limited limit cut_from first_wrong_oct
 agree_start most a b = tt
 
 pub reading_starts : (e : EngineView) (stream : ℕ) (time : Option ℕ) (s0 s1 s2 : Exchanged) (C : Table) (number : ℕ) →
-    s1 ≡ record s0 { table = C } → s2 ≡ record s1 { stream = number; time = time; replied = 0; answered = None } →
+    s1 ≡ record s0 { table = C } → s2 ≡ record s1 { stream = number; time = time; replied = 0; answered = None; raised = None } →
     e.table ≡ C → number ≡ stream → s2 ≡ reading_in e stream time s0
 reading_starts e stream time s0 s1 s2 C number first second same numbered =
     second
-    ∙ (ap (λ (x : Exchanged). record x { stream = number; time = time; replied = 0; answered = None }) first
-    ∙ λ j. record s0 { table = sym same j; stream = numbered j; time = time; replied = 0; answered = None })
+    ∙ (ap (λ (x : Exchanged). record x { stream = number; time = time; replied = 0; answered = None; raised = None }) first
+    ∙ λ j. record s0 { table = sym same j; stream = numbered j; time = time; replied = 0; answered = None; raised = None })

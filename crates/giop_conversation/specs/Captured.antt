@@ -71,6 +71,7 @@ calls_in S parity time c = record {
   time = time;
   replied = 0;
   answered = None;
+  raised = None;
 }
 
 -- who sends to whom in a flow; it has no calls

@@ -16,6 +16,11 @@ pub record Answering : Type 0 where
   pub message : ℕ
   pub call : Call
 
+-- a Reply that raises an exception: its number in its stream, and the exception's name
+pub record Raising : Type 0 where
+  pub message : ℕ
+  pub name : List ℕ
+
 pub record Exchanged : Type 0 where
   pub table : Table  -- the operations by their names
   pub own : Entries Call  -- the calls of the stream that is read
@@ -24,6 +29,7 @@ pub record Exchanged : Type 0 where
   pub time : Option ℕ  -- that of the packet that is read
   pub replied : ℕ  -- the number of the last Reply whose header has ended; 0 where there is none
   pub answered : Option Answering  -- what that Reply answers
+  pub raised : Option Raising  -- the last exception that a Reply raises
 
 abbrev pub with_entries : Entries Call → List (Entry Call) → Entries Call
 with_entries calls es = record calls { entries = es }
@@ -51,8 +57,12 @@ requested s number id (Some name) =
     with_entries s.own (newest s.own.most
     (without id s.own.entries ++ record { key = id; value = call_named s number name } ∷ []))
 
--- behind the header of a Request, and behind that of a Reply, which takes the call that it answers; a raised exception
--- changes nothing
+-- an exception is kept by a name of at most 128 octets, as one is whose name is shown
+abbrev pub kept_exception : ℕ → List ℕ → Option Raising
+kept_exception number name =
+    if nat_le (length name) 128 then Some (record { message = number; name = name }) else None
+
+-- behind the header of a Request, and behind that of a Reply, which takes the call that it answers
 abbrev pub notified : Exchanged → CallEvent → Exchanged
 notified s (Requested number id name operation expects) =
     record s { own = requested s number id (kept_name name expects) }
@@ -61,4 +71,4 @@ notified s (Replied number id) = record s {
   replied = number;
   answered = option_map (λ call. record { message = number; call = call }) (call_of s.opposite id);
 }
-notified s (Raised number name) = s
+notified s (Raised number name) = record s { raised = kept_exception number name }

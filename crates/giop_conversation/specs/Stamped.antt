@@ -1,6 +1,6 @@
 -- The lines of a stream in a capture, without its tag (docs/FORMATS.md, Captures; meaning): those that the stream has by itself,
 -- and behind the lines of an octet those that are due there: when a message began, where that octet is the 12th of its header,
--- and which call a Reply answers, where the Reply's header ends.
+-- which call a Reply answers, where the Reply's header ends, and which exception it raises, where the exception's name ends.
 use Rattle.std.specs.Prelude.{ℕ, List, [], ◌∷◌, ◌++◌, length, Option, Some, None, nat_lt, if◌then◌else◌}
 use Rattle.giop_message.specs.HeaderEnds.{after_ends}
 use Rattle.giop_stream.specs.Rules.{Rules}
@@ -8,8 +8,8 @@ use Rattle.giop_stream.specs.Framing.{cut, messages}
 use Rattle.giop_stream.specs.HeaderEndsOfStream.{header_ends_from}
 use Rattle.giop_stream.specs.EngineHolds.{added}
 use Rattle.tcp_segment.specs.declared.endpoint.Flow.{Flow}
-use Rattle.giop_conversation.specs.Lines.{stream_line, time_line, answers_line}
-use Rattle.giop_conversation.specs.Exchanges.{Exchanged, Answering, notified}
+use Rattle.giop_conversation.specs.Lines.{stream_line, time_line, answers_line, raises_line}
+use Rattle.giop_conversation.specs.Exchanges.{Exchanged, Answering, Raising, notified}
 
 -- the line with which a stream begins, where who sends to whom is known
 abbrev pub begin_lines : Option Flow → Option ℕ → List ℕ
@@ -30,17 +30,24 @@ abbrev pub answers_due : Option Answering → Option ℕ → List ℕ
 answers_due None time = []
 answers_due (Some a) time = answers_line a.message a.call time
 
--- the calls of the connection, told of the headers that end in these octets after the stream p
+-- which exception a Reply raises, where it raises one
+abbrev pub raises_due : Option Raising → List ℕ
+raises_due None = []
+raises_due (Some r) = raises_line r.message r.name
+
+-- the calls of the connection, told of what ends in these octets after the stream p
 abbrev pub told : Rules → Exchanged → List ℕ → List ℕ → Exchanged
 told R s p octets = after_ends notified s.table s (header_ends_from R p octets)
 
--- the same once its line was written
+-- the same once its lines were written
 abbrev pub taken : Exchanged → Exchanged
-taken s = record s { answered = None }
+taken s = record s { answered = None; raised = None }
 
 -- the lines that are due behind these octets after the stream p, which came in a packet of the time that the exchange has
 unfoldable pub lines_due : Rules → Exchanged → List ℕ → List ℕ → List ℕ
-lines_due R s p octets = time_due p octets s.time ++ answers_due (told R s p octets).answered s.time
+lines_due R s p octets =
+    time_due p octets s.time
+    ++ (answers_due (told R s p octets).answered s.time ++ raises_due (told R s p octets).raised)
 
 -- the calls of the connection behind these octets after the stream p
 unfoldable pub exchanged : Rules → Exchanged → List ℕ → List ℕ → Exchanged

@@ -24,7 +24,7 @@ pub record IsSetAlike (e before : EngineView) : Type 0 where
 -- the calls of the connection, as a stream of this number is read in a packet of this time
 abbrev pub reading_in : EngineView → ℕ → Option ℕ → Exchanged → Exchanged
 reading_in e stream time s =
-    record s { table = e.table; stream = stream; time = time; replied = 0; answered = None }
+    record s { table = e.table; stream = stream; time = time; replied = 0; answered = None; raised = None }
 
 -- The engine holds the stream p, these lines were written through the out with tags, and the calls are these.
 pub record HasCome (e : EngineView) (a : Answers) (p : List ℕ) (before after : Tagging)

@@ -16,13 +16,13 @@ ghost use Rattle.giop_conversation.specs.Tags.{with_tags, stream_tag as spec_str
 ghost use Rattle.giop_conversation.specs.Lines.{closed_line as spec_closed_line, time_line as spec_time_line};
 ghost use Rattle.giop_conversation.specs.TaggedState.{tagging_log, IsReady, WroteTaggedFront};
 ghost use Rattle.giop_conversation.specs.Exchanges.{answer_of, notified};
-ghost use Rattle.giop_conversation.specs.Stamped.{stamped, exchanged, taken, answers_due, begin_lines};
+ghost use Rattle.giop_conversation.specs.Stamped.{stamped, exchanged, taken, answers_due, raises_due, begin_lines};
 ghost use Rattle.giop_conversation.specs.StreamReads.{AgreeWith, IsSetAlike, HasCome, HasStood, WritesTagged, reading_in};
 ghost use Rattle.giop_conversation.specs.Failing.{FailsByPut};
 ghost use Rattle.giop_conversation.specs.Directions.{HasRead};
 
-use crate::exchange::{Answering, Exchange, answers_are_known};
-use crate::lines::{answers_line, closed_line, stream_line, time_line};
+use crate::exchange::{Answering, Exchange, Raising, answers_are_known};
+use crate::lines::{answers_line, closed_line, raises_line, stream_line, time_line};
 use crate::tag::stream_tag;
 use crate::tagged::Tagged;
 use giop_print::{Out, OutFault};
@@ -174,7 +174,7 @@ impl<'a> Direction<'a> {
         ensures text { (a : Answers) (p : List ℕ) → HoldsBy self.old.engine a p →
             AgreeWith self.old.engine a exchange.old p octets.now →
             exchange.old.table ≡ self.old.engine.table → exchange.old.time ≡ time →
-            exchange.old.answered ≡ None →
+            exchange.old.answered ≡ None → exchange.old.raised ≡ None →
             MatchResult result
             (λ n. HasCome self.new.engine a (p ++ take n octets.now) out.old out.new
             (stamped (rules_with self.old.engine a) exchange.old p (take n octets.now)) exchange.new
@@ -297,8 +297,36 @@ fn write_answered<O: Out>(
     }
 }
 
-/// Writes the lines that are due behind octets that were read: when a message began, where one did, and which call a Reply
-/// answers. The messages that had begun before and behind them are counted.
+/// Writes which exception a Reply raises, where it raises one.
+fn write_raised<O: Out>(raised: Option<Raising>, out: &mut O) -> Result<(), OutFault>
+    ensures { Writes result (O.log out.old) (O.log out.new)
+        (raises_due (option_map (λ r. record { message = r.message; name = r.name.items }) raised)) }
+{
+    match raised {
+        Some(raised) => raises_line(out, raised.message, raised.name.as_slice()),
+        None => Ok(()),
+    }
+}
+
+/// Writes which call a Reply answers, and then which exception it raises, where it does.
+fn write_reply<O: Out>(
+    answered: Option<Answering>,
+    raised: Option<Raising>,
+    time: Option<u128>,
+    out: &mut O,
+) -> Result<(), OutFault>
+    ensures { Writes result (O.log out.old) (O.log out.new)
+        (answers_due (option_map (λ a. record { message = a.message; call = a.call }) answered) time
+        ++ raises_due (option_map (λ r. record { message = r.message; name = r.name.items }) raised)) }
+{
+    match write_answered(answered, time, out) {
+        Ok(()) => write_raised(raised, out),
+        Err(fault) => Err(fault),
+    }
+}
+
+/// Writes the lines that are due behind octets that were read: when a message began, where one did, which call a Reply
+/// answers, and which exception it raises. The messages that had begun before and behind them are counted.
 fn write_due<O: Out>(
     exchange: &mut Exchange,
     before: u64,
@@ -310,11 +338,12 @@ fn write_due<O: Out>(
     ensures fails { FailsByPut result out.old out.new }
     ensures text { Writes result (tagging_log out.old) (tagging_log out.new)
         ((if nat_lt before behind then spec_time_line behind time else [])
-        ++ answers_due exchange.old.answered time) }
+        ++ (answers_due exchange.old.answered time ++ raises_due exchange.old.raised)) }
 {
     let answered = exchange.take_answered();
+    let raised = exchange.take_raised();
     match write_time(before, behind, time, out) {
-        Ok(()) => write_answered(answered, time, out),
+        Ok(()) => write_reply(answered, raised, time, out),
         Err(fault) => Err(fault),
     }
 }

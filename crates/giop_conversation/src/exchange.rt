@@ -4,7 +4,7 @@ ghost use Rattle.std.specs.Prelude.{◌≡◌, [], None, IfOk, MatchOption};
 ghost use Rattle.std.specs.Option.{option_map};
 ghost use Rattle.giop_sig.specs.Table.{Table};
 ghost use Rattle.giop_message.specs.MessageState.{AreKnown};
-ghost use Rattle.giop_conversation.specs.Exchanges.{Exchanged, kept_name, answer_of};
+ghost use Rattle.giop_conversation.specs.Exchanges.{Exchanged, kept_name, answer_of, kept_exception};
 
 use arrayvec::ArrayVec;
 use giop_calls::{Call, Calls, NAME_ROOM};
@@ -23,6 +23,15 @@ pub struct Answering {
     pub call: Call,
 }
 
+/// A Reply that raises an exception.
+#[derive(Drop)]
+pub struct Raising {
+    /// The number of the Reply in its stream, from 1.
+    pub message: u64,
+    /// The exception's name, its repository id.
+    pub name: ArrayVec<u8, NAME_ROOM>,
+}
+
 /// The calls of both directions of a connection that have no reply yet. It is the correspondent of a stream of the
 /// connection: Requests in it add calls, and Replies answer those of the opposite direction.
 #[derive(Drop)]
@@ -34,6 +43,7 @@ pub struct Exchange<'a> {
     time: Option<u128>,
     replied: u64,
     answered: Option<Answering>,
+    raised: Option<Raising>,
 }
 
 impl<'a> Model for Exchange<'a> {
@@ -51,6 +61,7 @@ impl<'a> Model for Exchange<'a> {
       time = e.time;
       replied = e.replied;
       answered = option_map (λ a. record { message = a.message; call = a.call }) e.answered;
+      raised = option_map (λ r. record { message = r.message; name = r.name.items }) e.raised;
     } };
 }
 
@@ -69,6 +80,7 @@ impl<'a> Exchange<'a> {
           time = None;
           replied = 0;
           answered = None;
+          raised = None;
         }) }
     {
         Ok(Exchange {
@@ -79,6 +91,7 @@ impl<'a> Exchange<'a> {
             time: None,
             replied: 0,
             answered: None,
+            raised: None,
         })
     }
 
@@ -103,12 +116,14 @@ impl<'a> Exchange<'a> {
           time = time;
           replied = 0;
           answered = None;
+          raised = None;
         } }
     {
         self.stream = stream;
         self.time = time;
         self.replied = 0;
         self.answered = None;
+        self.raised = None;
     }
 
     /// The number of the last Reply whose header has ended, of the octets that were read since `read_in`; 0 where there is none.
@@ -124,6 +139,14 @@ impl<'a> Exchange<'a> {
         ensures taken { self.new ≡ record self.old { answered = None } }
     {
         self.answered.take()
+    }
+
+    /// The last exception that a Reply raises; it is handed out once.
+    pub fn take_raised(&mut self) -> Option<Raising>
+        ensures value { option_map (λ r. record { message = r.message; name = r.name.items }) result ≡ self.old.raised }
+        ensures taken { self.new ≡ record self.old { raised = None } }
+    {
+        self.raised.take()
     }
 
     /// Forgets the calls of the stream that is read. Their memory is kept.
@@ -150,6 +173,21 @@ fn kept_name(name: Option<&[u8]>, expects_reply: bool) -> Option<ArrayVec<u8, NA
         return None;
     }
     Some(kept)
+}
+
+/// What is kept of an exception: a name of at most 128 octets.
+fn kept_exception(number: u64, name: &[u8]) -> Option<Raising>
+    ensures { option_map (λ r. record { message = r.message; name = r.name.items }) result
+        ≡ kept_exception number name.now }
+{
+    let mut kept = ArrayVec::new();
+    if kept.try_extend_from_slice(name).is_err() {
+        return None;
+    }
+    Some(Raising {
+        message: number,
+        name: kept,
+    })
 }
 
 impl<'a> Correspondent for Exchange<'a> {
@@ -201,7 +239,9 @@ impl<'a> Correspondent for Exchange<'a> {
         });
     }
 
-    fn raised(&mut self, _number: u64, _name: &[u8]) {}
+    fn raised(&mut self, number: u64, name: &[u8]) {
+        self.raised = kept_exception(number, name);
+    }
 
     ghost known = { known_still };
 }

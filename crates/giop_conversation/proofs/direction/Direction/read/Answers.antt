@@ -13,6 +13,7 @@ use Rattle.giop_message.specs.MessageState.{AreKnown}
 use Rattle.giop_conversation.specs.Stamped.{stamped, exchanged}
 use Rattle.giop_conversation.specs.StreamReads.{AgreeWith, HasStood, reading_in}
 use Rattle.giop_conversation.proofs.LineEnds.{stamped_ends}
+use Rattle.giop_conversation.proofs.StampedLemmas.{IsTaken}
 use Rattle.giop_conversation.proofs.StreamReadLemmas.{read_none, come_on, front_on, agree_on, agree_none, table_on, time_on, taken_on, below_tag, stands_at_end, reading_starts}
 use Rattle.giop_conversation.proofs.direction.Direction.read.Goals as goal
 
@@ -28,20 +29,21 @@ loop-at-preserved g c =
       read = λ p read.
           let more = does.read (p ++ take at octets) (c.loop-at.invariant.read p read) in
           rw (take-add at n octets, ← append_assoc p (take at octets) (take n (drop at octets))) more;
-      text = λ a p holds agrees table time none.
+      text = λ a p holds agrees table time unanswered unraised.
+          let none : IsTaken c.read_in.new.self = record { answered = unanswered; raised = unraised } in
           let e = c.args.self.now.engine in
           let e' = c.loop-at.self.engine in
           let s = c.read_in.new.self in
           let s' = c.loop-at.exchange in
           let same = c.loop-at.invariant.same in
-          let so_far = c.loop-at.invariant.text a p holds agrees table time none in
+          let so_far = c.loop-at.invariant.text a p holds agrees table time unanswered unraised in
           let front = take at octets in
           come_on e e' c.read_piece.new.self.engine a p octets at n s s' c.read_piece.new.exchange c.set_tag.new.self c.loop-at.out c.read_piece.new.out same so_far
           (does.text a (p ++ front) so_far.holds
           (agree_on e e' a p octets at s s' same table so_far.told agrees)
           (table_on e e' a p octets at s s' same table so_far.told)
           (time_on (rules_with e a) p front s s' c.args.time time so_far.told)
-          (taken_on (rules_with e a) p front s s' none so_far.told));
+          (taken_on (rules_with e a) p front s s' none so_far.told).answered (taken_on (rules_with e a) p front s s' none so_far.told).raised);
       same = record {
         table = does.same.table ∙ c.loop-at.invariant.same.table;
         most = does.same.most ∙ c.loop-at.invariant.same.most;
@@ -78,7 +80,7 @@ loop-at-init g c =
       within = omega arith;
       known = subst (λ (C : Table). AreKnown C (answer_of s)) (ap (λ (x : Exchanged). x.table) starts) (c.answers_are_known.ensures s);
       read = λ p read. rw (append-nil p) read;
-      text = λ a p holds agrees table time none. read_none e a p c.args.octets.now s c.set_tag.new.self holds;
+      text = λ a p holds agrees table time unanswered unraised. read_none e a p c.args.octets.now s c.set_tag.new.self holds;
       same = record { table = refl; most = refl };
       sound = refl;
       stream = refl;
@@ -102,15 +104,15 @@ returns-in_err-at-clause-text g c = λ a p w holds ready agrees.
     let agree : AgreeWith e a s p octets = subst (λ (x : Exchanged). AgreeWith e a x p octets) (sym starts) agrees in
     let table = ap (λ (x : Exchanged). x.table) starts in
     let time = ap (λ (x : Exchanged). x.time) starts in
-    let none = ap (λ (x : Exchanged). x.answered) starts in
-    let so_far = c.loop-at.invariant.text a p holds agree table time none in
+    let none : IsTaken s = record { answered = ap (λ (x : Exchanged). x.answered) starts; raised = ap (λ (x : Exchanged). x.raised) starts } in
+    let so_far = c.loop-at.invariant.text a p holds agree table time none.answered none.raised in
     let more = rw (rest_from at octets) at c.in_err-at.ensures in
     let front : WroteFront (tagging_log c.set_tag.new.self) (tagging_log c.read_piece.new.out) (stamped R s p octets) =
     front_on e e' a p octets at s s' c.set_tag.new.self c.loop-at.out c.read_piece.new.out same so_far
     (more.text a (p ++ take at octets) so_far.holds (agree_on e e' a p octets at s s' same table so_far.told agree)
     (table_on e e' a p octets at s s' same table so_far.told)
     (time_on R p (take at octets) s s' c.args.time time so_far.told)
-    (taken_on R p (take at octets) s s' none so_far.told)) in
+    (taken_on R p (take at octets) s s' none so_far.told).answered (taken_on R p (take at octets) s s' none so_far.told).raised) in
     let failed : Result ℕ ℕ = Err 0 in
     let below : WroteTaggedFront c.read_piece.new.out w due (stamped R s p octets) =
     below_tag failed c.args.out.now c.set_tag.new.self c.read_piece.new.out w (stamped R s p octets) c.stream_tag.result.items due ready
@@ -134,7 +136,7 @@ returns-clause-text g c = λ a p w holds ready agrees.
     c.set_catalogue.ensures c.read_in.ensures (rw (← c.self.view_is) c.self.invariant.same) (rw (← c.self.view_is) refl) in
     let agree : AgreeWith e a s p octets = subst (λ (x : Exchanged). AgreeWith e a x p octets) (sym starts) agrees in
     let so_far = c.loop-at.invariant.text a p holds agree (ap (λ (x : Exchanged). x.table) starts) (ap (λ (x : Exchanged). x.time) starts)
-    (ap (λ (x : Exchanged). x.answered) starts) in
+    (ap (λ (x : Exchanged). x.answered) starts) (ap (λ (x : Exchanged). x.raised) starts) in
     let past : length octets ≤ at = omega arith in
     let more = c.feed.ensures.text a (p ++ take at octets) so_far.holds (agree_none e' a (p ++ take at octets) s') in
     let e'' = c.feed.new.self.engine in

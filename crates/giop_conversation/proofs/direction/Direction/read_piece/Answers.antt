@@ -4,12 +4,13 @@ use Rattle.std.proofs.lemmas.Result.{MatchResult-from_err}
 use Rattle.giop_stream.specs.EngineHolds.{HoldsBy, rules_with}
 use Rattle.giop_conversation.specs.TaggedState.{tagging_log}
 use Rattle.giop_conversation.specs.StreamReads.{AgreeWith}
-use Rattle.giop_conversation.proofs.StampedLemmas.{AreQuiet, agrees_first}
+use Rattle.giop_conversation.proofs.StampedLemmas.{IsTaken, AreQuiet, agrees_first}
 use Rattle.giop_conversation.proofs.StreamReadLemmas.{front_lines, piece_written, piece_calls, piece_front, piece_size}
 use Rattle.giop_conversation.proofs.direction.Direction.read_piece.Goals as goal
 
 pub returns-in_err-feed-clause-text : goal.returns-in_err-feed-clause-text
-returns-in_err-feed-clause-text g c = λ a p holds agrees table now none.
+returns-in_err-feed-clause-text g c = λ a p holds agrees table now unanswered unraised.
+    let none : IsTaken c.args.exchange.now = record { answered = unanswered; raised = unraised } in
     let e = c.args.self.now.engine in
     let R = rules_with e a in
     let s = c.args.exchange.now in
@@ -27,7 +28,8 @@ returns-in_err-feed-clause-text g c = λ a p holds agrees table now none.
     (c.in_err-feed.ensures.text a p holds first)))
 
 pub returns-in_err-write_due-clause-text : goal.returns-in_err-write_due-clause-text
-returns-in_err-write_due-clause-text g c = λ a p holds agrees table now none.
+returns-in_err-write_due-clause-text g c = λ a p holds agrees table now unanswered unraised.
+    let none : IsTaken c.args.exchange.now = record { answered = unanswered; raised = unraised } in
     let e = c.args.self.now.engine in
     let R = rules_with e a in
     let s = c.args.exchange.now in
@@ -51,7 +53,8 @@ returns-in_err-write_due-clause-text g c = λ a p holds agrees table now none.
     c.in_err-write_due.ensures.text))
 
 pub returns-clause-text : goal.returns-clause-text
-returns-clause-text g c = λ a p holds agrees table now none.
+returns-clause-text g c = λ a p holds agrees table now unanswered unraised.
+    let none : IsTaken c.args.exchange.now = record { answered = unanswered; raised = unraised } in
     let e = c.args.self.now.engine in
     let R = rules_with e a in
     let s = c.args.exchange.now in
