@@ -75,19 +75,6 @@ held_push S (r' ∷ rs) (suc n) r c held new = (held.0, held_push S rs n r c hel
 
 -- ---- the two flows of a connection
 
-pub same_side : (parity : Parity) (c : Connection) (s : Side) → side parity (with_side parity c s) ≡ s
-same_side Even c s = refl
-same_side Odd c s = refl
-
-pub other_side : (parity : Parity) (c : Connection) (s : Side) → side (other parity) (with_side parity c s) ≡ side (other parity) c
-other_side Even c s = refl
-other_side Odd c s = refl
-
-pub holds_side : (S : Setup) (parity : Parity) (r : Conversation) (c : Connection) → HoldsConnection S r c →
-    HoldsSide S (direction parity r) (side parity c)
-holds_side S Even r c h = h.even
-holds_side S Odd r c h = h.odd
-
 -- by its two flows and its calls
 pub holds_by : (S : Setup) (parity : Parity) (r : Conversation) (c : Connection) → r.parity ≡ parity →
     HoldsSide S (direction parity r) (side parity c) →
@@ -97,12 +84,6 @@ holds_by S Even r c here own opposite calls =
     record { even = own; odd = opposite; calls = subst (λ (p : Parity). HasCalls p r.exchange c) (sym here) calls }
 holds_by S Odd r c here own opposite calls =
     record { even = opposite; odd = own; calls = subst (λ (p : Parity). HasCalls p r.exchange c) (sym here) calls }
-
--- where the other flow is read, the calls change places
-pub calls_turned : (parity : Parity) (s t : Exchanged) (c : Connection) → HasCalls (other parity) s c →
-    t.own ≡ s.opposite → t.opposite ≡ s.own → HasCalls parity t c
-calls_turned Even s t c h own opposite = record { own = own ∙ h.opposite; opposite = opposite ∙ h.own }
-calls_turned Odd s t c h own opposite = record { own = own ∙ h.opposite; opposite = opposite ∙ h.own }
 
 -- the calls as a stream of a flow is read
 pub reading_is : (S : Setup) (parity : Parity) (time : Option ℕ) (c : Connection) (d : DirectionView) (s : Exchanged) →
