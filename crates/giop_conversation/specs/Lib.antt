@@ -5,3 +5,8 @@ pub mod TaggedText
 pub mod TaggedState
 pub mod Exchanges
 pub mod ExchangeLaws
+pub mod Failing
+pub mod Directions
+pub mod Followed
+pub mod Follows
+pub mod Stamped

@@ -1,5 +1,5 @@
 -- The lines of a capture beside those of its streams (docs/FORMATS.md; meaning). Those of a stream have its tag in front (Tags).
-use Rattle.std.specs.Prelude.{ℕ, List, [], ◌∷◌, Option, codes, decimal}
+use Rattle.std.specs.Prelude.{ℕ, List, [], ◌∷◌, Option, Some, None, codes, decimal}
 use Rattle.giop_print.specs.Text.{joined}
 use Rattle.giop_calls.specs.declared.calls.Call.{Call}
 use Rattle.tcp_flow.specs.declared.flow.CloseCause.{CloseCause}
@@ -14,6 +14,11 @@ stream_line flow time =
     joined (codes "stream " ∷ endpoint_text flow.from ∷ codes " > " ∷ endpoint_text flow.to
     ∷ codes " at " ∷ time_text time
     ∷ codes "\n" ∷ [])
+
+-- the same, where it is known who sends to whom
+abbrev pub begin_lines : Option Flow → Option ℕ → List ℕ
+begin_lines None time = []
+begin_lines (Some flow) time = stream_line flow time
 
 -- when the header of a message was complete
 unfoldable pub time_line : ℕ → Option ℕ → List ℕ

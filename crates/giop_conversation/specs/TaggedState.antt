@@ -53,6 +53,10 @@ tagging_log t = record {
   failures = t.failures;
 }
 
+-- the same with another tag, where a line begins
+abbrev pub tagged_by : Tagging → List ℕ → Tagging
+tagged_by t tag = record t { tag = tag; due = length tag; since = 0 }
+
 -- No put has failed, this was written to the out below, and the next octet begins a line.
 pub record IsReady (t : Tagging) (w : List ℕ) : Type 0 where
   pub known : t.whole ≡ Some w

@@ -82,6 +82,13 @@ impl<'a> Exchange<'a> {
         })
     }
 
+    /// From now on the operations of these types are answered.
+    pub fn set_catalogue(&mut self, catalogue: &'a Catalogue)
+        ensures { self.new ≡ record self.old { table = catalogue.now } }
+    {
+        self.catalogue = catalogue;
+    }
+
     /// From now on a stream of the other direction is read.
     pub fn turn(&mut self)
         ensures { self.new ≡ record self.old { own = self.old.opposite; opposite = self.old.own } }

@@ -2,15 +2,21 @@
 #![tactic(auto)]
 
 mod buffer;
+mod conversation;
+mod conversations;
+mod direction;
 mod exchange;
 mod laws;
+mod limits;
 mod lines;
 mod tag;
 mod tagged;
 mod times;
 
+pub use conversations::Conversations;
 pub use exchange::{Answering, Exchange, answers_are_known};
 pub use laws::{lines_stand_below, lines_with_tags};
+pub use limits::{Limits, NoMemory};
 pub use lines::{
     CaptureTotals, answers_line, capture_fault_line, capture_total_line, closed_line, raises_line,
     stream_line, time_line,

@@ -1,6 +1,6 @@
 //! An `Out` that puts a tag in front of each line.
 
-ghost use Rattle.std.specs.Prelude.{◌≡◌, ◌<◌, ◌≤◌, List, ℕ, [], length, OnOk, MatchResult};
+ghost use Rattle.std.specs.Prelude.{◌≡◌, ◌<◌, ◌≤◌, ◌↔◌, List, ℕ, [], length, IsTrue, OnOk, MatchResult};
 ghost use Rattle.giop_print.specs.Output.{counted};
 ghost use Rattle.giop_conversation.specs.TaggedText.{line_size, due_behind, StandsIn, PutSome, PutNothing, PutLine, PutFront};
 
@@ -43,6 +43,9 @@ impl<O: Out> Model for Tagged<O> {
 }
 
 impl<O: Out> Tagged<O> {
+    ghost use Rattle.giop_conversation.specs.contracts.tagged.Tagged.{the_row};
+    ghost use Rattle.std.specs.Borrow.{Lends, sem};
+
     /// An `Out` over another, with no tag.
     pub fn new(out: O) -> Tagged<O>
         ensures { result ≡ record {
@@ -71,6 +74,30 @@ impl<O: Out> Tagged<O> {
         self.due = tag.len();
         self.tag = tag;
         self.since = 0;
+    }
+
+    /// Whether a put has failed.
+    pub fn has_failed(&self) -> bool
+        ensures { IsTrue result ↔ 0 < self.now.failures }
+    {
+        self.failures > 0
+    }
+
+    /// Fails without a put: there is no room for what would be written.
+    pub fn refuse(&mut self) -> OutFault
+        ensures { self.new ≡ record self.old { failures = counted self.old.failures } }
+    {
+        self.failures = one_more(self.failures);
+        OutFault
+    }
+
+    /// The out below. What is written to it past this one is not tagged.
+    pub fn out_mut(&mut self) -> &mut O
+        ensures value { (O.log result.now).written ≡ self.old.whole }
+        ensures* writes_back { sem 𝓛 (Lends (the_row O.row O.Out) O.row self.entry result
+            (λ w. record self.old { whole = (O.log w).written })) }
+    {
+        &mut self.out
     }
 
     /// The out below.

@@ -2,6 +2,8 @@
 #![tactic(auto)]
 
 #[cfg(test)]
+mod conversation_tests;
+#[cfg(test)]
 mod exchange_tests;
 #[cfg(test)]
 mod line_tests;

@@ -1,0 +1,65 @@
+-- What an engine and an out with tags do where a put fails.
+use Rattle.std.proofs.Common.{◌≡◌, ℕ, zero, suc, ◌<◌, true, false, List, Result, Ok, Err, refl, sym, ◌∙◌, arith}
+use Rattle.std.proofs.lemmas.Bool.{false≢true}
+use Rattle.giop_print.specs.Output.{OutLog, counted, WroteFront}
+use Rattle.giop_stream.specs.declared.fault.Stop.{Stop}
+use Rattle.giop_stream.specs.declared.fault.Stop.TheVariants as stop
+use Rattle.giop_print.specs.Output.{Writes}
+use Rattle.giop_conversation.specs.TaggedState.{Tagging, tagging_log}
+use Rattle.giop_conversation.specs.Failing.{FailsByPut, FailsOnce}
+use Rattle.giop_stream.specs.EngineView.{EngineView}
+use Rattle.giop_stream.specs.EngineHolds.{StopWrites, Leaves}
+
+-- an engine that had not failed stops where a put fails
+pub stop_counts : (A : Type 0) (why : Stop) (before after : OutLog) (due : List ℕ)
+    (e e' : EngineView) → e.failed ≡ false → Leaves {A = A} (Err why) e e' →
+    StopWrites {A = A} (Err why) before after due → after.failures ≡ counted before.failures
+stop_counts A (stop.Out f) before after due e e' sound leaves writes = writes.failures
+stop_counts A stop.Failed before after due e e' sound leaves writes =
+    absurd (false≢true (sym sound ∙ leaves.0))
+
+-- a put that fails is counted
+pub counted_more : (n : ℕ) → 0 < counted n
+unfolding counted
+counted_more n = omega arith
+
+-- and so does one that has not failed where its closing is written
+pub closing_counts : (A : Type 0) (why : Stop) (before after : OutLog) (due : List ℕ)
+    (e : EngineView) → e.failed ≡ false →
+    ((let failed : Result A Stop = Err stop.Failed in Err why ≡ failed) → e.failed ≡ true) →
+    StopWrites {A = A} (Err why) before after due → after.failures ≡ counted before.failures
+closing_counts A (stop.Out f) before after due e sound only writes = writes.failures
+closing_counts A stop.Failed before after due e sound only writes =
+    absurd (false≢true (sym sound ∙ only refl))
+
+-- what writes lines fails by a put
+pub by_writes : {A E : Type 0} (r : Result A E) (before after : Tagging) (due : List ℕ) →
+    Writes r (tagging_log before) (tagging_log after) due → FailsByPut r before after
+by_writes (Ok x) before after due writes = writes.failures
+by_writes (Err e) before after due writes = writes.failures
+
+-- where no put had failed
+pub once : {A E : Type 0} (r : Result A E) (before after : Tagging) → before.failures ≡ 0 →
+    FailsByPut r before after → FailsOnce r after
+once (Ok x) before after none fails = fails ∙ none
+once (Err e) before after none fails = rw fails (counted_more before.failures)
+
+pub none_failed : (n : ℕ) → (0 < n → false ≡ true) → n ≡ 0
+none_failed zero h = refl
+none_failed (suc n) h = absurd (false≢true (h (omega arith)))
+
+-- what such an engine writes is a front of what was due
+pub stop_front : (A : Type 0) (why : Stop) (before after : OutLog) (due : List ℕ)
+    (e e' : EngineView) → e.failed ≡ false → Leaves {A = A} (Err why) e e' →
+    StopWrites {A = A} (Err why) before after due → WroteFront before after due
+stop_front A (stop.Out f) before after due e e' sound leaves writes = writes
+stop_front A stop.Failed before after due e e' sound leaves writes =
+    absurd (false≢true (sym sound ∙ leaves.0))
+
+pub closing_front : (A : Type 0) (why : Stop) (before after : OutLog) (due : List ℕ)
+    (e : EngineView) → e.failed ≡ false →
+    ((let failed : Result A Stop = Err stop.Failed in Err why ≡ failed) → e.failed ≡ true) →
+    StopWrites {A = A} (Err why) before after due → WroteFront before after due
+closing_front A (stop.Out f) before after due e sound only writes = writes
+closing_front A stop.Failed before after due e sound only writes =
+    absurd (false≢true (sym sound ∙ only refl))

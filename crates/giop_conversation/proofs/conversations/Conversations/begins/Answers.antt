@@ -1,0 +1,29 @@
+use Rattle.std.proofs.Common.{◌/◌, ◌++◌, ◌∷◌, [], vec_len, refl}
+use Rattle.std.proofs.Math.ListN.{set}
+use Rattle.tcp_flow.specs.Flow.{Begins}
+use Rattle.giop_conversation.specs.Followed.{HaveFollowed}
+use Rattle.giop_conversation.proofs.FailingLemmas.{once, none_failed}
+use Rattle.giop_conversation.proofs.FollowedLemmas.{element, no_element, stream_begun, of_begins, followed_beyond, on_ok}
+use Rattle.giop_conversation.proofs.conversations.Conversations.begins.Goals as goal
+
+pub returns-in-Some-clause-follows : goal.returns-in-Some-clause-follows
+returns-in-Some-clause-follows g c = λ events number follows.
+    let rooms = c.args.self.now.rooms in
+    let old = c.in-Some.room.now in
+    let new = c.begin.new.self in
+    let here = element rooms.items (vec_len rooms) (c.args.flow / 2) old rooms.ok.0 (c.in-Some.ensures.variant.0 refl) c.in-Some.ensures.value in
+    on_ok c.begin.result (HaveFollowed (set rooms.items (c.args.flow / 2) new) (events ++ Begins c.args.flow number ∷ []))
+    (stream_begun rooms.items events c.args.flow number old new follows here
+    (rw c.parity_of.ensures at c.begin.ensures.read) (rw c.parity_of.ensures at c.begin.ensures.other))
+
+pub returns-in-Some-clause-fails : goal.returns-in-Some-clause-fails
+returns-in-Some-clause-fails g c =
+    once c.begin.result c.args.self.now.out c.begin.new.out
+    (none_failed c.args.self.now.out.failures c.if-has_failed.ensures.1) c.begin.ensures.fails
+
+pub returns-in-None-clause-follows : goal.returns-in-None-clause-follows
+returns-in-None-clause-follows g c = λ events number follows.
+    let rooms = c.args.self.now.rooms in
+    followed_beyond rooms.items events (Begins c.args.flow number) c.args.flow follows
+    (no_element rooms.items (vec_len rooms) (c.args.flow / 2) rooms.ok.0 c.in-None.ensures.variant.1)
+    (of_begins c.args.flow number)

@@ -1,0 +1,16 @@
+use Rattle.std.proofs.Common.{◌/◌, vec_len, refl}
+use Rattle.tcp_flow.specs.Flow.{Opens}
+use Rattle.giop_conversation.proofs.FollowedLemmas.{element, opened, none_of_opens, followed_still}
+use Rattle.giop_conversation.proofs.conversations.Conversations.opens.Goals as goal
+
+pub returns-in-Some-clause-follows : goal.returns-in-Some-clause-follows
+returns-in-Some-clause-follows g c = λ events follows.
+    let rooms = c.args.self.now.rooms in
+    let old = c.in-Some.room.now in
+    let here = element rooms.items (vec_len rooms) (c.args.flow / 2) old rooms.ok.0 (c.in-Some.ensures.variant.0 refl) c.in-Some.ensures.value in
+    opened rooms.items events c.args.flow c.args.endpoints old c.open.new.self follows here c.open.ensures.even c.open.ensures.odd
+
+pub returns-in_default-clause-follows : goal.returns-in_default-clause-follows
+returns-in_default-clause-follows g c = λ events follows.
+    followed_still c.args.self.now.rooms.items events (Opens c.args.flow c.args.endpoints) follows
+    (none_of_opens c.args.flow c.args.endpoints)

@@ -1,0 +1,89 @@
+use Rattle.std.proofs.Common.{◌++◌, ◌∙◌}
+use Rattle.giop_stream.specs.declared.status.Status.{Status}
+use Rattle.giop_stream.specs.EngineHolds.{HoldsBy, added, rules_with}
+use Rattle.giop_conversation.specs.TaggedState.{tagging_log}
+use Rattle.giop_conversation.specs.Directions.{HasRead}
+use Rattle.giop_conversation.specs.Stamped.{Agrees}
+use Rattle.giop_conversation.proofs.FailingLemmas.{stop_counts, stop_front}
+use Rattle.giop_conversation.proofs.direction.Direction.feed.Goals as goal
+
+pub invariant_of-self : goal.invariant_of-self
+invariant_of-self g c =
+    let e = c.self.inside.engine in
+    let p = c.self.invariant.stream in
+    let h = c.self.invariant.read in
+    let on = c.answers_go_on.ensures e.table h.answers e.most p c.args.piece.now c.args.exchange.now in
+    record {
+      same = c.in-Ok.ensures.same.0 ∙ c.self.invariant.same;
+      stream = p ++ c.args.piece.now;
+      read = record {
+        answers = on.0;
+        holds = c.in-Ok.ensures.held on.0 p (c.answers_agree.ensures.held e h.answers on.0 p on.1 h.holds) on.2;
+      };
+    }
+
+pub returns-in-Ok-clause-read : goal.returns-in-Ok-clause-read
+returns-in-Ok-clause-read g c = λ p read.
+    let e = c.self.inside.engine in
+    let h : HasRead e p = rw (← c.self.view_is) at read in
+    let on = c.answers_go_on.ensures e.table h.answers e.most p c.args.piece.now c.args.exchange.now in
+    record {
+      answers = on.0;
+      holds = c.in-Ok.ensures.held on.0 p (c.answers_agree.ensures.held e h.answers on.0 p on.1 h.holds) on.2;
+    }
+
+pub returns-in-Ok-clause-status : goal.returns-in-Ok-clause-status
+returns-in-Ok-clause-status g c = λ p read.
+    let e = c.self.inside.engine in
+    let h : HasRead e p = rw (← c.self.view_is) at read in
+    let on = c.answers_go_on.ensures e.table h.answers e.most p c.args.piece.now c.args.exchange.now in
+    c.in-Ok.ensures.status on.0 p (c.answers_agree.ensures.held e h.answers on.0 p on.1 h.holds) on.2
+
+pub returns-in-Ok-clause-fails : goal.returns-in-Ok-clause-fails
+returns-in-Ok-clause-fails g c =
+    let e = c.self.inside.engine in
+    let p = c.self.invariant.stream in
+    let h = c.self.invariant.read in
+    let on = c.answers_go_on.ensures e.table h.answers e.most p c.args.piece.now c.args.exchange.now in
+    (c.in-Ok.ensures.text on.0 p (c.answers_agree.ensures.held e h.answers on.0 p on.1 h.holds) on.2).failures
+
+pub returns-in-Err-clause-fails : goal.returns-in-Err-clause-fails
+returns-in-Err-clause-fails g c =
+    let e = c.self.inside.engine in
+    let p = c.self.invariant.stream in
+    let h = c.self.invariant.read in
+    let on = c.answers_go_on.ensures e.table h.answers e.most p c.args.piece.now c.args.exchange.now in
+    stop_counts Status c.in-Err.field-0 (tagging_log c.args.out.now) (tagging_log c.feed_by.new.out)
+    (added (rules_with e on.0) p c.args.piece.now) e c.feed_by.new.self h.holds.sound c.in-Err.ensures.leaves
+    (c.in-Err.ensures.text on.0 p (c.answers_agree.ensures.held e h.answers on.0 p on.1 h.holds) on.2)
+
+pub returns-in-Ok-clause-text : goal.returns-in-Ok-clause-text
+returns-in-Ok-clause-text g c = λ a p holds agrees.
+    let e = c.self.inside.engine in
+    let h : HoldsBy e a p = rw (← c.self.view_is) at holds in
+    let k : Agrees e c.args.exchange.now a p c.args.piece.now = rw (← c.self.view_is) at agrees in
+    rw (← c.self.view_is) (c.in-Ok.ensures.text a p h k)
+
+pub returns-in-Ok-clause-told : goal.returns-in-Ok-clause-told
+returns-in-Ok-clause-told g c = λ a p holds agrees.
+    let e = c.self.inside.engine in
+    let h : HoldsBy e a p = rw (← c.self.view_is) at holds in
+    let k : Agrees e c.args.exchange.now a p c.args.piece.now = rw (← c.self.view_is) at agrees in
+    rw (← c.self.view_is) (c.in-Ok.ensures.told a p h k)
+
+pub returns-in-Ok-clause-held : goal.returns-in-Ok-clause-held
+returns-in-Ok-clause-held g c = λ a p holds agrees.
+    let e = c.self.inside.engine in
+    let h : HoldsBy e a p = rw (← c.self.view_is) at holds in
+    let k : Agrees e c.args.exchange.now a p c.args.piece.now = rw (← c.self.view_is) at agrees in
+    c.in-Ok.ensures.held a p h k
+
+pub returns-in-Err-clause-text : goal.returns-in-Err-clause-text
+returns-in-Err-clause-text g c = λ a p holds agrees.
+    let e = c.self.inside.engine in
+    let h : HoldsBy e a p = rw (← c.self.view_is) at holds in
+    let k : Agrees e c.args.exchange.now a p c.args.piece.now = rw (← c.self.view_is) at agrees in
+    rw (← c.self.view_is)
+    (stop_front Status c.in-Err.field-0 (tagging_log c.args.out.now) (tagging_log c.feed_by.new.out)
+    (added (rules_with e a) p c.args.piece.now) e c.feed_by.new.self h.sound c.in-Err.ensures.leaves
+    (c.in-Err.ensures.text a p h k))

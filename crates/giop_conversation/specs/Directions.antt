@@ -1,0 +1,23 @@
+-- One direction of a connection as contracts see it, and which stream it has read (state).
+use Rattle.std.specs.Prelude.{◌≡◌, ℕ, List, Option}
+use Rattle.giop_sig.specs.Table.{Table}
+use Rattle.giop_message.specs.Signatures.{Answers}
+use Rattle.giop_stream.specs.EngineView.{EngineView}
+use Rattle.giop_stream.specs.EngineHolds.{HoldsBy}
+use Rattle.tcp_segment.specs.declared.endpoint.Flow.{Flow}
+
+pub record DirectionView : Type 0 where
+  pub engine : EngineView
+  pub stream : ℕ  -- the number of its last stream, from 1; 0 where none has begun
+  pub flow : Option Flow  -- who sends to whom
+
+-- The engine has read this stream, by some answers to the ids of its messages.
+pub record HasRead (engine : EngineView) (stream : List ℕ) : Type 0 where
+  pub answers : Answers
+  pub holds : HoldsBy engine answers stream
+
+-- The engine has read some stream, by these types.
+pub record IsReading (table : Table) (engine : EngineView) : Type 0 where
+  pub same : engine.table ≡ table
+  pub stream : List ℕ
+  pub read : HasRead engine stream

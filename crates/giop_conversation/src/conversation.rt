@@ -1,0 +1,150 @@
+//! A connection: its two directions, and the calls of both.
+
+ghost use Rattle.std.specs.Prelude.{◌≡◌, ◌≤◌, ◌++◌, ℕ, List, [], IfOk, OnOk};
+ghost use Rattle.giop_stream.specs.Rules.{most_open};
+ghost use Rattle.giop_stream.specs.Framing.{cut, fault_of};
+ghost use Rattle.giop_stream.specs.EngineHolds.{AreOf, status_of};
+ghost use Rattle.giop_conversation.specs.Failing.{FailsByPut};
+ghost use Rattle.giop_conversation.specs.Directions.{HasRead};
+ghost use Rattle.giop_conversation.specs.Followed.{direction, other, parity_of as spec_parity_of};
+
+use crate::direction::Direction;
+use crate::exchange::Exchange;
+use crate::limits::{Limits, NoMemory};
+use crate::tagged::Tagged;
+use giop_print::{Out, OutFault};
+use giop_sig::{Catalogue, Requests};
+use giop_stream::{Status, Totals};
+use std::alloc::Global;
+use tcp_flow::CloseCause;
+use tcp_segment::Flow;
+
+/// Which of the two flows of a connection: the one with an even id, or the one with an odd id.
+#[derive(Clone, Copy, Debug, PartialEq, Eq)]
+pub enum Parity {
+    Even,
+    Odd,
+}
+
+/// Which flow of its connection one is, by its id.
+pub fn parity_of(flow: u32) -> Parity
+    ensures { result ≡ spec_parity_of flow }
+{
+    if flow % 2 == 0 {
+        Parity::Even
+    } else {
+        Parity::Odd
+    }
+}
+
+/// A connection: the directions of its two flows, and the calls of both.
+#[derive(Drop)]
+pub struct Conversation<'a> {
+    // The flow that was read last: the calls of the exchange's own stream are of it.
+    parity: Parity,
+    exchange: Exchange<'a>,
+    even: Direction<'a>,
+    odd: Direction<'a>,
+}
+
+impl<'a> Conversation<'a> {
+    /// A connection without streams and calls. All memory is taken here.
+    pub fn new(
+        alloc: Global,
+        catalogue: &'a Catalogue,
+        requests: &'a Requests,
+        limits: Limits,
+    ) -> Result<Conversation<'a>, NoMemory>
+        requires of { AreOf catalogue.now requests.now }
+        requires range { (1 ≤ limits.messages) × (limits.messages ≤ most_open) }
+        ensures even { IfOk result (λ c. HasRead c.even.engine []) }
+        ensures odd { IfOk result (λ c. HasRead c.odd.engine []) }
+    {
+        Ok(Conversation {
+            parity: Parity::Even,
+            exchange: Exchange::new(alloc, catalogue, limits.calls)?,
+            even: Direction::new(alloc, catalogue, requests, limits.messages)?,
+            odd: Direction::new(alloc, catalogue, requests, limits.messages)?,
+        })
+    }
+
+    /// From now on a flow is read.
+    fn face(&mut self, parity: Parity)
+        ensures even { self.new.even ≡ self.old.even }
+        ensures odd { self.new.odd ≡ self.old.odd }
+        ensures parity { self.new.parity ≡ parity }
+    {
+        if self.parity != parity {
+            self.exchange.turn();
+        }
+        self.parity = parity;
+    }
+
+    /// Who sends to whom in a flow is known from now on, and it has no calls.
+    pub fn open(&mut self, parity: Parity, flow: Flow)
+        ensures even { self.new.even.engine ≡ self.old.even.engine }
+        ensures odd { self.new.odd.engine ≡ self.old.odd.engine }
+    {
+        self.face(parity);
+        self.exchange.forget();
+        match parity {
+            Parity::Even => self.even.open(flow),
+            Parity::Odd => self.odd.open(flow),
+        }
+    }
+
+    /// A stream of a flow begins.
+    pub fn begin<O: Out>(
+        &mut self,
+        parity: Parity,
+        stream: u64,
+        time: Option<u128>,
+        out: &mut Tagged<O>,
+    ) -> Result<(), OutFault>
+        ensures read { HasRead (direction parity self.new).engine [] }
+        ensures other { direction (other parity) self.new ≡ direction (other parity) self.old }
+        ensures fails { FailsByPut result out.old out.new }
+    {
+        match parity {
+            Parity::Even => self.even.begin(stream, time, out),
+            Parity::Odd => self.odd.begin(stream, time, out),
+        }
+    }
+
+    /// Reads octets of a flow's stream.
+    pub fn read<O: Out>(
+        &mut self,
+        parity: Parity,
+        octets: &[u8],
+        time: Option<u128>,
+        out: &mut Tagged<O>,
+    ) -> Result<Status, OutFault>
+        ensures read { (p : List ℕ) → HasRead (direction parity self.old).engine p →
+            OnOk result (HasRead (direction parity self.new).engine (p ++ octets.now)) }
+        ensures status { (p : List ℕ) → HasRead (direction parity self.old).engine p →
+            IfOk result (λ s. s ≡ status_of (fault_of (cut (p ++ octets.now)).stop)) }
+        ensures other { direction (other parity) self.new ≡ direction (other parity) self.old }
+        ensures fails { FailsByPut result out.old out.new }
+    {
+        self.face(parity);
+        match parity {
+            Parity::Even => self.even.read(&mut self.exchange, octets, time, out),
+            Parity::Odd => self.odd.read(&mut self.exchange, octets, time, out),
+        }
+    }
+
+    /// The stream of a flow closes. Returns what it had.
+    pub fn close<O: Out>(
+        &self,
+        parity: Parity,
+        cause: CloseCause,
+        out: &mut Tagged<O>,
+    ) -> Result<Totals, OutFault>
+        ensures fails { FailsByPut result out.old out.new }
+    {
+        match parity {
+            Parity::Even => self.even.close(cause, out),
+            Parity::Odd => self.odd.close(cause, out),
+        }
+    }
+}
