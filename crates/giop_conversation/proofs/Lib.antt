@@ -3,6 +3,6 @@ mod TagLemmas
 mod TaggedLemmas
 mod TaggedPuts
 pub mod Tagging
-mod FollowedLemmas
+pub mod FollowedLemmas
 mod FailingLemmas
 mod StampedLemmas

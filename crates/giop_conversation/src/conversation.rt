@@ -3,7 +3,13 @@
 ghost use Rattle.std.specs.Prelude.{◌≡◌, ◌≤◌, ◌++◌, ℕ, List, [], IfOk, OnOk};
 ghost use Rattle.giop_stream.specs.Rules.{most_open};
 ghost use Rattle.giop_stream.specs.Framing.{cut, fault_of};
-ghost use Rattle.giop_stream.specs.EngineHolds.{AreOf, status_of};
+ghost use Rattle.giop_print.specs.Output.{Writes};
+ghost use Rattle.giop_message.specs.Signatures.{Answers};
+ghost use Rattle.giop_stream.specs.Stream.{closing, final};
+ghost use Rattle.giop_stream.specs.EngineHolds.{AreOf, HoldsBy, rules_with, status_of};
+ghost use Rattle.giop_conversation.specs.Lines.{begin_lines, closed_line};
+ghost use Rattle.giop_conversation.specs.Tags.{stream_tag};
+ghost use Rattle.giop_conversation.specs.TaggedState.{tagging_log, tagged_by};
 ghost use Rattle.giop_conversation.specs.Failing.{FailsByPut};
 ghost use Rattle.giop_conversation.specs.Directions.{HasRead};
 ghost use Rattle.giop_conversation.specs.Followed.{direction, other, parity_of as spec_parity_of};
@@ -101,6 +107,8 @@ impl<'a> Conversation<'a> {
         time: Option<u128>,
         out: &mut Tagged<O>,
     ) -> Result<(), OutFault>
+        ensures text { Writes result (tagging_log (tagged_by out.old (stream_tag stream)))
+            (tagging_log out.new) (begin_lines (direction parity self.old).flow time) }
         ensures read { HasRead (direction parity self.new).engine [] }
         ensures other { direction (other parity) self.new ≡ direction (other parity) self.old }
         ensures fails { FailsByPut result out.old out.new }
@@ -140,6 +148,13 @@ impl<'a> Conversation<'a> {
         cause: CloseCause,
         out: &mut Tagged<O>,
     ) -> Result<Totals, OutFault>
+        ensures text { (a : Answers) (p : List ℕ) →
+            (let d = direction parity self.now in
+            HoldsBy d.engine a p →
+            Writes result (tagging_log (tagged_by out.old (stream_tag d.stream))) (tagging_log out.new)
+            (closed_line cause ++ closing (rules_with d.engine a) p)) }
+        ensures totals { (a : Answers) (p : List ℕ) → HoldsBy (direction parity self.now).engine a p →
+            IfOk result (λ t. t ≡ final (rules_with (direction parity self.now).engine a) p) }
         ensures fails { FailsByPut result out.old out.new }
     {
         match parity {

@@ -5,6 +5,9 @@ ghost use Rattle.std.specs.Vec.{vec_len};
 ghost use Rattle.tcp_flow.specs.Flow.{Event, Opens, Begins, Delivers, Closes};
 ghost use Rattle.giop_stream.specs.Rules.{most_open};
 ghost use Rattle.giop_stream.specs.EngineHolds.{AreOf};
+ghost use Rattle.giop_print.specs.Output.{Writes};
+ghost use Rattle.giop_conversation.specs.Lines.{capture_fault_line as spec_capture_fault_line};
+ghost use Rattle.giop_conversation.specs.TaggedState.{tagging_log, tagged_by};
 ghost use Rattle.giop_conversation.specs.Failing.{FailsOnce};
 ghost use Rattle.giop_conversation.specs.Follows.{Follows};
 ghost use Rattle.giop_conversation.specs.Followed.{reader_faulted, is_stopped as spec_is_stopped};
@@ -167,6 +170,9 @@ impl<'a, O: Out + Drop> Conversations<'a, O> {
     pub fn fault(&mut self, word: &str, at: u64) -> Result<(), OutFault>
         ensures follows { (events : List Event) → Follows self.old events →
             OnOk result (Follows self.new events) }
+        ensures lines { self.old.out.failures ≡ 0 →
+            Writes result (tagging_log (tagged_by self.old.out [])) (tagging_log self.new.out)
+            (spec_capture_fault_line word.now at) }
         ensures fails { FailsOnce result self.new.out }
     {
         if self.out.has_failed() {
