@@ -1,12 +1,14 @@
 -- How handing packets on goes on with one call of `take`.
-use Rattle.std.proofs.Common.{◌≡◌, ◌∙◌, ℕ, List, ◌++◌, take, drop, Some, sym, ap, append_assoc, refl}
+use Rattle.std.proofs.Common.{◌≡◌, ◌∙◌, ℕ, ◌-◌, ◌≤◌, arith, List, [], ◌∷◌, ◌++◌, length, take, drop, Some, map, sym, ap, append_assoc, refl}
 use Rattle.std.specs.Option.{IsSome}
-use Rattle.std.proofs.lemmas.List.{take-append-drop}
+use Rattle.std.proofs.lemmas.List.{take-append-drop, map-append, length-drop, take_all}
 use Rattle.capture_file.specs.declared.capture.Capture.{Capture}
 use Rattle.capture_file.specs.declared.fault.CaptureFault.{CaptureFault}
-use Rattle.capture_file.specs.CaptureState.{Reads}
-use Rattle.capture_file.specs.Reading.{fault}
-use Rattle.giop_capture_run.specs.Packets.{Taken, HandedOn, taken_of}
+use Rattle.capture_file.specs.declared.progress.Packet.{Packet}
+use Rattle.capture_file.specs.CaptureState.{Reads, head_in, octets_in}
+use Rattle.capture_file.specs.Reading.{PacketRecord, packets, fault}
+use Rattle.giop_capture_run.specs.Packets.{Taken, HandedOn, taken, taken_of, packet_view}
+use Rattle.giop_capture_run.proofs.ShortPackets.{short}
 
 -- what was read and what a call took are in front of what is left
 seam : (octets read rest : List ℕ) (n : ℕ) → octets ≡ read ++ rest
@@ -29,3 +31,32 @@ pub fault_shows : (p read more : List ℕ) (f : CaptureFault) → fault ((p ++ r
     → IsSome (fault (p ++ (read ++ more)))
 fault_shows p read more f shows =
     let e : fault (p ++ (read ++ more)) ≡ Some f = rw (append_assoc p read more) at shows in rw e refl
+
+-- the listener was handed the packet that the longer list has more
+pub one_more : (c : Capture) (p more octets : List ℕ) (packet : Packet)
+    → packets (p ++ more) ≡ packets p ++ record {
+      place = length (p ++ more);
+      head = head_in c;
+      octets = octets_in c octets;
+    } ∷ []
+    → packet.link ≡ (head_in c).link → packet.time ≡ (head_in c).time → packet.octets.now ≡ octets_in c octets
+    → taken_of (p ++ more) ≡ taken_of p ++ packet_view packet ∷ []
+one_more c p more octets packet e link time same =
+    let r : PacketRecord = record { place = length (p ++ more); head = head_in c; octets = octets_in c octets } in
+    let view : taken r ≡ packet_view packet = rw (link, time, same) refl in
+    ap (map taken) e ∙ (map-append taken (packets p) (r ∷ []) ∙ ap (λ v. taken_of p ++ v ∷ []) view)
+
+-- its packet is no longer than may be
+pub packet_short : (c : Capture) (p more octets : List ℕ) (packet : Packet)
+    → packets (p ++ more) ≡ packets p ++ record {
+      place = length (p ++ more);
+      head = head_in c;
+      octets = octets_in c octets;
+    } ∷ []
+    → packet.octets.now ≡ octets_in c octets → length packet.octets.now ≤ 262144
+packet_short c p more octets packet e same =
+    rw same (short (p ++ more) (packets p) (record { place = length (p ++ more); head = head_in c; octets = octets_in c octets }) e)
+
+-- the rest of a slice, as the code takes it
+pub rest_of : (n : ℕ) (xs : List ℕ) → take (length xs - n) (drop n xs) ≡ drop n xs
+rest_of n xs = take_all (length xs - n) (drop n xs) (simp length-drop (omega arith))

@@ -1,2 +1,5 @@
 mod Handing
 mod ReadingOn
+mod ShortPackets
+mod ShortSegments
+pub mod Arriving

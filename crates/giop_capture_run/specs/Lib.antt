@@ -1,2 +1,5 @@
 pub mod Links
 pub mod Packets
+pub mod Arrivals
+pub mod PacketState
+pub mod CaptureRun

@@ -25,6 +25,11 @@ taken p = record { head = p.head; octets = p.octets }
 abbrev pub taken_of : List ℕ → List Taken
 taken_of p = map taken (packets p)
 
+-- a listener has taken the packets of what a capture has read, from some start on
+abbrev pub KeepsUp : {Self Start : Type 0} → (Self → Start → List Taken → Type 0) → Self → Capture → Type 0
+KeepsUp {Start = Start} taken to c =
+    (start : Start) × (p : List ℕ) × Reads c p × taken to start (taken_of p)
+
 -- Of octets that came behind p, these were read and the packets that they complete handed on; the rest wasn't looked at.
 pub record HandedOn (HasTaken : List Taken → Type 0) (c : Capture) (p octets read rest : List ℕ) : Type 0 where
   pub parts : octets ≡ read ++ rest

@@ -1,6 +1,7 @@
 //! The program's arguments: the capture that it reads and how much it may remember (docs/FORMATS.md, The program).
 
 ghost use Rattle.std.specs.Prelude.{◌≡◌, ◌≤◌, ℕ, Some, None};
+ghost use Rattle.giop_stream.specs.Rules.{most_open};
 
 use arrayvec::ArrayVec;
 use clap::builder::ValueParser;
@@ -62,7 +63,7 @@ The slowest calls are the last of
 docs/FORMATS.md has every line, fault and status; docs/SIGNATURES.md says how IDL becomes a signature file.";
 
 /// What the arguments ask for: each file by its name; no name has a special meaning.
-#[derive(Clone, Debug, Drop)]
+#[derive(Debug, Drop)]
 pub struct Arguments<'a> {
     /// The signature file; None for the built-in types alone.
     pub signatures: Option<&'a str>,
@@ -71,13 +72,17 @@ pub struct Arguments<'a> {
     /// How many connections may be known at once.
     pub connections: u32,
     /// How many messages of a stream may be open at once.
-    pub open: u32,
+    pub messages: u32,
     /// How many calls of a direction of a connection may be outstanding.
     pub calls: u32,
     /// How many blocks of 1,024 octets hold payloads that wait.
     pub pool: u32,
     /// The file with the capture; None for standard input.
     pub capture: Option<&'a str>,
+    ghost connections_range: { (1 ≤ connections) × (connections ≤ 65_536) },
+    ghost messages_range: { (1 ≤ messages) × (messages ≤ most_open) },
+    ghost calls_range: { (1 ≤ calls) × (calls ≤ 65_536) },
+    ghost pool_range: { (1_024 ≤ pool) × (pool ≤ 1_048_576) },
 }
 
 /// An option that takes a number of a range, with the number where it is missing.
@@ -175,7 +180,7 @@ impl<'a> Arguments<'a> {
                 (1, MOST_KNOWN),
                 DEFAULT_CONNECTIONS,
             ),
-            open: number_of(matches.get_one("open"), (1, MOST_OPEN), DEFAULT_OPEN),
+            messages: number_of(matches.get_one("open"), (1, MOST_OPEN), DEFAULT_OPEN),
             calls: number_of(matches.get_one("calls"), (1, MOST_KNOWN), DEFAULT_CALLS),
             pool: number_of(
                 matches.get_one("pool"),

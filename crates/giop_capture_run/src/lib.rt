@@ -1,10 +1,20 @@
-//! The program `giopcap` without its `main`: its arguments, and the steps from them to a status.
+//! The program `giopcap` without its `main` and its conversations: its arguments, and the packets of a capture up to its end.
 #![tactic(auto)]
 
 mod arguments;
+mod ending;
 mod links;
+mod listening;
+mod notices;
+mod packets;
 mod reading;
+mod room;
 
 pub use arguments::{Arguments, PORTS_ROOM};
+pub use ending::{Ending, dump_capture, read_capture};
 pub use links::UnreadLinks;
-pub use reading::{PacketListener, read_packets};
+pub use listening::{CaptureListener, PacketListener};
+pub use notices::Notices;
+pub use packets::PacketReader;
+pub use reading::read_packets;
+pub use room::packet_reader;

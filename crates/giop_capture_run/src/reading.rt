@@ -1,11 +1,12 @@
 //! The packets of a capture, from a source to a listener, in the order of the capture.
 
-ghost use Rattle.std.specs.Prelude.{◌≡◌, ◌+◌, ◌<◌, ◌≤◌, ◌^◌, List, ℕ, [], ◌∷◌, ◌++◌, length, OnOk, IfOk, IfErr};
+ghost use Rattle.std.specs.Prelude.{◌≡◌, ◌≢◌, ◌⊎◌, ◌+◌, ◌<◌, ◌≤◌, ◌^◌, List, ℕ, [], ◌∷◌, ◌++◌, length, OnOk, OnErr, IfOk, IfErr, Err};
 ghost use Rattle.capture_file.specs.CaptureState.{Reads, octets_of};
-ghost use Rattle.giop_capture_run.specs.Packets.{Taken, taken_of, packet_view, HandedWhole, HasReadOnce, Ran};
+ghost use Rattle.giop_capture_run.specs.Packets.{Taken, taken_of, packet_view, KeepsUp, HandedWhole, HasReadOnce, Ran};
 ghost use Rattle.giop_print.specs.Output.{counted};
 
-use capture_file::{Capture, Packet, Progress};
+use crate::listening::PacketListener;
+use capture_file::{Capture, Progress};
 use giop_print::OutFault;
 use giop_run::{RunFault, Source};
 
@@ -15,24 +16,6 @@ const TURNS: u64 = 1 << 40;
 /// How many octets a read may give.
 const ROOM: usize = 65_536;
 
-/// Takes the packets of a capture.
-pub trait PacketListener {
-    ghost use Rattle.giop_capture_run.specs.Packets.{Taken, packet_view};
-
-    /// It has taken these packets, in this order: a relation, so that one that forgets can be a listener.
-    ghost taken: { Self → List Taken → Type 0 };
-
-    /// The next packet.
-    fn packet(&mut self, packet: Packet<'_>) -> Result<(), OutFault>
-        ensures { (packets : List Taken) → taken self.old packets
-            → OnOk result (taken self.new (packets ++ packet_view packet.entry ∷ [])) };
-
-    /// More octets of the capture are waited for: what was written is to be seen.
-    fn flush(&mut self) -> Result<(), OutFault>
-        ensures { (packets : List Taken) → taken self.old packets
-            → OnOk result (taken self.new packets) };
-}
-
 /// Hands on the packets that octets of a capture complete. Answers whether the reading goes on: it does not behind a fault of
 /// the capture, which no more octets are read of.
 fn hand_on<L: PacketListener>(
@@ -40,10 +23,13 @@ fn hand_on<L: PacketListener>(
     octets: &[u8],
     to: &mut L,
 ) -> Result<bool, OutFault>
-    requires room { octets_of capture.old + length octets.now < 2 ^ 64 }
-    ensures handed { (p : List ℕ) → Reads capture.old p → L.taken to.old (taken_of p)
-        → IfOk result (λ goes_on. HandedWhole goes_on (L.taken to.new) capture.new p octets.now) }
+    requires room { octets_of capture.old + length octets.now < 2 ^ 63 }
+    requires taken { KeepsUp L.taken to.old capture.old }
+    ensures handed { (start : L.Start) (p : List ℕ) → Reads capture.old p
+        → L.taken to.old start (taken_of p) → IfOk result (λ goes_on.
+        HandedWhole goes_on (L.taken to.new start) capture.new p octets.now) }
     ensures count { OnOk result (octets_of capture.new ≤ octets_of capture.old + length octets.now) }
+    ensures cause { OnErr result (L.failed to.new) }
 {
     let mut rest = octets;
     loop {
@@ -65,12 +51,17 @@ fn read_once<S: Source, L: PacketListener>(
     to: &mut L,
     buffer: &mut [u8; ROOM],
 ) -> Result<bool, RunFault>
-    requires room { octets_of capture.old < 2 ^ 63 }
-    ensures once { (p : List ℕ) → Reads capture.old p → L.taken to.old (taken_of p)
-        → (s : List ℕ) × HasReadOnce result (L.taken to.new) capture.new p s
+    requires room { octets_of capture.old < 2 ^ 62 }
+    requires taken { KeepsUp L.taken to.old capture.old }
+    ensures once { (start : L.Start) (p : List ℕ) → Reads capture.old p
+        → L.taken to.old start (taken_of p)
+        → (s : List ℕ) × HasReadOnce result (L.taken to.new start) capture.new p s
         (S.log source.old) (S.log source.new) }
     ensures count { OnOk result (octets_of capture.new ≤ octets_of capture.old + 65_536) }
     ensures reads { (S.log source.new).reads ≡ counted (S.log source.old).reads }
+    ensures cause { result ≡ Err RunFault.Out → L.failed to.new }
+    ensures kept { result ≡ Err RunFault.Read → to.new ≡ to.old }
+    ensures ends { result ≢ Err RunFault.Turns }
 {
     let Ok(given) = source.read(buffer) else {
         return Err(RunFault::Read);
@@ -86,9 +77,10 @@ fn read_once<S: Source, L: PacketListener>(
 
 /// Flushes the listener.
 fn flush<L: PacketListener>(to: &mut L) -> Result<(), RunFault>
-    ensures flushed { (packets : List Taken) → L.taken to.old packets
-        → OnOk result (L.taken to.new packets) }
-    ensures cause { IfErr result (λ fault. fault ≡ RunFault.Out) }
+    ensures flushed { (start : L.Start) (packets : List Taken) → L.taken to.old start packets
+        → OnOk result (L.taken to.new start packets) }
+    ensures seen { OnOk result (L.flushed to.new) }
+    ensures cause { IfErr result (λ fault. (fault ≡ RunFault.Out) × L.failed to.new) }
 {
     match to.flush() {
         Ok(()) => Ok(()),
@@ -104,8 +96,12 @@ pub fn read_packets<S: Source, L: PacketListener>(
     to: &mut L,
 ) -> Result<(), RunFault>
     requires start { Reads capture.old [] }
-    ensures ran { L.taken to.old [] → (s : List ℕ) × Ran result (L.taken to.new) capture.new s
+    requires taken { (start : L.Start) × L.taken to.old start [] }
+    ensures ran { (start : L.Start) → L.taken to.old start []
+        → (s : List ℕ) × Ran result (L.taken to.new start) capture.new s
         (S.log source.old) (S.log source.new) }
+    ensures cause { result ≡ Err RunFault.Out → L.failed to.new }
+    ensures flushed { (result ≡ Err RunFault.Read) ⊎ (result ≡ Err RunFault.Turns) → L.flushed to.new }
     ensures reads { (S.log source.new).reads ≤ (S.log source.old).reads + 2 ^ 40 }
 {
     let mut buffer = [0; ROOM];

@@ -28,7 +28,13 @@ impl Counter {
 }
 
 impl PacketListener for Counter {
-    ghost taken = { λ _ _. Unit {0} };
+    ghost Start = { Unit {0} };
+
+    ghost taken = { λ _ _ _. Unit {0} };
+
+    ghost failed = { λ _. Unit {0} };
+
+    ghost flushed = { λ _. Unit {0} };
 
     fn packet(&mut self, packet: Packet<'_>) -> Result<(), OutFault> {
         self.packets = self.packets.wrapping_add(1);

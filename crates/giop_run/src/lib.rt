@@ -28,4 +28,5 @@ pub use resuming::resumed;
 pub use retrying::Retrying;
 pub use running::{Ending, Report, run};
 pub use saving::{Disk, Saves};
+pub use shown_name::ShownName;
 pub use source::Source;

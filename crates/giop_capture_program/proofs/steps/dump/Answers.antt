@@ -1,0 +1,24 @@
+-- What a source gave was dumped for the connections that are asked for.
+use Rattle.std.proofs.Common.{◌||◌, [], nat_lt, ap}
+use Rattle.tcp_connections.specs.Connections.{none_known}
+use Rattle.giop_capture_program.proofs.steps.dump.Goals as goal
+
+pub returns-in-Ok-dump_capture-clause-dumped : goal.returns-in-Ok-dump_capture-clause-dumped
+returns-in-Ok-dump_capture-clause-dumped g c =
+    let asked = c.args.asked in
+    let d = c.in-Ok-dump_capture.ensures.dumped (none_known asked.ports.items asked.pool asked.connections []) c.in-Ok-reader.ensures in
+    record {
+      before = _;
+      after = _;
+      reader = ap (λ log. log.left) c.new-2.ensures;
+      capture = c.dump_capture.new.capture;
+      octets = d.octets;
+      found = d.found;
+      notices = d.notices;
+      connections = d.connections;
+      live = d.live;
+      rooms = d.listener.conversations.rooms.items;
+      faulty = d.listener.conversations.cut || nat_lt 0 d.listener.conversations.totals.faults;
+      whole = d.whole;
+      ends = d.ends;
+    }

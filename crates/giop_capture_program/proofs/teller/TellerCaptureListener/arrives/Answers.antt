@@ -1,0 +1,7 @@
+-- A time changes no stream.
+use Rattle.giop_capture_program.proofs.Telling.{followed_on}
+use Rattle.giop_capture_program.proofs.teller.TellerCaptureListener.arrives.Goals as goal
+
+pub returns : goal.returns
+returns g c =
+    λ events h. rw c.set_time.ensures (followed_on c.args.self.now.conversations.rooms.items events _ h)

@@ -1,0 +1,82 @@
+-- What one packet more does.
+use Rattle.std.proofs.Common.{◌≡◌, ◌∙◌, ℕ, ◌+◌, ◌≤◌, List, [], ◌∷◌, ◌++◌, Option, Some, Ok, Err, length, subst, sym, ap, refl, arith}
+use Rattle.std.specs.Prelude.{Result, OnOk}
+use Rattle.std.proofs.lemmas.List.{length-append}
+use Rattle.std.specs.Option.{option_map}
+use Rattle.tcp_segment.specs.declared.tcp.Segment as code
+use Rattle.tcp_segment.specs.Segments.{Segment, segment, segment_view}
+use Rattle.tcp_flow.specs.declared.flow.ListenerFault.{ListenerFault}
+use Rattle.tcp_flow.specs.Flow.{Event, Reader, OfCapture, PacketArrives}
+use Rattle.tcp_connections.specs.declared.connections.Connections.{Connections}
+use Rattle.tcp_connections.specs.Connections.{State, with_capture_event}
+use Rattle.tcp_connections.specs.State.{IsState}
+use Rattle.tcp_connections.proofs.States.{told_capture}
+use Rattle.giop_print.specs.declared.sink.OutFault.{OutFault}
+use Rattle.giop_capture_run.specs.Packets.{Taken}
+use Rattle.giop_capture_run.specs.Arrivals.{with_segment, packet_arrived, after_packets, links_noted, links_from}
+use Rattle.giop_capture_run.specs.PacketState.{HasRead}
+use Rattle.giop_capture_run.proofs.ShortSegments.{short}
+
+-- what follows where a listener didn't fail
+pub answered : {A B : Type 0} (a : Result (Unit {0}) ListenerFault) (r : Result (Unit {0}) OutFault)
+    → r ≡ (elim a [ Ok value ↦ Ok value | Err fault ↦ Err (record {}) ]) → OnOk a A → (A → B) → OnOk r B
+answered (Ok value) r e h f = rw e (f h)
+answered (Err fault) r e h f = rw e tt
+
+pub after_more : (F : Reader) (w : State) (ps : List Taken) (p : Taken)
+    → after_packets F w (ps ++ p ∷ []) ≡ packet_arrived F (after_packets F w ps) p
+unfolding after_packets
+after_more F w [] p = refl
+after_more F w (q ∷ ps) p = after_more F (packet_arrived F w q) ps p
+
+pub links_more : (told : List ℕ) (ps : List Taken) (p : Taken)
+    → links_from told (ps ++ p ∷ []) ≡ links_noted (links_from told ps) p.head.link
+unfolding links_from
+links_more told [] p = refl
+links_more told (q ∷ ps) p = links_more (links_noted told q.head.link) ps p
+
+-- the listener is told of the packet
+pub told_of : (O O' : List Event → Type 0) (live : List ℕ) (c : Connections) (w : State) (p : Taken)
+    → IsState O live c w → O' (w.events ++ OfCapture (PacketArrives p.head.time) ∷ [])
+    → IsState O' live c (with_capture_event w (PacketArrives p.head.time))
+told_of O O' live c w p h o = told_capture O O' live c w (PacketArrives p.head.time) h o
+
+-- its segment came, or it has none
+pub segment_came : (O : List Event → Type 0) (live : List ℕ) (c : Connections) (F : Reader) (start : State)
+    (ps : List Taken) (p : Taken) (found : Option Segment) → segment p.head.link p.octets ≡ found
+    → IsState O live c
+    (with_segment F (with_capture_event (after_packets F start ps) (PacketArrives p.head.time)) found)
+    → IsState O live c (after_packets F start (ps ++ p ∷ []))
+unfolding packet_arrived
+segment_came O live c F start ps p found same h =
+    let v : State = with_capture_event (after_packets F start ps) (PacketArrives p.head.time) in
+    subst (IsState O live c) (sym (after_more F start ps p ∙ ap (with_segment F v) same)) h
+
+-- the code's segment is the packet's
+pub segment_of : (link : ℕ) (octets : List ℕ) (found : Option code.Segment) (s : code.Segment)
+    → option_map segment_view found ≡ segment link octets → found ≡ Some s
+    → segment link octets ≡ Some (segment_view s)
+segment_of link octets found s same is = sym same ∙ ap (option_map segment_view) is
+
+pub payload_short : (link : ℕ) (octets : List ℕ) (s : Segment) → segment link octets ≡ Some s
+    → length octets ≤ 262144 → length s.payload ≤ 262144
+payload_short link octets s some whole = let less = short link octets s some in omega arith
+
+pub both : {X E : Type 0} (A B : Type 0) (r : Result X E) → OnOk r A → OnOk r B → OnOk r (A × B)
+both A B (Ok value) a b = (a, b)
+both A B (Err fault) a b = tt
+
+-- one packet more was read, of which the connections have what it makes of them
+pub read_more : (O O' : List Event → Type 0) (T T' : List ℕ → Type 0) (F : Reader) (c c' : Connections)
+    (live live' links links' : List ℕ) (start : State) (ps : List Taken) (p : Taken)
+    → HasRead O T F c live links start ps
+    → IsState O' live' c' (after_packets F start (ps ++ p ∷ [])) → c'.segments ≤ c.segments + 1
+    → links' ≡ links_noted links p.head.link → (T links → T' links')
+    → HasRead O' T' F c' live' links' start (ps ++ p ∷ [])
+read_more O O' T T' F c c' live live' links links' start ps p h state few same told =
+    record {
+      state = state;
+      few = let n = length-append ps (p ∷ []) in let before = h.few in omega arith;
+      all = same ∙ (ap (λ v. links_noted v p.head.link) h.all ∙ sym (links_more [] ps p));
+      told = told h.told;
+    }

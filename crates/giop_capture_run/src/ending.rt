@@ -1,0 +1,140 @@
+//! A capture from its first packet to its end.
+
+ghost use Rattle.std.specs.Prelude.{◌≡◌, ◌≢◌, ◌⊎◌, ◌≤◌, ◌+◌, ◌^◌, List, ℕ, [], Err, IfOk, OnOk, OnErr};
+ghost use Rattle.capture_file.specs.CaptureState.{Reads};
+ghost use Rattle.capture_file.specs.Reading.{final_fault};
+ghost use Rattle.tcp_connections.specs.Connections.{State, ended};
+ghost use Rattle.tcp_connections.specs.State.{HasState, IsState, IsAt};
+ghost use Rattle.giop_capture_run.specs.Arrivals.{with_fault};
+ghost use Rattle.giop_capture_run.specs.PacketState.{HasRead};
+ghost use Rattle.giop_capture_run.specs.CaptureRun.{CaptureRan, Dumped, ending_of};
+
+use crate::listening::CaptureListener;
+use crate::notices::Notices;
+use crate::packets::PacketReader;
+use crate::reading::read_packets;
+use capture_file::{Capture, CaptureFault, FaultKind};
+use giop_print::OutFault;
+use giop_run::{RunFault, Source};
+
+/// Reads a capture of which nothing was read from a source, up to its end: to the end of the source or to the capture's fault,
+/// behind which nothing is read. A fault is told before the streams close. Answers that fault.
+pub fn read_capture<S: Source, L: CaptureListener + Drop, N: Notices + Drop>(
+    source: &mut S,
+    capture: &mut Capture,
+    reader: &mut PacketReader<L, N>,
+) -> Result<Option<CaptureFault>, RunFault>
+    requires start { Reads capture.old [] }
+    requires reader { (w : State) × HasRead (L.observed reader.old.streams.listener)
+        (N.told reader.old.notices) L.faulted reader.old.connections
+        reader.old.streams.live.items reader.old.unread.told.items w [] }
+    ensures ran { (w : State) → HasRead (L.observed reader.old.streams.listener)
+        (N.told reader.old.notices) L.faulted reader.old.connections
+        reader.old.streams.live.items reader.old.unread.told.items w []
+        → (s : List ℕ) × CaptureRan result
+        (HasRead (L.observed reader.new.streams.listener) (N.told reader.new.notices) L.faulted
+        reader.new.connections reader.new.streams.live.items reader.new.unread.told.items w)
+        (L.observed reader.new.streams.listener) (N.told reader.new.notices) L.faulted
+        reader.new.connections reader.new.streams.live.items capture.new w s
+        (S.log source.old) (S.log source.new) }
+    ensures cause { result ≡ Err RunFault.Out → L.failed reader.new.streams.listener }
+    ensures flushed { (result ≡ Err RunFault.Read) ⊎ (result ≡ Err RunFault.Turns)
+        → L.flushed reader.new.streams.listener }
+    ensures reads { (S.log source.new).reads ≤ (S.log source.old).reads + 2 ^ 40 }
+{
+    read_packets(source, capture, reader)?;
+    match end(capture, reader) {
+        Ok(fault) => Ok(fault),
+        Err(_) => Err(RunFault::Out),
+    }
+}
+
+/// How the dump of a capture ended that was read to its end.
+#[derive(Clone, Copy, Debug, PartialEq, Eq)]
+pub enum Ending {
+    /// No fault was counted, and no stream was cut.
+    Whole,
+    /// A fault of a message, a stream or the capture was counted, or a stream was cut.
+    Faulty,
+    /// What was read begins like no capture.
+    NoCapture,
+}
+
+/// Reads a capture of which nothing was read from a source, up to its end, and writes all that is due of it. Answers how it ended.
+pub fn dump_capture<S: Source, L: CaptureListener + Drop, N: Notices + Drop>(
+    source: &mut S,
+    capture: &mut Capture,
+    reader: &mut PacketReader<L, N>,
+) -> Result<Ending, RunFault>
+    requires start { Reads capture.old [] }
+    requires reader { (w : State) × HasRead (L.observed reader.old.streams.listener)
+        (N.told reader.old.notices) L.faulted reader.old.connections
+        reader.old.streams.live.items reader.old.unread.told.items w [] }
+    ensures dumped { (w : State) → HasRead (L.observed reader.old.streams.listener)
+        (N.told reader.old.notices) L.faulted reader.old.connections
+        reader.old.streams.live.items reader.old.unread.told.items w []
+        → IfOk result (λ ending. Dumped ending L.observed L.faulty L.faulted (N.told) capture.new w
+        (S.log source.old) (S.log source.new)) }
+    ensures flushed { OnOk result (L.flushed reader.new.streams.listener) }
+    ensures seen { (result ≡ Err RunFault.Read) ⊎ (result ≡ Err RunFault.Turns)
+        → L.flushed reader.new.streams.listener }
+    ensures cause { result ≡ Err RunFault.Out → L.failed reader.new.streams.listener }
+    ensures sound { result ≢ Err RunFault.Failed }
+    ensures reads { (S.log source.new).reads ≤ (S.log source.old).reads + 2 ^ 40 }
+{
+    let fault = read_capture(source, capture, reader)?;
+    match reader.finish(capture.packets(), capture.octets()) {
+        Ok(is_faulty) => Ok(ending_of(fault, is_faulty)),
+        Err(_) => Err(RunFault::Out),
+    }
+}
+
+/// How a dump ended, by the fault of the capture and whether its listener was told of one.
+fn ending_of(fault: Option<CaptureFault>, is_faulty: bool) -> Ending
+    ensures { result ≡ ending_of fault is_faulty }
+{
+    match fault {
+        Some(fault) if fault.kind == FaultKind::Magic => Ending::NoCapture,
+        _ if is_faulty => Ending::Faulty,
+        _ => Ending::Whole,
+    }
+}
+
+/// Ends a capture: its fault is told, where it has one, and then its streams close. Answers the fault.
+fn end<L: CaptureListener + Drop, N: Notices + Drop>(
+    capture: &Capture,
+    reader: &mut PacketReader<L, N>,
+) -> Result<Option<CaptureFault>, OutFault>
+    requires state { HasState (L.observed reader.old.streams.listener)
+        reader.old.streams.live.items reader.old.connections }
+    ensures ended { (p : List ℕ) (w : State) → Reads capture.now p
+        → IsState (L.observed reader.old.streams.listener) reader.old.streams.live.items
+        reader.old.connections w → IfOk result (λ fault. (fault ≡ final_fault p)
+        × IsAt (L.observed reader.new.streams.listener) reader.new.streams.live.items
+        reader.new.connections (ended L.faulted (with_fault w (final_fault p)))) }
+    ensures notices { reader.new.notices ≡ reader.old.notices }
+    ensures cause { OnErr result (L.failed reader.new.streams.listener) }
+{
+    let fault = capture.finish();
+    tell_fault(fault, reader)?;
+    reader.end()?;
+    Ok(fault)
+}
+
+/// The fault of the capture is told, where it has one.
+fn tell_fault<L: CaptureListener + Drop, N: Notices + Drop>(
+    fault: Option<CaptureFault>,
+    reader: &mut PacketReader<L, N>,
+) -> Result<(), OutFault>
+    ensures does { (w : State) → IsState (L.observed reader.old.streams.listener)
+        reader.old.streams.live.items reader.old.connections w
+        → OnOk result (IsState (L.observed reader.new.streams.listener)
+        reader.new.streams.live.items reader.new.connections (with_fault w fault)) }
+    ensures notices { reader.new.notices ≡ reader.old.notices }
+    ensures cause { OnErr result (L.failed reader.new.streams.listener) }
+{
+    match fault {
+        Some(fault) => reader.has_fault(fault),
+        None => Ok(()),
+    }
+}

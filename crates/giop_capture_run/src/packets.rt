@@ -1,0 +1,138 @@
+//! The packets of a capture as what happens in its flows.
+
+ghost use Rattle.std.specs.Prelude.{◌≡◌, ◌<◌, ◌≤◌, ◌+◌, ◌^◌, List, ℕ, [], ◌∷◌, ◌++◌, length, IfOk, OnOk, OnErr};
+ghost use Rattle.tcp_segment.specs.Segments.{segment_view};
+ghost use Rattle.tcp_segment.specs.Links.{is_link_read as spec_is_link_read};
+ghost use Rattle.capture_file.specs.FaultWords.{fault_word};
+ghost use Rattle.tcp_flow.specs.Flow.{HasFault};
+ghost use Rattle.tcp_connections.specs.Connections.{State, with_capture_event, step, ended};
+ghost use Rattle.tcp_connections.specs.State.{IsState, IsAt, HasState, Makes};
+ghost use Rattle.giop_capture_run.specs.Packets.{Taken};
+ghost use Rattle.giop_capture_run.specs.Arrivals.{links_noted};
+ghost use Rattle.giop_capture_run.specs.PacketState.{HasRead};
+
+use crate::links::UnreadLinks;
+use crate::listening::{CaptureListener, PacketListener};
+use crate::notices::Notices;
+use capture_file::{CaptureFault, Packet};
+use giop_print::OutFault;
+use tcp_connections::Connections;
+use tcp_flow::ListenerFault;
+use tcp_segment::{is_link_read, segment};
+use tcp_streams::Streams;
+
+/// Reads the packets of a capture: a listener is told of their times and of what their segments do to the connections, and
+/// another of the link types that aren't read.
+#[derive(Drop)]
+pub struct PacketReader<L: CaptureListener + Drop, N: Notices + Drop> {
+    connections: Connections,
+    streams: Streams<L>,
+    unread: UnreadLinks,
+    notices: N,
+}
+
+/// What a failed listener is to whoever hands packets on.
+fn heard(answer: Result<(), ListenerFault>) -> Result<(), OutFault>
+    ensures { result ≡ elim answer [ Ok value ↦ Ok value | Err fault ↦ Err (record {}) ] }
+{
+    match answer {
+        Ok(()) => Ok(()),
+        Err(ListenerFault) => Err(OutFault),
+    }
+}
+
+/// The first packet of a link type that isn't read is told.
+fn note_link<N: Notices>(unread: &mut UnreadLinks, notices: &mut N, link: u16)
+    ensures links { unread.new.told.items ≡ links_noted unread.old.told.items link }
+    ensures told { N.told notices.old unread.old.told.items
+        → N.told notices.new unread.new.told.items }
+{
+    if !is_link_read(link) && unread.is_new(link) {
+        notices.link_is_unread(link);
+    }
+}
+
+impl<L: CaptureListener + Drop, N: Notices + Drop> PacketReader<L, N> {
+    /// No packet was read, and no link type told.
+    pub fn new(connections: Connections, streams: Streams<L>, notices: N) -> PacketReader<L, N>
+        ensures { (w : State) → IsState (L.observed streams.listener) streams.live.items connections w
+            → w.segments ≡ 0 → N.told notices []
+            → HasRead (L.observed result.streams.listener) (N.told result.notices) L.faulted
+            result.connections result.streams.live.items result.unread.told.items w [] }
+    {
+        PacketReader {
+            connections,
+            streams,
+            unread: UnreadLinks::new(),
+            notices,
+        }
+    }
+
+    /// The capture has a fault, and ends there.
+    pub fn has_fault(&mut self, fault: CaptureFault) -> Result<(), OutFault>
+        ensures does { (w : State) → IsState (L.observed self.old.streams.listener)
+            self.old.streams.live.items self.old.connections w
+            → OnOk result (IsState (L.observed self.new.streams.listener)
+            self.new.streams.live.items self.new.connections
+            (with_capture_event w (HasFault (fault_word fault.kind) fault.place))) }
+        ensures notices { self.new.notices ≡ self.old.notices }
+        ensures cause { OnErr result (L.failed self.new.streams.listener) }
+    {
+        heard(self.streams.listener.has_fault(fault))
+    }
+
+    /// The capture ends: its streams close.
+    pub fn end(&mut self) -> Result<(), OutFault>
+        requires state { HasState (L.observed self.old.streams.listener)
+            self.old.streams.live.items self.old.connections }
+        ensures does { (w : State) → IsState (L.observed self.old.streams.listener)
+            self.old.streams.live.items self.old.connections w
+            → OnOk result (IsAt (L.observed self.new.streams.listener)
+            self.new.streams.live.items self.new.connections (ended L.faulted w)) }
+        ensures notices { self.new.notices ≡ self.old.notices }
+        ensures cause { OnErr result (L.failed self.new.streams.listener) }
+    {
+        heard(self.connections.end(&mut self.streams))
+    }
+
+    /// What is still to be written is, with how many packets and octets the capture has. Answers whether the listener was told
+    /// of a fault, or of a stream that was cut.
+    pub fn finish(&mut self, packets: u64, octets: u64) -> Result<bool, OutFault>
+        ensures value { IfOk result
+            (λ is_faulty. is_faulty ≡ L.faulty self.old.streams.listener) }
+        ensures flushed { OnOk result (L.flushed self.new.streams.listener) }
+        ensures cause { OnErr result (L.failed self.new.streams.listener) }
+    {
+        match self.streams.listener.finish(packets, octets) {
+            Ok(is_faulty) => Ok(is_faulty),
+            Err(ListenerFault) => Err(OutFault),
+        }
+    }
+}
+
+impl<L: CaptureListener + Drop, N: Notices + Drop> PacketListener for PacketReader<L, N> {
+    ghost use Rattle.tcp_connections.specs.Connections.{State};
+    ghost use Rattle.giop_capture_run.specs.PacketState.{HasRead};
+
+    ghost Start = { State };
+
+    ghost taken = { λ r start packets. HasRead (L.observed r.streams.listener) (N.told r.notices)
+        L.faulted r.connections r.streams.live.items r.unread.told.items start packets };
+
+    ghost failed = { λ r. L.failed r.streams.listener };
+
+    ghost flushed = { λ r. L.flushed r.streams.listener };
+
+    fn packet(&mut self, packet: Packet<'_>) -> Result<(), OutFault> {
+        self.streams.listener.arrives(packet.time);
+        note_link(&mut self.unread, &mut self.notices, packet.link);
+        let Some(segment) = segment(packet.link, packet.octets) else {
+            return Ok(());
+        };
+        heard(self.connections.take(segment, &mut self.streams))
+    }
+
+    fn flush(&mut self) -> Result<(), OutFault> {
+        heard(self.streams.listener.flush())
+    }
+}

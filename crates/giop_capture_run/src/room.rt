@@ -1,0 +1,32 @@
+//! The memory of a reader of packets, which is taken before the first octet of the capture is read.
+
+ghost use Rattle.std.specs.Prelude.{[], IfOk};
+ghost use Rattle.tcp_connections.specs.Connections.{none_known};
+ghost use Rattle.giop_capture_run.specs.PacketState.{HasRead};
+
+use crate::arguments::Arguments;
+use crate::listening::CaptureListener;
+use crate::notices::Notices;
+use crate::packets::PacketReader;
+use std::alloc::{AllocError, Global};
+use tcp_connections::Connections;
+use tcp_streams::Streams;
+
+/// A reader of packets that has read none, with as many connections and blocks as are asked for, and for the ports that are. No
+/// other call takes memory.
+pub fn packet_reader<L: CaptureListener + Drop, N: Notices + Drop>(
+    alloc: Global,
+    asked: Arguments,
+    listener: L,
+    notices: N,
+) -> Result<PacketReader<L, N>, AllocError>
+    requires observed { L.observed listener [] }
+    requires told { N.told notices [] }
+    ensures { IfOk result (λ r. HasRead (L.observed r.streams.listener) (N.told r.notices) L.faulted
+        r.connections r.streams.live.items r.unread.told.items
+        (none_known asked.entry.ports.items asked.entry.pool asked.entry.connections []) []) }
+{
+    let connections = Connections::new(alloc, asked.connections, asked.pool as usize, asked.ports)?;
+    let streams = Streams::new(alloc, listener)?;
+    Ok(PacketReader::new(connections, streams, notices))
+}

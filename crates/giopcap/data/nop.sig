@@ -1,0 +1,1 @@
+signatures 1; operation long nop(); operation void one();
