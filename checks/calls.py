@@ -19,8 +19,8 @@ INTERRUPTIONS = 50
 OFTEN = 2**17
 FAILED = {
     "open": (b"cannot read\n", b"cannot write\n"),
-    "read": (b"cannot read\n", b"giopdump: read failed\n"),
-    "write": (b"giopdump: write failed\n", b"cannot write\n", b""),
+    "read": (b"cannot read\n", b"PROGRAM: read failed\n"),
+    "write": (b"PROGRAM: write failed\n", b"cannot write\n", b""),
     "sync": (b"cannot write\n",),
     "rename": (b"cannot write\n",),
 }
@@ -32,7 +32,8 @@ def is_told(case: Case, call: str, ended: Ended, usual: Ended) -> bool:
         return False
     if ended.status == usual.status and ended.lines == usual.lines and ended.files == usual.files:
         return ended.said == usual.said or call == "write" and usual.said.startswith(ended.said)
-    return ended.is_as_before(case) and ended.status == 4 and any(ended.said.endswith(said) for said in FAILED[call])
+    failures = [said.replace(b"PROGRAM", case.program.name.encode()) for said in FAILED[call]]
+    return ended.is_as_before(case) and ended.status == 4 and any(map(ended.said.endswith, failures))
 
 
 def fail_each(library: str, case: Case, call: str, usual: Ended, seen: Differences) -> None:
@@ -66,19 +67,22 @@ def cuts() -> "list[Tuple[int, int, int]]":
     return [(1, ON, cut) for cut in (1, 2, 3, 7, 64, 1000)]
 
 
+def fail_all(library: str, case: Case, seen: Differences) -> str:
+    """How many calls of each sort the case makes."""
+    usual = run(library, case)
+    seen.note_usual(case, usual)
+    for call in FAILED:
+        fail_each(library, case, call, usual, seen)
+    for call in ("open", "read", "write", "sync"):
+        interrupt_each(library, case, call, usual, seen)
+    for call in ("read", "write"):
+        cut_each(library, case, call, usual, seen)
+    return "/".join(str(usual.calls.get(call, 0)) for call in FAILED)
+
+
 def main(library: str) -> int:
     seen = Differences()
-    counted = []
-    for case in cases():
-        usual = run(library, case)
-        seen.note_usual(case, usual)
-        counted.append("/".join(str(usual.calls.get(call, 0)) for call in FAILED))
-        for call in FAILED:
-            fail_each(library, case, call, usual, seen)
-        for call in ("open", "read", "write", "sync"):
-            interrupt_each(library, case, call, usual, seen)
-        for call in ("read", "write"):
-            cut_each(library, case, call, usual, seen)
+    counted = [fail_all(library, case, seen) for case in cases()]
     print(
         f"opens/reads/writes/syncs/renames: {', '.join(f'{case.name} {made}' for case, made in zip(cases(), counted))}"
     )

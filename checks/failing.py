@@ -1,4 +1,4 @@
-"""Runs the built dumper with the library of checks/failing.c in front of the C library."""
+"""Runs the built programs with the library of checks/failing.c in front of the C library."""
 
 from __future__ import annotations
 
@@ -15,6 +15,7 @@ from rows import TOUR, TOUR_WORDS
 
 TOP = Path(__file__).resolve().parent.parent
 PROGRAM = TOP / "crates/giopdump/out/giopdump"
+GIOPCAP = TOP / "crates/giopcap/out/giopcap"
 EXAMPLES = TOP / "examples"
 
 CALLS = ("memory", "open", "read", "write", "sync", "rename", "late")
@@ -25,14 +26,15 @@ SECONDS = 10
 
 @dataclass(frozen=True)
 class Case:
-    """A command line, the octets on its standard input, the status with which it ends when nothing fails, and what the
-    file `checkpoint` holds where it runs; no octets where there is none."""
+    """A command line, the octets on its standard input, the status with which it ends when nothing fails, what the file
+    `checkpoint` holds where it runs, no octets where there is none, and the program that runs."""
 
     name: str
     words: Tuple[str, ...] = ()
     stream: bytes = b""
     status: int = 0
     checkpoint: bytes = b""
+    program: Path = PROGRAM
 
 
 @dataclass(frozen=True)
@@ -117,7 +119,7 @@ def run_in(folder: str, library: str, case: Case, call: str, settings: Dict[str,
     environment = {"LD_PRELOAD": library, "FAILING_CALL": call, "FAILING_REPORT": str(writing), **named}
     try:
         process = subprocess.run(
-            [str(PROGRAM), *case.words],
+            [str(case.program), *case.words],
             input=case.stream,
             capture_output=True,
             env=environment,

@@ -9,15 +9,19 @@ need_program mandoc mandoc
 need_program jq jq
 need_program mscgen mscgen
 need_giopdump
-export PATH=$(dirname "$giopdump"):$PWD/scripts:$PATH PYTHONDONTWRITEBYTECODE=1
+need_giopcap
+export PATH=$(dirname "$giopdump"):$(dirname "$giopcap"):$PWD/scripts:$PATH PYTHONDONTWRITEBYTECODE=1
 folder=$(mktemp -d)
 trap 'rm -rf "$folder"' EXIT
 cp examples/naming* "$folder"
+cp examples/session.pcap "$folder"
+gzip -k "$folder/session.pcap"
 cp scripts/tests/session.lines "$folder/orders.lines"
 
 # examples_of PAGE: the commands of its examples that need no other program than these. A line that ends with a pipe goes on.
 examples_of() {
-    sed -n '/^.Sh EXAMPLES/,/^.Sh/p' "$1" | sed -nE '/^(\.Dl )?giop(dump|-[a-z]+) /{s/^\.Dl //; :a; /\|$/{N; ba}; p}'
+    sed -n '/^.Sh EXAMPLES/,/^.Sh/p' "$1" |
+        sed -nE '/^(\.Dl )?(zcat|giop(dump|cap|-[a-z]+)) /{s/^\.Dl //; :a; /\|$/{N; ba}; s/\\e/\\/g; p}'
 }
 
 # check_page PROGRAM STATUS..
@@ -37,13 +41,13 @@ check_page() {
     examples=$(examples_of "$page")
     (cd "$folder" && bash -euo pipefail -c "$examples" > lines)
     echo "$page: $(echo "$options" | wc -l) options, $# statuses," \
-        "$(grep -c '^giop' <<< "$examples") examples with $(wc -l < "$folder/lines") lines"
+        "$(grep -cE '^(zcat|giop)' <<< "$examples") examples with $(wc -l < "$folder/lines") lines"
 }
 
 statuses=$(sed -nE 's/^\| ([0-5]) \|.*/\1/p' docs/FORMATS.md | sort -u)
 [ "$(echo $statuses)" = "0 1 2 3 4 5" ]
 check_page giopdump $statuses
-check_page giopdump-pcap 1 2 4
+check_page giopcap $statuses
 check_page giop-json 0 2 3 4
 check_page giop-stat 0 2 3 4
 check_page giop-chart 0 2 3 4

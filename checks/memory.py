@@ -11,8 +11,6 @@ from typing import List
 from failing import CHECKPOINT, Case, Differences, Ended, cases, checkpoint_of, run
 from rows import row
 
-NO_MEMORY = (b"", b"giopdump: out of memory\n", 5)
-
 # Rows of giop_rows: one of a union in its own types, one of a reply by a request list, and two Requests in fragments.
 ROWS = (
     "a union, a struct with an array, and a bounded sequence",
@@ -45,7 +43,8 @@ def worked(folder: Path) -> List[Case]:
 
 def has_no_memory(case: Case, ended: Ended) -> bool:
     """Whether it is told that there is no memory, and nothing is written or saved."""
-    return (ended.lines, ended.said, ended.status) == NO_MEMORY and ended.is_as_before(case)
+    said = f"{case.program.name}: out of memory\n".encode()
+    return (ended.lines, ended.said, ended.status) == (b"", said, 5) and ended.is_as_before(case)
 
 
 def refuse_each(library: str, case: Case, seen: Differences) -> int:

@@ -1,6 +1,6 @@
 #!/usr/bin/env bash
-# The Debian package: lintian finds no error, and dpkg installs it into an empty folder, where the program dumps an example,
-# the three that read dumps read that, and omniidl finds the converter among Python's packages.
+# The Debian package: lintian finds no error, and dpkg installs it into an empty folder, where the programs dump an example
+# and a capture, the three that read dumps read these, and omniidl finds the converter among Python's packages.
 # Installs lintian, omniidl and binutils where they are missing.
 set -euo pipefail
 cd "$(dirname "$0")/.."
@@ -10,6 +10,7 @@ need_program lintian lintian
 need_program objdump binutils
 need_program omniidl omniidl
 need_giopdump
+need_giopcap
 
 work=$(mktemp -d)
 trap 'rm -rf "$work"' EXIT
@@ -17,7 +18,7 @@ mkdir "$work/again"
 package=$(scripts/package "$work")
 cmp "$package" "$(scripts/package "$work/again")"
 lintian --allow-root --fail-on error --tag-display-limit 0 "$package"
-for page in giopdump giop-json giop-stat giop-chart; do
+for page in giopdump giopcap giop-json giop-stat giop-chart; do
     dpkg-deb --fsys-tarfile "$package" | tar -t | grep -c "^./usr/share/man/man1/$page.1.gz$" > /dev/null
 done
 
@@ -33,13 +34,16 @@ giopdump examples/naming.giop > "$folder/lines"
 grep -q '"operation":"resolve"' <(giop-json "$folder/lines")
 grep -q '^resolve ' <(giop-stat "$folder/lines")
 grep -q '=> "server" \[label="resolve"\]' <(giop-chart "$folder/lines")
+giopcap --signatures examples/naming.sig examples/session.pcap > "$folder/lines"
+grep -qE '^s6 m2 answers s5 m2 resolve after 0\.[0-9]{9}$' "$folder/lines"
+grep -q '"operation":"resolve"' <(giop-json "$folder/lines")
 gzip -cd "$root/usr/share/man/man1/giopdump.1.gz" | grep -q '^.Dt GIOPDUMP'
 echo 'interface Clock { long now(in string zone); };' > "$folder/clock.idl"
 omniidl -bgiopdump_signatures "$folder/clock.idl" > "$folder/clock.sig"
 grep -qx 'operation long now(in string zone);' "$folder/clock.sig"
 giopdump --signatures "$folder/clock.sig" examples/naming.giop > "$folder/lines"
 rm -r "$folder"
-echo "$(basename "$0" .sh): $(giopdump --version), $(find "$root/usr/share/doc/giopdump" -type f | wc -l) documents"
+echo "$(basename "$0" .sh): $(giopdump --version), $(giopcap --version), $(find "$root/usr/share/doc/giopdump" -type f | wc -l) documents"
 END
 
 mkdir -p "$work/root/var/lib/dpkg"

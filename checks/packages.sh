@@ -1,6 +1,6 @@
 # shellcheck shell=bash
 # What the scripts of this folder need: programs of other packages, which are installed where they are missing, and the
-# built dumper. Read by them from the top of the repository. A script ends with status 77 where a package is missing that
+# built programs. Read by them from the top of the repository. A script ends with status 77 where a package is missing that
 # can't be installed.
 
 # need_program PROGRAM PACKAGE
@@ -34,6 +34,14 @@ need_giopdump() {
     giopdump=$PWD/crates/giopdump/out/giopdump
     [ -x "$giopdump" ] && return 0
     echo "$0: $giopdump is missing: build it with: cd crates/giopdump && rt run -- --version" >&2
+    exit 1
+}
+
+# The built reader of captures, as $giopcap.
+need_giopcap() {
+    giopcap=$PWD/crates/giopcap/out/giopcap
+    [ -x "$giopcap" ] && return 0
+    echo "$0: $giopcap is missing: build it with: cd crates/giopcap && rt run -- --version" >&2
     exit 1
 }
 

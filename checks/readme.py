@@ -13,7 +13,8 @@ from typing import Iterator, List, Tuple
 
 TOP = Path(__file__).resolve().parent.parent
 WALKS = [TOP / "README.md", TOP / "docs/USE.md"]
-PROGRAMS = [TOP / "crates/giopdump/out", TOP / "scripts"]
+PROGRAMS = [TOP / "crates/giopdump/out", TOP / "crates/giopcap/out", TOP / "scripts"]
+MOST_WORDS = 2000  # of README.md
 LIBRARY = (TOP / "docs/LIBRARY.md", TOP / "crates/giop_stream_tests/src/own_out.rt")
 
 
@@ -66,7 +67,10 @@ def main() -> int:
     shown = is_shown_as_written(*LIBRARY)
     if not shown:
         print("docs/LIBRARY.md: its code isn't that of the source")
-    return 1 if wrong or broken or not shown else 0
+    words = len((TOP / "README.md").read_text().split())
+    if words > MOST_WORDS:
+        print(f"README.md: {words} words")
+    return 1 if wrong or broken or not shown or words > MOST_WORDS else 0
 
 
 if __name__ == "__main__":

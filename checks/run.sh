@@ -1,13 +1,15 @@
 #!/usr/bin/env bash
-# Runs all scripts of this folder over the built program, which it builds where it is missing. The status is 1 where one
+# Runs all scripts of this folder over the built programs, which it builds where they are missing. The status is 1 where one
 # of them failed. One whose packages are missing and can't be installed is told as not run.
 set -uo pipefail
 cd "$(dirname "$0")/.."
 
-[ -x crates/giopdump/out/giopdump ] || (cd crates/giopdump && rt run -- --version) || exit 1
+for program in giopdump giopcap; do
+    [ -x crates/$program/out/$program ] || (cd crates/$program && rt run -- --version) || exit 1
+done
 
 passed=0 failed=0 not_run=0
-for script in edits edits_faults words python program idl pcap views package manual readme memory calls checkpoints generated; do
+for script in edits edits_faults words python program idl views package manual readme memory calls checkpoints captures streams generated; do
     echo "== checks/$script.sh"
     "checks/$script.sh"
     case $? in

@@ -17,7 +17,7 @@ from typing import Any, Callable, Dict, List, Sequence, Tuple
 from xml.etree import ElementTree
 
 import generated
-from failing import PROGRAM, TOP
+from failing import GIOPCAP, PROGRAM, TOP
 
 sys.path.insert(0, str(TOP / "scripts/tests"))
 
@@ -362,7 +362,7 @@ def check_picture() -> None:
     """The picture of docs/USE.md is that of the command in front of it."""
     command = re.search(r"(?m)^    (.* -o) resolve\.svg$", (TOP / "docs/USE.md").read_text())
     assert command
-    path = os.pathsep.join([str(PROGRAM.parent), str(SCRIPTS), os.environ["PATH"]])
+    path = os.pathsep.join([str(GIOPCAP.parent), str(SCRIPTS), os.environ["PATH"]])
     words = ["bash", "-o", "pipefail", "-c", f"{command[1]} -"]
     environment = dict(os.environ, PATH=path)
     done = subprocess.run(words, cwd=TOP, env=environment, capture_output=True, timeout=60)

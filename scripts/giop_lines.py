@@ -96,11 +96,10 @@ OF_STREAMS = {
     "closed": f"closed ({WORD})",
     "total": f"total messages ({MANY}) faults ({MANY}) octets ({MANY})",
 }
-# Lines of a whole capture, and the head line of giopdump-pcap.
+# Lines of a whole capture.
 OF_CAPTURES = {
     "capture": f"capture fault ({WORD}) at ({MANY})",
     "totals": f"total streams ({MANY}) messages ({MANY}) faults ({MANY}) packets ({MANY}) octets ({MANY})",
-    "head": r"== ([\w.:%\[\]-]+) (<->|->) ([\w.:%\[\]-]+) at (\d{4}-\d\d-\d\d) (\d\d:\d\d:\d\d\.\d{6}) UTC((?:, [ -~]+)?)",
 }
 
 
@@ -282,19 +281,11 @@ def octets_of(descriptor: int) -> bytes:
 
 
 class Stream:
-    """What one end of a connection sends: its number, 0 where lines name none, the two ends, and when it began.
+    """What one end of a connection sends: its number, 0 where lines name none, the two ends, and when it began."""
 
-    With `both_ways` it has what both ends send, the client's first, as giopdump-pcap shows a connection.
-    """
-
-    def __init__(
-        self, number: int, source: str = "", target: str = "", time: str = "", both_ways: bool = False
-    ) -> None:
+    def __init__(self, number: int) -> None:
         self.number = number
-        self.source = source
-        self.target = target
-        self.time = time
-        self.both_ways = both_ways
+        self.source = self.target = self.time = ""
 
 
 class Message(ABC):
@@ -402,10 +393,6 @@ class Dump(ABC, Generic[M]):
         if line.form == "stream":
             stream = messages.stream
             stream.source, stream.target, stream.time = line.fields
-        elif line.form == "head":
-            self._end(messages)
-            source, arrow, target, day, time, _ = line.fields
-            messages = self._streams[0] = Messages(Stream(0, source, target, f"{day}T{time}Z", arrow == "<->"))
         self.said(messages.stream, line)
         if line.form == "total":
             self._end(messages)

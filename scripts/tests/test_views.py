@@ -58,8 +58,6 @@ s1 stream fault truncated at 7
 s1 total messages 1 faults 0 octets 3
 capture fault truncated at 0
 total streams 8 messages 25 faults 0 packets 57 octets 6693
-== 127.0.0.1:33490 <-> 127.0.0.1:12809 at 2026-11-23 08:13:25.580228 UTC
-== 10.0.0.1:1 -> 10.0.0.2:2 at 2026-11-23 08:13:25.580228 UTC, 3 octets missing before
 m1 seen by m2
 s1 drained 3
 m1 body.w wstring @0 0041
@@ -521,42 +519,6 @@ class Json(unittest.TestCase):
                     "packets": 7,
                     "octets": 900,
                     "fault": {"word": "truncated", "at": 900},
-                },
-            ],
-        )
-
-    def test_the_connections_of_giopdump_pcap(self) -> None:
-        lines = """\
-            == 10.0.0.1:7 <-> 10.0.0.2:9 at 2026-11-23 08:13:25.580228 UTC
-            m1 start 1.0 big CloseConnection size 0
-            m1 end
-            total messages 1 faults 0 octets 12
-            == 10.0.0.3:7 -> 10.0.0.2:9 at 2026-11-23 08:13:26.580228 UTC, 3 octets missing before
-            m1 start 1.0 big CloseConnection size 0
-            m1 end
-            total messages 1 faults 0 octets 12
-            == 10.0.0.1:8 <-> 10.0.0.2:9 at 2026-11-23 08:13:27.580228 UTC, 2 packets cut short: not dumped
-            """
-        closing = {"message": 1, "version": "1.0", "order": "big", "type": "CloseConnection", "size": 0}
-        counts = {"messages": 1, "faults": 0, "octets": 12}
-        self.assertEqual(
-            objects(unindented(lines)),
-            [
-                {"between": ["10.0.0.1:7", "10.0.0.2:9"], **closing},
-                {"between": ["10.0.0.1:7", "10.0.0.2:9"], "time": "2026-11-23T08:13:25.580228Z", **counts},
-                {"from": "10.0.0.3:7", "to": "10.0.0.2:9", **closing},
-                {
-                    "from": "10.0.0.3:7",
-                    "to": "10.0.0.2:9",
-                    "time": "2026-11-23T08:13:26.580228Z",
-                    "note": "3 octets missing before",
-                    **counts,
-                },
-                {
-                    "between": ["10.0.0.1:8", "10.0.0.2:9"],
-                    "time": "2026-11-23T08:13:27.580228Z",
-                    "note": "2 packets cut short: not dumped",
-                    "cut": True,
                 },
             ],
         )
