@@ -53,7 +53,7 @@ const CAPTURE_HELP: &str =
 const EXAMPLES: &str = "\
 A capture is dumped as it is written, or from a file:
 
-    tcpdump -w - port 2809 | giopcap --signatures orders.sig
+    tcpdump -U -w - port 2809 | giopcap --signatures orders.sig
     giopcap --signatures orders.sig orders.pcap
 
 The slowest calls are the last of

@@ -9,14 +9,14 @@ use Rattle.giop_stream.specs.EngineView.{EngineView}
 use Rattle.std.proofs.lemmas.Bool.{ltb-true}
 use Rattle.giop_sig.specs.Table.{Table}
 use Rattle.giop_message.specs.Signatures.{Answers}
-use Rattle.giop_message.specs.HeaderEnds.{HeaderEnd, CallEvent, Requested, Replied, call_event, after_event, after_ends, AgreesAtEnds}
+use Rattle.giop_message.specs.HeaderEnds.{HeaderEnd, CallEvent, Header_end, Exception_end, Requested, Replied, Raised, call_event, after_event, after_ends, IsAnswered, AgreesAtEnds}
 use Rattle.giop_stream.specs.Rules.{Rules, rules_by}
 use Rattle.giop_stream.specs.HeaderEndsOfStream.{header_ends_at, header_ends_from}
 use Rattle.giop_stream.specs.EngineHolds.{added, rules_with}
 use Rattle.giop_stream.specs.PieceLimit.{IsQuiet}
 use Rattle.giop_stream.proofs.StreamLaws.{added_both_by, header_ends_both, header_ends_one}
 use Rattle.giop_conversation.specs.Exchanges.{Exchanged, answer_of, notified}
-use Rattle.giop_conversation.specs.Stamped.{begun, time_due, answer_due, unanswered, exchanged_at, exchanged_over, octet_stamped, stamped, Reads, HaveStamped}
+use Rattle.giop_conversation.specs.Stamped.{begun, time_due, due_lines, unanswered, exchanged_at, exchanged_over, octet_stamped, stamped, Reads, HaveStamped}
 
 -- ---- the exchange, whatever it had answered before
 
@@ -26,24 +26,26 @@ event_unanswered : (s : Exchanged) (event : Option CallEvent) →
 event_unanswered s None = refl
 event_unanswered s (Some (Requested number id name operation expects)) = refl
 event_unanswered s (Some (Replied number id)) = refl
+event_unanswered s (Some (Raised number name)) = refl
 
 -- the calls are the same
 pub record AreAlike (s t : Exchanged) : Type 0 where
   pub alike : unanswered s ≡ unanswered t
 
+answered_alike : (a : Answers) (e : HeaderEnd) (s t : Exchanged) → unanswered s ≡ unanswered t →
+    IsAnswered answer_of s a e → IsAnswered answer_of t a e
+answered_alike a (Header_end number header n) s t alike is = is ∙ ap answer_of alike
+answered_alike a (Exception_end number name) s t alike is = tt
+
 agrees_alike : (C : Table) (a : Answers) (es : List HeaderEnd) (s t : Exchanged) → unanswered s ≡ unanswered t →
     AgreesAtEnds answer_of notified C s a es → AgreesAtEnds answer_of notified C t a es
 agrees_alike C a [] s t alike agrees = tt
 agrees_alike C a (e ∷ es) s t alike agrees = (
-  agrees.0 ∙ ap answer_of alike,
+  answered_alike a e s t alike agrees.0,
   agrees_alike C a es (after_event notified s (call_event C e)) (after_event notified t (call_event C e))
       (sym (event_unanswered s (call_event C e)) ∙ (ap (λ (u : Exchanged). unanswered (after_event notified u (call_event C e))) alike
       ∙ event_unanswered t (call_event C e))) agrees.1,
 )
-
-pub agrees_unanswered : (C : Table) (a : Answers) (es : List HeaderEnd) (s : Exchanged) →
-    AgreesAtEnds answer_of notified C s a es → AgreesAtEnds answer_of notified C (unanswered s) a es
-agrees_unanswered C a es s agrees = agrees_alike C a es s (unanswered s) refl agrees
 
 pub agrees_front : (C : Table) (a : Answers) (es fs : List HeaderEnd) (s : Exchanged) →
     AgreesAtEnds answer_of notified C s a (es ++ fs) → AgreesAtEnds answer_of notified C s a es
@@ -107,7 +109,7 @@ no_time n time = by (nat_lt n n) refl
 abbrev pub due_behind : Rules → Exchanged → List ℕ → List ℕ → ℕ → List ℕ
 due_behind R s p front x =
     time_due (begun p) (begun (p ++ (front ++ x ∷ []))) s.time
-    ++ answer_due (exchanged_at R s (p ++ front) x).answered s.time
+    ++ due_lines (exchanged_at R s (p ++ front) x).due s.time
 
 abbrev pub AreQuiet : Rules → List ℕ → List ℕ → Type 0
 AreQuiet R p xs = (q rest : List ℕ) → xs ≡ q ++ rest → IsQuiet R p q
@@ -140,9 +142,9 @@ module _ (C : Table) (a : Answers) (most : ℕ) where
       let same : begun (p ++ y ∷ []) ≡ begun p = (quiet (y ∷ []) xs refl).none_begin in
       let time : time_due (begun p) (begun (p ++ y ∷ [])) s.time ≡ [] =
       ap (λ (n : ℕ). time_due (begun p) n s.time) same ∙ no_time (begun p) s.time in
-      let answer : answer_due (exchanged_at R s p y).answered s.time ≡ [] =
-      ap (λ (u : Exchanged). answer_due u.answered s.time) (quiet_at s p xs y quiet) in
-      ap (λ (t : List ℕ). added R p (y ∷ []) ++ (t ++ answer_due (exchanged_at R s p y).answered s.time)) time
+      let answer : due_lines (exchanged_at R s p y).due s.time ≡ [] =
+      ap (λ (u : Exchanged). due_lines u.due s.time) (quiet_at s p xs y quiet) in
+      ap (λ (t : List ℕ). added R p (y ∷ []) ++ (t ++ due_lines (exchanged_at R s p y).due s.time)) time
       ∙ (ap (λ (t : List ℕ). added R p (y ∷ []) ++ t) answer ∙ append-nil (added R p (y ∷ [])))
 
   pub piece_over : (front p : List ℕ) (x : ℕ) (s : Exchanged) → AreQuiet (rules_by C a most) p front →
@@ -166,9 +168,9 @@ module _ (C : Table) (a : Answers) (most : ℕ) where
       let rest = front ++ x ∷ [] in
       let same : begun q ≡ begun p = (quiet (y ∷ []) front refl).none_begin in
       let due : due_behind R (unanswered s) q front x ≡ due_behind R s p (y ∷ front) x =
-      ap (λ (n : ℕ). time_due n (begun (q ++ rest)) s.time ++ answer_due (exchanged_at R (unanswered s) (q ++ front) x).answered s.time) same
-      ∙ (ap (λ (z : List ℕ). time_due (begun p) (begun z) s.time ++ answer_due (exchanged_at R (unanswered s) (q ++ front) x).answered s.time) (append_assoc p (y ∷ []) rest)
-      ∙ ap (λ (u : Exchanged). time_due (begun p) (begun (p ++ y ∷ rest)) s.time ++ answer_due u.answered s.time)
+      ap (λ (n : ℕ). time_due n (begun (q ++ rest)) s.time ++ due_lines (exchanged_at R (unanswered s) (q ++ front) x).due s.time) same
+      ∙ (ap (λ (z : List ℕ). time_due (begun p) (begun z) s.time ++ due_lines (exchanged_at R (unanswered s) (q ++ front) x).due s.time) (append_assoc p (y ∷ []) rest)
+      ∙ ap (λ (u : Exchanged). time_due (begun p) (begun (p ++ y ∷ rest)) s.time ++ due_lines u.due s.time)
       (at_unanswered R s (q ++ front) x ∙ ap (λ (z : List ℕ). exchanged_at R s z x) (append_assoc p (y ∷ []) front))) in
       ap (λ (t : List ℕ). t ++ stamped R (exchanged_at R s p y) q rest) (quiet_octet s p front y quiet)
       ∙ (ap (λ (u : Exchanged). added R p (y ∷ []) ++ stamped R u q rest) (quiet_at s p front y quiet)
@@ -195,11 +197,13 @@ event_table : (s : Exchanged) (event : Option CallEvent) → (after_event notifi
 event_table s None = refl
 event_table s (Some (Requested number id name operation expects)) = refl
 event_table s (Some (Replied number id)) = refl
+event_table s (Some (Raised number name)) = refl
 
 event_time : (s : Exchanged) (event : Option CallEvent) → (after_event notified s event).time ≡ s.time
 event_time s None = refl
 event_time s (Some (Requested number id name operation expects)) = refl
 event_time s (Some (Replied number id)) = refl
+event_time s (Some (Raised number name)) = refl
 
 ends_table : (C : Table) (es : List HeaderEnd) (s : Exchanged) → (after_ends notified C s es).table ≡ s.table
 ends_table C [] s = refl
@@ -287,7 +291,7 @@ reads_rest e e' s s' before after time a p octets n reads done =
 pub record PieceIs (e : EngineView) (s t : Exchanged) (time : Option ℕ) (a : Answers) (p piece : List ℕ) : Type 0 where
   pub exchange : unanswered t ≡ unanswered (exchanged_over (rules_with e a) s p piece)
   pub text : stamped (rules_with e a) s p piece
-      ≡ added (rules_with e a) p piece ++ (time_due (begun p) (begun (p ++ piece)) time ++ answer_due t.answered time)
+      ≡ added (rules_with e a) p piece ++ (time_due (begun p) (begun (p ++ piece)) time ++ due_lines t.due time)
 
 pub piece_is : (e : EngineView) (s t : Exchanged) (time : Option ℕ) (a : Answers) (p octets : List ℕ) (n : ℕ) →
     0 < n → n ≤ length octets → Reads e s time a p octets →
@@ -313,9 +317,9 @@ piece_is e s t time a p octets n some within reads quiet is =
     record {
       exchange = ap unanswered (told ∙ (sym (piece_over e.table a e.most front p x s calm) ∙ ap (exchanged_over R s p) (sym split)));
       text = ap (stamped R s p) split ∙ (piece_stamped e.table a e.most front p x s calm
-          ∙ (ap (λ (xs : List ℕ). added R p xs ++ (time_due (begun p) (begun (p ++ xs)) s.time ++ answer_due (exchanged_at R s (p ++ front) x).answered s.time)) (sym split)
-          ∙ (ap (λ (u : Exchanged). added R p (take n octets) ++ (time_due (begun p) (begun (p ++ take n octets)) s.time ++ answer_due u.answered s.time)) (sym told)
-          ∙ ap (λ (m : Option ℕ). added R p (take n octets) ++ (time_due (begun p) (begun (p ++ take n octets)) m ++ answer_due t.answered m)) reads.at)));
+          ∙ (ap (λ (xs : List ℕ). added R p xs ++ (time_due (begun p) (begun (p ++ xs)) s.time ++ due_lines (exchanged_at R s (p ++ front) x).due s.time)) (sym split)
+          ∙ (ap (λ (u : Exchanged). added R p (take n octets) ++ (time_due (begun p) (begun (p ++ take n octets)) s.time ++ due_lines u.due s.time)) (sym told)
+          ∙ ap (λ (m : Option ℕ). added R p (take n octets) ++ (time_due (begun p) (begun (p ++ take n octets)) m ++ due_lines t.due m)) reads.at)));
     }
 
 -- ---- piece after piece

@@ -1,6 +1,6 @@
 -- The calls of a connection, as the correspondent of a stream of it knows them (meaning). Of both directions the calls are kept
 -- that have no reply yet: those of the stream that is read, and those of the opposite one, which its Replies answer.
-use Rattle.std.specs.Prelude.{ℕ, ◌&&◌, ◌==◌, Bool, List, [], ◌∷◌, ◌++◌, length, Option, Some, None, nat_le, option_and_then, if◌then◌else◌}
+use Rattle.std.specs.Prelude.{ℕ, ◌&&◌, ◌==◌, Bool, true, List, [], ◌∷◌, ◌++◌, length, Option, Some, None, nat_le, option_and_then, if◌then◌else◌}
 use Rattle.std.specs.List.{find}
 use Rattle.std.specs.Option.{option_map}
 use Rattle.giop_entry_table.specs.declared.entry_table.Entry.{Entry}
@@ -16,6 +16,19 @@ pub record Answering : Type 0 where
   pub message : ℕ
   pub call : Call
 
+-- a Reply that raises an exception: its number in its stream, and the exception's repository id
+pub record Raising : Type 0 where
+  pub message : ℕ
+  pub name : List ℕ
+
+-- what ended of Replies, which is to be written: a header, by the call that is answered, and the name of an exception
+pub record Due : Type 0 where
+  pub answered : Option Answering
+  pub raised : Option Raising
+
+abbrev pub nothing_due : Due
+nothing_due = record { answered = None; raised = None }
+
 pub record Exchanged : Type 0 where
   pub table : Table  -- the operations by their names
   pub own : Entries Call  -- the calls of the stream that is read
@@ -23,7 +36,7 @@ pub record Exchanged : Type 0 where
   pub stream : ℕ  -- the number of the stream that is read
   pub time : Option ℕ  -- that of the packet that is read
   pub replied : ℕ  -- the number of the last Reply whose header has ended; 0 where there is none
-  pub answered : Option Answering  -- what that Reply answers
+  pub due : Due  -- what ended of Replies
 
 abbrev pub with_entries : Entries Call → List (Entry Call) → Entries Call
 with_entries calls es = record calls { entries = es }
@@ -51,14 +64,20 @@ requested s number id (Some name) =
     with_entries s.own (newest s.own.most
     (without id s.own.entries ++ record { key = id; value = call_named s number name } ∷ []))
 
--- behind the header of a Request, and behind that of a Reply, which takes the call that it answers; a raised exception
--- changes nothing
+-- a Reply that raises an exception, whose name has at most 128 octets
+abbrev pub raising : ℕ → List ℕ → Option Raising
+raising number name = option_map (λ kept. record { message = number; name = kept }) (kept_name (Some name) true)
+
+-- behind the header of a Request; behind that of a Reply, which takes the call that it answers; and behind the name of the
+-- exception that a Reply raises
 abbrev pub notified : Exchanged → CallEvent → Exchanged
 notified s (Requested number id name operation expects) =
     record s { own = requested s number id (kept_name name expects) }
 notified s (Replied number id) = record s {
   opposite = with_entries s.opposite (without id s.opposite.entries);
   replied = number;
-  answered = option_map (λ call. record { message = number; call = call }) (call_of s.opposite id);
+  due = record s.due {
+    answered = option_map (λ call. record { message = number; call = call }) (call_of s.opposite id);
+  };
 }
-notified s (Raised number name) = s
+notified s (Raised number name) = record s { due = record s.due { raised = raising number name } }

@@ -1,5 +1,5 @@
 -- What is written of a stream in a capture (docs/FORMATS.md; meaning): behind the lines of each octet those that are due there,
--- when a message began, and which call a Reply answers.
+-- when a message began, which call a Reply answers, and which exception it raises.
 use Rattle.std.specs.Prelude.{◌≡◌, ℕ, List, [], ◌∷◌, ◌++◌, length, Option, Some, None, nat_lt, if◌then◌else◌}
 use Rattle.giop_print.specs.Output.{OutLog, Wrote}
 use Rattle.giop_sig.specs.Table.{Table}
@@ -10,8 +10,8 @@ use Rattle.giop_stream.specs.Framing.{cut, messages}
 use Rattle.giop_stream.specs.HeaderEndsOfStream.{header_ends_at, header_ends_from}
 use Rattle.giop_stream.specs.EngineView.{EngineView}
 use Rattle.giop_stream.specs.EngineHolds.{HoldsBy, added, rules_with}
-use Rattle.giop_conversation.specs.Lines.{time_line, answers_line}
-use Rattle.giop_conversation.specs.Exchanges.{Exchanged, Answering, answer_of, notified}
+use Rattle.giop_conversation.specs.Lines.{time_line, answers_line, raises_line}
+use Rattle.giop_conversation.specs.Exchanges.{Exchanged, Answering, Raising, Due, nothing_due, answer_of, notified}
 
 -- the messages of a stream whose headers of 12 octets are complete
 abbrev pub begun : List ℕ → ℕ
@@ -26,9 +26,17 @@ abbrev pub answer_due : Option Answering → Option ℕ → List ℕ
 answer_due None time = []
 answer_due (Some a) time = answers_line a.message a.call time
 
--- nothing is answered in an octet before its headers end
+-- which exception a Reply raises, where one does
+abbrev pub raise_due : Option Raising → List ℕ
+raise_due None = []
+raise_due (Some r) = raises_line r.message r.name
+
+abbrev pub due_lines : Due → Option ℕ → List ℕ
+due_lines due time = answer_due due.answered time ++ raise_due due.raised
+
+-- nothing is due before a header or a name ends
 abbrev pub unanswered : Exchanged → Exchanged
-unanswered s = record s { answered = None }
+unanswered s = record s { due = nothing_due }
 
 -- the exchange behind the octet x of a stream, after p
 unfoldable pub exchanged_at : Rules → Exchanged → List ℕ → ℕ → Exchanged
@@ -43,7 +51,7 @@ exchanged_over R s p (x ∷ xs) = exchanged_over R (exchanged_at R s p x) (p ++ 
 abbrev pub octet_stamped : Rules → Exchanged → List ℕ → ℕ → List ℕ
 octet_stamped R s p x =
     added R p (x ∷ []) ++ (time_due (begun p) (begun (p ++ x ∷ [])) s.time
-    ++ answer_due (exchanged_at R s p x).answered s.time)
+    ++ due_lines (exchanged_at R s p x).due s.time)
 
 -- what is written of these octets after the stream p, which came in one packet
 unfoldable pub stamped : Rules → Exchanged → List ℕ → List ℕ → List ℕ
@@ -78,4 +86,4 @@ pub record HaveStamped (e e' : EngineView) (s s' : Exchanged) (before after : Ou
 -- the exchange of a direction's stream, and of a packet
 abbrev pub told : Exchanged → Table → ℕ → Option ℕ → Exchanged
 told s table stream time =
-    record s { table = table; stream = stream; time = time; replied = 0; answered = None }
+    record s { table = table; stream = stream; time = time; replied = 0; due = nothing_due }

@@ -15,12 +15,12 @@ ghost use Rattle.giop_stream.specs.EngineHolds.{AreOf, HoldsBy, added, rules_wit
 ghost use Rattle.giop_conversation.specs.Exchanges.{answer_of, notified};
 ghost use Rattle.giop_conversation.specs.Tags.{stream_tag as spec_stream_tag};
 ghost use Rattle.giop_conversation.specs.TaggedState.{tagging_log, tagged_by};
-ghost use Rattle.giop_conversation.specs.Stamped.{unanswered, time_due, answer_due, stamped, told, Agrees, Reads, HaveStamped};
+ghost use Rattle.giop_conversation.specs.Stamped.{unanswered, time_due, answer_due, raise_due, due_lines, stamped, told, Agrees, Reads, HaveStamped};
 ghost use Rattle.giop_conversation.specs.Failing.{FailsByPut};
 ghost use Rattle.giop_conversation.specs.Directions.{HasRead};
 
-use crate::exchange::{Answering, Exchange, answers_are_known};
-use crate::lines::{answers_line, closed_line, stream_line, time_line};
+use crate::exchange::{Answering, Exchange, Raising, answers_are_known};
+use crate::lines::{answers_line, closed_line, raises_line, stream_line, time_line};
 use crate::tag::stream_tag;
 use crate::tagged::Tagged;
 use giop_print::{Out, OutFault};
@@ -237,8 +237,8 @@ impl<'a> Direction<'a> {
     }
 }
 
-/// Writes the lines that are due behind octets that were read: when a message began, where one did, and which call a Reply
-/// answers. The messages that had begun before and behind them are counted.
+/// Writes the lines that are due behind octets that were read: when a message began, where one did, which call a Reply
+/// answers, and which exception it raises. The messages that had begun before and behind them are counted.
 fn write_due<O: Out>(
     exchange: &mut Exchange,
     before: u64,
@@ -248,12 +248,41 @@ fn write_due<O: Out>(
 ) -> Result<(), OutFault>
     ensures taken { exchange.new ≡ unanswered exchange.old }
     ensures lines { Writes result (tagging_log out.old) (tagging_log out.new)
-        (time_due before behind time ++ answer_due exchange.old.answered time) }
+        (time_due before behind time ++ due_lines exchange.old.due time) }
     ensures fails { FailsByPut result out.old out.new }
 {
     let answered = exchange.take_answered();
+    let raised = exchange.take_raised();
     write_time(before, behind, time, out)?;
-    write_answer(answered, time, out)
+    write_replies(answered, raised, time, out)
+}
+
+/// Writes which call a Reply answers, and which exception it raises, where one does.
+fn write_replies<O: Out>(
+    answered: Option<Answering>,
+    raised: Option<Raising>,
+    time: Option<u128>,
+    out: &mut Tagged<O>,
+) -> Result<(), OutFault>
+    ensures lines { Writes result (tagging_log out.old) (tagging_log out.new)
+        (answer_due (option_map (λ a. record { message = a.message; call = a.call }) answered) time
+        ++ raise_due (option_map (λ r. record { message = r.message; name = r.name.items }) raised)) }
+    ensures fails { FailsByPut result out.old out.new }
+{
+    write_answer(answered, time, out)?;
+    write_raise(raised, out)
+}
+
+/// Writes which exception a Reply raises, where one does.
+fn write_raise<O: Out>(raised: Option<Raising>, out: &mut Tagged<O>) -> Result<(), OutFault>
+    ensures lines { Writes result (tagging_log out.old) (tagging_log out.new)
+        (raise_due (option_map (λ r. record { message = r.message; name = r.name.items }) raised)) }
+    ensures fails { FailsByPut result out.old out.new }
+{
+    match raised {
+        Some(raised) => raises_line(out, raised.message, raised.name.as_slice()),
+        None => Ok(()),
+    }
 }
 
 /// Writes when a message began, where one did.

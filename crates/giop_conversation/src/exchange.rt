@@ -4,7 +4,7 @@ ghost use Rattle.std.specs.Prelude.{◌≡◌, [], None, IfOk, MatchOption};
 ghost use Rattle.std.specs.Option.{option_map};
 ghost use Rattle.giop_sig.specs.Table.{Table};
 ghost use Rattle.giop_message.specs.MessageState.{AreKnown};
-ghost use Rattle.giop_conversation.specs.Exchanges.{Exchanged, kept_name, answer_of};
+ghost use Rattle.giop_conversation.specs.Exchanges.{Exchanged, nothing_due, kept_name, answer_of};
 
 use arrayvec::ArrayVec;
 use giop_calls::{Call, Calls, NAME_ROOM};
@@ -23,6 +23,15 @@ pub struct Answering {
     pub call: Call,
 }
 
+/// A Reply that raises an exception.
+#[derive(Drop)]
+pub struct Raising {
+    /// The number of the Reply in its stream, from 1.
+    pub message: u64,
+    /// The exception's repository id, of at most 128 octets.
+    pub name: ArrayVec<u8, NAME_ROOM>,
+}
+
 /// The calls of both directions of a connection that have no reply yet. It is the correspondent of a stream of the
 /// connection: Requests in it add calls, and Replies answer those of the opposite direction.
 #[derive(Drop)]
@@ -34,10 +43,11 @@ pub struct Exchange<'a> {
     time: Option<u128>,
     replied: u64,
     answered: Option<Answering>,
+    raised: Option<Raising>,
 }
 
 impl<'a> Model for Exchange<'a> {
-    ghost use Rattle.giop_conversation.specs.Exchanges.{Exchanged};
+    ghost use Rattle.giop_conversation.specs.Exchanges.{Exchanged, Due};
 
     ghost Value = { Exchanged };
 
@@ -50,7 +60,10 @@ impl<'a> Model for Exchange<'a> {
       stream = e.stream;
       time = e.time;
       replied = e.replied;
-      answered = option_map (λ a. record { message = a.message; call = a.call }) e.answered;
+      due = record {
+        answered = option_map (λ a. record { message = a.message; call = a.call }) e.answered;
+        raised = option_map (λ r. record { message = r.message; name = r.name.items }) e.raised;
+      };
     } };
 }
 
@@ -68,7 +81,7 @@ impl<'a> Exchange<'a> {
           stream = 0;
           time = None;
           replied = 0;
-          answered = None;
+          due = nothing_due;
         }) }
     {
         Ok(Exchange {
@@ -79,6 +92,7 @@ impl<'a> Exchange<'a> {
             time: None,
             replied: 0,
             answered: None,
+            raised: None,
         })
     }
 
@@ -102,13 +116,14 @@ impl<'a> Exchange<'a> {
           stream = stream;
           time = time;
           replied = 0;
-          answered = None;
+          due = nothing_due;
         } }
     {
         self.stream = stream;
         self.time = time;
         self.replied = 0;
         self.answered = None;
+        self.raised = None;
     }
 
     /// The number of the last Reply whose header has ended, of the octets that were read since `read_in`; 0 where there is none.
@@ -120,10 +135,18 @@ impl<'a> Exchange<'a> {
 
     /// What the last Reply answers; it is handed out once.
     pub fn take_answered(&mut self) -> Option<Answering>
-        ensures value { option_map (λ a. record { message = a.message; call = a.call }) result ≡ self.old.answered }
-        ensures taken { self.new ≡ record self.old { answered = None } }
+        ensures value { option_map (λ a. record { message = a.message; call = a.call }) result ≡ self.old.due.answered }
+        ensures taken { self.new ≡ record self.old { due = record self.old.due { answered = None } } }
     {
         self.answered.take()
+    }
+
+    /// The exception that a Reply raises; it is handed out once.
+    pub fn take_raised(&mut self) -> Option<Raising>
+        ensures value { option_map (λ r. record { message = r.message; name = r.name.items }) result ≡ self.old.due.raised }
+        ensures taken { self.new ≡ record self.old { due = record self.old.due { raised = None } } }
+    {
+        self.raised.take()
     }
 
     /// Forgets the calls of the stream that is read. Their memory is kept.
@@ -201,7 +224,12 @@ impl<'a> Correspondent for Exchange<'a> {
         });
     }
 
-    fn raised(&mut self, _number: u64, _name: &[u8]) {}
+    fn raised(&mut self, number: u64, name: &[u8]) {
+        self.raised = kept_name(Some(name), true).map(|name| Raising {
+            message: number,
+            name,
+        });
+    }
 
     ghost known = { known_still };
 }

@@ -14,7 +14,7 @@ mod tagged;
 mod times;
 
 pub use conversations::Conversations;
-pub use exchange::{Answering, Exchange, answers_are_known};
+pub use exchange::{Answering, Exchange, Raising, answers_are_known};
 pub use laws::{lines_stand_below, lines_with_tags};
 pub use limits::{Limits, NoMemory};
 pub use lines::{

@@ -7,6 +7,8 @@ use std::test::Fail;
 
 const PING: &[u8] = b"ping";
 
+const RAISED: &[u8] = b"IDL:Full:1.0";
+
 #[test]
 fn a_reply_answers_the_call_of_the_other_direction(rt: HostRuntime) -> Result<(), Fail> {
     let catalogue = Catalogue::parse(rt.alloc(), b"signatures 1; operation void ping();")?;
@@ -31,6 +33,14 @@ fn a_reply_answers_the_call_of_the_other_direction(rt: HostRuntime) -> Result<()
         assert!(rt; answering.call.time == Some(5));
     }
     assert!(rt; exchange.take_answered().is_none());
+    exchange.raised(2, RAISED);
+    let raising = exchange.take_raised();
+    assert!(rt; raising.is_some());
+    if let Some(raising) = raising {
+        assert!(rt; raising.message == 2);
+        assert!(rt; raising.name.as_slice() == RAISED);
+    }
+    assert!(rt; exchange.take_raised().is_none());
     Ok(())
 }
 

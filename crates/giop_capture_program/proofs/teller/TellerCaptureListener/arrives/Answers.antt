@@ -1,5 +1,5 @@
 -- A time changes no stream.
-use Rattle.giop_capture_program.proofs.Telling.{followed_on}
+use Rattle.giop_capture_program.proofs.TellerLemmas.{followed_on}
 use Rattle.giop_capture_program.proofs.teller.TellerCaptureListener.arrives.Goals as goal
 
 pub returns : goal.returns

@@ -1,5 +1,5 @@
 -- A fault of the capture changes no stream.
-use Rattle.giop_capture_program.proofs.Telling.{followed_on}
+use Rattle.giop_capture_program.proofs.TellerLemmas.{followed_on}
 use Rattle.giop_capture_program.proofs.teller.TellerCaptureListener.has_fault.Goals as goal
 
 pub returns-in-Ok-clause-does : goal.returns-in-Ok-clause-does

@@ -7,7 +7,7 @@ use Rattle.giop_message.specs.MessageState.{AreKnown}
 use Rattle.giop_stream.specs.HeaderEndsOfStream.{header_ends_from}
 use Rattle.giop_stream.specs.EngineHolds.{rules_with}
 use Rattle.giop_conversation.specs.Tags.{stream_tag}
-use Rattle.giop_conversation.specs.Exchanges.{Exchanged, answer_of}
+use Rattle.giop_conversation.specs.Exchanges.{Exchanged, answer_of, nothing_due}
 use Rattle.giop_conversation.specs.TaggedState.{Tagging, tagging_log, tagged_by}
 use Rattle.giop_conversation.specs.Directions.{DirectionView}
 use Rattle.giop_conversation.specs.Stamped.{unanswered, stamped, told, Agrees, Reads}
@@ -86,7 +86,7 @@ returns-clause-stamped g c = λ a p holds agrees.
     ∙ (sym c.self.invariant.same ∙ ap (λ (v : DirectionView). v.engine.table) c.self.view_is)) in
     let is : s ≡ told c.args.exchange.now e.table d.stream c.args.time =
     c.read_in.ensures
-    ∙ (ap (λ (u : Exchanged). record u { stream = c.self.inside.stream; time = c.args.time; replied = 0; answered = None }) c.set_catalogue.ensures
+    ∙ (ap (λ (u : Exchanged). record u { stream = c.self.inside.stream; time = c.args.time; replied = 0; due = nothing_due }) c.set_catalogue.ensures
     ∙ (ap (λ (C : Table). told c.args.exchange.now C c.self.inside.stream c.args.time) (sym c.self.invariant.same)
     ∙ ap (λ (v : DirectionView). told c.args.exchange.now v.engine.table v.stream c.args.time) c.self.view_is)) in
     let tag : c.set_tag.new.self ≡ tagged_by c.args.out.now (stream_tag d.stream) =
@@ -120,7 +120,7 @@ returns-in_err-at-clause-stamped g c = λ a p holds agrees.
     ∙ (sym c.self.invariant.same ∙ ap (λ (v : DirectionView). v.engine.table) c.self.view_is)) in
     let is : s ≡ told c.args.exchange.now e.table d.stream c.args.time =
     c.read_in.ensures
-    ∙ (ap (λ (u : Exchanged). record u { stream = c.self.inside.stream; time = c.args.time; replied = 0; answered = None }) c.set_catalogue.ensures
+    ∙ (ap (λ (u : Exchanged). record u { stream = c.self.inside.stream; time = c.args.time; replied = 0; due = nothing_due }) c.set_catalogue.ensures
     ∙ (ap (λ (C : Table). told c.args.exchange.now C c.self.inside.stream c.args.time) (sym c.self.invariant.same)
     ∙ ap (λ (v : DirectionView). told c.args.exchange.now v.engine.table v.stream c.args.time) c.self.view_is)) in
     let tag : c.set_tag.new.self ≡ tagged_by c.args.out.now (stream_tag d.stream) =

@@ -8,7 +8,7 @@ use Rattle.giop_stream.specs.EngineHolds.{added, rules_with}
 use Rattle.giop_stream.specs.PieceLimit.{IsQuiet}
 use Rattle.giop_conversation.specs.Exchanges.{notified}
 use Rattle.giop_conversation.specs.TaggedState.{tagging_log}
-use Rattle.giop_conversation.specs.Stamped.{begun, time_due, answer_due, stamped, HaveStamped}
+use Rattle.giop_conversation.specs.Stamped.{begun, time_due, due_lines, stamped, HaveStamped}
 use Rattle.giop_conversation.proofs.StampedLemmas.{reads_front, piece_is, octets_front}
 use Rattle.giop_conversation.proofs.direction.Direction.read_piece.Goals as goal
 
@@ -35,7 +35,7 @@ returns-clause-stamped g c = λ a p reads.
     let counts : m ≡ begun p = c.totals-begun.ensures.messages a p (rw (← c.self.view_is) at reads.holds) in
     let counts' : m' ≡ begun (p ++ take n octets) = c.totals-messages.ensures.messages a (p ++ take n octets) (rw (← c.self-2.view_is) at held) in
     let plus = added (rules_with e a) p (take n octets) in
-    let due = answer_due t.answered time in
+    let due = due_lines t.due time in
     record {
       holds = held;
       table = c.in_ok-feed.ensures.same.0;
@@ -66,7 +66,7 @@ returns-in_err-feed-clause-stamped g c = λ a p reads.
     let front = c.in_err-feed.ensures.text a p reads.holds (reads_front e s time a p octets n reads) in
     let whole : WroteFront before after (stamped R s p (take n octets)) =
     rw is.text (front-append before after (added R p (take n octets))
-    (time_due (begun p) (begun (p ++ take n octets)) time ++ answer_due t.answered time) front) in
+    (time_due (begun p) (begun (p ++ take n octets)) time ++ due_lines t.due time) front) in
     MatchResult-from_err c.from_residual.result
     (λ k. HaveStamped e c.feed.new.self.engine s c.feed.new.exchange before after a p (take k octets))
     (λ _. WroteFront before after (stamped R s p octets)) c.from_residual.ensures.0
@@ -96,7 +96,7 @@ returns-in_err-write_due-clause-stamped g c = λ a p reads.
     let counts : m ≡ begun p = c.totals-begun.ensures.messages a p (rw (← c.self.view_is) at reads.holds) in
     let counts' : m' ≡ begun (p ++ take n octets) = c.totals-messages.ensures.messages a (p ++ take n octets) (rw (← c.self-2.view_is) at held) in
     let plus = added R p (take n octets) in
-    let due = answer_due t.answered time in
+    let due = due_lines t.due time in
     let whole : WroteFront before after (stamped R s p (take n octets)) =
     subst (WroteFront before after)
     (ap (λ (k : ℕ). plus ++ (time_due k m' time ++ due)) counts
