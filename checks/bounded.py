@@ -27,7 +27,7 @@ TRIED = (
 CAPTURES = (("short", 10), ("short", 5000), ("long", 10_000), ("long", 20_000_000), ("late", 20_000_000))
 # The sentence of both pages.
 SAID = re.compile(
-    r"memory is (\d+) MB, ([\d,]+) octets for each block of the pool, and for each connection (\d+) KB, ([\d,]+) octets for "
+    r"memory is ([\d,]+) KB, ([\d,]+) octets for each block of the pool, and for each connection (\d+) KB, ([\d,]+) octets for "
     r"each message that may be open and (\d+) for each call[a-z ]*: (\d+) MB"
 )
 
@@ -90,7 +90,7 @@ def by_options() -> bool:
         words = ("--connections", connections, "--open", opened, "--calls", calls, "--pool", pool)
         peak, _ = mapped([str(word) for word in words], made("short", 1))
         for_each = 1000 * connection + message * opened + call * calls
-        wanted = 1_000_000 * base + block * pool + connections * for_each
+        wanted = 1000 * base + block * pool + connections * for_each
         print(f"{' '.join(map(str, words))}: {peak} octets mapped, {wanted} said")
         right = right and abs(peak - wanted) <= wanted / 20
         if (connections, opened, calls, pool) == WITHOUT:

@@ -92,7 +92,7 @@ def definitions(text: str) -> list[tuple[str, int, int]]:
 
 
 # What is used by nothing yet: public calls that wait for the crate above them.
-AWAITED = frozenset(("gapless_beside", "added_both_by", "header_ends_one"))
+AWAITED = frozenset(("gapless_beside", "header_ends_one"))
 
 
 def unused(files: dict[Path, str]) -> list[str]:
