@@ -1,1 +1,2 @@
 mod TellerLemmas
+mod Reading

@@ -1,7 +1,13 @@
--- What happens in the capture itself changes no stream.
-use Rattle.std.proofs.Common.{◌≡◌, ℕ, List, [], ◌∷◌, ◌++◌, refl}
+-- What the conversations of a capture have followed and told stays where nothing happens in a flow.
+use Rattle.std.proofs.Common.{◌≡◌, ℕ, List, [], ◌∷◌, ◌++◌, Option, Some, None, refl, ap, subst, sym}
+use Rattle.std.specs.Prelude.{Result, Ok, Err, OnOk}
+use Rattle.std.specs.Io.KnownBytes.{Keeps}
 use Rattle.tcp_flow.specs.Flow.{Event, CaptureEvent, OfCapture}
 use Rattle.giop_conversation.specs.declared.conversation.Conversation.{Conversation}
+use Rattle.giop_conversation.specs.declared.conversations.Conversations.{Conversations}
+use Rattle.giop_conversation.specs.Captured.{Setup}
+use Rattle.giop_conversation.specs.DumpTold.{Told}
+use Rattle.giop_conversation.specs.Follows.{Follows}
 use Rattle.giop_conversation.specs.Followed.{octets_behind, octets_from, HaveFollowed}
 
 same_octets : (flow : ℕ) (p : List ℕ) (events : List Event) (event : CaptureEvent)
@@ -13,3 +19,52 @@ same_octets flow p (e ∷ es) event = same_octets flow (octets_behind flow p e) 
 pub followed_on : (rooms : List Conversation) (events : List Event) (event : CaptureEvent)
     → HaveFollowed rooms events → HaveFollowed rooms (events ++ OfCapture event ∷ [])
 followed_on rooms events event h = λ flow. rw (same_octets flow [] events event) (h flow)
+
+-- ---- What was put stays over a flush.
+
+some_known : (after : Option (List ℕ)) (w : List ℕ) → Keeps (Some w) after → after ≡ Some w
+some_known None w kept = absurd kept
+some_known (Some xs) w kept = ap Some kept
+
+pub still_known : (before after : Option (List ℕ)) (w : List ℕ) → Keeps before after → before ≡ Some w
+    → after ≡ Some w
+still_known before after w kept known = some_known after w (subst (λ x. Keeps x after) known kept)
+
+told_on : {O : Type 0} (c : Conversations O) (put : Option (List ℕ)) (S : Setup) (written : List ℕ)
+    (events : List Event) → Keeps c.out.whole put → Told S written events c
+    → Told S written events (record c { out = record c.out { whole = put } })
+told_on c put S written events kept told =
+    let h = told.holds in
+    let r = h.ready in
+    record {
+      dump = told.dump;
+      leads = told.leads;
+      holds = record {
+        connections = h.connections;
+        ready = record {
+          known = still_known c.out.whole put told.dump.text kept r.known;
+          before = r.before;
+          text = r.text;
+          stands = r.stands;
+          ended = r.ended;
+          due = r.due;
+          sound = r.sound;
+        };
+        time_is = h.time_is;
+        streams_are = h.streams_are;
+        messages_are = h.messages_are;
+        faults_are = h.faults_are;
+        cut_is = h.cut_is;
+      };
+    }
+
+pub kept_on : {O : Type 0} {A E : Type 0} (begins : Setup → List ℕ → Type 0) (c d : Conversations O)
+    (events : List Event) (r : Result A E)
+    → d ≡ record c { out = record c.out { whole = d.out.whole } } → Keeps c.out.whole d.out.whole
+    → Follows c events × ((S : Setup) (written : List ℕ) → begins S written → Told S written events c)
+    → OnOk r (Follows d events × ((S : Setup) (written : List ℕ) → begins S written → Told S written events d))
+kept_on begins c d events (Err e) same kept h = tt
+kept_on begins c d events (Ok v) same kept h = (
+  subst (λ x. Follows x events) (sym same) h.0,
+  λ S written b. subst (λ x. Told S written events x) (sym same) (told_on c d.out.whole S written events kept (h.1 S written b)),
+)

@@ -5,6 +5,7 @@ ghost use Rattle.clap.specs.Values.{kind_of};
 ghost use Rattle.giop_capture_program.specs.Steps.{capture_status as spec_status};
 
 use crate::steps::perform_capture;
+use crate::teller::Unknown;
 use clap::Error;
 use clap::error::ErrorKind;
 use giop_capture_run::{Arguments, Ending, Notices};
@@ -55,7 +56,11 @@ fn print_capture(rt: &HostRuntime, asked: Arguments) -> u8
     ensures { result ≤ 5 }
 {
     let name = asked.capture;
-    let ended = perform_capture(rt, asked, Retrying::new(rt.stdout()), Console { rt });
+    let out = Retrying::new(rt.stdout());
+    let ended = match perform_capture::<_, _, _, Unknown>(rt, asked, out, Console { rt }) {
+        Ok((ending, _)) => Ok(ending),
+        Err(fault) => Err(fault),
+    };
     if let Ok(Ending::NoCapture) = ended {
         match name {
             None => {

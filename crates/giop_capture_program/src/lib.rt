@@ -7,4 +7,4 @@ mod teller;
 
 pub use console::program;
 pub use steps::perform_capture;
-pub use teller::Teller;
+pub use teller::{Beginning, Teller, Unknown};

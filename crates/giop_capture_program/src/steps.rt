@@ -1,16 +1,20 @@
 //! The program's steps after its words: signatures, the opening of the capture, room, reading. The first that fails determines
 //! the status.
 
-ghost use Rattle.std.specs.Prelude.{◌≡◌, ◌⊎◌, [], Some, IfOk, IfErr};
+ghost use Rattle.std.specs.Prelude.{◌≡◌, ◌⊎◌, List, ℕ, [], Some, IfOk, IfErr};
 ghost use Rattle.giop_stream.specs.EngineHolds.{AreOf};
 ghost use Rattle.tcp_connections.specs.Connections.{none_known};
+ghost use Rattle.giop_sig.specs.Table.{Table};
+ghost use Rattle.giop_conversation.specs.Captured.{Setup};
+ghost use Rattle.giop_conversation.specs.DumpTold.{Told};
 ghost use Rattle.giop_conversation.specs.Follows.{Follows};
 ghost use Rattle.giop_conversation.specs.Followed.{reader_faulted};
-ghost use Rattle.giop_run.specs.Files.{NoStream, stream_of};
+ghost use Rattle.giop_run.specs.Buffered.{lines_log};
+ghost use Rattle.giop_run.specs.Files.{CatalogueOf, NoStream, stream_of};
 ghost use Rattle.giop_capture_run.specs.PacketState.{HasRead};
-ghost use Rattle.giop_capture_program.specs.Steps.{CaptureDumped, NotDumped, RunFailed, capture_of};
+ghost use Rattle.giop_capture_program.specs.Steps.{BeginsAs, CaptureDumped, NotDumped, RunFailed, capture_of, signatures_of};
 
-use crate::teller::Teller;
+use crate::teller::{Beginning, Teller};
 use capture_file::Capture;
 use giop_capture_run::{Arguments, Ending, Notices, PacketReader, dump_capture, packet_reader};
 use giop_conversation::{Conversations, Limits};
@@ -19,41 +23,52 @@ use giop_sig::{Catalogue, Requests};
 use std::alloc::{AllocError, Global};
 use std::io::{Read, Write};
 
-/// The steps after the words. Answers how the dump ended.
-pub fn perform_capture<'a, R: Inputs + AllocGlobal, W: Write + Drop, N: Notices + Drop>(
+/// The steps after the words. Answers how the dump ended, and the out that it was put to.
+pub fn perform_capture<
+    'a,
+    R: Inputs + AllocGlobal,
+    W: Write + Drop,
+    N: Notices + Drop,
+    B: Beginning,
+>(
     rt: &R,
     asked: Arguments<'a>,
     writer: W,
     notices: N,
-) -> Result<Ending, ProgramFault<'a>>
+) -> Result<(Ending, Lines<W>), ProgramFault<'a>>
     requires told { N.told notices [] }
-    ensures dumped { IfOk result (λ ending. CaptureDumped ending N.told asked.entry
-        (stream_of (R.held rt.now) (R.given rt.now) (capture_of asked.entry))) }
+    requires begins { (C : Table) → CatalogueOf (R.held rt.now) (signatures_of asked) C
+        → BeginsAs B.begins asked C (W.contents writer) }
+    ensures dumped { IfOk result (λ ended. CaptureDumped ended.0 N.told B.begins asked.entry
+        (stream_of (R.held rt.now) (R.given rt.now) (capture_of asked.entry))
+        (lines_log W.contents ended.1).written) }
     ensures refused { IfErr result (NotDumped (R.held rt.now) asked.entry) }
 {
     let catalogue = catalogue(rt, asked.signatures)?;
-    open_and_dump(rt, asked, &catalogue, writer, notices)
+    open_and_dump::<R, W, N, B>(rt, asked, &catalogue, writer, notices)
 }
 
 /// The steps after the signatures.
-fn open_and_dump<'a, R: Inputs + AllocGlobal, W: Write + Drop, N: Notices + Drop>(
+fn open_and_dump<'a, R: Inputs + AllocGlobal, W: Write + Drop, N: Notices + Drop, B: Beginning>(
     rt: &R,
     asked: Arguments<'a>,
     catalogue: &Catalogue,
     writer: W,
     notices: N,
-) -> Result<Ending, ProgramFault<'a>>
+) -> Result<(Ending, Lines<W>), ProgramFault<'a>>
     requires told { N.told notices [] }
-    ensures dumped { IfOk result (λ ending. CaptureDumped ending N.told asked.entry
-        (stream_of (R.held rt.now) (R.given rt.now) (capture_of asked.entry))) }
+    requires begins { BeginsAs B.begins asked catalogue.now (W.contents writer) }
+    ensures dumped { IfOk result (λ ended. CaptureDumped ended.0 N.told B.begins asked.entry
+        (stream_of (R.held rt.now) (R.given rt.now) (capture_of asked.entry))
+        (lines_log W.contents ended.1).written) }
     ensures refused { IfErr result (λ fault.
         NoStream (capture_of asked.entry) fault ⊎ RunFailed fault) }
 {
     let Some(name) = asked.capture else {
-        return dump(rt, rt.standard_input(), asked, catalogue, writer, notices);
+        return dump::<_, _, _, _, B>(rt, rt.standard_input(), asked, catalogue, writer, notices);
     };
     match opened(rt, name) {
-        Ok(file) => dump(rt, file, asked, catalogue, writer, notices),
+        Ok(file) => dump::<_, _, _, _, B>(rt, file, asked, catalogue, writer, notices),
         Err(fault) => Err(fault),
     }
 }
@@ -70,17 +85,25 @@ fn opened<'a, R: Inputs>(rt: &R, name: &'a str) -> Result<R::File, ProgramFault<
 }
 
 /// The steps after the opening of the capture.
-fn dump<'a, R: Inputs + AllocGlobal, F: Read + Drop, W: Write + Drop, N: Notices + Drop>(
+fn dump<
+    'a,
+    R: Inputs + AllocGlobal,
+    F: Read + Drop,
+    W: Write + Drop,
+    N: Notices + Drop,
+    B: Beginning,
+>(
     rt: &R,
     file: F,
     asked: Arguments<'a>,
     catalogue: &Catalogue,
     writer: W,
     notices: N,
-) -> Result<Ending, ProgramFault<'a>>
+) -> Result<(Ending, Lines<W>), ProgramFault<'a>>
     requires told { N.told notices [] }
-    ensures dumped { IfOk result (λ ending.
-        CaptureDumped ending N.told asked.entry (F.remaining file)) }
+    requires begins { BeginsAs B.begins asked catalogue.now (W.contents writer) }
+    ensures dumped { IfOk result (λ ended. CaptureDumped ended.0 N.told B.begins asked.entry
+        (F.remaining file) (lines_log W.contents ended.1).written) }
     ensures refused { IfErr result (λ fault.
         NoStream (capture_of asked.entry) fault ⊎ RunFailed fault) }
 {
@@ -88,27 +111,31 @@ fn dump<'a, R: Inputs + AllocGlobal, F: Read + Drop, W: Write + Drop, N: Notices
     let Ok(mut capture) = Capture::new(rt.alloc()) else {
         return Err(ProgramFault::OutOfMemory);
     };
-    let Ok(mut reader) = reader(rt.alloc(), asked, catalogue, &requests, writer, notices) else {
+    let Ok(mut reader) = reader::<W, N, B>(rt.alloc(), asked, catalogue, &requests, writer, notices)
+    else {
         return Err(ProgramFault::OutOfMemory);
     };
     match dump_capture(&mut Reading::new(file), &mut capture, &mut reader) {
-        Ok(ending) => Ok(ending),
+        Ok(ending) => Ok((ending, reader.into_listener().into_out())),
         Err(fault) => Err(ProgramFault::Run(fault)),
     }
 }
 
 /// Takes all memory for the connections and conversations of a capture.
-fn reader<'c, W: Write + Drop, N: Notices + Drop>(
+fn reader<'c, W: Write + Drop, N: Notices + Drop, B: Beginning>(
     alloc: Global,
     asked: Arguments<'_>,
     catalogue: &'c Catalogue,
     requests: &'c Requests,
     writer: W,
     notices: N,
-) -> Result<PacketReader<Teller<'c, Lines<W>>, N>, AllocError>
+) -> Result<PacketReader<Teller<'c, Lines<W>, B>, N>, AllocError>
     requires of { AreOf catalogue.now requests.now }
     requires told { N.told notices [] }
-    ensures { IfOk result (λ r. HasRead (Follows r.streams.listener.conversations) (N.told r.notices)
+    requires begins { BeginsAs B.begins asked catalogue.now (W.contents writer) }
+    ensures { IfOk result (λ r. HasRead (λ events. Follows r.streams.listener.conversations events
+        × ((S : Setup) (written : List ℕ) → B.begins S written
+        → Told S written events r.streams.listener.conversations)) (N.told r.notices)
         reader_faulted r.connections r.streams.live.items r.unread.told.items
         (none_known asked.entry.ports.items asked.entry.pool asked.entry.connections []) []) }
 {

@@ -1,39 +1,87 @@
 //! The conversations of a capture, as they are told what happens in its flows.
 
-ghost use Rattle.std.specs.Prelude.{◌≡◌, ◌<◌, ◌⊎◌, ◌||◌, true, nat_lt};
+ghost use Rattle.std.specs.Prelude.{◌≡◌, ◌<◌, ◌⊎◌, ◌||◌, true, nat_lt, OnErr};
+ghost use Rattle.std.specs.Io.KnownBytes.{Keeps};
 
 use capture_file::CaptureFault;
 use giop_capture_run::CaptureListener;
 use giop_conversation::Conversations;
 use giop_run::Flush;
+use std::marker::PhantomData;
 use tcp_flow::{CloseCause, Listener, ListenerFault};
 use tcp_segment::Flow;
 
-/// Tells conversations what happens in the flows of a capture, and writes their lines to an out that is flushed.
-#[derive(Drop)]
-pub struct Teller<'a, O: Flush + Drop> {
-    conversations: Conversations<'a, O>,
-    flush_failed: bool,
+/// What is known of a dump before it begins. It has no value: contracts alone speak of it, and what they say of a dump they say
+/// of each.
+pub trait Beginning {
+    ghost use Rattle.std.specs.Prelude.{List, ℕ};
+    ghost use Rattle.giop_conversation.specs.Captured.{Setup};
+
+    /// A dump may have this setup, and begin behind these octets.
+    ghost begins: { Setup → List ℕ → Type 0 };
 }
 
-impl<'a, O: Flush + Drop> Teller<'a, O> {
+/// Nothing is known of a dump before it begins.
+pub struct Unknown;
+
+impl Beginning for Unknown {
+    ghost begins = { λ _ _. ⊥ };
+}
+
+/// Tells conversations what happens in the flows of a capture, and writes their lines to an out that is flushed.
+#[derive(Drop)]
+pub struct Teller<'a, O: Flush + Drop, B: Beginning> {
+    conversations: Conversations<'a, O>,
+    flush_failed: bool,
+    beginning: PhantomData<B>,
+}
+
+impl<'a, O: Flush + Drop, B: Beginning> Teller<'a, O, B> {
     /// Tells these conversations.
-    pub fn new(conversations: Conversations<'a, O>) -> Teller<'a, O>
+    pub fn new(conversations: Conversations<'a, O>) -> Teller<'a, O, B>
         ensures conversations { result.conversations ≡ conversations.entry }
     {
         Teller {
             conversations,
             flush_failed: false,
+            beginning: PhantomData,
         }
+    }
+
+    /// What was put stays, and is to be seen.
+    fn flush_out(&mut self) -> Result<(), ListenerFault>
+        ensures put { Keeps self.old.conversations.out.whole self.new.conversations.out.whole }
+        ensures same { self.new.conversations ≡ record self.old.conversations {
+          out = record self.old.conversations.out { whole = self.new.conversations.out.whole };
+        } }
+        ensures cause { OnErr result (self.new.flush_failed ≡ true) }
+    {
+        if self.conversations.out_mut().flush().is_err() {
+            self.flush_failed = true;
+            return Err(ListenerFault);
+        }
+        Ok(())
+    }
+
+    /// The out below.
+    pub fn into_out(self) -> O
+        ensures { (O.log result).written ≡ self.entry.conversations.out.whole }
+    {
+        self.conversations.into_out()
     }
 }
 
-impl<'a, O: Flush + Drop> Listener for Teller<'a, O> {
-    ghost use Rattle.std.specs.Prelude.{◌≡◌, ◌<◌, ◌⊎◌, true};
+impl<'a, O: Flush + Drop, B: Beginning> Listener for Teller<'a, O, B> {
+    ghost use Rattle.std.specs.Prelude.{◌≡◌, ◌<◌, ◌⊎◌, List, ℕ, true};
+    ghost use Rattle.giop_conversation.specs.Captured.{Setup};
     ghost use Rattle.giop_conversation.specs.Follows.{Follows};
     ghost use Rattle.giop_conversation.specs.Followed.{reader_faulted};
+    ghost use Rattle.giop_conversation.specs.DumpTold.{Told};
 
-    ghost observed = { λ t events. Follows t.conversations events };
+    // The streams are those of the events, and below stands their text.
+    ghost observed = { λ t events. Follows t.conversations events
+        × ((S : Setup) (written : List ℕ) → B.begins S written
+        → Told S written events t.conversations) };
 
     ghost failed = { λ t. (0 < t.conversations.out.failures) ⊎ (t.flush_failed ≡ true) };
 
@@ -66,12 +114,18 @@ impl<'a, O: Flush + Drop> Listener for Teller<'a, O> {
     }
 }
 
-impl<'a, O: Flush + Drop> CaptureListener for Teller<'a, O> {
-    ghost use Rattle.std.specs.Prelude.{◌||◌, nat_lt};
+impl<'a, O: Flush + Drop, B: Beginning> CaptureListener for Teller<'a, O, B> {
+    ghost use Rattle.std.specs.Prelude.{◌||◌, List, ℕ, nat_lt};
+    ghost use Rattle.giop_conversation.specs.Captured.{Setup};
+    ghost use Rattle.giop_capture_program.specs.Text.{HasText};
 
     ghost flushed = { λ _. Unit {0} };
 
     ghost faulty = { λ t. t.conversations.cut || nat_lt 0 t.conversations.totals.faults };
+
+    // Below stands the text of the events and the last line, and no more.
+    ghost finished = { λ t events packets octets. (S : Setup) (written : List ℕ) → B.begins S written
+        → HasText S written events packets octets t.conversations.out.whole };
 
     fn arrives(&mut self, time: Option<u128>) {
         self.conversations.set_time(time);
@@ -85,18 +139,14 @@ impl<'a, O: Flush + Drop> CaptureListener for Teller<'a, O> {
     }
 
     fn flush(&mut self) -> Result<(), ListenerFault> {
-        if self.conversations.out_mut().flush().is_err() {
-            self.flush_failed = true;
-            return Err(ListenerFault);
-        }
-        Ok(())
+        self.flush_out()
     }
 
     fn finish(&mut self, packets: u64, octets: u64) -> Result<bool, ListenerFault> {
         let Ok(is_faulty) = self.conversations.finish(packets, octets) else {
             return Err(ListenerFault);
         };
-        self.flush()?;
+        self.flush_out()?;
         Ok(is_faulty)
     }
 }

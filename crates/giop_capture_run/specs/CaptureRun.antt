@@ -1,9 +1,9 @@
 -- What the reading of a whole capture came to (state).
-use Rattle.std.specs.Prelude.{◌≡◌, ℕ, Bool, true, false, if◌then◌else◌, Some, None, List, [], ◌++◌, Option, IsSome, Result, Ok, Err, ◌⊎◌}
+use Rattle.std.specs.Prelude.{◌≡◌, ℕ, Bool, true, false, if◌then◌else◌, Some, None, List, [], ◌++◌, length, Option, IsSome, Result, Ok, Err, ◌⊎◌}
 use Rattle.std.specs.Io.KnownBytes.{Consumes, IsAtEnd}
 use Rattle.capture_file.specs.declared.capture.Capture.{Capture}
 use Rattle.capture_file.specs.declared.fault.CaptureFault.{CaptureFault}
-use Rattle.capture_file.specs.Reading.{fault, final_fault}
+use Rattle.capture_file.specs.Reading.{packets, fault, final_fault}
 use Rattle.capture_file.specs.CaptureState.{Reads}
 use Rattle.tcp_flow.specs.Flow.{Event, Reader}
 use Rattle.tcp_connections.specs.declared.connections.Connections.{Connections}
@@ -54,9 +54,10 @@ ending_of (Some fault) faulty =
 ending_of None faulty = if faulty then endings.Faulty else endings.Whole
 
 -- A capture was read whole, and all that is due of it was written: its listener was told of all before the last lines, which
--- say whether it was told of a fault.
-pub record Dumped {L N : Type 0} (ending : Ending) (observed : L → List Event → Type 0) (faulty : L → Bool) (F : Reader)
-    (told : N → List ℕ → Type 0) (c : Capture) (start : State) (before after : SourceLog) : Type 0 where
+-- say whether it was told of a fault. It has finished behind all of that.
+pub record Dumped {L N : Type 0} (ending : Ending) (observed : L → List Event → Type 0)
+    (finished : L → List Event → ℕ → ℕ → Type 0) (faulty : L → Bool) (F : Reader)
+    (told : N → List ℕ → Type 0) (c : Capture) (start : State) (before after : SourceLog) (behind : L) : Type 0 where
   pub listener : L
   pub notices : N
   pub connections : Connections
@@ -65,3 +66,4 @@ pub record Dumped {L N : Type 0} (ending : Ending) (observed : L → List Event 
   pub found : Option CaptureFault
   pub whole : ReadWhole (observed listener) (told notices) F connections live c start octets before after found
   pub ends : ending ≡ ending_of found (faulty listener)
+  pub last : finished behind (capture_ended F start whole.read).events (length (packets whole.read)) (length whole.read)

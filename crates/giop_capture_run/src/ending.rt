@@ -73,8 +73,8 @@ pub fn dump_capture<S: Source, L: CaptureListener + Drop, N: Notices + Drop>(
     ensures dumped { (w : State) → HasRead (L.observed reader.old.streams.listener)
         (N.told reader.old.notices) L.faulted reader.old.connections
         reader.old.streams.live.items reader.old.unread.told.items w []
-        → IfOk result (λ ending. Dumped ending L.observed L.faulty L.faulted (N.told) capture.new w
-        (S.log source.old) (S.log source.new)) }
+        → IfOk result (λ ending. Dumped ending L.observed L.finished L.faulty L.faulted (N.told)
+        capture.new w (S.log source.old) (S.log source.new) reader.new.streams.listener) }
     ensures flushed { OnOk result (L.flushed reader.new.streams.listener) }
     ensures seen { (result ≡ Err RunFault.Read) ⊎ (result ≡ Err RunFault.Turns)
         → L.flushed reader.new.streams.listener }

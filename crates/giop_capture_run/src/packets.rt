@@ -4,7 +4,7 @@ ghost use Rattle.std.specs.Prelude.{◌≡◌, ◌<◌, ◌≤◌, ◌+◌, ◌^
 ghost use Rattle.tcp_segment.specs.Segments.{segment_view};
 ghost use Rattle.tcp_segment.specs.Links.{is_link_read as spec_is_link_read};
 ghost use Rattle.capture_file.specs.FaultWords.{fault_word};
-ghost use Rattle.tcp_flow.specs.Flow.{HasFault};
+ghost use Rattle.tcp_flow.specs.Flow.{Event, HasFault};
 ghost use Rattle.tcp_connections.specs.Connections.{State, with_capture_event, step, ended};
 ghost use Rattle.tcp_connections.specs.State.{IsState, IsAt, HasState, Makes};
 ghost use Rattle.giop_capture_run.specs.Packets.{Taken};
@@ -100,6 +100,8 @@ impl<L: CaptureListener + Drop, N: Notices + Drop> PacketReader<L, N> {
     pub fn finish(&mut self, packets: u64, octets: u64) -> Result<bool, OutFault>
         ensures value { IfOk result
             (λ is_faulty. is_faulty ≡ L.faulty self.old.streams.listener) }
+        ensures finished { (events : List Event) → L.observed self.old.streams.listener events
+            → OnOk result (L.finished self.new.streams.listener events packets octets) }
         ensures flushed { OnOk result (L.flushed self.new.streams.listener) }
         ensures cause { OnErr result (L.failed self.new.streams.listener) }
     {
@@ -107,6 +109,14 @@ impl<L: CaptureListener + Drop, N: Notices + Drop> PacketReader<L, N> {
             Ok(is_faulty) => Ok(is_faulty),
             Err(ListenerFault) => Err(OutFault),
         }
+    }
+
+    /// The listener.
+    pub fn into_listener(self) -> L
+        ensures { result ≡ self.streams.listener }
+    {
+        let streams = self.streams;
+        streams.listener
     }
 }
 

@@ -1,6 +1,7 @@
 -- What a source gave was dumped for the connections that are asked for.
 use Rattle.std.proofs.Common.{◌||◌, [], nat_lt, ap}
 use Rattle.tcp_connections.specs.Connections.{none_known}
+use Rattle.giop_capture_program.proofs.Reading.{observed_less}
 use Rattle.giop_capture_program.proofs.steps.dump.Goals as goal
 
 pub returns-in-Ok-dump_capture-clause-dumped : goal.returns-in-Ok-dump_capture-clause-dumped
@@ -19,6 +20,7 @@ returns-in-Ok-dump_capture-clause-dumped g c =
       live = d.live;
       rooms = d.listener.conversations.rooms.items;
       faulty = d.listener.conversations.cut || nat_lt 0 d.listener.conversations.totals.faults;
-      whole = d.whole;
+      whole = observed_less _ _ _ _ _ _ _ _ _ _ _ _ (λ events h. h.0) d.whole;
       ends = d.ends;
+      text = λ S written begins. rw (c.into_out.ensures, c.into_listener.ensures) (d.last S written begins);
     }

@@ -1,7 +1,10 @@
--- A fault of the capture changes no stream.
+-- A fault of the capture changes no stream, and its line is written.
 use Rattle.giop_capture_program.proofs.TellerLemmas.{followed_on}
 use Rattle.giop_capture_program.proofs.teller.TellerCaptureListener.has_fault.Goals as goal
 
 pub returns-in-Ok-clause-does : goal.returns-in-Ok-clause-does
 returns-in-Ok-clause-does g c =
-    λ events h. followed_on c.fault.new.self.rooms.items events _ (c.in-Ok.ensures.follows events h)
+    λ events h. (
+      followed_on c.fault.new.self.rooms.items events _ (c.in-Ok.ensures.follows events h.0),
+      λ S written begins. rw (← c.word.ensures) (c.in-Ok.ensures.told S written events (h.1 S written begins)),
+    )

@@ -1,0 +1,9 @@
+-- The last lines of the stream are written.
+use Rattle.giop_capture_program.proofs.teller.TellerListener.closes.Goals as goal
+
+pub returns-in-Ok-clause-does : goal.returns-in-Ok-clause-does
+returns-in-Ok-clause-does g c =
+    λ events h. (
+      c.in-Ok.ensures.follows events h.0,
+      λ S written begins. c.in-Ok.ensures.told S written events (h.1 S written begins),
+    )

@@ -1,0 +1,9 @@
+-- Who sends to whom is known, and nothing is written.
+use Rattle.giop_capture_program.proofs.teller.TellerListener.opens.Goals as goal
+
+pub returns-clause-does : goal.returns-clause-does
+returns-clause-does g c =
+    λ events h. (
+      c.opens.ensures.follows events h.0,
+      λ S written begins. c.opens.ensures.told S written events (h.1 S written begins),
+    )

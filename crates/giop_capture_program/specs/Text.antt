@@ -1,0 +1,12 @@
+-- The text of a dump, where all of it was put (meaning).
+use Rattle.std.specs.Prelude.{◌≡◌, ℕ, List, Option, Some}
+use Rattle.tcp_flow.specs.Flow.{Event}
+use Rattle.giop_conversation.specs.Captured.{Setup, Dump, Leads, start, finished_text}
+
+-- These events lead to a dump, of a capture of so many packets and octets: what was put is what was written before it began,
+-- then its text and its last line, and no more.
+pub record HasText (S : Setup) (written : List ℕ) (events : List Event) (packets octets : ℕ)
+    (put : Option (List ℕ)) : Type 0 where
+  pub dump : Dump
+  pub leads : Leads S (start S written) events dump
+  pub text : put ≡ Some (finished_text dump packets octets)
