@@ -3,8 +3,8 @@ follow,tcp,raw, and tcpflow.
 
 The captures are those of real connections (examples/, and checks/data: over a good wire, over one that loses and reorders packets,
 each packet twice), and the messages of examples/ in segments that are made by seeds: cut anywhere, repeated, with parts of what
-came before, out of order, and around the greatest sequence number. No octet is lost for good: of what giopcap does then docs/FORMATS.md
-says more than the others do. Each direction of each connection is dumped by giopdump from the octets that tshark has, and from those
+came before, out of order, cut by a snap length, and around the greatest sequence number. No octet is lost for good: of what
+giopcap does then docs/FORMATS.md says more than the others do. Each direction of each connection is dumped by giopdump from the octets that tshark has, and from those
 that tcpflow has, with the operations that giopcap says its replies answer; the lines have to be those of giopcap's stream.
 """
 
@@ -26,16 +26,19 @@ from failing import EXAMPLES, GIOPCAP, PROGRAM
 HEADER = struct.pack("<IHHIIII", 0xA1B2C3D4, 2, 4, 0, 0, 262_144, 1)
 SYN, ACK = 2, 16
 SEEDS = 40
+CUT_SEEDS = 20  # with packets that a snap length cuts
 CLIENT, SERVER = (bytes((10, 0, 0, 1)), 33_000), (bytes((10, 0, 0, 2)), 2_809)
 
 Flow = Tuple[str, str]  # who sends to whom
-Segment = Tuple[int, int, int, bytes]  # which end sends, its flags, the number of its first octet, its payload
+# Which end sends, its flags, the number of its first octet, its payload, and how much of that is captured.
+Segment = Tuple[int, int, int, bytes, int]
 
 # ---- captures
 
 
-def segments_of(random: Random) -> List[Segment]:
-    """The segments of a connection whose octets all come, if not in order; the first payload of each end comes first."""
+def segments_of(random: Random, is_cut: bool) -> List[Segment]:
+    """The segments of a connection whose octets all come, if not in order; the first payload of each end comes first. Some are
+    captured up to a snap length alone, and once more as a whole, where `is_cut`."""
     streams = [(EXAMPLES / name).read_bytes() * 4 for name in ("naming.giop", "naming-replies.giop")]
     first = [random.choice((random.randrange(2**32), 2**32 - random.randrange(1, 3000))) for _ in streams]
     sent = [0, 0]
@@ -50,13 +53,15 @@ def segments_of(random: Random) -> List[Segment]:
         begin = max(0, sent[end] - back)
         payload = streams[end][begin : sent[end] + size]
         sent[end] = min(len(streams[end]), sent[end] + size)
-        found.append((end, ACK, (first[end] + 1 + begin) % 2**32, payload))
+        found.append((end, ACK, (first[end] + 1 + begin) % 2**32, payload, len(payload)))
     for at in range(len(found) - 1, 1, -1):
         if random.random() < 0.1:
             found.insert(min(len(found), at + random.randrange(1, 8)), found[at])
         if random.random() < 0.2:
             found.insert(min(len(found), at + random.randrange(1, 5)), found.pop(at))
-    return [(0, SYN, first[0], b""), (1, SYN | ACK, first[1], b""), *found]
+        if is_cut and random.random() < 0.05 and len(found[at][3]) > 1:
+            found.insert(at, (*found[at][:4], random.randrange(1, len(found[at][3]))))
+    return [(0, SYN, first[0], b"", 0), (1, SYN | ACK, first[1], b"", 0), *found]
 
 
 def capture_of(segments: List[Segment]) -> bytes:
@@ -64,14 +69,16 @@ def capture_of(segments: List[Segment]) -> bytes:
     due = [(segments[end][2] + 1) % 2**32 for end in (0, 1)]
     waiting: List[Dict[int, bytes]] = [{}, {}]
     records = [HEADER]
-    for number, (end, flags, sequence, payload) in enumerate(segments):
+    for number, (end, flags, sequence, payload, captured) in enumerate(segments):
         (source, port), (target, other) = (CLIENT, SERVER) if end == 0 else (SERVER, CLIENT)
         acknowledged = due[1 - end] if flags & ACK else 0
         head = struct.pack(">BBHHHBBH", 0x45, 0, 40 + len(payload), number % 65_536, 0x4000, 64, 6, 0) + source + target
         segment = struct.pack(">HHIIBBHHH", port, other, sequence, acknowledged, 0x50, flags, 65_535, 0, 0)
-        octets = bytes(12) + b"\x08\x00" + head + segment + payload
-        records.append(struct.pack("<IIII", 1_700_000_000, number, len(octets), len(octets)) + octets)
-        waiting[end][sequence] = payload
+        octets = bytes(12) + b"\x08\x00" + head + segment + payload[:captured]
+        size = len(octets) + len(payload) - captured
+        records.append(struct.pack("<IIII", 1_700_000_000, number, len(octets), size) + octets)
+        if captured >= len(waiting[end].get(sequence, b"")):
+            waiting[end][sequence] = payload[:captured]
         for _ in segments:
             for begin, held in waiting[end].items():
                 age = (due[end] - begin) % 2**32
@@ -170,10 +177,11 @@ def shown(lines: List[str]) -> List[str]:
     return [line for line in lines if not re.match(r"m\d+ (body|rest)\b", line)]
 
 
-def compare(name: str, capture: Path, types: str, compared: Counter[str]) -> List[str]:
-    """Where a reader has other octets. The streams that were compared with each are counted."""
+def compare(name: str, capture: Path, types: str, is_cut: bool, compared: Counter[str]) -> List[str]:
+    """Where a reader has other octets. The streams that were compared with each are counted. Where packets are cut, tshark counts
+    the octets that they had, and isn't asked."""
     faults = []
-    readers = {"tshark": followed(capture), "tcpflow": flowed(capture)}
+    readers = {"tshark": None if is_cut else followed(capture), "tcpflow": flowed(capture)}
     for flow, (lines, operations) in dumped(capture, types).items():
         for reader, flows in readers.items():
             if flows is None:
@@ -189,20 +197,20 @@ def main() -> int:
     faults: List[str] = []
     with tempfile.TemporaryDirectory() as made:
         folder = Path(made)
-        captures = [("session.pcap", EXAMPLES / "session.pcap", str(EXAMPLES / "naming.sig"))]
+        captures = [("session.pcap", EXAMPLES / "session.pcap", str(EXAMPLES / "naming.sig"), False)]
         for index, row in enumerate(rows_of("captures-real.json.xz")):
             capture, signatures = folder / f"real{index}.pcap", folder / f"real{index}.sig"
             capture.write_bytes(row.capture)
             signatures.write_text(row.signatures)
-            captures.append((row.name, capture, str(signatures) if row.signatures else ""))
-        for seed in range(SEEDS):
-            capture = folder / f"seed{seed}.pcap"
-            capture.write_bytes(capture_of(segments_of(Random(seed))))
-            captures.append((f"seed {seed}", capture, str(EXAMPLES / "naming.sig")))
-        for name, capture, types in captures:
-            before = compared["tshark"]
-            faults += compare(name, capture, types, compared)
-            if compared["tshark"] == before:
+            captures.append((row.name, capture, str(signatures) if row.signatures else "", False))
+        for seed in range(SEEDS + CUT_SEEDS):
+            capture, is_cut = folder / f"seed{seed}.pcap", seed >= SEEDS
+            capture.write_bytes(capture_of(segments_of(Random(seed), is_cut)))
+            captures.append((f"seed {seed}", capture, str(EXAMPLES / "naming.sig"), is_cut))
+        for name, capture, types, is_cut in captures:
+            before = sum(compared.values())
+            faults += compare(name, capture, types, is_cut, compared)
+            if sum(compared.values()) == before:
                 faults.append(f"{name}: no stream was compared")
     for fault in faults:
         print(fault)
