@@ -151,6 +151,8 @@ impl<'a, O: Out + Drop> Conversations<'a, O> {
             MatchResult result (λ _. Told S written (events ++ Begins flow number ∷ []) self.new)
             (λ _. HasToldFront S written (events ++ Begins flow number ∷ []) self.new.out) }
         ensures fails { FailsOnce result self.new.out }
+        // Once a put has failed nothing is written.
+        ensures still { 0 < self.old.out.failures → self.new.out ≡ self.old.out }
     {
         if self.out.has_failed() {
             return Err(OutFault);
@@ -177,6 +179,8 @@ impl<'a, O: Out + Drop> Conversations<'a, O> {
             MatchResult result (λ _. Told S written (events ++ Delivers flow octets.now ∷ []) self.new)
             (λ _. HasToldFront S written (events ++ Delivers flow octets.now ∷ []) self.new.out) }
         ensures fails { FailsOnce result self.new.out }
+        // Once a put has failed nothing is written.
+        ensures still { 0 < self.old.out.failures → self.new.out ≡ self.old.out }
     {
         if self.out.has_failed() {
             return Err(OutFault);
@@ -200,6 +204,8 @@ impl<'a, O: Out + Drop> Conversations<'a, O> {
             MatchResult result (λ _. Told S written (events ++ Closes flow cause ∷ []) self.new)
             (λ _. HasToldFront S written (events ++ Closes flow cause ∷ []) self.new.out) }
         ensures fails { FailsOnce result self.new.out }
+        // Once a put has failed nothing is written.
+        ensures still { 0 < self.old.out.failures → self.new.out ≡ self.old.out }
     {
         if self.out.has_failed() {
             return Err(OutFault);
@@ -227,6 +233,8 @@ impl<'a, O: Out + Drop> Conversations<'a, O> {
             MatchResult result (λ _. Told S written (events ++ OfCapture (HasFault word.now at) ∷ []) self.new)
             (λ _. HasToldFront S written (events ++ OfCapture (HasFault word.now at) ∷ []) self.new.out) }
         ensures fails { FailsOnce result self.new.out }
+        // Once a put has failed nothing is written.
+        ensures still { 0 < self.old.out.failures → self.new.out ≡ self.old.out }
     {
         if self.out.has_failed() {
             return Err(OutFault);
@@ -240,6 +248,8 @@ impl<'a, O: Out + Drop> Conversations<'a, O> {
     /// by a gap or for room, or the capture has a fault.
     pub fn finish(&mut self, packets: u64, octets: u64) -> Result<bool, OutFault>
         ensures fails { FailsOnce result self.new.out }
+        // Once a put has failed nothing is written.
+        ensures still { 0 < self.old.out.failures → self.new.out ≡ self.old.out }
         ensures value { IfOk result (λ is_faulted.
             is_faulted ≡ (self.old.cut || nat_lt 0 self.old.totals.faults)) }
         // Below stands the text of all events, and then the last line; or a front of them.
