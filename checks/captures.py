@@ -5,8 +5,8 @@ connections. Each has the lines by the number of octets of the capture with whic
 another reading of docs/FORMATS.md has them. A row runs with the capture as a file, with the capture as standard input, and with
 the capture in pieces on a pipe that stays open, where the lines have to come as soon as they are due, and none before.
 
-What is said of words and of steps that fail is tried by a list. Then some captures are dumped with each call of the program failing, as checks/calls.py does it for giopdump, and with each of
-its requests for memory refused, as checks/memory.py does.
+What is said of words and of steps that fail is tried by a list. Then some captures are dumped with each call of the program
+failing, as checks/calls.py does it for giopdump, and with each of its requests for memory refused, as checks/memory.py does.
 """
 
 from __future__ import annotations
