@@ -10,3 +10,8 @@ mod StampedLemmas
 mod StreamReadLemmas
 mod DumpLemmas
 mod ToldLemmas
+mod EmptyStream
+mod PartLemmas
+mod StreamNumbers
+mod StreamTextLemmas
+mod StreamEnds

@@ -12,5 +12,7 @@ pub mod Directions
 pub mod Followed
 pub mod Follows
 pub mod Captured
+pub mod CaptureParts
+pub mod StreamTexts
 pub mod DumpHeld
 pub mod DumpTold

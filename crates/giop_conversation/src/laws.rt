@@ -1,10 +1,15 @@
-//! The laws of lines with tags.
+//! The laws of lines with tags, and of a capture's text.
 
-ghost use Rattle.std.specs.Prelude.{◌≡◌, ◌++◌, List, ℕ, [], true, length, Some};
+ghost use Rattle.std.specs.Prelude.{◌≡◌, ◌++◌, List, ℕ, [], true, false, length, Some};
 ghost use Rattle.giop_print.specs.Output.{Wrote, WroteFront};
+ghost use Rattle.tcp_flow.specs.Flow.{Event};
+ghost use Rattle.giop_conversation.specs.Captured.{Setup, Dump, Leads, start};
+ghost use Rattle.giop_conversation.specs.StreamTexts.{no_history, history, AreGapless, IsUnique, ShowsStreams};
 ghost use Rattle.giop_conversation.specs.Tags.{with_tags, without_tags};
 ghost use Rattle.giop_conversation.specs.TaggedText.{is_due};
 ghost use Rattle.giop_conversation.specs.TaggedState.{Tagging, tagging_log, IsReady, WroteTaggedFront};
+
+use giop_stream::answers_agree;
 
 /// What writing whole lines to an out with tags does to the out below.
 pub fn lines_stand_below()
@@ -29,3 +34,20 @@ pub fn lines_with_tags()
     ensures joined { (tag first more : List ℕ) → is_due first ≡ true →
         with_tags tag (first ++ more) ≡ with_tags tag first ++ with_tags tag more }
 {}
+
+/// The lines of a stream in the text of a capture, without the tag and without the lines `stream`, `time`, `answers`, `raises` and
+/// `closed`, are those that `giopdump` writes of the octets that were delivered of it, and of its end where it closes. That is said
+/// of each stream of a number from 1 to 2^64 - 2, behind any events.
+pub fn each_stream_is_dumped()
+    // The text is parts: each is such lines of a stream, or its own ones, or the capture's fault.
+    ensures shows { (S : Setup) (written : List ℕ) (events : List Event) (d : Dump)
+        (leads : Leads S (start S written) events d) →
+        ShowsStreams S written (history S no_history (start S written) events d leads) d.text }
+    // Where octets come in a flow, and a stream closes, only while one lives there, none goes on behind its close.
+    ensures ends { (S : Setup) (written : List ℕ) (events : List Event) (d : Dump)
+        (leads : Leads S (start S written) events d) → AreGapless events →
+        (number : ℕ) → IsUnique number →
+        ((history S no_history (start S written) events d leads).stream number).goes_on ≡ false }
+{
+    answers_agree();
+}

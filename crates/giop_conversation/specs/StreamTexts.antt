@@ -1,0 +1,95 @@
+-- What has happened in each stream of a capture, by all events, and that its lines in the capture's text are giopdump's but for
+-- those of five kinds (docs/FORMATS.md, Captures; meaning). A stream is named by its number.
+use Rattle.std.specs.Prelude.{◌≡◌, ℕ, ◌<◌, ◌^◌, ◌-◌, ◌/◌, ◌==◌, Bool, true, false, ◌||◌, nat_lt, List, [], ◌∷◌, ◌++◌, Option, None, if◌then◌else◌}
+use Rattle.std.specs.List.{AllByRecursion as Each}
+use Rattle.giop_print.specs.Output.{counted}
+use Rattle.giop_message.specs.Signatures.{Answers}
+use Rattle.giop_stream.specs.Rules.{Rules}
+use Rattle.giop_stream.specs.Stream.{text, closing}
+use Rattle.tcp_flow.specs.Flow.{Event, Opens, Begins, Delivers, Closes, OfCapture}
+use Rattle.tcp_flow.specs.Laws.{AllFollow}
+use Rattle.giop_conversation.specs.Captured.{Setup, Dump, Leads, rules_in}
+use Rattle.giop_conversation.specs.CaptureParts.{Part, text_of, IsWhole, read_of, own_of}
+
+-- what has happened in a stream
+pub record StreamHistory : Type 0 where
+  pub octets : List ℕ  -- what was delivered of it
+  pub answers : Answers  -- by which its last octets were read: which operations the ids of its messages answer
+  pub is_closed : Bool
+  pub goes_on : Bool  -- whether octets were delivered or it closed once more, behind its close
+
+abbrev pub new_stream : StreamHistory
+new_stream = record { octets = []; answers = λ number id. None; is_closed = false; goes_on = false }
+
+-- octets are delivered, which are read by these answers
+abbrev pub read_on : Answers → List ℕ → StreamHistory → StreamHistory
+read_on a octets s =
+    record s { octets = s.octets ++ octets; answers = a; goes_on = s.goes_on || s.is_closed }
+
+abbrev pub closed : StreamHistory → StreamHistory
+closed s = record s { is_closed = true; goes_on = s.goes_on || s.is_closed }
+
+-- what giopdump writes of a stream: its text, and its closing where it has closed
+abbrev pub dumped : Rules → StreamHistory → List ℕ
+dumped R s = text R s.octets ++ (if s.is_closed then closing R s.octets else [])
+
+-- what has happened in the streams of a capture
+pub record History : Type 0 where
+  pub begun : ℕ  -- how many have begun
+  pub stream_of : ℕ → ℕ  -- the number of each flow's last stream, by the flow's id; 0 where none has begun
+  pub stream : ℕ → StreamHistory  -- of the stream of each number
+
+abbrev pub no_history : History
+no_history = record { begun = 0; stream_of = λ flow. 0; stream = λ number. new_stream }
+
+-- a stream begins in the flow of this id, where its connection has a room or hasn't
+abbrev pub with_begun : History → ℕ → Bool → History
+with_begun h id true =
+    record h {
+      begun = counted h.begun;
+      stream_of = λ flow. if flow == id then counted h.begun else h.stream_of flow;
+    }
+with_begun h id false = record h { begun = counted h.begun }
+
+abbrev pub with_stream : History → ℕ → StreamHistory → History
+with_stream h number s = record h { stream = λ n. if number == n then s else h.stream n }
+
+-- behind one more event, where octets are read by these answers
+abbrev pub happened : Setup → Answers → History → Event → History
+happened S a h (Opens id flow) = h
+happened S a h (Begins id number) = with_begun h id (nat_lt (id / 2) S.connections)
+happened S a h (Delivers id octets) =
+    with_stream h (h.stream_of id) (read_on a octets (h.stream (h.stream_of id)))
+happened S a h (Closes id cause) =
+    with_stream h (h.stream_of id) (closed (h.stream (h.stream_of id)))
+happened S a h (OfCapture event) = h
+
+-- behind all events, which lead from one dump to another: in each of them octets are read by its answers
+abbrev pub history : (S : Setup) → History → (d : Dump) → (events : List Event) → (behind : Dump) →
+    Leads S d events behind → History
+history S h d [] behind leads = h
+history S h d (e ∷ es) behind leads =
+    history S (happened S leads.1.answers h e) leads.0 es behind leads.2
+
+-- The lines that a stream has by itself are giopdump's: those where its octets are read are its text, and all of them with those
+-- at its end are what giopdump writes, unless it goes on behind its close.
+pub record IsDumped (S : Setup) (s : StreamHistory) (reads own : List ℕ) : Type 0 where
+  pub reads_are : reads ≡ text (rules_in S s.answers) s.octets
+  pub own_are : s.goes_on ≡ false → own ≡ dumped (rules_in S s.answers) s
+
+-- Octets come in each flow, and a stream of it closes, only while one lives there, as in a flow without a gap (tcp_flow, Laws).
+abbrev pub AreGapless : List Event → Type 0
+AreGapless events =
+    (flow : ℕ) → (payloads : _) × (due : Option ℕ) × AllFollow payloads flow None events due
+
+-- A number that no two streams have: the count of streams stays at its greatest.
+abbrev pub IsUnique : ℕ → Type 0
+IsUnique number = (0 < number) × (number < 2 ^ 64 - 1)
+
+-- Behind what was written before, the text is parts, each of whole lines. Those that a stream has by itself are giopdump's.
+pub record ShowsStreams (S : Setup) (written : List ℕ) (h : History) (all : List ℕ) : Type 0 where
+  pub parts : List Part
+  pub whole : Each IsWhole parts
+  pub shows : all ≡ written ++ text_of parts
+  pub streams : (number : ℕ) → IsUnique number →
+      IsDumped S (h.stream number) (read_of number parts) (own_of number parts)
