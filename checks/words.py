@@ -2,7 +2,8 @@
 
 Words are compared in code, with comments and strings left out, and in the names of files. Used is what another function,
 definition, clause or lemma names: a function of src/, a definition of specs/ and a lemma of proofs/. Laws, which are functions
-without a body, tests, the functions of a trait and answers of goals need no use, and no rows of computation.
+without a body or call others without arguments, tests, the functions of a trait and answers of goals need no use, and no rows of
+computation.
 """
 
 from __future__ import annotations
@@ -40,6 +41,7 @@ GIVEN_UP = frozenset(
 
 # What makes up a program by itself, or is what a worked row says.
 ROOTS = {"main"}
+LAW = re.compile(r"(?m)^\s*\{(?:\n(?: +\w+\(\);\n)+)?\}\Z")
 ROWS = re.compile(r"(^|/)(Worked|Rows|\w*Rows|OpenMessages|Computing)(\.antt|/)")
 
 
@@ -63,7 +65,7 @@ def functions(text: str) -> list[tuple[str, int, int]]:
     for head in re.finditer(r"(?m)^([ \t]*)(?:pub(?:\([a-z]+\))? )?(?:const )?(?:unsafe )?fn (\w+)", text):
         end = re.compile(rf"(?m)^{head[1]}(?:\}}|\{{\}})$").search(text, head.end())
         stop = end.end() if end else len(text)
-        is_law = end is not None and end[0].strip() == "{}"
+        is_law = end is not None and LAW.search(text[head.start() : stop]) is not None
         before = text[: head.start()].rstrip().rsplit("\n", 1)[-1].strip()
         around = re.findall(r"(?m)^(impl\b[^{]*|trait\b[^{]*|pub trait\b[^{]*)\{|^\}", text[: head.start()])
         of_trait = bool(head[1]) and bool(around) and (" for " in around[-1] or "trait " in around[-1])
