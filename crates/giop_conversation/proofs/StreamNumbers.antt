@@ -10,9 +10,8 @@ use Rattle.giop_stream.specs.Stream.{text, closing}
 use Rattle.giop_conversation.specs.declared.conversation.Parity.{Parity}
 use Rattle.giop_conversation.specs.declared.conversation.Parity.TheVariants.{Even, Odd}
 use Rattle.giop_conversation.specs.Followed.{parity_of, other}
-use Rattle.giop_conversation.specs.Captured.{Setup, Side, Connection, side, with_side, rules_in, begun}
+use Rattle.giop_conversation.specs.Captured.{Setup, Side, Connection, side, with_side, rules_in}
 use Rattle.giop_conversation.specs.StreamTexts.{StreamHistory, new_stream, History, with_begun, with_stream, IsUnique}
-use Rattle.giop_conversation.proofs.PartLemmas.{text_is}
 
 -- ---- the flows of connections
 

@@ -35,9 +35,9 @@ pub fn lines_with_tags()
         with_tags tag (first ++ more) ≡ with_tags tag first ++ with_tags tag more }
 {}
 
-/// The lines of a stream in the text of a capture, without the tag and without the lines `stream`, `time`, `answers`, `raises` and
-/// `closed`, are those that `giopdump` writes of the octets that were delivered of it, and of its end where it closes. That is said
-/// of each stream of a number from 1 to 2^64 - 2, behind any events.
+/// The lines of a stream in the text of a capture, without the tag and without the lines `stream`, `time`, `answers`, `raises`
+/// and `closed`, are those that `giopdump` writes of the octets that were delivered of it, and of its end where it closes. That
+/// is said of each stream of a number from 1 to 2^64 - 2, behind any events.
 pub fn each_stream_is_dumped()
     // The text is parts: each is such lines of a stream, or its own ones, or the capture's fault.
     ensures shows { (S : Setup) (written : List ℕ) (events : List Event) (d : Dump)
