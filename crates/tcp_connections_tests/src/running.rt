@@ -1,75 +1,37 @@
 //! What is told of the segments of a capture.
 
-ghost use Rattle.std.specs.Prelude.{◌≤◌, length, IfSome};
-
+use crate::row::Row;
 use crate::teller::Teller;
-use arrayvec::ArrayVec;
 use std::alloc::Global;
 use tcp_connections::Connections;
-use tcp_segment::{Address, Endpoint, Flow, Segment};
 use tcp_streams::Streams;
 
-/// A segment between hosts of 10.0.0.0/24: the last octet and the port of who sends and of whom it is sent to, its number,
-/// the number that it acknowledges, its flags SYN, FIN and RST, and its payload.
-pub type Step = (
-    (u8, u16),
-    (u8, u16),
-    u32,
-    Option<u32>,
-    (bool, bool, bool),
-    &'static [u8],
-);
+/// The most connections that may be known, and the most blocks that what waits may take.
+const MOST: (u32, usize) = (65_536, 1_048_576);
 
-fn endpoint(host: (u8, u16)) -> Endpoint {
-    Endpoint {
-        address: Address::V4([10, 0, 0, host.0]),
-        port: host.1,
-    }
-}
-
-/// The segment of a step. None where its payload is longer than a packet may be.
-fn segment_of(step: Step) -> Option<Segment<'static>>
-    ensures { IfSome result (λ s. length s.payload.now ≤ 262_144) }
-{
-    let (from, to, sequence, acknowledgement, (syn, fin, reset), payload) = step;
-    if payload.len() > 262_144 {
+/// The listener behind a row's segments, and the end of the capture, which may be told so many things; or behind those up to
+/// the one at which it failed. None where there is no memory, a payload is too long, or the setting is out of its range.
+pub fn told_of(alloc: Global, row: &Row, left: usize) -> Option<Teller> {
+    let setting = &row.setting;
+    if setting.connections == 0 || setting.connections > MOST.0 || setting.blocks > MOST.1 {
         return None;
     }
-    Some(Segment {
-        flow: Flow {
-            from: endpoint(from),
-            to: endpoint(to),
-        },
-        sequence,
-        acknowledgement,
-        syn,
-        fin,
-        reset,
-        payload,
-    })
-}
-
-/// The listener behind segments, and the end of the capture, with room for so many events; or behind those up to the one at
-/// which it failed. None where there is no memory, a payload is too long, or fewer than 1 or more than 65,536 connections may
-/// be known.
-pub fn told_of(alloc: Global, connections: u32, room: usize, steps: &[Step]) -> Option<Teller> {
-    if connections == 0 || connections > 65_536 {
-        return None;
-    }
-    let Ok(mut known) = Connections::new(alloc, connections, 64, ArrayVec::new()) else {
+    let ports = setting.ports.clone().ok()?;
+    let Ok(mut known) = Connections::new(alloc, setting.connections, setting.blocks, ports) else {
         return None;
     };
     let teller = Teller {
-        told: Vec::new(alloc),
-        room,
+        told: String::new(alloc),
+        left,
         has_failed: false,
     };
     let Ok(mut streams) = Streams::new(alloc, teller) else {
         return None;
     };
+    let steps = row.steps.as_slice();
     let mut index = 0;
     while index < steps.len() {
-        let Some(segment) = segment_of(steps[index]) else {
+        let Some(segment) = steps[index].segment() else {
             return None;
         };
         if known.take(segment, &mut streams).is_err() {

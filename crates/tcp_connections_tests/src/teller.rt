@@ -1,34 +1,74 @@
-//! A listener that keeps what it is told.
+//! A listener that writes what it is told, a line each.
 
 ghost use Rattle.std.specs.Prelude.{◌≡◌, OnErr, true, false};
 
+use crate::endpoint::shown;
+use std::fmt;
 use tcp_flow::{CloseCause, Listener, ListenerFault};
 use tcp_segment::Flow;
 
 /// What is told of the flow of an id.
-#[derive(Clone, Copy, Debug, Drop, PartialEq, Eq)]
-pub enum Told {
-    Opens(u32),
-    /// A stream begins at a number.
+#[derive(Clone, Copy)]
+enum Told<'a> {
+    Opens(u32, Flow),
     Begins(u32, u32),
-    /// How many octets are delivered, and the last of them.
-    Delivers(u32, usize, u8),
+    Delivers(u32, &'a [u8]),
     Closes(u32, CloseCause),
 }
 
-/// Keeps what it is told. Its readers are never at a fault, and it fails where it has no room left, or no memory.
+impl fmt::Display for Told<'_> {
+    fn fmt<W: fmt::Write>(&self, f: &mut fmt::Formatter<W>) -> fmt::Result {
+        match *self {
+            Told::Opens(id, flow) => {
+                let from = shown(flow.from);
+                let to = shown(flow.to);
+                write!(f, "opens {id} {from} > {to}")
+            }
+            Told::Begins(id, number) => write!(f, "begins {id} {number}"),
+            Told::Delivers(id, octets) => {
+                write!(f, "delivers {id} ")?;
+                write_octets(f, octets)
+            }
+            Told::Closes(id, cause) => write!(f, "closes {id} {}", cause_word(cause)),
+        }
+    }
+}
+
+/// Writes octets in hexadecimal text.
+fn write_octets<W: fmt::Write>(f: &mut fmt::Formatter<W>, octets: &[u8]) -> fmt::Result {
+    for octet in octets {
+        write!(f, "{octet:02x}")?;
+    }
+    Ok(())
+}
+
+/// The word of why a stream closes.
+fn cause_word(cause: CloseCause) -> &'static str {
+    match cause {
+        CloseCause::Fin => "fin",
+        CloseCause::Reset => "reset",
+        CloseCause::Syn => "syn",
+        CloseCause::Fault => "fault",
+        CloseCause::Gap => "gap",
+        CloseCause::Room => "room",
+        CloseCause::End => "end",
+    }
+}
+
+/// Writes what it is told. Its readers are never at a fault. It fails where it may be told no more, or has no memory.
 #[derive(Drop)]
 pub struct Teller {
-    pub told: Vec<Told>,
-    pub room: usize,
+    pub told: String,
+    pub left: usize,
     pub has_failed: bool,
 }
 
 impl Teller {
-    fn tell(&mut self, told: Told) -> Result<(), ListenerFault>
+    fn tell(&mut self, told: Told<'_>) -> Result<(), ListenerFault>
         ensures { OnErr result (self.new.has_failed ≡ true) }
     {
-        if self.told.len() < self.room && self.told.push(told).is_ok() {
+        if self.left > 0 && writeln!(self.told, "{told}").is_ok() {
+            self.left -= 1;
             return Ok(());
         }
         self.has_failed = true;
@@ -43,8 +83,8 @@ impl Listener for Teller {
 
     ghost faulted = { λ events. false };
 
-    fn opens(&mut self, flow: u32, _endpoints: Flow) -> Result<(), ListenerFault> {
-        self.tell(Told::Opens(flow))
+    fn opens(&mut self, flow: u32, endpoints: Flow) -> Result<(), ListenerFault> {
+        self.tell(Told::Opens(flow, endpoints))
     }
 
     fn begins(&mut self, flow: u32, number: u32) -> Result<(), ListenerFault> {
@@ -52,12 +92,7 @@ impl Listener for Teller {
     }
 
     fn delivers(&mut self, flow: u32, octets: &[u8]) -> Result<bool, ListenerFault> {
-        let last = if octets.is_empty() {
-            0
-        } else {
-            octets[octets.len() - 1]
-        };
-        self.tell(Told::Delivers(flow, octets.len(), last))?;
+        self.tell(Told::Delivers(flow, octets))?;
         Ok(false)
     }
 
