@@ -1,5 +1,5 @@
 -- A value does not end in fewer octets than have to come of its innermost part.
-use Rattle.std.proofs.Common.{◌≡◌, ℕ, suc, ◌+◌, ◌-◌, ◌<◌, ◌≤◌, ◌⊎◌, inl, inr, Bool, false, true, cond, ltb, List, [], ◌∷◌, ◌++◌, length, arith, Some, subst, sym, ap, ◌∙◌}
+use Rattle.std.proofs.Common.{◌≡◌, ℕ, ◌+◌, ◌-◌, ◌<◌, ◌≤◌, ◌⊎◌, inl, inr, Bool, false, true, cond, ltb, List, [], ◌∷◌, ◌++◌, length, arith, Some, subst, sym, ap, ◌∙◌}
 use Rattle.std.proofs.lemmas.Bool.{cases_lt}
 use Rattle.std.specs.Prelude.{max}
 use Rattle.giop_cdr.specs.Alignment.{padding}
