@@ -19,7 +19,7 @@ use Rattle.giop_message.specs.Messages.{BodyType, Untyped, Typed, UserException,
 use Rattle.giop_message.specs.MessageState.{is_header}
 use Rattle.giop_message.specs.HeaderEnds.{AreSilent, noted_if_whole, noted_by_type, header_noted, ends_between, named_if_whole, raised, raises_between, header_ends, stage_told_after, told_after}
 use Rattle.giop_message.proofs.Octets.{stage_front}
-use Rattle.giop_message.proofs.Raises.{is_settled, raises_here, offset_of, tail_name, rest_settled, typed_settled, members_settled, raised_inside, raised_before}
+use Rattle.giop_message.proofs.Raises.{is_settled, raises_here, tail_name, rest_settled, typed_settled, members_settled, raised_inside, raised_before}
 use Rattle.giop_message.proofs.HeaderEndLaws.{waits, past_none, header_ends_none}
 
 -- ---- a value that has not ended
