@@ -10,6 +10,7 @@ use Rattle.giop_sig.specs.HeaderTypes.{header_type, fixed_type}
 use Rattle.giop_decode.specs.ReadResult.{plain, Read, Done, Short, Fault}
 use Rattle.giop_decode.specs.Reading.{read}
 use Rattle.giop_decode.specs.Noted.{Noted, nothing_noted, noted}
+use Rattle.giop_decode.specs.OctetsLeft.{octets_left}
 use Rattle.giop_message.specs.Headers.{minor, kind, order}
 use Rattle.giop_message.specs.declared.part.Section.{Section}
 use Rattle.giop_message.specs.declared.part.Section.TheVariants as sections
@@ -104,16 +105,24 @@ is_told sections.Exception = true
 is_told sections.SystemException = true
 is_told sections.Body = false
 
-unfoldable pub tells_more : Stage → Bool
-tells_more (In_typed section h outer leaf) = is_told section
-tells_more (In_padding b) = true
-tells_more (In_rest offset held) = false
-tells_more Over = false
+-- how many octets have to come at least until the correspondent is told
+unfoldable pub stage_told_after : Stage → Option ℕ
+stage_told_after (In_typed section h outer leaf) = if is_told section then Some (octets_left leaf) else None
+stage_told_after (In_padding b) = Some 1
+stage_told_after (In_rest offset held) = None
+stage_told_after Over = None
 
--- A message of this header and these octets after it is in its header, in the padding behind that, in the repository id of an
--- exception, or in the body of a system exception. Elsewhere no header and no name ends any more.
-unfoldable pub may_tell : Signatures → List ℕ → List ℕ → Bool
-may_tell S header s = tells_more (stage_of (message S header s))
+-- How many octets have to come at least until the header of a message, or the name of the exception that it raises, ends, by
+-- these octets after the 12 of its header: at least 1 in its header, in the padding behind that, in the repository id of an
+-- exception, and in the body of a system exception. None where no header and no name ends any more.
+unfoldable pub told_after : Signatures → List ℕ → List ℕ → Option ℕ
+told_after S header s = stage_told_after (stage_of (message S header s))
+
+-- None of them is told of a Reply: neither a Reply's header, nor the name of an exception.
+abbrev pub AreSilent : List HeaderEnd → Type 0
+AreSilent [] = Unit {0}
+AreSilent (Header_end number header n ∷ es) = ((kind header == 1) ≡ false) × AreSilent es
+AreSilent (Exception_end number name ∷ es) = ⊥
 
 -- ---- what is told there
 
