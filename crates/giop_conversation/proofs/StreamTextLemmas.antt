@@ -19,7 +19,7 @@ use Rattle.giop_conversation.specs.declared.conversation.Parity.TheVariants.{Eve
 use Rattle.giop_conversation.specs.Tags.{stream_tag, with_tags}
 use Rattle.giop_conversation.specs.Lines.{capture_fault_line}
 use Rattle.giop_conversation.specs.Followed.{parity_of, other}
-use Rattle.giop_conversation.specs.Captured.{Setup, Side, Connection, Dump, Leads, Answered, IsAnswered, start, new_connection, side, rules_in, begun, delivered_lines, calls_behind, opened_in, begun_in, delivered_in, closed_in, closed_lines, stepped, calls_in}
+use Rattle.giop_conversation.specs.Captured.{Setup, Side, Connection, Dump, Leads, Answered, IsAnswered, start, new_connection, side, rules_in, delivered_lines, calls_behind, opened_in, begun_in, delivered_in, closed_in, closed_lines, stepped, calls_in}
 use Rattle.giop_conversation.specs.CaptureParts.{StreamPart, read_lines, own_lines, Part, OfStream, FaultLine, part_text, text_of, of_stream, read_of, own_of}
 use Rattle.giop_conversation.specs.StreamTexts.{StreamHistory, new_stream, read_on, closed, History, no_history, with_begun, with_stream, happened, history, IsDumped, IsUnique, ShowsStreams}
 use Rattle.giop_conversation.specs.Exchanges.{Exchanged}
