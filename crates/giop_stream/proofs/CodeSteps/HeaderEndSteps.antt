@@ -93,7 +93,8 @@ module _ {St : Type 0} (answer : St → Answer) (notified : St → CallEvent →
 
 -- ---- one octet, and others after it
 
-pub at_free : (R : Rules) (p : List ℕ) (x : ℕ) → (cut p).stop ≡ None → length p < limit → header_ends_at R p x ≡ current_header_ends R p (cut p).current (x ∷ [])
+pub at_free : (R : Rules) (p : List ℕ) (x : ℕ) → (cut p).stop ≡ None → length p < limit
+    → header_ends_at R p x ≡ current_header_ends R p (cut p).current (x ∷ [])
 unfolding header_ends_at
 at_free R p x free room = rw (free, lt-ltb (length p) limit room) refl
 

@@ -260,7 +260,10 @@ module _ (C : Table) (l : Answers) (most : ℕ) (s : State) (reached : IsReached
   fits : CurrentFits (length p') (cut p') c'
   fits = if_some (CurrentFits (length p') (cut p')) (cut p').current c' run.within.current (so.fits run.within.free).current
 
-  paid : Adds R p' (p' ++ x ∷ []) (end_message (cut p').whole (with_octet c' x)) (effect_of C l most p' (with_octet c' x)).lines (effect_of C l most p' (with_octet c' x)).tracked
+  abbrev last_does : Effect
+  last_does = effect_of C l most p' (with_octet c' x)
+
+  paid : Adds R p' (p' ++ x ∷ []) (end_message (cut p').whole (with_octet c' x)) last_does.lines last_does.tracked
   unfolding limit tracked_after
   paid =
       paid_is R causal (in_turn C l) p' x so c' run.within.free run.within.current
@@ -321,7 +324,8 @@ module _ (C : Table) (l : Answers) (most : ℕ) (s : State) (reached : IsReached
         ap (lines R) (sym all_octets) ∙ (paid.lines
         ∙ (ap (λ (ls : List Line). ls ++ (x_does (tracked_after R p')).lines) run.lines
         ∙ (append_assoc (lines R p) _ _
-        ∙ (λ j. lines R p ++ ((run_effect C l (sym start j) (tracked_after R p) (owner_of_next (open_after most p) c) q).lines ++ (x_does (sym ran_then j)).lines)))))
+        ∙ (λ j. lines R p
+        ++ ((run_effect C l (sym start j) (tracked_after R p) (owner_of_next (open_after most p) c) q).lines ++ (x_does (sym ran_then j)).lines)))))
 
     pub run_does : {A E : Type 0} (result : Result A E) (before after : OutLog) (f : FramingView)
         → Writes result before after (lines_text all_do.lines) → OnOk result (Shows C l f (state_of R (p ++ octets)))

@@ -64,7 +64,8 @@ returns-in_err-ended-clause-does g c =
     let named = rw c.in_ok-taken.ensures.most at (c.in_ok-named.ensures.does C a _ _ taken) in
     let at = named_at C a most ran.tracked m' now x h.last c.at_fourth_octet.new.slots named.kept in
     let failed = c.from_residual-in_err-ended.ensures.0 in
-    let ended = call_failed _ c.from_residual-in_err-ended.result _ _ failed (c.in_err-ended.ensures.does a _ _ at (come_is C a most ran.tracked m' now x h.last)) in
+    let here = come_is C a most ran.tracked m' now x h.last in
+    let ended = call_failed _ c.from_residual-in_err-ended.result _ _ failed (c.in_err-ended.ensures.does a _ _ at here) in
     rw parts (performs_on _ _ _ (sym (append_assoc ran.lines _ _)) (λ k. k) (then_failed _ c.from_residual-in_err-ended.result _ _ _ failed took
     (then_failed _ c.from_residual-in_err-ended.result _ _ _ failed named ended)))
 

@@ -130,19 +130,21 @@ returns-in_err-payload_octets-clause-does g c a s r h agrees =
     let most = c.args.self.now.slots.slots.most in
     let so_far = c.loop-octet.invariant in
     let n = c.payload_run-payload_run.result in
+    let ahead = c.payload_run-payload_run.ensures in
     let rest = c.loop-octet.rest.now in
     let some : 0 < n = positive n c.if-payload_run-eq0.false in
-    let long = length-take-le n rest c.payload_run-payload_run.ensures.within in
+    let long = length-take-le n rest ahead.within in
     let octets =
     octets_come so_far.octets_taken rest c.args.piece.now so_far.split
     (All-from_get_or (λ x. x < 256) c.args.piece.now 0 (λ i below. omega (arith, c.type_inv.piece i))) in
     let R = rules_by C a most in
     let here = subst (AgreesAtEnds g.Q.Correspondent.answer g.Q.Correspondent.notified C _ a) (sym (told_run C a most (run_state (rules_by C a most) s so_far.octets_taken) (reached_on C a most s so_far.octets_taken octets r) (framing_view c.loop-octet.self) (so_far.shows a s r h agrees)
-    (c.payload_run-payload_run.ensures.running some) (c.payload_run-payload_run.ensures.full some) (take n rest) (rw long some) (λ less. rw long (c.payload_run-payload_run.ensures.apart some less))
-    (λ more. rw long (c.payload_run-payload_run.ensures.few some)) (rw long (c.payload_run-payload_run.ensures.limit some))))
+    (ahead.running some) (ahead.full some) (take n rest) (rw long some) (λ less. rw long (ahead.apart some less)) (λ more. rw long (ahead.few some))
+    (rw long (ahead.limit some))))
     (run_agrees g.Q.Correspondent.answer g.Q.Correspondent.notified C a _ _ (rules_by C a most) r.stream so_far.octets_taken (so_far.told a s r h agrees) rest c.args.piece.now (take n rest) (drop n rest) so_far.split
     (sym (take-append-drop n rest)) agrees) in
-    let does = (rw so_far.most at (c.in_err-payload_octets.ensures.does a (run_state R s so_far.octets_taken) (reached_at C a _ _ _ (sym so_far.most) (reached_on C a most s so_far.octets_taken octets r)) (so_far.shows a s r h agrees))) here in
+    let does = (rw so_far.most at (c.in_err-payload_octets.ensures.does a (run_state R s so_far.octets_taken)
+    (reached_at C a _ _ _ (sym so_far.most) (reached_on C a most s so_far.octets_taken octets r)) (so_far.shows a s r h agrees))) here in
     let split =
     run_within R s so_far.octets_taken (take n rest) (drop n rest) c.args.piece.now
     (further so_far.octets_taken rest (take n rest) (drop n rest) c.args.piece.now so_far.split (sym (take-append-drop n rest))) in
@@ -158,9 +160,10 @@ loop-octet-preserved g c =
     let most = c.args.self.now.slots.slots.most in
     let so_far = c.loop-octet.invariant in
     let n = c.payload_run-payload_run.result in
+    let ahead = c.payload_run-payload_run.ensures in
     let rest = c.loop-octet.rest.now in
     let some : 0 < n = positive n c.if-payload_run-eq0.false in
-    let long = length-take-le n rest c.payload_run-payload_run.ensures.within in
+    let long = length-take-le n rest ahead.within in
     let octets =
     octets_come so_far.octets_taken rest c.args.piece.now so_far.split
     (All-from_get_or (λ x. x < 256) c.args.piece.now 0 (λ i below. omega (arith, c.type_inv.piece i))) in
@@ -168,8 +171,8 @@ loop-octet-preserved g c =
     let here = λ (a : Answers) (s : State) (r : IsReached C a most s) (h : Shows C a (framing_view c.args.self.now) s)
     (agrees : AgreesAtEnds g.Q.Correspondent.answer g.Q.Correspondent.notified C (g.Q.Correspondent.state c.args.correspondent.now) a (header_ends_from (rules_by C a most) r.stream c.args.piece.now)).
     subst (AgreesAtEnds g.Q.Correspondent.answer g.Q.Correspondent.notified C _ a) (sym (told_run C a most (run_state (rules_by C a most) s so_far.octets_taken) (reached_on C a most s so_far.octets_taken octets r) (framing_view c.loop-octet.self) (so_far.shows a s r h agrees)
-    (c.payload_run-payload_run.ensures.running some) (c.payload_run-payload_run.ensures.full some) (take n rest) (rw long some) (λ less. rw long (c.payload_run-payload_run.ensures.apart some less))
-    (λ more. rw long (c.payload_run-payload_run.ensures.few some)) (rw long (c.payload_run-payload_run.ensures.limit some))))
+    (ahead.running some) (ahead.full some) (take n rest) (rw long some) (λ less. rw long (ahead.apart some less)) (λ more. rw long (ahead.few some))
+    (rw long (ahead.limit some))))
     (run_agrees g.Q.Correspondent.answer g.Q.Correspondent.notified C a _ _ (rules_by C a most) r.stream so_far.octets_taken (so_far.told a s r h agrees) rest c.args.piece.now (take n rest) (drop n rest) so_far.split
     (sym (take-append-drop n rest)) agrees) in
     let next =
@@ -189,8 +192,8 @@ loop-octet-preserved g c =
           ((rw so_far.most at (c.in_ok-payload_octets.ensures.told a (run_state (rules_by C a most) s so_far.octets_taken)
           (reached_at C a _ _ _ (sym so_far.most) (reached_on C a most s so_far.octets_taken octets r)) (so_far.shows a s r h agrees))) (here a s r h agrees)
           ∙ ap (after_ends g.Q.Correspondent.notified C _) (told_run C a most (run_state (rules_by C a most) s so_far.octets_taken) (reached_on C a most s so_far.octets_taken octets r) (framing_view c.loop-octet.self) (so_far.shows a s r h agrees)
-          (c.payload_run-payload_run.ensures.running some) (c.payload_run-payload_run.ensures.full some) (take n rest) (rw long some) (λ less. rw long (c.payload_run-payload_run.ensures.apart some less))
-          (λ more. rw long (c.payload_run-payload_run.ensures.few some)) (rw long (c.payload_run-payload_run.ensures.limit some))));
+          (ahead.running some) (ahead.full some) (take n rest) (rw long some) (λ less. rw long (ahead.apart some less))
+          (λ more. rw long (ahead.few some)) (rw long (ahead.limit some))));
       ready = c.in_ok-payload_octets.ensures.ready;
     }
 
