@@ -1,19 +1,21 @@
 -- The owner of a payload's octets, and what the code knows of that message at one of them (state).
-use Rattle.std.specs.Prelude.{◌≡◌, ◌==◌, ◌<◌, ◌+◌, ℕ, true, List, [], length, Option, Some, None, if◌then◌else◌}
+use Rattle.std.specs.Prelude.{◌≡◌, ◌==◌, ◌<◌, ◌+◌, ◌-◌, ℕ, suc, true, List, [], ◌++◌, length, Option, Some, None, if◌then◌else◌}
 use Rattle.std.specs.List.{AllByRecursion as Each}
 use Rattle.giop_sig.specs.Types.{Ty}
 use Rattle.giop_sig.specs.Table.{Table}
 use Rattle.giop_sig.specs.HeaderTypes.{BeginsWithId, header_type}
 use Rattle.giop_message.specs.Signatures.{Answers}
+use Rattle.giop_message.specs.ReaderOfTable.{message_reader}
 use Rattle.giop_stream.specs.Rules.{rules_by}
 use Rattle.giop_message.specs.Headers.{minor, kind, size, is_fragment, has_name}
 use Rattle.giop_stream.specs.declared.slots.Slots.{Slots}
 use Rattle.giop_stream.specs.declared.slots.Payload.TheVariants.{Own}
 use Rattle.giop_stream.specs.declared.current.Current.{Current}
-use Rattle.giop_stream.specs.Framing.{Message, cut}
-use Rattle.giop_stream.specs.Events.{MessageKey, Event, Open, Rising, id, message_key, place, opener_of, has_named, goes_past, events_at_request_id, events_at_end, open_after}
-use Rattle.giop_stream.specs.Effects.{Tracked, tracked_after, with_octet}
+use Rattle.giop_stream.specs.Framing.{Message, with_payload, cut}
+use Rattle.giop_stream.specs.Events.{MessageKey, Event, Open, Rising, id, message_key, place, opener_of, has_named, goes_past, events_at_request_id, events_at_end, events_of_octet, open_after}
+use Rattle.giop_stream.specs.Effects.{Tracked, Effect, effects, then_effect, tracked_after, with_octet}
 use Rattle.giop_stream.specs.SlotsRepresent.{SlotsRepresent}
+use Rattle.giop_stream.specs.PayloadRuns.{run_effect}
 
 -- the message that an open joined message begins with
 abbrev pub opener_key : Option Open → Option MessageKey
@@ -83,15 +85,31 @@ pub record IsAfterTake (C : Table) (l : Answers) (s : Slots) (c : Tracked) (m : 
   pub alive : has_name m.header ≡ true → length m.payload ≡ 4 → c.known m.number ≡ Some m.payload
   pub says : has_name m.header ≡ true → SaysId m.header
 
--- The slots represent what is tracked before this octet of a message comes.
-pub record IsBeforeOctet (C : Table) (l : Answers) (s : Slots) (c : Tracked) (m : Message) (now : Current) (x : ℕ) : Type 0 where
-  pub keeps : SlotsRepresent C l s c (owner_of_next c.still_open m)
+-- What is tracked before this octet of a message comes, and what the code knows of the message at it.
+pub record IsBeforeOctet (c : Tracked) (m : Message) (now : Current) (x : ℕ) : Type 0 where
   pub rising : Rising c.still_open
   pub current : IsCurrent now (with_octet m x)
   pub payload_count : length m.payload + 1 ≡ now.payload_count
   pub newest : length m.payload < 4 → IsNewest m.number c.still_open
   pub alive : has_name m.header ≡ true → length m.payload < 4 → c.known m.number ≡ Some m.payload
   pub says : has_name m.header ≡ true → SaysId m.header
+
+-- what the octets `q` of a message do that only add to contents, where one more comes behind them
+abbrev pub effect_before : Table → Answers → Tracked → Message → Current → List ℕ → Effect
+effect_before C l c m now q = run_effect C l (now.place - suc (length q)) c (owner_of_next c.still_open m) q
+
+-- The slots represent what is tracked before octets of a message come: `q`, which only add to contents, and x behind them.
+pub record IsBeforeOctets (C : Table) (l : Answers) (s : Slots) (c : Tracked) (m : Message) (now : Current) (q : List ℕ) (x : ℕ) : Type 0 where
+  pub keeps : SlotsRepresent C l s c (owner_of_next c.still_open m)
+  pub rising : Rising c.still_open
+  pub same_owner : owner_of_next (effect_before C l c m now q).tracked.still_open (with_payload m (m.payload ++ q)) ≡ owner_of_next c.still_open m
+  pub last : IsBeforeOctet (effect_before C l c m now q).tracked (with_payload m (m.payload ++ q)) now x
+
+-- what all of them do: x does what its events do
+abbrev pub octets_effect : Table → Answers → ℕ → Tracked → Message → Current → List ℕ → ℕ → Effect
+octets_effect C l most c m now q x =
+    let ran = effect_before C l c m now q in
+    then_effect ran (effects (message_reader C l) ran.tracked (events_of_octet most ran.tracked.still_open (with_octet (with_payload m (m.payload ++ q)) x)))
 
 -- The slots represent what is tracked before a message begins, at the last octet of its header.
 pub record IsBeforeMessage (C : Table) (l : Answers) (s : Slots) (c : Tracked) (who : Option MessageKey) (m : Message) (now : Current) : Type 0 where

@@ -1,20 +1,20 @@
 //! What an octet of a message does: it feeds, opens, continues, cancels, faults or closes a message.
 
-ghost use Rattle.std.specs.Prelude.{Option, [], ◌∷◌, ◌≡◌, ◌+◌, ◌<◌, ◌≤◌, ◌^◌, ℕ, length, true, false, Some, None, OnOk, IfOk, if◌then◌else◌, slice_get};
+ghost use Rattle.std.specs.Prelude.{Option, List, [], ◌∷◌, ◌++◌, ◌≡◌, ◌+◌, ◌-◌, ◌<◌, ◌≤◌, ◌^◌, ℕ, length, true, false, Some, None, OnOk, IfOk, if◌then◌else◌, slice_get};
 ghost use Rattle.giop_sig.specs.Table.{Table};
 ghost use Rattle.giop_message.specs.Signatures.{Answers};
 ghost use Rattle.giop_message.specs.ReaderOfTable.{message_reader};
 ghost use Rattle.giop_message.specs.MessageState.{AreKnown};
 ghost use Rattle.giop_message.specs.Headers.{size, is_fragment, is_opener, is_cancel};
 ghost use Rattle.giop_stream.specs.Rules.{most_open};
-ghost use Rattle.giop_stream.specs.Framing.{Message};
+ghost use Rattle.giop_stream.specs.Framing.{Message, with_payload};
 ghost use Rattle.giop_stream.specs.Events.{MessageKey, Open, events_at_header, events_at_request_id, events_at_end, events_of_octet, message_key, opener_of};
 ghost use Rattle.giop_stream.specs.Effects.{Tracked, effects, with_octet};
-ghost use Rattle.giop_stream.specs.SlotsRepresent.{AreReady};
+ghost use Rattle.giop_stream.specs.SlotsRepresent.{SlotsRepresent, AreReady};
 ghost use Rattle.giop_stream.specs.DoesEffect.{DoesEffect, one_if, never, all};
 ghost use Rattle.giop_stream.specs.HeaderEndsOfStream.{owner_header_ends};
 ghost use Rattle.giop_message.specs.HeaderEnds.{AgreesAtEnds, after_ends};
-ghost use Rattle.giop_stream.specs.PayloadOwner.{IsAtRequestId, IsBeforeMessage, IsBeforeOctet, IsAfterTake, IsAtOctet, opener_key, owner_after_id, owner_of_next, owner_after, id_events, end_events};
+ghost use Rattle.giop_stream.specs.PayloadOwner.{IsAtRequestId, IsBeforeMessage, IsBeforeOctets, IsAfterTake, IsAtOctet, opener_key, owner_after_id, owner_of_next, owner_after, id_events, end_events, octets_effect};
 
 use crate::current::Current;
 use crate::fault::FramingFault;
@@ -226,39 +226,40 @@ fn count(a: bool, b: bool, c: bool) -> u8
     u8::from(a) + (u8::from(b) + u8::from(c))
 }
 
-/// An octet of a message's payload; returns how many messages it faults.
-pub fn octet<O: Out, Q: Correspondent>(
+/// Octets of a message's payload, of which those before the last only add to its contents; returns how many messages they
+/// fault.
+pub fn octets<O: Out, Q: Correspondent>(
     slots: &mut Slots,
     catalogue: &Catalogue,
     correspondent: &mut Q,
-    octet: u8,
+    octets: &[u8],
     now: Current,
     out: &mut O,
 ) -> Result<u8, OutFault>
-    requires ready { AreReady catalogue.now now.place slots.old }
+    requires come { length octets.now ≤ now.place }
+    requires ready { AreReady catalogue.now (now.place + 1 - length octets.now) slots.old }
     requires known { AreKnown catalogue.now (Q.answer (Q.state correspondent.old)) }
     requires limit { now.place ≤ 2 ^ 48 }
     ensures known { AreKnown catalogue.now (Q.answer (Q.state correspondent.new)) }
-    ensures does { (a : Answers) (c : Tracked) (m : Message) →
-        IsBeforeOctet catalogue.now a slots.old c m now octet →
+    ensures does { (a : Answers) (c : Tracked) (m : Message) (q : List ℕ) (x : ℕ) →
+        octets.now ≡ q ++ x ∷ [] → IsBeforeOctets catalogue.now a slots.old c m now q x →
         AgreesAtEnds Q.answer Q.notified catalogue.now (Q.state correspondent.old) a
-        (owner_header_ends c (owner_of_next c.still_open m) (octet ∷ [])) →
-        (let R = message_reader catalogue.now a in
-        let effect = effects R c (events_of_octet slots.old.slots.most c.still_open (with_octet m octet)) in
+        (owner_header_ends c (owner_of_next c.still_open m) octets.now) →
+        (let effect = octets_effect catalogue.now a slots.old.slots.most c m now q x in
         DoesEffect catalogue.now a all result (O.log out.old) (O.log out.new) slots.new
-        effect (owner_after effect.tracked.still_open (with_octet m octet))) }
+        effect (owner_after effect.tracked.still_open (with_octet (with_payload m (m.payload ++ q)) x))) }
     ensures told { IfOk result (λ _. (a : Answers) (c : Tracked) (m : Message) →
-        IsBeforeOctet catalogue.now a slots.old c m now octet →
+        SlotsRepresent catalogue.now a slots.old c (owner_of_next c.still_open m) →
         AgreesAtEnds Q.answer Q.notified catalogue.now (Q.state correspondent.old) a
-        (owner_header_ends c (owner_of_next c.still_open m) (octet ∷ [])) →
+        (owner_header_ends c (owner_of_next c.still_open m) octets.now) →
         Q.state correspondent.new ≡ after_ends Q.notified catalogue.now
-        (Q.state correspondent.old) (owner_header_ends c (owner_of_next c.still_open m) (octet ∷ []))) }
+        (Q.state correspondent.old) (owner_header_ends c (owner_of_next c.still_open m) octets.now)) }
     ensures few { IfOk result (λ faults. faults ≤ 3) }
     ensures ready { OnOk result (AreReady catalogue.now (now.place + 1) slots.new) }
     ensures most { slots.new.slots.most ≡ slots.old.slots.most }
 {
-    let before = now.place - 1;
-    let taken = slots.take(catalogue, correspondent, &[octet], before, out)?;
+    let before = now.place - octets.len() as u64;
+    let taken = slots.take(catalogue, correspondent, octets, before, out)?;
     let named = at_fourth_octet(slots, now, out)?;
     let ended = at_last_octet(slots, catalogue, now, out)?;
     Ok(count(taken, named, ended))

@@ -220,17 +220,21 @@ impl Framing {
         Ok(())
     }
 
-    /// An octet of a payload.
-    fn payload_octet<O: Out, Q: Correspondent>(
+    /// Octets of a payload, of which at most the last one is the last of a request id or of the message.
+    pub fn payload_octets<O: Out, Q: Correspondent>(
         &mut self,
         catalogue: &Catalogue,
         correspondent: &mut Q,
-        octet: u8,
+        octets: &[u8],
         out: &mut O,
     ) -> Result<(), OutFault>
         requires full { length self.old.header.items ≡ 12 }
         requires running { self.old.stopped ≡ None }
-        requires limit { self.old.totals.octets < 2 ^ 48 }
+        requires some { 0 < length octets.now }
+        requires apart { self.old.payload_count < 4 → self.old.payload_count + length octets.now ≤ 4 }
+        requires few { 1 < length octets.now →
+            self.old.payload_count + length octets.now ≤ size self.old.header.items }
+        requires limit { self.old.totals.octets + length octets.now ≤ 2 ^ 48 }
         requires known { AreKnown catalogue.now (Q.answer (Q.state correspondent.old)) }
         requires ready { AreReady catalogue.now (self.old.totals.octets + 1) self.old.slots }
         ensures known { AreKnown catalogue.now (Q.answer (Q.state correspondent.new)) }
@@ -239,26 +243,27 @@ impl Framing {
             Shows catalogue.now a (framing_view self.old) s →
             AgreesAtEnds Q.answer Q.notified catalogue.now (Q.state correspondent.old) a
             (current_header_ends (rules_by catalogue.now a self.old.slots.slots.most)
-            r.stream (cut r.stream).current (octet ∷ [])) →
+            r.stream (cut r.stream).current octets.now) →
             Does catalogue.now a result (O.log out.old) (O.log out.new) (framing_view self.new)
-            (one.step (rules_by catalogue.now a self.old.slots.slots.most) s octet) }
+            (one.runs (rules_by catalogue.now a self.old.slots.slots.most) s octets.now) }
         ensures told { IfOk result (λ _. (a : Answers) (s : State)
             (r : IsReached catalogue.now a self.old.slots.slots.most s) →
             Shows catalogue.now a (framing_view self.old) s →
             AgreesAtEnds Q.answer Q.notified catalogue.now (Q.state correspondent.old) a
             (current_header_ends (rules_by catalogue.now a self.old.slots.slots.most)
-            r.stream (cut r.stream).current (octet ∷ [])) →
+            r.stream (cut r.stream).current octets.now) →
             Q.state correspondent.new ≡ after_ends Q.notified catalogue.now
             (Q.state correspondent.old) (current_header_ends (rules_by catalogue.now a self.old.slots.slots.most)
-            r.stream (cut r.stream).current (octet ∷ []))) }
+            r.stream (cut r.stream).current octets.now)) }
         ensures ready { OnOk result
             (AreReady catalogue.now (self.new.totals.octets + 1) self.new.slots) }
         ensures most { self.new.slots.slots.most ≡ self.old.slots.slots.most }
     {
-        self.totals.octets += 1;
-        self.payload_count = self.payload_count.saturating_add(1);
+        self.totals.octets += octets.len() as u64;
+        let payload_count = u32::try_from(octets.len()).unwrap_or(u32::MAX);
+        self.payload_count = self.payload_count.saturating_add(payload_count);
         let now = self.current();
-        let faults = dispatch::octet(&mut self.slots, catalogue, correspondent, octet, now, out)?;
+        let faults = dispatch::octets(&mut self.slots, catalogue, correspondent, octets, now, out)?;
         self.totals.faults += u64::from(faults);
         self.end_message(size_of(&now.header));
         Ok(())
@@ -305,7 +310,7 @@ impl Framing {
         if self.header.len() < 12 {
             self.header_octet(catalogue, octet, out)
         } else {
-            self.payload_octet(catalogue, correspondent, octet, out)
+            self.payload_octets(catalogue, correspondent, &[octet], out)
         }
     }
 }

@@ -26,13 +26,13 @@ impl Framing {
     ghost use Rattle.giop_stream.specs.ViewOfState.{Shows, IsReached, Does};
     ghost use Rattle.giop_message.specs.MessageState.{AreKnown};
 
-    /// How many of the next octets only add to a message's contents: none is the last of its request id or of it.
+    /// How many of the next octets are of the payload, up to its fourth, where a request id may end, or to its last.
     fn payload_run(&self, room: usize) -> usize
         ensures within { result ≤ room }
         ensures full { 0 < result → length self.now.header.items ≡ 12 }
         ensures running { 0 < result → self.now.stopped ≡ None }
-        ensures apart { 0 < result → self.now.payload_count < 4 → self.now.payload_count + result < 4 }
-        ensures before_last { 0 < result → self.now.payload_count + result < size self.now.header.items }
+        ensures apart { 0 < result → self.now.payload_count < 4 → self.now.payload_count + result ≤ 4 }
+        ensures few { 0 < result → self.now.payload_count + result ≤ size self.now.header.items }
         ensures limit { 0 < result → self.now.totals.octets + result ≤ 2 ^ 48 }
     {
         if self.stopped.is_some() || self.header.len() < 12 {
@@ -40,58 +40,9 @@ impl Framing {
         }
         let left = size_of(self.header.as_slice()).saturating_sub(self.payload_count);
         let unread = LIMIT.saturating_sub(self.totals.octets);
-        before_id(self.payload_count, room)
-            .min(left.saturating_sub(1) as usize)
+        up_to_id(self.payload_count, room)
+            .min(left as usize)
             .min(unread as usize)
-    }
-
-    /// Takes octets that only add to a message's contents.
-    fn run<O: Out, Q: Correspondent>(
-        &mut self,
-        catalogue: &Catalogue,
-        correspondent: &mut Q,
-        octets: &[u8],
-        out: &mut O,
-    ) -> Result<(), OutFault>
-        requires full { length self.old.header.items ≡ 12 }
-        requires running { self.old.stopped ≡ None }
-        requires apart { self.old.payload_count < 4 → self.old.payload_count + length octets.now < 4 }
-        requires before_last { self.old.payload_count + length octets.now < size self.old.header.items }
-        requires limit { self.old.totals.octets + length octets.now ≤ 2 ^ 48 }
-        requires some { 0 < length octets.now }
-        requires known { AreKnown catalogue.now (Q.answer (Q.state correspondent.old)) }
-        requires ready { AreReady catalogue.now (self.old.totals.octets + 1) self.old.slots }
-        ensures known { AreKnown catalogue.now (Q.answer (Q.state correspondent.new)) }
-        ensures does { (a : Answers) (s : State)
-            (r : IsReached catalogue.now a self.old.slots.slots.most s) →
-            Shows catalogue.now a (framing_view self.old) s →
-            AgreesAtEnds Q.answer Q.notified catalogue.now (Q.state correspondent.old) a
-            (current_header_ends (rules_by catalogue.now a self.old.slots.slots.most)
-            r.stream (cut r.stream).current octets.now) →
-            Does catalogue.now a result (O.log out.old) (O.log out.new) (framing_view self.new)
-            (one.runs (rules_by catalogue.now a self.old.slots.slots.most) s octets.now) }
-        ensures told { IfOk result (λ _. (a : Answers) (s : State)
-            (r : IsReached catalogue.now a self.old.slots.slots.most s) →
-            Shows catalogue.now a (framing_view self.old) s →
-            AgreesAtEnds Q.answer Q.notified catalogue.now (Q.state correspondent.old) a
-            (current_header_ends (rules_by catalogue.now a self.old.slots.slots.most)
-            r.stream (cut r.stream).current octets.now) →
-            Q.state correspondent.new ≡ after_ends Q.notified catalogue.now
-            (Q.state correspondent.old) (current_header_ends (rules_by catalogue.now a self.old.slots.slots.most)
-            r.stream (cut r.stream).current octets.now)) }
-        ensures ready { OnOk result
-            (AreReady catalogue.now (self.new.totals.octets + 1) self.new.slots) }
-        ensures most { self.new.slots.slots.most ≡ self.old.slots.slots.most }
-    {
-        let before = self.totals.octets;
-        self.totals.octets += octets.len() as u64;
-        let payload_count = u32::try_from(octets.len()).unwrap_or(u32::MAX);
-        self.payload_count = self.payload_count.saturating_add(payload_count);
-        let faulted = self
-            .slots
-            .take(catalogue, correspondent, octets, before, out)?;
-        self.totals.faults += u64::from(faulted);
-        Ok(())
     }
 
     /// How many of these octets only add to a header: they are right, and none is its last.
@@ -189,7 +140,7 @@ impl Framing {
                 self.step(catalogue, correspondent, *octet, out)?;
                 rest = &rest[1..];
             } else {
-                self.run(catalogue, correspondent, &rest[..payload_run], out)?;
+                self.payload_octets(catalogue, correspondent, &rest[..payload_run], out)?;
                 rest = &rest[payload_run..];
             }
         }
@@ -197,14 +148,14 @@ impl Framing {
     }
 }
 
-/// How many of the next octets of a payload, after so many others, come before the last one of its request id: all of
-/// them where the request id is complete.
-fn before_id(payload_count: u32, room: usize) -> usize
+/// How many of the next octets of a payload, after so many others, come up to the last one of its request id: all of them
+/// where the request id is complete.
+fn up_to_id(payload_count: u32, room: usize) -> usize
     ensures within { result ≤ room }
-    ensures apart { payload_count < 4 → payload_count + result < 4 }
+    ensures apart { payload_count < 4 → payload_count + result ≤ 4 }
 {
     if payload_count < 4 {
-        room.min((3 - payload_count) as usize)
+        room.min((4 - payload_count) as usize)
     } else {
         room
     }

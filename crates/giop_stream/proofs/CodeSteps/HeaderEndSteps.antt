@@ -12,7 +12,7 @@ use Rattle.giop_message.specs.Messages.{message, stage_of}
 use Rattle.giop_message.specs.ReaderOfTable.{message_reader, is_over}
 use Rattle.giop_message.specs.MessageState.{Follows}
 use Rattle.giop_message.specs.HeaderEnds.{HeaderEnd, Header_end, Exception_end, CallEvent, header_ends, call_event, after_event, after_ends, IsAnswered, AgreesAtEnds}
-use Rattle.giop_message.proofs.MessageLaws.{header_ends_both, header_ends_none, over_none, octet_over, told_both, answers_first, answers_then}
+use Rattle.giop_message.proofs.MessageLaws.{header_ends_both, over_none, octet_over, told_both, answers_first, answers_then}
 use Rattle.giop_stream.specs.declared.slots.Slot.{Slot as Contents}
 use Rattle.giop_stream.specs.declared.slots.Slots.{Slots}
 use Rattle.giop_stream.specs.declared.slots.Payload.TheVariants as payload
@@ -35,7 +35,7 @@ use Rattle.giop_stream.proofs.SlotSteps.OneSlotChanges.{own_then}
 use Rattle.giop_stream.proofs.SlotSteps.ReadingEffects.{Faulty, over_then, then_by}
 use Rattle.giop_stream.proofs.SlotSteps.EventsOnSlots.{own_has, slot_has, nobody_has, own_kept, slot_kept}
 use Rattle.giop_stream.proofs.CodeSteps.Runs.{over_stays}
-use Rattle.giop_stream.proofs.CodeSteps.PayloadRunSteps.{Within, within_on, octet_adds, octet_owner, begins}
+use Rattle.giop_stream.proofs.CodeSteps.PayloadRunSteps.{Within, within_on, octet_adds, octet_owner, begins, octets_are}
 use Rattle.giop_stream.proofs.CodeSteps.MessageOctets.{runs_on, all_read, header_at, no_current, has_current}
 
 -- ---- a result
@@ -93,6 +93,11 @@ module _ {St : Type 0} (answer : St → Answer) (notified : St → CallEvent →
 
 -- ---- one octet, and others after it
 
+pub at_free : (R : Rules) (p : List ℕ) (x : ℕ) → (cut p).stop ≡ None → length p < limit
+    → header_ends_at R p x ≡ current_header_ends R p (cut p).current (x ∷ [])
+unfolding header_ends_at
+at_free R p x free room = rw (free, lt-ltb (length p) limit room) refl
+
 module _ (C : Table) (a : Answers) where
   -- the message is over where an octet faults it
   faulted_over : (w : MessageKey) (s : List ℕ) (x : ℕ) → Faulty C a w s x ≡ true
@@ -130,40 +135,35 @@ module _ (C : Table) (a : Answers) where
       ∙ ap (λ (z : List HeaderEnd). run_header_ends w (c.known w.number) (x ∷ []) ++ z)
       (ap (λ o. run_header_ends w o q) (sym (own_then (message_reader C a) c (event at w (Takes x)))))
 
-  none_of : (w : MessageKey) (o : Option (List ℕ)) → run_header_ends w o [] ≡ []
-  none_of w None = refl
-  none_of w (Some s) = header_ends_none w.number w.header s
+  -- of an octet of this message
+  ends_here : (R : Rules) (p : List ℕ) (m : Message) (x : ℕ) → (cut p).stop ≡ None → (cut p).current ≡ Some m → length p < limit
+      → header_ends_at R p x ≡ owner_header_ends (tracked_after R p) (owner_of_next (open_after R.most p) m) (x ∷ [])
+  ends_here R p m x free current room = at_free R p x free room ∙ ap (λ (o : Option Message). current_header_ends R p o (x ∷ [])) current
 
-  none_whose : (c : Tracked) (who : Option MessageKey) → owner_header_ends c who [] ≡ []
-  none_whose c None = refl
-  none_whose c (Some w) = none_of w (c.known w.number)
-
-  -- the octets of a run, one after the other
-  pub run_from : (most : ℕ) (q p : List ℕ) (m : Message) → Within p m (length q)
-      → owner_header_ends (tracked_after (rules_by C a most) p) (owner_of_next (open_after most p) m) q ≡ header_ends_from (rules_by C a most) p q
-  unfolding header_ends_from header_ends_at
-  run_from most [] p m h = none_whose (tracked_after (rules_by C a most) p) (owner_of_next (open_after most p) m)
-  run_from most (x ∷ q) p m h =
+  -- octets that only add to contents, one after the other, and one more
+  pub run_from : (most : ℕ) (q p : List ℕ) (m : Message) (x : ℕ) → Within p m (length q) → length p + length q < limit
+      → owner_header_ends (tracked_after (rules_by C a most) p) (owner_of_next (open_after most p) m) (q ++ x ∷ [])
+      ≡ header_ends_from (rules_by C a most) p (q ++ x ∷ [])
+  unfolding header_ends_from
+  run_from most [] p m x h room =
+      let R = rules_by C a most in
+      sym (append-nil (header_ends_at R p x) ∙ ends_here R p m x h.free h.current (omega (arith, room)))
+  run_from most (y ∷ q) p m x h room =
       let R = rules_by C a most in
       let W = owner_of_next (open_after most p) m in
-      let p' = p ++ x ∷ [] in
-      let one = octet_adds C a most p m x (length q) h in
-      let who = octet_owner C a most p m x (length q) h in
-      let more = run_from most q p' (with_octet m x) (within_on p m x (length q) h) in
-      let rest : owner_header_ends (effect_to C a (suc (length p)) (tracked_after R p) W (Takes x)).tracked W q ≡ header_ends_from R p' q =
-      (λ j. owner_header_ends (sym one.tracked_after j) (sym who j) q) ∙ more in
-      owner_on (tracked_after R p) W x q (suc (length p))
-      ∙ (ap (λ (z : List HeaderEnd). z ++ owner_header_ends (effect_to C a (suc (length p)) (tracked_after R p) W (Takes x)).tracked W q) (sym (here R h))
-      ∙ ap (λ (z : List HeaderEnd). header_ends_at R p x ++ z) rest)
-    where
-      here : (R : Rules) → Within p m (suc (length q)) → header_ends_at R p x ≡ owner_header_ends (tracked_after R p) (owner_of_next (open_after R.most p) m) (x ∷ [])
-      here R h = rw (h.free, lt-ltb (length p) limit (omega (arith, h.room)), h.current) refl
+      let p' = p ++ y ∷ [] in
+      let one = octet_adds C a most p m y (length q) h in
+      let who = octet_owner C a most p m y (length q) h in
+      let here = ends_here R p m y h.free h.current (omega (arith, h.room)) in
+      let more = run_from most q p' (with_octet m y) x (within_on p m y (length q) h) (omega (arith, room, length_push p y)) in
+      let after = (effect_to C a (suc (length p)) (tracked_after R p) W (Takes y)).tracked in
+      let rest : owner_header_ends after W (q ++ x ∷ []) ≡ header_ends_from R p' (q ++ x ∷ []) =
+      (λ j. owner_header_ends (sym one.tracked_after j) (sym who j) (q ++ x ∷ [])) ∙ more in
+      owner_on (tracked_after R p) W y (q ++ x ∷ []) (suc (length p))
+      ∙ (ap (λ (z : List HeaderEnd). z ++ owner_header_ends after W (q ++ x ∷ [])) (sym here)
+      ∙ ap (λ (z : List HeaderEnd). header_ends_at R p y ++ z) rest)
 
 -- ---- any octets
-
-pub at_free : (R : Rules) (p : List ℕ) (x : ℕ) → (cut p).stop ≡ None → length p < limit → header_ends_at R p x ≡ current_header_ends R p (cut p).current (x ∷ [])
-unfolding header_ends_at
-at_free R p x free room = rw (free, lt-ltb (length p) limit room) refl
 
 pub at_none : (R : Rules) (p : List ℕ) (x : ℕ) → (cut p).current ≡ None → header_ends_at R p x ≡ []
 unfolding header_ends_at
@@ -325,14 +325,21 @@ told_ahead C a most s r m h xs free few =
     let held = header_at C a most s r m h free ∙ ap (λ (o : Option Message). header_of o (cut r.stream).held) none in
     heads_none (rules_by C a most) xs r.stream none (omega (arith, few, ap length held))
 
--- octets of a run
+-- octets of a payload
 pub told_run : (C : Table) (a : Answers) (most : ℕ) (s : State) (r : IsReached C a most s) (m : FramingView) (h : Shows C a m s)
-    (free : m.stopped ≡ None) (full : length m.header ≡ 12) (q : List ℕ)
-    (apart : m.payload_count < 4 → m.payload_count + length q < 4) (before_last : m.payload_count + length q < size m.header) (room : m.totals.octets + length q ≤ 2 ^ 48)
-    → current_header_ends (rules_by C a most) r.stream (cut r.stream).current q ≡ header_ends_from (rules_by C a most) r.stream q
-told_run C a most s r m h free full q apart before_last room =
+    (free : m.stopped ≡ None) (full : length m.header ≡ 12) (octets : List ℕ) (some : 0 < length octets)
+    (apart : m.payload_count < 4 → m.payload_count + length octets ≤ 4)
+    (few : 1 < length octets → m.payload_count + length octets ≤ size m.header) (room : m.totals.octets + length octets ≤ 2 ^ 48)
+    → current_header_ends (rules_by C a most) r.stream (cut r.stream).current octets ≡ header_ends_from (rules_by C a most) r.stream octets
+unfolding limit
+told_run C a most s r m h free full octets some apart few room =
     let here = has_current C a most s r m h free full in
-    rw here.1 (run_from C a most q r.stream here.0 (begins C a most s r m h free here.0 here.1 q apart before_last room))
+    let (q, (x, e)) = octets_are octets some in
+    let all = all_read C a most s r m h free in
+    rw here.1 (subst (λ (z : List ℕ). owner_header_ends (tracked_after (rules_by C a most) r.stream) (owner_of_next (open_after most r.stream) here.0) z
+    ≡ header_ends_from (rules_by C a most) r.stream z) (sym e)
+    (run_from C a most q r.stream here.0 x (begins C a most s r m h free here.0 here.1 octets q x e apart few room)
+    (omega (arith, room, all, ap length e, length_push q x))))
 
 -- ---- octets after those that were taken
 

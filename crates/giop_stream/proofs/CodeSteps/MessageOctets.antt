@@ -21,9 +21,9 @@ use Rattle.giop_stream.specs.Events.{events_of_octet, open_after}
 use Rattle.giop_stream.specs.Lines.{Line, lines}
 use Rattle.giop_stream.specs.Text.{lines_text}
 use Rattle.giop_stream.specs.Stream.{fault_count, tally}
-use Rattle.giop_stream.specs.Effects.{Tracked, Effect, effects, tracked_after, with_octet}
+use Rattle.giop_stream.specs.Effects.{Tracked, Effect, effects, tracked_after}
 use Rattle.giop_stream.specs.SlotsRepresent.{SlotsRepresent}
-use Rattle.giop_stream.specs.PayloadOwner.{IsBeforeOctet, IsBeforeMessage, IsNewest, SlotsRepresentStream, owner_of_next_in, owner_after}
+use Rattle.giop_stream.specs.PayloadOwner.{IsBeforeMessage, SlotsRepresentStream, owner_of_next_in, owner_after}
 use Rattle.giop_stream.specs.EngineView.{FramingView}
 use Rattle.giop_stream.specs.Octet.{header_of, payload_count_of}
 use Rattle.giop_stream.specs.EngineState.{State, state_of}
@@ -34,15 +34,14 @@ use Rattle.giop_stream.proofs.Lists.{each_weaker}
 use Rattle.giop_stream.proofs.Cuts.Cutting.{of_parts}
 use Rattle.giop_stream.proofs.Cuts.CutFrom.{end_message}
 use Rattle.giop_stream.proofs.Events.Soundness.{CurrentFits, Fits, IsSound}
-use Rattle.giop_stream.proofs.Events.StepCases.{place_more, place_first}
+use Rattle.giop_stream.proofs.Events.StepCases.{place_first}
 use Rattle.giop_stream.proofs.Events.StepCases.{if_some}
 use Rattle.giop_stream.proofs.SlotSteps.Parts.{in_turn}
 use Rattle.giop_stream.proofs.Cuts.OfOctets.{header_octets, size_fits}
-use Rattle.giop_stream.proofs.SlotSteps.RequestIds.{says_id}
-use Rattle.giop_stream.proofs.CodeSteps.OneOctet.{Adds, beginner, paid_is, begins_is}
+use Rattle.giop_stream.proofs.CodeSteps.OneOctet.{Adds, beginner, begins_is}
 use Rattle.giop_stream.proofs.CodeSteps.EngineStep.{tally_settled}
 use Rattle.giop_stream.proofs.CodeSteps.NextOctet.{read_all}
-use Rattle.giop_stream.proofs.CodeSteps.EngineAlive.{sound, alive}
+use Rattle.giop_stream.proofs.CodeSteps.EngineAlive.{sound}
 use Rattle.giop_stream.proofs.CodeSteps.EngineLaws.{step_state, step_lines, run_holds, run_lines}
 use Rattle.giop_stream.proofs.CodeSteps.SlotsToState.{come_state, shows_by, knows_it}
 use Rattle.giop_stream.proofs.CodeSteps.OutsideMessages.{within_limit}
@@ -67,6 +66,47 @@ reached_at C l n most s same r = record {
   octets = r.octets;
   held = r.held ∙ ap (λ (k : ℕ). state_of (rules_by C l k) r.stream) same;
 }
+
+-- ---- What the fields show after an octet of this message.
+
+module _ (C : Table) (l : Answers) (most : ℕ) (p : List ℕ) where
+  abbrev rules : Rules
+  rules = rules_by C l most
+
+  abbrev pub effect_of : Message → Effect
+  effect_of n = effects rules.reading (tracked_after rules p) (events_of_octet most (tracked_after rules p).still_open n)
+
+  module _ (x : ℕ) (n : Message) (fits : length n.payload ≤ size n.header) (number : n.number ≡ suc (length (cut p).whole))
+      (adds : Adds rules p (p ++ x ∷ []) (end_message (cut p).whole n) (effect_of n).lines (effect_of n).tracked) where
+    knows_then : (slots : Slots) → SlotsRepresent C l slots (effect_of n).tracked (owner_after (effect_of n).tracked.still_open n) → SlotsRepresentStream C l most slots (p ++ x ∷ [])
+    unfolding tracked_after
+    knows_then slots keeps =
+        let p' = p ++ x ∷ [] in
+        let who : owner_after (tracked_after rules p').still_open n ≡ owner_of_next_in (open_after most p') (cut p').current =
+        sym (ap (λ (d : Cut). owner_of_next_in (open_after most p') d.current) adds.cut_is
+        ∙ owner_settled (open_after most p') (cut p).whole n fits) in
+        subst (SlotsRepresent C l slots (tracked_after rules p')) who (subst (λ (d : Tracked). SlotsRepresent C l slots d (owner_after d.still_open n)) (sym adds.tracked_after) keeps)
+
+    pub settled_shows : (b f : FramingView) (k : ℕ) → f ≡ settled b k → b.totals.messages ≡ n.number
+        → b.totals.faults ≡ fault_count (lines rules p) + fault_count (effect_of n).lines → b.totals.octets ≡ suc (length p)
+        → b.stopped ≡ None → b.header ≡ n.header → b.payload_count ≡ length n.payload → k ≡ size n.header
+        → SlotsRepresent C l b.slots (effect_of n).tracked (owner_after (effect_of n).tracked.still_open n) → Shows C l f (state_of rules (p ++ x ∷ []))
+    unfolding of_parts tracked_after
+    settled_shows b f k e messages faults octets stopped header payload_count sized keeps =
+        let p' = p ++ x ∷ [] in
+        let totals : b.totals ≡ tally rules p' =
+        (λ j. record { messages = messages j; faults = faults j; octets = octets j })
+        ∙ sym (tally_settled rules p x n number adds) in
+        rw e (elim (cases_lt (length n.payload) (size n.header)) [
+          | inl less ↦
+              rw (settled_on b k (λ same. omega (arith, same, payload_count, sized, less)))
+              (shows_by C l most p' b (of_parts (cut p).whole (Some n) [] None)
+              (adds.cut_is ∙ goes_on (cut p).whole n less) refl totals stopped header payload_count (knows_then b.slots keeps))
+          | inr more ↦
+              rw (settled_off b k (omega (arith, payload_count, sized, more, fits)))
+              (shows_by C l most p' (record b { header = []; payload_count = 0 }) (of_parts ((cut p).whole ++ n ∷ []) None [] None)
+              (adds.cut_is ∙ goes_off (cut p).whole n more) refl totals stopped refl refl (knows_then b.slots keeps))
+        ])
 
 module _ (C : Table) (l : Answers) (most : ℕ) (s : State) (reached : IsReached C l most s) (m : FramingView) (h : Shows C l m s) where
   abbrev R : Rules
@@ -156,44 +196,6 @@ module _ (C : Table) (l : Answers) (most : ℕ) (s : State) (reached : IsReached
   unfolding state_of tally
   faults_at = ap (λ (t : Totals). t.faults) at_p.totals
 
-  -- ---- What the fields show after the octet of this message.
-
-  abbrev pub effect_of : Message → Effect
-  effect_of n = effects R.reading (tracked_after R p) (events_of_octet most (tracked_after R p).still_open n)
-
-  module _ (x : ℕ) (n : Message) (fits : length n.payload ≤ size n.header) (number : n.number ≡ suc (length (cut p).whole))
-      (adds : Adds R p (p ++ x ∷ []) (end_message (cut p).whole n) (effect_of n).lines (effect_of n).tracked) where
-    knows_then : (slots : Slots) → SlotsRepresent C l slots (effect_of n).tracked (owner_after (effect_of n).tracked.still_open n) → SlotsRepresentStream C l most slots (p ++ x ∷ [])
-    unfolding tracked_after
-    knows_then slots keeps =
-        let p' = p ++ x ∷ [] in
-        let who : owner_after (tracked_after R p').still_open n ≡ owner_of_next_in (open_after most p') (cut p').current =
-        sym (ap (λ (d : Cut). owner_of_next_in (open_after most p') d.current) adds.cut_is
-        ∙ owner_settled (open_after most p') (cut p).whole n fits) in
-        subst (SlotsRepresent C l slots (tracked_after R p')) who (subst (λ (d : Tracked). SlotsRepresent C l slots d (owner_after d.still_open n)) (sym adds.tracked_after) keeps)
-
-    settled_shows : (b f : FramingView) (k : ℕ) → f ≡ settled b k → b.totals.messages ≡ n.number
-        → b.totals.faults ≡ m.totals.faults + fault_count (effect_of n).lines → b.totals.octets ≡ suc (length p)
-        → b.stopped ≡ None → b.header ≡ n.header → b.payload_count ≡ length n.payload → k ≡ size n.header
-        → SlotsRepresent C l b.slots (effect_of n).tracked (owner_after (effect_of n).tracked.still_open n) → Shows C l f (state_of R (p ++ x ∷ []))
-    unfolding of_parts tracked_after
-    settled_shows b f k e messages faults octets stopped header payload_count sized keeps =
-        let p' = p ++ x ∷ [] in
-        let all : b.totals.faults ≡ fault_count (lines R p) + fault_count (effect_of n).lines = omega (arith, faults, faults_at) in
-        let totals : b.totals ≡ tally R p' =
-        (λ j. record { messages = messages j; faults = all j; octets = octets j })
-        ∙ sym (tally_settled R p x n number adds) in
-        rw e (elim (cases_lt (length n.payload) (size n.header)) [
-          | inl less ↦
-              rw (settled_on b k (λ same. omega (arith, same, payload_count, sized, less)))
-              (shows_by C l most p' b (of_parts (cut p).whole (Some n) [] None)
-              (adds.cut_is ∙ goes_on (cut p).whole n less) refl totals stopped header payload_count (knows_then b.slots keeps))
-          | inr more ↦
-              rw (settled_off b k (omega (arith, payload_count, sized, more, fits)))
-              (shows_by C l most p' (record b { header = []; payload_count = 0 }) (of_parts ((cut p).whole ++ n ∷ []) None [] None)
-              (adds.cut_is ∙ goes_off (cut p).whole n more) refl totals stopped refl refl (knows_then b.slots keeps))
-        ])
-
   -- ---- A header's last octet.
 
   module _ (x : ℕ) (b : FramingView) (e : b ≡ held_on m x) (full : length b.header ≡ 12) (right : wrong b.header ≡ None)
@@ -236,7 +238,11 @@ module _ (C : Table) (l : Answers) (most : ℕ) (s : State) (reached : IsReached
     abbrev pub first : Message
     first = beginner (cut p).whole (suc (length p)) ((cut p).held ++ x ∷ [])
 
-    first_adds : Adds R p (p ++ x ∷ []) (end_message (cut p).whole first) (effect_of first).lines (effect_of first).tracked
+    -- what it does
+    abbrev pub beginning : Effect
+    beginning = effect_of C l most p first
+
+    first_adds : Adds R p (p ++ x ∷ []) (end_message (cut p).whole first) beginning.lines beginning.tracked
     unfolding tracked_after
     first_adds =
         begins_is R causal (in_turn C l) p x so (runs_on ran) cur
@@ -274,25 +280,25 @@ module _ (C : Table) (l : Answers) (most : ℕ) (s : State) (reached : IsReached
         }
 
     pub begun_does : {A E : Type 0} (result : Result A E) (before after : OutLog) (f : FramingView)
-        → Writes result before after (lines_text (effect_of first).lines) → OnOk result (Shows C l f (state_of R (p ++ x ∷ [])))
+        → Writes result before after (lines_text beginning.lines) → OnOk result (Shows C l f (state_of R (p ++ x ∷ [])))
         → Does C l result before after f (step R s x)
-    begun_does result before after f text shows = does_step x (effect_of first).lines result before after f first_adds.lines text shows
+    begun_does result before after f text shows = does_step x beginning.lines result before after f first_adds.lines text shows
 
     pub begun_shows : (b' f : FramingView) (k : ℕ) → f ≡ settled b' k → b'.totals.messages ≡ b.totals.messages + 1
-        → b'.totals.faults ≡ b.totals.faults + fault_count (effect_of first).lines → b'.totals.octets ≡ b.totals.octets
+        → b'.totals.faults ≡ b.totals.faults + fault_count beginning.lines → b'.totals.octets ≡ b.totals.octets
         → b'.stopped ≡ b.stopped → b'.header ≡ b.header → b'.payload_count ≡ b.payload_count → k ≡ size b.header
-        → SlotsRepresent C l b'.slots (effect_of first).tracked (owner_after (effect_of first).tracked.still_open first) → Shows C l f (state_of R (p ++ x ∷ []))
+        → SlotsRepresent C l b'.slots beginning.tracked (owner_after beginning.tracked.still_open first) → Shows C l f (state_of R (p ++ x ∷ []))
     begun_shows b' f k is messages faults octets stopped header payload_count sized keeps =
-        settled_shows x first (omega arith) refl first_adds b' f k is
-        (omega (arith, messages, messages_was, messages_at, count)) (omega (arith, faults, faults_was))
+        settled_shows C l most p x first (omega arith) refl first_adds b' f k is
+        (omega (arith, messages, messages_was, messages_at, count)) (omega (arith, faults, faults_was, faults_at))
         (omega (arith, octets, octets_was, all_read ran)) (stopped ∙ free) (header ∙ header_now) (payload_count ∙ none_come)
         (sized ∙ ap size header_now) keeps
 
-  -- ---- An octet of a payload.
+  -- ---- The current message.
 
   module _ (free : m.stopped ≡ None) (c : Message) (cur : (cut p).current ≡ Some c) where
-    at_hand : CurrentFits (length p) (cut p) c
-    at_hand = if_some (CurrentFits (length p) (cut p)) (cut p).current c cur (fits_at free).current
+    pub current_fits : CurrentFits (length p) (cut p) c
+    current_fits = if_some (CurrentFits (length p) (cut p)) (cut p).current c cur (fits_at free).current
 
     pub header_is : m.header ≡ c.header
     header_is = header_at free ∙ ap (λ (o : Option Message). header_of o (cut p).held) cur
@@ -305,53 +311,11 @@ module _ (C : Table) (l : Answers) (most : ℕ) (s : State) (reached : IsReached
     all_messages = rw cur (length_push (cut p).whole c)
 
     pub number_is : c.number ≡ m.totals.messages
-    number_is = omega (arith, at_hand.number_is, messages_at, all_messages)
+    number_is = omega (arith, current_fits.number_is, messages_at, all_messages)
 
-    right : AreOctets c.header × (first_wrong_octet c.header ≡ None)
+    pub right : AreOctets c.header × (first_wrong_octet c.header ≡ None)
     right = if_some (λ c. AreOctets c.header × (first_wrong_octet c.header ≡ None)) (cut p).current c cur (header_octets p reached.octets)
 
     -- the number of its octets fits the counter
     pub size_few : size m.header < 2 ^ 32
-    size_few = omega (arith, ap size header_is, size_fits c.header right.0 at_hand.twelve)
-
-    module _ (x : ℕ) (room : m.totals.octets < 2 ^ 48) where
-      paid : Adds R p (p ++ x ∷ []) (end_message (cut p).whole (with_octet c x)) (effect_of (with_octet c x)).lines (effect_of (with_octet c x)).tracked
-      unfolding tracked_after
-      paid = paid_is R causal (in_turn C l) p x so c (runs_on free) cur (within_limit (length p) (omega (arith, room, all_read free)))
-
-      pub come_fits : m.payload_count + 1 < 2 ^ 32
-      come_fits = omega (arith, come_is, at_hand.lacks, ap size header_is, size_few)
-
-      pub is_next : (now : Current) → now.number ≡ m.totals.messages → now.header ≡ m.header
-          → now.place ≡ m.totals.octets + 1 → now.payload_count ≡ m.payload_count + 1 → IsBeforeOctet C l m.slots (tracked_after R p) c now x
-      unfolding tracked_after
-      is_next now number header place payload_count = record {
-        keeps = subst (λ (o : Option Message). SlotsRepresent C l m.slots (tracked_after R p) (owner_of_next_in (open_after most p) o)) cur (knows_at free);
-        rising = so.rising;
-        current = record {
-          number = number_is ∙ sym number;
-          header = sym (header ∙ header_is);
-          place = omega (arith, place_more c x (length p) at_hand.place_is, all_read free, place);
-        };
-        payload_count = omega (arith, payload_count, come_is);
-        newest = if_some (λ m. length m.payload < 4 → IsNewest m.number (open_after most p)) (cut p).current c cur (so.early (runs_on free));
-        alive = λ name few. alive R causal (in_turn C l) p (runs_on free) c cur name few;
-        says = λ name. says_id c.header at_hand.twelve right.1 name;
-      }
-
-      pub paid_does : {A E : Type 0} (result : Result A E) (before after : OutLog) (f : FramingView)
-          → Writes result before after (lines_text (effect_of (with_octet c x)).lines)
-          → OnOk result (Shows C l f (state_of R (p ++ x ∷ []))) → Does C l result before after f (step R s x)
-      paid_does result before after f text shows = does_step x (effect_of (with_octet c x)).lines result before after f paid.lines text shows
-
-      pub paid_shows : (b f : FramingView) (k : ℕ) → f ≡ settled b k → b.totals.messages ≡ m.totals.messages
-          → b.totals.faults ≡ m.totals.faults + fault_count (effect_of (with_octet c x)).lines
-          → b.totals.octets ≡ m.totals.octets + 1 → b.stopped ≡ m.stopped → b.header ≡ m.header → b.payload_count ≡ m.payload_count + 1
-          → k ≡ size m.header
-          → SlotsRepresent C l b.slots (effect_of (with_octet c x)).tracked
-          (owner_after (effect_of (with_octet c x)).tracked.still_open (with_octet c x)) → Shows C l f (state_of R (p ++ x ∷ []))
-      paid_shows b f k is messages faults octets stopped header payload_count sized keeps =
-          settled_shows x (with_octet c x) (omega
-          (arith, at_hand.lacks, length_push c.payload x)) at_hand.number_is paid b f k is (messages ∙ sym number_is) faults
-          (omega (arith, octets, all_read free)) (stopped ∙ free) (header ∙ header_is)
-          (omega (arith, payload_count, come_is, length_push c.payload x)) (sized ∙ ap size header_is) keeps
+    size_few = omega (arith, ap size header_is, size_fits c.header right.0 current_fits.twelve)

@@ -1,7 +1,6 @@
--- A run of payload octets that end no request id and no message, taken at once: the stream with them, and that the code does
--- their steps.
-use Rattle.std.proofs.Common.{◌≡◌, ◌≢◌, ℕ, suc, ◌+◌, ◌-◌, ◌^◌, ◌<◌, ◌≤◌, Bool, true, false, List, [], ◌∷◌, ◌++◌, length, get_or, refl, sym, ap, subst, ◌∙◌, append_assoc, append-nil, length-append, Option, Some, None, Result, Ok, Err, arith}
-use mir.Val.{bool_byte}
+-- Runs of payload octets, of which at most the last one ends a request id or the message: the stream with them, and that the
+-- code does their steps.
+use Rattle.std.proofs.Common.{◌≡◌, ◌≢◌, ℕ, suc, ◌+◌, ◌-◌, ◌^◌, ◌<◌, ◌≤◌, List, [], ◌∷◌, ◌++◌, length, get_or, refl, sym, ap, subst, ◌∙◌, append_assoc, append-nil, length-append, Option, Some, None, Result, Ok, Err, arith}
 use Rattle.std.specs.Prelude.{OnOk}
 use Rattle.std.specs.Result.{OkIff, result_unwrap_or}
 use Rattle.std.proofs.lemmas.Bool.{le-ltb, ne_eqb}
@@ -11,38 +10,35 @@ use Rattle.giop_sig.specs.Table.{Table}
 use Rattle.giop_message.specs.Headers.{size}
 use Rattle.giop_message.specs.Signatures.{Answers, signatures_of}
 use Rattle.giop_message.specs.ReaderOfTable.{message_reader}
-use Rattle.giop_message.specs.MessageReader.{IsCausal, IsStreamable}
+use Rattle.giop_message.specs.MessageReader.{IsCausal}
 use Rattle.giop_message.proofs.MessageLaws.{is_causal}
-use Rattle.giop_stream.specs.declared.slots.Slots.{Slots}
+use Rattle.giop_stream.specs.declared.current.Current.{Current}
 use Rattle.giop_stream.specs.Rules.{Rules, rules_by}
-use Rattle.giop_stream.specs.Framing.{Message, Cut, with_payload, limit, cut, messages, read_of}
-use Rattle.giop_stream.specs.Events.{Takes, MessageKey, Open, Rising, events_of_octet, events_at_octet, changed, open_after}
-use Rattle.giop_stream.specs.Lines.{lines}
+use Rattle.giop_stream.specs.Framing.{Message, Cut, with_payload, limit, cut}
+use Rattle.giop_stream.specs.Events.{Takes, MessageKey, Open, events_of_octet, events_at_octet, changed, open_after}
+use Rattle.giop_stream.specs.Lines.{Line, lines}
 use Rattle.giop_stream.specs.Text.{lines_text}
-use Rattle.giop_stream.specs.Stream.{start_count, fault_count, tally}
+use Rattle.giop_stream.specs.Stream.{fault_count}
 use Rattle.giop_stream.specs.Effects.{Tracked, Effect, effects, tracked_at, tracked_after, with_octet}
 use Rattle.giop_stream.specs.SlotsRepresent.{SlotsRepresent, effect_to}
-use Rattle.giop_stream.specs.DoesEffect.{one_if}
 use Rattle.giop_stream.specs.PayloadRuns.{run_effect}
-use Rattle.giop_stream.specs.PayloadOwner.{SlotsRepresentStream, owner_of_next, owner_of_next_in}
+use Rattle.giop_stream.specs.PayloadOwner.{IsBeforeOctet, IsBeforeOctets, IsNewest, effect_before, octets_effect, owner_of_next, owner_of_next_in, owner_after}
 use Rattle.giop_stream.specs.EngineView.{FramingView}
 use Rattle.giop_stream.specs.EngineState.{State, state_of}
 use Rattle.giop_stream.specs.EngineStep.{runs}
+use Rattle.giop_stream.specs.FramingSteps.{end_message as settled}
 use Rattle.giop_stream.specs.ViewOfState.{IsReached, Shows, Does}
-use Rattle.giop_stream.specs.Octet.{header_of, payload_count_of}
 use Rattle.giop_stream.proofs.Cuts.Cutting.{next, of_parts, parts_by, cut_grows, next_payload}
 use Rattle.giop_stream.proofs.Cuts.CutFrom.{end_message}
 use Rattle.giop_stream.proofs.Events.AfterMoreEvents.{count_append}
-use Rattle.giop_stream.proofs.Events.Soundness.{CurrentFits}
-use Rattle.giop_stream.proofs.Events.StepCases.{place_more}
-use Rattle.giop_stream.proofs.Events.StepCases.{if_some}
+use Rattle.giop_stream.proofs.Events.Soundness.{CurrentFits, IsSound}
+use Rattle.giop_stream.proofs.Events.StepCases.{place_more, if_some}
 use Rattle.giop_stream.proofs.SlotSteps.AfterOctet.{owner_elsewhere}
 use Rattle.giop_stream.proofs.SlotSteps.Parts.{in_turn, octet_does, owner_next}
+use Rattle.giop_stream.proofs.SlotSteps.RequestIds.{says_id}
 use Rattle.giop_stream.proofs.CodeSteps.OneOctet.{Adds, paid_is}
-use Rattle.giop_stream.proofs.CodeSteps.NextOctet.{read_all}
-use Rattle.giop_stream.proofs.CodeSteps.EngineAlive.{sound}
-use Rattle.giop_stream.proofs.CodeSteps.SlotsToState.{shows_by}
-use Rattle.giop_stream.proofs.CodeSteps.MessageOctets.{does_run, runs_on, all_read, knows_at, faults_at, header_is, come_is, number_is, size_few}
+use Rattle.giop_stream.proofs.CodeSteps.EngineAlive.{sound, alive}
+use Rattle.giop_stream.proofs.CodeSteps.MessageOctets.{does_run, runs_on, all_read, knows_at, faults_at, header_is, come_is, number_is, size_few, current_fits, right, effect_of, settled_shows}
 use Rattle.giop_stream.proofs.CodeSteps.MessageEnds.{goes_on}
 
 -- ---- One of them.
@@ -185,102 +181,174 @@ module _ (C : Table) (l : Answers) where
 
 -- ---- What the fields show with them.
 
--- a fault as a number, as the code counts it
-pub one_byte : (b : Bool) → bool_byte b ≡ one_if b
-one_byte true = refl
-one_byte false = refl
-
 -- a number below 2 ^ 32 is converted as it is
 pub number_fits : {E : Type 0} (r : Result ℕ E) (n other : ℕ) → n < 2 ^ 32 → OkIff r (n < 2 ^ 32) n → result_unwrap_or r other ≡ n
 number_fits (Ok k) n other less h = h.1
 number_fits (Err e) n other less h = absurd (h less)
 
--- the current message has the number of start lines for its number
-started_last : (R : Rules) → IsCausal R.reading → IsStreamable R.reading → (p : List ℕ) (m : Message) → (cut p).stop ≡ None
-    → (cut p).current ≡ Some m → start_count (lines R p) ≡ m.number
-unfolding messages
-started_last R causal laws p m free current =
-    let so = sound R causal laws p in
-    let at_hand = if_some (CurrentFits (length p) (cut p)) (cut p).current m current (so.fits free).current in
-    let count : length (messages (cut p)) ≡ length (cut p).whole + 1 = rw current (length_push (cut p).whole m) in
-    omega (arith, so.starts, count, at_hand.number_is)
+-- the octets before the last one, and that one
+pub octets_are : (xs : List ℕ) → 0 < length xs → (q : List ℕ) × ((x : ℕ) × (xs ≡ q ++ x ∷ []))
+octets_are [] some = absurd (omega (arith, some))
+octets_are (x ∷ []) some = ([], (x, refl))
+octets_are (x ∷ y ∷ xs) some = let (q, (z, e)) = octets_are (y ∷ xs) (omega arith) in (x ∷ q, (z, ap (λ (zs : List ℕ). x ∷ zs) e))
+
+-- before the last of these octets none is the message's last
+before_all : (q : List ℕ) (n payload_count most : ℕ) → n ≡ suc (length q) → payload_count < most → (1 < n → payload_count + n ≤ most)
+    → payload_count + length q < most
+before_all [] n payload_count most one lacks few = omega (arith, lacks)
+before_all (y ∷ q) n payload_count most one lacks few = omega (arith, one, few (omega (arith, one)))
 
 module _ (C : Table) (l : Answers) (most : ℕ) (s : State) (reached : IsReached C l most s) (m : FramingView) (h : Shows C l m s)
-    (free : m.stopped ≡ None) (c : Message) (current : (cut reached.stream).current ≡ Some c) (q : List ℕ)
-    (apart : m.payload_count < 4 → m.payload_count + length q < 4)
-    (before_last : m.payload_count + length q < size m.header) (room : m.totals.octets + length q ≤ 2 ^ 48) where
+    (free : m.stopped ≡ None) (c : Message) (current : (cut reached.stream).current ≡ Some c) (octets q : List ℕ) (x : ℕ)
+    (split : octets ≡ q ++ x ∷ []) (apart : m.payload_count < 4 → m.payload_count + length octets ≤ 4)
+    (few : 1 < length octets → m.payload_count + length octets ≤ size m.header) (room : m.totals.octets + length octets ≤ 2 ^ 48) where
   abbrev R : Rules
   R = rules_by C l most
 
   abbrev p : List ℕ
   p = reached.stream
 
+  causal : IsCausal R.reading
+  causal = is_causal (λ number. signatures_of C (l number))
+
   pub all : m.totals.octets ≡ length p
   all = all_read C l most s reached m h free
 
+  one_more : length octets ≡ suc (length q)
+  one_more = ap length split ∙ omega (arith, length_push q x)
+
+  here : m.payload_count ≡ length c.payload
+  here = come_is C l most s reached m h free c current
+
+  header : m.header ≡ c.header
+  header = header_is C l most s reached m h free c current
+
+  lacks : m.payload_count < size m.header
+  lacks = omega (arith, (current_fits C l most s reached m h free c current).lacks, here, ap size header)
+
+  before_last : m.payload_count + length q < size m.header
+  before_last = before_all q (length octets) m.payload_count (size m.header) one_more lacks few
+
   pub begins : Within p c (length q)
   unfolding limit
-  begins =
-      let payload_count = come_is C l most s reached m h free c current in
-      record {
-        free = runs_on C l most s reached m h free;
-        current = current;
-        apart = λ less. omega (arith, apart (omega (arith, less, payload_count)), payload_count);
-        before_last = omega (arith, before_last, payload_count, ap size (header_is C l most s reached m h free c current));
-        room = omega (arith, room, all);
-      }
+  begins = record {
+    free = runs_on C l most s reached m h free;
+    current = current;
+    apart = λ less. omega (arith, apart (omega (arith, less, here)), here, one_more);
+    before_last = omega (arith, before_last, here, ap size header);
+    room = omega (arith, room, all, one_more);
+  }
 
   -- their number fits the counter
-  pub run_fits : m.payload_count + length q < 2 ^ 32
-  run_fits = omega (arith, before_last, size_few C l most s reached m h free c current)
+  pub run_fits : m.payload_count + length octets < 2 ^ 32
+  run_fits = omega (arith, before_last, size_few C l most s reached m h free c current, one_more)
+
+  -- ---- The octets before the last one, and the message with them.
 
   run : IsRun C l most p c q
   run = run_is C l most q p c begins
 
-  -- their effect
-  abbrev pub ran : Effect
-  ran = run_effect C l m.totals.octets (tracked_after R p) (owner_of_next (open_after most p) c) q
+  abbrev p' : List ℕ
+  p' = p ++ q
 
-  grows_by_run : lines R (p ++ q) ≡ lines R p ++ ran.lines
-  grows_by_run = rw all run.lines
+  abbrev c' : Message
+  c' = with_payload c (c.payload ++ q)
 
-  -- the slots before them
+  so : IsSound R p'
+  so = sound R causal (in_turn C l) p'
+
+  fits : CurrentFits (length p') (cut p') c'
+  fits = if_some (CurrentFits (length p') (cut p')) (cut p').current c' run.within.current (so.fits run.within.free).current
+
+  abbrev last_does : Effect
+  last_does = effect_of C l most p' (with_octet c' x)
+
+  paid : Adds R p' (p' ++ x ∷ []) (end_message (cut p').whole (with_octet c' x)) last_does.lines last_does.tracked
+  unfolding limit tracked_after
+  paid =
+      paid_is R causal (in_turn C l) p' x so c' run.within.free run.within.current
+      (le-ltb limit (suc (length p')) (omega (arith, room, all, one_more, length-append p q)))
+
+  all_octets : p' ++ x ∷ [] ≡ p ++ octets
+  all_octets = append_assoc p q (x ∷ []) ∙ ap (λ (z : List ℕ). p ++ z) (sym split)
+
+  -- ---- What the code knows.
+
   pub run_keeps : SlotsRepresent C l m.slots (tracked_after R p) (owner_of_next (open_after most p) c)
   run_keeps = subst (λ (o : Option Message). SlotsRepresent C l m.slots (tracked_after R p) (owner_of_next_in (open_after most p) o)) current (knows_at C l most s reached m h free)
 
-  pub run_rises : Rising (tracked_after R p).still_open
-  unfolding tracked_after
-  run_rises = (sound R (is_causal (λ number. signatures_of C (l number))) (in_turn C l) p).rising
+  module _ (now : Current) (number : now.number ≡ m.totals.messages) (head : now.header ≡ m.header)
+      (place_is : now.place ≡ m.totals.octets + length octets) (payload_count : now.payload_count ≡ m.payload_count + length octets) where
+    start : now.place - suc (length q) ≡ length p
+    start = omega (arith, place_is, all, one_more)
 
-  pub run_does : {A E : Type 0} (result : Result A E) (before after : OutLog) (f : FramingView)
-      → Writes result before after (lines_text ran.lines) → OnOk result (Shows C l f (state_of R (p ++ q)))
-      → Does C l result before after f (runs R s q)
-  run_does result before after f text shows = does_run C l most s reached m h q ran.lines result before after f grows_by_run text shows
+    ran_then : (effect_before C l (tracked_after R p) c now q).tracked ≡ tracked_after R p'
+    unfolding tracked_after
+    ran_then = rw start (sym run.tracked_after)
 
-  knows_so : (slots : Slots) → SlotsRepresent C l slots ran.tracked (owner_of_next (open_after most p) c) → SlotsRepresentStream C l most slots (p ++ q)
-  knows_so slots k =
-      let tracked : ran.tracked ≡ tracked_after R (p ++ q) = rw all (sym run.tracked_after) in
-      let who : owner_of_next (open_after most p) c ≡ owner_of_next_in (open_after most (p ++ q)) (cut (p ++ q)).current =
-      sym (ap (owner_of_next_in (open_after most (p ++ q))) run.within.current ∙ run.owner_of_next) in
-      subst (SlotsRepresent C l slots (tracked_after R (p ++ q))) who (subst (λ (s : Tracked). SlotsRepresent C l slots s (owner_of_next (open_after most p) c)) tracked k)
+    before_x : IsBeforeOctet (tracked_after R p') c' now x
+    unfolding tracked_after
+    before_x = record {
+      rising = so.rising;
+      current = record {
+        number = number_is C l most s reached m h free c current ∙ sym number;
+        header = sym (head ∙ header);
+        place = omega (arith, place_more c' x (length p') fits.place_is, all, place_is, one_more, length-append p q);
+      };
+      payload_count = omega (arith, payload_count, here, one_more, length-append c.payload q);
+      newest = if_some (λ m. length m.payload < 4 → IsNewest m.number (open_after most p')) (cut p').current c' run.within.current (so.early run.within.free);
+      alive = λ name less. alive R causal (in_turn C l) p' run.within.free c' run.within.current name less;
+      says = λ name. says_id c.header (current_fits C l most s reached m h free c current).twelve (right C l most s reached m h free c current).1 name;
+    }
 
-  pub run_shows : (b : FramingView) → b.totals.messages ≡ m.totals.messages
-      → b.totals.faults ≡ m.totals.faults + fault_count ran.lines → b.totals.octets ≡ m.totals.octets + length q
-      → b.stopped ≡ m.stopped → b.header ≡ m.header → b.payload_count ≡ m.payload_count + length q
-      → SlotsRepresent C l b.slots ran.tracked (owner_of_next (open_after most p) c)
-      → Shows C l b (state_of R (p ++ q))
-  unfolding tally
-  run_shows b messages faults octets stopped header payload_count keeps =
-      let then = run.within.current in
-      let started : b.totals.messages ≡ start_count (lines R (p ++ q)) =
-      messages ∙ (sym (number_is C l most s reached m h free c current)
-      ∙ sym (started_last R (is_causal (λ number. signatures_of C (l number))) (in_turn C l) (p ++ q)
-      (with_payload c (c.payload ++ q)) run.within.free then)) in
-      let grown : fault_count (lines R (p ++ q)) ≡ fault_count (lines R p) + fault_count ran.lines =
-      ap fault_count grows_by_run ∙ count_append (lines R p) ran.lines in
-      let faulted : b.totals.faults ≡ fault_count (lines R (p ++ q)) = omega (arith, faults, grown, faults_at C l most s reached m h) in
-      let read : b.totals.octets ≡ read_of (p ++ q) (cut (p ++ q)).stop =
-      omega (arith, octets, all, length-append p q) ∙ sym (read_all (p ++ q) run.within.free) in
-      shows_by C l most (p ++ q) b (cut (p ++ q)) refl run.within.free (λ j. record { messages = started j; faults = faulted j; octets = read j }) (stopped ∙ free)
-      (header ∙ (header_is C l most s reached m h free c current ∙ ap (λ (o : Option Message). header_of o (cut (p ++ q)).held) (sym then)))
-      (omega (arith, payload_count, come_is C l most s reached m h free c current, length-append c.payload q) ∙ ap payload_count_of (sym then)) (knows_so b.slots keeps)
+    pub run_before : IsBeforeOctets C l m.slots (tracked_after R p) c now q x
+    unfolding tracked_after
+    run_before = record {
+      keeps = run_keeps;
+      rising = (sound R causal (in_turn C l) p).rising;
+      same_owner = ap (λ (t : Tracked). owner_of_next t.still_open c') ran_then ∙ run.owner_of_next;
+      last = subst (λ (t : Tracked). IsBeforeOctet t c' now x) (sym ran_then) before_x;
+    }
+
+    -- ---- What they do.
+
+    abbrev all_do : Effect
+    all_do = octets_effect C l most (tracked_after R p) c now q x
+
+    abbrev x_does : Tracked → Effect
+    x_does t = effects R.reading t (events_of_octet most t.still_open (with_octet c' x))
+
+    grows : lines R (p ++ octets) ≡ lines R p ++ all_do.lines
+    unfolding tracked_after
+    grows =
+        ap (lines R) (sym all_octets) ∙ (paid.lines
+        ∙ (ap (λ (ls : List Line). ls ++ (x_does (tracked_after R p')).lines) run.lines
+        ∙ (append_assoc (lines R p) _ _
+        ∙ (λ j. lines R p
+        ++ ((run_effect C l (sym start j) (tracked_after R p) (owner_of_next (open_after most p) c) q).lines ++ (x_does (sym ran_then j)).lines)))))
+
+    pub run_does : {A E : Type 0} (result : Result A E) (before after : OutLog) (f : FramingView)
+        → Writes result before after (lines_text all_do.lines) → OnOk result (Shows C l f (state_of R (p ++ octets)))
+        → Does C l result before after f (runs R s octets)
+    run_does result before after f text shows = does_run C l most s reached m h octets all_do.lines result before after f grows text shows
+
+    pub run_shows : (b f : FramingView) (k : ℕ) → f ≡ settled b k → b.totals.messages ≡ m.totals.messages
+        → b.totals.faults ≡ m.totals.faults + fault_count all_do.lines
+        → b.totals.octets ≡ m.totals.octets + length octets → b.stopped ≡ m.stopped → b.header ≡ m.header
+        → b.payload_count ≡ m.payload_count + length octets → k ≡ size m.header
+        → SlotsRepresent C l b.slots all_do.tracked (owner_after all_do.tracked.still_open (with_octet c' x)) → Shows C l f (state_of R (p ++ octets))
+    unfolding tracked_after
+    run_shows b f k is messages faults octets stopped head_is count sized keeps =
+        let n = with_octet c' x in
+        let before = run_effect C l (now.place - suc (length q)) (tracked_after R p) (owner_of_next (open_after most p) c) q in
+        let grown : fault_count (lines R p') ≡ fault_count (lines R p) + fault_count before.lines =
+        ap fault_count (rw (← start) at run.lines) ∙ count_append (lines R p) before.lines in
+        let sum : fault_count all_do.lines ≡ fault_count before.lines + fault_count (x_does (tracked_after R p')).lines =
+        count_append before.lines (x_does (effect_before C l (tracked_after R p) c now q).tracked).lines
+        ∙ ap (λ (t : Tracked). fault_count before.lines + fault_count (x_does t).lines) ran_then in
+        subst (λ (z : List ℕ). Shows C l f (state_of R z)) all_octets
+        (settled_shows C l most p' x n (omega (arith, run.within.before_last, length_push (c.payload ++ q) x)) fits.number_is paid b f k is
+        (messages ∙ sym (number_is C l most s reached m h free c current)) (omega (arith, faults, faults_at C l most s reached m h, grown, sum))
+        (omega (arith, octets, all, one_more, length-append p q)) (stopped ∙ free) (head_is ∙ header)
+        (omega (arith, count, here, one_more, length-append c.payload q, length_push (c.payload ++ q) x)) (sized ∙ ap size header)
+        (subst (λ (t : Tracked). SlotsRepresent C l b.slots (x_does t).tracked (owner_after (x_does t).tracked.still_open n)) ran_then keeps))

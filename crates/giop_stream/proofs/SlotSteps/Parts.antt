@@ -1,5 +1,5 @@
 -- A payload octet in three parts, as the code does it: its owner takes it, then the request id's events, then the end's.
-use Rattle.std.proofs.Common.{inl, inr, append-nil, suc, ◌≡◌, ℕ, ◌-◌, ◌<◌, ◌≤◌, Bool, true, false, List, [], ◌∷◌, ◌++◌, length, get_or, refl, sym, ap, ◌∙◌, Option, Some, None, arith}
+use Rattle.std.proofs.Common.{inl, inr, append-nil, append_assoc, length-append, suc, ◌≡◌, ℕ, ◌+◌, ◌-◌, ◌<◌, ◌≤◌, Bool, true, false, List, [], ◌∷◌, ◌++◌, length, get_or, refl, sym, ap, ◌∙◌, Option, Some, None, arith}
 use Rattle.std.specs.Prelude.{◌==◌, if◌then◌else◌}
 use Rattle.std.proofs.lemmas.Bool.{ne_eqb, eqb-true, le-leb, lt-ltb, cases_lt}
 use Rattle.std.proofs.lemmas.List.{length_push, get_or_push, take-append-le}
@@ -12,12 +12,12 @@ use Rattle.giop_message.proofs.MessageLaws.{is_ordered, is_closing, is_named}
 use Rattle.giop_stream.specs.declared.slots.Slots.{Slots}
 use Rattle.giop_stream.specs.declared.current.Current.{Current}
 use Rattle.giop_stream.specs.Rules.{Rules, rules_by}
-use Rattle.giop_stream.specs.Framing.{Message}
+use Rattle.giop_stream.specs.Framing.{Message, with_payload}
 use Rattle.giop_stream.specs.Events.{Takes, MessageKey, Open, Event, message_key, place, opener_of, has_named, goes_past, id, events_at_octet, events_at_request_id, events_of_octet, opened, Rising, now_of, request_id_events, message_end_events}
 use Rattle.giop_stream.specs.Effects.{Tracked, Effect, effects, tracked_at, then_effect, with_octet}
 use Rattle.giop_stream.specs.SlotsRepresent.{SlotsRepresent, event, effect_to}
 use Rattle.giop_stream.specs.PayloadRuns.{run_effect}
-use Rattle.giop_stream.specs.PayloadOwner.{IsBeforeOctet, IsAfterTake, IsAtOctet, IsNewest, opener_key, owner_of_next, owner_of_octet, owner_after, id_events, end_events}
+use Rattle.giop_stream.specs.PayloadOwner.{IsBeforeOctet, IsBeforeOctets, effect_before, IsAfterTake, IsAtOctet, IsNewest, opener_key, owner_of_next, owner_of_octet, owner_after, id_events, end_events}
 use Rattle.giop_stream.proofs.Events.EventsOfOctet.{quiet_octet, quiet_continues}
 use Rattle.giop_stream.proofs.Events.EventsKeep.{rising_push, rising_filter, opened_by, kept_id}
 use Rattle.giop_stream.proofs.SlotSteps.OneSlotChanges.{own_then}
@@ -157,7 +157,7 @@ module _ (C : Table) (l : Answers) where
       go true past = rw past (about_takes c m x at (opener_of c.still_open m) past refl last here)
       go false own = rw own (octet_own (message_reader C l) c c.still_open m own ∙ rw (last, here) refl)
 
-module _ (C : Table) (l : Answers) (s : Slots) (c : Tracked) (m : Message) (now : Current) (x : ℕ) (h : IsBeforeOctet C l s c m now x) where
+module _ (C : Table) (l : Answers) (most : ℕ) (c : Tracked) (m : Message) (now : Current) (x : ℕ) (h : IsBeforeOctet c m now x) where
   last_is : get_or (m.payload ++ x ∷ []) (length (m.payload ++ x ∷ []) - 1) 0 ≡ x
   last_is = get_or_push m.payload x 0 (length (m.payload ++ x ∷ []) - 1) (omega (arith, length_push m.payload x))
 
@@ -168,36 +168,36 @@ module _ (C : Table) (l : Answers) (s : Slots) (c : Tracked) (m : Message) (now 
   unfolding place
   some_place = omega (arith, h.current.place)
 
-  takes_at : first (rules_by C l s.slots.most) c (with_octet m x) ≡ effect_to C l now.place c (owner_of_next c.still_open m) (Takes x)
+  takes_at : first (rules_by C l most) c (with_octet m x) ≡ effect_to C l now.place c (owner_of_next c.still_open m) (Takes x)
   takes_at = rw (← owner_next c.still_open m x) (octet_does C l c (with_octet m x) x now.place last_is h.current.place)
 
   -- which is a run of one octet
-  pub takes_effect : first (rules_by C l s.slots.most) c (with_octet m x) ≡ run_effect C l (now.place - 1) c (owner_of_next c.still_open m) (x ∷ [])
+  pub takes_effect : first (rules_by C l most) c (with_octet m x) ≡ run_effect C l (now.place - 1) c (owner_of_next c.still_open m) (x ∷ [])
   unfolding run_effect
   takes_effect =
       let effect = effect_to C l now.place c (owner_of_next c.still_open m) (Takes x) in
       takes_at ∙ rw some_place (λ j. record { tracked = effect.tracked; lines = sym (append-nil effect.lines) j })
 
   known_is : length m.payload < 4 → has_name m.header ≡ true
-      → (first (rules_by C l s.slots.most) c (with_octet m x)).tracked.known m.number ≡ Some (m.payload ++ x ∷ [])
+      → (first (rules_by C l most) c (with_octet m x)).tracked.known m.number ≡ Some (m.payload ++ x ∷ [])
   known_is few name =
       let w : owner_of_octet c.still_open (with_octet m x) ≡ Some (message_key m) = owner_own c.still_open (with_octet m x) (omega (arith, length_push m.payload x)) in
-      let tracked : (first (rules_by C l s.slots.most) c (with_octet m x)).tracked ≡ tracked_at (message_reader C l) c (event now.place (message_key m) (Takes x)) =
+      let tracked : (first (rules_by C l most) c (with_octet m x)).tracked ≡ tracked_at (message_reader C l) c (event now.place (message_key m) (Takes x)) =
       ap (λ (p : Effect). p.tracked) (octet_does C l c (with_octet m x) x now.place last_is h.current.place)
       ∙ ap (λ (v : Option MessageKey). (effect_to C l now.place c v (Takes x)).tracked) w in
       ap (λ (d : Tracked). d.known m.number) tracked
       ∙ (own_then (message_reader C l) c (event now.place (message_key m) (Takes x))
       ∙ rw (h.alive name few) (named_then (message_reader C l) (in_turn C l) now.place (message_key m) m.payload x name few))
 
-  pub taken_here : (s' : Slots) → SlotsRepresent C l s' (run_effect C l (now.place - 1) c (owner_of_next c.still_open m) (x ∷ [])).tracked
-      (owner_of_next c.still_open m) → IsAfterTake C l s' (first (rules_by C l s.slots.most) c (with_octet m x)).tracked (with_octet m x) now
+  pub taken_here : (s' : Slots) → SlotsRepresent C l s' (first (rules_by C l most) c (with_octet m x)).tracked (owner_of_next c.still_open m)
+      → IsAfterTake C l s' (first (rules_by C l most) c (with_octet m x)).tracked (with_octet m x) now
   taken_here s' k =
-      let R = rules_by C l s.slots.most in
+      let R = rules_by C l most in
       let m' = with_octet m x in
       let still_open : (first R c m').tracked.still_open ≡ c.still_open = first_still_open R c m' in
       let w : owner_of_octet (first R c m').tracked.still_open m' ≡ owner_of_next c.still_open m = ap (λ (open' : List Open). owner_of_octet open' m') still_open ∙ owner_next c.still_open m x in
       record {
-        keeps = rw (w, takes_effect) k;
+        keeps = rw w k;
         rising = rw still_open h.rising;
         current = h.current;
         payload_count = omega (arith, length_push m.payload x, h.payload_count);
@@ -209,14 +209,55 @@ module _ (C : Table) (l : Answers) (s : Slots) (c : Tracked) (m : Message) (now 
   pub come_is : length (m.payload ++ x ∷ []) ≡ now.payload_count
   come_is = omega (arith, length_push m.payload x, h.payload_count)
 
-  pub named_at : (s' : Slots) → SlotsRepresent C l s' (second (rules_by C l s.slots.most) c (with_octet m x)).tracked
-      (owner_of_next (first (rules_by C l s.slots.most) c (with_octet m x)).tracked.still_open (with_octet m x))
-      → IsAtOctet C l s' (second (rules_by C l s.slots.most) c (with_octet m x)).tracked (with_octet m x) now
+  pub named_at : (s' : Slots) → SlotsRepresent C l s' (second (rules_by C l most) c (with_octet m x)).tracked
+      (owner_of_next (first (rules_by C l most) c (with_octet m x)).tracked.still_open (with_octet m x))
+      → IsAtOctet C l s' (second (rules_by C l most) c (with_octet m x)).tracked (with_octet m x) now
   named_at s' k =
-      let R = rules_by C l s.slots.most in
+      let R = rules_by C l most in
       let m' = with_octet m x in
       record {
         keeps = rw (← second_owner R c m') k;
         rising = second_rising R c m' h.rising (λ four. h.newest (omega (arith, length_push m.payload x, four)));
         current = h.current;
       }
+
+-- ---- Octets that only add to contents, and one behind them.
+
+-- a run is its first octets, and then the others
+run_both : (C : Table) (l : Answers) (q : List ℕ) (before : ℕ) (c : Tracked) (w : Option MessageKey) (r : List ℕ)
+    → run_effect C l before c w (q ++ r)
+    ≡ (let ran = run_effect C l before c w q in then_effect ran (run_effect C l (before + length q) ran.tracked w r))
+unfolding run_effect
+run_both C l [] before c w r = let same : before + 0 ≡ before = omega arith in rw same refl
+run_both C l (x ∷ q) before c w r =
+    let one = effect_to C l (suc before) c w (Takes x) in
+    let ran = run_effect C l (suc before) one.tracked w q in
+    let at : suc before + length q ≡ before + length (x ∷ q) = omega arith in
+    ap (then_effect one) (run_both C l q (suc before) one.tracked w r)
+    ∙ (λ j. let more = run_effect C l (at j) ran.tracked w r in
+    record { tracked = more.tracked; lines = sym (append_assoc one.lines ran.lines more.lines) j })
+
+module _ (C : Table) (l : Answers) (most : ℕ) (s : Slots) (c : Tracked) (m : Message) (now : Current) (q : List ℕ) (x : ℕ)
+    (h : IsBeforeOctets C l s c m now q x) where
+  abbrev ran : Effect
+  ran = effect_before C l c m now q
+
+  abbrev pub at_last : Message
+  at_last = with_payload m (m.payload ++ q)
+
+  room : suc (length q) ≤ now.place
+  unfolding place
+  room = omega (arith, h.last.current.place, length-append m.payload q, length_push (m.payload ++ q) x)
+
+  -- the owner takes all of them in one run
+  pub takes_run : (octets : List ℕ) (before : ℕ) → octets ≡ q ++ x ∷ [] → before ≡ now.place - length octets
+      → run_effect C l before c (owner_of_next c.still_open m) octets
+      ≡ then_effect ran (first (rules_by C l most) ran.tracked (with_octet at_last x))
+  takes_run octets before split is =
+      let w = owner_of_next c.still_open m in
+      let start = now.place - suc (length q) in
+      let count : length (q ++ x ∷ []) ≡ suc (length q) = omega (arith, length_push q x) in
+      let here : before ≡ start = is ∙ ap (λ (n : ℕ). now.place - n) (ap length split ∙ count) in
+      let behind : start + length q ≡ now.place - 1 = omega (arith, room) in
+      rw (split, here) (run_both C l q start c w (x ∷ []) ∙ (λ j. then_effect ran (run_effect C l (behind j) ran.tracked (sym h.same_owner j) (x ∷ [])))
+      ∙ ap (λ (e : Effect). then_effect ran e) (sym (takes_effect C l most ran.tracked at_last now x h.last)))

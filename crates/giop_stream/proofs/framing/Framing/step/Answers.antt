@@ -2,11 +2,15 @@ use Rattle.std.proofs.Common.{arith, refl, sym, ap, subst, ◌∙◌}
 use Rattle.std.proofs.lemmas.Result.{on_ok_weaker}
 use Rattle.giop_checkpoint.specs.declared.fault.StreamFault.TheVariants.{StreamLimit}
 use Rattle.giop_message.specs.HeaderEnds.{AgreesAtEnds, after_ends}
+use Rattle.giop_stream.specs.Rules.{rules_by}
 use Rattle.giop_stream.specs.FramingView.{framing_view}
+use Rattle.giop_stream.specs.EngineStep.{Step}
+use Rattle.giop_stream.specs.ViewOfState.{Does}
 use Rattle.giop_stream.proofs.SlotSteps.AtHeader.{ready_later}
 use Rattle.giop_stream.proofs.SlotSteps.Performing.{nothing_text}
 use Rattle.giop_stream.proofs.CodeSteps.OutsideMessages.{none_by, ready_stopped, behind_step, limit_step, ended_text, ended_shows}
 use Rattle.giop_stream.proofs.CodeSteps.HeaderEndSteps.{told_stopped, told_limit, told_heads, at_payload, any_ok, if_ok_weaker}
+use Rattle.giop_stream.proofs.StreamLines.MoreOctets.{one_run}
 use Rattle.giop_stream.proofs.framing.Framing.step.Goals as goal
 
 pub returns-then-is_some-clause-does : goal.returns-then-is_some-clause-does
@@ -50,16 +54,18 @@ returns-then-len-lt12-clause-told g c =
 
 pub returns-else-len-lt12-clause-does : goal.returns-else-len-lt12-clause-does
 returns-else-len-lt12-clause-does g c a s r h agrees =
-    c.payload_octet.ensures.does a s r h
+    subst (λ (done : Step). Does c.args.catalogue.now a c.payload_octets.result (g.O.Out.log c.args.out.now) (g.O.Out.log c.payload_octets.new.out)
+    (framing_view c.payload_octets.new.self) done) (one_run (rules_by c.args.catalogue.now a c.args.self.now.slots.slots.most) s c.args.octet)
+    (c.payload_octets.ensures.does a s r h
     (subst (AgreesAtEnds g.Q.Correspondent.answer g.Q.Correspondent.notified c.args.catalogue.now (g.Q.Correspondent.state c.args.correspondent.now) a) (at_payload g.Q.Correspondent.notified c.args.catalogue.now a c.args.self.now.slots.slots.most s r (framing_view c.args.self.now) h (g.Q.Correspondent.state c.args.correspondent.now) c.args.octet
-    (none_by c.args.self.now.stopped (sym c.is_some.ensures ∙ c.if-is_some.false)) (omega (arith, c.if-self-ge-LIMIT.false))) agrees)
+    (none_by c.args.self.now.stopped (sym c.is_some.ensures ∙ c.if-is_some.false)) (omega (arith, c.if-self-ge-LIMIT.false))) agrees))
 
 pub returns-else-len-lt12-clause-told : goal.returns-else-len-lt12-clause-told
 returns-else-len-lt12-clause-told g c =
-    if_ok_weaker c.payload_octet.result (λ _ told a s r h agrees.
+    if_ok_weaker c.payload_octets.result (λ _ told a s r h agrees.
     told a s r h
     (subst (AgreesAtEnds g.Q.Correspondent.answer g.Q.Correspondent.notified c.args.catalogue.now (g.Q.Correspondent.state c.args.correspondent.now) a) (at_payload g.Q.Correspondent.notified c.args.catalogue.now a c.args.self.now.slots.slots.most s r (framing_view c.args.self.now) h (g.Q.Correspondent.state c.args.correspondent.now) c.args.octet
     (none_by c.args.self.now.stopped (sym c.is_some.ensures ∙ c.if-is_some.false)) (omega (arith, c.if-self-ge-LIMIT.false))) agrees)
     ∙ sym (ap (after_ends g.Q.Correspondent.notified c.args.catalogue.now (g.Q.Correspondent.state c.args.correspondent.now)) (at_payload g.Q.Correspondent.notified c.args.catalogue.now a c.args.self.now.slots.slots.most s r (framing_view c.args.self.now) h (g.Q.Correspondent.state c.args.correspondent.now) c.args.octet
     (none_by c.args.self.now.stopped (sym c.is_some.ensures ∙ c.if-is_some.false)) (omega (arith, c.if-self-ge-LIMIT.false)))))
-    c.payload_octet.ensures.told
+    c.payload_octets.ensures.told

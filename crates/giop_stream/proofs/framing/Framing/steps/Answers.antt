@@ -124,32 +124,34 @@ loop-octet-preserved-then-header_run-gt0 g c =
       ready = c.take_header_octets.ensures.ready C so_far.ready;
     }
 
-pub returns-in_err-run-clause-does : goal.returns-in_err-run-clause-does
-returns-in_err-run-clause-does g c a s r h agrees =
+pub returns-in_err-payload_octets-clause-does : goal.returns-in_err-payload_octets-clause-does
+returns-in_err-payload_octets-clause-does g c a s r h agrees =
     let C = c.args.catalogue.now in
     let most = c.args.self.now.slots.slots.most in
     let so_far = c.loop-octet.invariant in
     let n = c.payload_run-payload_run.result in
+    let ahead = c.payload_run-payload_run.ensures in
     let rest = c.loop-octet.rest.now in
     let some : 0 < n = positive n c.if-payload_run-eq0.false in
-    let long = length-take-le n rest c.payload_run-payload_run.ensures.within in
+    let long = length-take-le n rest ahead.within in
     let octets =
     octets_come so_far.octets_taken rest c.args.piece.now so_far.split
     (All-from_get_or (λ x. x < 256) c.args.piece.now 0 (λ i below. omega (arith, c.type_inv.piece i))) in
     let R = rules_by C a most in
     let here = subst (AgreesAtEnds g.Q.Correspondent.answer g.Q.Correspondent.notified C _ a) (sym (told_run C a most (run_state (rules_by C a most) s so_far.octets_taken) (reached_on C a most s so_far.octets_taken octets r) (framing_view c.loop-octet.self) (so_far.shows a s r h agrees)
-    (c.payload_run-payload_run.ensures.running some) (c.payload_run-payload_run.ensures.full some) (take n rest) (λ less. rw long (c.payload_run-payload_run.ensures.apart some less))
-    (rw long (c.payload_run-payload_run.ensures.before_last some)) (rw long (c.payload_run-payload_run.ensures.limit some))))
+    (ahead.running some) (ahead.full some) (take n rest) (rw long some) (λ less. rw long (ahead.apart some less)) (λ more. rw long (ahead.few some))
+    (rw long (ahead.limit some))))
     (run_agrees g.Q.Correspondent.answer g.Q.Correspondent.notified C a _ _ (rules_by C a most) r.stream so_far.octets_taken (so_far.told a s r h agrees) rest c.args.piece.now (take n rest) (drop n rest) so_far.split
     (sym (take-append-drop n rest)) agrees) in
-    let does = (rw so_far.most at (c.in_err-run.ensures.does a (run_state R s so_far.octets_taken) (reached_at C a _ _ _ (sym so_far.most) (reached_on C a most s so_far.octets_taken octets r)) (so_far.shows a s r h agrees))) here in
+    let does = (rw so_far.most at (c.in_err-payload_octets.ensures.does a (run_state R s so_far.octets_taken)
+    (reached_at C a _ _ _ (sym so_far.most) (reached_on C a most s so_far.octets_taken octets r)) (so_far.shows a s r h agrees))) here in
     let split =
     run_within R s so_far.octets_taken (take n rest) (drop n rest) c.args.piece.now
     (further so_far.octets_taken rest (take n rest) (drop n rest) c.args.piece.now so_far.split (sym (take-append-drop n rest))) in
-    let failed = c.from_residual-in_err-run.ensures.0 in
+    let failed = c.from_residual-in_err-payload_octets.ensures.0 in
     record {
       text = rw split.1 (writes_err _ _ _ _ _ failed (wrote-front _ _ _ _ _ (so_far.text a s r h agrees) does.text));
-      shows = on_err _ c.from_residual-in_err-run.result failed;
+      shows = on_err _ c.from_residual-in_err-payload_octets.result failed;
     }
 
 pub loop-octet-preserved : goal.loop-octet-preserved
@@ -158,9 +160,10 @@ loop-octet-preserved g c =
     let most = c.args.self.now.slots.slots.most in
     let so_far = c.loop-octet.invariant in
     let n = c.payload_run-payload_run.result in
+    let ahead = c.payload_run-payload_run.ensures in
     let rest = c.loop-octet.rest.now in
     let some : 0 < n = positive n c.if-payload_run-eq0.false in
-    let long = length-take-le n rest c.payload_run-payload_run.ensures.within in
+    let long = length-take-le n rest ahead.within in
     let octets =
     octets_come so_far.octets_taken rest c.args.piece.now so_far.split
     (All-from_get_or (λ x. x < 256) c.args.piece.now 0 (λ i below. omega (arith, c.type_inv.piece i))) in
@@ -168,30 +171,30 @@ loop-octet-preserved g c =
     let here = λ (a : Answers) (s : State) (r : IsReached C a most s) (h : Shows C a (framing_view c.args.self.now) s)
     (agrees : AgreesAtEnds g.Q.Correspondent.answer g.Q.Correspondent.notified C (g.Q.Correspondent.state c.args.correspondent.now) a (header_ends_from (rules_by C a most) r.stream c.args.piece.now)).
     subst (AgreesAtEnds g.Q.Correspondent.answer g.Q.Correspondent.notified C _ a) (sym (told_run C a most (run_state (rules_by C a most) s so_far.octets_taken) (reached_on C a most s so_far.octets_taken octets r) (framing_view c.loop-octet.self) (so_far.shows a s r h agrees)
-    (c.payload_run-payload_run.ensures.running some) (c.payload_run-payload_run.ensures.full some) (take n rest) (λ less. rw long (c.payload_run-payload_run.ensures.apart some less))
-    (rw long (c.payload_run-payload_run.ensures.before_last some)) (rw long (c.payload_run-payload_run.ensures.limit some))))
+    (ahead.running some) (ahead.full some) (take n rest) (rw long some) (λ less. rw long (ahead.apart some less)) (λ more. rw long (ahead.few some))
+    (rw long (ahead.limit some))))
     (run_agrees g.Q.Correspondent.answer g.Q.Correspondent.notified C a _ _ (rules_by C a most) r.stream so_far.octets_taken (so_far.told a s r h agrees) rest c.args.piece.now (take n rest) (drop n rest) so_far.split
     (sym (take-append-drop n rest)) agrees) in
     let next =
     λ (a : Answers) (s : State) (r : IsReached C a most s) (h : Shows C a (framing_view c.args.self.now) s)
     (agrees : AgreesAtEnds g.Q.Correspondent.answer g.Q.Correspondent.notified C (g.Q.Correspondent.state c.args.correspondent.now) a (header_ends_from (rules_by C a most) r.stream c.args.piece.now)).
-    (rw so_far.most at (c.in_ok-run.ensures.does a
+    (rw so_far.most at (c.in_ok-payload_octets.ensures.does a
     (run_state (rules_by C a most) s so_far.octets_taken) (reached_at C a _ _ _ (sym so_far.most) (reached_on C a most s so_far.octets_taken octets r)) (so_far.shows a s r h agrees))) (here a s r h agrees) in
     record {
       octets_taken = so_far.octets_taken ++ take n rest;
-      most = c.in_ok-run.ensures.most ∙ so_far.most;
+      most = c.in_ok-payload_octets.ensures.most ∙ so_far.most;
       split = further so_far.octets_taken rest (take n rest) _ c.args.piece.now so_far.split
           (sym (take-append-drop n rest) ∙ ap (λ (z : List ℕ). take n rest ++ z) left);
-      known = c.in_ok-run.ensures.known;
+      known = c.in_ok-payload_octets.ensures.known;
       shows = λ a s r h agrees. rw (run_state_on (rules_by C a most) s so_far.octets_taken (take n rest)) (next a s r h agrees).shows;
       text = λ a s r h agrees. rw (run_text_on (rules_by C a most) s so_far.octets_taken (take n rest)) (wrote-append _ _ _ _ _ (so_far.text a s r h agrees) (next a s r h agrees).text);
       told = λ a s r h agrees. told_on g.Q.Correspondent.answer g.Q.Correspondent.notified C a _ _ (rules_by C a most) r.stream so_far.octets_taken (so_far.told a s r h agrees) (take n rest) _
-          ((rw so_far.most at (c.in_ok-run.ensures.told a (run_state (rules_by C a most) s so_far.octets_taken)
+          ((rw so_far.most at (c.in_ok-payload_octets.ensures.told a (run_state (rules_by C a most) s so_far.octets_taken)
           (reached_at C a _ _ _ (sym so_far.most) (reached_on C a most s so_far.octets_taken octets r)) (so_far.shows a s r h agrees))) (here a s r h agrees)
           ∙ ap (after_ends g.Q.Correspondent.notified C _) (told_run C a most (run_state (rules_by C a most) s so_far.octets_taken) (reached_on C a most s so_far.octets_taken octets r) (framing_view c.loop-octet.self) (so_far.shows a s r h agrees)
-          (c.payload_run-payload_run.ensures.running some) (c.payload_run-payload_run.ensures.full some) (take n rest) (λ less. rw long (c.payload_run-payload_run.ensures.apart some less))
-          (rw long (c.payload_run-payload_run.ensures.before_last some)) (rw long (c.payload_run-payload_run.ensures.limit some))));
-      ready = c.in_ok-run.ensures.ready;
+          (ahead.running some) (ahead.full some) (take n rest) (rw long some) (λ less. rw long (ahead.apart some less))
+          (λ more. rw long (ahead.few some)) (rw long (ahead.limit some))));
+      ready = c.in_ok-payload_octets.ensures.ready;
     }
 
 pub returns-clause-does : goal.returns-clause-does
