@@ -1,3 +1,5 @@
+mod TokensRead
+mod Tables
 mod Computing
 mod Listed
 mod OnePart

@@ -3,6 +3,9 @@
 use Rattle.std.specs.Prelude.{◌≡◌, ℕ, ◌+◌, ◌-◌, ◌*◌, ◌==◌, nat_lt, if◌then◌else◌, List, [], ◌∷◌, ◌++◌, length, Some, None, codes}
 use Rattle.giop_sig.specs.Table.{Node, members, Operation, Exception, Table, op_id, operation_number}
 use Rattle.giop_sig.specs.Builtin.{builtin_types, member}
+use Rattle.giop_sig.specs.Grammar.{SignatureFile}
+use Rattle.giop_sig.specs.Scopes.{table}
+use Rattle.giop_sig.specs.Validity.{IsValid, Spells}
 use Rattle.giop_sig.specs.RequestList.{Entry, IsOf}
 use Rattle.giop_message.specs.Signatures.{RequestTable}
 use Rattle.giop_stream.specs.Rules.{Rules, rules, most_open}
@@ -55,21 +58,38 @@ table_of types operations exceptions = record { types = builtin_types ++ types; 
 unfoldable pub builtin : Table
 builtin = table_of [] [] []
 
--- operation void put(in double d);
+-- The text of a signature file, and its table: the text spells a valid file, and this is the table of that.
+pub record IsTableOf (text : List ℕ) (t : Table) : Type 0 where
+  pub file : SignatureFile
+  pub spells : Spells text file
+  pub valid : IsValid file
+  pub table : t ≡ table file
+
+unfoldable pub put_text : List ℕ
+put_text = codes "signatures 1; operation void put(in double d);"
+
+-- its table
 unfoldable pub puts : Table
 puts = table_of (members (member (codes "d") 10 ∷ []) ∷ members [] ∷ []) (called (codes "put") 0 ∷ []) []
 
--- operation void big(in ulonglong n); operation void nop();
+unfoldable pub bigs_text : List ℕ
+bigs_text = codes "signatures 1; operation void big(in ulonglong n); operation void nop();"
+
+-- its table
 unfoldable pub bigs : Table
 bigs = table_of
     (members (member (codes "n") 8 ∷ []) ∷ members [] ∷ members [] ∷ members [] ∷ [])
     (called (codes "big") 0 ∷ called (codes "nop") 2 ∷ [])
     []
 
+-- the exception of the text that follows
 unfoldable pub late : Exception
 late = record { repository = codes "IDL:Late:1.0"; members = length builtin_types }
 
--- exception Late "IDL:Late:1.0" { ushort by; }; operation long ask(in long a, out octet b); operation void nop();
+unfoldable pub asks_text : List ℕ
+asks_text = codes "signatures 1; exception Late \"IDL:Late:1.0\" { ushort by; }; operation long ask(in long a, out octet b); operation void nop();"
+
+-- its table
 unfoldable pub asks : Table
 asks = table_of
     (members (member (codes "by") 4 ∷ [])

@@ -1,7 +1,8 @@
 //! Streams worked by hand: what an engine writes of them and at their end, and checkpoints of them, hold by computation.
 #![tactic(auto)]
 
-ghost use Rattle.giop_stream_rows.specs.Worked.{AreOfTheirList};
+ghost use Rattle.std.specs.Prelude.{codes};
+ghost use Rattle.giop_stream_rows.specs.Worked.{AreOfTheirList, IsTableOf, put_text, bigs_text, asks_text, builtin, puts, bigs, asks};
 ghost use Rattle.giop_stream_rows.specs.Streams.{CloseConnection, LittleRequest, Interleaved, OpenTwice, OneOpen, Cancelled, Replied, Raised, CodeSets, CodeSetsCutShort, Profile};
 ghost use Rattle.giop_stream_rows.specs.Checkpoints.{InAHeader, InAnOldHeader, InAPayload, BehindAFault, BetweenMessages};
 
@@ -29,6 +30,15 @@ pub fn worked_streams()
     ensures profile { Profile }
     // The request table of the Replies gives the operations that the request list gives.
     ensures request_table { AreOfTheirList }
+{}
+
+/// The tables by which the streams are read are those of signature files. It has no body, and is called for its contract.
+pub fn worked_tables()
+    // Each text spells a valid file, whose table this is; `one_table` of `giop_sig` says that it has no other.
+    ensures builtin { IsTableOf (codes "signatures 1;") builtin }
+    ensures puts { IsTableOf put_text puts }
+    ensures bigs { IsTableOf bigs_text bigs }
+    ensures asks { IsTableOf asks_text asks }
 {}
 
 /// The checkpoints of worked streams, octet for octet. It has no body, and is called for its contract.

@@ -1,0 +1,10 @@
+use Rattle.giop_stream_rows.proofs.Tables.{none_declared, put_declared, bigs_declared, asks_declared}
+use Rattle.giop_stream_rows.proofs.worked_tables.Goals as goal
+
+pub returns : goal.returns
+returns c = record {
+  builtin = none_declared;
+  puts = put_declared;
+  bigs = bigs_declared;
+  asks = asks_declared;
+}
