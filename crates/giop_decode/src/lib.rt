@@ -13,6 +13,7 @@ mod leaf;
 mod line;
 mod lookahead;
 mod notes;
+mod octets_left;
 mod progress;
 mod restored;
 mod run;

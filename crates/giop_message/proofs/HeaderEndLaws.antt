@@ -17,7 +17,7 @@ use Rattle.giop_message.specs.Messages.{Stage, In_typed, In_padding, In_rest, Ov
 use Rattle.giop_message.specs.ReaderOfTable.{is_over, timed_line_of, closing_of, remarks_by, closes_by}
 use Rattle.giop_message.specs.MessageState.{is_header}
 use Rattle.giop_message.proofs.Raises.{is_settled, raised_stays, raised_settled, raised_before, raised_apart}
-use Rattle.giop_message.specs.HeaderEnds.{HeaderEnd, Header_end, Exception_end, CallEvent, noted_if_whole, noted_by_type, header_noted, ends_between, raised, raises_between, header_ends, tells_more, may_tell, call_event, after_event, after_ends, AgreesAtEnds}
+use Rattle.giop_message.specs.HeaderEnds.{HeaderEnd, Header_end, Exception_end, CallEvent, noted_if_whole, noted_by_type, header_noted, ends_between, raised, raises_between, header_ends, stage_told_after, told_after, call_event, after_event, after_ends, AgreesAtEnds}
 
 -- ---- what is noted of a whole header stays the same
 
@@ -242,19 +242,19 @@ over_none C answer number header s more e =
 
 -- Where no more is told none ends.
 pub nothing_told : (C : Table) (answer : Answer) (number : ℕ) (header s more : List ℕ) →
-    may_tell (signatures_of C answer) header s ≡ false → header_ends number header s more ≡ []
-unfolding header_ends may_tell tells_more waits is_settled is_over
+    told_after (signatures_of C answer) header s ≡ None → header_ends number header s more ≡ []
+unfolding header_ends told_after stage_told_after waits is_settled is_over
 nothing_told C answer number header s more e = go (stage_of (message (signatures_of C answer) header s)) refl e
   where
-    go : (g : Stage) → stage_of (message (signatures_of C answer) header s) ≡ g → tells_more g ≡ false →
+    go : (g : Stage) → stage_of (message (signatures_of C answer) header s) ≡ g → stage_told_after g ≡ None →
         ends_between number header (header_noted header s) (header_noted header (s ++ more))
         ++ raises_between number (raised header s) (raised header (s ++ more)) ≡ []
-    go (In_typed sections.Header h outer leaf) is e = absurd (false≢true (sym e))
-    go (In_typed sections.Exception h outer leaf) is e = absurd (false≢true (sym e))
-    go (In_typed sections.SystemException h outer leaf) is e = absurd (false≢true (sym e))
+    go (In_typed sections.Header h outer leaf) is e = absurd cc
+    go (In_typed sections.Exception h outer leaf) is e = absurd cc
+    go (In_typed sections.SystemException h outer leaf) is e = absurd cc
     go (In_typed sections.Body h outer leaf) is e =
         rw (past_none C answer number header s more (ap waits is)) (settled_none C answer number header s more (ap is_settled is))
-    go (In_padding b) is e = absurd (false≢true (sym e))
+    go (In_padding b) is e = absurd cc
     go (In_rest offset held) is e =
         rw (past_none C answer number header s more (ap waits is)) (settled_none C answer number header s more (ap is_settled is))
     go Over is e = over_none C answer number header s more (ap is_over is)

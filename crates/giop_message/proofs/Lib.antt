@@ -18,6 +18,7 @@ mod Rests
 mod Dues
 mod Raises
 mod HeaderEndLaws
+mod ToldAfter
 mod MessageAgreement
 mod Closing
 mod Leaving

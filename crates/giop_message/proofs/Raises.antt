@@ -155,7 +155,7 @@ rest_in_settled (suc full) offset at s =
     ap is_settled (stage_front _ (rest_in full (offset + 32) (at + 32) (drop 32 s)))
     ∙ rest_in_settled full (offset + 32) (at + 32) (drop 32 s)
 
-rest_settled : (at : ℕ) (s : List ℕ) → is_settled (stage_of (rest at s)) ≡ true
+pub rest_settled : (at : ℕ) (s : List ℕ) → is_settled (stage_of (rest at s)) ≡ true
 unfolding rest
 rest_settled at s = rest_in_settled _ 0 at s
 
@@ -167,11 +167,11 @@ through_body h (Short lines at outer leaf) = refl
 through_body h (Fault lines at why T) = refl
 
 module _ (header : List ℕ) where
-  typed_settled : (T : Ty) (at : ℕ) (s : List ℕ) → is_settled (stage_of (typed (order header) T at s)) ≡ true
+  pub typed_settled : (T : Ty) (at : ℕ) (s : List ℕ) → is_settled (stage_of (typed (order header) T at s)) ≡ true
   unfolding typed
   typed_settled T at s = through_body nothing_noted (read (P header) [] T at s)
 
-  members_settled : (S : Signatures) (h : Noted) (at : ℕ) (s : List ℕ) →
+  pub members_settled : (S : Signatures) (h : Noted) (at : ℕ) (s : List ℕ) →
       is_settled (stage_of (after_exception S header h at s)) ≡ true
   unfolding after_exception option_typed
   members_settled S h at s = go (members_of S h.name)

@@ -1,7 +1,7 @@
 -- A message that follows a list, in a section whose decoder took a run of octets: what it wrote, and where the message
 -- is after them.
 use Rattle.std.proofs.Common.{◌≡◌, append-nil, Result, Ok, Err, IsErr, ℕ, ◌+◌, ◌<◌, ◌≤◌, Bool, true, false, List, [], ◌∷◌, ◌++◌, length, take, drop, get_or, Option, Some, None, refl, sym, ap, subst, ◌∙◌, arith}
-use Rattle.std.specs.Prelude.{cond}
+use Rattle.std.specs.Prelude.{cond, if◌then◌else◌}
 use Rattle.std.proofs.lemmas.List.{length-take-le, take-append-drop}
 use Rattle.std.proofs.lemmas.Bool.{false≢true}
 use Rattle.giop_cdr.specs.declared.order.Order.{Order}
@@ -21,6 +21,7 @@ use Rattle.giop_decode.specs.ReadResult.{plain, Line, OpenPart, Leaf, Read, Done
 use Rattle.giop_decode.specs.Reading.{read}
 use Rattle.giop_decode.specs.ReadingSteps.{resumes}
 use Rattle.giop_decode.specs.Noted.{Noted, nothing_noted, noted, noted_of, is_header_root}
+use Rattle.giop_decode.specs.OctetsLeft.{octets_left, left_in}
 use Rattle.giop_decode.specs.DecoderState as decoders
 use Rattle.giop_decode.specs.Runs.{TakesRun, BreaksOff}
 use Rattle.giop_message.specs.declared.message.Message.{Message as Struct_of}
@@ -32,7 +33,7 @@ use Rattle.giop_message.specs.declared.body_type.BodyTypeId.{BodyTypeId}
 use Rattle.giop_message.specs.Headers.{minor, kind, order}
 use Rattle.giop_message.specs.Signatures.{Signatures, Answer, Answers, signatures_of}
 use Rattle.giop_message.specs.Messages.{LineAt, with_front, section_then, section_and_rest, message, message_lines, stage_of, root_of, after}
-use Rattle.giop_message.specs.HeaderEnds.{HeaderEnd, CallEvent, Header_end, noted_if_whole, noted_by_type, header_noted, ends_between, named_if_whole, raised, raises_between, header_ends, is_told, tells_more, may_tell, operation_of, raise_event, after_event, after_ends, AgreesAtEnds}
+use Rattle.giop_message.specs.HeaderEnds.{HeaderEnd, CallEvent, Header_end, noted_if_whole, noted_by_type, header_noted, ends_between, named_if_whole, raised, raises_between, header_ends, is_told, stage_told_after, told_after, operation_of, raise_event, after_event, after_ends, AgreesAtEnds}
 use Rattle.giop_message.specs.ReaderOfTable.{first_request_id}
 use Rattle.giop_message.specs.Text.{fault_word}
 use Rattle.giop_message.specs.MessageState.{due_text, IsFirst, Decodes, Stands, FitsPart, Fits, is_header, in_header, Follows, FaultedAt}
@@ -291,8 +292,9 @@ body_short S header h lines at outer leaf = refl
 
 told_short : (S : Signatures) (header : List ℕ) (section : Section) (h : Noted) (lines : List Line)
     (at : ℕ) (outer : List OpenPart) (leaf : Leaf) →
-    tells_more (stage_of (section_and_rest S header section h (Short lines at outer leaf))) ≡ is_told section
-unfolding section_then stage_of tells_more
+    stage_told_after (stage_of (section_and_rest S header section h (Short lines at outer leaf)))
+    ≡ (if is_told section then Some (octets_left leaf) else None)
+unfolding section_then stage_of stage_told_after
 told_short S header section h lines at outer leaf = refl
 
 short_tail : (S : Signatures) (header : List ℕ) (section : Section) (before : List LineAt) (lines : List Line)
@@ -346,12 +348,25 @@ module _ (t : Standing) where
       let i = inside t in
       i.is ∙ ap (λ r. with_front (begun t).before (section_and_rest (S t) header section nothing_noted r)) i.was_short
 
-  -- whether more may be told
-  pub section_value : is_told section ≡ may_tell (S t) header s
-  unfolding may_tell
-  section_value =
-      sym (ap (λ z. tells_more (stage_of z)) stands_short
-      ∙ (ap tells_more (stage_front _ _) ∙ told_short (S t) header section nothing_noted _ _ _ _))
+  -- after how many octets the correspondent is told
+  section_told : told_after (S t) header s ≡ (if is_told section then Some (octets_left (inside t).leaf) else None)
+  unfolding told_after
+  section_told =
+      ap (λ z. stage_told_after (stage_of z)) stands_short
+      ∙ (ap stage_told_after (stage_front _ _) ∙ told_short (S t) header section nothing_noted _ _ _ _)
+
+  pub section_untold : is_told section ≡ false → None ≡ told_after (S t) header s
+  section_untold e = sym (section_told ∙ rw e refl)
+
+  -- by its decoder
+  pub section_value : is_told section ≡ true → (n : ℕ) →
+      ((T : Ty) (o : Order) (at number : ℕ) (root : Root) (xs : List ℕ) →
+      decoders.Reads C T o at number root d xs → n ≡ left_in (read (plain o) [] T at xs)) →
+      Some n ≡ told_after (S t) header s
+  unfolding left_in
+  section_value e n left =
+      let here = by_reads t {λ T o at number root xs. n ≡ left_in (read (plain o) [] T at xs)} left ∙ ap left_in (inside t).was_short in
+      sym (section_told ∙ rw (e, here) refl)
 
   -- another section ends none
   section_none : is_header section ≡ false → (more : List ℕ) →
@@ -545,16 +560,16 @@ module _ {C : Table} {answers : Answers} {number : ℕ} {header : List ℕ} {m :
       rw (past_none C (answers number) number header s more (ap (λ z. waits (stage_of z)) stands.1))
       (settled_none C (answers number) number header s more (ap (λ z. is_settled (stage_of z)) stands.1))
 
-  -- whether more may be told
+  -- after how many octets the correspondent is told
   pub padding_value : {body_type_id : BodyTypeId} → m.part ≡ parts.Padding body_type_id →
-      true ≡ may_tell (signatures_of C (answers number)) header s
-  unfolding may_tell tells_more stage_of
+      Some 1 ≡ told_after (signatures_of C (answers number)) header s
+  unfolding told_after stage_told_after stage_of
   padding_value {body_type_id} is =
       let stands = subst (Stands C answers number header s) is f.stands in
-      sym (ap (λ z. tells_more (stage_of z)) stands.1)
+      sym (ap (λ z. stage_told_after (stage_of z)) stands.1)
 
-  pub rest_value : {r : Rest} → m.part ≡ parts.Rest r → false ≡ may_tell (signatures_of C (answers number)) header s
-  unfolding may_tell tells_more stage_of
+  pub rest_value : {r : Rest} → m.part ≡ parts.Rest r → None ≡ told_after (signatures_of C (answers number)) header s
+  unfolding told_after stage_told_after stage_of
   rest_value {r} is =
       let stands = subst (Stands C answers number header s) is f.stands in
-      sym (ap (λ z. tells_more (stage_of z)) stands.1)
+      sym (ap (λ z. stage_told_after (stage_of z)) stands.1)

@@ -30,7 +30,7 @@ impl Message {
     ghost use Rattle.giop_message.specs.Messages.{message, message_lines, stage_of, close};
     ghost use Rattle.giop_message.specs.MessageSteps.{last_rest_text};
     ghost use Rattle.giop_message.specs.ReaderOfTable.{first_request_id};
-    ghost use Rattle.giop_message.specs.HeaderEnds.{AgreesAtEnds, may_tell, header_ends, after_ends};
+    ghost use Rattle.giop_message.specs.HeaderEnds.{AgreesAtEnds, told_after, header_ends, after_ends};
     ghost use Rattle.giop_message.specs.MessageState.{AreKnown, Fits, Follows, due_text, TookAll, reach, closing_text, is_short};
 
     /// A message of this number whose header has come.
@@ -192,17 +192,25 @@ impl Message {
         }
     }
 
-    /// Whether the correspondent may still be told of its header, or of the exception that it raises: in the header, in
-    /// the padding behind it, in the repository id of an exception, and in the body of a system exception.
-    pub fn may_tell(&self) -> bool
-        ensures { (C : Table) (answers : Answers) (number : ℕ) (header s : List ℕ) → Fits C self.now →
-            Follows C answers number header self.now s →
-            result ≡ may_tell (signatures_of C (answers number)) header s }
+    /// How many octets have to come at least until the correspondent is told of its header, or of the exception that it
+    /// raises: in the header, in the padding behind it, in the repository id of an exception, and in the body of a system
+    /// exception. None where it is told no more.
+    pub fn told_after(&self, catalogue: &Catalogue) -> Option<usize>
+        requires fits { Fits catalogue.now self.now }
+        ensures some { IfSome result (λ n. 1 ≤ n) }
+        ensures value { (answers : Answers) (number : ℕ) (header s : List ℕ) →
+            Follows catalogue.now answers number header self.now s →
+            result ≡ told_after (signatures_of catalogue.now (answers number)) header s }
     {
         match &self.part {
-            Part::Typed(section, _) => section.is_told(),
-            Part::Padding(_) => true,
-            Part::Rest(_) => false,
+            Part::Typed(section, decoder) => {
+                if !section.is_told() {
+                    return None;
+                }
+                Some(decoder.octets_left(catalogue))
+            }
+            Part::Padding(_) => Some(1),
+            Part::Rest(_) => None,
         }
     }
 }
