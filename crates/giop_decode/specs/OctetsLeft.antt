@@ -1,5 +1,5 @@
 -- How many octets have to come at least until a value ends, by the innermost part that is begun and not ended (meaning).
-use Rattle.std.specs.Prelude.{ℕ, ◌+◌, ◌-◌, max, length}
+use Rattle.std.specs.Prelude.{ℕ, ◌-◌, max, length}
 use Rattle.giop_decode.specs.ReadResult.{Leaf, LeadingNumber, Opening, Content, Read, Done, Short, Fault}
 use Rattle.giop_decode.specs.ReadingSteps.{leading_width}
 

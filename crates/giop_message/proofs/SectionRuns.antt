@@ -365,7 +365,7 @@ module _ (t : Standing) where
       Some n ≡ told_after (S t) header s
   unfolding left_in
   section_value e n left =
-      let here = by_reads t {λ T o at number root xs. n ≡ left_in (read (plain o) [] T at xs)} left ∙ ap left_in (inside t).was_short in
+      let here = by_reads t left ∙ ap left_in (inside t).was_short in
       sym (section_told ∙ rw (e, here) refl)
 
   -- another section ends none

@@ -8,8 +8,7 @@ use Rattle.giop_sig.specs.Table.{Table}
 use Rattle.giop_sig.specs.HeaderTypes.{header_type}
 use Rattle.giop_decode.specs.ReadResult.{plain, Read, Done, Short, Fault}
 use Rattle.giop_decode.specs.Reading.{read}
-use Rattle.giop_decode.specs.ReadingSteps.{resumes}
-use Rattle.giop_decode.specs.Noted.{Noted, nothing_noted, noted}
+use Rattle.giop_decode.specs.Noted.{Noted, nothing_noted}
 use Rattle.giop_decode.specs.OctetsLeft.{octets_left, left_in, IsUnended}
 use Rattle.giop_decode.proofs.ReadingLaws.{read_unended, resumes_unended}
 use Rattle.giop_message.specs.declared.part.Section.{Section}
@@ -18,9 +17,9 @@ use Rattle.giop_message.specs.Headers.{minor, kind, order}
 use Rattle.giop_message.specs.Signatures.{Signatures, Answer, signatures_of}
 use Rattle.giop_message.specs.Messages.{BodyType, Untyped, Typed, UserException, SystemException, Stage, In_typed, In_padding, In_rest, Over, Message, ReadTo, section_then, rest, after_exception, is_request, body, body_of, has_body, padded, after_header, of_header, message, stage_of}
 use Rattle.giop_message.specs.MessageState.{is_header}
-use Rattle.giop_message.specs.HeaderEnds.{HeaderEnd, AreSilent, noted_if_whole, noted_by_type, header_noted, ends_between, named_if_whole, raised, raises_between, header_ends, stage_told_after, told_after}
+use Rattle.giop_message.specs.HeaderEnds.{AreSilent, noted_if_whole, noted_by_type, header_noted, ends_between, named_if_whole, raised, raises_between, header_ends, stage_told_after, told_after}
 use Rattle.giop_message.proofs.Octets.{stage_front}
-use Rattle.giop_message.proofs.Raises.{is_settled, raises_here, offset_of, tail_name, rest_settled, typed_settled, members_settled, raised_inside, raised_before}
+use Rattle.giop_message.proofs.Raises.{is_settled, raises_here, tail_name, rest_settled, typed_settled, members_settled, raised_inside, raised_before}
 use Rattle.giop_message.proofs.HeaderEndLaws.{waits, past_none, header_ends_none}
 
 -- ---- a value that has not ended
