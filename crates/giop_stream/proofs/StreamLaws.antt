@@ -1,6 +1,7 @@
 -- What other crates may use of a stream, beside the contracts. No other file of this crate's proofs can be cited from outside.
 use Rattle.std.proofs.Common.{◌≡◌, ℕ, List, [], ◌∷◌, ◌++◌}
 use Rattle.giop_sig.specs.Table.{Table}
+use Rattle.giop_message.specs.HeaderEnds.{HeaderEnd, AreSilent}
 use Rattle.giop_message.specs.Signatures.{RequestTable, Answers, signatures_of, by_list}
 use Rattle.giop_stream.specs.Rules.{Rules, rules, rules_by}
 use Rattle.giop_stream.specs.HeaderEndsOfStream.{header_ends_at, header_ends_from}
@@ -9,6 +10,7 @@ use Rattle.giop_stream.specs.EngineHolds.{added}
 use Rattle.giop_stream.proofs.SlotSteps.Parts.{in_turn}
 use Rattle.giop_stream.proofs.StreamLines.MoreOctets as further
 use Rattle.giop_stream.proofs.CodeSteps.HeaderEndSteps.{from_append, from_one}
+use Rattle.giop_stream.proofs.CodeSteps.QuietOctets as quiet
 
 -- what q and then r add to the text of the stream p
 pub added_both : (C : Table) (kept : RequestTable) (most : ℕ) (p q r : List ℕ) →
@@ -28,3 +30,7 @@ header_ends_both R p q r = from_append R q p r
 -- and in one octet
 pub header_ends_one : (R : Rules) (p : List ℕ) (x : ℕ) → header_ends_from R p (x ∷ []) ≡ header_ends_at R p x
 header_ends_one R p x = from_one R p x
+
+-- what ends last of all that tells nothing of a Reply tells nothing either
+pub silent_behind : (es fs : List HeaderEnd) → AreSilent (es ++ fs) → AreSilent fs
+silent_behind es fs silent = quiet.silent_behind es fs silent

@@ -295,17 +295,18 @@ impl<'a> Engine<'a> {
     }
 
     /// How many of the next octets may be fed in one piece, so that behind no octet but the piece's last a message's
-    /// header of 12 octets is complete, or the header of a message or the name of the exception that it raises ends: at
-    /// least one. Who writes lines of their own behind such octets feeds pieces of at most this many.
+    /// header of 12 octets is complete, or the header of a Reply or the name of the exception that it raises ends: at
+    /// least one. Headers of other messages may end in it anywhere. Who writes lines of their own behind such octets
+    /// feeds pieces of at most this many.
     pub fn piece_limit(&self) -> usize
         ensures some { 1 ≤ result }
         ensures value { (a : Answers) (p : List ℕ) → HoldsBy self.now a p →
             result ≡ piece_limit self.now.table a self.now.most p }
-        // Fewer octets complete no header, and no name.
+        // Fewer octets begin no message, and end no Reply's header and no name.
         ensures quiet { (a : Answers) (p octets : List ℕ) → HoldsBy self.now a p →
             length octets < result → IsQuiet (rules_with self.now a) p octets }
     {
-        self.framing.piece_limit()
+        self.framing.piece_limit(self.catalogue)
     }
 
     /// The totals of what was read; after a failed put those from before that call.

@@ -1,6 +1,6 @@
 //! What is done to one message that has begun and not ended; it is `None` once it is over (faulted or ended).
 
-ghost use Rattle.std.specs.Prelude.{◌≡◌, ◌+◌, ◌≤◌, ◌^◌, ℕ, List, length, Option, None, OnOk, IfOk, if◌then◌else◌};
+ghost use Rattle.std.specs.Prelude.{◌≡◌, ◌+◌, ◌≤◌, ◌^◌, ℕ, List, length, Option, None, OnOk, IfOk, IfSome, if◌then◌else◌};
 ghost use Rattle.giop_sig.specs.Table.{Table};
 ghost use Rattle.giop_message.specs.Signatures.{Answers};
 ghost use Rattle.giop_message.specs.ReaderOfTable.{message_reader};
@@ -10,12 +10,12 @@ ghost use Rattle.giop_stream.specs.Effects.{part_of, lines_of};
 ghost use Rattle.giop_stream.specs.SlotsRepresent.{RepresentsMessage, IsReady, event};
 ghost use Rattle.giop_stream.specs.DoesEffect.{DoesPart, WritesLines, one_if};
 ghost use Rattle.giop_stream.specs.PayloadRuns.{run_part};
-ghost use Rattle.giop_stream.specs.HeaderEndsOfStream.{run_header_ends, run_may_tell};
+ghost use Rattle.giop_stream.specs.HeaderEndsOfStream.{run_header_ends, reply_told_after};
 ghost use Rattle.giop_message.specs.HeaderEnds.{AgreesAtEnds, after_ends};
 
 use crate::fault::FramingFault;
 use crate::lines::framing_fault_line;
-use giop_message::{Correspondent, Message};
+use giop_message::{Correspondent, Message, kind_of};
 use giop_print::{Out, OutFault};
 use giop_sig::Catalogue;
 
@@ -66,15 +66,23 @@ pub fn take_octets<O: Out, Q: Correspondent>(
     Ok(true)
 }
 
-/// Whether the header of a message, or the name of the exception that it raises, may still end; of one that is over none
-/// does.
-pub fn may_tell(message: &Option<Message>) -> bool
-    ensures { (C : Table) (a : Answers) (n : ℕ) (w : MessageKey) (o : Option (List ℕ)) →
-        IsReady C n message.now → RepresentsMessage C a message.now w o → result ≡ run_may_tell C a w o }
+/// How many octets of a Reply have to come at least until its header, or the name of the exception that it raises, ends.
+/// None of another message, of one that is over, and where neither ends any more.
+pub fn told_after(message: &Option<Message>, catalogue: &Catalogue) -> Option<usize>
+    requires ready { (n : ℕ) × IsReady catalogue.now n message.now }
+    ensures some { IfSome result (λ n. 1 ≤ n) }
+    ensures value { (a : Answers) (w : MessageKey) (o : Option (List ℕ)) →
+        RepresentsMessage catalogue.now a message.now w o →
+        result ≡ reply_told_after catalogue.now a w o }
 {
-    match message {
-        Some(m) => m.may_tell(),
-        None => false,
+    let Some(m) = message else {
+        return None;
+    };
+    let is_reply = kind_of(&m.header()) == 1;
+    if is_reply {
+        m.told_after(catalogue)
+    } else {
+        None
     }
 }
 

@@ -10,7 +10,7 @@ ghost use Rattle.giop_stream.specs.Rules.{most_open};
 ghost use Rattle.giop_stream.specs.Effects.{Tracked, IsNotOpen};
 
 use crate::fault::FramingFault;
-use crate::open_message::{close_message, fault_message, may_tell, take_octets};
+use crate::open_message::{close_message, fault_message, take_octets, told_after};
 use giop_entry_table::EntryTable;
 use giop_message::{Correspondent, Message};
 use giop_print::{Out, OutFault, cancelled_line, unfinished_line};
@@ -61,7 +61,7 @@ impl Slots {
     ghost use Rattle.giop_stream.specs.DoesEffect.{DoesEffect, one_if, never};
     ghost use Rattle.giop_stream.specs.OpenSlots.{Slot as Held, left_open};
     ghost use Rattle.giop_stream.specs.PayloadRuns.{run_effect};
-    ghost use Rattle.giop_stream.specs.HeaderEndsOfStream.{owner_header_ends, owner_may_tell};
+    ghost use Rattle.giop_stream.specs.HeaderEndsOfStream.{owner_header_ends, owner_told_after};
     ghost use Rattle.giop_message.specs.HeaderEnds.{AgreesAtEnds, after_ends};
 
     /// No message, where so many may be open.
@@ -183,19 +183,22 @@ impl Slots {
         }
     }
 
-    /// Whether a header or the name of an exception may still end in the payload of its owner.
-    pub fn may_tell(&self) -> bool
-        ensures { (C : Table) (a : Answers) (n : ℕ) (c : Tracked) (owner_of_next : Option MessageKey) →
-            AreReady C n self.now → SlotsRepresent C a self.now c owner_of_next →
-            result ≡ owner_may_tell C a c owner_of_next }
+    /// How many octets of the payload have to come at least until the header of its owner, or the name of the exception
+    /// that it raises, ends, where the owner is a Reply.
+    pub fn told_after(&self, catalogue: &Catalogue) -> Option<usize>
+        requires ready { (n : ℕ) × AreReady catalogue.now n self.now }
+        ensures some { IfSome result (λ n. 1 ≤ n) }
+        ensures value { (a : Answers) (c : Tracked) (owner_of_next : Option MessageKey) →
+            SlotsRepresent catalogue.now a self.now c owner_of_next →
+            result ≡ owner_told_after catalogue.now a c owner_of_next }
     {
         match self.payload {
-            Payload::Own => may_tell(&self.own),
+            Payload::Own => told_after(&self.own, catalogue),
             Payload::Open(k) => match self.slots.get(k) {
-                Some(slot) => may_tell(&slot.message),
-                None => false,
+                Some(slot) => told_after(&slot.message, catalogue),
+                None => None,
             },
-            Payload::Nobody => false,
+            Payload::Nobody => None,
         }
     }
 

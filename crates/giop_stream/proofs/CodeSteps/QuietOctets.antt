@@ -1,5 +1,5 @@
--- Octets in which no message begins, and no header and no name of an exception ends: those before the last octet of a header
--- of 12, and those of a message of which nothing more is told.
+-- Octets in which no message begins, and no Reply's header and no name of an exception ends: those before the last octet of a
+-- header of 12, and those of a message of which nothing more is told, or that is still in a value of its header.
 use Rattle.std.proofs.Common.{inl, inr, ◌≡◌, ℕ, suc, ◌+◌, ◌-◌, ◌<◌, ◌≤◌, Bool, true, false, List, [], ◌∷◌, ◌++◌, length, Option, Some, None, refl, sym, ap, subst, ◌∙◌, append_assoc, append-nil, arith}
 use Rattle.std.specs.Prelude.{◌⊎◌, ◌==◌, ◌||◌, ◌^◌, is_some, nat_lt, if◌then◌else◌}
 use Rattle.std.proofs.lemmas.Bool.{cases_lt, lt-ltb, le-ltb, ne_eqb, false≢true}
@@ -7,12 +7,12 @@ use Rattle.std.proofs.lemmas.List.{length_push}
 use Rattle.giop_checkpoint.specs.declared.fault.StreamFault.{StreamFault}
 use Rattle.giop_checkpoint.specs.declared.fault.StreamFault.TheVariants.{StreamLimit}
 use Rattle.giop_sig.specs.Table.{Table}
-use Rattle.giop_message.specs.Signatures.{Answers, signatures_of}
-use Rattle.giop_message.proofs.MessageLaws.{is_causal, nothing_told}
-use Rattle.giop_message.specs.Headers.{size}
+use Rattle.giop_message.specs.Signatures.{Answer, Answers, signatures_of}
+use Rattle.giop_message.proofs.MessageLaws.{is_causal, nothing_told, nothing_told_before, others_silent}
+use Rattle.giop_message.specs.Headers.{kind, size}
 use Rattle.giop_message.specs.declared.message.Message.{Message as CodeMessage}
 use Rattle.giop_message.specs.MessageState.{Follows}
-use Rattle.giop_message.specs.HeaderEnds.{HeaderEnd, may_tell}
+use Rattle.giop_message.specs.HeaderEnds.{HeaderEnd, Header_end, Exception_end, told_after, header_ends, AreSilent}
 use Rattle.giop_stream.specs.HeaderOctets.{wrong}
 use Rattle.giop_stream.specs.Rules.{Rules, rules_by}
 use Rattle.giop_stream.specs.Framing.{Message, Cut, limit, cut, messages, fault_of}
@@ -20,8 +20,8 @@ use Rattle.giop_stream.specs.Events.{MessageKey, Takes, open_after}
 use Rattle.giop_stream.specs.Effects.{Tracked, tracked_after, with_octet}
 use Rattle.giop_stream.specs.SlotsRepresent.{RepresentsMessage, SlotsRepresent, effect_to}
 use Rattle.giop_stream.specs.PayloadOwner.{owner_of_next, owner_of_next_in}
-use Rattle.giop_stream.specs.HeaderEndsOfStream.{run_may_tell, owner_may_tell, run_header_ends, owner_header_ends, current_header_ends, header_ends_at, header_ends_from}
-use Rattle.giop_stream.specs.PieceLimit.{IsQuiet, may_tell_in, limit_in, piece_limit}
+use Rattle.giop_stream.specs.HeaderEndsOfStream.{reply_told_after, owner_told_after, run_header_ends, owner_header_ends, current_header_ends, header_ends_at, header_ends_from}
+use Rattle.giop_stream.specs.PieceLimit.{IsQuiet, room, up_to, limit_in, piece_limit}
 use Rattle.giop_stream.specs.Octet.{header_of}
 use Rattle.giop_stream.specs.EngineView.{FramingView}
 use Rattle.giop_stream.specs.EngineState.{State, unless, state_of}
@@ -38,39 +38,61 @@ use Rattle.giop_stream.proofs.CodeSteps.PayloadRunSteps.{Within, within_on, octe
 use Rattle.giop_stream.proofs.CodeSteps.MessageOctets.{runs_on, header_at, knows_at, no_current, has_current, header_is, come_is}
 use Rattle.giop_stream.proofs.CodeSteps.HeaderEndSteps.{Heads, heads_on, owner_on, at_free, at_none, at_stop, at_limit}
 
--- no octets of their owner end its header or a name
-abbrev pub Settled : Tracked → Option MessageKey → Type 0
-Settled c who = (octets : List ℕ) → owner_header_ends c who octets ≡ []
+-- ---- lists
+
+pub silent_both : (xs ys : List HeaderEnd) → AreSilent xs → AreSilent ys → AreSilent (xs ++ ys)
+silent_both [] ys first more = more
+silent_both (Header_end number header n ∷ xs) ys first more = (first.0, silent_both xs ys first.1 more)
+silent_both (Exception_end number name ∷ xs) ys first more = absurd first
+
+pub silent_behind : (xs ys : List HeaderEnd) → AreSilent (xs ++ ys) → AreSilent ys
+silent_behind [] ys silent = silent
+silent_behind (Header_end number header n ∷ xs) ys silent = silent_behind xs ys silent.1
+silent_behind (Exception_end number name ∷ xs) ys silent = absurd silent
+
+silent_none : (xs : List HeaderEnd) → xs ≡ [] → AreSilent xs
+silent_none xs none = subst AreSilent (sym none) tt
 
 -- ---- one message
 
-pub over_value : (C : Table) (a : Answers) (w : MessageKey) (o : Option (List ℕ)) → RepresentsMessage C a None w o → false ≡ run_may_tell C a w o
-over_value C a w None k = refl
-over_value C a w (Some s) k = absurd k
+-- fewer octets of it than so many, where there is a bound, tell nothing of a Reply
+abbrev pub IsBelow : Option ℕ → ℕ → Type 0
+IsBelow None n = Unit {0}
+IsBelow (Some most) n = n < most
 
-pub given_value : (C : Table) (a : Answers) (m : CodeMessage) (w : MessageKey) (o : Option (List ℕ)) (b : Bool)
-    → RepresentsMessage C a (Some m) w o → ((s : List ℕ) → Follows C a w.number w.header m s → b ≡ may_tell (signatures_of C (a w.number)) w.header s)
-    → b ≡ run_may_tell C a w o
-given_value C a m w (Some s) b k f = f s k
-given_value C a m w None b k f = absurd k
+-- so many octets of their owner, or fewer, end no Reply's header and no name
+abbrev pub Settled : Tracked → Option MessageKey → ℕ → Type 0
+Settled c who n = (octets : List ℕ) → length octets ≤ n → AreSilent (owner_header_ends c who octets)
 
--- its octets end no header and no name where none may still end
-run_past : (C : Table) (a : Answers) (w : MessageKey) (o : Option (List ℕ)) (octets : List ℕ) → run_may_tell C a w o ≡ false → run_header_ends w o octets ≡ []
-run_past C a w None octets e = refl
-run_past C a w (Some s) octets e = nothing_told C (a w.number) w.number w.header s octets e
+-- fewer of its octets than have to come until something is told tell nothing
+given_before : (C : Table) (answer : Answer) (number : ℕ) (header s octets : List ℕ) (n : ℕ) (reply : Bool) → (kind header == 1) ≡ reply
+    → IsBelow (if reply then told_after (signatures_of C answer) header s else None) n → length octets ≤ n
+    → AreSilent (header_ends number header s octets)
+given_before C answer number header s octets n false e below few = others_silent number header s octets e
+given_before C answer number header s octets n true e below few = by (told_after (signatures_of C answer) header s) refl below
+  where
+    by : (o : Option ℕ) → told_after (signatures_of C answer) header s ≡ o → IsBelow o n → AreSilent (header_ends number header s octets)
+    by None is below = silent_none (header_ends number header s octets) (nothing_told C answer number header s octets is)
+    by (Some most) is below =
+        silent_none (header_ends number header s octets) (nothing_told_before C answer number header s octets most is (omega (arith, few, below)))
 
-owner_past : (C : Table) (a : Answers) (c : Tracked) (who : Option MessageKey) → owner_may_tell C a c who ≡ false → Settled c who
-owner_past C a c None e octets = refl
-owner_past C a c (Some w) e octets = run_past C a w (c.known w.number) octets e
+run_before : (C : Table) (a : Answers) (w : MessageKey) (o : Option (List ℕ)) (octets : List ℕ) (n : ℕ) → IsBelow (reply_told_after C a w o) n
+    → length octets ≤ n → AreSilent (run_header_ends w o octets)
+run_before C a w None octets n below few = tt
+run_before C a w (Some s) octets n below few = given_before C (a w.number) w.number w.header s octets n (kind w.header == 1) refl below few
+
+owner_before : (C : Table) (a : Answers) (c : Tracked) (who : Option MessageKey) (n : ℕ) → IsBelow (owner_told_after C a c who) n → Settled c who n
+owner_before C a c None n below octets few = tt
+owner_before C a c (Some w) n below octets few = run_before C a w (c.known w.number) octets n below few
 
 -- ---- the stream
 
 nothing_quiet : (R : Rules) (p : List ℕ) → IsQuiet R p []
 unfolding header_ends_from
-nothing_quiet R p = record { none_begin = ap (λ (z : List ℕ). length (messages (cut z))) (append-nil p); none_end = refl }
+nothing_quiet R p = record { none_begin = ap (λ (z : List ℕ). length (messages (cut z))) (append-nil p); none_end = tt }
 
--- Where n more octets are quiet: after a stream fault; before a header is complete; and in a payload, where its request id came
--- and the header of its owner has ended, and in the octets of a header that follow.
+-- Where n more octets are quiet: after a stream fault; before a header is complete; and in a payload, where so many of its owner
+-- tell nothing, and none of them ends its request id, and in the octets of a header that follow.
 abbrev IsEnded : List ℕ → Type 0
 IsEnded p = (found : ℕ × StreamFault) × ((cut p).stop ≡ Some found)
 
@@ -82,8 +104,8 @@ module _ (C : Table) (a : Answers) (most : ℕ) where
     m : Message
     free : (cut p).stop ≡ None
     current : (cut p).current ≡ Some m
-    named : 4 ≤ length m.payload
-    settled : Settled (tracked_after R p) (owner_of_next (open_after most p) m)
+    apart : length m.payload < 4 → length m.payload + n < 4
+    settled : Settled (tracked_after R p) (owner_of_next (open_after most p) m) n
     few : length m.payload + n < size m.header + 12
 
   abbrev Where : List ℕ → ℕ → Type 0
@@ -92,7 +114,7 @@ module _ (C : Table) (a : Answers) (most : ℕ) where
   -- the octet x after p is quiet, and n more may be
   record Goes (p : List ℕ) (x n : ℕ) : Type 0 where
     begins : length (messages (cut (p ++ x ∷ []))) ≡ length (messages (cut p))
-    ends : header_ends_at R p x ≡ []
+    ends : AreSilent (header_ends_at R p x)
     on : Where (p ++ x ∷ []) n
 
   -- ---- after a stream fault
@@ -102,7 +124,7 @@ module _ (C : Table) (a : Answers) (most : ℕ) where
       let same = cut_stays p x h.0 h.1 in
       record {
         begins = ap (λ (c : Cut). length (messages c)) same;
-        ends = at_stop R p x h.0 h.1;
+        ends = silent_none (header_ends_at R p x) (at_stop R p x h.0 h.1);
         on = inl (h.0, ap (λ (c : Cut). c.stop) same ∙ h.1);
       }
 
@@ -142,7 +164,7 @@ module _ (C : Table) (a : Answers) (most : ℕ) where
   heads_go : (p : List ℕ) (x n : ℕ) → Heads p (suc n) → Goes p x n
   heads_go p x n h = record {
     begins = ap (λ (ms : List Message). length ms) (heads_messages p x n h);
-    ends = at_none R p x h.no_current;
+    ends = silent_none (header_ends_at R p x) (at_none R p x h.no_current);
     on = inr (inl (heads_on p x n h));
   }
 
@@ -162,7 +184,7 @@ module _ (C : Table) (a : Answers) (most : ℕ) where
       ∙ next_limit (cut p).whole (Some h.m) (cut p).held (length p) x (lt-ltb limit (suc (length p)) past)) in
       record {
         begins = ap (λ (c : Cut). length (messages c)) grown ∙ ap (λ (ms : List Message). length ms) (sym (payload_messages p (suc n) h));
-        ends = at_limit R p x (omega (arith, past));
+        ends = silent_none (header_ends_at R p x) (at_limit R p x (omega (arith, past)));
         on = inl ((suc (length p), StreamLimit), ap (λ (c : Cut). c.stop) grown);
       }
 
@@ -179,34 +201,35 @@ module _ (C : Table) (a : Answers) (most : ℕ) where
         let before = ap (λ (ms : List Message). length ms) (payload_messages p (suc n) h) in
         omega (arith, now, before, length_push (cut p).whole (with_octet h.m x), length_push (cut p).whole h.m)
 
-    no_end : header_ends_at R p x ≡ []
+    no_end : AreSilent (header_ends_at R p x)
     no_end =
-        at_free R p x h.free (omega (arith, room))
-        ∙ (ap (λ (o : Option Message). current_header_ends R p o (x ∷ [])) h.current ∙ h.settled (x ∷ []))
+        subst AreSilent
+        (sym (at_free R p x h.free (omega (arith, room)) ∙ ap (λ (o : Option Message). current_header_ends R p o (x ∷ [])) h.current))
+        (h.settled (x ∷ []) (omega arith))
 
     abbrev within : suc (length h.m.payload) < size h.m.header → Within p h.m 1
     within more = record {
       free = h.free;
       current = h.current;
-      apart = λ less. omega (arith, h.named, less);
+      apart = λ less. (let all = h.apart less in omega (arith, all));
       before_last = omega (arith, more);
       room = omega (arith, room);
     }
 
-    -- the header of the owner of the octets that follow has ended too
+    -- those of the owner that follow tell nothing either
     still_settled : (more : suc (length h.m.payload) < size h.m.header)
-        → Settled (tracked_after R (p ++ x ∷ [])) (owner_of_next (open_after most (p ++ x ∷ [])) (with_octet h.m x))
-    still_settled more q =
+        → Settled (tracked_after R (p ++ x ∷ [])) (owner_of_next (open_after most (p ++ x ∷ [])) (with_octet h.m x)) n
+    still_settled more q few =
         let w = within more in
         let c = tracked_after R p in
         let who = owner_of_next (open_after most p) h.m in
         let adds = octet_adds C a most p h.m x 0 w in
         let same = octet_owner C a most p h.m x 0 w in
-        let behind : List HeaderEnd = owner_header_ends (effect_to C a (suc (length p)) c who (Takes x)).tracked who q in
-        let none : behind ≡ [] =
-        sym (ap (λ (z : List HeaderEnd). z ++ behind) (h.settled (x ∷ [])))
-        ∙ (sym (owner_on C a c who x q (suc (length p))) ∙ h.settled (x ∷ q)) in
-        (λ j. owner_header_ends (adds.tracked_after j) (same j) q) ∙ none
+        let behind = (effect_to C a (suc (length p)) c who (Takes x)).tracked in
+        let silent : AreSilent (owner_header_ends behind who q) =
+        silent_behind (owner_header_ends c who (x ∷ [])) (owner_header_ends behind who q)
+        (subst AreSilent (owner_on C a c who x q (suc (length p))) (h.settled (x ∷ q) (omega (arith, few)))) in
+        subst AreSilent (λ j. owner_header_ends (sym adds.tracked_after j) (sym same j) q) silent
 
     payload_goes : Goes p x n
     unfolding of_parts
@@ -220,7 +243,7 @@ module _ (C : Table) (a : Answers) (most : ℕ) where
               m = with_octet h.m x;
               free = w.free;
               current = w.current;
-              named = omega (arith, h.named, length_push h.m.payload x);
+              apart = λ less. (let all = h.apart (omega (arith, less, length_push h.m.payload x)) in omega (arith, all, length_push h.m.payload x));
               settled = still_settled more;
               few = omega (arith, h.few, length_push h.m.payload x);
             }));
@@ -255,41 +278,44 @@ module _ (C : Table) (a : Answers) (most : ℕ) where
       let more = all_quiet xs (p ++ x ∷ []) one.on in
       record {
         none_begin = ap (λ (z : List ℕ). length (messages (cut z))) (sym (append_assoc p (x ∷ []) xs)) ∙ (more.none_begin ∙ one.begins);
-        none_end = λ j. one.ends j ++ more.none_end j;
+        none_end = silent_both (header_ends_at R p x) (header_ends_from R (p ++ x ∷ []) xs) one.ends more.none_end;
       }
 
 -- ---- as many as may come in one piece
 
-neither : (b d : Bool) → (b || d) ≡ false → (b ≡ false) × (d ≡ false)
-neither false d e = (refl, e)
-neither true d e = absurd (false≢true (sym e))
+below_told : (told : Option ℕ) (n k : ℕ) → k < up_to told n → IsBelow told k × (k < n)
+below_told None n k less = (tt, less)
+below_told (Some most) n k less = (omega (arith, less), omega (arith, less))
 
-named_by : (n : ℕ) → nat_lt n 4 ≡ false → 4 ≤ n
-named_by n e = elim (cases_lt n 4) [
-  | inl less ↦ absurd (false≢true (sym e ∙ lt-ltb n 4 less))
-  | inr more ↦ more
+-- before the fourth octet of a payload, and behind it
+room_few : (n size k : ℕ) → n < size → k < room n size → (n < 4 → n + k < 4) × (n + k < size + 12)
+room_few n size k lacks less = elim (cases_lt n 4) [
+  | inl early ↦
+      let few : k < 4 - n = rw (lt-ltb n 4 early) at less in
+      (λ e. omega (arith, few, early), omega (arith, few, early))
+  | inr named ↦
+      let few : k < (size - n) + 12 = rw (le-ltb n 4 named) at less in
+      (λ early. absurd (omega (arith, named, early)), omega (arith, few, lacks))
 ]
 
 module _ (C : Table) (a : Answers) (most : ℕ) (p octets : List ℕ) where
-  quiet_payload : (m : Message) → (cut p).stop ≡ None → (cut p).current ≡ Some m → (b : Bool)
-      → may_tell_in C a most p m ≡ b
-      → length octets < (if b then 1 else (size m.header - length m.payload) + 12) → IsQuiet (rules_by C a most) p octets
-  quiet_payload m free current true e less = none octets (omega (arith, less))
-    where
-      none : (xs : List ℕ) → length xs ≡ 0 → IsQuiet (rules_by C a most) p xs
-      none [] e = nothing_quiet (rules_by C a most) p
-      none (x ∷ xs) e = absurd (omega (arith, e))
-  quiet_payload m free current false e less =
-      let both = neither (nat_lt (length m.payload) 4) (owner_may_tell C a (tracked_after (rules_by C a most) p) (owner_of_next (open_after most p) m)) e in
+  quiet_payload : (m : Message) → (cut p).stop ≡ None → (cut p).current ≡ Some m
+      → length octets < limit_in C a most p (Some m) → IsQuiet (rules_by C a most) p octets
+  quiet_payload m free current less =
+      let c = tracked_after (rules_by C a most) p in
+      let who = owner_of_next (open_after most p) m in
+      let told = owner_told_after C a c who in
       let fit = if_some (CurrentFits (length p) (cut p)) (cut p).current m current
       ((sound (rules_by C a most) (is_causal (λ number. signatures_of C (a number))) (in_turn C a) p).fits free).current in
+      let both = below_told told (room (length m.payload) (size m.header)) (length octets) less in
+      let few = room_few (length m.payload) (size m.header) (length octets) fit.lacks both.1 in
       all_quiet C a most octets p (inr (inr (record {
         m = m;
         free = free;
         current = current;
-        named = named_by (length m.payload) both.0;
-        settled = owner_past C a (tracked_after (rules_by C a most) p) (owner_of_next (open_after most p) m) both.1;
-        few = omega (arith, less, fit.lacks);
+        apart = few.0;
+        settled = owner_before C a c who (length octets) both.0;
+        few = few.1;
       })))
 
   pub limit_quiet : length octets < piece_limit C a most p → IsQuiet (rules_by C a most) p octets
@@ -300,7 +326,7 @@ module _ (C : Table) (a : Answers) (most : ℕ) (p octets : List ℕ) where
           → length octets < unless stop (2 ^ 64 - 1) (limit_in C a most p current) → IsQuiet (rules_by C a most) p octets
       go (Some found) e current f less = all_quiet C a most octets p (inl (found, e))
       go None e None f less = all_quiet C a most octets p (inr (inl (record { no_current = f; few = omega (arith, less) })))
-      go None e (Some m) f less = quiet_payload m e f (may_tell_in C a most p m) refl less
+      go None e (Some m) f less = quiet_payload m e f less
 
 -- ---- the same number by the fields
 
@@ -339,27 +365,12 @@ module _ (C : Table) (a : Answers) (most : ℕ) (s : State) (r : IsReached C a m
           subst (λ (o : Option Message). SlotsRepresent C a m.slots (tracked_after (rules_by C a most) r.stream) (owner_of_next_in (open_after most r.stream) o)) here.1
           (knows_at C a most s r m h free)
 
-      -- whether the slots say that a header or a name may still end in the payload of the owner
-      abbrev pub SlotsSay : Bool → Type 0
-      SlotsSay b = (c : Tracked) (who : Option MessageKey) → SlotsRepresent C a m.slots c who → owner_may_tell C a c who ≡ b
+      -- what the slots say of the octets that have to come until something is told
+      abbrev pub SlotsSay : Option ℕ → Type 0
+      SlotsSay told = (c : Tracked) (who : Option MessageKey) → SlotsRepresent C a m.slots c who → owner_told_after C a c who ≡ told
 
-      pub limit_early : m.payload_count < 4 → limit_is 1
+      pub limit_payload : (told : Option ℕ) → SlotsSay told → limit_is (up_to told (room m.payload_count (size m.header)))
       unfolding piece_limit
-      limit_early early =
-          rw (runs_on C a most s r m h free, here.1, lt-ltb (length here.0.payload) 4 (omega (arith, early, count))) refl
-
-      pub limit_telling : SlotsSay true → limit_is 1
-      unfolding piece_limit
-      limit_telling say =
-          rw (runs_on C a most s r m h free, here.1, say _ _ keeps) (go (nat_lt (length here.0.payload) 4))
-        where
-          go : (b : Bool) → (let n : ℕ = if b || true then 1 else (size here.0.header - length here.0.payload) + 12 in n) ≡ 1
-          go true = refl
-          go false = refl
-
-      pub limit_payload : 4 ≤ m.payload_count → SlotsSay false → limit_is ((size m.header - m.payload_count) + 12)
-      unfolding piece_limit
-      limit_payload named say =
+      limit_payload told say =
           let header = header_is C a most s r m h free here.0 here.1 in
-          rw (runs_on C a most s r m h free, here.1, le-ltb (length here.0.payload) 4 (omega (arith, named, count)), say _ _ keeps)
-          (λ j. (size (sym header j) - sym count j) + 12)
+          rw (runs_on C a most s r m h free, here.1, say _ _ keeps) (λ j. up_to told (room (sym count j) (size (sym header j))))
