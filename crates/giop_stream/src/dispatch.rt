@@ -198,6 +198,7 @@ fn at_fourth_octet<O: Out>(slots: &mut Slots, now: Current, out: &mut O) -> Resu
 }
 
 /// What an octet does where it is the message's last.
+#[inline(always)]
 fn at_last_octet<O: Out>(
     slots: &mut Slots,
     catalogue: &Catalogue,
