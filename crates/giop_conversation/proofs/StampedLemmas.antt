@@ -1,16 +1,22 @@
 -- What is written of octets that come in parts, and of a piece before whose last octet nothing is due.
-use Rattle.std.proofs.Common.{◌≡◌, ℕ, zero, suc, ◌<◌, ◌≤◌, false, List, [], ◌∷◌, ◌++◌, length, Option, Some, None, refl, sym, ap, subst, ◌∙◌, arith, append-nil, append_assoc, nat_lt, if◌then◌else◌}
+use Rattle.std.specs.Prelude.{◌==◌, ◌&&◌, is_none}
+use Rattle.std.proofs.lemmas.Bool.{false≢true}
+use Rattle.std.proofs.lemmas.List.{drop_all}
+use Rattle.std.proofs.Common.{◌≡◌, ℕ, zero, suc, ◌<◌, ◌≤◌, Bool, true, false, drop, List, [], ◌∷◌, ◌++◌, length, Option, Some, None, refl, sym, ap, subst, ◌∙◌, arith, append-nil, append_assoc, nat_lt, if◌then◌else◌}
 use Rattle.giop_sig.specs.Table.{Table}
 use Rattle.giop_message.specs.Signatures.{Answers}
-use Rattle.giop_message.specs.HeaderEnds.{HeaderEnd, Header_end, Exception_end, IsAnswered, CallEvent, Requested, Replied, Raised, call_event, after_event, after_ends, AgreesAtEnds}
-use Rattle.giop_message.proofs.MessageLaws.{answers_first, answers_then}
+use Rattle.giop_message.specs.Headers.{kind}
+use Rattle.giop_message.specs.HeaderEnds.{HeaderEnd, Header_end, Exception_end, IsAnswered, CallEvent, Requested, Replied, Raised, operation_of, request_event, header_event, call_event, after_event, after_ends, AgreesAtEnds, AreSilent}
+use Rattle.giop_message.proofs.MessageLaws.{told_both, answers_first, answers_then}
 use Rattle.giop_stream.specs.Rules.{Rules, rules_by}
 use Rattle.giop_stream.specs.HeaderEndsOfStream.{header_ends_at, header_ends_from}
 use Rattle.giop_stream.specs.EngineHolds.{added}
 use Rattle.giop_stream.specs.PieceLimit.{IsQuiet}
-use Rattle.giop_stream.proofs.StreamLaws.{added_both_by, header_ends_both}
+use Rattle.giop_stream.proofs.StreamLaws.{added_both_by, header_ends_both, silent_behind}
 use Rattle.giop_conversation.specs.Lines.{time_line}
 use Rattle.giop_conversation.specs.Exchanges.{Exchanged, Answering, Raising, answer_of, notified}
+use Rattle.giop_stream.specs.Framing.{cut, messages}
+use Rattle.giop_stream.specs.Stream.{text}
 use Rattle.giop_conversation.specs.Stamped.{begun, time_due, answers_due, raises_due, told, taken, lines_due, exchanged, stamped}
 
 -- ---- in two parts
@@ -154,31 +160,55 @@ AreQuiet R n p = (front : List ℕ) → length front < n → IsQuiet R p front
 same_is_not_less : (n : ℕ) → nat_lt n n ≡ false
 same_is_not_less n = search arith
 
-no_ends : (xs ys : List HeaderEnd) → xs ++ ys ≡ [] → (xs ≡ []) × (ys ≡ [])
-no_ends [] ys none = (refl, none)
-no_ends (x ∷ xs) ys none = absurd cc
+both_none : {A B : Type 0} (o : Option A) (q : Option B) → (is_none o && is_none q) ≡ true → (o ≡ None) × (q ≡ None)
+both_none None None e = (refl, refl)
+both_none None (Some y) e = absurd (false≢true e)
+both_none (Some x) q e = absurd (false≢true e)
+
+pub taken_by : (s : Exchanged) → (is_none s.answered && is_none s.raised) ≡ true → IsTaken s
+taken_by s e = (let both = both_none s.answered s.raised e in record { answered = both.0; raised = both.1 })
+
+pub none_due : (s : Exchanged) (time : Option ℕ) → IsTaken s → answers_due s.answered time ++ raises_due s.raised ≡ []
+none_due s time none = ap (λ (o : Option Answering). answers_due o time ++ raises_due s.raised) none.answered ∙ ap raises_due none.raised
+
+-- what ends leaves nothing to be written, where it is no Reply's header and no name of an exception
+silent_event : (C : Table) (e : HeaderEnd) (s : Exchanged) → IsTaken s → AreSilent (e ∷ []) → IsTaken (after_event notified s (call_event C e))
+unfolding header_event
+silent_event C (Header_end number header n) s none silent = rw silent.0 (by (kind header == 0) n.request_id)
+  where
+    by : (b : Bool) (id : Option ℕ) →
+        IsTaken (after_event notified s (if b then request_event number id n.name (operation_of C header n) n.expects_reply else None))
+    by true None = none
+    by true (Some id) = record { answered = none.answered; raised = none.raised }
+    by false id = none
+silent_event C (Exception_end number name) s none silent = absurd silent
+
+silent_taken : (C : Table) (es : List HeaderEnd) (s : Exchanged) → IsTaken s → AreSilent es → IsTaken (after_ends notified C s es)
+silent_taken C [] s none silent = none
+silent_taken C (Header_end number header n ∷ es) s none silent =
+    let e = Header_end number header n in
+    silent_taken C es (after_event notified s (call_event C e)) (silent_event C e s none (silent.0, tt)) silent.1
+silent_taken C (Exception_end number name ∷ es) s none silent = absurd silent
 
 module _ (C : Table) (a : Answers) (most : ℕ) where
   abbrev R : Rules
   R = rules_by C a most
 
-  -- an octet behind which nothing is due
-  quiet_octet : (s : Exchanged) (p : List ℕ) (x : ℕ) → IsTaken s → IsQuiet R p (x ∷ []) →
-      (lines_due R s p (x ∷ []) ≡ []) × (taken (told R s p (x ∷ [])) ≡ s)
+  -- where nothing is told that is written, and no message begins, nothing is due
+  nothing_due : (s : Exchanged) (p octets : List ℕ) → begun (p ++ octets) ≡ begun p → IsTaken (told R s p octets) → lines_due R s p octets ≡ []
   unfolding lines_due
-  quiet_octet s p x none quiet =
-      let tells : told R s p (x ∷ []) ≡ s = ap (after_ends notified s.table s) quiet.none_end in
-      let time : time_due p (x ∷ []) s.time ≡ [] =
-      ap (λ n. if nat_lt (begun p) n then time_line n s.time else []) quiet.none_begin
+  nothing_due s p octets none_begin behind =
+      let t = told R s p octets in
+      let time : time_due p octets s.time ≡ [] =
+      ap (λ n. if nat_lt (begun p) n then time_line n s.time else []) none_begin
       ∙ ap (λ b. if b then time_line (begun p) s.time else []) (same_is_not_less (begun p)) in
-      let reply : answers_due (told R s p (x ∷ [])).answered s.time ++ raises_due (told R s p (x ∷ [])).raised ≡ [] =
-      ap (λ (t : Exchanged). answers_due t.answered s.time ++ raises_due t.raised) tells
-      ∙ (ap (λ (o : Option Answering). answers_due o s.time ++ raises_due s.raised) none.answered ∙ ap raises_due none.raised) in (
-        ap (λ (t : List ℕ). t ++ (answers_due (told R s p (x ∷ [])).answered s.time ++ raises_due (told R s p (x ∷ [])).raised)) time ∙ reply,
-        ap taken tells ∙ taken_stays s none,
-      )
+      ap (λ (l : List ℕ). l ++ (answers_due t.answered s.time ++ raises_due t.raised)) time
+      ∙ none_due t s.time behind
 
-  -- those behind it are quiet as they were
+  quiet_taken : (s : Exchanged) (p octets : List ℕ) → IsTaken s → IsQuiet R p octets → IsTaken (told R s p octets)
+  quiet_taken s p octets none quiet = silent_taken s.table (header_ends_from R p octets) s none quiet.none_end
+
+  -- those behind the first are quiet as they were
   quiet_then : (n : ℕ) (p : List ℕ) (x : ℕ) → AreQuiet R (suc n) p → 0 < n → AreQuiet R n (p ++ x ∷ [])
   unfolding header_ends_from
   quiet_then n p x quiet some = λ front fewer.
@@ -186,34 +216,34 @@ module _ (C : Table) (a : Answers) (most : ℕ) where
       let first = quiet (x ∷ []) (omega arith) in
       record {
         none_begin = ap begun (append_assoc p (x ∷ []) front) ∙ (all.none_begin ∙ sym first.none_begin);
-        none_end = (no_ends (header_ends_at R p x) (header_ends_from R (p ++ x ∷ []) front) all.none_end).1;
+        none_end = silent_behind (header_ends_at R p x) (header_ends_from R (p ++ x ∷ []) front) all.none_end;
       }
 
   -- what is due behind a piece is due behind its last octet
-  ends_then : (p : List ℕ) (x : ℕ) (rest : List ℕ) → IsQuiet R p (x ∷ []) →
-      header_ends_from R (p ++ x ∷ []) rest ≡ header_ends_from R p (x ∷ rest)
-  unfolding header_ends_from
-  ends_then p x rest quiet =
-      ap (λ (es : List HeaderEnd). es ++ header_ends_from R (p ++ x ∷ []) rest)
-      (sym (no_ends (header_ends_at R p x) [] quiet.none_end).0)
-
   time_then : (time : Option ℕ) (p : List ℕ) (x : ℕ) (rest : List ℕ) → IsQuiet R p (x ∷ []) →
       time_due (p ++ x ∷ []) rest time ≡ time_due p (x ∷ rest) time
   time_then time p x rest quiet =
       ap (λ (f : List ℕ). if nat_lt (begun (p ++ x ∷ [])) (begun f) then time_line (begun f) time else []) (append_assoc p (x ∷ []) rest)
       ∙ ap (λ n. if nat_lt n (begun (p ++ x ∷ rest)) then time_line (begun (p ++ x ∷ rest)) time else []) quiet.none_begin
 
-  told_then : (s : Exchanged) (p : List ℕ) (x : ℕ) (rest : List ℕ) → IsQuiet R p (x ∷ []) →
-      told R s (p ++ x ∷ []) rest ≡ told R s p (x ∷ rest)
-  told_then s p x rest quiet = ap (after_ends notified s.table s) (ends_then p x rest quiet)
+  told_then : (s : Exchanged) (p : List ℕ) (x : ℕ) (rest : List ℕ) →
+      told R (told R s p (x ∷ [])) (p ++ x ∷ []) rest ≡ told R s p (x ∷ rest)
+  told_then s p x rest =
+      let first = header_ends_from R p (x ∷ []) in
+      let others = header_ends_from R (p ++ x ∷ []) rest in
+      ap (λ (D : Table). after_ends notified D (told R s p (x ∷ [])) others) (told_table R s p (x ∷ []))
+      ∙ (sym (told_both answer_of notified s.table s first others)
+      ∙ ap (after_ends notified s.table s) (sym (header_ends_both R p (x ∷ []) rest)))
 
   due_then : (s : Exchanged) (p : List ℕ) (x : ℕ) (rest : List ℕ) → IsQuiet R p (x ∷ []) →
-      lines_due R s (p ++ x ∷ []) rest ≡ lines_due R s p (x ∷ rest)
+      lines_due R (told R s p (x ∷ [])) (p ++ x ∷ []) rest ≡ lines_due R s p (x ∷ rest)
   unfolding lines_due
   due_then s p x rest quiet =
-      ap (λ (t : List ℕ). t ++ (answers_due (told R s (p ++ x ∷ []) rest).answered s.time ++ raises_due (told R s (p ++ x ∷ []) rest).raised))
-      (time_then s.time p x rest quiet)
-      ∙ ap (λ (t : Exchanged). time_due p (x ∷ rest) s.time ++ (answers_due t.answered s.time ++ raises_due t.raised)) (told_then s p x rest quiet)
+      let t = told R s p (x ∷ []) in
+      let behind = told R t (p ++ x ∷ []) rest in
+      ap (λ (time : Option ℕ). time_due (p ++ x ∷ []) rest time ++ (answers_due behind.answered time ++ raises_due behind.raised)) (told_time R s p (x ∷ []))
+      ∙ (ap (λ (l : List ℕ). l ++ (answers_due behind.answered s.time ++ raises_due behind.raised)) (time_then s.time p x rest quiet)
+      ∙ ap (λ (u : Exchanged). time_due p (x ∷ rest) s.time ++ (answers_due u.answered s.time ++ raises_due u.raised)) (told_then s p x rest))
 
   -- by its first octet and the others
   stamped_first : (s : Exchanged) (p : List ℕ) (x : ℕ) (rest : List ℕ) →
@@ -227,6 +257,18 @@ module _ (C : Table) (a : Answers) (most : ℕ) where
   unfolding exchanged
   exchanged_first s p x rest = refl
 
+  -- of no octets
+  stamped_none : (s : Exchanged) (p : List ℕ) → IsTaken s → stamped R s p [] ≡ added R p [] ++ lines_due R s p []
+  unfolding stamped added header_ends_from
+  stamped_none s p none =
+      let same = append-nil p in
+      let add : added R p [] ≡ [] = ap (λ (f : List ℕ). drop (length (text R p)) (text R f)) same ∙ drop_all (length (text R p)) (text R p) (omega arith) in
+      sym (ap (λ (l : List ℕ). l ++ lines_due R s p []) add ∙ nothing_due s p [] (ap begun same) none)
+
+  exchanged_none : (s : Exchanged) (p : List ℕ) → IsTaken s → exchanged R s p [] ≡ taken (told R s p [])
+  unfolding exchanged header_ends_from
+  exchanged_none s p none = sym (taken_stays s none)
+
   stamped_one : (s : Exchanged) (p : List ℕ) (x : ℕ) → stamped R s p (x ∷ []) ≡ added R p (x ∷ []) ++ lines_due R s p (x ∷ [])
   unfolding stamped
   stamped_one s p x = append-nil (added R p (x ∷ []) ++ lines_due R s p (x ∷ []))
@@ -235,37 +277,38 @@ module _ (C : Table) (a : Answers) (most : ℕ) where
   unfolding exchanged
   exchanged_one s p x = refl
 
-  pub piece_text : (piece : List ℕ) (n : ℕ) (s : Exchanged) (p : List ℕ) → IsTaken s → AreQuiet R n p →
-      0 < length piece → length piece ≤ n →
+  pub piece_text : (piece : List ℕ) (n : ℕ) (s : Exchanged) (p : List ℕ) → IsTaken s → AreQuiet R n p → length piece ≤ n →
       stamped R s p piece ≡ added R p piece ++ lines_due R s p piece
-  piece_text [] n s p none quiet some within = absurd (omega (arith, some))
-  piece_text (x ∷ []) n s p none quiet some within = stamped_one s p x
-  piece_text (x ∷ y ∷ zs) zero s p none quiet some within = absurd (omega (arith, within))
-  piece_text (x ∷ y ∷ zs) (suc n) s p none quiet some within =
+  piece_text [] n s p none quiet within = stamped_none s p none
+  piece_text (x ∷ []) n s p none quiet within = stamped_one s p x
+  piece_text (x ∷ y ∷ zs) zero s p none quiet within = absurd (omega (arith, within))
+  piece_text (x ∷ y ∷ zs) (suc n) s p none quiet within =
       let here = quiet (x ∷ []) (omega (arith, within)) in
-      let octet = quiet_octet s p x none here in
+      let t = told R s p (x ∷ []) in
+      let so = quiet_taken s p (x ∷ []) none here in
       let rest = y ∷ zs in
-      let behind = piece_text rest n s (p ++ x ∷ []) none (quiet_then n p x quiet (omega (arith, within))) (omega arith) (omega (arith, within)) in
+      let behind = piece_text rest n t (p ++ x ∷ []) so (quiet_then n p x quiet (omega (arith, within))) (omega (arith, within)) in
       let first = added R p (x ∷ []) in
       stamped_first s p x rest
-      ∙ (ap (λ (t : List ℕ). (first ++ t) ++ stamped R (taken (told R s p (x ∷ []))) (p ++ x ∷ []) rest) octet.0
-      ∙ (ap (λ (t : List ℕ). t ++ stamped R (taken (told R s p (x ∷ []))) (p ++ x ∷ []) rest) (append-nil first)
-      ∙ (ap (λ (t : Exchanged). first ++ stamped R t (p ++ x ∷ []) rest) octet.1
-      ∙ (ap (λ (t : List ℕ). first ++ t) behind
-      ∙ (sym (append_assoc first (added R (p ++ x ∷ []) rest) (lines_due R s (p ++ x ∷ []) rest))
-      ∙ (ap (λ (t : List ℕ). t ++ lines_due R s (p ++ x ∷ []) rest) (sym (added_both_by C a most p (x ∷ []) rest))
-      ∙ ap (λ (t : List ℕ). added R p (x ∷ rest) ++ t) (due_then s p x rest here)))))))
+      ∙ (ap (λ (l : List ℕ). (first ++ l) ++ stamped R (taken t) (p ++ x ∷ []) rest) (nothing_due s p (x ∷ []) here.none_begin so)
+      ∙ (ap (λ (l : List ℕ). l ++ stamped R (taken t) (p ++ x ∷ []) rest) (append-nil first)
+      ∙ (ap (λ (u : Exchanged). first ++ stamped R u (p ++ x ∷ []) rest) (taken_stays t so)
+      ∙ (ap (λ (l : List ℕ). first ++ l) behind
+      ∙ (sym (append_assoc first (added R (p ++ x ∷ []) rest) (lines_due R t (p ++ x ∷ []) rest))
+      ∙ (ap (λ (l : List ℕ). l ++ lines_due R t (p ++ x ∷ []) rest) (sym (added_both_by C a most p (x ∷ []) rest))
+      ∙ ap (λ (l : List ℕ). added R p (x ∷ rest) ++ l) (due_then s p x rest here)))))))
 
-  pub piece_told : (piece : List ℕ) (n : ℕ) (s : Exchanged) (p : List ℕ) → IsTaken s → AreQuiet R n p →
-      0 < length piece → length piece ≤ n → exchanged R s p piece ≡ taken (told R s p piece)
-  piece_told [] n s p none quiet some within = absurd (omega (arith, some))
-  piece_told (x ∷ []) n s p none quiet some within = exchanged_one s p x
-  piece_told (x ∷ y ∷ zs) zero s p none quiet some within = absurd (omega (arith, within))
-  piece_told (x ∷ y ∷ zs) (suc n) s p none quiet some within =
+  pub piece_told : (piece : List ℕ) (n : ℕ) (s : Exchanged) (p : List ℕ) → IsTaken s → AreQuiet R n p → length piece ≤ n →
+      exchanged R s p piece ≡ taken (told R s p piece)
+  piece_told [] n s p none quiet within = exchanged_none s p none
+  piece_told (x ∷ []) n s p none quiet within = exchanged_one s p x
+  piece_told (x ∷ y ∷ zs) zero s p none quiet within = absurd (omega (arith, within))
+  piece_told (x ∷ y ∷ zs) (suc n) s p none quiet within =
       let here = quiet (x ∷ []) (omega (arith, within)) in
-      let octet = quiet_octet s p x none here in
+      let t = told R s p (x ∷ []) in
+      let so = quiet_taken s p (x ∷ []) none here in
       let rest = y ∷ zs in
       exchanged_first s p x rest
-      ∙ (ap (λ (t : Exchanged). exchanged R t (p ++ x ∷ []) rest) octet.1
-      ∙ (piece_told rest n s (p ++ x ∷ []) none (quiet_then n p x quiet (omega (arith, within))) (omega arith) (omega (arith, within))
-      ∙ ap taken (told_then s p x rest here)))
+      ∙ (ap (λ (u : Exchanged). exchanged R u (p ++ x ∷ []) rest) (taken_stays t so)
+      ∙ (piece_told rest n t (p ++ x ∷ []) so (quiet_then n p x quiet (omega (arith, within))) (omega (arith, within))
+      ∙ ap taken (told_then s p x rest)))

@@ -85,10 +85,8 @@ front_lines R s p octets n a b front =
     ap (stamped R s p) (sym (take-append-drop n octets)) ∙ stamped_both R (take n octets) s p (drop n octets) in
     subst (WroteFront a b) (sym both) (front-append a b (stamped R s p (take n octets)) rest front)
 
-pub piece_size : (octets : List ℕ) (limit n : ℕ) → n ≡ min limit (length octets) → 1 ≤ limit → 0 < length octets →
-    (0 < length (take n octets)) × (length (take n octets) ≤ limit)
-piece_size octets limit n is some any =
-    let l = length-take n octets in (omega (arith, l, is, some, any), omega (arith, l, is, some, any))
+pub piece_size : (octets : List ℕ) (limit n : ℕ) → n ≡ min limit (length octets) → length (take n octets) ≤ limit
+piece_size octets limit n is = (let l = length-take n octets in omega (arith, l, is))
 
 module _ (C : Table) (a : Answers) (most : ℕ) where
   abbrev R : Rules
@@ -106,28 +104,28 @@ module _ (C : Table) (a : Answers) (most : ℕ) where
       ∙ ap (λ (t : Option ℕ). time_due p piece t ++ (answers_due (told R s p piece).answered t ++ raises_due (told R s p piece).raised)) (sym now)))
 
   pub piece_written : {A E : Type 0} (r : Result A E) (s s' : Exchanged) (p piece : List ℕ) (n before behind : ℕ)
-      (time : Option ℕ) (old fed new : OutLog) → IsTaken s → s.table ≡ C → s.time ≡ time → AreQuiet R n p → 0 < length piece →
+      (time : Option ℕ) (old fed new : OutLog) → IsTaken s → s.table ≡ C → s.time ≡ time → AreQuiet R n p →
       length piece ≤ n → Wrote old fed (added R p piece) → s' ≡ after_ends notified C s (header_ends_from R p piece) →
       before ≡ begun p → behind ≡ begun (p ++ piece) →
       Writes r fed new ((if nat_lt before behind then time_line behind time else []) ++ (answers_due s'.answered time ++ raises_due s'.raised)) →
       Writes r old new (stamped R s p piece)
-  piece_written r s s' p piece n before behind time old fed new none table now quiet some within wrote is first second writes =
+  piece_written r s s' p piece n before behind time old fed new none table now quiet within wrote is first second writes =
       let due = due_is s s' p piece before behind time table now is first second in
-      subst (λ (t : List ℕ). Writes r old new t) (sym (piece_text C a most piece n s p none quiet some within))
+      subst (λ (t : List ℕ). Writes r old new t) (sym (piece_text C a most piece n s p none quiet within))
       (writes_both r old fed new (added R p piece) (lines_due R s p piece) wrote (subst (λ (t : List ℕ). Writes r fed new t) due writes))
 
-  pub piece_calls : (s s' s'' : Exchanged) (p piece : List ℕ) (n : ℕ) → IsTaken s → s.table ≡ C → AreQuiet R n p →
-      0 < length piece → length piece ≤ n → s' ≡ after_ends notified C s (header_ends_from R p piece) → s'' ≡ taken s' →
+  pub piece_calls : (s s' s'' : Exchanged) (p piece : List ℕ) (n : ℕ) → IsTaken s → s.table ≡ C → AreQuiet R n p → length piece ≤ n →
+      s' ≡ after_ends notified C s (header_ends_from R p piece) → s'' ≡ taken s' →
       s'' ≡ exchanged R s p piece
-  piece_calls s s' s'' p piece n none table quiet some within is behind =
+  piece_calls s s' s'' p piece n none table quiet within is behind =
       behind ∙ (ap taken (is ∙ ap (λ (D : Table). after_ends notified D s (header_ends_from R p piece)) (sym table))
-      ∙ sym (piece_told C a most piece n s p none quiet some within))
+      ∙ sym (piece_told C a most piece n s p none quiet within))
 
   -- where the feeding of the piece failed
-  pub piece_front : (s : Exchanged) (p piece : List ℕ) (n : ℕ) (old new : OutLog) → IsTaken s → AreQuiet R n p →
-      0 < length piece → length piece ≤ n → WroteFront old new (added R p piece) → WroteFront old new (stamped R s p piece)
-  piece_front s p piece n old new none quiet some within front =
-      subst (WroteFront old new) (sym (piece_text C a most piece n s p none quiet some within))
+  pub piece_front : (s : Exchanged) (p piece : List ℕ) (n : ℕ) (old new : OutLog) → IsTaken s → AreQuiet R n p → length piece ≤ n →
+      WroteFront old new (added R p piece) → WroteFront old new (stamped R s p piece)
+  piece_front s p piece n old new none quiet within front =
+      subst (WroteFront old new) (sym (piece_text C a most piece n s p none quiet within))
       (front-append old new (added R p piece) (lines_due R s p piece) front)
 
 -- ---- pieces, one after the other
@@ -198,7 +196,7 @@ calls_on e e' a p front more s s' same told =
     ∙ (ap (λ (x : Exchanged). exchanged (rules_with e a) x (p ++ front) more) told
     ∙ sym (exchanged_both (rules_with e a) front s p more))
 
-pub come_on : (e e' e'' : EngineView) (a : Answers) (p octets : List ℕ) (at n : ℕ) (s s' s'' : Exchanged) (t t' t'' : Tagging) →
+come_on : (e e' e'' : EngineView) (a : Answers) (p octets : List ℕ) (at n : ℕ) (s s' s'' : Exchanged) (t t' t'' : Tagging) →
     IsSetAlike e' e → HasReadTo e e' a p octets at s s' t t' →
     HasCome e'' a ((p ++ take at octets) ++ take n (drop at octets)) t' t''
     (stamped (rules_with e' a) s' (p ++ take at octets) (take n (drop at octets))) s''
@@ -217,6 +215,21 @@ come_on e e' e'' a p octets at n s s' s'' t t' t'' same so_far more =
       told = more.told ∙ (calls_on e e' a p front piece s s' same so_far.told ∙ ap (exchanged (rules_with e a) s p) both);
     }
 
+-- once the next n octets are read by calls that agree
+pub read_on : (e e' e'' : EngineView) (a : Answers) (p octets : List ℕ) (at n : ℕ) (s s' s'' : Exchanged) (t t' t'' : Tagging) (time : Option ℕ) →
+    IsSetAlike e' e → HasReadTo e e' a p octets at s s' t t' → AgreeWith e a s p octets → s.table ≡ e.table → s.time ≡ time → IsTaken s →
+    (HoldsBy e' a (p ++ take at octets) → AgreeWith e' a s' (p ++ take at octets) (drop at octets) → s'.table ≡ e'.table → s'.time ≡ time →
+    s'.answered ≡ None → s'.raised ≡ None →
+    HasCome e'' a ((p ++ take at octets) ++ take n (drop at octets)) t' t''
+    (stamped (rules_with e' a) s' (p ++ take at octets) (take n (drop at octets))) s''
+    (exchanged (rules_with e' a) s' (p ++ take at octets) (take n (drop at octets)))) →
+    HasReadTo e e'' a p octets (at + n) s s'' t t''
+read_on e e' e'' a p octets at n s s' s'' t t' t'' time same so_far agrees table now none comes =
+    let none_now = taken_on (rules_with e a) p (take at octets) s s' none so_far.told in
+    come_on e e' e'' a p octets at n s s' s'' t t' t'' same so_far
+    (comes so_far.holds (agree_on e e' a p octets at s s' same table so_far.told agrees) (table_on e e' a p octets at s s' same table so_far.told)
+    (time_on (rules_with e a) p (take at octets) s s' time now so_far.told) none_now.answered none_now.raised)
+
 pub front_on : (e e' : EngineView) (a : Answers) (p octets : List ℕ) (at : ℕ) (s s' : Exchanged) (t t' t'' : Tagging) →
     IsSetAlike e' e → HasReadTo e e' a p octets at s s' t t' →
     WroteFront (tagging_log t') (tagging_log t'') (stamped (rules_with e' a) s' (p ++ take at octets) (drop at octets)) →
@@ -229,56 +242,22 @@ front_on e e' a p octets at s s' t t' t'' same so_far front =
     (wrote-front (tagging_log t) (tagging_log t') (tagging_log t'') (stamped (rules_with e a) s p first)
     (stamped (rules_with e' a) s' (p ++ first) rest) so_far.wrote front)
 
-pub agree_none : (e : EngineView) (a : Answers) (p : List ℕ) (s : Exchanged) → AgreeWith e a s p []
-unfolding header_ends_from
-agree_none e a p s = tt
-
-none_added : (R : Rules) (p : List ℕ) → added R p [] ≡ []
-unfolding added
-none_added R p =
-    ap (λ (f : List ℕ). drop (length (text R p)) (text R f)) (append-nil p)
-    ∙ drop_all (length (text R p)) (text R p) (omega arith)
-
-none_told : (C : Table) (R : Rules) (p : List ℕ) (s : Exchanged) → after_ends notified C s (header_ends_from R p []) ≡ s
-unfolding header_ends_from
-none_told C R p s = refl
-
--- all octets, and then none: below stand their lines
-pub stands_at_end : {A E : Type 0} (r : Result A E) (e e' e'' : EngineView) (a : Answers) (p octets w tag due : List ℕ) (at : ℕ)
-    (s s' s'' : Exchanged) (old t t' t'' : Tagging) → length octets ≤ at → HasReadTo e e' a p octets at s s' t t' →
-    IsReady old w → t ≡ record old { tag = tag; due = length tag; since = 0 } → tag ≡ due →
-    MatchResult r
-    (λ _. HasCome e'' a ((p ++ take at octets) ++ []) t' t'' (added (rules_with e' a) (p ++ take at octets) []) s''
-    (after_ends notified e'.table s' (header_ends_from (rules_with e' a) (p ++ take at octets) [])))
-    (λ _. WroteFront (tagging_log t') (tagging_log t'') (added (rules_with e' a) (p ++ take at octets) [])) →
-    MatchResult r
-    (λ _. HasStood e'' a (p ++ octets) t'' (w ++ with_tags due (stamped (rules_with e a) s p octets)) s'' (exchanged (rules_with e a) s p octets))
-    (λ _. WroteTaggedFront t'' w due (stamped (rules_with e a) s p octets))
-stands_at_end {A} {E} (Ok v) e e' e'' a p octets w tag due at s s' s'' old t t' t'' past so_far ready set same more =
+-- all octets: below stand their lines
+pub stands_at_end : (e e' : EngineView) (a : Answers) (p octets w tag due : List ℕ) (at : ℕ) (s s' : Exchanged) (old t t' : Tagging) →
+    length octets ≤ at → HasReadTo e e' a p octets at s s' t t' → IsReady old w →
+    t ≡ record old { tag = tag; due = length tag; since = 0 } → tag ≡ due →
+    HasStood e' a (p ++ octets) t' (w ++ with_tags due (stamped (rules_with e a) s p octets)) s' (exchanged (rules_with e a) s p octets)
+stands_at_end e e' a p octets w tag due at s s' old t t' past so_far ready set same =
     let all : take at octets ≡ octets = take_all at octets past in
     let R = rules_with e a in
-    let wrote : Wrote (tagging_log t) (tagging_log t'') (stamped R s p octets) =
-    subst (λ (l : List ℕ). Wrote (tagging_log t) (tagging_log t'') l)
-    (ap (λ (l : List ℕ). stamped R s p (take at octets) ++ l) (none_added (rules_with e' a) (p ++ take at octets))
-    ∙ (append-nil (stamped R s p (take at octets)) ∙ ap (stamped R s p) all))
-    (wrote-append (tagging_log t) (tagging_log t') (tagging_log t'') (stamped R s p (take at octets)) _ so_far.wrote more.wrote) in
-    let r : Result A E = Ok v in
+    let wrote : Wrote (tagging_log t) (tagging_log t') (stamped R s p octets) =
+    subst (λ (f : List ℕ). Wrote (tagging_log t) (tagging_log t') (stamped R s p f)) all so_far.wrote in
+    let done : Result ℕ ℕ = Ok 0 in
     record {
-      holds = subst (HoldsBy e'' a) (append-nil (p ++ take at octets) ∙ ap (λ (f : List ℕ). p ++ f) all) more.holds;
-      ready = below_tag r old t t'' w (stamped R s p octets) tag due ready set same
-          (stamped_ends e.table a e.most octets p s) wrote;
-      told = more.told ∙ (none_told e'.table (rules_with e' a) (p ++ take at octets) s' ∙ (so_far.told ∙ ap (exchanged R s p) all));
+      holds = subst (λ (f : List ℕ). HoldsBy e' a (p ++ f)) all so_far.holds;
+      ready = below_tag done old t t' w (stamped R s p octets) tag due ready set same (stamped_ends e.table a e.most octets p s) wrote;
+      told = so_far.told ∙ ap (exchanged R s p) all;
     }
-stands_at_end {A} {E} (Err x) e e' e'' a p octets w tag due at s s' s'' old t t' t'' past so_far ready set same more =
-    let all : take at octets ≡ octets = take_all at octets past in
-    let R = rules_with e a in
-    let front : WroteFront (tagging_log t) (tagging_log t'') (stamped R s p octets) =
-    subst (WroteFront (tagging_log t) (tagging_log t''))
-    (ap (λ (l : List ℕ). stamped R s p (take at octets) ++ l) (none_added (rules_with e' a) (p ++ take at octets))
-    ∙ (append-nil (stamped R s p (take at octets)) ∙ ap (stamped R s p) all))
-    (wrote-front (tagging_log t) (tagging_log t') (tagging_log t'') (stamped R s p (take at octets)) _ so_far.wrote more) in
-    let r : Result A E = Err x in
-    below_tag r old t t'' w (stamped R s p octets) tag due ready set same (stamped_ends e.table a e.most octets p s) front
 
 -- no lines
 pub nothing : (w : List ℕ) → w ++ with_tags [] [] ≡ w

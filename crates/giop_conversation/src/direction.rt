@@ -156,29 +156,32 @@ impl<'a> Direction<'a> {
         }
     }
 
-    /// Reads the first of the next octets of its stream, and writes the lines that are due behind each. Returns how many.
+    /// Reads the first of the next octets of its stream, and writes the lines that are due behind each. Returns how many,
+    /// and whether the stream runs behind them.
     fn read_piece<O: Out>(
         &mut self,
         exchange: &mut Exchange<'a>,
         octets: &[u8],
         time: Option<u128>,
         out: &mut Tagged<O>,
-    ) -> Result<usize, OutFault>
-        requires some { 0 < length octets.now }
+    ) -> Result<(usize, Status), OutFault>
         requires known { AreKnown self.old.engine.table (answer_of exchange.old) }
         ensures known { AreKnown self.new.engine.table (answer_of exchange.new) }
-        ensures some { IfOk result (λ n. (0 < n) × (n ≤ length octets.now)) }
+        ensures within { IfOk result (λ r. r.0 ≤ length octets.now) }
+        ensures some { 0 < length octets.now → IfOk result (λ r. 0 < r.0) }
         ensures read { (p : List ℕ) → HasRead self.old.engine p →
-            IfOk result (λ n. HasRead self.new.engine (p ++ take n octets.now)) }
+            IfOk result (λ r. HasRead self.new.engine (p ++ take r.0 octets.now)) }
+        ensures status { (p : List ℕ) → HasRead self.old.engine p →
+            IfOk result (λ r. r.1 ≡ status_of (fault_of (cut (p ++ take r.0 octets.now)).stop)) }
         // By answers that agree with the calls, the lines of the octets that it reads are written, or a front of all.
         ensures text { (a : Answers) (p : List ℕ) → HoldsBy self.old.engine a p →
             AgreeWith self.old.engine a exchange.old p octets.now →
             exchange.old.table ≡ self.old.engine.table → exchange.old.time ≡ time →
             exchange.old.answered ≡ None → exchange.old.raised ≡ None →
             MatchResult result
-            (λ n. HasCome self.new.engine a (p ++ take n octets.now) out.old out.new
-            (stamped (rules_with self.old.engine a) exchange.old p (take n octets.now)) exchange.new
-            (exchanged (rules_with self.old.engine a) exchange.old p (take n octets.now)))
+            (λ r. HasCome self.new.engine a (p ++ take r.0 octets.now) out.old out.new
+            (stamped (rules_with self.old.engine a) exchange.old p (take r.0 octets.now)) exchange.new
+            (exchanged (rules_with self.old.engine a) exchange.old p (take r.0 octets.now)))
             (λ _. WroteFront (tagging_log out.old) (tagging_log out.new)
             (stamped (rules_with self.old.engine a) exchange.old p octets.now)) }
         ensures same { IsSetAlike self.new.engine self.old.engine }
@@ -188,10 +191,10 @@ impl<'a> Direction<'a> {
     {
         let size = self.engine.piece_limit().min(octets.len());
         let begun = self.engine.totals().messages;
-        self.feed(exchange, &octets[..size], out)?;
+        let status = self.feed(exchange, &octets[..size], out)?;
         let messages = self.engine.totals().messages;
         write_due(exchange, begun, messages, time, out)?;
-        Ok(size)
+        Ok((size, status))
     }
 
     /// Reads octets of its stream, and writes the lines that they complete, at a time in nanoseconds since 1970-01-01 UTC.
@@ -230,10 +233,13 @@ impl<'a> Direction<'a> {
         exchange.read_in(self.stream, time);
         out.set_tag(stream_tag(self.stream));
         let mut at = 0;
-        while at < octets.len() {
-            at += self.read_piece(exchange, &octets[at..], time, out)?;
+        loop {
+            let (size, status) = self.read_piece(exchange, &octets[at..], time, out)?;
+            at += size;
+            if at >= octets.len() {
+                return Ok(status);
+            }
         }
-        self.feed(exchange, &[], out)
     }
 
     /// Its stream closes: writes why, and its closing, and returns what it had.
@@ -340,6 +346,9 @@ fn write_due<O: Out>(
         ((if nat_lt before behind then spec_time_line behind time else [])
         ++ (answers_due exchange.old.answered time ++ raises_due exchange.old.raised)) }
 {
+    if exchange.is_taken() {
+        return write_time(before, behind, time, out);
+    }
     let answered = exchange.take_answered();
     let raised = exchange.take_raised();
     match write_time(before, behind, time, out) {

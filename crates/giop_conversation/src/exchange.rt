@@ -1,6 +1,6 @@
 //! The calls of a connection, as the correspondent of the stream that is read.
 
-ghost use Rattle.std.specs.Prelude.{◌≡◌, [], None, IfOk, MatchOption};
+ghost use Rattle.std.specs.Prelude.{◌≡◌, ◌&&◌, [], None, is_none, IfOk, MatchOption};
 ghost use Rattle.std.specs.Option.{option_map};
 ghost use Rattle.giop_sig.specs.Table.{Table};
 ghost use Rattle.giop_message.specs.MessageState.{AreKnown};
@@ -147,6 +147,13 @@ impl<'a> Exchange<'a> {
         ensures taken { self.new ≡ record self.old { raised = None } }
     {
         self.raised.take()
+    }
+
+    /// Whether no Reply waits to be handed out, neither what it answers nor what it raises.
+    pub fn is_taken(&self) -> bool
+        ensures { result ≡ (is_none self.now.answered && is_none self.now.raised) }
+    {
+        self.answered.is_none() && self.raised.is_none()
     }
 
     /// Forgets the calls of the stream that is read. Their memory is kept.

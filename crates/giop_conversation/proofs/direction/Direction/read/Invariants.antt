@@ -8,8 +8,8 @@ use Rattle.giop_conversation.specs.StreamReads.{AgreeWith, IsSetAlike}
 use Rattle.giop_conversation.proofs.StreamReadLemmas.{HasReadTo}
 use Rattle.giop_conversation.proofs.direction.Direction.read.Given as goal
 
-abbrev pub invariant-loop-at : goal.invariant-loop-at
-invariant-loop-at g l =
+abbrev pub invariant-loop-size : goal.invariant-loop-size
+invariant-loop-size g l =
     record {
       within : l.at ≤ length l.octets;
       known : AreKnown l.self.engine.table (answer_of l.exchange);
@@ -25,5 +25,5 @@ invariant-loop-at g l =
       flow : l.self.flow ≡ l.initial.self.flow;
     }
 
-abbrev pub decreases-loop-at : goal.decreases-loop-at
-decreases-loop-at g l = length l.octets - l.at
+abbrev pub decreases-loop-size : goal.decreases-loop-size
+decreases-loop-size g l = length l.octets - l.at
