@@ -35,4 +35,5 @@ mod Taking
 mod Runs
 mod Gathering
 mod Whole
+mod NextParts
 pub mod ReadingLaws

@@ -13,6 +13,7 @@ mod leaf;
 mod line;
 mod lookahead;
 mod notes;
+mod parts;
 mod progress;
 mod restored;
 mod run;
