@@ -61,7 +61,7 @@ ends_spelled : (C : Table) (path : List PathSegment) (switch : Option TypeId) �
 ends_spelled C path None = ap segments_text (append-nil path) ∙ sym (append-nil (segments_text path))
 ends_spelled C path (Some of) = segments_text-append path (switch_segment (tree C of.0))
 
-here_spelled : (C : Table) (root : Root) (outer : List Frame) (switch : Option TypeId) →
+pub here_spelled : (C : Table) (root : Root) (outer : List Frame) (switch : Option TypeId) →
     root_word root ++ (frames_text C outer ++ end_text C switch)
     ≡ path_text root (path_in [] (open_parts C 0 outer) ++ end_segments C switch)
 unfolding path_text

@@ -36,4 +36,5 @@ mod Runs
 mod Gathering
 mod Whole
 mod OctetsLeft
+mod NextParts
 pub mod ReadingLaws

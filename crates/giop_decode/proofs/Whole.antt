@@ -105,7 +105,7 @@ still_nothing _ = refl
 
 module _ (C : Table) (d : Decoder) (of : TypeId) (octets : List ℕ) (count : ℕ) (f : Fits C d)
     (e : d.leaf ≡ Some (innermost.Number of)) (outside : d.inside ≡ false) (empty : d.carry ≡ []) where
-  no_piece : d.piece.items ≡ []
+  pub no_piece : d.piece.items ≡ []
   no_piece =
       let it : f.leaf ≡ innermost.Number of = same_some f.leaf (innermost.Number of) (sym f.goes_on ∙ e) in
       subst (λ l. IsClean l d.carry d.piece.items) it f.clean

@@ -78,7 +78,8 @@ const SEGMENT: usize = 65;
 
 /// Spells the segments of the parts that are begun, the innermost first, and answers whether there was room for
 /// them.
-fn spell_segments(catalogue: &Catalogue, outer: &[Frame], line: &mut Line) -> bool
+#[inline(always)]
+pub(crate) fn spell_segments(catalogue: &Catalogue, outer: &[Frame], line: &mut Line) -> bool
     requires { AreKnown catalogue.now outer.now }
     ensures { Spells result line.old line.new (frames_text catalogue.now outer.now) }
 {
@@ -95,13 +96,15 @@ fn spell_segments(catalogue: &Catalogue, outer: &[Frame], line: &mut Line) -> bo
 
 /// Spells the segment of a part.
 #[tactic(auto, using(crate::proofs::Segments::segment_laws))]
-fn spell_segment(catalogue: &Catalogue, frame: Frame, line: &mut Line)
+#[inline(always)]
+pub(crate) fn spell_segment(catalogue: &Catalogue, frame: Frame, line: &mut Line)
     requires known { IsKnown catalogue.now frame }
     requires room { 65 ≤ line_room line.old }
     ensures text { line_text line.new
         ≡ segment_text (segment_in (open_part catalogue.now 0 frame)) ++ line_text line.old }
     ensures room { line_room line.new + length (segment_text (segment_in (open_part catalogue.now 0 frame)))
         ≡ line_room line.old }
+    ensures most { line_room line.old ≤ line_room line.new + 65 }
 {
     if frame.inside.is_some() {
         return;
@@ -164,6 +167,7 @@ fn spell_index(line: &mut Line, index: u32)
     requires { 22 ≤ line_room line.old }
     ensures text { line_text line.new ≡ index_segment index ++ line_text line.old }
     ensures room { line_room line.new + length (index_segment index) ≡ line_room line.old }
+    ensures most { line_room line.old ≤ line_room line.new + 22 }
 {
     line.put(b']');
     line.put_number(u64::from(index));

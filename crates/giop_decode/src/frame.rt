@@ -1,6 +1,6 @@
 //! The parts that are begun and not ended, and have parts of their own.
 
-ghost use Rattle.std.specs.Prelude.{◌≡◌, ℕ, ◌+◌, ◌-◌, ◌<◌, ◌≤◌, List, [], ◌++◌, length, ◌↔◌, IsTrue, IfSome, IfNone, false};
+ghost use Rattle.std.specs.Prelude.{◌≡◌, ℕ, ◌+◌, ◌-◌, ◌^◌, ◌<◌, ◌≤◌, List, [], ◌∷◌, ◌++◌, length, ◌↔◌, IsTrue, IfSome, IfNone, false};
 ghost use Rattle.std.specs.Option.{option_map};
 ghost use Rattle.arrayvec.specs.ArrayVec.{array_vec_len};
 ghost use Rattle.giop_decode.specs.ReadResult.{Coding, PathSegment, LeadingNumber, Done};
@@ -10,6 +10,7 @@ ghost use Rattle.giop_decode.specs.Begins.{start_outer, start_leaf};
 ghost use Rattle.giop_decode.specs.Transitions.{HasOctetsLeft, coding_of, tick_of, tick_by_of, ended_at, open_parts, AreKnown, HaveOctetsLeft, StandAt, IsClean, Link, IsWhole, coding_by, gone_on, has_ended, is_inside, leaf_type, ticked, ticked_by};
 ghost use Rattle.giop_sig.specs.Fits.{IsFit, IsEmptyStruct, IsRoot};
 ghost use Rattle.giop_decode.specs.NotingSteps.{leaf_in_string};
+ghost use Rattle.giop_decode.specs.NextParts.{next_of};
 ghost use Rattle.giop_sig.specs.Trees.{tree};
 
 use crate::leaf::Leaf;
@@ -267,6 +268,24 @@ pub(crate) fn begin(catalogue: &Catalogue, outer: &mut ArrayVec<Frame, 24>, t: T
         inner = catalogue.part(inner, 0);
     }
     inner
+}
+
+/// Goes to the next part of the innermost of these parts.
+#[inline(always)]
+pub(crate) fn go_to_next(outer: &mut ArrayVec<Frame, 24>)
+    requires room { length outer.old.items ≤ 24 }
+    requires more { (frame : Frame) × (above : List Frame) ×
+        (outer.old.items ≡ above ++ frame ∷ []) × (frame.index < 2 ^ 32 - 1) }
+    ensures { (above : List Frame) (frame : Frame) → outer.old.items ≡ above ++ frame ∷ [] →
+        outer.new.items ≡ above ++ next_of frame ∷ [] }
+{
+    if let Some(frame) = outer.pop() {
+        let next = frame.index + 1;
+        outer.push(Frame {
+            index: next,
+            ..frame
+        });
+    }
 }
 
 /// Goes on after a part that has ended, and answers the innermost part that comes next, the rest of an encapsulation or

@@ -14,6 +14,7 @@ mod line;
 mod lookahead;
 mod notes;
 mod octets_left;
+mod parts;
 mod progress;
 mod restored;
 mod run;

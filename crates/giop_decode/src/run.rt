@@ -47,7 +47,7 @@ impl Decoder {
     {
         let mut taken: usize = 0;
         while taken < octets.len() {
-            let (count, progress) = self.take_some(catalogue, &octets[taken..], out)?;
+            let (count, progress) = self.take_next(catalogue, &octets[taken..], out)?;
             taken += count;
             match progress {
                 Progress::More => {}
@@ -55,6 +55,41 @@ impl Decoder {
             }
         }
         Ok((taken, Progress::More))
+    }
+
+    /// Takes some of the octets, of which there is at least one: numbers that are parts of one part, and what comes then.
+    #[inline(always)]
+    fn take_next<O: Out>(
+        &mut self,
+        catalogue: &Catalogue,
+        octets: &[u8],
+        out: &mut O,
+    ) -> Result<(usize, Progress), OutFault>
+        requires fits { Fits catalogue.now self.old }
+        requires some { 0 < length octets.now }
+        ensures writes { (T : Ty) (order : ByteOrder) (at message : ℕ) (root : PathRoot)
+            (s : List ℕ) →
+            Reads catalogue.now T order at message root self.old s →
+            WritesRun result T order at message root s octets.now (O.log out.old) (O.log out.new) }
+        ensures takes { IfOk result (λ taken. (T : Ty) (order : ByteOrder) (at message : ℕ)
+            (root : PathRoot) (s : List ℕ) →
+            Reads catalogue.now T order at message root self.old s →
+            TakesRun catalogue.now T order at message root self.new s
+            (take taken.0 octets.now) taken.1) }
+        ensures within { IfOk result (λ taken. taken.0 ≤ length octets.now) }
+        ensures some { IfOk result (λ taken. 0 < taken.0) }
+        ensures fits { IfOk result (λ taken. GoesOn taken.1 → Fits catalogue.now self.new) }
+        ensures done { IfOk result (λ taken. taken.1 ≡ Progress.Done → IsDone self.new) }
+    {
+        if !self.has_parts(octets) {
+            return self.take_some(catalogue, octets, out);
+        }
+        let (front, _) = self.take_parts(catalogue, octets, out)?;
+        if front == octets.len() {
+            return Ok((front, Progress::More));
+        }
+        let (count, progress) = self.take_some(catalogue, &octets[front..], out)?;
+        Ok((front + count, progress))
     }
 
     /// Takes some of the octets, of which there is at least one: a number or the rest of a piece that stands whole at
@@ -170,7 +205,7 @@ impl Decoder {
 
 /// The offset after so many octets more, modulo 8.
 #[inline]
-fn further(at: u8, count: usize) -> u8
+pub(crate) fn further(at: u8, count: usize) -> u8
     requires { count < 2 ^ 63 }
     ensures { result ≡ (at + count) % 8 }
 {

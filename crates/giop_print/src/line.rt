@@ -28,7 +28,7 @@ impl Line {
 
     /// A line of which nothing is spelled.
     #[inline]
-    pub(crate) fn new() -> Line
+    pub fn new() -> Line
         ensures text { line_text result ≡ [] }
         ensures room { line_room result ≡ 256 }
     {
@@ -40,7 +40,7 @@ impl Line {
 
     /// What was spelled.
     #[inline]
-    pub(crate) fn text(&self) -> &[u8]
+    pub fn text(&self) -> &[u8]
         ensures { result.now ≡ line_text self.now }
     {
         &self.octets[self.at..]

@@ -1,7 +1,7 @@
 //! The lines of a dump, written to any `Out` (docs/FORMATS.md). A function returns Ok where its whole line was
 //! written; else a put failed, and a front of the line was written. Messages are named by their numbers.
 
-ghost use Rattle.std.specs.Prelude.{◌+◌, ◌≤◌, ◌++◌, length};
+ghost use Rattle.std.specs.Prelude.{◌≡◌, ◌+◌, ◌≤◌, [], ◌++◌, length, codes};
 ghost use Rattle.giop_cdr.specs.Primitives.{size_of};
 ghost use Rattle.giop_print.specs.Output.{Writes};
 ghost use Rattle.giop_print.specs.Line.{line_text, line_room, numbered, headed, Spells};
@@ -49,6 +49,19 @@ fn number_line<O: Out, P: Position>(
         (kind_line message (P.spelled path.now) (spaced (kind_word prim)) (number_text (size_of prim) number)) }
 {
     let mut line = Line::new();
+    put_number_end(&mut line, prim, number);
+    spelled_line(out, message, path, &mut line)
+}
+
+/// Puts what the line of a primitive's number has after its path on an empty line: kind, number and line feed.
+#[inline(always)]
+pub fn put_number_end(line: &mut Line, prim: Prim, number: Number)
+    requires empty { line_text line.old ≡ [] }
+    requires room { line_room line.old ≡ 256 }
+    ensures text { line_text line.new
+        ≡ spaced (kind_word prim) ++ (number_text (size_of prim) number ++ codes "\n") }
+    ensures room { 200 ≤ line_room line.new }
+{
     line.put(b'\n');
     match number {
         Number::Unsigned(n) => line.put_number(n),
@@ -57,8 +70,17 @@ fn number_line<O: Out, P: Position>(
         Number::Truth(truth) => line.put_octets(truth_word(truth)),
         Number::Char(octet) => line.put_quoted(octet),
     }
-    put_kind(&mut line, prim);
-    spelled_line(out, message, path, &mut line)
+    put_kind(line, prim);
+}
+
+/// A line whose front is at hand, and the rest of it, which is spelled.
+#[inline(always)]
+pub fn line_behind<O: Out>(out: &mut O, front: &[u8], line: &mut Line) -> Result<(), OutFault>
+    requires { length front.now ≤ line_room line.old }
+    ensures { Writes result (O.log out.old) (O.log out.new) (front.now ++ line_text line.old) }
+{
+    line.put_octets(front);
+    put_all(out, line.text())
 }
 
 /// How long a text may be that is spelled with its line. Most are shorter.

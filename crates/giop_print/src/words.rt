@@ -1,6 +1,6 @@
 //! The fixed words of the lines: orders, message types, kinds.
 
-ghost use Rattle.std.specs.Prelude.{◌≡◌, ◌≤◌, ◌++◌, length};
+ghost use Rattle.std.specs.Prelude.{◌≡◌, ◌+◌, ◌≤◌, ◌++◌, length};
 ghost use Rattle.giop_print.specs.Line.{line_text, line_room};
 ghost use Rattle.giop_print.specs.Lines.{order_word, type_word, more_word, truth_word, kind_word, piece_word, spaced};
 
@@ -60,7 +60,8 @@ pub fn truth_word(truth: bool) -> &'static [u8]
 #[inline(always)]
 pub fn put_kind(line: &mut Line, prim: Prim)
     requires { 11 ≤ line_room line.old }
-    ensures { line_text line.new ≡ spaced (kind_word prim) ++ line_text line.old }
+    ensures text { line_text line.new ≡ spaced (kind_word prim) ++ line_text line.old }
+    ensures room { line_room line.old ≤ line_room line.new + 11 }
 {
     match prim {
         Prim::Octet => line.put_octets(b" octet "),

@@ -1,0 +1,274 @@
+//! Numbers that are parts of one part, taken one after another: what their lines begin with is spelled once.
+
+ghost use Rattle.std.specs.Prelude.{◌≡◌, ℕ, ◌+◌, ◌-◌, ◌<◌, ◌≤◌, false, true, List, [], ◌++◌, length, take, IfOk, IfSome, OnOk, IsTrue};
+ghost use Rattle.giop_cdr.specs.Primitives.{size_of};
+ghost use Rattle.giop_cdr.specs.declared.order.Order.{Order as ByteOrder};
+ghost use Rattle.giop_decode.specs.DecoderState.{Fits, Reads};
+ghost use Rattle.giop_decode.specs.Noted.{is_header_root};
+ghost use Rattle.giop_decode.specs.NextParts.{IsPartAhead, IsAtNext, front_text};
+ghost use Rattle.giop_decode.specs.ReadingSteps.{segment_in};
+ghost use Rattle.giop_decode.specs.Runs.{TakesRun, WritesRun};
+ghost use Rattle.giop_decode.specs.Segments.{frames_text};
+ghost use Rattle.giop_decode.specs.Spelling.{segment_text};
+ghost use Rattle.giop_decode.specs.Transitions.{open_part, AreKnown, IsKnown};
+ghost use Rattle.giop_print.specs.Line.{line_text, line_room, headed};
+ghost use Rattle.giop_print.specs.Lines.{kind_line, kind_word, number_text, spaced};
+ghost use Rattle.giop_print.specs.Output.{Writes};
+ghost use Rattle.giop_print.specs.Paths.{root_word};
+ghost use Rattle.giop_print.specs.declared.path.Root.{Root as PathRoot};
+ghost use Rattle.giop_sig.specs.Types.{Ty};
+
+use crate::current_path::{spell_segment, spell_segments};
+use crate::decoder::Decoder;
+use crate::frame::{Frame, go_to_next};
+use crate::leaf::Leaf;
+use crate::lookahead::whole_number;
+use crate::notes::is_header;
+use crate::progress::Progress;
+use crate::run::further;
+use giop_cdr::{Number, Prim};
+use giop_print::{Line, Out, OutFault, Root, line_behind, put_number_end, put_root};
+use giop_sig::{Catalogue, Shape, TypeId};
+
+/// The number of a primitive that comes next, where it is a part that another primitive follows in the same part.
+#[derive(Clone, Copy, Debug)]
+struct PartAhead {
+    /// The part that both are parts of.
+    frame: Frame,
+    prim: Prim,
+    number: Number,
+    /// How many octets it takes with its padding.
+    count: usize,
+    /// The type of the part that follows.
+    next: TypeId,
+}
+
+/// How many octets may stand in a line before the last segment of its path.
+const FRONT: usize = 128;
+
+/// The most octets that a message's number has with the root behind it.
+const HEAD: usize = 31;
+
+/// How many octets there must be that a run of numbers is begun.
+const RUN: usize = 16;
+
+impl Decoder {
+    /// Whether a number comes next that is one of several parts of which three are to come, in no header and no
+    /// encapsulation, and there are octets for more than one.
+    #[inline(always)]
+    pub(crate) fn has_parts(&self, octets: &[u8]) -> bool
+        ensures some { IsTrue result → 0 < length self.now.outer.items }
+        ensures body { IsTrue result → is_header_root self.now.root ≡ false }
+        ensures outside { IsTrue result → self.now.inside ≡ false }
+    {
+        if is_header(self.root) || self.inside || octets.len() < RUN {
+            return false;
+        }
+        let Some(Leaf::Number(_)) = self.leaf else {
+            return false;
+        };
+        let depth = self.outer.len();
+        if depth == 0 {
+            return false;
+        }
+        let frame = self.outer[depth - 1];
+        frame.index.saturating_add(2) < frame.count
+    }
+
+    /// Takes numbers of primitives that stand whole at the head of these octets, as long as each is a part that another
+    /// follows, and writes their lines.
+    #[inline(never)]
+    pub(crate) fn take_parts<O: Out>(
+        &mut self,
+        catalogue: &Catalogue,
+        octets: &[u8],
+        out: &mut O,
+    ) -> Result<(usize, Progress), OutFault>
+        requires fits { Fits catalogue.now self.old }
+        requires some { 0 < length self.old.outer.items }
+        requires body { is_header_root self.old.root ≡ false }
+        requires outside { self.old.inside ≡ false }
+        ensures writes { (T : Ty) (order : ByteOrder) (at message : ℕ) (root : PathRoot)
+            (s : List ℕ) →
+            Reads catalogue.now T order at message root self.old s →
+            WritesRun result T order at message root s octets.now (O.log out.old) (O.log out.new) }
+        ensures takes { IfOk result (λ taken. (T : Ty) (order : ByteOrder) (at message : ℕ)
+            (root : PathRoot) (s : List ℕ) →
+            Reads catalogue.now T order at message root self.old s →
+            TakesRun catalogue.now T order at message root self.new s
+            (take taken.0 octets.now) Progress.More) }
+        ensures within { IfOk result (λ taken. taken.0 ≤ length octets.now) }
+        ensures fits { OnOk result (Fits catalogue.now self.new) }
+    {
+        if self.part_ahead(catalogue, octets).is_none() {
+            return Ok((0, Progress::More));
+        }
+        self.take_several(catalogue, octets, out)
+    }
+
+    /// The same where one stands there; none where what the lines begin with is long.
+    #[inline(always)]
+    fn take_several<O: Out>(
+        &mut self,
+        catalogue: &Catalogue,
+        octets: &[u8],
+        out: &mut O,
+    ) -> Result<(usize, Progress), OutFault>
+        requires fits { Fits catalogue.now self.old }
+        requires some { 0 < length self.old.outer.items }
+        requires body { is_header_root self.old.root ≡ false }
+        requires outside { self.old.inside ≡ false }
+        ensures writes { (T : Ty) (order : ByteOrder) (at message : ℕ) (root : PathRoot)
+            (s : List ℕ) →
+            Reads catalogue.now T order at message root self.old s →
+            WritesRun result T order at message root s octets.now (O.log out.old) (O.log out.new) }
+        ensures takes { IfOk result (λ taken. (T : Ty) (order : ByteOrder) (at message : ℕ)
+            (root : PathRoot) (s : List ℕ) →
+            Reads catalogue.now T order at message root self.old s →
+            TakesRun catalogue.now T order at message root self.new s
+            (take taken.0 octets.now) Progress.More) }
+        ensures within { IfOk result (λ taken. taken.0 ≤ length octets.now) }
+        ensures fits { OnOk result (Fits catalogue.now self.new) }
+    {
+        let depth = self.outer.len() - 1;
+        let mut line = Line::new();
+        let front = put_front(
+            catalogue,
+            self.message,
+            self.root,
+            &self.outer[..depth],
+            &mut line,
+        );
+        if !front {
+            return Ok((0, Progress::More));
+        }
+        let mut taken = 0;
+        while let Some(part) = self.part_ahead(catalogue, &octets[taken..]) {
+            let (count, _) = self.take_part(catalogue, &octets[taken..], part, line.text(), out)?;
+            taken += count;
+        }
+        Ok((taken, Progress::More))
+    }
+
+    /// The number that comes next, where it is a primitive's, stands whole at the head of these octets, and is a part
+    /// that another primitive follows.
+    #[inline(always)]
+    fn part_ahead(&self, catalogue: &Catalogue, octets: &[u8]) -> Option<PartAhead>
+        requires fits { Fits catalogue.now self.now }
+        requires outside { self.now.inside ≡ false }
+        ensures { IfSome result (λ part. IsPartAhead catalogue.now self.now octets.now part) }
+    {
+        let depth = self.outer.len();
+        if depth == 0 || !self.carry.is_empty() {
+            return None;
+        }
+        let frame = self.outer[depth - 1];
+        if frame.index >= frame.count.saturating_sub(1) {
+            return None;
+        }
+        let Some(Leaf::Number(of)) = self.leaf else {
+            return None;
+        };
+        let Shape::Prim(prim) = catalogue.shape(of) else {
+            return None;
+        };
+        let next = catalogue.part(frame.of, frame.index + 1);
+        let Shape::Prim(_) = catalogue.shape(next) else {
+            return None;
+        };
+        match whole_number(catalogue, self.order, self.at, of, octets) {
+            Some((count, number)) => Some(PartAhead {
+                frame,
+                prim,
+                number,
+                count,
+                next,
+            }),
+            None => None,
+        }
+    }
+
+    /// Takes the octets of that number, and writes its line, of which the front is spelled.
+    #[inline(always)]
+    fn take_part<O: Out>(
+        &mut self,
+        catalogue: &Catalogue,
+        octets: &[u8],
+        part: PartAhead,
+        front: &[u8],
+        out: &mut O,
+    ) -> Result<(usize, Progress), OutFault>
+        requires fits { Fits catalogue.now self.old }
+        requires body { is_header_root self.old.root ≡ false }
+        requires ahead { IsPartAhead catalogue.now self.old octets.now part }
+        requires front { front.now ≡ front_text catalogue.now self.old }
+        requires short { length front.now ≤ 128 }
+        ensures writes { (T : Ty) (order : ByteOrder) (at message : ℕ) (root : PathRoot)
+            (s : List ℕ) →
+            Reads catalogue.now T order at message root self.old s →
+            WritesRun result T order at message root s octets.now (O.log out.old) (O.log out.new) }
+        ensures takes { IfOk result (λ taken. (T : Ty) (order : ByteOrder) (at message : ℕ)
+            (root : PathRoot) (s : List ℕ) →
+            Reads catalogue.now T order at message root self.old s →
+            TakesRun catalogue.now T order at message root self.new s
+            (take taken.0 octets.now) Progress.More) }
+        ensures within { IfOk result (λ taken. taken.0 ≤ length octets.now) }
+        ensures fits { OnOk result (Fits catalogue.now self.new) }
+        ensures some { IfOk result (λ taken. 0 < taken.0) }
+        ensures next { OnOk result (IsAtNext catalogue.now self.old self.new part) }
+    {
+        let _octets = octets;
+        part_line(catalogue, part, front, out)?;
+        self.at = further(self.at, part.count);
+        go_to_next(&mut self.outer);
+        self.leaf = Some(Leaf::Number(part.next));
+        Ok((part.count, Progress::More))
+    }
+}
+
+/// The line of a number that is a part, of which the front is spelled.
+#[inline(always)]
+fn part_line<O: Out>(
+    catalogue: &Catalogue,
+    part: PartAhead,
+    front: &[u8],
+    out: &mut O,
+) -> Result<(), OutFault>
+    requires known { IsKnown catalogue.now part.frame }
+    requires short { length front.now ≤ 128 }
+    ensures { (message : ℕ) (place : List ℕ) → front.now ≡ headed message place [] →
+        Writes result (O.log out.old) (O.log out.new) (kind_line message
+        (place ++ segment_text (segment_in (open_part catalogue.now 0 part.frame)))
+        (spaced (kind_word part.prim)) (number_text (size_of part.prim) part.number)) }
+{
+    let mut line = Line::new();
+    put_number_end(&mut line, part.prim, part.number);
+    spell_segment(catalogue, part.frame, &mut line);
+    line_behind(out, front, &mut line)
+}
+
+/// Puts what the lines of the parts in these begin with, up to their own segment, on an empty line, and answers
+/// whether that is at most 128 octets.
+fn put_front(
+    catalogue: &Catalogue,
+    message: u64,
+    root: Root,
+    outer: &[Frame],
+    line: &mut Line,
+) -> bool
+    requires known { AreKnown catalogue.now outer.now }
+    requires empty { line_text line.old ≡ [] }
+    requires room { line_room line.old ≡ 256 }
+    ensures text { IsTrue result → line_text line.new
+        ≡ headed message (root_word root ++ frames_text catalogue.now outer.now) [] }
+    ensures short { IsTrue result → length (line_text line.new) ≤ 128 }
+{
+    if !spell_segments(catalogue, outer, line) || line.room() < 256 - FRONT + HEAD {
+        return false;
+    }
+    put_root(line, root);
+    line.put(b' ');
+    line.put_number(message);
+    line.put(b'm');
+    true
+}
