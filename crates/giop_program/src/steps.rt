@@ -2,7 +2,6 @@
 //! first that fails determines the status.
 
 ghost use Rattle.std.specs.Prelude.{◌≡◌, ◌≢◌, ◌≤◌, ◌⊎◌, ℕ, List, [], false, None, Some, IfSome, IfOk, IfErr, OnOk, option_map};
-ghost use Rattle.clap.specs.Values.{kind_of};
 ghost use Rattle.giop_stream.specs.Checkpoint.{counts_of};
 ghost use Rattle.giop_stream.specs.EngineHolds.{AreOf, Holds};
 ghost use Rattle.giop_run.specs.Running.{HasKept, setup_of};
@@ -12,37 +11,27 @@ ghost use Rattle.giop_run.specs.Performing.{Did, Kept, task_of};
 ghost use Rattle.giop_program.specs.Words.{asked_of};
 
 use super::arguments::Arguments;
-use clap::Error;
-use clap::error::ErrorKind;
 use giop_run::{
     Disk, Ending, Flush, Inputs, Lines, ProgramFault, Reading, Report, Retrying, RunFault, Saves,
-    catalogue, dump, requests, resumed, status, unreadable,
+    catalogue, dump, failed, refused, requests, resumed, status, unreadable, words,
 };
 use giop_sig::{Catalogue, Requests};
 use giop_stream::{Engine, Totals};
-use std::env;
 use std::io::Read;
 
-/// The status where the arguments can't be read.
-const USAGE: u8 = 2;
-
-/// The status where the help can't be printed.
-const FAILED: u8 = 4;
+/// The program's name, which stands in front of what it says on standard error.
+const PROGRAM: &str = "giopdump";
 
 /// Runs the program, and returns its status.
 pub fn program(rt: &HostRuntime) -> u8
     ensures { result ≤ 5 }
 {
-    let alloc = rt.alloc();
-    let words = match env::args(rt) {
+    let words = match words(rt) {
         Ok(words) => words,
-        Err(error) => return report_outcome(rt, &Err(ProgramFault::of_words(&error))),
+        Err(fault) => return failed(rt, PROGRAM, &fault),
     };
-    let Ok(words) = words.collect::<Vec<String>>(alloc) else {
-        return report_outcome(rt, &Err(ProgramFault::OutOfMemory));
-    };
-    match Arguments::read(alloc, words.as_slice()) {
-        Err(error) => refused(rt, &error),
+    match Arguments::read(rt.alloc(), words.as_slice()) {
+        Err(error) => refused(rt, PROGRAM, &error),
         Ok(asked) => print_run(rt, asked),
     }
 }
@@ -52,7 +41,7 @@ fn print_run(rt: &HostRuntime, asked: Arguments) -> u8
     ensures { result ≤ 5 }
 {
     let Ok(mut lines) = Lines::new(rt.alloc(), Retrying::new(rt.stdout())) else {
-        return report_outcome(rt, &Err(ProgramFault::OutOfMemory));
+        return failed(rt, PROGRAM, &ProgramFault::OutOfMemory);
     };
     // Standard input is an input too, where it is a plain file that has a name.
     let stream = asked.stream.unwrap_or("/dev/stdin");
@@ -224,26 +213,7 @@ fn report_outcome(rt: &HostRuntime, ended: &Result<Totals, ProgramFault>) -> u8
     ensures { result ≡ exit_status ended.now }
 {
     if let Err(fault) = ended {
-        let _ = eprintln!(rt; "giopdump: {fault}");
+        return failed(rt, PROGRAM, fault);
     }
     status(ended)
-}
-
-/// Prints why the arguments can't be read, or the help that they ask for.
-fn refused(rt: &HostRuntime, error: &Error) -> u8
-    ensures memory { kind_of error.now ≡ ErrorKind.OutOfMemory → result ≡ 5 }
-    ensures shown { (kind_of error.now ≡ ErrorKind.DisplayHelp)
-        ⊎ (kind_of error.now ≡ ErrorKind.DisplayVersion) → (result ≡ 0) ⊎ (result ≡ 4) }
-    ensures mistake { kind_of error.now ≢ ErrorKind.OutOfMemory
-        → kind_of error.now ≢ ErrorKind.DisplayHelp → kind_of error.now ≢ ErrorKind.DisplayVersion
-        → (result ≡ 2) ⊎ (result ≡ 4) }
-{
-    if error.kind() == ErrorKind::OutOfMemory {
-        return report_outcome(rt, &Err(ProgramFault::OutOfMemory));
-    }
-    match error.print(rt) {
-        Err(_) => FAILED,
-        Ok(()) if error.use_stderr() => USAGE,
-        Ok(()) => 0,
-    }
 }

@@ -1,6 +1,8 @@
-//! Runs: octets from a source through an engine to an out; and the files that a run reads and saves.
+//! Runs: octets from a source through an engine to an out; the files that a run reads and saves; and what both programs do
+//! around their steps.
 #![tactic(auto)]
 
+mod command_line;
 mod console;
 mod fault;
 mod files;
@@ -16,6 +18,7 @@ mod saving;
 mod shown_name;
 mod source;
 
+pub use command_line::{failed, refused, words};
 pub use console::{dump, status};
 pub use fault::{ProgramFault, RunFault, SourceFault};
 pub use files::{catalogue, front, requests, unreadable};

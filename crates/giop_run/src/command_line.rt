@@ -1,0 +1,60 @@
+//! What both programs do around their steps: they take the words of the command line, and say why these or a step failed
+//! (docs/FORMATS.md, The program).
+
+ghost use Rattle.std.specs.Prelude.{◌≡◌, ◌≢◌, ◌⊎◌, IfErr};
+ghost use Rattle.clap.specs.Values.{kind_of};
+ghost use Rattle.giop_run.specs.Console.{fault_status};
+
+use super::fault::ProgramFault;
+use clap::Error;
+use clap::error::ErrorKind;
+use std::env;
+
+/// The status where the arguments can't be read.
+const USAGE: u8 = 2;
+
+/// The status where the help can't be printed.
+const FAILED: u8 = 4;
+
+/// The words of the command line, the first of which is the program's name.
+pub fn words<'a>(rt: &HostRuntime) -> Result<Vec<String>, ProgramFault<'a>>
+    ensures { IfErr result (λ fault.
+        (fault ≡ ProgramFault.Words) ⊎ (fault ≡ ProgramFault.OutOfMemory)) }
+{
+    let words = match env::args(rt) {
+        Ok(words) => words,
+        Err(error) => return Err(ProgramFault::of_words(&error)),
+    };
+    match words.collect::<Vec<String>>(rt.alloc()) {
+        Ok(words) => Ok(words),
+        Err(_) => Err(ProgramFault::OutOfMemory),
+    }
+}
+
+/// Prints why the program of this name failed, and returns its status.
+pub fn failed(rt: &HostRuntime, program: &str, fault: &ProgramFault) -> u8
+    ensures { result ≡ fault_status fault.now }
+{
+    let _ = eprintln!(rt; "{program}: {fault}");
+    fault.status()
+}
+
+/// Prints why the arguments of the program of this name can't be read, or the help that they ask for, and returns its
+/// status.
+pub fn refused(rt: &HostRuntime, program: &str, error: &Error) -> u8
+    ensures memory { kind_of error.now ≡ ErrorKind.OutOfMemory → result ≡ 5 }
+    ensures shown { (kind_of error.now ≡ ErrorKind.DisplayHelp)
+        ⊎ (kind_of error.now ≡ ErrorKind.DisplayVersion) → (result ≡ 0) ⊎ (result ≡ 4) }
+    ensures mistake { kind_of error.now ≢ ErrorKind.OutOfMemory
+        → kind_of error.now ≢ ErrorKind.DisplayHelp → kind_of error.now ≢ ErrorKind.DisplayVersion
+        → (result ≡ 2) ⊎ (result ≡ 4) }
+{
+    if error.kind() == ErrorKind::OutOfMemory {
+        return failed(rt, program, &ProgramFault::OutOfMemory);
+    }
+    match error.print(rt) {
+        Err(_) => FAILED,
+        Ok(()) if error.use_stderr() => USAGE,
+        Ok(()) => 0,
+    }
+}
