@@ -53,14 +53,15 @@ const CAPTURE_HELP: &str =
 const EXAMPLES: &str = "\
 A capture is dumped as it is written, or from a file:
 
-    tcpdump -U -w - port 2809 | giopcap --signatures orders.sig
+    tcpdump -i any -U -w - port 2809 | giopcap --signatures orders.sig
     giopcap --signatures orders.sig orders.pcap
 
 The slowest calls are the last of
 
     giopcap orders.pcap | grep ' answers ' | sort -k8 -n
 
-docs/FORMATS.md has every line, fault and status; docs/SIGNATURES.md says how IDL becomes a signature file.";
+FORMATS.md has every line, fault and status, and SIGNATURES.md says how IDL becomes a signature file (docs/ of the
+sources, /usr/share/doc/giopdump/docs of the package).";
 
 /// What the arguments ask for: each file by its name; no name has a special meaning.
 #[derive(Debug, Drop)]
@@ -101,6 +102,11 @@ fn number_option<'a>(
         .default_value(default)
 }
 
+/// The option for the memory of payloads that wait.
+fn pool_option<'a>(alloc: Global) -> Arg<'a> {
+    number_option(alloc, "pool", POOL_HELP, (LEAST_POOL, MOST_POOL), "16384").value_name("KIB")
+}
+
 /// The option that chooses a port, and may be given more than once.
 fn port_option<'a>(alloc: Global) -> Arg<'a> {
     Arg::new(alloc, "port")
@@ -133,7 +139,7 @@ fn command<'a>(alloc: Global) -> Result<Command<'a>, AllocError> {
         ))?
         .arg(number_option(alloc, "open", OPEN_HELP, (1, MOST_OPEN), "16"))?
         .arg(number_option(alloc, "calls", CALLS_HELP, (1, MOST_KNOWN), "128"))?
-        .arg(number_option(alloc, "pool", POOL_HELP, (LEAST_POOL, MOST_POOL), "16384"))?
+        .arg(pool_option(alloc))?
         .arg(Arg::new(alloc, "CAPTURE").help(CAPTURE_HELP))
 }
 

@@ -50,7 +50,8 @@ A stream in parts is dumped one after the other, with the same two files:
     giopdump --resume c --save c second.giop
     giopdump --resume c last.giop
 
-docs/FORMATS.md has every line, fault and status; docs/SIGNATURES.md says how IDL becomes a signature file.";
+FORMATS.md has every line, fault and status, and SIGNATURES.md says how IDL becomes a signature file (docs/ of the
+sources, /usr/share/doc/giopdump/docs of the package).";
 
 /// What the arguments ask for: each file by its name; no name has a special meaning.
 #[derive(Clone, Copy, Debug, Drop, PartialEq, Eq)]
