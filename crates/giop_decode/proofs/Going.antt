@@ -1,5 +1,5 @@
 -- What comes next after a part that has ended: the next of several parts, or the rest of an encapsulation.
-use Rattle.std.proofs.Common.{◌≡◌, ℕ, zero, suc, ◌+◌, ◌-◌, ◌<◌, ◌≤◌, List, [], ◌∷◌, ◌++◌, length, Some, None, refl, ◌∙◌, ap, subst, arith}
+use Rattle.std.proofs.Common.{◌≡◌, ℕ, zero, suc, ◌+◌, ◌-◌, ◌<◌, ◌≤◌, List, [], ◌∷◌, ◌++◌, length, Some, None, refl, sym, ◌∙◌, ap, subst, arith}
 use Rattle.std.specs.List.{AllByRecursion}
 use Rattle.giop_decode.specs.ReadResult.{Coding, PathSegment, OpenPart, Part, Member, Done, Short, coded, Inside, Content}
 use Rattle.giop_decode.specs.ReadingSteps.{around, path_in, coding_in}
@@ -7,6 +7,7 @@ use Rattle.giop_decode.specs.Fits.{HasParts, HasCase, IsOpen, OpenFrom, IsEncaps
 use Rattle.giop_decode.specs.Begins.{start_outer, start_leaf}
 use Rattle.giop_decode.specs.Transitions.{IsWithin, part_in, open_part_in, open_part, open_parts, IsKnown, AreKnown}
 use Rattle.giop_decode.specs.declared.frame.Frame.{Frame}
+use Rattle.giop_decode.specs.NextParts.{frames_above}
 use Rattle.giop_decode.specs.Pieces.{full_pieces}
 use Rattle.giop_decode.proofs.TransitionLaws.{content_none}
 use Rattle.giop_decode.proofs.Beginning.{map_push}
@@ -174,6 +175,11 @@ held_popped C at items rest f order known are_open e some =
       front = p.inner.front;
       is = ap (λ x. open_part_in at x (tree C f.of.0) f.index f.count) some;
     }
+
+-- what is left where the innermost frame is removed
+pub popped_is : (old new : List Frame) (f : Frame) → new ≡ frames_above old →
+    old ≡ frames_above old ++ f ∷ [] → old ≡ new ++ f ∷ []
+popped_is old new f e is = is ∙ ap (λ fs. fs ++ f ∷ []) (sym e)
 
 pub length_places : (C : Table) (at : ℕ) (frames : List Frame) →
     length (open_parts C at frames) ≡ length frames

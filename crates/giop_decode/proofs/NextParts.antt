@@ -34,7 +34,7 @@ use Rattle.giop_decode.specs.Runs.{AreAnswered, TakenTogether, TakesRun, added_l
 use Rattle.giop_decode.specs.Transitions.{AreKnown, IsKnown, IsOutput, Link, StandAt, gone_on, is_inside, leaf_type, open_part, open_parts, part_in}
 use Rattle.giop_decode.proofs.Advancing.{comes_by, goes, same_some, stands_at, step_fits}
 use Rattle.giop_decode.proofs.Beginning.{all_push, map_push}
-use Rattle.giop_decode.proofs.Going.{PartPopped, Next, all_pop, part_popped, next_in, goes_next, part_is}
+use Rattle.giop_decode.proofs.Going.{PartPopped, Next, part_popped, next_in, goes_next, part_is}
 use Rattle.giop_decode.proofs.Surrounding.{ahead_by, around_unless_ended, behind_stopped, free_ended, free_first, free_ticked, front_gone, inside_push, outside_pop, places_ticked}
 use Rattle.giop_decode.proofs.TransitionsInFrames.{around_done}
 use Rattle.giop_decode.proofs.FieldsRead.{here_spelled}
@@ -145,9 +145,6 @@ module _ (C : Table) (d : Decoder) (of : TypeId) (frame : Frame) (f : Fits C d) 
 
   pub place_next : HasPlace (shape_in (tree C frame.of.0)) (frame.index + 1)
   place_next = rw add-one follows.placed
-
-  pub known_frame : IsKnown C frame
-  known_frame = (all_pop (IsKnown C) (frames_above d.outer.items) frame (subst (AreKnown C) outer f.known_outer)).1
 
 -- what holds of the octets of a number before the last of them
 pub record BeforeLast (T : Ty) (order : Order) (at : ℕ) (root : Root) (s octets : List ℕ) (count : ℕ) : Type 0 where

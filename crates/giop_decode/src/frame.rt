@@ -10,7 +10,7 @@ ghost use Rattle.giop_decode.specs.Begins.{start_outer, start_leaf};
 ghost use Rattle.giop_decode.specs.Transitions.{HasOctetsLeft, coding_of, tick_of, tick_by_of, ended_at, open_parts, AreKnown, HaveOctetsLeft, StandAt, IsClean, Link, IsWhole, coding_by, gone_on, has_ended, is_inside, leaf_type, ticked, ticked_by};
 ghost use Rattle.giop_sig.specs.Fits.{IsFit, IsEmptyStruct, IsRoot};
 ghost use Rattle.giop_decode.specs.NotingSteps.{leaf_in_string};
-ghost use Rattle.giop_decode.specs.NextParts.{next_of};
+ghost use Rattle.giop_decode.specs.NextParts.{frames_above, next_of};
 ghost use Rattle.giop_sig.specs.Trees.{tree};
 
 use crate::leaf::Leaf;
@@ -270,22 +270,31 @@ pub(crate) fn begin(catalogue: &Catalogue, outer: &mut ArrayVec<Frame, 24>, t: T
     inner
 }
 
+/// The innermost of these parts.
+#[inline(always)]
+fn innermost(outer: &ArrayVec<Frame, 24>) -> Option<Frame>
+    ensures some { IfSome result (λ frame.
+        outer.now.items ≡ frames_above outer.now.items ++ frame ∷ []) }
+    ensures none { IfNone result (outer.now.items ≡ []) }
+{
+    let depth = outer.len();
+    if depth == 0 {
+        return None;
+    }
+    Some(outer[depth - 1])
+}
+
 /// Goes to the next part of the innermost of these parts.
 #[inline(always)]
 pub(crate) fn go_to_next(outer: &mut ArrayVec<Frame, 24>)
-    requires room { length outer.old.items ≤ 24 }
-    requires more { (frame : Frame) × (above : List Frame) ×
+    requires { (frame : Frame) × (above : List Frame) ×
         (outer.old.items ≡ above ++ frame ∷ []) × (frame.index < 2 ^ 32 - 1) }
     ensures { (above : List Frame) (frame : Frame) → outer.old.items ≡ above ++ frame ∷ [] →
         outer.new.items ≡ above ++ next_of frame ∷ [] }
 {
-    if let Some(frame) = outer.pop() {
-        let next = frame.index + 1;
-        outer.push(Frame {
-            index: next,
-            ..frame
-        });
-    }
+    let last = outer.len() - 1;
+    let next = outer[last].index + 1;
+    outer[last].index = next;
 }
 
 /// Goes on after a part that has ended, and answers the innermost part that comes next, the rest of an encapsulation or
@@ -308,9 +317,10 @@ pub(crate) fn go_on(catalogue: &Catalogue, outer: &mut ArrayVec<Frame, 24>) -> O
         Link catalogue.now root outer.old.items inner →
         Link catalogue.now root outer.new.items (leaf_type leaf)) }
 {
-    while let Some(frame) = outer.pop() {
+    while let Some(frame) = innermost(outer) {
         match frame.inside {
             Some(_) => {
+                outer.pop();
                 let left = frame.count - frame.index;
                 if left > 0 {
                     return Some(Leaf::Content {
@@ -323,11 +333,11 @@ pub(crate) fn go_on(catalogue: &Catalogue, outer: &mut ArrayVec<Frame, 24>) -> O
             None => {
                 let last = frame.count.saturating_sub(1);
                 if frame.index < last {
-                    let index = frame.index + 1;
-                    outer.push(Frame { index, ..frame });
-                    let part = catalogue.part(frame.of, index);
+                    go_to_next(outer);
+                    let part = catalogue.part(frame.of, frame.index + 1);
                     return Some(Leaf::Number(begin(catalogue, outer, part)));
                 }
+                outer.pop();
             }
         }
     }

@@ -1,5 +1,4 @@
-use Rattle.std.proofs.Common.{◌≡◌, ◌+◌, ◌-◌, ◌++◌, take, refl, subst, arith}
-use Rattle.giop_decode.proofs.Advancing.{stands}
+use Rattle.std.proofs.Common.{◌≡◌, ◌+◌, ◌-◌, ◌++◌, take, refl, subst}
 use Rattle.giop_decode.proofs.NextParts.{before_answers, part_fits, part_takes, part_text}
 use Rattle.giop_decode.proofs.Runs.{breaks_off, text_more, writes_broken}
 use Rattle.giop_decode.proofs.Segments.{said_none}
@@ -11,9 +10,6 @@ use Rattle.giop_print.specs.Output.{Wrote, WroteFront}
 use Rattle.giop_print.specs.Paths.{root_word}
 use Rattle.giop_print.proofs.Writing.{wrote-append, wrote-nil}
 use Rattle.giop_decode.proofs.decoder.Decoder.take_part.Goals as goal
-
-pub go_to_next-requires-clause-room : goal.go_to_next-requires-clause-room
-go_to_next-requires-clause-room g c = omega (arith, (stands c.args.catalogue.now c.args.self.now c.requires.fits).room)
 
 pub returns-in_err-part_line-clause-writes : goal.returns-in_err-part_line-clause-writes
 returns-in_err-part_line-clause-writes g c T order at message root s r =
