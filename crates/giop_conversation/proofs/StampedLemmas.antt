@@ -165,8 +165,8 @@ both_none None None e = (refl, refl)
 both_none None (Some y) e = absurd (false≢true e)
 both_none (Some x) q e = absurd (false≢true e)
 
-pub taken_by : (s : Exchanged) → (is_none s.answered && is_none s.raised) ≡ true → IsTaken s
-taken_by s e = (let both = both_none s.answered s.raised e in record { answered = both.0; raised = both.1 })
+pub none_waits : (s : Exchanged) → (is_none s.answered && is_none s.raised) ≡ true → IsTaken s
+none_waits s e = (let both = both_none s.answered s.raised e in record { answered = both.0; raised = both.1 })
 
 pub none_due : (s : Exchanged) (time : Option ℕ) → IsTaken s → answers_due s.answered time ++ raises_due s.raised ≡ []
 none_due s time none = ap (λ (o : Option Answering). answers_due o time ++ raises_due s.raised) none.answered ∙ ap raises_due none.raised
