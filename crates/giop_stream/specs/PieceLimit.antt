@@ -1,6 +1,6 @@
 -- How many octets of a stream may come in one piece, where something is to be written behind the octet that begins a message, or
 -- ends the header of a Reply or the name of an exception (meaning).
-use Rattle.std.specs.Prelude.{◌≡◌, ℕ, ◌+◌, ◌-◌, ◌^◌, List, [], ◌++◌, length, Option, Some, None, min, nat_lt, if◌then◌else◌}
+use Rattle.std.specs.Prelude.{◌≡◌, ℕ, ◌+◌, ◌-◌, ◌^◌, List, ◌++◌, length, Option, Some, None, min, nat_lt, if◌then◌else◌}
 use Rattle.giop_sig.specs.Table.{Table}
 use Rattle.giop_message.specs.Signatures.{Answers}
 use Rattle.giop_message.specs.Headers.{size}

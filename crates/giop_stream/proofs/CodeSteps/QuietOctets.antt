@@ -1,7 +1,7 @@
 -- Octets in which no message begins, and no Reply's header and no name of an exception ends: those before the last octet of a
 -- header of 12, and those of a message of which nothing more is told, or that is still in a value of its header.
 use Rattle.std.proofs.Common.{inl, inr, ◌≡◌, ℕ, suc, ◌+◌, ◌-◌, ◌<◌, ◌≤◌, Bool, true, false, List, [], ◌∷◌, ◌++◌, length, Option, Some, None, refl, sym, ap, subst, ◌∙◌, append_assoc, append-nil, arith}
-use Rattle.std.specs.Prelude.{◌⊎◌, ◌==◌, ◌||◌, ◌^◌, is_some, nat_lt, if◌then◌else◌}
+use Rattle.std.specs.Prelude.{◌⊎◌, ◌==◌, ◌^◌, is_some, nat_lt, if◌then◌else◌}
 use Rattle.std.proofs.lemmas.Bool.{cases_lt, lt-ltb, le-ltb, ne_eqb, false≢true}
 use Rattle.std.proofs.lemmas.List.{length_push}
 use Rattle.giop_checkpoint.specs.declared.fault.StreamFault.{StreamFault}
@@ -10,15 +10,13 @@ use Rattle.giop_sig.specs.Table.{Table}
 use Rattle.giop_message.specs.Signatures.{Answer, Answers, signatures_of}
 use Rattle.giop_message.proofs.MessageLaws.{is_causal, nothing_told, nothing_told_before, others_silent}
 use Rattle.giop_message.specs.Headers.{kind, size}
-use Rattle.giop_message.specs.declared.message.Message.{Message as CodeMessage}
-use Rattle.giop_message.specs.MessageState.{Follows}
 use Rattle.giop_message.specs.HeaderEnds.{HeaderEnd, Header_end, Exception_end, told_after, header_ends, AreSilent}
 use Rattle.giop_stream.specs.HeaderOctets.{wrong}
 use Rattle.giop_stream.specs.Rules.{Rules, rules_by}
 use Rattle.giop_stream.specs.Framing.{Message, Cut, limit, cut, messages, fault_of}
 use Rattle.giop_stream.specs.Events.{MessageKey, Takes, open_after}
 use Rattle.giop_stream.specs.Effects.{Tracked, tracked_after, with_octet}
-use Rattle.giop_stream.specs.SlotsRepresent.{RepresentsMessage, SlotsRepresent, effect_to}
+use Rattle.giop_stream.specs.SlotsRepresent.{SlotsRepresent, effect_to}
 use Rattle.giop_stream.specs.PayloadOwner.{owner_of_next, owner_of_next_in}
 use Rattle.giop_stream.specs.HeaderEndsOfStream.{reply_told_after, owner_told_after, run_header_ends, owner_header_ends, current_header_ends, header_ends_at, header_ends_from}
 use Rattle.giop_stream.specs.PieceLimit.{IsQuiet, room, up_to, limit_in, piece_limit}

@@ -1,4 +1,4 @@
-use Rattle.std.proofs.Common.{◌≡◌, Option, Some, None, ℕ, length, min, arith, sym, ap, ◌∙◌}
+use Rattle.std.proofs.Common.{Some, None, min, arith, sym, ap, ◌∙◌}
 use Rattle.giop_stream.specs.FramingView.{framing_view}
 use Rattle.giop_stream.proofs.CodeSteps.OutsideMessages.{none_by}
 use Rattle.giop_stream.proofs.CodeSteps.QuietOctets.{limit_stopped, limit_head, limit_payload}

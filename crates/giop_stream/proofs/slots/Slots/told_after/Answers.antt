@@ -1,4 +1,4 @@
-use Rattle.std.proofs.Common.{◌≡◌, Option, None, ℕ, sym}
+use Rattle.std.proofs.Common.{◌≡◌, sym}
 use Rattle.giop_stream.specs.HeaderEndsOfStream.{owner_told_after}
 use Rattle.giop_stream.proofs.SlotSteps.SlotLists.{none_behind}
 use Rattle.giop_stream.proofs.SlotSteps.EventsOnSlots.{slot_has, slot_kept, no_slot_says}
