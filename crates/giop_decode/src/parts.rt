@@ -61,12 +61,12 @@ impl Decoder {
         ensures body { IsTrue result → is_header_root self.now.root ≡ false }
         ensures outside { IsTrue result → self.now.inside ≡ false }
     {
-        if is_header(self.root) || self.inside || octets.len() < RUN {
-            return false;
-        }
         let Some(Leaf::Number(_)) = self.leaf else {
             return false;
         };
+        if is_header(self.root) || self.inside || octets.len() < RUN {
+            return false;
+        }
         let depth = self.outer.len();
         if depth == 0 {
             return false;
