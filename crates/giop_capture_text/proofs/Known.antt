@@ -1,0 +1,55 @@
+-- What is known of a reader at its end, of a writer that was flushed, and of a dump at every port.
+use Rattle.std.proofs.Common.{◌≡◌, ℕ, List, [], ◌++◌, length, Option, Some, None, ◌⊎◌, inl, inr, append_assoc, append-nil, sym, ap, subst, ◌∙◌}
+use Rattle.std.specs.Io.KnownBytes.{Keeps, Consumes, IsAtEnd, append_known}
+use Rattle.capture_file.specs.Reading.{packets}
+use Rattle.tcp_connections.specs.Connections.{none_known}
+use Rattle.giop_conversation.specs.Followed.{reader_faulted}
+use Rattle.giop_capture_run.specs.Arrivals.{capture_ended}
+use Rattle.giop_capture_program.specs.Text.{HasText}
+use Rattle.giop_capture_text.specs.Dumps.{plain_setup}
+
+-- what was given of known octets, and what was read of it: either nothing was left, or there is another reason to stop
+pub record Front (X : Type 0) (all read : List ℕ) : Type 0 where
+  pub rest : List ℕ
+  pub parts : all ≡ read ++ rest
+  pub over : (rest ≡ []) ⊎ X
+
+front_by : {X : Type 0} (after : Option (List ℕ)) (all given read rest : List ℕ) → Consumes (Some all) after given
+    → given ≡ read ++ rest → (IsAtEnd after × (rest ≡ [])) ⊎ X → Front X all read
+front_by None all given read rest consumed parts over = absurd consumed
+front_by (Some left) all given read rest consumed parts (inl over) = record {
+  rest = rest ++ left;
+  parts = consumed ∙ ap (λ xs. xs ++ left) parts ∙ append_assoc read rest left;
+  over = inl (rw over.1 over.0);
+}
+front_by (Some left) all given read rest consumed parts (inr x) = record {
+  rest = rest ++ left;
+  parts = consumed ∙ ap (λ xs. xs ++ left) parts ∙ append_assoc read rest left;
+  over = inr x;
+}
+
+pub front : {X : Type 0} (before after : Option (List ℕ)) (all given read rest : List ℕ) → before ≡ Some all
+    → Consumes before after given → given ≡ read ++ rest → (IsAtEnd after × (rest ≡ [])) ⊎ X → Front X all read
+front before after all given read rest known consumed parts over =
+    front_by after all given read rest (subst (λ b. Consumes b after given) known consumed) parts over
+
+some_known : (after : Option (List ℕ)) (w : List ℕ) → Keeps (Some w) after → after ≡ Some w
+some_known None w kept = absurd kept
+some_known (Some xs) w kept = ap Some kept
+
+-- octets that are known stay over a flush, and then all of them are in the writer
+pub held : (before after : Option (List ℕ)) (items kept text : List ℕ) → before ≡ Some text → Keeps before after
+    → append_known (Some items) kept ≡ after → kept ≡ [] → Some items ≡ Some text
+held before after items kept text known keeps seen none =
+    let all = some_known after text (subst (λ b. Keeps b after) known keeps) in
+    ap Some (sym (append-nil items)) ∙ subst (λ k. append_known (Some items) k ≡ after) none seen ∙ all
+
+-- the text of a capture where streams begin at these ports
+abbrev pub TextAt : (ports read : List ℕ) (put : Option (List ℕ)) → Type 0
+TextAt ports read put =
+    HasText plain_setup [] (capture_ended reader_faulted (none_known ports 16384 256 []) read).events
+    (length (packets read)) (length read) put
+
+pub at_every_port : (ports read : List ℕ) (put : Option (List ℕ)) → ports ≡ [] → TextAt ports read put
+    → TextAt [] read put
+at_every_port ports read put none h = subst (λ it. TextAt it read put) none h

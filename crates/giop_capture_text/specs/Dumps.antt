@@ -1,0 +1,24 @@
+-- What a dump of a capture in memory is, by the built-in types and the limits without words (meaning).
+use Rattle.std.specs.Prelude.{◌≡◌, ℕ, List, [], ◌++◌, length, Some, IsSome, ◌⊎◌}
+use Rattle.capture_file.specs.Reading.{packets, fault}
+use Rattle.giop_sig.specs.Builtin.{builtin_table}
+use Rattle.tcp_connections.specs.Connections.{none_known}
+use Rattle.giop_conversation.specs.Captured.{Setup, setup}
+use Rattle.giop_conversation.specs.Followed.{reader_faulted}
+use Rattle.giop_capture_run.specs.Arrivals.{capture_ended}
+use Rattle.giop_capture_program.specs.Text.{HasText}
+
+-- 16 open messages a stream, 128 outstanding calls a flow, 256 connections
+abbrev pub plain_setup : Setup
+plain_setup = setup builtin_table 16 128 256
+
+-- A text is that of what a capture's packets, its fault and its end do to no known connections, with its last line, and no more;
+-- behind its fault nothing of it was read, and without one it was read to its end.
+pub record IsDumpOf (capture text : List ℕ) : Type 0 where
+  pub read : List ℕ
+  pub rest : List ℕ
+  pub parts : capture ≡ read ++ rest
+  pub over : (rest ≡ []) ⊎ IsSome (fault read)
+  pub is : HasText plain_setup []
+      (capture_ended reader_faulted (none_known [] 16384 256 []) read).events
+      (length (packets read)) (length read) (Some text)

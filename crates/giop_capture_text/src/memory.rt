@@ -1,0 +1,52 @@
+//! What the steps of `giopcap` are handed in place of the system: a capture in memory, and nobody who is told of link types.
+
+ghost use Rattle.std.specs.Prelude.{None, Some};
+
+use giop_capture_run::Notices;
+use giop_run::Inputs;
+use std::alloc::Global;
+use std::io;
+use std::io::ErrorKind;
+
+/// Standard input has these octets, and there are no files.
+#[derive(Clone, Copy)]
+pub struct Memory<'a> {
+    pub alloc: Global,
+    pub octets: &'a [u8],
+}
+
+impl Alloc for Memory<'_> {
+    type A = Global;
+
+    fn alloc(&self) -> Global {
+        self.alloc
+    }
+}
+
+impl<'a> Inputs for Memory<'a> {
+    type File = &'a [u8];
+
+    type Standard = &'a [u8];
+
+    ghost held = { λ _ _. None };
+
+    ghost given = { λ m. Some m.octets.now };
+
+    fn open(&self, _name: &str) -> io::Result<&'a [u8]> {
+        Err(io::Error::from(ErrorKind::NotFound))
+    }
+
+    fn standard_input(&self) -> &'a [u8] {
+        self.octets
+    }
+}
+
+/// Nobody is told of link types that aren't read.
+#[derive(Drop)]
+pub struct Nobody;
+
+impl Notices for Nobody {
+    ghost told = { λ _ _. Unit {0} };
+
+    fn link_is_unread(&mut self, _link: u16) {}
+}
