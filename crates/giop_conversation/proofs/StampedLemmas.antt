@@ -15,7 +15,6 @@ use Rattle.giop_stream.specs.PieceLimit.{IsQuiet}
 use Rattle.giop_stream.proofs.StreamLaws.{added_both_by, header_ends_both, silent_behind}
 use Rattle.giop_conversation.specs.Lines.{time_line}
 use Rattle.giop_conversation.specs.Exchanges.{Exchanged, Answering, Raising, answer_of, notified}
-use Rattle.giop_stream.specs.Framing.{cut, messages}
 use Rattle.giop_stream.specs.Stream.{text}
 use Rattle.giop_conversation.specs.Stamped.{begun, time_due, answers_due, raises_due, told, taken, lines_due, exchanged, stamped}
 

@@ -1,6 +1,6 @@
 -- What calls of a direction write, by what the calls in them do.
-use Rattle.std.proofs.Common.{◌≡◌, ℕ, ◌+◌, true, false, ◌<◌, ◌≤◌, List, [], ◌++◌, length, length-take, min, take, drop, Option, Some, None, Result, Ok, Err, MatchResult, refl, sym, ap, subst, ◌∙◌, arith, append-nil, append_assoc, take-add, nat_lt, if◌then◌else◌}
-use Rattle.std.proofs.lemmas.List.{take-append-drop, take_all, drop_all}
+use Rattle.std.proofs.Common.{◌≡◌, ℕ, ◌+◌, true, false, ◌≤◌, List, [], ◌++◌, length, length-take, min, take, drop, Option, Some, None, Result, Ok, Err, refl, sym, ap, subst, ◌∙◌, arith, append-nil, append_assoc, take-add, nat_lt, if◌then◌else◌}
+use Rattle.std.proofs.lemmas.List.{take-append-drop, take_all}
 use Rattle.std.proofs.lemmas.Bool.{false≢true}
 use Rattle.giop_print.specs.Output.{OutLog, Wrote, WroteFront, Writes}
 use Rattle.giop_print.proofs.Writing.{wrote-nil, wrote-append, wrote-front, front-append}
@@ -17,11 +17,10 @@ use Rattle.giop_stream.specs.declared.fault.Stop.{Stop}
 use Rattle.giop_stream.specs.declared.fault.Stop.TheVariants as stop
 use Rattle.giop_stream.specs.EngineView.{EngineView}
 use Rattle.giop_stream.specs.EngineHolds.{HoldsBy, StopWrites, Leaves, added, rules_with}
-use Rattle.giop_stream.specs.Stream.{text}
 use Rattle.tcp_segment.specs.declared.endpoint.Flow.{Flow}
 use Rattle.giop_conversation.specs.Tags.{with_tags, tagged}
 use Rattle.giop_conversation.specs.TaggedText.{ends_line, is_due, stopped_at}
-use Rattle.giop_conversation.specs.TaggedState.{Tagging, tagging_log, IsReady, WroteTaggedFront}
+use Rattle.giop_conversation.specs.TaggedState.{Tagging, tagging_log, IsReady}
 use Rattle.giop_conversation.specs.Lines.{time_line}
 use Rattle.giop_conversation.specs.Exchanges.{Exchanged, answer_of, notified}
 use Rattle.giop_conversation.specs.StreamReads.{AgreeWith, IsSetAlike, HasCome, HasStood, WritesTagged, reading_in}

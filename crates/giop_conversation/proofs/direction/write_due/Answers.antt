@@ -1,10 +1,10 @@
-use Rattle.std.proofs.Common.{◌≡◌, ◌∙◌, List, ℕ, ◌++◌, [], sym, ap, subst, append-nil, if◌then◌else◌, nat_lt}
+use Rattle.std.proofs.Common.{◌∙◌, List, ℕ, ◌++◌, [], sym, ap, subst, append-nil, if◌then◌else◌, nat_lt}
 use Rattle.giop_print.specs.Output.{Writes}
 use Rattle.giop_print.proofs.Writing.{front-append}
 use Rattle.giop_conversation.specs.TaggedState.{tagging_log}
 use Rattle.giop_conversation.specs.Lines.{time_line}
 use Rattle.giop_conversation.specs.Stamped.{answers_due, raises_due}
-use Rattle.giop_conversation.proofs.StampedLemmas.{IsTaken, none_waits, taken_stays, none_due}
+use Rattle.giop_conversation.proofs.StampedLemmas.{none_waits, taken_stays, none_due}
 use Rattle.giop_conversation.proofs.StreamReadLemmas.{writes_both}
 use Rattle.giop_conversation.proofs.direction.write_due.Goals as goal
 

@@ -1,8 +1,8 @@
-use Rattle.std.proofs.Common.{ℕ, ◌+◌, ◌++◌, ◌≤◌, length, take, drop, take-add, append-nil, append_assoc, length-drop, ◌∙◌, arith, refl}
+use Rattle.std.proofs.Common.{ℕ, ◌+◌, ◌++◌, ◌≤◌, length, take, drop, take-add, append-nil, append_assoc, ◌∙◌, arith, refl}
 use Rattle.std.proofs.lemmas.List.{take_all}
 use Rattle.giop_print.proofs.Writing.{rest_from}
 use Rattle.giop_stream.specs.EngineHolds.{rules_with}
-use Rattle.std.proofs.Common.{◌≡◌, Result, Err, MatchResult, subst, sym, ap}
+use Rattle.std.proofs.Common.{◌≡◌, Result, Err, subst, sym, ap}
 use Rattle.std.proofs.lemmas.Result.{MatchResult-from_err}
 use Rattle.giop_print.specs.Output.{WroteFront}
 use Rattle.giop_conversation.specs.Tags.{stream_tag, with_tags}
