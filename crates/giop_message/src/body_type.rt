@@ -21,7 +21,7 @@ use giop_sig::{Catalogue, Fixed, OpId, Shape, TypeId};
 
 /// The type of a body: none, this one, that of the exception whose repository id comes first, or that of a system
 /// exception.
-#[derive(Clone, Copy, Debug, PartialEq, Eq)]
+#[derive(Clone, Copy)]
 pub enum BodyTypeId {
     Nothing,
     Type(TypeId),

@@ -10,7 +10,7 @@ use giop_decode::Decoder;
 use giop_print::{Out, OutFault, Root, rest_line, split_rest_line};
 
 /// A part that is read as a value.
-#[derive(Clone, Copy, Debug, PartialEq, Eq)]
+#[derive(Clone, Copy)]
 pub enum Section {
     Header,
     /// The repository id of an exception.
@@ -50,7 +50,7 @@ impl Section {
 }
 
 /// The part of a message that the next octet belongs to.
-#[derive(Debug, Drop)]
+#[derive(Drop)]
 pub enum Part {
     /// A value that has begun and not ended.
     Typed(Section, Decoder),
@@ -60,7 +60,7 @@ pub enum Part {
 }
 
 /// The octets after the body, or after a header without one.
-#[derive(Debug, Drop)]
+#[derive(Drop)]
 pub struct Rest {
     // How many of them are before their last part: a multiple of 32.
     pub(crate) offset: u64,

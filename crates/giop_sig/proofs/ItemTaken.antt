@@ -20,12 +20,12 @@ use Rattle.giop_sig.specs.Table as nodes
 use Rattle.giop_sig.specs.Grammar.{Item, spell_length, spell_item, spell_items}
 use Rattle.giop_sig.specs.Scopes.{Scope, AddedType, part}
 use Rattle.giop_sig.specs.Validity.{IsFree, is_among, OfItem, OfItems}
-use Rattle.giop_sig.specs.ScopeViews.{IsKnown, IsScope}
+use Rattle.giop_sig.specs.ScopeViews.{IsScope}
 use Rattle.giop_sig.specs.Outcomes.{refused}
 use Rattle.giop_sig.specs.TypeReading.{TypeRead, added, enclosed_at, type_at}
 use Rattle.giop_sig.specs.ItemReading.{new_name_at, declared_at, array_type, ItemRead, item_at, Members, member_at, member_after, member_step, MembersRead, members_run, members_at, unless_closed, filled_at, new_repository_at}
 use Rattle.giop_sig.proofs.ReadingLaws.{Took}
-use Rattle.giop_sig.proofs.TypeTaken.{Grows, grows_none, grows_on, grows_known, Sound, sound_added, added_grows, added_is, node_known, TakenType, type_takes}
+use Rattle.giop_sig.proofs.TypeTaken.{Grows, grows_none, grows_on, grows_known, Sound, sound_added, added_grows, added_is, TakenType, type_takes}
 use Rattle.giop_sig.proofs.SizeTaken.{enclosed_takes, bound_free}
 
 -- ---- names
@@ -263,23 +263,24 @@ struct_formed at s text m e is =
     let t = members_takes at 257 [] [] s text m e in
     (let f = t.few in omega arith, (t.sound is (no_parts s)).parts)
 
-pub members_grow : (at : ℕ) (s : Scope) (text : List ℕ) (m : MembersRead) (p : AddedType)
+pub members_grow : (at : ℕ) (s : Scope) (text : List ℕ) (m : MembersRead) → members_at at s text ≡ Ok m → Grows s m.0
+members_grow at s text m e = (members_takes at 257 [] [] s text m e).grows
+
+pub exception_grows : (at : ℕ) (s : Scope) (text : List ℕ) (m : MembersRead) (p : AddedType)
     → members_at at s text ≡ Ok m → added at m.0 (nodes.members m.1) ≡ Ok p → Grows s p.0
-members_grow at s text m p e put = grows_on s m.0 p.0 (members_takes at 257 [] [] s text m e).grows (added_grows at m.0 (nodes.members m.1) p put)
+exception_grows at s text m p e put = grows_on s m.0 p.0 (members_grow at s text m e) (added_grows at m.0 (nodes.members m.1) p put)
 
 some_octet : (ps : List Part) → 0 < length ps → TakesOctet (nodes.members ps)
 some_octet [] lt = absurd (omega arith)
 some_octet (p ∷ ps) lt = tt
 
--- a struct of some members can be a part
-pub struct_known : (at : ℕ) (s : Scope) (o f : List ℕ) (m : MembersRead) (p : AddedType)
-    → filled_at o ≡ Ok f → members_at at s f ≡ Ok m → added at m.0 (nodes.members m.1) ≡ Ok p
-    → IsKnown (p.0).table.types p.1
-struct_known at s o f m p fill e put =
+-- a struct of some members takes an octet
+pub struct_takes : (at : ℕ) (s : Scope) (o f : List ℕ) (m : MembersRead)
+    → filled_at o ≡ Ok f → members_at at s f ≡ Ok m → TakesOctet (nodes.members m.1)
+struct_takes at s o f m fill e =
     let k = filled_takes o f fill in
     let some : mark_if marks.CloseBrace f ≡ Ok None = subst (λ t. mark_if marks.CloseBrace t ≡ Ok None) k.0 k.1 in
-    subst (λ (q : AddedType). IsKnown (q.0).table.types q.1) (sym (added_is at m.0 (nodes.members m.1) p put))
-    (node_known m.0 (nodes.members m.1) (some_octet m.1 ((members_takes at 257 [] [] s f m e).some some)))
+    some_octet m.1 ((members_takes at 257 [] [] s f m e).some some)
 
 -- a name that was new is still new
 pub still_new : (s t : Scope) (w : List ℕ) → Grows s t → lookup (bytes_eq w) s.names.known ≡ None

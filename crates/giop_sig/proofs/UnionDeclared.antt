@@ -11,14 +11,14 @@ use Rattle.giop_tokens.proofs.ReaderLaws.{bind_ok, ok_is, Takes, mark_takes, key
 use Rattle.giop_sig.specs.Table.{Node, node_at, IsScalarNode, IsFormed}
 use Rattle.giop_sig.specs.Table as nodes
 use Rattle.giop_sig.specs.Grammar.{TypeExpr, DeclaredUnion, spell_type, spell_cases}
-use Rattle.giop_sig.specs.Scopes.{Scope, AddedType, place, with_named}
+use Rattle.giop_sig.specs.Scopes.{Scope, place, with_named}
 use Rattle.giop_sig.specs.Validity.{OfType, IsDiscriminator, OfCases, OfDeclaration, placed_node}
-use Rattle.giop_sig.specs.ScopeViews.{IsKnown, IsScope}
+use Rattle.giop_sig.specs.ScopeViews.{IsScope}
 use Rattle.giop_sig.specs.Outcomes.{refused}
 use Rattle.giop_sig.specs.TypeReading.{TypeRead, added, type_at}
 use Rattle.giop_sig.specs.ItemReading.{declared_at, Declared}
 use Rattle.giop_sig.specs.UnionReading.{CasesRead, cases_at, can_switch, switch_at, union_at}
-use Rattle.giop_sig.proofs.TypeTaken.{Grows, grows_on, TakenType, type_takes, added_is, added_grows, node_known}
+use Rattle.giop_sig.proofs.TypeTaken.{Grows, grows_on, TakenType, type_takes}
 use Rattle.giop_sig.proofs.ItemTaken.{declared_takes}
 use Rattle.giop_sig.proofs.DeclaredLaws.{TakenDeclaration}
 use Rattle.giop_sig.proofs.UnionLaws.{node_stays}
@@ -76,17 +76,9 @@ union_formed at s a b t x e f is =
     let scalar = subst IsScalarNode (sym (node_stays t.0 x.0 t.1 c.grows below)) (discriminator_scalar (node_at (t.0).table t.1) k.is) in
     (record { below = omega arith; scalar = scalar }, c.few scope, c.parts scope, c.below scope)
 
-pub union_grows : (at : ℕ) (s : Scope) (a b : List ℕ) (t : TypeRead) (x : CasesRead) (p : AddedType)
-    → switch_at at s a ≡ Ok t → cases_at at t.1 t.0 b ≡ Ok x
-    → added at x.0 (union_node t.1 x) ≡ Ok p → Grows s p.0
-union_grows at s a b t x p e f put =
-    grows_on s t.0 p.0 (switch_taken at s a t e).grows (grows_on t.0 x.0 p.0 (cases_taken at t.1 t.0 b x f).grows (added_grows at x.0 (union_node t.1 x) p put))
-
--- a union can be a part
-pub union_known : (at switch : ℕ) (x : CasesRead) (p : AddedType)
-    → added at x.0 (union_node switch x) ≡ Ok p → IsKnown (p.0).table.types p.1
-union_known at switch x p put =
-    subst (λ (q : AddedType). IsKnown (q.0).table.types q.1) (sym (added_is at x.0 (union_node switch x) p put)) (node_known x.0 (union_node switch x) tt)
+pub union_grows : (at : ℕ) (s : Scope) (a b : List ℕ) (t : TypeRead) (x : CasesRead)
+    → switch_at at s a ≡ Ok t → cases_at at t.1 t.0 b ≡ Ok x → Grows s x.0
+union_grows at s a b t x e f = grows_on s t.0 x.0 (switch_taken at s a t e).grows (cases_taken at t.1 t.0 b x f).grows
 
 -- ---- the declaration
 

@@ -10,7 +10,7 @@ use Rattle.giop_tokens.specs.Tokens.{left_of}
 use Rattle.giop_tokens.specs.Reading.{◌>>=◌}
 use Rattle.giop_tokens.specs.Readers.{mark_at, mark_if, repository_at}
 use Rattle.giop_tokens.specs.Names.{identifier_at}
-use Rattle.giop_sig.specs.Table.{Part, exception_in}
+use Rattle.giop_sig.specs.Table.{Node, Part, exception_in}
 use Rattle.giop_sig.specs.Table as nodes
 use Rattle.giop_sig.specs.Scopes.{Scope, AddedType, part, with_named, with_raised}
 use Rattle.giop_sig.specs.Validity.{is_among}
@@ -112,6 +112,13 @@ filled_at text = do
 
 abbrev pub Declared : Type 0
 Declared = Scope × List ℕ
+
+-- the end of an enum, struct or union: its mark, and its type by its name
+abbrev pub type_end_at : ℕ → List ℕ → Scope → Node → List ℕ → Result Declared Refusal
+type_end_at at name s node text = do
+  r ← mark_at marks.Semicolon text
+  p ← added at s node
+  Ok (with_named name p, r)
 
 unfoldable pub structure_at : Scope → List ℕ → Result Declared Refusal
 structure_at s text = do

@@ -8,7 +8,7 @@ ghost use Rattle.giop_sig.specs.EnumReading.{enumerator_at, names_step, too_many
 use crate::draft::Draft;
 use crate::entries::Entry;
 use crate::parse_stop::ParseStop;
-use crate::read_items::declared_at;
+use crate::read_items::{declared_at, type_end_at};
 use crate::read_types::refused;
 use giop_tokens::{Mark, SigFaultKind, identifier, left_of, mark, starts_with_mark};
 use std::alloc::Global;
@@ -112,8 +112,5 @@ pub(crate) fn enumeration<'a>(
     let (name, rest) = declared_at(draft, count, text)?;
     let rest = mark(rest, Mark::OpenBrace)?;
     let (names, rest) = names_at(alloc, rest)?;
-    let rest = mark(rest, Mark::Semicolon)?;
-    let t = draft.add(left_of(text), Entry::Enumeration(names))?;
-    draft.name_type(name, t)?;
-    Ok(rest)
+    type_end_at(draft, left_of(text), name, Entry::Enumeration(names), rest)
 }

@@ -1,13 +1,15 @@
 //! Reading members: items, structs and exceptions.
-ghost use Rattle.std.specs.Prelude.{◌≡◌, ◌<◌, length, map, IfSome};
+ghost use Rattle.std.specs.Prelude.{◌≡◌, ◌<◌, ◌≤◌, length, map, IfSome, None};
+ghost use Rattle.std.specs.Map.{lookup};
+ghost use Rattle.std.specs.Str.{bytes_eq};
 ghost use Rattle.giop_sig.specs.Outcomes.{Gives};
 ghost use Rattle.giop_sig.specs.Scopes.{part};
 ghost use Rattle.giop_sig.specs.ScopeViews.{IsKnown};
 ghost use Rattle.giop_sig.specs.TypeReading.{added};
 ghost use Rattle.giop_sig.specs.Validity.{is_among};
-ghost use Rattle.giop_sig.specs.Views.{part_view};
-ghost use Rattle.giop_sig.specs.Table.{array};
-ghost use Rattle.giop_sig.specs.ItemReading.{array_type, new_name_at, declared_at, item_at, member_step, members_at, filled_at, structure_at, new_repository_at, exception_at};
+ghost use Rattle.giop_sig.specs.Views.{node_view, part_view};
+ghost use Rattle.giop_sig.specs.Table.{IsFormed, TakesOctet, array};
+ghost use Rattle.giop_sig.specs.ItemReading.{array_type, new_name_at, declared_at, item_at, member_step, members_at, filled_at, type_end_at, structure_at, new_repository_at, exception_at};
 
 use crate::draft::Draft;
 use crate::entries::{Entry, PartEntry};
@@ -183,6 +185,29 @@ pub(crate) fn filled_at(text: &[u8]) -> Result<&[u8], ParseStop>
     }
 }
 
+/// The end of an enum, struct or union: its mark. Its type is added, by its name; what follows it.
+pub(crate) fn type_end_at<'a>(
+    draft: &mut Draft,
+    at: usize,
+    name: &[u8],
+    entry: Entry,
+    text: &'a [u8],
+) -> Result<&'a [u8], ParseStop>
+    requires formed { IsFormed draft.old.table.types (length draft.old.table.types)
+        (node_view entry) }
+    requires some { TakesOctet (node_view entry) }
+    requires short { length name.now ≤ 64 }
+    requires new { lookup (bytes_eq name.now) draft.old.names.known ≡ None }
+    requires few { draft.old.table.declared < 4096 }
+    ensures { Gives (λ x. (draft.new, x.now)) result
+        (type_end_at at name.now draft.old (node_view entry) text.now) }
+{
+    let rest = mark(text, Mark::Semicolon)?;
+    let t = draft.add(at, entry)?;
+    draft.name_type(name, t)?;
+    Ok(rest)
+}
+
 /// A struct, after its first word.
 #[tactic(auto, unfolding(crate::specs::ItemReading::structure_at))]
 pub(crate) fn structure_at<'a>(
@@ -199,10 +224,7 @@ pub(crate) fn structure_at<'a>(
     let rest = mark(rest, Mark::OpenBrace)?;
     let rest = filled_at(rest)?;
     let (parts, rest) = members_at(alloc, draft, at, rest)?;
-    let rest = mark(rest, Mark::Semicolon)?;
-    let t = draft.add(at, Entry::Members(parts))?;
-    draft.name_type(name, t)?;
-    Ok(rest)
+    type_end_at(draft, at, name, Entry::Members(parts), rest)
 }
 
 /// A repository id that is new.

@@ -13,7 +13,7 @@ use crate::draft::Draft;
 use crate::entries::{CaseEntry, Entry};
 use crate::labels::{LabelValue, label_number, value_at};
 use crate::parse_stop::ParseStop;
-use crate::read_items::{WORDS_MAX, declared_at, item_at, part_of};
+use crate::read_items::{WORDS_MAX, declared_at, item_at, part_of, type_end_at};
 use crate::read_types::{refused, type_at};
 use crate::types::{Selected, TypeId};
 use giop_cdr::{Number, Prim};
@@ -369,8 +369,6 @@ pub(crate) fn union<'a>(
     let rest = mark(rest, Mark::CloseParenthesis)?;
     let rest = mark(rest, Mark::OpenBrace)?;
     let (cases, rest) = cases_at(alloc, draft, at, switch, rest)?;
-    let rest = mark(rest, Mark::Semicolon)?;
-    let t = draft.add(at, Entry::Union(switch, cases.cases, cases.otherwise))?;
-    draft.name_type(name, t)?;
-    Ok(rest)
+    let entry = Entry::Union(switch, cases.cases, cases.otherwise);
+    type_end_at(draft, at, name, entry, rest)
 }

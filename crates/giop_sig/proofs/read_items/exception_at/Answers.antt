@@ -1,5 +1,5 @@
 use Rattle.std.proofs.Common.{length, ap, arith}
-use Rattle.giop_sig.proofs.ItemTaken.{declared_takes, struct_formed, members_grow, still_new, new_repository_takes, still_different, added_below}
+use Rattle.giop_sig.proofs.ItemTaken.{declared_takes, struct_formed, exception_grows, still_new, new_repository_takes, still_different, added_below}
 use Rattle.giop_sig.proofs.read_items.exception_at.Goals as goal
 
 pub add-requires : goal.add-requires
@@ -10,12 +10,12 @@ raise-requires-clause-short c = (declared_takes c.args.draft.now _ _ _ c.in_ok-n
 
 pub raise-requires-clause-new : goal.raise-requires-clause-new
 raise-requires-clause-new c =
-    still_new c.args.draft.now c.add.new.self _ (members_grow _ c.args.draft.now _ _ (c.add.new.self, c.in_ok-t.t.0) c.in_ok-parts.ensures c.in_ok-t.ensures)
+    still_new c.args.draft.now c.add.new.self _ (exception_grows _ c.args.draft.now _ _ (c.add.new.self, c.in_ok-t.t.0) c.in_ok-parts.ensures c.in_ok-t.ensures)
     (declared_takes c.args.draft.now _ _ _ c.in_ok-name.ensures).new
 
 pub raise-requires-clause-few : goal.raise-requires-clause-few
 raise-requires-clause-few c =
-    let g = members_grow _ c.args.draft.now _ _ (c.add.new.self, c.in_ok-t.t.0) c.in_ok-parts.ensures c.in_ok-t.ensures in
+    let g = exception_grows _ c.args.draft.now _ _ (c.add.new.self, c.in_ok-t.t.0) c.in_ok-parts.ensures c.in_ok-t.ensures in
     let d = declared_takes c.args.draft.now _ _ _ c.in_ok-name.ensures in
     let few = d.few in omega (arith, ap length g.exceptions, c.exceptions_declared-count.ensures)
 
@@ -25,7 +25,7 @@ raise-requires-clause-identity c = (new_repository_takes c.args.draft.now _ _ c.
 pub raise-requires-clause-different : goal.raise-requires-clause-different
 raise-requires-clause-different c =
     still_different c.args.draft.now c.add.new.self _
-    (members_grow _ c.args.draft.now _ _ (c.add.new.self, c.in_ok-t.t.0) c.in_ok-parts.ensures c.in_ok-t.ensures)
+    (exception_grows _ c.args.draft.now _ _ (c.add.new.self, c.in_ok-t.t.0) c.in_ok-parts.ensures c.in_ok-t.ensures)
     (new_repository_takes c.args.draft.now _ _ c.in_ok-repository.ensures).new
 
 pub raise-requires-clause-known : goal.raise-requires-clause-known

@@ -1,24 +1,23 @@
 use Rattle.std.proofs.Common.{arith}
-use Rattle.giop_sig.proofs.ItemTaken.{declared_takes, struct_formed, members_grow, struct_known, still_new}
+use Rattle.giop_sig.proofs.ItemTaken.{declared_takes, struct_formed, struct_takes, members_grow, still_new}
 use Rattle.giop_sig.proofs.read_items.structure_at.Goals as goal
 
-pub add-requires : goal.add-requires
-add-requires c = struct_formed _ c.args.draft.now _ _ c.in_ok-parts.ensures c.laws.ensures.scope
+pub type_end_at-requires-clause-formed : goal.type_end_at-requires-clause-formed
+type_end_at-requires-clause-formed c = struct_formed _ c.args.draft.now _ _ c.in_ok-parts.ensures c.laws.ensures.scope
 
-pub name_type-requires-clause-short : goal.name_type-requires-clause-short
-name_type-requires-clause-short c = (declared_takes c.args.draft.now _ _ _ c.in_ok-name.ensures).short
+pub type_end_at-requires-clause-some : goal.type_end_at-requires-clause-some
+type_end_at-requires-clause-some c = struct_takes _ c.args.draft.now _ _ _ c.in_ok-rest-2.ensures c.in_ok-parts.ensures
 
-pub name_type-requires-clause-new : goal.name_type-requires-clause-new
-name_type-requires-clause-new c =
-    still_new c.args.draft.now c.add.new.self _ (members_grow _ c.args.draft.now _ _ (c.add.new.self, c.in_ok-t.t.0) c.in_ok-parts.ensures c.in_ok-t.ensures)
+pub type_end_at-requires-clause-short : goal.type_end_at-requires-clause-short
+type_end_at-requires-clause-short c = (declared_takes c.args.draft.now _ _ _ c.in_ok-name.ensures).short
+
+pub type_end_at-requires-clause-new : goal.type_end_at-requires-clause-new
+type_end_at-requires-clause-new c =
+    still_new c.args.draft.now c.members_at.new.draft _ (members_grow _ c.args.draft.now _ _ c.in_ok-parts.ensures)
     (declared_takes c.args.draft.now _ _ _ c.in_ok-name.ensures).new
 
-pub name_type-requires-clause-few : goal.name_type-requires-clause-few
-name_type-requires-clause-few c =
-    let g = members_grow _ c.args.draft.now _ _ (c.add.new.self, c.in_ok-t.t.0) c.in_ok-parts.ensures c.in_ok-t.ensures in
+pub type_end_at-requires-clause-few : goal.type_end_at-requires-clause-few
+type_end_at-requires-clause-few c =
+    let g = members_grow _ c.args.draft.now _ _ c.in_ok-parts.ensures in
     let d = declared_takes c.args.draft.now _ _ _ c.in_ok-name.ensures in
     let few = d.few in omega (arith, g.declared, c.types_declared-count.ensures)
-
-pub name_type-requires-clause-known : goal.name_type-requires-clause-known
-name_type-requires-clause-known c =
-    struct_known _ c.args.draft.now _ _ _ (c.add.new.self, c.in_ok-t.t.0) c.in_ok-rest-2.ensures c.in_ok-parts.ensures c.in_ok-t.ensures
