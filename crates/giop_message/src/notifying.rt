@@ -1,7 +1,7 @@
 //! What the correspondent of a stream is told where the header of a message ends, and where the name of an exception that
 //! a Reply raises does.
 
-ghost use Rattle.std.specs.Prelude.{◌≡◌, ◌<◌, length, true};
+ghost use Rattle.std.specs.Prelude.{◌≡◌, ◌<◌, length, true, false, None};
 ghost use Rattle.std.specs.Option.{option_map};
 ghost use Rattle.giop_sig.specs.Table.{Table};
 ghost use Rattle.giop_decode.specs.ReadResult.{Read};
@@ -31,6 +31,7 @@ pub fn operation_of(
     requires header { length header.now ≡ 12 }
     ensures is { (r : Read) → KeepsNoted (root_of section) decoder.now r → is_header section ≡ true →
         result ≡ operation_of catalogue.now header.now (noted_of true r) }
+    ensures none { is_header section ≡ false → result ≡ None }
     ensures known { IsKnownOperation catalogue.now result }
 {
     match section {
