@@ -174,7 +174,8 @@ module _ (C : Table) (d : Decoder) (octets : List ℕ) (part : PartAhead) (f : F
   abbrev popped_part : PartPopped C (stands_at C d f (innermost.Number part.of) h.leaf).are_open.0 above part.frame
   popped_part = popped_frame C d part.of part.frame f h.leaf h.outside h.outer
 
-  module _ (new : Decoder) (next : TypeId) (follower : IsNextNumber C part.frame next) (n : IsAtNext C d new part next) (body : is_header_root d.root ≡ false) where
+  module _ (new : Decoder) (next : TypeId) (follower : IsNextNumber C part.frame next) (n : IsAtNext C d new part next)
+      (body : is_header_root d.root ≡ false) where
     new_free : is_inside new.outer.items ≡ false
     new_free = rw n.outer (push_free above (next_of part.frame) above_free none)
 

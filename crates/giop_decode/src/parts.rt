@@ -237,7 +237,8 @@ impl Decoder {
         Ok((part.count, Progress::More))
     }
 
-    /// Takes the octets of that number, which may be the last of its part, and writes its line, of which the front is spelled.
+    /// Takes the octets of that number, which may be the last of its part, and writes its line, of which the front is
+    /// spelled.
     #[inline(always)]
     fn take_last<O: Out>(
         &mut self,

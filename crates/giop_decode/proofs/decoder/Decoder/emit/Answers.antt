@@ -1,14 +1,4 @@
-use Rattle.std.proofs.Common.{◌+◌, [], ap, sym, ◌∙◌, arith, ◌≡◌}
-use Rattle.giop_decode.proofs.Advancing.{comes_by, moved, unended}
-use Rattle.giop_decode.proofs.Surrounding.{ahead_by, inside_ticked, known_ticked, length_ticked, places_ticked, stand_ticked}
-use Rattle.giop_decode.proofs.Linking.{link_ticked}
 use Rattle.giop_print.proofs.Writing.{writes_failed}
-use Rattle.giop_decode.specs.Noted.{ends_in_string}
-use Rattle.giop_decode.specs.DecoderSteps.{emitted}
-use Rattle.giop_decode.specs.ReadResult.{plain}
-use Rattle.giop_decode.specs.ReadingSteps.{around}
-use Rattle.giop_decode.specs.Transitions.{open_parts, Link, has_ended, still_held, after_transition}
-use Rattle.giop_sig.specs.Trees.{tree}
 use Rattle.giop_decode.proofs.decoder.Decoder.emit.Goals as goal
 
 pub write_line-requires-clause-room : goal.write_line-requires-clause-room

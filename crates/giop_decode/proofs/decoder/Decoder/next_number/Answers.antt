@@ -1,4 +1,4 @@
-use Rattle.std.proofs.Common.{◌+◌, arith}
+use Rattle.std.proofs.Common.{arith}
 use Rattle.giop_decode.proofs.NextParts.{place_next}
 use Rattle.giop_decode.proofs.decoder.Decoder.next_number.Goals as goal
 

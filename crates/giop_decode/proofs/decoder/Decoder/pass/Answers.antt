@@ -2,7 +2,6 @@ use Rattle.std.proofs.Common.{◌+◌, [], ap, sym, ◌∙◌, arith, ◌≡◌}
 use Rattle.giop_decode.proofs.Advancing.{comes_by, moved, unended}
 use Rattle.giop_decode.proofs.Surrounding.{ahead_by, inside_ticked, known_ticked, length_ticked, places_ticked, stand_ticked}
 use Rattle.giop_decode.proofs.Linking.{link_ticked}
-use Rattle.giop_print.proofs.Writing.{writes_failed}
 use Rattle.giop_decode.specs.Noted.{ends_in_string}
 use Rattle.giop_decode.specs.DecoderSteps.{emitted}
 use Rattle.giop_decode.specs.ReadResult.{plain}
@@ -12,7 +11,8 @@ use Rattle.giop_sig.specs.Trees.{tree}
 use Rattle.giop_decode.proofs.decoder.Decoder.pass.Goals as goal
 
 pub advance_frames-requires-clause-known_outer : goal.advance_frames-requires-clause-known_outer
-advance_frames-requires-clause-known_outer c = rw c.tick.ensures.ticked (known_ticked c.args.catalogue.now c.args.self.now.outer.items c.requires.around.ahead c.requires.around.known_outer)
+advance_frames-requires-clause-known_outer c =
+    rw c.tick.ensures.ticked (known_ticked c.args.catalogue.now c.args.self.now.outer.items c.requires.around.ahead c.requires.around.known_outer)
 
 pub advance_frames-requires-clause-encloses : goal.advance_frames-requires-clause-encloses
 advance_frames-requires-clause-encloses c = rw (c.tick.ensures.ticked, inside_ticked c.args.self.now.outer.items) c.requires.around.inside
@@ -27,8 +27,10 @@ pub advance_frames-requires-clause-fit : goal.advance_frames-requires-clause-fit
 advance_frames-requires-clause-fit c = rw (c.tick.ensures.ticked, length_ticked c.args.self.now.outer.items) c.requires.around.fit
 
 pub returns-clause-here : goal.returns-clause-here
-returns-clause-here c here h =
-    (omega (arith, h.0, c.advance_frames.ensures.at), c.advance_frames.ensures.stand (here + 1) (omega arith) (rw c.tick.ensures.ticked (stand_ticked here c.args.self.now.outer.items h.1)))
+returns-clause-here c here h = (
+  omega (arith, h.0, c.advance_frames.ensures.at),
+  c.advance_frames.ensures.stand (here + 1) (omega arith) (rw c.tick.ensures.ticked (stand_ticked here c.args.self.now.outer.items h.1)),
+)
 
 pub returns-clause-next : goal.returns-clause-next
 returns-clause-next c goes_on =
@@ -44,7 +46,8 @@ returns-clause-next c goes_on =
       known = λ leaf is. c.advance_frames.ensures.known leaf m is;
       clean = λ leaf is. c.advance_frames.ensures.clean leaf m is;
       link = λ root leaf before is.
-          let old : Link C root c.tick.new.outer.items c.args.of.0 = rw c.tick.ensures.ticked (link_ticked C root c.args.self.now.outer.items c.args.of.0 before) in
+          let old : Link C root c.tick.new.outer.items c.args.of.0 =
+          rw c.tick.ensures.ticked (link_ticked C root c.args.self.now.outer.items c.args.of.0 before) in
           c.advance_frames.ensures.link root leaf m old is;
       going = m;
       offset = λ leaf is. c.advance_frames.ensures.offset leaf m is;
@@ -63,7 +66,8 @@ returns-clause-steps c here lines says =
     let come = ap (λ qs. around (plain d.order) [] qs (after_transition C T transition d.carry held lines (here + 1))) pt ∙ s in
     let n = rw (c.as_slice.ensures.value, c.deref.ensures.0) at (c.note-named.ensures.named here (here + 1) lines) in
     let ended : c.has_ended-ended.result ≡ has_ended c.advance_frames.new.self.outer.items = rw (← c.as_slice-2.ensures.value) c.has_ended-ended.ensures in
-    comes_by C T c.advance_frames.new.self c.note-named.result c.has_ended-ended.result transition lines (here + 1) c.progress_of.result (emitted C d c.args.of.0 transition c.args.step.output lines here)
+    comes_by C T c.advance_frames.new.self c.note-named.result c.has_ended-ended.result transition lines (here + 1) c.progress_of.result
+    (emitted C d c.args.of.0 transition c.args.step.output lines here)
     (rw c.advance_frames.ensures.root (n says)) ended come c.progress_of.ensures
 
 pub returns-clause-inside : goal.returns-clause-inside

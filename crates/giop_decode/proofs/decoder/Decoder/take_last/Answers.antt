@@ -1,4 +1,4 @@
-use Rattle.std.proofs.Common.{◌≡◌, ◌+◌, ◌-◌, ◌<◌, [], ◌++◌, take, length, get_or, arith, sym, ◌∙◌, subst, ap, refl}
+use Rattle.std.proofs.Common.{◌≡◌, ◌+◌, ◌-◌, ◌<◌, [], ◌++◌, take, length, get_or, arith, sym, ◌∙◌, subst, ap}
 use Rattle.giop_decode.specs.declared.leaf.Step.{Step}
 use Rattle.giop_decode.specs.declared.leaf.Output.TheVariants as outputs
 use Rattle.giop_decode.specs.declared.leaf.Transition.TheVariants as transitions
@@ -10,8 +10,8 @@ use Rattle.giop_print.specs.Paths.{root_word}
 use Rattle.giop_decode.proofs.Advancing.{goes, same_some, step_fits}
 use Rattle.giop_decode.proofs.Runs.{text_more, takes_more, breaks_off, writes_broken}
 use Rattle.giop_decode.proofs.Segments.{said_none}
-use Rattle.giop_decode.proofs.Taking.{takes_to, due_is, done}
-use Rattle.giop_decode.proofs.Whole.{around_whole, before_last, gathered_whole, lines_at, lines_whole, name_whole, keeps_noted_whole, says_at, told_whole}
+use Rattle.giop_decode.proofs.Taking.{takes_to, done}
+use Rattle.giop_decode.proofs.Whole.{around_whole, before_last, gathered_whole, lines_at, name_whole, keeps_noted_whole, says_at, told_whole}
 use Rattle.giop_decode.specs.DecoderSteps.{decoder_step}
 use Rattle.giop_decode.specs.NameBuffer.{FitsName, string_offset}
 use Rattle.giop_sig.specs.Trees.{tree}
@@ -120,7 +120,8 @@ returns-clause-fits g c goes_on =
     step_fits C before new g' b k (e.here g'.here g'.stands) next.ahead next.inside
     (next.link g'.root k.leaf link k.goes_on) next.known_outer (next.known k.leaf k.goes_on) (next.clean k.leaf k.goes_on)
     (λ other. let was = rw e.root at other in e.id was ∙ f.id_in_header_only was)
-    (subst (λ r. FitsName r (string_offset (tree C (leaf_type k.leaf)) k.leaf) new.notes.buffer new.notes.name.items) (sym e.root) (name_whole C d octets a.of a.count step [] f h g'.here k.leaf new.notes next.going (next.offset k.leaf k.goes_on)
+    (subst (λ r. FitsName r (string_offset (tree C (leaf_type k.leaf)) k.leaf) new.notes.buffer new.notes.name.items) (sym e.root)
+    (name_whole C d octets a.of a.count step [] f h g'.here k.leaf new.notes next.going (next.offset k.leaf k.goes_on)
     (λ o held. e.notes o g'.here (g'.here + 1) (lines_at C d octets a.of a.count step [] f h g'.here) held
     (says_at C d octets a.of a.count step [] f h g'.here))))
 

@@ -32,7 +32,8 @@ returns-in_err-count-clause-writes g c T order at message root s r =
     let t = c.loop-part.taken in
     let octets = c.args.octets.now in
     let before = c.loop-part.invariant in
-    let broke = rw (rest_from t octets) at (c.in_err-count.ensures.writes T order at message root (s ++ take t octets) (before.reads T order at message root s r)) in
+    let broke = rw (rest_from t octets) at
+    (c.in_err-count.ensures.writes T order at message root (s ++ take t octets) (before.reads T order at message root s r)) in
     writes_broken c.from_residual-in_err-count.result T order at message root s octets _ _ c.from_residual-in_err-count.ensures.0
     (subst (λ xs. BreaksOff T order at message root s xs (g.O.Out.log c.args.out.now) (g.O.Out.log c.take_part.new.out)) (take-append-drop t octets)
     (breaks_both T order at message root s (take t octets) (drop t octets) _ _ _ (before.answers T order at message root s r)
@@ -49,7 +50,8 @@ loop-part-preserved g c =
     Reads c.args.catalogue.now T order at message root c.args.self.now s →
     TakesRun c.args.catalogue.now T order at message root c.take_part.new.self s (take (t + n) octets) progress.More =
     λ T order at message root s r.
-    let now = rw (rest_from t octets) at (c.in_ok-count.ensures.takes T order at message root (s ++ take t octets) (before.reads T order at message root s r)) in
+    let now = rw (rest_from t octets) at
+    (c.in_ok-count.ensures.takes T order at message root (s ++ take t octets) (before.reads T order at message root s r)) in
     rw (take-add t n octets)
     (takes_both c.args.catalogue.now T order at message root c.take_part.new.self s (take t octets) (take n (drop t octets))
     progress.More (before.answers T order at message root s r) now) in
@@ -65,7 +67,8 @@ loop-part-preserved g c =
       reads = λ T order at message root s r. (runs T order at message root s r).reads (λ fault. fault);
       answers = λ T order at message root s r. (runs T order at message root s r).answers;
       text = λ T order at message root s r.
-          let now = rw (rest_from t octets) at (c.in_ok-count.ensures.writes T order at message root (s ++ take t octets) (before.reads T order at message root s r)) in
+          let now = rw (rest_from t octets) at
+          (c.in_ok-count.ensures.writes T order at message root (s ++ take t octets) (before.reads T order at message root s r)) in
           rw (take-add t n octets, text_both message root order T at s (take t octets) (take n (drop t octets)))
           (wrote-append _ _ _ _ _ (before.text T order at message root s r) now);
     }
@@ -75,7 +78,8 @@ returns-in_err-last-clause-writes g c T order at message root s r =
     let t = c.loop-part.taken in
     let octets = c.args.octets.now in
     let before = c.loop-part.invariant in
-    let broke = rw (rest_from t octets) at (c.in_err-last.ensures.writes T order at message root (s ++ take t octets) (before.reads T order at message root s r)) in
+    let broke = rw (rest_from t octets) at
+    (c.in_err-last.ensures.writes T order at message root (s ++ take t octets) (before.reads T order at message root s r)) in
     writes_broken c.from_residual.result T order at message root s octets _ _ c.from_residual.ensures.0
     (subst (λ xs. BreaksOff T order at message root s xs (g.O.Out.log c.args.out.now) (g.O.Out.log c.take_last.new.out)) (take-append-drop t octets)
     (breaks_both T order at message root s (take t octets) (drop t octets) _ _ _ (before.answers T order at message root s r)
@@ -87,7 +91,8 @@ returns-in_default-next_number-clause-writes g c T order at message root s r =
     let n = c.in_ok-last.last in
     let octets = c.args.octets.now in
     let before = c.loop-part.invariant in
-    let now = rw (rest_from t octets) at (c.in_ok-last.ensures.writes T order at message root (s ++ take t octets) (before.reads T order at message root s r)) in
+    let now = rw (rest_from t octets) at
+    (c.in_ok-last.ensures.writes T order at message root (s ++ take t octets) (before.reads T order at message root s r)) in
     rw (take-add t n octets, text_both message root order T at s (take t octets) (take n (drop t octets)))
     (wrote-append _ _ _ _ _ (before.text T order at message root s r) now)
 
@@ -107,7 +112,8 @@ returns-in_err-rest-clause-writes g c T order at message root s r =
     let t = c.loop-part.taken in
     let octets = c.args.octets.now in
     let before = c.loop-part.invariant in
-    let broke = rw (rest_from t octets) at (c.in_err-rest.ensures.writes T order at message root (s ++ take t octets) (before.reads T order at message root s r)) in
+    let broke = rw (rest_from t octets) at
+    (c.in_err-rest.ensures.writes T order at message root (s ++ take t octets) (before.reads T order at message root s r)) in
     writes_broken c.from_residual-in_err-rest.result T order at message root s octets _ _ c.from_residual-in_err-rest.ensures.0
     (subst (λ xs. BreaksOff T order at message root s xs (g.O.Out.log c.args.out.now) (g.O.Out.log c.take_one.new.out)) (take-append-drop t octets)
     (breaks_both T order at message root s (take t octets) (drop t octets) _ _ _ (before.answers T order at message root s r)
@@ -119,7 +125,8 @@ returns-clause-writes g c T order at message root s r =
     let n = c.in_ok-rest.rest in
     let octets = c.args.octets.now in
     let before = c.loop-part.invariant in
-    let now = rw (rest_from t octets) at (c.in_ok-rest.ensures.writes T order at message root (s ++ take t octets) (before.reads T order at message root s r)) in
+    let now = rw (rest_from t octets) at
+    (c.in_ok-rest.ensures.writes T order at message root (s ++ take t octets) (before.reads T order at message root s r)) in
     rw (take-add t n octets, text_both message root order T at s (take t octets) (take n (drop t octets)))
     (wrote-append _ _ _ _ _ (before.text T order at message root s r) now)
 
