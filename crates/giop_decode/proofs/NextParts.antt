@@ -27,7 +27,7 @@ use Rattle.giop_decode.specs.declared.progress.Progress.TheVariants as progress
 use Rattle.giop_decode.specs.DecoderState.{Fits, CanStandAt, Reads, HoldsNoted, added_lines}
 use Rattle.giop_decode.specs.DecoderSteps.{Comes, decoder_step, emitted, transition_result}
 use Rattle.giop_decode.specs.Noted.{Noted, first_of, noted, is_header_root}
-use Rattle.giop_decode.specs.NextParts.{IsAtNext, IsPartAhead, frames_above, front_text, next_of}
+use Rattle.giop_decode.specs.NextParts.{IsAtNext, IsNextNumber, IsPartAhead, frames_above, front_text, next_of}
 use Rattle.giop_decode.specs.ReadResult.{Coding, PathSegment, Line, Number, LeadingNumber, Short, line, plain, with_front, Done}
 use Rattle.giop_decode.specs.ReadingSteps.{around, path_in}
 use Rattle.giop_decode.specs.Runs.{AreAnswered, TakenTogether, TakesRun, added_lines_of_run}
@@ -81,8 +81,8 @@ last_frame frames i x e =
     sym (take_all (i + 1) frames (omega (arith, e)))
     ∙ (take_more frames i x (omega (arith, e)) ∙ ap (λ n. take n frames ++ get_or frames i x ∷ []) (sym k))
 
-pub front_kept : (C : Table) (d new : Decoder) (part : PartAhead) → IsAtNext C d new part → front_text C new ≡ front_text C d
-front_kept C d new part n = rw (n.message, n.root, n.outer, above_push (frames_above d.outer.items) (next_of part.frame)) refl
+pub front_kept : (C : Table) (d new : Decoder) (part : PartAhead) (next : TypeId) → IsAtNext C d new part next → front_text C new ≡ front_text C d
+front_kept C d new part next n = rw (n.message, n.root, n.outer, above_push (frames_above d.outer.items) (next_of part.frame)) refl
 
 last_free : (frames : List Frame) (f : Frame) → is_inside (frames ++ f ∷ []) ≡ false → f.inside ≡ None
 last_free [] f h = (free_first f.inside false h).0
@@ -122,10 +122,9 @@ line_is message place segment kind text =
     ap (λ t. codes "m" ++ t) (append_assoc (decimal message) (codes " " ++ (place ++ [])) (segment ++ rest)
     ∙ ap (λ t. decimal message ++ (codes " " ++ t)) (ap (λ t. t ++ (segment ++ rest)) (append-nil place) ∙ sym (append_assoc place segment rest)))
 
--- the innermost frame, which goes on to another part, in no encapsulation
+-- the innermost frame, in no encapsulation
 module _ (C : Table) (d : Decoder) (of : TypeId) (frame : Frame) (f : Fits C d) (leaf : d.leaf ≡ Some (innermost.Number of))
-    (outside : d.inside ≡ false) (outer : d.outer.items ≡ frames_above d.outer.items ++ frame ∷ [])
-    (below : frame.index + 1 < frame.count) where
+    (outside : d.inside ≡ false) (outer : d.outer.items ≡ frames_above d.outer.items ++ frame ∷ []) where
   free_outer : is_inside d.outer.items ≡ false
   free_outer = sym f.inside ∙ outside
 
@@ -140,11 +139,11 @@ module _ (C : Table) (d : Decoder) (of : TypeId) (frame : Frame) (f : Fits C d) 
       let s = stands_at C d f (innermost.Number of) leaf in
       part_popped C s.are_open.0 d.outer.items (frames_above d.outer.items) frame f.known_outer s.are_open.1 outer free_frame
 
-  follows : Next (suc popped_frame.left) (tree C frame.of.0) frame.index frame.count
-  follows = next_in (suc popped_frame.left) (tree C frame.of.0) frame.index frame.count popped_frame.«open» popped_frame.uncounted (rw add-one at below)
+  follows : frame.index + 1 < frame.count → Next (suc popped_frame.left) (tree C frame.of.0) frame.index frame.count
+  follows below = next_in (suc popped_frame.left) (tree C frame.of.0) frame.index frame.count popped_frame.«open» popped_frame.uncounted (rw add-one at below)
 
-  pub place_next : HasPlace (shape_in (tree C frame.of.0)) (frame.index + 1)
-  place_next = rw add-one follows.placed
+  pub place_next : frame.index + 1 < frame.count → HasPlace (shape_in (tree C frame.of.0)) (frame.index + 1)
+  place_next below = rw add-one (follows below).placed
 
 -- what holds of the octets of a number before the last of them
 pub record BeforeLast (T : Ty) (order : Order) (at : ℕ) (root : Root) (s octets : List ℕ) (count : ℕ) : Type 0 where
@@ -160,22 +159,23 @@ module _ (C : Table) (d : Decoder) (octets : List ℕ) (part : PartAhead) (f : F
   abbrev above : List Frame
   above = frames_above d.outer.items
 
-  abbrev together : TakenTogether C d octets h.of part.count ended []
-  together = comes_number C d h.of octets part.count f h.leaf h.outside h.empty part.number h.whole
+  pub taken_together : TakenTogether C d octets part.of part.count ended []
+  taken_together = comes_number C d part.of octets part.count f h.leaf h.outside h.empty part.number h.whole
 
   free : is_inside d.outer.items ≡ false
-  free = free_outer C d h.of part.frame f h.leaf h.outside h.outer h.below
+  free = free_outer C d part.of part.frame f h.leaf h.outside h.outer
 
   above_free : is_inside above ≡ false
-  above_free = free_above C d h.of part.frame f h.leaf h.outside h.outer h.below
+  above_free = free_above C d part.of part.frame f h.leaf h.outside h.outer
 
   none : part.frame.inside ≡ None
-  none = free_frame C d h.of part.frame f h.leaf h.outside h.outer h.below
+  none = free_frame C d part.of part.frame f h.leaf h.outside h.outer
 
-  abbrev popped_part : PartPopped C (stands_at C d f (innermost.Number h.of) h.leaf).are_open.0 above part.frame
-  popped_part = popped_frame C d h.of part.frame f h.leaf h.outside h.outer h.below
+  abbrev popped_part : PartPopped C (stands_at C d f (innermost.Number part.of) h.leaf).are_open.0 above part.frame
+  popped_part = popped_frame C d part.of part.frame f h.leaf h.outside h.outer
 
-  module _ (new : Decoder) (n : IsAtNext C d new part) (body : is_header_root d.root ≡ false) where
+  module _ (new : Decoder) (next : TypeId) (follower : IsNextNumber C part.frame next) (n : IsAtNext C d new part next)
+      (body : is_header_root d.root ≡ false) where
     new_free : is_inside new.outer.items ≡ false
     new_free = rw n.outer (push_free above (next_of part.frame) above_free none)
 
@@ -184,51 +184,51 @@ module _ (C : Table) (d : Decoder) (octets : List ℕ) (part : PartAhead) (f : F
         (record {
           known = popped_part.known;
           within = rw none
-              (place_next C d h.of part.frame f h.leaf h.outside h.outer h.below, popped_part.bare, popped_part.uncounted);
+              (place_next C d part.of part.frame f h.leaf h.outside h.outer follower.below, popped_part.bare, popped_part.uncounted);
         }))
 
     gone : (coding : Coding) (path : List PathSegment) (at : ℕ) →
         around coding path (open_parts C at d.outer.items) (Done [] at [])
-        ≡ gone_on C at new.outer.items (Some (innermost.Number part.next))
+        ≡ gone_on C at new.outer.items (Some (innermost.Number next))
     gone coding path at =
         let T = tree C part.frame.of.0 in
         let i = part.frame.index in
         let count = part.frame.count in
         let then = part_in T (suc i) count in
         let P = part_of T (suc i) in
-        let is : P ≡ Single (Plain h.prim_next) = sym (rw add-one at h.tree_next) ∙ h.is_next in
-        let leaf : start_leaf P ≡ LeadingNumber (tree C part.next.0) [] = rw is (rw h.is_next refl) in
+        let is : P ≡ Single (Plain follower.prim) = sym (rw add-one at follower.is_part) ∙ follower.is in
+        let leaf : start_leaf P ≡ LeadingNumber (tree C next.0) [] = rw is (rw follower.is refl) in
         let outer : open_parts C at new.outer.items ≡ open_parts C at above ++ then ∷ [] =
         ap (open_parts C at) n.outer ∙ (map_push (open_part C at) above (next_of part.frame)
         ∙ ap (λ q. open_parts C at above ++ q ∷ []) (part_is C at (next_of part.frame) none ∙ ap (λ k. part_in T k count) (add-one i))) in
-        let right : gone_on C at new.outer.items (Some (innermost.Number part.next))
-        ≡ Short [] at (open_parts C at above ++ then ∷ []) (LeadingNumber (tree C part.next.0) []) =
+        let right : gone_on C at new.outer.items (Some (innermost.Number next))
+        ≡ Short [] at (open_parts C at above ++ then ∷ []) (LeadingNumber (tree C next.0) []) =
         rw (free_ended new.outer.items new_free, outer) refl in
         let first : start_outer P ≡ [] = rw is refl in
         let left : around coding path (open_parts C at above) (Short [] at (then ∷ start_outer P) (start_leaf P))
-        ≡ Short [] at (open_parts C at above ++ then ∷ []) (LeadingNumber (tree C part.next.0) []) =
-        rw (first, leaf) (around_unless_ended C coding path at above [] (then ∷ []) (LeadingNumber (tree C part.next.0) []) popped_part.known_rest
+        ≡ Short [] at (open_parts C at above ++ then ∷ []) (LeadingNumber (tree C next.0) []) =
+        rw (first, leaf) (around_unless_ended C coding path at above [] (then ∷ []) (LeadingNumber (tree C next.0) []) popped_part.known_rest
         ∙ rw (free_ended above above_free) refl) in
         ap (λ ps. around coding path ps (Done [] at [])) (ap (open_parts C at) h.outer ∙ map_push (open_part C at) above part.frame)
         ∙ (ap (λ q. around coding path (open_parts C at above ++ q ∷ []) (Done [] at [])) (part_is C at part.frame none)
         ∙ (goes_next coding path (open_parts C at above) T i count at popped_part.left
-        (follows C d h.of part.frame f h.leaf h.outside h.outer h.below) (rw add-one at h.below)
+        (follows C d part.of part.frame f h.leaf h.outside h.outer follower.below) (rw add-one at follower.below)
         ∙ (left ∙ sym right)))
 
     come : (here : ℕ) (lines : List Line) →
-        emitted C d h.of.0 transitions.Ended (outputs.Number part.number) lines here
-        ≡ transition_result C (tree C h.of.0) new transitions.Ended lines (here + 1)
+        emitted C d part.of.0 transitions.Ended (outputs.Number part.number) lines here
+        ≡ transition_result C (tree C part.of.0) new transitions.Ended lines (here + 1)
     come here lines =
         let ps = open_parts C (here + 1) d.outer.items in
         let there : open_parts C here d.outer.items ≡ ps =
         sym (places_ticked C here d.outer.items f.ahead) ∙ ap (open_parts C (here + 1)) (sym (free_ticked d.outer.items free)) in
-        let leaf = innermost.Number part.next in
+        let leaf = innermost.Number next in
         ap (λ qs. around (plain d.order) [] qs (Done lines (here + 1) [])) there
         ∙ (around_done (plain d.order) [] ps lines (here + 1)
         ∙ (ap (with_front lines) (gone (plain d.order) [] (here + 1))
         ∙ (front_gone C lines (here + 1) new.outer.items (Some leaf)
         ∙ (behind_stopped C new.outer.items new.carry new.piece.items (Some leaf) lines (here + 1) (n.carry ∙ h.empty)
-        (ap (λ p. p.items) n.piece ∙ no_piece C d h.of octets part.count f h.leaf h.outside h.empty)
+        (ap (λ p. p.items) n.piece ∙ no_piece C d part.of octets part.count f h.leaf h.outside h.empty)
         ∙ rw n.leaf refl))))
 
     -- how many octets come before the last of the number's, and where the decoder is then
@@ -239,28 +239,28 @@ module _ (C : Table) (d : Decoder) (octets : List ℕ) (part : PartAhead) (f : F
     there = (d.at + last) % 8
 
     abbrev before : Decoder
-    before = before_last C d octets h.of part.count ended [] f together there
+    before = before_last C d octets part.of part.count ended [] f taken_together there
 
     abbrev lines : ℕ → List Line
-    lines here = lines_at C d octets h.of part.count ended [] f together here
+    lines here = lines_at C d octets part.of part.count ended [] f taken_together here
 
-    says : (here : ℕ) → IsOutput (tree C h.of.0) (path_in [] (open_parts C here d.outer.items)) (here + 1)
+    says : (here : ℕ) → IsOutput (tree C part.of.0) (path_in [] (open_parts C here d.outer.items)) (here + 1)
         (outputs.Number part.number) (d.piece.items ++ []) (lines here)
-    says here = says_at C d octets h.of part.count ended [] f together here
+    says here = says_at C d octets part.of part.count ended [] f taken_together here
 
     plain_says : (here : ℕ) → (scalar : Scalar) × (n : ℕ) × (scalar ≡ Plain part.prim) × (interpreted_by scalar n ≡ Some part.number)
         × (lines here ≡ line (here + 1) (path_in [] (open_parts C here d.outer.items)) (Number scalar n) ∷ [])
     plain_says here =
         let k = says here in
-        (k.0.scalar, k.0.n, same_plain (tree C h.of.0) part.prim k.0.scalar h.prim k.0.is, k.0.taken, k.1)
+        (k.0.scalar, k.0.n, same_plain (tree C part.of.0) part.prim k.0.scalar h.prim k.0.is, k.0.taken, k.1)
 
     body_new : is_header_root new.root ≡ false
     body_new = rw n.root body
 
-    comes : (here : ℕ) → Comes C new progress.More (here + 1) (emitted C d h.of.0 transitions.Ended (outputs.Number part.number) (lines here) here)
+    comes : (here : ℕ) → Comes C new progress.More (here + 1) (emitted C d part.of.0 transitions.Ended (outputs.Number part.number) (lines here) here)
     comes here =
         let k = plain_says here in
-        comes_by C (tree C h.of.0) new false false transitions.Ended (lines here) (here + 1) progress.More _
+        comes_by C (tree C part.of.0) new false false transitions.Ended (lines here) (here + 1) progress.More _
         (rw (k.4, body_new) refl) (sym (free_ended new.outer.items new_free)) (come here (lines here)) (rw n.leaf refl)
 
     notes : (here : ℕ) (o : Noted) → HoldsNoted d.notes o → HoldsNoted new.notes (noted (is_header_root d.root) o (lines here))
@@ -270,54 +270,54 @@ module _ (C : Table) (d : Decoder) (octets : List ℕ) (part : PartAhead) (f : F
         subst (λ m. HoldsNoted m (noted (is_header_root d.root) o (lines here))) (sym n.notes) (rw (body, k.4, k.2) kept)
 
     stands_next : (here : ℕ) → CanStandAt before here → CanStandAt new (here + 1)
-    stands_next here k = (let some = together.some in omega (arith, k.0, n.at, some), stand_free (here + 1) new.outer.items new_free)
+    stands_next here k = (let some = taken_together.some in omega (arith, k.0, n.at, some), stand_free (here + 1) new.outer.items new_free)
 
     pub part_takes : (T : Ty) (order : Order) (at message : ℕ) (root : Root) (s : List ℕ) → Reads C T order at message root d s →
         TakesRun C T order at message root new s (take part.count octets) progress.More
     part_takes T order at message root s r =
         let b = get_or octets last 0 in
-        let whole = gathered_whole C d octets h.of part.count ended [] f together there refl in
+        let whole = gathered_whole C d octets part.of part.count ended [] f taken_together there refl in
         let held = whole.1 T order at message root s r in
-        let below : last < length octets = let some = together.some in omega (arith, some, together.within) in
-        let all : last + 1 ≡ part.count = let some = together.some in omega (arith, some) in
+        let below : last < length octets = let some = taken_together.some in omega (arith, some, taken_together.within) in
+        let all : last + 1 ≡ part.count = let some = taken_together.some in omega (arith, some) in
         subst (λ n. TakesRun C T order at message root new s (take n octets) progress.More) all
         (takes_more C T order at message root new s octets last progress.More below held.takes.answers
         (takes_to C T order at message root before new (s ++ take last octets) b progress.More whole.0 n.order n.root n.message stands_next
-        (λ here stands. rw (told_whole C d octets h.of part.count ended [] f together there here refl stands) (comes here))
-        (λ here front stands old. keeps_noted_whole C d octets h.of part.count ended [] f together new there here front refl stands
+        (λ here stands. rw (told_whole C d octets part.of part.count ended [] f taken_together there here refl stands) (comes here))
+        (λ here front stands old. keeps_noted_whole C d octets part.of part.count ended [] f taken_together new there here front refl stands
         (inside here) (notes here) old)
         (held.takes.reads (λ fault. fault))))
       where
-        inside : (here : ℕ) → ends_in_string (emitted C d h.of.0 transitions.Ended (outputs.Number part.number) (lines here) here) ≡ false
+        inside : (here : ℕ) → ends_in_string (emitted C d part.of.0 transitions.Ended (outputs.Number part.number) (lines here) here) ≡ false
         inside here = ap ends_in_string (come here (lines here))
             ∙ stopped_silent C new.outer.items new.carry new.piece.items new.leaf (lines here) (here + 1) (rw n.leaf refl)
 
     pub part_fits : Fits C new
     part_fits =
         let b = get_or octets last 0 in
-        let whole = gathered_whole C d octets h.of part.count ended [] f together there refl in
+        let whole = gathered_whole C d octets part.of part.count ended [] f taken_together there refl in
         let g = whole.0 in
-        let emits = told_whole C d octets h.of part.count ended [] f together there g.here refl g.stands in
+        let emits = told_whole C d octets part.of part.count ended [] f taken_together there g.here refl g.stands in
         let k = goes C new progress.More (g.here + 1) (decoder_step C before g.here b) (rw emits (comes g.here)) tt in
-        let at_leaf : k.leaf ≡ innermost.Number part.next = same_some k.leaf (innermost.Number part.next) (sym k.goes_on ∙ n.leaf) in
-        let same : leaf_type g.leaf ≡ h.of.0 = ap leaf_type (same_some g.leaf (innermost.Number h.of) (sym g.goes_on ∙ h.leaf)) in
-        let link : Link C g.root d.outer.items h.of.0 = subst (Link C g.root d.outer.items) same g.link in
-        let linked : Link C g.root new.outer.items part.next.0 =
-        link_push C g.root above new.outer.items part.frame.of.0 part.next.0 (next_of part.frame) refl n.outer (rw none h.number_next)
-        (link_pop C g.root d.outer.items above part.frame h.of.0 h.outer link) in
-        let clean : new.piece.items ≡ [] = ap (λ p. p.items) n.piece ∙ no_piece C d h.of octets part.count f h.leaf h.outside h.empty in
+        let at_leaf : k.leaf ≡ innermost.Number next = same_some k.leaf (innermost.Number next) (sym k.goes_on ∙ n.leaf) in
+        let same : leaf_type g.leaf ≡ part.of.0 = ap leaf_type (same_some g.leaf (innermost.Number part.of) (sym g.goes_on ∙ h.leaf)) in
+        let link : Link C g.root d.outer.items part.of.0 = subst (Link C g.root d.outer.items) same g.link in
+        let linked : Link C g.root new.outer.items next.0 =
+        link_push C g.root above new.outer.items part.frame.of.0 next.0 (next_of part.frame) refl n.outer (rw none follower.number)
+        (link_pop C g.root d.outer.items above part.frame part.of.0 h.outer link) in
+        let clean : new.piece.items ≡ [] = ap (λ p. p.items) n.piece ∙ no_piece C d part.of octets part.count f h.leaf h.outside h.empty in
         step_fits C before new g b k (stands_next g.here g.stands) (ahead_by C new.outer.items known_new (free_ended new.outer.items new_free))
-        (n.inside ∙ (h.outside ∙ sym new_free)) (rw at_leaf linked) known_new (rw at_leaf h.known_next) (rw at_leaf clean)
+        (n.inside ∙ (h.outside ∙ sym new_free)) (rw at_leaf linked) known_new (rw at_leaf follower.known) (rw at_leaf clean)
         (λ other. rw n.notes (f.id_in_header_only body))
         (subst (λ r. FitsName r (string_offset (tree C (leaf_type k.leaf)) k.leaf) new.notes.buffer new.notes.name.items) (sym n.root)
-        (name_whole C d octets h.of part.count ended [] f together g.here k.leaf new.notes tt (rw at_leaf refl) (notes g.here)))
+        (name_whole C d octets part.of part.count ended [] f taken_together g.here k.leaf new.notes tt (rw at_leaf refl) (notes g.here)))
 
   pub before_answers : (T : Ty) (order : Order) (at message : ℕ) (root : Root) (s : List ℕ) → Reads C T order at message root d s →
       BeforeLast T order at root s octets part.count
   before_answers T order at message root s r =
-      let held = (gathered_whole C d octets h.of part.count ended [] f together ((d.at + (part.count - 1)) % 8) refl).1 T order at message root s r in
-      let some = together.some in
-      record { below = omega (arith, some, together.within); all = omega (arith, some); answers = held.takes.answers; quiet = held.quiet }
+      let held = (gathered_whole C d octets part.of part.count ended [] f taken_together ((d.at + (part.count - 1)) % 8) refl).1 T order at message root s r in
+      let some = taken_together.some in
+      record { below = omega (arith, some, taken_together.within); all = omega (arith, some); answers = held.takes.answers; quiet = held.quiet }
 
   -- the text of its line
   pub part_text : (T : Ty) (order : Order) (at message : ℕ) (root : Root) (s : List ℕ) (r : Reads C T order at message root d s) →
@@ -327,24 +327,24 @@ module _ (C : Table) (d : Decoder) (octets : List ℕ) (part : PartAhead) (f : F
   part_text T order at message root s r =
       let last = part.count - 1 in
       let there = (d.at + last) % 8 in
-      let before = before_last C d octets h.of part.count ended [] f together there in
+      let before = before_last C d octets part.of part.count ended [] f taken_together there in
       let so_far = s ++ take last octets in
       let here = at + length so_far in
       let b = get_or octets last 0 in
-      let whole = gathered_whole C d octets h.of part.count ended [] f together there refl in
+      let whole = gathered_whole C d octets part.of part.count ended [] f taken_together there refl in
       let held = whole.1 T order at message root s r in
       let k = held.takes.reads (λ fault. fault) in
-      let says = says_at C d octets h.of part.count ended [] f together here in
-      let is = same_plain (tree C h.of.0) part.prim says.0.scalar h.prim says.0.is in
+      let says = says_at C d octets part.of part.count ended [] f taken_together here in
+      let is = same_plain (tree C part.of.0) part.prim says.0.scalar h.prim says.0.is in
       let path = path_in [] (open_parts C here d.outer.items) in
       let place = (root_word d.root ++ frames_text C above) ++ segment_text (segment_in (open_part C 0 part.frame)) in
-      let ls = lines_whole C d octets h.of part.count ended [] f together there here refl k.offset in
+      let ls = lines_whole C d octets part.of part.count ended [] f taken_together there here refl k.offset in
       let placed : place ≡ path_text d.root path = path_is here in
       let taken : interpreted_as part.prim says.0.n ≡ Some part.number = rw is at says.0.taken in
       let value : value_text d.message place (Number (Plain part.prim) says.0.n)
-      ≡ lines_text d.message d.root (lines_at C d octets h.of part.count ended [] f together here) =
+      ≡ lines_text d.message d.root (lines_at C d octets part.of part.count ended [] f taken_together here) =
       said_one d.message d.root (here + 1) path place (Number (Plain part.prim) says.0.n)
-      (lines_at C d octets h.of part.count ended [] f together here) placed (rw is at says.1) in
+      (lines_at C d octets part.of part.count ended [] f taken_together here) placed (rw is at says.1) in
       rw (due_is C T order at message root before so_far b whole.0 k, ls, ← k.same_message, ← k.same_root)
       (sym (number_text_is d.message place part.prim says.0.n part.number taken) ∙ value)
     where

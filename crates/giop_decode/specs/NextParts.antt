@@ -26,25 +26,27 @@ frames_above frames = take (length frames - 1) frames
 abbrev pub front_text : Table → Decoder → List ℕ
 front_text C d = headed d.message (root_word d.root ++ frames_text C (frames_above d.outer.items)) []
 
--- the number that stands whole at the head of octets is a primitive's, and a part that another primitive follows
+-- the number that stands whole at the head of octets is a primitive's, and a part of the innermost frame
 pub record IsPartAhead (C : Table) (d : Decoder) (octets : List ℕ) (part : PartAhead) : Type 0 where
-  pub of : TypeId
-  pub leaf : d.leaf ≡ Some (innermost.Number of)
-  pub known : of.0 < length C.types
-  pub prim : tree C of.0 ≡ Single (Plain part.prim)
-  pub whole : IsWholeNumber (tree C of.0) d.order d.at octets part.count part.number
+  pub leaf : d.leaf ≡ Some (innermost.Number part.of)
+  pub known : part.of.0 < length C.types
+  pub prim : tree C part.of.0 ≡ Single (Plain part.prim)
+  pub whole : IsWholeNumber (tree C part.of.0) d.order d.at octets part.count part.number
   pub outside : d.inside ≡ false
   pub empty : d.carry ≡ []
   pub outer : d.outer.items ≡ frames_above d.outer.items ++ part.frame ∷ []
-  pub below : part.frame.index + 1 < part.frame.count
-  pub known_next : part.next.0 < length C.types
-  pub number_next : part.next.0 ≡ part_number C part.frame.of.0 (part.frame.index + 1)
-  pub tree_next : tree C part.next.0 ≡ part_of (tree C part.frame.of.0) (part.frame.index + 1)
-  pub prim_next : Primitive
-  pub is_next : tree C part.next.0 ≡ Single (Plain prim_next)
+
+-- another primitive follows in a frame
+pub record IsNextNumber (C : Table) (frame : Frame) (next : TypeId) : Type 0 where
+  pub below : frame.index + 1 < frame.count
+  pub known : next.0 < length C.types
+  pub number : next.0 ≡ part_number C frame.of.0 (frame.index + 1)
+  pub is_part : tree C next.0 ≡ part_of (tree C frame.of.0) (frame.index + 1)
+  pub prim : Primitive
+  pub is : tree C next.0 ≡ Single (Plain prim)
 
 -- the decoder at the part that follows
-pub record IsAtNext (C : Table) (d new : Decoder) (part : PartAhead) : Type 0 where
+pub record IsAtNext (C : Table) (d new : Decoder) (part : PartAhead) (next : TypeId) : Type 0 where
   pub order : new.order ≡ d.order
   pub root : new.root ≡ d.root
   pub message : new.message ≡ d.message
@@ -53,5 +55,5 @@ pub record IsAtNext (C : Table) (d new : Decoder) (part : PartAhead) : Type 0 wh
   pub carry : new.carry ≡ d.carry
   pub piece : new.piece ≡ d.piece
   pub at : new.at ≡ (d.at + part.count) % 8
-  pub leaf : new.leaf ≡ Some (innermost.Number part.next)
+  pub leaf : new.leaf ≡ Some (innermost.Number next)
   pub outer : new.outer.items ≡ frames_above d.outer.items ++ next_of part.frame ∷ []

@@ -340,6 +340,48 @@ impl Decoder {
             rest,
             out,
         )?;
+        Ok(self.pass(catalogue, of, step, rest, is_plain))
+    }
+
+    /// Notes the output of an octet of the innermost part, and does its transition: what `emit` does but for the line.
+    #[inline(always)]
+    pub(crate) fn pass(
+        &mut self,
+        catalogue: &Catalogue,
+        of: TypeId,
+        step: Step,
+        rest: &[u8],
+        is_plain: bool,
+    ) -> Progress
+        requires around { IsAround catalogue.now self.old of.0 }
+        requires transition_fits { TransitionFits (tree catalogue.now of.0) of.0 step.transition
+            self.old.carry (still_held step.output self.old.piece.items) }
+        requires has_output { HasOutput (tree catalogue.now of.0) step.output }
+        requires plain { IsTrue is_plain → IsPlain (tree catalogue.now of.0) step.output }
+        ensures order { self.new.order ≡ self.old.order }
+        ensures root { self.new.root ≡ self.old.root }
+        ensures message { self.new.message ≡ self.old.message }
+        ensures here { (here : ℕ) → CanStandAt self.old here →
+            CanStandAt self.new (here + 1) }
+        ensures next { GoesOn result → IsNext catalogue.now self.old self.new of.0 step.transition }
+        ensures steps { (here : ℕ) (lines : List Line) →
+            IsOutput (tree catalogue.now of.0)
+            (path_in [] (open_parts catalogue.now here self.old.outer.items))
+            (here + 1) step.output (self.old.piece.items ++ rest.now) lines →
+            Comes catalogue.now self.new result (here + 1)
+            (emitted catalogue.now self.old of.0 step.transition step.output lines here) }
+        ensures inside { (here : ℕ) (lines : List Line) →
+            ends_in_string (emitted catalogue.now self.old of.0 step.transition step.output lines here)
+            ≡ transition_in_string (tree catalogue.now of.0) step.transition }
+        ensures id { is_header_root self.old.root ≡ false →
+            self.new.notes.request_id ≡ self.old.notes.request_id }
+        ensures notes { (h : Noted) (here at : ℕ) (lines : List Line) → HoldsNoted self.old.notes h →
+            IsOutput (tree catalogue.now of.0)
+            (path_in [] (open_parts catalogue.now here self.old.outer.items))
+            at step.output (self.old.piece.items ++ rest.now) lines →
+            HoldsNoted self.new.notes (without_name_if (clears_name step.output)
+            (noted (is_header_root self.old.root) h lines)) }
+    {
         let named = self.notes.note(
             catalogue,
             self.root,
@@ -355,6 +397,6 @@ impl Decoder {
         tick(self.inside, &mut self.outer);
         self.advance_frames(catalogue, of, step.transition);
         let ended = has_ended(self.inside, self.outer.as_slice());
-        Ok(progress_of(named, ended, step.transition, self.leaf))
+        progress_of(named, ended, step.transition, self.leaf)
     }
 }

@@ -3,9 +3,9 @@
 ghost use Rattle.std.specs.Prelude.{◌≡◌, ℕ, ◌+◌, ◌-◌, ◌<◌, ◌≤◌, false, true, List, [], ◌++◌, length, take, IfOk, IfSome, OnOk, IsTrue};
 ghost use Rattle.giop_cdr.specs.Primitives.{size_of};
 ghost use Rattle.giop_cdr.specs.declared.order.Order.{Order as ByteOrder};
-ghost use Rattle.giop_decode.specs.DecoderState.{Fits, Reads};
+ghost use Rattle.giop_decode.specs.DecoderState.{Fits, GoesOn, IsDone, Reads};
 ghost use Rattle.giop_decode.specs.Noted.{is_header_root};
-ghost use Rattle.giop_decode.specs.NextParts.{IsPartAhead, IsAtNext, front_text};
+ghost use Rattle.giop_decode.specs.NextParts.{IsPartAhead, IsNextNumber, IsAtNext, front_text};
 ghost use Rattle.giop_decode.specs.ReadingSteps.{segment_in};
 ghost use Rattle.giop_decode.specs.Runs.{TakesRun, WritesRun};
 ghost use Rattle.giop_decode.specs.Segments.{frames_text};
@@ -21,7 +21,7 @@ ghost use Rattle.giop_sig.specs.Types.{Ty};
 use crate::current_path::{spell_segment, spell_segments};
 use crate::decoder::Decoder;
 use crate::frame::{Frame, go_to_next};
-use crate::leaf::Leaf;
+use crate::leaf::{Leaf, Output, Step, Transition};
 use crate::lookahead::whole_number;
 use crate::notes::is_header;
 use crate::progress::Progress;
@@ -30,17 +30,16 @@ use giop_cdr::{Number, Prim};
 use giop_print::{Line, Out, OutFault, Root, line_behind, put_number_end, put_root};
 use giop_sig::{Catalogue, Shape, TypeId};
 
-/// The number of a primitive that comes next, where it is a part that another primitive follows in the same part.
+/// The number of a primitive that comes next, where it is a part of a part that is begun.
 #[derive(Clone, Copy, Debug)]
 struct PartAhead {
-    /// The part that both are parts of.
+    of: TypeId,
+    /// The part that it is a part of.
     frame: Frame,
     prim: Prim,
     number: Number,
     /// How many octets it takes with its padding.
     count: usize,
-    /// The type of the part that follows.
-    next: TypeId,
 }
 
 /// How many octets may stand in a line before the last segment of its path.
@@ -75,8 +74,8 @@ impl Decoder {
         frame.index.saturating_add(2) < frame.count
     }
 
-    /// Takes numbers of primitives that stand whole at the head of these octets, as long as each is a part that another
-    /// follows, and writes their lines.
+    /// Takes some of the octets, of which there is at least one: numbers of primitives that stand whole at their head,
+    /// as long as each is a part that another follows, and the one behind them. Writes their lines.
     #[inline(never)]
     pub(crate) fn take_parts<O: Out>(
         &mut self,
@@ -85,6 +84,7 @@ impl Decoder {
         out: &mut O,
     ) -> Result<(usize, Progress), OutFault>
         requires fits { Fits catalogue.now self.old }
+        requires octets { 0 < length octets.now }
         requires some { 0 < length self.old.outer.items }
         requires body { is_header_root self.old.root ≡ false }
         requires outside { self.old.inside ≡ false }
@@ -96,39 +96,11 @@ impl Decoder {
             (root : PathRoot) (s : List ℕ) →
             Reads catalogue.now T order at message root self.old s →
             TakesRun catalogue.now T order at message root self.new s
-            (take taken.0 octets.now) Progress.More) }
+            (take taken.0 octets.now) taken.1) }
         ensures within { IfOk result (λ taken. taken.0 ≤ length octets.now) }
-        ensures fits { OnOk result (Fits catalogue.now self.new) }
-    {
-        if self.part_ahead(catalogue, octets).is_none() {
-            return Ok((0, Progress::More));
-        }
-        self.take_several(catalogue, octets, out)
-    }
-
-    /// The same where one stands there; none where what the lines begin with is long.
-    #[inline(always)]
-    fn take_several<O: Out>(
-        &mut self,
-        catalogue: &Catalogue,
-        octets: &[u8],
-        out: &mut O,
-    ) -> Result<(usize, Progress), OutFault>
-        requires fits { Fits catalogue.now self.old }
-        requires some { 0 < length self.old.outer.items }
-        requires body { is_header_root self.old.root ≡ false }
-        requires outside { self.old.inside ≡ false }
-        ensures writes { (T : Ty) (order : ByteOrder) (at message : ℕ) (root : PathRoot)
-            (s : List ℕ) →
-            Reads catalogue.now T order at message root self.old s →
-            WritesRun result T order at message root s octets.now (O.log out.old) (O.log out.new) }
-        ensures takes { IfOk result (λ taken. (T : Ty) (order : ByteOrder) (at message : ℕ)
-            (root : PathRoot) (s : List ℕ) →
-            Reads catalogue.now T order at message root self.old s →
-            TakesRun catalogue.now T order at message root self.new s
-            (take taken.0 octets.now) Progress.More) }
-        ensures within { IfOk result (λ taken. taken.0 ≤ length octets.now) }
-        ensures fits { OnOk result (Fits catalogue.now self.new) }
+        ensures some { IfOk result (λ taken. 0 < taken.0) }
+        ensures fits { IfOk result (λ taken. GoesOn taken.1 → Fits catalogue.now self.new) }
+        ensures done { IfOk result (λ taken. taken.1 ≡ Progress.Done → IsDone self.new) }
     {
         let depth = self.outer.len() - 1;
         let mut line = Line::new();
@@ -140,18 +112,64 @@ impl Decoder {
             &mut line,
         );
         if !front {
-            return Ok((0, Progress::More));
+            return self.take_one(catalogue, octets, out);
         }
+        self.take_several(catalogue, octets, line.text(), out)
+    }
+
+    /// The same where what their lines begin with is spelled.
+    #[inline(always)]
+    fn take_several<O: Out>(
+        &mut self,
+        catalogue: &Catalogue,
+        octets: &[u8],
+        front: &[u8],
+        out: &mut O,
+    ) -> Result<(usize, Progress), OutFault>
+        requires fits { Fits catalogue.now self.old }
+        requires octets { 0 < length octets.now }
+        requires body { is_header_root self.old.root ≡ false }
+        requires outside { self.old.inside ≡ false }
+        requires front { front.now ≡ front_text catalogue.now self.old }
+        requires short { length front.now ≤ 128 }
+        ensures writes { (T : Ty) (order : ByteOrder) (at message : ℕ) (root : PathRoot)
+            (s : List ℕ) →
+            Reads catalogue.now T order at message root self.old s →
+            WritesRun result T order at message root s octets.now (O.log out.old) (O.log out.new) }
+        ensures takes { IfOk result (λ taken. (T : Ty) (order : ByteOrder) (at message : ℕ)
+            (root : PathRoot) (s : List ℕ) →
+            Reads catalogue.now T order at message root self.old s →
+            TakesRun catalogue.now T order at message root self.new s
+            (take taken.0 octets.now) taken.1) }
+        ensures within { IfOk result (λ taken. taken.0 ≤ length octets.now) }
+        ensures some { IfOk result (λ taken. 0 < taken.0) }
+        ensures fits { IfOk result (λ taken. GoesOn taken.1 → Fits catalogue.now self.new) }
+        ensures done { IfOk result (λ taken. taken.1 ≡ Progress.Done → IsDone self.new) }
+    {
         let mut taken = 0;
         while let Some(part) = self.part_ahead(catalogue, &octets[taken..]) {
-            let (count, _) = self.take_part(catalogue, &octets[taken..], part, line.text(), out)?;
+            let Some(next) = self.next_number(catalogue, &octets[taken..], part) else {
+                let (last, progress) = self.take_last(
+                    catalogue,
+                    &octets[taken..],
+                    part,
+                    front,
+                    out,
+                )?;
+                return Ok((taken + last, progress));
+            };
+            let (count, _) = self.take_part(catalogue, &octets[taken..], part, next, front, out)?;
             taken += count;
         }
-        Ok((taken, Progress::More))
+        if taken == octets.len() {
+            return Ok((taken, Progress::More));
+        }
+        let (rest, progress) = self.take_one(catalogue, &octets[taken..], out)?;
+        Ok((taken + rest, progress))
     }
 
     /// The number that comes next, where it is a primitive's, stands whole at the head of these octets, and is a part
-    /// that another primitive follows.
+    /// of a part that is begun.
     #[inline(always)]
     fn part_ahead(&self, catalogue: &Catalogue, octets: &[u8]) -> Option<PartAhead>
         requires fits { Fits catalogue.now self.now }
@@ -162,35 +180,67 @@ impl Decoder {
         if depth == 0 || !self.carry.is_empty() {
             return None;
         }
-        let frame = self.outer[depth - 1];
-        if frame.index >= frame.count.saturating_sub(1) {
-            return None;
-        }
         let Some(Leaf::Number(of)) = self.leaf else {
             return None;
         };
         let Shape::Prim(prim) = catalogue.shape(of) else {
             return None;
         };
-        let next = catalogue.part(frame.of, frame.index + 1);
-        let Shape::Prim(_) = catalogue.shape(next) else {
-            return None;
-        };
         match whole_number(catalogue, self.order, self.at, of, octets) {
             Some((count, number)) => Some(PartAhead {
-                frame,
+                of,
+                frame: self.outer[depth - 1],
                 prim,
                 number,
                 count,
-                next,
             }),
             None => None,
         }
     }
 
-    /// Takes the octets of that number, and writes its line, of which the front is spelled.
+    /// Takes the octets of that number, which another follows, and writes its line, of which the front is spelled.
     #[inline(always)]
     fn take_part<O: Out>(
+        &mut self,
+        catalogue: &Catalogue,
+        octets: &[u8],
+        part: PartAhead,
+        next: TypeId,
+        front: &[u8],
+        out: &mut O,
+    ) -> Result<(usize, Progress), OutFault>
+        requires fits { Fits catalogue.now self.old }
+        requires body { is_header_root self.old.root ≡ false }
+        requires ahead { IsPartAhead catalogue.now self.old octets.now part }
+        requires next { IsNextNumber catalogue.now part.frame next }
+        requires front { front.now ≡ front_text catalogue.now self.old }
+        requires short { length front.now ≤ 128 }
+        ensures writes { (T : Ty) (order : ByteOrder) (at message : ℕ) (root : PathRoot)
+            (s : List ℕ) →
+            Reads catalogue.now T order at message root self.old s →
+            WritesRun result T order at message root s octets.now (O.log out.old) (O.log out.new) }
+        ensures takes { IfOk result (λ taken. (T : Ty) (order : ByteOrder) (at message : ℕ)
+            (root : PathRoot) (s : List ℕ) →
+            Reads catalogue.now T order at message root self.old s →
+            TakesRun catalogue.now T order at message root self.new s
+            (take taken.0 octets.now) Progress.More) }
+        ensures within { IfOk result (λ taken. taken.0 ≤ length octets.now) }
+        ensures fits { OnOk result (Fits catalogue.now self.new) }
+        ensures some { IfOk result (λ taken. 0 < taken.0) }
+        ensures next { OnOk result (IsAtNext catalogue.now self.old self.new part next) }
+    {
+        let _octets = octets;
+        part_line(catalogue, part, front, out)?;
+        self.at = further(self.at, part.count);
+        go_to_next(&mut self.outer);
+        self.leaf = Some(Leaf::Number(next));
+        Ok((part.count, Progress::More))
+    }
+
+    /// Takes the octets of that number, which may be the last of its part, and writes its line, of which the front is
+    /// spelled.
+    #[inline(always)]
+    fn take_last<O: Out>(
         &mut self,
         catalogue: &Catalogue,
         octets: &[u8],
@@ -211,18 +261,40 @@ impl Decoder {
             (root : PathRoot) (s : List ℕ) →
             Reads catalogue.now T order at message root self.old s →
             TakesRun catalogue.now T order at message root self.new s
-            (take taken.0 octets.now) Progress.More) }
+            (take taken.0 octets.now) taken.1) }
         ensures within { IfOk result (λ taken. taken.0 ≤ length octets.now) }
-        ensures fits { OnOk result (Fits catalogue.now self.new) }
         ensures some { IfOk result (λ taken. 0 < taken.0) }
-        ensures next { OnOk result (IsAtNext catalogue.now self.old self.new part) }
+        ensures fits { IfOk result (λ taken. GoesOn taken.1 → Fits catalogue.now self.new) }
+        ensures done { IfOk result (λ taken. taken.1 ≡ Progress.Done → IsDone self.new) }
     {
         let _octets = octets;
         part_line(catalogue, part, front, out)?;
-        self.at = further(self.at, part.count);
-        go_to_next(&mut self.outer);
-        self.leaf = Some(Leaf::Number(part.next));
-        Ok((part.count, Progress::More))
+        self.at = further(self.at, part.count - 1);
+        let step = Step {
+            transition: Transition::Ended,
+            output: Output::Number(part.number),
+        };
+        let progress = self.pass(catalogue, part.of, step, &[], true);
+        Ok((part.count, progress))
+    }
+
+    /// The type of the part that follows that number, where that is a primitive.
+    #[inline(always)]
+    fn next_number(&self, catalogue: &Catalogue, octets: &[u8], part: PartAhead) -> Option<TypeId>
+        requires fits { Fits catalogue.now self.now }
+        requires ahead { IsPartAhead catalogue.now self.now octets.now part }
+        ensures { IfSome result (λ next. IsNextNumber catalogue.now part.frame next) }
+    {
+        let _octets = octets;
+        let frame = part.frame;
+        if frame.index >= frame.count.saturating_sub(1) {
+            return None;
+        }
+        let next = catalogue.part(frame.of, frame.index + 1);
+        match catalogue.shape(next) {
+            Shape::Prim(_) => Some(next),
+            _ => None,
+        }
     }
 }
 

@@ -47,7 +47,7 @@ impl Decoder {
     {
         let mut taken: usize = 0;
         while taken < octets.len() {
-            let (count, progress) = self.take_next(catalogue, &octets[taken..], out)?;
+            let (count, progress) = self.take_some(catalogue, &octets[taken..], out)?;
             taken += count;
             match progress {
                 Progress::More => {}
@@ -57,43 +57,9 @@ impl Decoder {
         Ok((taken, Progress::More))
     }
 
-    /// Takes some of the octets, of which there is at least one: numbers that are parts of one part, and what comes then.
-    #[inline(always)]
-    fn take_next<O: Out>(
-        &mut self,
-        catalogue: &Catalogue,
-        octets: &[u8],
-        out: &mut O,
-    ) -> Result<(usize, Progress), OutFault>
-        requires fits { Fits catalogue.now self.old }
-        requires some { 0 < length octets.now }
-        ensures writes { (T : Ty) (order : ByteOrder) (at message : ℕ) (root : PathRoot)
-            (s : List ℕ) →
-            Reads catalogue.now T order at message root self.old s →
-            WritesRun result T order at message root s octets.now (O.log out.old) (O.log out.new) }
-        ensures takes { IfOk result (λ taken. (T : Ty) (order : ByteOrder) (at message : ℕ)
-            (root : PathRoot) (s : List ℕ) →
-            Reads catalogue.now T order at message root self.old s →
-            TakesRun catalogue.now T order at message root self.new s
-            (take taken.0 octets.now) taken.1) }
-        ensures within { IfOk result (λ taken. taken.0 ≤ length octets.now) }
-        ensures some { IfOk result (λ taken. 0 < taken.0) }
-        ensures fits { IfOk result (λ taken. GoesOn taken.1 → Fits catalogue.now self.new) }
-        ensures done { IfOk result (λ taken. taken.1 ≡ Progress.Done → IsDone self.new) }
-    {
-        if !self.has_parts(octets) {
-            return self.take_some(catalogue, octets, out);
-        }
-        let (front, _) = self.take_parts(catalogue, octets, out)?;
-        if front == octets.len() {
-            return Ok((front, Progress::More));
-        }
-        let (count, progress) = self.take_some(catalogue, &octets[front..], out)?;
-        Ok((front + count, progress))
-    }
-
     /// Takes some of the octets, of which there is at least one: a number or the rest of a piece that stands whole at
-    /// their head, or those that only add to what is held, and one more.
+    /// their head, or those that only add to what is held, and one more. Numbers that are parts of one part are taken
+    /// together.
     #[inline(never)]
     fn take_some<O: Out>(
         &mut self,
@@ -117,9 +83,69 @@ impl Decoder {
         ensures fits { IfOk result (λ taken. GoesOn taken.1 → Fits catalogue.now self.new) }
         ensures done { IfOk result (λ taken. taken.1 ≡ Progress.Done → IsDone self.new) }
     {
-        if let Some(ahead) = self.number_ahead(catalogue, octets) {
-            return self.take_ahead(catalogue, octets, ahead, true, out);
+        let Some(ahead) = self.number_ahead(catalogue, octets) else {
+            return self.take_other(catalogue, octets, out);
+        };
+        if self.has_parts(octets) {
+            return self.take_parts(catalogue, octets, out);
         }
+        self.take_ahead(catalogue, octets, ahead, true, out)
+    }
+
+    /// The same, but for numbers one at a time.
+    #[inline(never)]
+    pub(crate) fn take_one<O: Out>(
+        &mut self,
+        catalogue: &Catalogue,
+        octets: &[u8],
+        out: &mut O,
+    ) -> Result<(usize, Progress), OutFault>
+        requires fits { Fits catalogue.now self.old }
+        requires some { 0 < length octets.now }
+        ensures writes { (T : Ty) (order : ByteOrder) (at message : ℕ) (root : PathRoot)
+            (s : List ℕ) →
+            Reads catalogue.now T order at message root self.old s →
+            WritesRun result T order at message root s octets.now (O.log out.old) (O.log out.new) }
+        ensures takes { IfOk result (λ taken. (T : Ty) (order : ByteOrder) (at message : ℕ)
+            (root : PathRoot) (s : List ℕ) →
+            Reads catalogue.now T order at message root self.old s →
+            TakesRun catalogue.now T order at message root self.new s
+            (take taken.0 octets.now) taken.1) }
+        ensures within { IfOk result (λ taken. taken.0 ≤ length octets.now) }
+        ensures some { IfOk result (λ taken. 0 < taken.0) }
+        ensures fits { IfOk result (λ taken. GoesOn taken.1 → Fits catalogue.now self.new) }
+        ensures done { IfOk result (λ taken. taken.1 ≡ Progress.Done → IsDone self.new) }
+    {
+        match self.number_ahead(catalogue, octets) {
+            Some(ahead) => self.take_ahead(catalogue, octets, ahead, true, out),
+            None => self.take_other(catalogue, octets, out),
+        }
+    }
+
+    /// The same where no primitive's number stands whole at their head.
+    #[inline(always)]
+    fn take_other<O: Out>(
+        &mut self,
+        catalogue: &Catalogue,
+        octets: &[u8],
+        out: &mut O,
+    ) -> Result<(usize, Progress), OutFault>
+        requires fits { Fits catalogue.now self.old }
+        requires some { 0 < length octets.now }
+        ensures writes { (T : Ty) (order : ByteOrder) (at message : ℕ) (root : PathRoot)
+            (s : List ℕ) →
+            Reads catalogue.now T order at message root self.old s →
+            WritesRun result T order at message root s octets.now (O.log out.old) (O.log out.new) }
+        ensures takes { IfOk result (λ taken. (T : Ty) (order : ByteOrder) (at message : ℕ)
+            (root : PathRoot) (s : List ℕ) →
+            Reads catalogue.now T order at message root self.old s →
+            TakesRun catalogue.now T order at message root self.new s
+            (take taken.0 octets.now) taken.1) }
+        ensures within { IfOk result (λ taken. taken.0 ≤ length octets.now) }
+        ensures some { IfOk result (λ taken. 0 < taken.0) }
+        ensures fits { IfOk result (λ taken. GoesOn taken.1 → Fits catalogue.now self.new) }
+        ensures done { IfOk result (λ taken. taken.1 ≡ Progress.Done → IsDone self.new) }
+    {
         if let Some(ahead) = self.piece_ahead(catalogue, octets) {
             return self.take_ahead(catalogue, octets, ahead, false, out);
         }

@@ -47,7 +47,7 @@ returns-clause-writes g c T order at message root s r =
 pub returns-clause-takes : goal.returns-clause-takes
 returns-clause-takes g c T order at message root s r =
     let d = c.args.self.now in
-    part_takes c.args.catalogue.now d c.args.octets.now c.args.part c.requires.fits c.requires.ahead _
+    part_takes c.args.catalogue.now d c.args.octets.now c.args.part c.requires.fits c.requires.ahead _ c.args.next c.requires.next
     (record {
       order = refl;
       root = refl;
@@ -64,7 +64,7 @@ returns-clause-takes g c T order at message root s r =
 pub returns-clause-fits : goal.returns-clause-fits
 returns-clause-fits g c =
     let d = c.args.self.now in
-    part_fits c.args.catalogue.now d c.args.octets.now c.args.part c.requires.fits c.requires.ahead _
+    part_fits c.args.catalogue.now d c.args.octets.now c.args.part c.requires.fits c.requires.ahead _ c.args.next c.requires.next
     (record {
       order = refl;
       root = refl;

@@ -28,7 +28,7 @@ returns-in_err-count-clause-writes g c T order at message root s r =
     let before = c.loop-taken.invariant in
     let broke = rw (rest_from t octets) at (c.in_err-count.ensures.writes T order at message root (s ++ take t octets) (before.reads T order at message root s r)) in
     writes_broken c.from_residual.result T order at message root s octets _ _ c.from_residual.ensures.0
-    (subst (λ xs. BreaksOff T order at message root s xs (g.O.Out.log c.args.out.now) (g.O.Out.log c.take_next.new.out)) (take-append-drop t octets)
+    (subst (λ xs. BreaksOff T order at message root s xs (g.O.Out.log c.args.out.now) (g.O.Out.log c.take_some.new.out)) (take-append-drop t octets)
     (breaks_both T order at message root s (take t octets) (drop t octets) _ _ _ (before.answers T order at message root s r)
     (before.text T order at message root s r) broke))
 
@@ -50,7 +50,7 @@ returns-in_default-clause-takes g c T order at message root s r =
     let before = c.loop-taken.invariant in
     let now = rw (rest_from t octets) at (c.in_ok-count.ensures.takes T order at message root (s ++ take t octets) (before.reads T order at message root s r)) in
     rw (take-add t n octets)
-    (takes_both c.args.catalogue.now T order at message root c.take_next.new.self s (take t octets) (take n (drop t octets))
+    (takes_both c.args.catalogue.now T order at message root c.take_some.new.self s (take t octets) (take n (drop t octets))
     c.in_ok-count.progress (before.answers T order at message root s r) now)
 
 pub loop-taken-preserved : goal.loop-taken-preserved
@@ -61,11 +61,11 @@ loop-taken-preserved g c =
     let before = c.loop-taken.invariant in
     let runs : (T : Ty) (order : Order) (at message : ℕ) (root : Root) (s : List ℕ) →
     Reads c.args.catalogue.now T order at message root c.args.self.now s →
-    TakesRun c.args.catalogue.now T order at message root c.take_next.new.self s (take (t + n) octets) progress.More =
+    TakesRun c.args.catalogue.now T order at message root c.take_some.new.self s (take (t + n) octets) progress.More =
     λ T order at message root s r.
     let now = rw (rest_from t octets) at (c.in_ok-count.ensures.takes T order at message root (s ++ take t octets) (before.reads T order at message root s r)) in
     rw (← c.in-More.is, take-add t n octets)
-    (takes_both c.args.catalogue.now T order at message root c.take_next.new.self s (take t octets) (take n (drop t octets))
+    (takes_both c.args.catalogue.now T order at message root c.take_some.new.self s (take t octets) (take n (drop t octets))
     c.in_ok-count.progress (before.answers T order at message root s r) now) in
     let l = length-drop t octets in
     let within = rw (rest_from t octets) at c.in_ok-count.ensures.within in

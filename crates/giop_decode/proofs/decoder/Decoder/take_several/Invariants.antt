@@ -7,7 +7,6 @@ use Rattle.giop_decode.specs.Noted.{is_header_root}
 use Rattle.giop_decode.specs.Runs.{added_lines_of_run, AreAnswered}
 use Rattle.giop_decode.specs.Spelling.{lines_text}
 use Rattle.giop_decode.proofs.decoder.Decoder.take_several.Given as goal
-use Rattle.giop_print.specs.Line.{line_text}
 use Rattle.giop_print.specs.Output.{Wrote}
 use Rattle.giop_print.specs.declared.path.Root.{Root}
 use Rattle.giop_sig.specs.Types.{Ty}
@@ -19,8 +18,8 @@ invariant-loop-part g l =
       fits : Fits l.catalogue l.self;
       body : is_header_root l.self.root ≡ false;
       outside : l.self.inside ≡ false;
-      front : line_text l.line ≡ front_text l.catalogue l.self;
-      short : length (line_text l.line) ≤ 128;
+      front : l.front ≡ front_text l.catalogue l.self;
+      short : length l.front ≤ 128;
       reads : (T : Ty) (order : Order) (at message : ℕ) (root : Root) (s : List ℕ) →
           Reads l.catalogue T order at message root l.initial.self s →
           Reads l.catalogue T order at message root l.self (s ++ take l.taken l.octets);

@@ -2,7 +2,7 @@ use Rattle.std.proofs.Common.{◌+◌, ◌<◌, ◌++◌, take, length, get_or, 
 use Rattle.giop_decode.proofs.Runs.{text_more, takes_more, breaks_off, writes_broken}
 use Rattle.giop_decode.proofs.Segments.{said_none}
 use Rattle.giop_decode.proofs.Taking.{takes_to, due_is, done}
-use Rattle.giop_decode.proofs.decoder.Decoder.take_some.Goals as goal
+use Rattle.giop_decode.proofs.decoder.Decoder.take_other.Goals as goal
 use Rattle.giop_decode.specs.Runs.{added_lines_of_run}
 use Rattle.giop_decode.specs.Spelling.{lines_text}
 use Rattle.giop_print.specs.Output.{Wrote}
