@@ -360,7 +360,7 @@ def check_changed(draw: random.Random, lines: List[str]) -> bool:
 
 def check_picture() -> None:
     """The picture of docs/USE.md is that of the command in front of it."""
-    command = re.search(r"(?m)^    (.* -o) resolve\.svg$", (TOP / "docs/USE.md").read_text())
+    command = re.search(r"(?m)^    (.* -o) \S*resolve\.svg$", (TOP / "docs/USE.md").read_text())
     assert command
     path = os.pathsep.join([str(GIOPCAP.parent), str(SCRIPTS), os.environ["PATH"]])
     words = ["bash", "-o", "pipefail", "-c", f"{command[1]} -"]
