@@ -10,7 +10,8 @@ use Rattle.giop_sig.specs.declared.entries.Entry.TheVariants as entries
 use Rattle.giop_sig.specs.Types.{HasPlace, HasMember, IsUnion}
 use Rattle.giop_sig.specs.Table.{Node, Part, Case, node_in, part_at, type_of, name_of, name_at, switch_at, shape_of, case_part, IsFormed, IsPart, IsInner, IsSwitch, TakesOctet, IsScalarNode}
 use Rattle.giop_sig.specs.Table as nodes
-use Rattle.giop_sig.specs.Views.{node_view, part_view, case_view, IsSized}
+use Rattle.giop_sig.specs.UnionCases.{part_view}
+use Rattle.giop_sig.specs.Views.{node_view, IsSized}
 use Rattle.giop_sig.proofs.TreeLaws.{OnPart, case_read}
 use Rattle.giop_sig.proofs.Nodes.{part_there}
 
@@ -79,7 +80,7 @@ enum_name_short types i _ n formed = tt
 pub sized : (types : List Node) (n : ℕ) (e : Entry) → IsFormed types n (node_view e) → IsSized e
 sized types n (entries.Enumeration names) formed = omega (arith, formed.0, length-map names.items (λ x. x.items))
 sized types n (entries.Members parts) formed = omega (arith, formed.0, length-map parts.items part_view)
-sized types n (entries.Union switch cases otherwise) formed = omega (arith, formed.1, length-map cases.items case_view)
+sized types n (entries.Union switch cases otherwise) formed = formed.1
 sized types n _ formed = tt
 
 -- ---- two tables that agree below a number

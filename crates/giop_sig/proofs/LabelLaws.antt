@@ -4,10 +4,8 @@ use Rattle.std.specs.List.{list_any, AllByRecursion, position}
 use Rattle.std.specs.Str.{bytes_eq}
 use Rattle.std.proofs.Math.IntN.{+ℤ_idl}
 use Rattle.std.proofs.lemmas.Bool.{eq-eqb}
-use Rattle.std.proofs.lemmas.Bool.Decides.{Decides-int_eq}
 use Rattle.std.proofs.lemmas.List.Quantifiers.{position-Some}
 use Rattle.std.proofs.lemmas.Slice.Eq.{bytes_eq-Decides}
-use mathlib.Core.Bool.{beq}
 use Rattle.giop_cdr.specs.declared.prim.Primitive.{Primitive}
 use Rattle.giop_cdr.specs.declared.prim.Primitive.TheVariants as prims
 use Rattle.giop_cdr.specs.declared.number.Number.{Number}
@@ -18,6 +16,7 @@ use Rattle.giop_sig.specs.Grammar.{Value, Plain, Below, Truth, Enumerator, Label
 use Rattle.giop_sig.specs.Scopes.{below, if_at_most, numbered, label_number}
 use Rattle.giop_sig.specs.Validity.{same_value, same_label}
 use Rattle.giop_sig.specs.UnionReading.{Mark, same_mark}
+use Rattle.giop_sig.proofs.NumberLaws.{beq_true, beq_self, number_same, number_self}
 
 -- ---- Booleans
 
@@ -26,51 +25,7 @@ bool_same true b f g = sym (f refl)
 bool_same false true f g = g refl
 bool_same false false f g = refl
 
-beq_true : (a b : Bool) → beq a b ≡ true → a ≡ b
-beq_true true true e = refl
-beq_true true false e = absurd cc
-beq_true false true e = absurd cc
-beq_true false false e = refl
-
-beq_self : (a : Bool) → beq a a ≡ true
-beq_self true = refl
-beq_self false = refl
-
--- ---- numbers and values
-
-number_same : (m n : Number) → same_number m n ≡ true → m ≡ n
-number_same (numbers.Unsigned m) (numbers.Unsigned n) e = ap numbers.Unsigned (eqb-true m n e)
-number_same (numbers.Unsigned m) (numbers.Signed n) e = absurd cc
-number_same (numbers.Unsigned m) (numbers.Bits n) e = absurd cc
-number_same (numbers.Unsigned m) (numbers.Truth n) e = absurd cc
-number_same (numbers.Unsigned m) (numbers.Char n) e = absurd cc
-number_same (numbers.Signed m) (numbers.Unsigned n) e = absurd cc
-number_same (numbers.Signed m) (numbers.Signed n) e = ap numbers.Signed ((Decides-int_eq m n).0 e)
-number_same (numbers.Signed m) (numbers.Bits n) e = absurd cc
-number_same (numbers.Signed m) (numbers.Truth n) e = absurd cc
-number_same (numbers.Signed m) (numbers.Char n) e = absurd cc
-number_same (numbers.Bits m) (numbers.Unsigned n) e = absurd cc
-number_same (numbers.Bits m) (numbers.Signed n) e = absurd cc
-number_same (numbers.Bits m) (numbers.Bits n) e = ap numbers.Bits (eqb-true m n e)
-number_same (numbers.Bits m) (numbers.Truth n) e = absurd cc
-number_same (numbers.Bits m) (numbers.Char n) e = absurd cc
-number_same (numbers.Truth m) (numbers.Unsigned n) e = absurd cc
-number_same (numbers.Truth m) (numbers.Signed n) e = absurd cc
-number_same (numbers.Truth m) (numbers.Bits n) e = absurd cc
-number_same (numbers.Truth m) (numbers.Truth n) e = ap numbers.Truth (beq_true m n e)
-number_same (numbers.Truth m) (numbers.Char n) e = absurd cc
-number_same (numbers.Char m) (numbers.Unsigned n) e = absurd cc
-number_same (numbers.Char m) (numbers.Signed n) e = absurd cc
-number_same (numbers.Char m) (numbers.Bits n) e = absurd cc
-number_same (numbers.Char m) (numbers.Truth n) e = absurd cc
-number_same (numbers.Char m) (numbers.Char n) e = ap numbers.Char (eqb-true m n e)
-
-number_self : (n : Number) → same_number n n ≡ true
-number_self (numbers.Unsigned n) = eq-eqb n n refl
-number_self (numbers.Signed n) = (Decides-int_eq n n).1 refl
-number_self (numbers.Bits n) = eq-eqb n n refl
-number_self (numbers.Truth b) = beq_self b
-number_self (numbers.Char n) = eq-eqb n n refl
+-- ---- values
 
 value_same : (v w : Value) → same_value v w ≡ true → v ≡ w
 value_same (Plain v) (Plain w) e = ap Plain (eqb-true v w e)

@@ -4,6 +4,7 @@ mod Depths
 mod Formed
 mod Kept
 mod Finds
+mod CaseLabels
 mod Solid
 mod Tables
 pub mod PartLaws
@@ -34,6 +35,7 @@ mod DeclaredLaws
 mod CallLaws
 mod RepeatLaws
 mod EnumLaws
+mod NumberLaws
 mod LabelLaws
 mod TokensFew
 mod SpellLaws

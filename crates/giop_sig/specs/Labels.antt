@@ -4,7 +4,7 @@ use Rattle.giop_sig.specs.declared.labels.LabelValue as code
 use Rattle.giop_sig.specs.declared.labels.LabelValue.TheVariants as seen
 use Rattle.giop_sig.specs.declared.read_unions.Cases as kept
 use Rattle.giop_sig.specs.Grammar.{Value, Plain, Below, Truth, Enumerator}
-use Rattle.giop_sig.specs.Views.{case_view}
+use Rattle.giop_sig.specs.UnionCases.{case_view}
 use Rattle.giop_sig.specs.UnionReading.{Cases}
 
 abbrev pub value_view : code.LabelValue → Value

@@ -3,6 +3,7 @@ pub mod Table
 pub mod Trees
 pub mod Fits
 pub mod Builtin
+pub mod UnionCases
 pub mod Views
 pub mod HeaderTypes
 pub mod Entries

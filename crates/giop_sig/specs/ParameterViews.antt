@@ -1,7 +1,7 @@
 -- The parameters that were read, as contracts see them (state).
 use Rattle.std.specs.Prelude.{map}
 use Rattle.giop_sig.specs.declared.read_calls.Parameters.{Parameters}
-use Rattle.giop_sig.specs.Views.{part_view}
+use Rattle.giop_sig.specs.UnionCases.{part_view}
 use Rattle.giop_sig.specs.CallReading.{ParameterLists}
 
 abbrev pub parameter_lists_view : Parameters → ParameterLists

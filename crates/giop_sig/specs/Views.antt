@@ -1,19 +1,12 @@
 -- The entries of a catalogue's types as contracts see them (state).
 use Rattle.std.specs.Prelude.{◌≡◌, ℕ, ◌≤◌, List, length, map}
-use Rattle.giop_sig.specs.declared.entries.PartEntry.{PartEntry}
-use Rattle.giop_sig.specs.declared.entries.CaseEntry.{CaseEntry}
 use Rattle.giop_sig.specs.declared.entries.TagEntry.{TagEntry}
 use Rattle.giop_sig.specs.declared.entries.Entry.{Entry}
 use Rattle.giop_sig.specs.declared.entries.Entry.TheVariants as entries
 use Rattle.giop_sig.specs.declared.entries.EntryWithDepth.{EntryWithDepth}
-use Rattle.giop_sig.specs.Table.{Node, Part, Case, prim, enumeration, text, octets, members, union, sequence, array, encapsulation, tagged}
+use Rattle.giop_sig.specs.Table.{Node, prim, enumeration, text, octets, members, union, sequence, array, encapsulation, tagged}
 use Rattle.giop_sig.specs.Trees.{AreTypes, trees_of, depths, depth_of}
-
-abbrev pub part_view : PartEntry → Part
-part_view p = record { name = p.name.items; type = p.type_id.0 }
-
-abbrev pub case_view : CaseEntry → Case
-case_view c = record { labels = c.labels.items; part = part_view c.part }
+use Rattle.giop_sig.specs.UnionCases.{part_view}
 
 abbrev pub tag_view : TagEntry → Node
 tag_view t = tagged t.special (part_view t.tag) (part_view t.inner) (part_view t.other)
@@ -25,7 +18,7 @@ node_view (entries.Text bound) = text bound
 node_view (entries.Octets bound) = octets bound
 node_view (entries.Members parts) = members (map part_view parts.items)
 node_view (entries.Union switch cases otherwise) =
-    union switch.0 (map case_view cases.items) otherwise
+    union switch.0 cases otherwise
 node_view (entries.Sequence bound element) = sequence bound element.0
 node_view (entries.Array count element) = array count element.0
 node_view (entries.Encapsulation held) = encapsulation held.0
@@ -35,7 +28,7 @@ node_view (entries.Tagged t) = tag_view t
 abbrev pub IsSized : Entry → Type 0
 IsSized (entries.Enumeration names) = length names.items ≤ 1024
 IsSized (entries.Members parts) = length parts.items ≤ 256
-IsSized (entries.Union switch cases otherwise) = length cases.items ≤ 256
+IsSized (entries.Union switch cases otherwise) = length cases ≤ 256
 IsSized entry = Unit {0}
 
 abbrev pub nodes_view : List EntryWithDepth → List Node

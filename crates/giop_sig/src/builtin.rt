@@ -4,9 +4,11 @@ ghost use Rattle.std.specs.Option.{option_map};
 ghost use Rattle.giop_sig.specs.Table.{node_in};
 ghost use Rattle.giop_sig.specs.Builtin.{builtin_types};
 ghost use Rattle.giop_sig.specs.HeaderTypes.{header_number, fixed_number};
-ghost use Rattle.giop_sig.specs.Views.{node_view, part_view, case_view};
+ghost use Rattle.giop_sig.specs.Views.{node_view};
+ghost use Rattle.giop_sig.specs.UnionCases.{part_view, case_view};
 ghost use Rattle.giop_sig.specs.Literals.{literal_node, literal_part, literal_case};
 
+use crate::cases::UnionCases;
 use crate::entries::{CaseEntry, Entry, PartEntry, TagEntry, Types};
 use crate::numbers::{
     BOOLEAN, BUILTIN_LEN, CHAR, CODE_SETS, CODE_SETS_DATA, COMPLETED, DOUBLE, FLOAT, ID_ALONE,
@@ -353,7 +355,8 @@ fn entry_of(alloc: Global, literal: Literal) -> Result<Entry, AllocError>
         Literal::Names(names) => Entry::Enumeration(names_of(alloc, names)?),
         Literal::Members(parts) => Entry::Members(parts_of(alloc, parts)?),
         Literal::Target(switch, cases) => {
-            Entry::Union(TypeId(switch), cases_of(alloc, cases)?, Selected::Refused)
+            let cases = UnionCases::new(alloc, cases_of(alloc, cases)?)?;
+            Entry::Union(TypeId(switch), cases, Selected::Refused)
         }
         Literal::Sequence(element) => Entry::Sequence(None, TypeId(element)),
         Literal::Array(count, element) => Entry::Array(count, TypeId(element)),

@@ -1,12 +1,12 @@
 //! The types of a catalogue as they are kept: an entry for each, with its depth.
-ghost use Rattle.std.specs.Prelude.{◌≡◌, ℕ, ◌+◌, ◌^◌, ◌<◌, ◌≤◌, ◌++◌, ◌∷◌, [], length, map, Some, IfOk, OnOk, OnErr, IfSome, max};
+ghost use Rattle.std.specs.Prelude.{◌≡◌, ℕ, ◌+◌, ◌^◌, ◌<◌, ◌≤◌, ◌++◌, ◌∷◌, [], length, Some, IfOk, OnOk, OnErr, max};
 ghost use Rattle.std.specs.Option.{option_map};
-ghost use Rattle.std.specs.List.{list_any};
 ghost use Rattle.giop_sig.specs.Types.{depth, most, HasPlace, HasMember, IsUnion};
-ghost use Rattle.giop_sig.specs.Table.{node_in, IsFormed, shape_of, part_at, type_of, name_of, name_at, switch_at, selected, same_number, case_with};
+ghost use Rattle.giop_sig.specs.Table.{node_in, IsFormed, shape_of, part_at, type_of, name_of, name_at, switch_at, selected};
 ghost use Rattle.giop_sig.specs.Trees.{grow, type_in, depth_of, part_depth, AreTypes};
-ghost use Rattle.giop_sig.specs.Views.{part_view, case_view};
+ghost use Rattle.giop_sig.specs.UnionCases.{part_view};
 
+use crate::cases::UnionCases;
 use crate::types::{Selected, Shape, TypeId};
 use giop_cdr::{Number, Prim};
 use std::alloc::{AllocError, Global};
@@ -81,7 +81,7 @@ pub(crate) enum Entry {
     /// A struct.
     Members(Vec<PartEntry>),
     /// A union: its discriminator, its cases, and what is selected where no label is the number.
-    Union(TypeId, Vec<CaseEntry>, Selected),
+    Union(TypeId, UnionCases, Selected),
     /// A sequence, perhaps with a bound, of elements.
     Sequence(Option<u32>, TypeId),
     /// An array of so many elements.
@@ -107,7 +107,7 @@ impl Entry {
             Entry::Text(bound) => Shape::Text(*bound),
             Entry::Octets(bound) => Shape::Octets(*bound),
             Entry::Members(parts) => Shape::Members(parts.len() as u32),
-            Entry::Union(_, cases, _) => Shape::Union(cases.len() as u32),
+            Entry::Union(_, cases, _) => Shape::Union(cases.len()),
             Entry::Sequence(bound, _) => Shape::Sequence(*bound),
             Entry::Array(count, _) => Shape::Array(*count),
             Entry::Encapsulation(_) => Shape::Encapsulation,
@@ -123,7 +123,7 @@ impl Entry {
     {
         match self {
             Entry::Members(parts) => parts[place as usize].type_id,
-            Entry::Union(_, cases, _) => cases[place as usize].part.type_id,
+            Entry::Union(_, cases, _) => cases.part(place).type_id,
             Entry::Sequence(_, element) => *element,
             Entry::Array(_, element) => *element,
             Entry::Encapsulation(held) => *held,
@@ -139,7 +139,7 @@ impl Entry {
     {
         match self {
             Entry::Members(parts) => &parts[place as usize].name,
-            Entry::Union(_, cases, _) => &cases[place as usize].part.name,
+            Entry::Union(_, cases, _) => &cases.part(place).name,
             Entry::Tagged(tagged) => &tagged.part(place).name,
             _ => unreachable!(),
         }
@@ -176,34 +176,13 @@ impl Entry {
         ensures { result ≡ selected (node_view self.now) number }
     {
         match self {
-            Entry::Union(_, cases, otherwise) => match case_of(cases, number) {
+            Entry::Union(_, cases, otherwise) => match cases.find(number) {
                 Some(place) => Selected::Case(place),
                 None => *otherwise,
             },
             Entry::Tagged(tagged) => tagged.select(number),
             _ => Selected::Nothing,
         }
-    }
-}
-
-/// Whether the number is among the labels.
-fn has_label(labels: &[Number], number: Number) -> bool
-    ensures { result ≡ list_any (λ label. same_number label number) labels.now }
-{
-    labels.contains(&number)
-}
-
-/// The first case with the number among its labels.
-fn case_of(cases: &[CaseEntry], number: Number) -> Option<u32>
-    requires { length cases.now ≤ 256 }
-    ensures { result ≡ case_with number (map case_view cases.now) }
-{
-    match cases
-        .iter()
-        .position(|case| has_label(&case.labels, number))
-    {
-        None => None,
-        Some(place) => Some(place as u32),
     }
 }
 

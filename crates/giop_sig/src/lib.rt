@@ -3,6 +3,7 @@
 #![tactic(auto)]
 
 mod builtin;
+mod cases;
 mod catalogue;
 mod draft;
 mod entries;

@@ -1,7 +1,7 @@
 //! Reading operations.
 ghost use Rattle.std.specs.Prelude.{◌≡◌, ◌<◌, length, map};
 ghost use Rattle.giop_sig.specs.Outcomes.{Gives};
-ghost use Rattle.giop_sig.specs.Views.{part_view};
+ghost use Rattle.giop_sig.specs.UnionCases.{part_view};
 ghost use Rattle.giop_sig.specs.CallReading.{ParameterLists, return_at, new_operation_at, direction_of, direction_at, in_request, in_reply, with_param, param_step, params_run, params_at, operation_at, no_parameters};
 ghost use Rattle.giop_sig.specs.Scopes.{part};
 ghost use Rattle.giop_sig.specs.ParameterViews.{parameter_lists_view};
@@ -9,7 +9,7 @@ ghost use Rattle.giop_sig.specs.ParameterViews.{parameter_lists_view};
 use crate::draft::Draft;
 use crate::entries::{Entry, PartEntry};
 use crate::parse_stop::ParseStop;
-use crate::read_items::{DECLARED_MAX, WORDS_MAX, item_at, part_of};
+use crate::read_items::{DECLARED_MAX, WORDS_MAX, add_part, item_at, part_of};
 use crate::read_types::{refused, type_at};
 use crate::types::TypeId;
 use giop_tokens::{
@@ -103,11 +103,9 @@ fn add_to_request(
         (Ok (in_request direction (part name.now t.0) (map part_view parts.old.items))) }
 {
     match direction {
-        Direction::Out => {}
-        Direction::In => parts.push(part_of(alloc, name, t)?)?,
-        Direction::Inout => parts.push(part_of(alloc, name, t)?)?,
+        Direction::Out => Ok(()),
+        Direction::In | Direction::Inout => add_part(alloc, parts, name, t),
     }
-    Ok(())
 }
 
 /// Adds a parameter to the members of replies, where it is one.
@@ -122,11 +120,9 @@ fn add_to_reply(
         (Ok (in_reply direction (part name.now t.0) (map part_view parts.old.items))) }
 {
     match direction {
-        Direction::In => {}
-        Direction::Out => parts.push(part_of(alloc, name, t)?)?,
-        Direction::Inout => parts.push(part_of(alloc, name, t)?)?,
+        Direction::In => Ok(()),
+        Direction::Out | Direction::Inout => add_part(alloc, parts, name, t),
     }
-    Ok(())
 }
 
 /// Parameters that were read: their names, and the members of requests and of replies.

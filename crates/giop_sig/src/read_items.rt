@@ -1,5 +1,5 @@
 //! Reading members: items, structs and exceptions.
-ghost use Rattle.std.specs.Prelude.{◌≡◌, ◌<◌, ◌≤◌, length, map, IfSome, None};
+ghost use Rattle.std.specs.Prelude.{◌≡◌, ◌<◌, ◌≤◌, ◌++◌, ◌∷◌, [], length, map, IfSome, None};
 ghost use Rattle.std.specs.Map.{lookup};
 ghost use Rattle.std.specs.Str.{bytes_eq};
 ghost use Rattle.giop_sig.specs.Outcomes.{Gives};
@@ -7,7 +7,8 @@ ghost use Rattle.giop_sig.specs.Scopes.{part};
 ghost use Rattle.giop_sig.specs.ScopeViews.{IsKnown};
 ghost use Rattle.giop_sig.specs.TypeReading.{added};
 ghost use Rattle.giop_sig.specs.Validity.{is_among};
-ghost use Rattle.giop_sig.specs.Views.{node_view, part_view};
+ghost use Rattle.giop_sig.specs.UnionCases.{part_view};
+ghost use Rattle.giop_sig.specs.Views.{node_view};
 ghost use Rattle.giop_sig.specs.Table.{IsFormed, TakesOctet, array};
 ghost use Rattle.giop_sig.specs.ItemReading.{array_type, new_name_at, declared_at, item_at, member_step, members_at, filled_at, type_end_at, structure_at, new_repository_at, exception_at};
 
@@ -119,6 +120,20 @@ pub(crate) fn part_of(alloc: Global, name: &[u8], type_id: TypeId) -> Result<Par
     })
 }
 
+/// Adds a part of a name behind others.
+pub(crate) fn add_part(
+    alloc: Global,
+    parts: &mut Vec<PartEntry>,
+    name: &[u8],
+    type_id: TypeId,
+) -> Result<(), ParseStop>
+    ensures { Gives (λ x. map part_view parts.new.items) result
+        (Ok (map part_view parts.old.items ++ part name.now type_id.0 ∷ [])) }
+{
+    parts.push(part_of(alloc, name, type_id)?)?;
+    Ok(())
+}
+
 /// Reads the closing mark, or one member more: whether it was the mark, and what follows.
 #[tactic(auto, unfolding(crate::specs::ItemReading::member_step, crate::specs::ItemReading::member_at))]
 fn member_step<'a>(
@@ -147,7 +162,7 @@ fn member_step<'a>(
     let (name, t, rest) = item_at(draft, at, MEMBERS_MAX, seen.as_slice(), text)?;
     let rest = mark(rest, Mark::Semicolon)?;
     seen.push(name)?;
-    parts.push(part_of(alloc, name, t)?)?;
+    add_part(alloc, parts, name, t)?;
     Ok((false, rest))
 }
 

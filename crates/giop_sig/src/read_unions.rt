@@ -1,14 +1,15 @@
 //! Reading unions.
-ghost use Rattle.std.specs.Prelude.{◌≡◌, ◌+◌, ◌^◌, ◌<◌, ◌≤◌, false, [], length, OnOk, IfOk};
+ghost use Rattle.std.specs.Prelude.{◌≡◌, ◌+◌, ◌^◌, ◌<◌, ◌≤◌, false, [], length, OnOk, IfOk, IfErr};
 ghost use Rattle.std.specs.List.{list_any};
 ghost use Rattle.giop_sig.specs.Outcomes.{Gives};
-ghost use Rattle.giop_sig.specs.Table.{node_at};
+ghost use Rattle.giop_sig.specs.Table.{node_at, union as union_node};
 ghost use Rattle.giop_sig.specs.Scopes.{label_number, part};
 ghost use Rattle.giop_sig.specs.Views.{node_view};
 ghost use Rattle.giop_sig.specs.Labels.{value_view, cases_view};
 ghost use Rattle.giop_sig.specs.Repeats.{in_steps};
 ghost use Rattle.giop_sig.specs.UnionReading.{same_mark, number_of_value, unseen_label, label_at, begins_label, labels_step, too_many_labels, labels_at, no_cases, chosen, with_case, case_at, cases_step, too_many_cases, cases_at, can_switch, switch_at, union_at};
 
+use crate::cases::UnionCases;
 use crate::draft::Draft;
 use crate::entries::{CaseEntry, Entry};
 use crate::labels::{LabelValue, label_number, value_at};
@@ -350,6 +351,16 @@ fn cases_at<'a>(
     }
 }
 
+/// The entry of a union with a discriminator of this type.
+fn entry_of(alloc: Global, switch: TypeId, cases: Cases<'_>) -> Result<Entry, ParseStop>
+    ensures ok { IfOk result (λ entry. node_view entry
+        ≡ union_node switch.0 (cases_view cases.entry).cases (cases_view cases.entry).otherwise) }
+    ensures err { IfErr result (λ stop. stop ≡ ParseStop.Memory) }
+{
+    let made = UnionCases::new(alloc, cases.cases)?;
+    Ok(Entry::Union(switch, made, cases.otherwise))
+}
+
 /// A union, after its word; what follows it.
 #[tactic(auto, unfolding(crate::specs::UnionReading::union_at))]
 pub(crate) fn union<'a>(
@@ -369,6 +380,6 @@ pub(crate) fn union<'a>(
     let rest = mark(rest, Mark::CloseParenthesis)?;
     let rest = mark(rest, Mark::OpenBrace)?;
     let (cases, rest) = cases_at(alloc, draft, at, switch, rest)?;
-    let entry = Entry::Union(switch, cases.cases, cases.otherwise);
+    let entry = entry_of(alloc, switch, cases)?;
     type_end_at(draft, at, name, entry, rest)
 }

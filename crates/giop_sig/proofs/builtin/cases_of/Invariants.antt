@@ -1,5 +1,5 @@
 use Rattle.std.proofs.Common.{◌≡◌, map, take}
-use Rattle.giop_sig.specs.Views.{case_view}
+use Rattle.giop_sig.specs.UnionCases.{case_view}
 use Rattle.giop_sig.specs.Literals.{literal_case}
 use Rattle.giop_sig.proofs.builtin.cases_of.Given as goal
 

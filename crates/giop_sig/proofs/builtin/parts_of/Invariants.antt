@@ -1,5 +1,5 @@
 use Rattle.std.proofs.Common.{◌≡◌, map, take}
-use Rattle.giop_sig.specs.Views.{part_view}
+use Rattle.giop_sig.specs.UnionCases.{part_view}
 use Rattle.giop_sig.specs.Literals.{literal_part}
 use Rattle.giop_sig.proofs.builtin.parts_of.Given as goal
 

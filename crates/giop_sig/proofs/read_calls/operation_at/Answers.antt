@@ -1,5 +1,5 @@
 use Rattle.std.proofs.Common.{length, map, ap, arith}
-use Rattle.giop_sig.specs.Views.{part_view}
+use Rattle.giop_sig.specs.UnionCases.{part_view}
 use Rattle.giop_sig.proofs.ItemTaken.{added_below}
 use Rattle.giop_sig.proofs.CallTaken.{call_ready, parts_on, calls_grow, new_operation_takes, still_uncalled, below_on}
 use Rattle.giop_sig.proofs.read_calls.operation_at.Goals as goal

@@ -1,7 +1,7 @@
 use Rattle.std.proofs.Common.{◌≡◌, ◌-◌, map}
 use Rattle.giop_sig.specs.CallReading.{params_run, no_parameters}
 use Rattle.giop_sig.specs.ParameterViews.{parameter_lists_view}
-use Rattle.giop_sig.specs.Views.{part_view}
+use Rattle.giop_sig.specs.UnionCases.{part_view}
 use Rattle.giop_sig.proofs.read_calls.params_run.Given as goal
 
 abbrev pub invariant-loop : goal.invariant-loop

@@ -1,6 +1,6 @@
 use Rattle.std.proofs.Common.{map, Err, sym, ap, ◌∙◌}
 use Rattle.std.proofs.lemmas.Result.{err_from_is_err_and}
-use Rattle.giop_sig.specs.Views.{part_view}
+use Rattle.giop_sig.specs.UnionCases.{part_view}
 use Rattle.giop_sig.proofs.MemberLoop.{goes_on, ends, fails, limit}
 use Rattle.giop_sig.proofs.read_items.members_at.Goals as goal
 

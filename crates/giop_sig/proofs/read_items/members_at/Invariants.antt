@@ -1,6 +1,6 @@
 use Rattle.std.proofs.Common.{◌≡◌, ◌-◌, map, []}
 use Rattle.giop_sig.specs.ItemReading.{members_run}
-use Rattle.giop_sig.specs.Views.{part_view}
+use Rattle.giop_sig.specs.UnionCases.{part_view}
 use Rattle.giop_sig.proofs.read_items.members_at.Given as goal
 
 abbrev pub invariant-loop : goal.invariant-loop

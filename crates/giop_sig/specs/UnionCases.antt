@@ -1,0 +1,42 @@
+-- The cases of a union as contracts see them, and the list of its labels in which a case is searched for (state).
+use Rattle.std.specs.Prelude.{◌≡◌, ℕ, ◌<◌, Bool, true, List, length, Some, None, slice_index_or}
+use Rattle.std.specs.List.{All, Contains}
+use Rattle.std.specs.Int.{w64, cast_unsigned, from_bool}
+use Rattle.giop_cdr.specs.declared.number.Number.{Number}
+use Rattle.giop_cdr.specs.declared.number.Number.TheVariants as numbers
+use Rattle.giop_sig.specs.declared.entries.PartEntry.{PartEntry}
+use Rattle.giop_sig.specs.declared.entries.CaseEntry.{CaseEntry}
+use Rattle.giop_sig.specs.declared.cases.PlacedLabel.{PlacedLabel}
+use Rattle.giop_sig.specs.Table.{Part, Case, case_with}
+
+abbrev pub part_view : PartEntry → Part
+part_view p = record { name = p.name.items; type = p.type_id.0 }
+
+abbrev pub case_view : CaseEntry → Case
+case_view c = record { labels = c.labels.items; part = part_view c.part }
+
+-- where a number stands in the list: those of one type have different keys
+abbrev pub key_of : Number → ℕ
+key_of (numbers.Unsigned n) = n
+key_of (numbers.Signed n) = cast_unsigned w64 n
+key_of (numbers.Bits n) = n
+key_of (numbers.Truth b) = from_bool b
+key_of (numbers.Char n) = n
+
+-- the keys rise along the list
+abbrev pub Rise : List PlacedLabel → Type 0
+Rise ls = (i j : ℕ) (d : PlacedLabel) → i < j → j < length ls
+    → key_of (slice_index_or ls i d).number < key_of (slice_index_or ls j d).number
+
+abbrev pub placed : ℕ → Number → PlacedLabel
+placed i n = record { number = n; place = i }
+
+-- each number of the list selects some case, and the case that a number selects is in the list beside it
+pub record AreLabels (cases : List Case) (ls : List PlacedLabel) : Type 0 where
+  pub each : All (λ l. case_with l.number cases ≡ None → ⊥) ls
+  pub whole : (n : Number) (i : ℕ) → case_with n cases ≡ Some i → Contains ls (placed i n)
+
+-- the labels of the cases; and their keys rise, if that is noted
+pub record AreFound (cases : List Case) (ls : List PlacedLabel) (rises : Bool) : Type 0 where
+  pub labels : AreLabels cases ls
+  pub order : rises ≡ true → Rise ls

@@ -1,0 +1,192 @@
+//! The cases of a union, and how the case of a label is found: by halves, in a list of all labels.
+ghost use Rattle.std.specs.Prelude.{◌≡◌, ℕ, ◌<◌, ◌≤◌, ◌++◌, List, length, map, true, Some, IfOk, OnOk, slice_get, slice_index_or};
+ghost use Rattle.std.specs.List.{list_any};
+ghost use Rattle.giop_sig.specs.Table.{Case, case_part, case_with, same_number};
+ghost use Rattle.giop_sig.specs.UnionCases.{part_view, case_view, key_of, placed, Rise, AreLabels, AreFound};
+
+use crate::entries::{CaseEntry, PartEntry};
+use giop_cdr::Number;
+use std::alloc::{AllocError, Global};
+use std::marker::Model;
+
+/// A label, with the place of the case that it selects.
+#[derive(Clone, Copy)]
+pub(crate) struct PlacedLabel {
+    pub(crate) number: Number,
+    pub(crate) place: usize,
+}
+
+/// The cases of a union, in their order. A contract sees a list of `Case`.
+#[derive(Drop)]
+pub(crate) struct UnionCases {
+    cases: Vec<CaseEntry>,
+    /// The labels of all cases, by their keys.
+    labels: Vec<PlacedLabel>,
+    /// Whether no two labels have the same key, as those of one type with different values have not.
+    rises: bool,
+}
+
+impl Model for UnionCases {
+    ghost use Rattle.std.specs.Prelude.{List, map};
+    ghost use Rattle.giop_sig.specs.Table.{Case};
+    ghost use Rattle.giop_sig.specs.UnionCases.{case_view, AreFound};
+
+    ghost Value = { List Case };
+
+    ghost view = { λ a. map case_view a.cases.items };
+
+    ghost invariant = { λ a. AreFound (map case_view a.cases.items) a.labels.items a.rises };
+}
+
+impl UnionCases {
+    /// Cases that stand in this order. Refused only for memory.
+    pub(crate) fn new(alloc: Global, cases: Vec<CaseEntry>) -> Result<UnionCases, AllocError>
+        ensures { IfOk result (λ made. made ≡ map case_view cases.items) }
+    {
+        let mut labels = labels_of(alloc, &cases)?;
+        labels.sort_unstable_by_key(|label| key_of(label.number));
+        let rises = rise(&labels);
+        Ok(UnionCases {
+            cases,
+            labels,
+            rises,
+        })
+    }
+
+    /// How many cases there are.
+    #[inline(always)]
+    pub(crate) fn len(&self) -> u32
+        requires { length self.now ≤ 256 }
+        ensures { result ≡ length self.now }
+    {
+        self.cases.len() as u32
+    }
+
+    /// The case at a place: its name and its type.
+    #[inline(always)]
+    pub(crate) fn part(&self, place: u32) -> &PartEntry
+        requires { place < length self.now }
+        ensures { case_part (slice_get self.now place) ≡ Some (part_view result.now) }
+    {
+        &self.cases[place as usize].part
+    }
+
+    /// The first case with the number among its labels.
+    pub(crate) fn find(&self, number: Number) -> Option<u32>
+        requires { length self.now ≤ 256 }
+        ensures { result ≡ case_with number self.now }
+    {
+        let found = if self.rises {
+            searched(&self.labels, number)
+        } else {
+            case_of(&self.cases, number)
+        };
+        match found {
+            None => None,
+            Some(place) => Some(place as u32),
+        }
+    }
+}
+
+/// Where a label stands in the list of labels: values of one type that differ have different keys.
+fn key_of(number: Number) -> u64
+    ensures { result ≡ key_of number }
+{
+    match number {
+        Number::Unsigned(n) => n,
+        Number::Signed(n) => n.cast_unsigned(),
+        Number::Bits(n) => n,
+        Number::Truth(truth) => u64::from(truth),
+        Number::Char(n) => u64::from(n),
+    }
+}
+
+/// Adds the labels of the case at a place.
+fn add_labels(
+    labels: &mut Vec<PlacedLabel>,
+    numbers: &[Number],
+    place: usize,
+) -> Result<(), AllocError>
+    ensures { OnOk result
+        (labels.new.items ≡ labels.old.items ++ map (placed place) numbers.now) }
+{
+    for number in numbers {
+        labels.push(PlacedLabel {
+            number: *number,
+            place,
+        })?;
+    }
+    Ok(())
+}
+
+/// The labels of cases.
+fn labels_of(alloc: Global, cases: &[CaseEntry]) -> Result<Vec<PlacedLabel>, AllocError>
+    ensures { IfOk result (λ labels. AreLabels (map case_view cases.now) labels.items) }
+{
+    let mut labels = Vec::new(alloc);
+    for place in 0..cases.len() {
+        add_labels(&mut labels, &cases[place].labels, place)?;
+    }
+    Ok(labels)
+}
+
+/// Whether each label has a greater key than the label before it.
+fn rise(labels: &[PlacedLabel]) -> bool
+    ensures { result ≡ true → Rise labels.now }
+{
+    for place in 1..labels.len() {
+        if key_of(labels[place].number) <= key_of(labels[place - 1].number) {
+            return false;
+        }
+    }
+    true
+}
+
+/// The place of the first label that has no smaller key.
+fn first_from(labels: &[PlacedLabel], key: u64) -> usize
+    requires { Rise labels.now }
+    ensures bound { result ≤ length labels.now }
+    ensures below { (i : ℕ) (d : PlacedLabel) → i < result
+        → key_of (slice_index_or labels.now i d).number < key }
+    ensures above { (i : ℕ) (d : PlacedLabel) → result ≤ i → i < length labels.now
+        → key ≤ key_of (slice_index_or labels.now i d).number }
+{
+    labels.partition_point(|label| key_of(label.number) < key)
+}
+
+/// Whether two numbers are the same value of one type.
+fn is_same(one: Number, other: Number) -> bool
+    ensures { result ≡ same_number one other }
+{
+    one == other
+}
+
+/// The case that the list of its union's labels has for a number.
+fn searched(labels: &[PlacedLabel], number: Number) -> Option<usize>
+    requires { Rise labels.now }
+    ensures { (cases : List Case) → AreLabels cases labels.now
+        → result ≡ case_with number cases }
+{
+    let at = first_from(labels, key_of(number));
+    if at < labels.len() && is_same(labels[at].number, number) {
+        Some(labels[at].place)
+    } else {
+        None
+    }
+}
+
+/// Whether the number is among the labels.
+fn has_label(labels: &[Number], number: Number) -> bool
+    ensures { result ≡ list_any (λ label. same_number label number) labels.now }
+{
+    labels.contains(&number)
+}
+
+/// The first case with the number among its labels, whatever their order.
+fn case_of(cases: &[CaseEntry], number: Number) -> Option<usize>
+    ensures { result ≡ case_with number (map case_view cases.now) }
+{
+    cases
+        .iter()
+        .position(|case| has_label(&case.labels, number))
+}
