@@ -55,6 +55,8 @@ def functions_of(text: str) -> list[tuple[int, int, str]]:
     for at, line in enumerate(lines):
         if head := re.match(r"impl\b(?:<[^{]*?>)?\s+(?:(\w+)(?:<[^{]*?>)? for )?(\w+)", line):
             around = head[2] + (head[1] or "") + "::"
+        elif head := re.match(r"(?:pub )?trait (\w+)", line):
+            around = head[1] + "::"
         elif line == "}":
             around = ""
         if head := re.match(r"(\s*)(?:pub(?:\([a-z]+\))? )?(?:const )?(?:unsafe )?fn (\w+)", line):

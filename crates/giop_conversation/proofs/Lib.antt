@@ -2,6 +2,7 @@ mod TimeLemmas
 mod TagLemmas
 mod TaggedLemmas
 mod TaggedPuts
+mod WholeLines
 pub mod Tagging
 pub mod FollowedLemmas
 mod FailingLemmas

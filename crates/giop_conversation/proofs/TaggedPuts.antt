@@ -7,7 +7,7 @@ use Rattle.giop_conversation.specs.TaggedText.{is_due, StandsIn, PutLine, PutFro
 use Rattle.giop_conversation.specs.TaggedState.{tagging_log, identity, is_clean, shown}
 use Rattle.giop_conversation.proofs.TaggedLemmas.{shown_is, shows, due_is}
 
-clean_line : (tag text : List ℕ) (due failures : ℕ) → (is_due text ≡ true → due ≡ length tag) →
+pub clean_line : (tag text : List ℕ) (due failures : ℕ) → (is_due text ≡ true → due ≡ length tag) →
     is_clean tag due failures text ≡ true
 clean_line tag text due failures whole = by (is_due text) refl
   where
@@ -20,7 +20,7 @@ unfolding counted
 counted_is_some failures =
     ne_eqb (min (failures + 1) (2 ^ 64 - 1)) 0 (λ none. absurd (omega (arith, none)))
 
-clean_failed : (tag text : List ℕ) (due failures : ℕ) →
+pub clean_failed : (tag text : List ℕ) (due failures : ℕ) →
     is_clean tag due (counted failures) text ≡ true
 clean_failed tag text due failures =
     or_left _ _ (or_left _ _ (not_from_false (counted failures == 0) (counted_is_some failures)))
@@ -35,7 +35,7 @@ shown_in (Some w) before tag since text due failures stands clean =
     shown_is w before tag since text due failures stands clean
 
 -- the text grows by octets, or stays
-grows : (a b : Option (List ℕ)) (tag more : List ℕ) (since since' due due' failures failures' : ℕ) →
+pub grows : (a b : Option (List ℕ)) (tag more : List ℕ) (since since' due due' failures failures' : ℕ) →
     ((before text : List ℕ) → StandsIn a before tag since text due →
     StandsIn b before tag since' (text ++ more) due') →
     ((text : List ℕ) → is_clean tag due' failures' (text ++ more) ≡ true) →

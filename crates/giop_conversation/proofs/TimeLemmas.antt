@@ -1,10 +1,11 @@
--- The years and months that days make.
-use Rattle.std.proofs.Common.{◌≡◌, ℕ, zero, suc, ◌+◌, ◌-◌, ◌*◌, ◌/◌, ◌≤◌, ◌<◌, Bool, true, false, nat_le, inl, inr, refl, sym, arith, add-one}
+-- The years and months that days make, and how long a number of seconds is.
+use Rattle.std.proofs.Common.{◌≡◌, ℕ, zero, suc, ◌+◌, ◌-◌, ◌*◌, ◌/◌, ◌^◌, ◌≤◌, ◌<◌, length, decimal, Bool, true, false, nat_le, inl, inr, refl, sym, arith, add-one}
 use Rattle.std.proofs.lemmas.Bool.Decides.{nat_tests}
 use Rattle.std.proofs.lemmas.Bool.{cases_lt, leb-true, leb-false}
 use Rattle.httpdate.specs.Calendar.{days_in_year, days_of_years, days_in_month, days_of_months}
 use Rattle.httpdate.proofs.CalendarLemmas.{days_of_years_closed, days_of_months_all, days_of_months_more}
-use Rattle.giop_conversation.specs.Times.{last_within, years, years_of, months_of}
+use Rattle.std.proofs.lemmas.Fmt.{length-decimal-le_wide}
+use Rattle.giop_conversation.specs.Times.{last_within, years, years_of, months_of, second}
 
 rises : (f : ℕ → ℕ) → ((n : ℕ) → f n ≤ f (suc n)) → (k more : ℕ) → f k ≤ f (more + k)
 rises f up k zero = let same : zero + k ≡ k = omega arith in rw same (omega arith)
@@ -115,3 +116,8 @@ pub december : (year days left : ℕ) → days_of_months year 11 + left ≡ days
     days < days_in_year year → left < 31
 december year days left is within =
     omega (arith, is, within, days_of_months_all year, days_of_months_more year 12 (omega arith))
+
+-- seconds of a span have at most 30 digits
+pub seconds_short : (n : ℕ) → n < 2 ^ 128 → length (decimal (n / second)) ≤ 30
+seconds_short n fits =
+    length-decimal-le_wide 30 (n / second) (omega arith) (omega (arith, fits)) (omega (arith, fits))

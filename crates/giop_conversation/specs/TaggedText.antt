@@ -16,6 +16,12 @@ unfoldable pub line_size : List ℕ → ℕ
 line_size [] = 0
 line_size (x ∷ xs) = if x == 10 then 1 else suc (line_size xs)
 
+-- a line: its LF is its last octet, and its only one
+pub record IsLine (octets : List ℕ) : Type 0 where
+  pub some : 0 < length octets
+  pub ended : (slice_index octets (length octets - 1) == 10) ≡ true
+  pub only : (k : ℕ) → k + 1 < length octets → (slice_index octets k == 10) ≡ false
+
 -- the text with tags, and all but `due` octets of the tag of the line behind it, where one begins there
 unfoldable pub stopped_at : List ℕ → List ℕ → ℕ → List ℕ
 stopped_at tag text due = with_tags tag text ++ take (length tag - due) (lead (is_due text) tag)

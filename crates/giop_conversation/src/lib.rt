@@ -23,4 +23,4 @@ pub use lines::{
 };
 pub use tag::{Tag, no_tag, stream_tag};
 pub use tagged::Tagged;
-pub use times::{TimeText, span_text, time_text};
+pub use times::{put_span, put_time};

@@ -5,9 +5,9 @@ ghost use Rattle.std.specs.Prelude.{◌≡◌};
 ghost use Rattle.giop_print.specs.Output.{Writes};
 ghost use Rattle.giop_conversation.specs.Lines.{stream_line, time_line, answers_line, raises_line, cause_word, closed_line, capture_fault_line, capture_total_line};
 
-use crate::times::{span_text, time_text};
+use crate::times::{put_span, put_time};
 use giop_calls::Call;
-use giop_print::{Out, OutFault, put_parts};
+use giop_print::{Line, Out, OutFault, numbered_line, put_parts};
 use itoa::Buffer;
 use tcp_flow::CloseCause;
 use tcp_segment::{Flow, endpoint_text};
@@ -27,18 +27,15 @@ pub struct CaptureTotals {
 pub fn stream_line<O: Out>(out: &mut O, flow: Flow, time: Option<u128>) -> Result<(), OutFault>
     ensures { Writes result (O.log out.old) (O.log out.new) (stream_line flow time) }
 {
-    put_parts(
-        out,
-        &[
-            b"stream ",
-            endpoint_text(flow.from).as_slice(),
-            b" > ",
-            endpoint_text(flow.to).as_slice(),
-            b" at ",
-            time_text(time).as_slice(),
-            b"\n",
-        ],
-    )
+    let mut line = Line::new();
+    line.put(b'\n');
+    put_time(&mut line, time);
+    line.put_octets(b" at ");
+    line.put_octets(endpoint_text(flow.to).as_slice());
+    line.put_octets(b" > ");
+    line.put_octets(endpoint_text(flow.from).as_slice());
+    line.put_octets(b"stream ");
+    out.put_line(&mut line)
 }
 
 /// The line of when the header of a message was complete.
@@ -46,18 +43,11 @@ pub fn stream_line<O: Out>(out: &mut O, flow: Flow, time: Option<u128>) -> Resul
 pub fn time_line<O: Out>(out: &mut O, message: u64, time: Option<u128>) -> Result<(), OutFault>
     ensures { Writes result (O.log out.old) (O.log out.new) (time_line message time) }
 {
-    let mut digits = Buffer::new();
-    let time = time_text(time);
-    put_parts(
-        out,
-        &[
-            b"m",
-            digits.format(message).as_bytes(),
-            b" time ",
-            time.as_slice(),
-            b"\n",
-        ],
-    )
+    let mut line = Line::new();
+    line.put(b'\n');
+    put_time(&mut line, time);
+    line.put_octets(b" time ");
+    numbered_line(out, message, &mut line)
 }
 
 /// The line of the call that a Reply answers, and how long after it the Reply's header was complete.
@@ -70,31 +60,41 @@ pub fn answers_line<O: Out>(
 ) -> Result<(), OutFault>
     ensures { Writes result (O.log out.old) (O.log out.new) (answers_line message call.now time) }
 {
-    let mut message_digits = Buffer::new();
-    let mut stream_digits = Buffer::new();
-    let mut call_digits = Buffer::new();
-    let span = span_text(call.time, time);
-    put_parts(
-        out,
-        &[
-            b"m",
-            message_digits.format(message).as_bytes(),
-            b" answers s",
-            stream_digits.format(call.stream).as_bytes(),
-            b" m",
-            call_digits.format(call.message).as_bytes(),
-            b" ",
-            call.name.as_slice(),
-            b" after ",
-            span.as_slice(),
-            b"\n",
-        ],
-    )
+    let mut line = Line::new();
+    line.put(b'\n');
+    put_span(&mut line, call.time, time);
+    line.put_octets(b" after ");
+    line.put_octets(call.name.as_slice());
+    line.put(b' ');
+    line.put_number(call.message);
+    line.put_octets(b" m");
+    line.put_number(call.stream);
+    line.put_octets(b" answers s");
+    numbered_line(out, message, &mut line)
 }
 
 /// The line of the exception that a Reply raises, by its repository id.
 #[tactic(auto, unfolding(crate::specs::Lines::raises_line))]
 pub fn raises_line<O: Out>(out: &mut O, message: u64, repository: &[u8]) -> Result<(), OutFault>
+    ensures { Writes result (O.log out.old) (O.log out.new) (raises_line message repository.now) }
+{
+    if repository.len() > SHORT {
+        return long_raises_line(out, message, repository);
+    }
+    let mut line = Line::new();
+    line.put(b'\n');
+    line.put_octets(repository);
+    line.put_octets(b" raises ");
+    numbered_line(out, message, &mut line)
+}
+
+/// How long a repository id may be that is spelled with its line. Most are shorter.
+const SHORT: usize = 128;
+
+/// The same of any repository id, in parts.
+#[tactic(auto, unfolding(crate::specs::Lines::raises_line))]
+#[inline(never)]
+fn long_raises_line<O: Out>(out: &mut O, message: u64, repository: &[u8]) -> Result<(), OutFault>
     ensures { Writes result (O.log out.old) (O.log out.new) (raises_line message repository.now) }
 {
     let mut digits = Buffer::new();
@@ -130,7 +130,11 @@ fn cause_word(cause: CloseCause) -> &'static [u8]
 pub fn closed_line<O: Out>(out: &mut O, cause: CloseCause) -> Result<(), OutFault>
     ensures { Writes result (O.log out.old) (O.log out.new) (closed_line cause) }
 {
-    put_parts(out, &[b"closed ", cause_word(cause), b"\n"])
+    let mut line = Line::new();
+    line.put(b'\n');
+    line.put_octets(cause_word(cause));
+    line.put_octets(b"closed ");
+    out.put_line(&mut line)
 }
 
 /// The line of a capture's own fault, and the number of its octet, from 1.

@@ -1,11 +1,13 @@
 //! An `Out` that puts a tag in front of each line.
 
-ghost use Rattle.std.specs.Prelude.{◌≡◌, ◌<◌, ◌≤◌, ◌↔◌, List, ℕ, [], length, IsTrue, OnOk, MatchResult};
+ghost use Rattle.std.specs.Prelude.{◌≡◌, ◌<◌, ◌≤◌, ◌^◌, ◌↔◌, List, ℕ, [], length, take, IsTrue, OnOk, MatchResult};
+ghost use Rattle.std.specs.Io.KnownBytes.{Appends};
+ghost use Rattle.giop_print.specs.Line.{line_text, line_room};
 ghost use Rattle.giop_print.specs.Output.{counted};
-ghost use Rattle.giop_conversation.specs.TaggedText.{line_size, due_behind, StandsIn, PutSome, PutNothing, PutLine, PutFront};
+ghost use Rattle.giop_conversation.specs.TaggedText.{line_size, due_behind, IsLine, StandsIn, PutSome, PutNothing, PutLine, PutFront};
 
 use crate::tag::{Tag, no_tag};
-use giop_print::{Out, OutFault};
+use giop_print::{Line, Out, OutFault};
 use memchr::memchr;
 use std::marker::Model;
 
@@ -132,6 +134,81 @@ impl<O: Out> Out for Tagged<O> {
             }
         }
     }
+
+    fn put_line(&mut self, line: &mut Line) -> Result<(), OutFault> {
+        if !fits_before(self.tag.as_slice(), self.due, self.since, line) {
+            return self.put_all(line.text());
+        }
+        line.put_octets(self.tag.as_slice());
+        let text = line.text();
+        let taken = put_most(&mut self.out, text);
+        self.since += taken as u64;
+        if taken == text.len() {
+            return Ok(());
+        }
+        self.due = self.due.saturating_sub(taken);
+        self.failures = one_more(self.failures);
+        Err(OutFault)
+    }
+}
+
+/// Whether a whole tag is due, a line has room for it, and the octets that were written can be counted on. The line is
+/// one line, with its end.
+fn fits_before(tag: &[u8], due: usize, since: u64, line: &Line) -> bool
+    ensures some { IsTrue result → 0 < length tag.now }
+    ensures whole { IsTrue result → due ≡ length tag.now }
+    ensures room { IsTrue result → length tag.now ≤ line_room line.now }
+    ensures line { IsTrue result → IsLine (line_text line.now) }
+    ensures counts { IsTrue result → since < 2 ^ 63 }
+{
+    due > 0 && due == tag.len() && due <= line.room() && since < MOST && is_line(line.text())
+}
+
+/// How many octets are written since the tag was set until a line and its tag are put one after the other.
+const MOST: u64 = 1 << 63;
+
+/// Whether octets are one line with its end.
+fn is_line(octets: &[u8]) -> bool
+    ensures { IsTrue result → IsLine octets.now }
+{
+    match octets.split_last() {
+        Some((last, front)) => *last == b'\n' && !front.contains(&b'\n'),
+        None => false,
+    }
+}
+
+/// Puts octets to an out until that has all of them or a put fails, and returns how many it took. Mostly that is one put.
+#[inline]
+fn put_most<O: Out>(out: &mut O, octets: &[u8]) -> usize
+    ensures within { result ≤ length octets.now }
+    ensures written { Appends (O.log out.old).written (O.log out.new).written (take result octets.now) }
+{
+    match out.put(octets) {
+        Ok(taken) => {
+            if taken == octets.len() {
+                return taken;
+            }
+            taken + put_more(out, &octets[taken..])
+        }
+        Err(_) => 0,
+    }
+}
+
+/// The same by as many puts as it takes.
+#[cold]
+#[inline(never)]
+fn put_more<O: Out>(out: &mut O, octets: &[u8]) -> usize
+    ensures within { result ≤ length octets.now }
+    ensures written { Appends (O.log out.old).written (O.log out.new).written (take result octets.now) }
+{
+    let mut at = 0;
+    while at < octets.len() {
+        match out.put(&octets[at..]) {
+            Ok(taken) => at += taken,
+            Err(_) => return at,
+        }
+    }
+    at
 }
 
 /// One more, in a count that stays at its greatest.

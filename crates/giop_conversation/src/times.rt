@@ -1,19 +1,12 @@
-//! Times and spans of time as text, in buffers of a fixed size.
+//! Times and spans of time, spelled in a line.
 
 ghost use Rattle.std.specs.Prelude.{◌≡◌, ◌+◌, ◌-◌, ◌/◌, ◌%◌, ◌<◌, ◌≤◌, ◌++◌, length, codes, MatchOption};
-ghost use Rattle.arrayvec.specs.ArrayVec.{array_vec_len};
+ghost use Rattle.giop_print.specs.Line.{line_text, line_room};
 ghost use Rattle.httpdate.specs.Calendar as calendar;
 ghost use Rattle.giop_conversation.specs.Times.{years, years_of, months_of, month_and_day, day_text, clock_text, last_digits, instant_text, time_text, seconds_text, span_text, second, day};
 
-use crate::buffer::put;
-use arrayvec::ArrayVec;
+use giop_print::Line;
 use itoa::Buffer;
-
-/// Room for the text of any time and any span.
-pub const TEXT_ROOM: usize = 52;
-
-/// The text of a time or a span.
-pub type TimeText = ArrayVec<u8, TEXT_ROOM>;
 
 /// Nanoseconds of a second.
 const SECOND: u128 = 1_000_000_000;
@@ -171,67 +164,71 @@ fn nine_digits(n: u32) -> [u8; 9]
     ]
 }
 
-/// Writes a time, by the whole years from 1970 on and the days of the year before it, and its nanoseconds.
-fn put_instant(text: &mut TimeText, passed: u16, days: u16, time: u128)
-    requires room { array_vec_len text.old + 30 ≤ TEXT_ROOM }
+/// Puts a time, by the whole years from 1970 on and the days of the year before it, and its nanoseconds, before what was
+/// spelled of a line.
+fn put_instant(line: &mut Line, passed: u16, days: u16, time: u128)
+    requires room { 30 ≤ line_room line.old }
     requires year { passed < years }
     requires within { days < calendar.days_in_year (1970 + passed) }
-    ensures { text.new.items ≡ text.old.items ++ (day_text passed days ++ (codes "T"
-        ++ (clock_text (time / second % 86_400) ++ (codes "." ++ (last_digits 9 (time % second) ++ codes "Z"))))) }
+    ensures text { line_text line.new ≡ (day_text passed days ++ (codes "T"
+        ++ (clock_text (time / second % 86_400) ++ (codes "." ++ (last_digits 9 (time % second) ++ codes "Z")))))
+        ++ line_text line.old }
+    ensures room { line_room line.old ≤ line_room line.new + 30 }
 {
-    put(text, &date_octets(passed, days));
-    text.push(b'T');
-    put(text, &clock_octets((time / SECOND % 86_400) as u32));
-    text.push(b'.');
-    put(text, &nine_digits((time % SECOND) as u32));
-    text.push(b'Z');
+    line.put(b'Z');
+    line.put_octets(&nine_digits((time % SECOND) as u32));
+    line.put(b'.');
+    line.put_octets(&clock_octets((time / SECOND % 86_400) as u32));
+    line.put(b'T');
+    line.put_octets(&date_octets(passed, days));
 }
 
-/// The text of a time, in nanoseconds since 1970-01-01 UTC: `2026-11-23T08:13:25.580228123Z`. It is `-` where there is none,
-/// and from the year 10000 on.
+/// Puts the text of a time, in nanoseconds since 1970-01-01 UTC, before what was spelled of a line:
+/// `2026-11-23T08:13:25.580228123Z`. It is `-` where there is none, and from the year 10000 on.
 #[tactic(auto, unfolding(crate::specs::Times::time_text, crate::specs::Times::instant_text))]
-pub fn time_text(time: Option<u128>) -> TimeText
-    ensures { result.items ≡ time_text time }
+pub fn put_time(line: &mut Line, time: Option<u128>)
+    requires { 30 ≤ line_room line.old }
+    ensures text { line_text line.new ≡ time_text time ++ line_text line.old }
+    ensures room { line_room line.old ≤ line_room line.new + 30 }
 {
-    let mut text = ArrayVec::new();
     let Some(time) = time else {
-        text.push(b'-');
-        return text;
+        line.put(b'-');
+        return;
     };
     match years_of(time / DAY) {
-        Some((passed, days)) => put_instant(&mut text, passed, days, time),
-        None => text.push(b'-'),
+        Some((passed, days)) => put_instant(line, passed, days, time),
+        None => line.put(b'-'),
     }
-    text
 }
 
-/// Writes nanoseconds in seconds.
+/// Puts nanoseconds in seconds before what was spelled of a line.
 #[tactic(auto, unfolding(crate::specs::Times::seconds_text))]
-fn put_seconds(text: &mut TimeText, nanoseconds: u128)
-    requires { array_vec_len text.old + 51 ≤ TEXT_ROOM }
-    ensures { text.new.items ≡ text.old.items ++ seconds_text nanoseconds }
+fn put_seconds(line: &mut Line, nanoseconds: u128)
+    requires { 40 ≤ line_room line.old }
+    ensures text { line_text line.new ≡ seconds_text nanoseconds ++ line_text line.old }
+    ensures room { line_room line.old ≤ line_room line.new + 40 }
 {
-    put(text, Buffer::new().format(nanoseconds / SECOND).as_bytes());
-    text.push(b'.');
-    put(text, &nine_digits((nanoseconds % SECOND) as u32));
+    line.put_octets(&nine_digits((nanoseconds % SECOND) as u32));
+    line.put(b'.');
+    line.put_octets(Buffer::new().format(nanoseconds / SECOND).as_bytes());
 }
 
-/// The text of the span from one time to another, both in nanoseconds, in seconds: `0.000228123`. Where it goes back `-`
-/// stands in front, and where a time is missing alone.
+/// Puts the text of the span from one time to another, both in nanoseconds, in seconds, before what was spelled of a line:
+/// `0.000228123`. Where it goes back `-` stands in front, and where a time is missing alone.
 #[tactic(auto, unfolding(crate::specs::Times::span_text))]
-pub fn span_text(from: Option<u128>, to: Option<u128>) -> TimeText
-    ensures { result.items ≡ span_text from to }
+pub fn put_span(line: &mut Line, from: Option<u128>, to: Option<u128>)
+    requires { 41 ≤ line_room line.old }
+    ensures text { line_text line.new ≡ span_text from to ++ line_text line.old }
+    ensures room { line_room line.old ≤ line_room line.new + 41 }
 {
-    let mut text = ArrayVec::new();
     let (Some(from), Some(to)) = (from, to) else {
-        text.push(b'-');
-        return text;
+        line.put(b'-');
+        return;
     };
     if from <= to {
-        put_seconds(&mut text, to - from);
+        put_seconds(line, to - from);
     } else {
-        text.push(b'-');
-        put_seconds(&mut text, from - to);
+        put_seconds(line, from - to);
+        line.put(b'-');
     }
-    text
 }

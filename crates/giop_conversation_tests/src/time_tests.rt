@@ -1,6 +1,7 @@
 //! Times and spans as text.
 
-use giop_conversation::{span_text, time_text};
+use giop_conversation::{put_span, put_time};
+use giop_print::Line;
 
 /// Times in nanoseconds since 1970-01-01 UTC, with their texts by another reading of the calendar.
 const TIMES: [(Option<u128>, &str); 8] = [
@@ -32,8 +33,9 @@ const TIMES: [(Option<u128>, &str); 8] = [
 #[test]
 fn a_time_is_a_date_of_the_calendar(rt: HostRuntime) {
     for (time, want) in TIMES {
-        let text = time_text(time);
-        assert!(rt; text.as_slice() == want.as_bytes(), "{want}");
+        let mut line = Line::new();
+        put_time(&mut line, time);
+        assert!(rt; line.text() == want.as_bytes(), "{want}");
     }
 }
 
@@ -50,7 +52,8 @@ const SPANS: [(Option<u128>, Option<u128>, &str); 6] = [
 #[test]
 fn a_span_is_in_seconds(rt: HostRuntime) {
     for (from, to, want) in SPANS {
-        let text = span_text(from, to);
-        assert!(rt; text.as_slice() == want.as_bytes(), "{want}");
+        let mut line = Line::new();
+        put_span(&mut line, from, to);
+        assert!(rt; line.text() == want.as_bytes(), "{want}");
     }
 }

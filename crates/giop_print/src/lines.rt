@@ -9,7 +9,7 @@ ghost use Rattle.giop_print.specs.Lines.{kind_line, kind_word, spaced, number_te
 
 use crate::line::Line;
 use crate::position::Position;
-use crate::sink::{Out, OutFault, put_all, put_parts};
+use crate::sink::{Out, OutFault, put_parts};
 use crate::value::{Piece, Value};
 use crate::words::{more_word, order_word, piece_word, put_kind, truth_word, type_word};
 use giop_cdr::{Number, Order, Prim, size};
@@ -80,7 +80,7 @@ pub fn line_behind<O: Out>(out: &mut O, front: &[u8], line: &mut Line) -> Result
     ensures { Writes result (O.log out.old) (O.log out.new) (front.now ++ line_text line.old) }
 {
     line.put_octets(front);
-    put_all(out, line.text())
+    out.put_line(line)
 }
 
 /// How long a text may be that is spelled with its line. Most are shorter.
@@ -205,14 +205,14 @@ const NUMBER: usize = 21;
 
 /// The number of a message, and the rest of its line, which is spelled.
 #[inline(always)]
-fn numbered_line<O: Out>(out: &mut O, message: u64, line: &mut Line) -> Result<(), OutFault>
+pub fn numbered_line<O: Out>(out: &mut O, message: u64, line: &mut Line) -> Result<(), OutFault>
     requires { 21 ≤ line_room line.old }
     ensures { Writes result (O.log out.old) (O.log out.new)
         (numbered message (line_text line.old)) }
 {
     line.put_number(message);
     line.put(b'm');
-    put_all(out, line.text())
+    out.put_line(line)
 }
 
 /// The line of a piece of at most 32 octets, which stands at this offset in its content, and whether more comes.

@@ -3,7 +3,9 @@
 ghost use Rattle.std.specs.Prelude.{◌≡◌, MatchResult, flat_map};
 ghost use Rattle.giop_print.specs.Output.{OutLog, counted, Took, Failed, Writes};
 ghost use Rattle.giop_print.specs.Gathering.{Gathers};
+ghost use Rattle.giop_print.specs.Line.{line_text};
 
+use crate::line::Line;
 use arrayvec::ArrayVec;
 use thiserror::Error;
 
@@ -22,17 +24,32 @@ pub trait Out {
         ensures { MatchResult result
             (λ n. Took (log self.old) (log self.new) octets.now n)
             (λ _. Failed (log self.old) (log self.new)) };
+
+    /// Writes all the octets, by at most as many puts.
+    fn put_all(&mut self, octets: &[u8]) -> Result<(), OutFault>
+        ensures { Writes result (log self.old) (log self.new) octets.now }
+    {
+        let mut at = 0;
+        while at < octets.len() {
+            at += self.put(&octets[at..])?;
+        }
+        Ok(())
+    }
+
+    /// Writes a line that is spelled. Where something else is to stand in front of it, the room that the line has left
+    /// may be used for that, so what the line holds behind this says nothing.
+    fn put_line(&mut self, line: &mut Line) -> Result<(), OutFault>
+        ensures { Writes result (log self.old) (log self.new) (line_text line.old) }
+    {
+        self.put_all(line.text())
+    }
 }
 
 /// Writes all the octets, by at most as many puts.
 pub fn put_all<O: Out>(out: &mut O, octets: &[u8]) -> Result<(), OutFault>
     ensures { Writes result (O.log out.old) (O.log out.new) octets.now }
 {
-    let mut at = 0;
-    while at < octets.len() {
-        at += out.put(&octets[at..])?;
-    }
-    Ok(())
+    out.put_all(octets)
 }
 
 /// How many octets of parts are gathered for one put. Most lines are shorter.

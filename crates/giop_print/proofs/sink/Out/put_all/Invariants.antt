@@ -1,12 +1,12 @@
 use Rattle.std.proofs.Common.{length, ◌-◌, ◌≤◌, take}
 use Rattle.giop_print.specs.Output.{Wrote}
-use Rattle.giop_print.proofs.sink.put_all.Given as goal
+use Rattle.giop_print.proofs.sink.Out.put_all.Given as goal
 
 abbrev pub invariant-loop-at : goal.invariant-loop-at
 invariant-loop-at g l =
     record {
       within : l.at ≤ length l.octets;
-      wrote : Wrote (g.O.Out.log l.initial.out) (g.O.Out.log l.out) (take l.at l.octets);
+      wrote : Wrote (g.Self.Out.log l.initial.self) (g.Self.Out.log l.self) (take l.at l.octets);
     }
 
 abbrev pub decreases-loop-at : goal.decreases-loop-at

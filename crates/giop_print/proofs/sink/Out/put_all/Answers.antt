@@ -1,6 +1,6 @@
 use Rattle.std.proofs.Common.{arith, length-drop}
 use Rattle.std.proofs.lemmas.Result.{err_from_is_err_and}
-use Rattle.giop_print.proofs.sink.put_all.Goals as goal
+use Rattle.giop_print.proofs.sink.Out.put_all.Goals as goal
 use Rattle.giop_print.proofs.Writing.{wrote-took, front-failed, rest_from}
 
 pub returns-in_err-at : goal.returns-in_err-at

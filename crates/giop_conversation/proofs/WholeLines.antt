@@ -1,0 +1,159 @@
+-- A line that is put with its whole tag in front, as one text.
+use Rattle.std.proofs.Common.{◌≡◌, ℕ, ◌+◌, ◌-◌, ◌≤◌, ◌<◌, ◌==◌, true, false, List, [], ◌∷◌, ◌++◌, length, take, drop, slice_index, Option, Some, None, refl, sym, ap, ◌∙◌, arith, append-nil, append_assoc, length-append, inl, inr}
+use Rattle.std.proofs.Math.Seq.{take-append-add}
+use Rattle.std.proofs.lemmas.List.{take_all, take-append-le, get_or_push, get_or_append_left}
+use Rattle.std.proofs.lemmas.List.Folds.{list_any_at}
+use Rattle.std.proofs.lemmas.Bool.{false_from_ne_true, cases_lt}
+use Rattle.std.specs.List.{list_any}
+use Rattle.std.specs.Io.KnownBytes.{Appends}
+use Rattle.giop_print.specs.Output.{counted, Wrote, WroteFront}
+use Rattle.giop_conversation.specs.TaggedText.{line_size, IsLine, StandsIn}
+use Rattle.giop_conversation.specs.TaggedState.{tagging_log}
+use Rattle.giop_conversation.proofs.TagLemmas.{line_some}
+use Rattle.giop_conversation.proofs.TaggedLemmas.{due_at, tag_step_in, line_step_in}
+use Rattle.giop_conversation.proofs.TaggedPuts.{grows, clean_line, clean_failed}
+
+pub is_line : (xs front : List ℕ) (last : ℕ) → xs ≡ front ++ (last ∷ []) → (last == 10) ≡ true →
+    list_any (λ y. y == 10) front ≡ false → IsLine xs
+is_line xs front last is ends none =
+    let l = length-append front (last ∷ []) in
+    let e : length xs ≡ length (front ++ (last ∷ [])) = ap length is in
+    let size : length xs ≡ length front + 1 = omega (arith, e, l) in
+    let at : length xs - 1 ≡ length front = omega (arith, size) in
+    let end : slice_index (front ++ (last ∷ [])) (length front) ≡ last =
+    get_or_push front last 0 (length front) refl in
+    record {
+      some = omega (arith, size);
+      ended = rw (at, is, end) ends;
+      only = λ k less.
+          let low : k < length front = omega (arith, less, size) in
+          let same : slice_index (front ++ (last ∷ [])) k ≡ slice_index front k =
+          get_or_append_left front (last ∷ []) 0 k low in
+          false_from_ne_true (slice_index xs k == 10) (λ hit. cc (
+            none,
+            list_any_at (λ y. y == 10) front k 0 low (rw (is, same) at hit),
+          ));
+    }
+
+line_is_whole : (line : List ℕ) → IsLine line → line_size line ≡ length line
+line_is_whole line l =
+    line_some line (length line - 1) (omega (arith, l.some))
+    (λ j less is. absurd (cc (is, l.only j (omega (arith, less))))) l.ended
+    ∙ (omega (arith, l.some))
+
+-- the tag, and octets of the line behind it
+past_tag : (a b : Option (List ℕ)) (before tag : List ℕ) (since : ℕ) (text line : List ℕ) (k : ℕ) →
+    IsLine line → 0 < length tag → 0 < k → k ≤ length line →
+    StandsIn a before tag since text (length tag) → Appends a b (tag ++ take k line) →
+    StandsIn b before tag (since + (length tag + k)) (text ++ take k line) (due_at tag line k)
+past_tag None b before tag since text line k is some first fits stands appends = absurd stands
+past_tag (Some w) None before tag since text line k is some first fits stands appends =
+    absurd appends
+past_tag (Some w) (Some w') before tag since text line k is some first fits stands appends =
+    let none : length tag - length tag ≡ 0 = omega arith in
+    let whole : w ++ tag ≡ w ++ take (length tag) (drop (length tag - length tag) tag) =
+    rw none (ap (λ t. w ++ t) (sym (take_all (length tag) tag (omega arith)))) in
+    let behind = rw none at (tag_step_in (Some w) (Some (w ++ tag)) before tag since text (length tag)
+    (length tag) stands some (omega arith) whole) in
+    let sum : since + (length tag + k) ≡ since + length tag + k = omega arith in
+    rw sum (line_step_in (Some (w ++ tag)) (Some w') before tag (since + length tag) text line k behind
+    first (rw (line_is_whole line is) fits) fits
+    (appends ∙ sym (append_assoc w tag (take k line))))
+
+-- all of it was put
+whole_stands : (a b : Option (List ℕ)) (before tag : List ℕ) (since : ℕ) (text line : List ℕ) →
+    IsLine line → 0 < length tag →
+    StandsIn a before tag since text (length tag) → Appends a b (tag ++ line) →
+    StandsIn b before tag (since + (length tag + length line)) (text ++ line) (length tag)
+whole_stands a b before tag since text line is some stands appends =
+    let all = take_all (length line) line (omega arith) in
+    let due : due_at tag line (length line) ≡ length tag = rw is.ended refl in
+    rw (all, due) at (past_tag a b before tag since text line (length line) is some is.some (omega arith)
+    stands (rw all appends))
+
+-- not all of it was put
+front_stands : (a b : Option (List ℕ)) (before tag : List ℕ) (since : ℕ) (text line : List ℕ) (n : ℕ) →
+    IsLine line → 0 < length tag → n < length tag + length line →
+    StandsIn a before tag since text (length tag) → Appends a b (take n (tag ++ line)) →
+    StandsIn b before tag (since + n) (text ++ take (n - length tag) line) (length tag - n)
+front_stands a b before tag since text line n is some few stands appends =
+    elim (cases_lt (length tag) n) [
+      | inl past ↦
+          let k = n - length tag in
+          let split : n ≡ length tag + k = omega (arith, past) in
+          let due : due_at tag line k ≡ length tag - n =
+          rw (is.only (k - 1) (omega (arith, past, few))) (omega (arith, past)) in
+          let parts : take n (tag ++ line) ≡ tag ++ take k line =
+          ap (λ m. take m (tag ++ line)) split ∙ take-append-add tag line k in
+          rw (← split, due) at (past_tag a b before tag since text line k is some (omega (arith, past))
+          (omega (arith, past, few)) stands (rw parts at appends))
+      | inr within ↦
+          let none : n - length tag ≡ 0 = omega (arith, within) in
+          let start : length tag - length tag ≡ 0 = omega arith in
+          rw (none, append-nil text) (tag_step_in a b before tag since text (length tag) n stands some within
+          (rw start (rw (take-append-le n tag line within) at appends)))
+    ]
+
+pub wrote_line : (a b : Option (List ℕ)) (tag line : List ℕ)
+    (since since' due puts failures : ℕ) → IsLine line → 0 < length tag → due ≡ length tag →
+    Appends a b (tag ++ line) → since' ≡ since + length (tag ++ line) →
+    Wrote (tagging_log (record {
+      whole = a;
+      tag = tag;
+      due = due;
+      since = since;
+      puts = puts;
+      failures = failures;
+    }))
+    (tagging_log (record {
+      whole = b;
+      tag = tag;
+      due = due;
+      since = since';
+      puts = puts;
+      failures = failures;
+    })) line
+wrote_line a b tag line since since' due puts failures is some all appends more =
+    let sum : since' ≡ since + (length tag + length line) =
+    omega (arith, more, length-append tag line) in
+    record {
+      written = grows a b tag line since since' due due failures failures
+          (λ before text stands. rw (all, sum) (whole_stands a b before tag since text line is some
+          (rw all at stands) appends))
+          (λ text. clean_line tag (text ++ line) due failures (λ _. all));
+      puts = omega arith;
+      failures = refl;
+    }
+
+pub wrote_front : (a b : Option (List ℕ)) (tag line : List ℕ)
+    (since since' due due' n puts failures failures' : ℕ) → IsLine line → 0 < length tag →
+    due ≡ length tag → due' ≡ length tag - n → n < length (tag ++ line) →
+    Appends a b (take n (tag ++ line)) → since' ≡ since + n → failures' ≡ counted failures →
+    WroteFront (tagging_log (record {
+      whole = a;
+      tag = tag;
+      due = due;
+      since = since;
+      puts = puts;
+      failures = failures;
+    }))
+    (tagging_log (record {
+      whole = b;
+      tag = tag;
+      due = due';
+      since = since';
+      puts = puts;
+      failures = failures';
+    })) line
+wrote_front a b tag line since since' due due' n puts failures failures' is some all left few appends more failed =
+    let less : n < length tag + length line = omega (arith, few, length-append tag line) in
+    let rest = take (n - length tag) line in
+    record {
+      size = n - length tag;
+      written = rw failed (grows a b tag rest since since' due due' failures (counted failures)
+          (λ before text stands. rw (left, more) (front_stands a b before tag since text line n is
+          some less (rw all at stands) appends))
+          (λ text. clean_failed tag (text ++ rest) due' failures));
+      puts = omega arith;
+      failures = failed;
+    }

@@ -1,0 +1,14 @@
+use Rattle.std.proofs.Common.{take-add, length-drop, arith}
+use Rattle.std.proofs.KnownBytes.{Appends-trans}
+use Rattle.giop_print.proofs.Writing.{rest_from}
+use Rattle.giop_conversation.proofs.tagged.put_more.Goals as goal
+
+pub loop-at-preserved : goal.loop-at-preserved
+loop-at-preserved g c =
+    let put = rw (rest_from c.loop-at.at c.args.octets.now) at c.in-Ok.ensures in
+    let l = length-drop c.loop-at.at c.args.octets.now in
+    record {
+      within = omega (arith, l, put.within, c.loop-at-test.true);
+      written = rw (take-add c.loop-at.at c.in-Ok.taken c.args.octets.now)
+          (Appends-trans _ _ _ _ _ c.loop-at.invariant.written put.written);
+    }
