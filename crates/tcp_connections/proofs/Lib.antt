@@ -3,6 +3,7 @@ pub mod Changes
 pub mod Counted
 pub mod Ending
 pub mod Forgotten
+pub mod Gapless
 pub mod Kept
 pub mod Living
 pub mod Search

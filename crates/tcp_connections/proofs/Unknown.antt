@@ -25,7 +25,7 @@ unfolding eldest
 eldest_below w zero = either_below (goes_before w 0 0) 0 0 1 (omega arith) (omega arith)
 eldest_below w (suc n) = let h = eldest_below w n in either_below (goes_before w (suc n) (eldest w (suc n))) (suc n) (eldest w (suc n)) (suc (suc n)) (omega arith) (omega (arith, h))
 
-eldest_within : (w : State) (n : ℕ) → 0 < n → eldest w n < n
+pub eldest_within : (w : State) (n : ℕ) → 0 < n → eldest w n < n
 eldest_within w zero l = absurd (omega (arith, l))
 eldest_within w (suc n) l = eldest_below w n
 

@@ -6,4 +6,4 @@ mod connections;
 mod laws;
 
 pub use connections::Connections;
-pub use laws::capture_event_is_told;
+pub use laws::{capture_event_is_told, no_stream_has_a_gap};

@@ -9,4 +9,5 @@ pub mod Room
 mod Rows
 pub mod States
 pub mod Steps
+pub mod Told
 pub mod Truth

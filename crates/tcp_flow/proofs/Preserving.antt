@@ -32,7 +32,7 @@ pub drained_keeps : (F : Reader) (P : Flow → Type 0) → Keeps F P → (f : Fl
 unfolding drained
 drained_keeps F P k f p = flowing_by F P k (length f.held) f p
 
-cond_keeps : (P : Flow → Type 0) (b : Bool) (f g : Flow) → P f → P g → P (cond b f g)
+pub cond_keeps : (P : Flow → Type 0) (b : Bool) (f g : Flow) → P f → P g → P (cond b f g)
 cond_keeps P true f g p q = p
 cond_keeps P false f g p q = q
 

@@ -158,7 +158,7 @@ most_keeps : (F : Reader) (most id : ℕ) → Keeps F (Holds (AtMost most) id)
 unfolding AtMost
 most_keeps F most id = held_keeps F (AtMost most) id (λ ps i l own h. omega (arith, length_remove ps i l))
 
-closed_dead : (f : Flow) (cause : CloseCause) → is_some (closed f cause).live ≡ false
+pub closed_dead : (f : Flow) (cause : CloseCause) → is_some (closed f cause).live ≡ false
 unfolding closed with_event
 closed_dead f cause =
     elim (cases_Bool (is_some f.live)) [

@@ -31,7 +31,7 @@ reached next n small h =
       | inr m ↦ rw (le-ltb (ahead next n) (2 ^ 31) m) (omega arith)
     ]
 
-runs_more : (payloads : List Payload) (id : ℕ) (before due behind : Option ℕ) (hs : List Event) (h : Event) → AllFollow payloads id before hs due → MayFollow payloads id due h behind → AllFollow payloads id before (hs ++ h ∷ []) behind
+pub runs_more : (payloads : List Payload) (id : ℕ) (before due behind : Option ℕ) (hs : List Event) (h : Event) → AllFollow payloads id before hs due → MayFollow payloads id due h behind → AllFollow payloads id before (hs ++ h ∷ []) behind
 unfolding AllFollow
 runs_more payloads id before due behind [] h r t = (behind, (subst (λ (d : Option ℕ). MayFollow payloads id d h behind) (sym r) t, refl))
 runs_more payloads id before due behind (g ∷ hs) h r t = (r.0, (r.1.0, runs_more payloads id r.0 due behind hs h r.1.1 t))
@@ -176,7 +176,7 @@ has_grow payloads p id n xs h =
       octets_are = subst (λ (q : Payload). xs ≡ drop h.skipped q.octets) e h.octets_are;
     }
 
-all_grow : (payloads : List Payload) (p : Payload) (ps : List Payload) → AllArePartsOf payloads ps → AllArePartsOf (payloads ++ p ∷ []) ps
+pub all_grow : (payloads : List Payload) (p : Payload) (ps : List Payload) → AllArePartsOf payloads ps → AllArePartsOf (payloads ++ p ∷ []) ps
 unfolding AllArePartsOf
 all_grow payloads p [] h = tt
 all_grow payloads p (q ∷ ps) h = (has_grow payloads p q.flow q.number q.octets h.0, all_grow payloads p ps h.1)
@@ -190,7 +190,7 @@ turns_grow : (payloads : List Payload) (p : Payload) (id : ℕ) (before : Option
 turns_grow payloads p id before h behind (inl t) = inl (t.0, own_grow payloads p id before h behind t.1)
 turns_grow payloads p id before h behind (inr t) = inr t
 
-runs_grow : (payloads : List Payload) (p : Payload) (id : ℕ) (before : Option ℕ) (hs : List Event) (behind : Option ℕ) → AllFollow payloads id before hs behind → AllFollow (payloads ++ p ∷ []) id before hs behind
+pub runs_grow : (payloads : List Payload) (p : Payload) (id : ℕ) (before : Option ℕ) (hs : List Event) (behind : Option ℕ) → AllFollow payloads id before hs behind → AllFollow (payloads ++ p ∷ []) id before hs behind
 unfolding AllFollow
 runs_grow payloads p id before [] behind r = r
 runs_grow payloads p id before (h ∷ hs) behind r = (r.0, (turns_grow payloads p id before h r.0 r.1.0, runs_grow payloads p id r.0 hs behind r.1.1))

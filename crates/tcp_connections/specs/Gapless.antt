@@ -1,0 +1,24 @@
+-- That streams are without a gap: the octets that are delivered between the beginning and the close of one stand one behind
+-- another (RFC 9293, Sequence Numbers; meaning).
+use Rattle.std.specs.Prelude.{◌≡◌, ℕ, List, Option, Some, None, slice_get}
+use Rattle.std.specs.List.{AllByRecursion}
+use Rattle.tcp_segment.specs.Segments.{Segment}
+use Rattle.tcp_waiting.specs.Payload.{Payload}
+use Rattle.tcp_flow.specs.Flow.{Event}
+use Rattle.tcp_flow.specs.Laws.{AllFollow}
+use Rattle.tcp_connections.specs.Connections.{first_number}
+
+-- a payload is that of one of these segments
+pub record IsOfSegment (segments : List Segment) (p : Payload) : Type 0 where
+  pub index : ℕ
+  pub segment : Segment
+  pub among : slice_get segments index ≡ Some segment
+  pub number_is : p.number ≡ first_number segment
+  pub octets_are : p.octets ≡ segment.payload
+
+-- In each flow a stream begins where none lives, octets come and it closes only while it lives, and octets are at the number that
+-- is due what a payload of the flow has there. Each payload is that of a segment that came.
+pub record AreGapless (segments : List Segment) (events : List Event) : Type 0 where
+  pub payloads : List Payload
+  pub came : AllByRecursion (IsOfSegment segments) payloads
+  pub follow : (flow : ℕ) → (due : Option ℕ) × AllFollow payloads flow None events due
