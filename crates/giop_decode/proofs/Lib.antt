@@ -37,4 +37,5 @@ mod Gathering
 mod Whole
 mod OctetsLeft
 mod NextParts
+mod WholeTexts
 pub mod ReadingLaws

@@ -91,7 +91,7 @@ last_free (g ∷ frames) f h = last_free frames f (free_first g.inside (is_insid
 push_free : (frames : List Frame) (f : Frame) → is_inside frames ≡ false → f.inside ≡ None → is_inside (frames ++ f ∷ []) ≡ false
 push_free frames f h none = inside_push frames f ∙ rw (h, none) refl
 
-stand_free : (at : ℕ) (frames : List Frame) → is_inside frames ≡ false → StandAt at frames
+pub stand_free : (at : ℕ) (frames : List Frame) → is_inside frames ≡ false → StandAt at frames
 stand_free at [] h = tt
 stand_free at (f ∷ frames) h =
     let n = free_first f.inside (is_inside frames) h in

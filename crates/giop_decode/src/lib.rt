@@ -19,6 +19,7 @@ mod progress;
 mod restored;
 mod run;
 mod stored;
+mod text_ahead;
 
 pub use decoder::Decoder;
 pub use laws::{noting_laws, reading_laws};

@@ -51,6 +51,7 @@ fn number_line<O: Out>(
 }
 
 /// The line of a piece: the octets that were held, and the rest.
+#[inline(always)]
 #[tactic(auto, unfolding(giop_print::specs::Lines::content_line))]
 fn octets_line<O: Out>(
     catalogue: &Catalogue,

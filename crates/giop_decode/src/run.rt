@@ -149,6 +149,9 @@ impl Decoder {
         if let Some(ahead) = self.piece_ahead(catalogue, octets) {
             return self.take_ahead(catalogue, octets, ahead, false, out);
         }
+        if let Some(text) = self.text_ahead(catalogue, octets) {
+            return self.take_text(catalogue, octets, text, out);
+        }
         if let Some(ahead) = self.leading_number_ahead(catalogue, octets) {
             return self.take_ahead(catalogue, octets, ahead, false, out);
         }
