@@ -1,3 +1,4 @@
+mod Gapless
 mod Handing
 mod ReadingOn
 mod ShortPackets

@@ -1,5 +1,5 @@
 -- What the packets of a capture do to its connections, and which link types are told of them (meaning).
-use Rattle.std.specs.Prelude.{ℕ, List, [], ◌∷◌, Option, Some, None, if◌then◌else◌}
+use Rattle.std.specs.Prelude.{ℕ, List, [], ◌∷◌, flat_map, Option, Some, None, if◌then◌else◌}
 use Rattle.capture_file.specs.declared.fault.CaptureFault.{CaptureFault}
 use Rattle.capture_file.specs.FaultWords.{fault_word}
 use Rattle.capture_file.specs.Reading.{final_fault}
@@ -24,6 +24,15 @@ packet_arrived F w p =
 unfoldable pub after_packets : Reader → State → List Taken → State
 after_packets F w [] = w
 after_packets F w (p ∷ ps) = after_packets F (packet_arrived F w p) ps
+
+-- the segment of a packet, where it has one
+abbrev pub segment_in : Option Segment → List Segment
+segment_in None = []
+segment_in (Some s) = s ∷ []
+
+-- those of all packets
+abbrev pub segments_of : List Taken → List Segment
+segments_of packets = flat_map (λ p. segment_in (segment p.head.link p.octets)) packets
 
 -- the capture has a fault, where it has one
 abbrev pub with_fault : State → Option CaptureFault → State

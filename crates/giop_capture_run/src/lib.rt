@@ -3,6 +3,7 @@
 
 mod arguments;
 mod ending;
+mod laws;
 mod links;
 mod listening;
 mod notices;
@@ -12,6 +13,7 @@ mod room;
 
 pub use arguments::{Arguments, PORTS_ROOM};
 pub use ending::{Ending, dump_capture, read_capture};
+pub use laws::no_stream_of_a_capture_has_a_gap;
 pub use links::UnreadLinks;
 pub use listening::{CaptureListener, PacketListener};
 pub use notices::Notices;

@@ -1,0 +1,8 @@
+use Rattle.giop_capture_run.proofs.Gapless.{packets_gapless, capture_gapless}
+use Rattle.giop_capture_run.proofs.laws.no_stream_of_a_capture_has_a_gap.Goals as goal
+
+pub returns-clause-packets : goal.returns-clause-packets
+returns-clause-packets c = packets_gapless
+
+pub returns-clause-ended : goal.returns-clause-ended
+returns-clause-ended c = capture_gapless
