@@ -3,8 +3,6 @@ use Rattle.std.proofs.Common.{◌≡◌, ℕ, ◌+◌, ◌<◌, ◌≤◌, ◌&&
 use Rattle.std.specs.Prelude.{cond, replicate, codes}
 use Rattle.std.proofs.lemmas.List.{length-replicate}
 use Rattle.giop_cdr.specs.declared.prim.Primitive.TheVariants as prims
-use Rattle.giop_decode.specs.declared.leaf.Leaf.{Leaf as Innermost}
-use Rattle.giop_decode.specs.declared.leaf.Leaf.TheVariants as innermost
 use Rattle.giop_decode.specs.declared.leaf.Transition.{Transition}
 use Rattle.giop_decode.specs.declared.leaf.Transition.TheVariants as transitions
 use Rattle.giop_decode.specs.declared.leaf.Output.{Output}
@@ -14,9 +12,9 @@ use Rattle.giop_decode.specs.declared.notes.Buffer.TheVariants as buffers
 use Rattle.giop_decode.specs.declared.notes.Notes.{Notes}
 use Rattle.giop_decode.specs.DecoderState.{HoldsNoted, IsHeld}
 use Rattle.giop_decode.specs.DecoderSteps.{IsNotRefused}
-use Rattle.giop_decode.specs.NameBuffer.{FitsName, IsNotedOf, string_offset}
+use Rattle.giop_decode.specs.NameBuffer.{FitsName, IsNotedOf}
 use Rattle.giop_decode.specs.Noted.{Noted, note_value, noted, nothing_noted, without_name_if, is_member}
-use Rattle.giop_decode.specs.NotingSteps.{OffsetMoves, StringGoesOn, clears_name, leaf_in_string, transition_offset}
+use Rattle.giop_decode.specs.NotingSteps.{OffsetMoves, StringGoesOn, clears_name, transition_offset}
 use Rattle.giop_decode.specs.ReadResult.{PathSegment, Line, Number, Piece}
 use Rattle.giop_decode.specs.Transitions.{IsOutput}
 use Rattle.giop_print.specs.declared.path.Root.{Root}

@@ -1,19 +1,16 @@
 -- What is noted of an octet's line, and which part is a member of the root.
-use Rattle.std.specs.Prelude.{slice_index_or, codes, ◌%◌, ◌==◌}
+use Rattle.std.specs.Prelude.{slice_index_or, codes}
 use Rattle.std.specs.Str.{bytes_eq}
-use Rattle.std.proofs.Common.{◌≡◌, ◌≢◌, ℕ, zero, suc, ap, subst, ◌&&◌, Bool, true, false, List, [], ◌∷◌, ◌++◌, length, append_assoc, refl, ◌∙◌, arith, Option, Some, None, sym}
+use Rattle.std.proofs.Common.{◌≡◌, ◌≢◌, ℕ, ap, ◌&&◌, Bool, true, false, List, [], ◌∷◌, ◌++◌, length, append_assoc, refl, ◌∙◌, arith, Option, Some, None, sym}
 use Rattle.giop_cdr.specs.declared.order.Order.{Order}
 use Rattle.giop_cdr.specs.declared.prim.Primitive.TheVariants as prims
-use Rattle.giop_cdr.specs.declared.number.Number.{Number as Taken}
-use Rattle.giop_cdr.specs.declared.number.Number.TheVariants as numbers
-use Rattle.giop_cdr.specs.Numbers.{interpreted_as}
 use Rattle.giop_decode.specs.declared.leaf.Leaf.{Leaf as Innermost}
 use Rattle.giop_decode.specs.declared.leaf.Leaf.TheVariants as innermost
 use Rattle.giop_decode.specs.declared.leaf.Transition.{Transition}
 use Rattle.giop_decode.specs.declared.leaf.Output.{Output}
 use Rattle.giop_decode.specs.declared.leaf.Output.TheVariants as outputs
 use Rattle.giop_decode.specs.Noted.{Noted, note_value, expects_after, note, ended, with_piece, noted_piece, is_member, noted, noted_of, without_name_if, with_expects, in_content, ends_in_string, is_text, nothing_noted}
-use Rattle.giop_decode.specs.NotingSteps.{is_set, OutputFitsString, clears_name, leaf_in_string, transition_in_string}
+use Rattle.giop_decode.specs.NotingSteps.{OutputFitsString, clears_name, leaf_in_string, transition_in_string}
 use Rattle.giop_decode.specs.ReadResult.{Number, Leaf, Held, PathSegment, Name, Index, Switch, Line, line, Value, Piece, OpenPart, Content, Read, Done, lines_of, with_front}
 use Rattle.giop_decode.specs.declared.frame.Frame.{Frame}
 use Rattle.giop_decode.specs.ReadingSteps.{path_in, segment_in}
@@ -26,7 +23,7 @@ use Rattle.giop_decode.specs.Reading.{cut_off}
 use Rattle.giop_decode.proofs.Surrounding.{unless_ended}
 use Rattle.giop_sig.specs.Table.{Table}
 use Rattle.giop_sig.specs.Trees.{tree}
-use Rattle.giop_sig.specs.Types.{Scalar, interpreted_by, Cases, Ty, Single, Text, Octets, Struct, Union, Sequence, Array, Plain, Enum, HasMember, name_in, shape_in, Encapsulation, Tag}
+use Rattle.giop_sig.specs.Types.{Scalar, Cases, Ty, Single, Text, Octets, Struct, Union, Sequence, Array, Plain, Enum, HasMember, name_in, shape_in, Encapsulation, Tag}
 
 content_in : (T : Ty) (total offset : ℕ) (piece : List ℕ) → in_content (Content T total offset piece) ≡ is_text T
 content_in (Text bound) total offset piece = refl

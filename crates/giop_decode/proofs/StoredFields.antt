@@ -1,5 +1,5 @@
 -- At which offsets the fields of a stored decoder are.
-use Rattle.std.proofs.Common.{◌≡◌, ℕ, ◌+◌, ◌≤◌, List, [], ◌∷◌, ◌++◌, length, drop, replicate, refl, subst, ap, ◌∙◌, append_assoc, arith}
+use Rattle.std.proofs.Common.{◌≡◌, ℕ, ◌+◌, ◌≤◌, List, [], ◌∷◌, ◌++◌, length, drop, refl, subst, ap, ◌∙◌, append_assoc, arith}
 use Rattle.giop_decode.specs.declared.decoder.Decoder.{Decoder}
 use Rattle.giop_decode.specs.declared.frame.Frame.{Frame}
 use Rattle.giop_decode.specs.declared.leaf.Leaf.{Leaf as Innermost}

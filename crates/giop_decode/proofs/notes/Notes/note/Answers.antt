@@ -1,7 +1,6 @@
-use Rattle.std.proofs.Common.{[], ◌∙◌, refl, subst}
+use Rattle.std.proofs.Common.{[], subst}
 use Rattle.giop_decode.specs.Noted.{is_header_root}
 use Rattle.giop_decode.specs.DecoderState.{HoldsNoted}
-use Rattle.giop_decode.specs.ReadResult.{Number}
 use Rattle.giop_decode.specs.ReadingSteps.{path_in}
 use Rattle.giop_decode.specs.Transitions.{open_parts}
 use Rattle.giop_decode.proofs.Noting.{switch_noted}
