@@ -1,5 +1,5 @@
 -- Octets counted together in the encapsulations among a decoder's frames.
-use Rattle.std.proofs.Common.{◌≡◌, ℕ, suc, ◌+◌, ◌%◌, ◌<◌, ◌≤◌, false, List, [], ◌∷◌, ◌++◌, length, take, get_or, Option, Some, None, refl, ◌∙◌, ap, arith}
+use Rattle.std.proofs.Common.{◌≡◌, ℕ, suc, ◌+◌, ◌%◌, ◌<◌, ◌≤◌, false, List, [], ◌∷◌, ◌++◌, length, take, get_or, Option, Some, None, refl, ◌∙◌, ap, subst, arith}
 use Rattle.std.specs.Prelude.{IfSome}
 use Rattle.std.proofs.lemmas.List.{map-append, take_more}
 use Rattle.giop_cdr.specs.declared.order.Order.{Order}
@@ -67,6 +67,11 @@ free_ticked_by n (f ∷ frames) h =
     let one : f ≡ tick_by_of n f = rw (free_at n f.inside f.index k.0) refl in
     ap (λ g. g ∷ frames) one ∙ ap (λ fs. tick_by_of n f ∷ fs) (free_ticked_by n frames k.1)
 
+-- in no encapsulation
+pub ahead_free : (n : ℕ) (frames : List Frame) → is_inside frames ≡ false → HaveOctetsLeft frames →
+    HaveOctetsLeft (ticked_by n frames)
+ahead_free n frames h ahead = subst HaveOctetsLeft (free_ticked_by n frames h) ahead
+
 -- the frames before an index leave room for these octets, and the one at it for fewer
 pub before_more : (outer : List Frame) (i before now : ℕ) (d : Frame) → i < length outer →
     now ≤ before → HaveOctetsLeft (ticked_by before (take i outer)) →
@@ -99,6 +104,23 @@ coding_ticked order at [] = refl
 coding_ticked order at (f ∷ frames) =
     let c = coding_of (order, at) f.inside f.index in
     ap (λ (k : Order × ℕ). coding_by k.0 k.1 (ticked frames)) (coding_next order at f.inside f.index) ∙ coding_ticked c.0 c.1 frames
+
+coding_later : (n : ℕ) (order : Order) (at : ℕ) (inside : Option Order) (i : ℕ) →
+    coding_of (order, (at + n) % 8) inside (ticked_by_at n inside i)
+    ≡ ((coding_of (order, at) inside i).0, ((coding_of (order, at) inside i).1 + n) % 8)
+coding_later n order at None i = refl
+coding_later n order at (Some inner) i =
+    let e : (i + n) % 8 ≡ (i % 8 + n) % 8 = omega arith in
+    ap (λ k. (inner, k)) e
+
+-- so many octets further on
+pub coding_ticked_by : (n : ℕ) (order : Order) (at : ℕ) (frames : List Frame) →
+    coding_by order ((at + n) % 8) (ticked_by n frames)
+    ≡ ((coding_by order at frames).0, ((coding_by order at frames).1 + n) % 8)
+coding_ticked_by n order at [] = refl
+coding_ticked_by n order at (f ∷ frames) =
+    let c = coding_of (order, at) f.inside f.index in
+    ap (λ (k : Order × ℕ). coding_by k.0 k.1 (ticked_by n frames)) (coding_later n order at f.inside f.index) ∙ coding_ticked_by n c.0 c.1 frames
 
 small_of : (order : Order) (at : ℕ) (inside : Option Order) (i : ℕ) → at < 8 →
     (coding_of (order, at) inside i).1 < 8

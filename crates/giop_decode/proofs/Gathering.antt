@@ -1,5 +1,5 @@
 -- Octets that only add to what is held, taken together.
-use Rattle.std.proofs.Common.{◌≡◌, ℕ, suc, ◌+◌, ◌-◌, ◌%◌, ◌<◌, ◌≤◌, false, List, [], ◌∷◌, ◌++◌, length, Some, refl, sym, ◌∙◌, ap, subst, append-nil, append_assoc, arith, length-append}
+use Rattle.std.proofs.Common.{◌≡◌, ℕ, suc, ◌+◌, ◌-◌, ◌%◌, ◌<◌, ◌≤◌, List, [], ◌∷◌, ◌++◌, length, Some, refl, sym, ◌∙◌, ap, subst, append-nil, append_assoc, arith, length-append}
 use Rattle.giop_cdr.specs.Numbers.{num}
 use Rattle.giop_sig.specs.declared.types.TypeId.{TypeId}
 use Rattle.giop_decode.specs.declared.decoder.Decoder.{Decoder}
@@ -14,12 +14,12 @@ use Rattle.giop_decode.specs.Runs.{added_lines_of_run, AllGathered}
 use Rattle.giop_decode.specs.Pieces.{tail}
 use Rattle.giop_decode.specs.ReadResult.{plain, lines_of}
 use Rattle.giop_decode.specs.ReadingSteps.{after, coding_in, leading_width, AreHeld}
-use Rattle.giop_decode.specs.Transitions.{coding_by, is_inside, open_parts, ticked, ticked_by, HaveOctetsLeft, IsClean}
+use Rattle.giop_decode.specs.Transitions.{coding_by, open_parts, ticked, ticked_by, HaveOctetsLeft, IsClean}
 use Rattle.giop_decode.proofs.Advancing.{same_some}
-use Rattle.giop_decode.proofs.Counting.{ahead_first, coding_ticked, free_ticked_by, ticked_more, ticked_none}
+use Rattle.giop_decode.proofs.Counting.{ahead_first, coding_ticked, ticked_more, ticked_none}
 use Rattle.giop_decode.proofs.PieceLaws.{content_held}
 use Rattle.giop_decode.proofs.Runs.{dues_both, dues_none, takes_one, takes_both}
-use Rattle.giop_decode.proofs.Surrounding.{coded_in, free_coding_by}
+use Rattle.giop_decode.proofs.Surrounding.{coded_in}
 use Rattle.giop_decode.proofs.Taking.{takes_to, due_is}
 use Rattle.giop_decode.proofs.PartialBlocks.{Holds, step_held, held_comes, held_here, held_fits, held_keeps_noted}
 use Rattle.giop_sig.specs.Table.{Table}
@@ -168,12 +168,6 @@ others_on d new carry piece count on =
       subst HaveOctetsLeft (sym same) on.1,
     )
 
--- in no encapsulation
-pub counted_free : (d new : Decoder) (count : ℕ) → is_inside d.outer.items ≡ false →
-    HaveOctetsLeft d.outer.items → IsFurther d new count d.outer.items → IsCountedBy d new count
-counted_free d new count free ahead on =
-    subst (λ fs. IsFurther d new count fs × HaveOctetsLeft fs) (free_ticked_by count d.outer.items free) (on, ahead)
-
 -- ---- of a content
 
 -- At most so many octets of a piece are held while it is incomplete: of a full one, or of a last one with what ends it.
@@ -234,13 +228,3 @@ number_counted C of d new (b ∷ bs) on piece f e held =
     let rest = subst (λ (c : Order × ℕ). AreHeld (leading_width (tree C of.0)) c.1 held.0 bs new.carry) (sym (coding_ticked d.order d.at d.outer.items)) held.2 in
     let others = number_counted C of mid new bs (others_on d new held.0 d.piece.items (length bs) on) piece one.0 e rest in
     (others.0, then_gathered C d new leaf b mid bs one.1 others.1)
-
--- in no encapsulation
-pub number_gathered : (C : Table) (of : TypeId) (d new : Decoder) (octets : List ℕ) →
-    is_inside d.outer.items ≡ false → IsFurther d new (length octets) d.outer.items →
-    new.piece.items ≡ d.piece.items → Fits C d → d.leaf ≡ Some (innermost.Number of) →
-    AreHeld (leading_width (tree C of.0)) d.at d.carry octets new.carry →
-    Fits C new × AllGathered C d new octets
-number_gathered C of d new octets free on piece f e held =
-    number_counted C of d new octets (counted_free d new (length octets) free f.ahead on) piece f e
-    (rw (free_coding_by d.order d.at d.outer.items free) held)

@@ -34,8 +34,9 @@ use Rattle.giop_decode.specs.Runs.{AreAnswered, TakenTogether, TakesRun, added_l
 use Rattle.giop_decode.specs.Transitions.{AreKnown, IsKnown, IsOutput, Link, StandAt, gone_on, is_inside, leaf_type, open_part, open_parts, part_in}
 use Rattle.giop_decode.proofs.Advancing.{comes_by, goes, same_some, stands_at, step_fits}
 use Rattle.giop_decode.proofs.Beginning.{all_push, map_push}
+use Rattle.giop_decode.proofs.Counting.{ahead_free, free_ticked_by}
 use Rattle.giop_decode.proofs.Going.{PartPopped, Next, part_popped, next_in, goes_next, part_is}
-use Rattle.giop_decode.proofs.Surrounding.{ahead_by, around_unless_ended, behind_stopped, free_ended, free_first, free_ticked, front_gone, inside_push, outside_pop, places_ticked}
+use Rattle.giop_decode.proofs.Surrounding.{ahead_by, around_unless_ended, behind_stopped, free_coding_by, free_ended, free_first, free_ticked, front_gone, inside_push, outside_pop, places_ticked}
 use Rattle.giop_decode.proofs.TransitionsInFrames.{around_done}
 use Rattle.giop_decode.proofs.FieldsRead.{here_spelled}
 use Rattle.giop_decode.proofs.FieldsRead.{stands_at as path_at}
@@ -44,7 +45,7 @@ use Rattle.giop_decode.proofs.Noting.{stopped_silent}
 use Rattle.giop_decode.proofs.Runs.{takes_more}
 use Rattle.giop_decode.proofs.Segments.{said_one}
 use Rattle.giop_decode.proofs.Taking.{takes_to, due_is}
-use Rattle.giop_decode.proofs.Whole.{comes_number, no_piece, before_last, lines_at, says_at, gathered_whole, told_whole, lines_whole, keeps_noted_whole, name_whole}
+use Rattle.giop_decode.proofs.Whole.{IsAtLast, at_last, comes_number, is_at_last, no_piece, before_last, lines_at, says_at, gathered_whole, told_whole, lines_whole, keeps_noted_whole, name_whole}
 use Rattle.giop_decode.specs.NameBuffer.{FitsName, string_offset}
 use Rattle.giop_decode.specs.Noted.{ends_in_string}
 use Rattle.giop_print.specs.Paths.{root_word}
@@ -159,11 +160,33 @@ module _ (C : Table) (d : Decoder) (octets : List ℕ) (part : PartAhead) (f : F
   abbrev above : List Frame
   above = frames_above d.outer.items
 
-  pub taken_together : TakenTogether C d octets part.of part.count ended []
-  taken_together = comes_number C d part.of octets part.count f h.leaf h.outside h.empty part.number h.whole
-
   free : is_inside d.outer.items ≡ false
   free = free_outer C d part.of part.frame f h.leaf h.outside h.outer
+
+  pub taken_together : TakenTogether C d octets part.of part.count ended []
+  taken_together =
+      comes_number C d part.of octets part.count f h.leaf h.empty d.order d.at (free_coding_by d.order d.at d.outer.items free) part.number h.whole
+      (ahead_free (length octets - 1) d.outer.items free f.ahead)
+
+  -- the decoder at the last of the number's octets: none was counted
+  pub part_at_last : (at : ℕ) → at ≡ (d.at + (part.count - 1)) % 8 → IsAtLast d (at_last d at d.outer) part.count
+  part_at_last at e = is_at_last d part.count at d.outer e (free_ticked_by (part.count - 1) d.outer.items free)
+
+  -- how many octets come before the last of the number's, and where the decoder is then
+  abbrev last : ℕ
+  last = part.count - 1
+
+  abbrev there : Decoder
+  there = at_last d ((d.at + last) % 8) d.outer
+
+  on : IsAtLast d there part.count
+  on = part_at_last ((d.at + last) % 8) refl
+
+  abbrev before : Decoder
+  before = before_last C d octets part.of part.count ended [] f taken_together there on
+
+  abbrev lines : ℕ → List Line
+  lines here = lines_at C d octets part.of part.count ended [] f taken_together there on here
 
   above_free : is_inside above ≡ false
   above_free = free_above C d part.of part.frame f h.leaf h.outside h.outer
@@ -228,25 +251,12 @@ module _ (C : Table) (d : Decoder) (octets : List ℕ) (part : PartAhead) (f : F
         ∙ (ap (with_front lines) (gone (plain d.order) [] (here + 1))
         ∙ (front_gone C lines (here + 1) new.outer.items (Some leaf)
         ∙ (behind_stopped C new.outer.items new.carry new.piece.items (Some leaf) lines (here + 1) (n.carry ∙ h.empty)
-        (ap (λ p. p.items) n.piece ∙ no_piece C d part.of octets part.count f h.leaf h.outside h.empty)
+        (ap (λ p. p.items) n.piece ∙ no_piece C d part.of octets part.count f h.leaf h.empty)
         ∙ rw n.leaf refl))))
-
-    -- how many octets come before the last of the number's, and where the decoder is then
-    abbrev last : ℕ
-    last = part.count - 1
-
-    abbrev there : ℕ
-    there = (d.at + last) % 8
-
-    abbrev before : Decoder
-    before = before_last C d octets part.of part.count ended [] f taken_together there
-
-    abbrev lines : ℕ → List Line
-    lines here = lines_at C d octets part.of part.count ended [] f taken_together here
 
     says : (here : ℕ) → IsOutput (tree C part.of.0) (path_in [] (open_parts C here d.outer.items)) (here + 1)
         (outputs.Number part.number) (d.piece.items ++ []) (lines here)
-    says here = says_at C d octets part.of part.count ended [] f taken_together here
+    says here = says_at C d octets part.of part.count ended [] f taken_together there on here
 
     plain_says : (here : ℕ) → (scalar : Scalar) × (n : ℕ) × (scalar ≡ Plain part.prim) × (interpreted_by scalar n ≡ Some part.number)
         × (lines here ≡ line (here + 1) (path_in [] (open_parts C here d.outer.items)) (Number scalar n) ∷ [])
@@ -276,15 +286,15 @@ module _ (C : Table) (d : Decoder) (octets : List ℕ) (part : PartAhead) (f : F
         TakesRun C T order at message root new s (take part.count octets) progress.More
     part_takes T order at message root s r =
         let b = get_or octets last 0 in
-        let whole = gathered_whole C d octets part.of part.count ended [] f taken_together there refl in
+        let whole = gathered_whole C d octets part.of part.count ended [] f taken_together there on in
         let held = whole.1 T order at message root s r in
         let below : last < length octets = let some = taken_together.some in omega (arith, some, taken_together.within) in
         let all : last + 1 ≡ part.count = let some = taken_together.some in omega (arith, some) in
         subst (λ n. TakesRun C T order at message root new s (take n octets) progress.More) all
         (takes_more C T order at message root new s octets last progress.More below held.takes.answers
         (takes_to C T order at message root before new (s ++ take last octets) b progress.More whole.0 n.order n.root n.message stands_next
-        (λ here stands. rw (told_whole C d octets part.of part.count ended [] f taken_together there here refl stands) (comes here))
-        (λ here front stands old. keeps_noted_whole C d octets part.of part.count ended [] f taken_together new there here front refl stands
+        (λ here stands. rw (told_whole C d octets part.of part.count ended [] f taken_together there on here stands) (comes here))
+        (λ here front stands old. keeps_noted_whole C d octets part.of part.count ended [] f taken_together there on new here front stands
         (inside here) (notes here) old)
         (held.takes.reads (λ fault. fault))))
       where
@@ -295,9 +305,9 @@ module _ (C : Table) (d : Decoder) (octets : List ℕ) (part : PartAhead) (f : F
     pub part_fits : Fits C new
     part_fits =
         let b = get_or octets last 0 in
-        let whole = gathered_whole C d octets part.of part.count ended [] f taken_together there refl in
+        let whole = gathered_whole C d octets part.of part.count ended [] f taken_together there on in
         let g = whole.0 in
-        let emits = told_whole C d octets part.of part.count ended [] f taken_together there g.here refl g.stands in
+        let emits = told_whole C d octets part.of part.count ended [] f taken_together there on g.here g.stands in
         let k = goes C new progress.More (g.here + 1) (decoder_step C before g.here b) (rw emits (comes g.here)) tt in
         let at_leaf : k.leaf ≡ innermost.Number next = same_some k.leaf (innermost.Number next) (sym k.goes_on ∙ n.leaf) in
         let same : leaf_type g.leaf ≡ part.of.0 = ap leaf_type (same_some g.leaf (innermost.Number part.of) (sym g.goes_on ∙ h.leaf)) in
@@ -305,17 +315,17 @@ module _ (C : Table) (d : Decoder) (octets : List ℕ) (part : PartAhead) (f : F
         let linked : Link C g.root new.outer.items next.0 =
         link_push C g.root above new.outer.items part.frame.of.0 next.0 (next_of part.frame) refl n.outer (rw none follower.number)
         (link_pop C g.root d.outer.items above part.frame part.of.0 h.outer link) in
-        let clean : new.piece.items ≡ [] = ap (λ p. p.items) n.piece ∙ no_piece C d part.of octets part.count f h.leaf h.outside h.empty in
+        let clean : new.piece.items ≡ [] = ap (λ p. p.items) n.piece ∙ no_piece C d part.of octets part.count f h.leaf h.empty in
         step_fits C before new g b k (stands_next g.here g.stands) (ahead_by C new.outer.items known_new (free_ended new.outer.items new_free))
         (n.inside ∙ (h.outside ∙ sym new_free)) (rw at_leaf linked) known_new (rw at_leaf follower.known) (rw at_leaf clean)
         (λ other. rw n.notes (f.id_in_header_only body))
         (subst (λ r. FitsName r (string_offset (tree C (leaf_type k.leaf)) k.leaf) new.notes.buffer new.notes.name.items) (sym n.root)
-        (name_whole C d octets part.of part.count ended [] f taken_together g.here k.leaf new.notes tt (rw at_leaf refl) (notes g.here)))
+        (name_whole C d octets part.of part.count ended [] f taken_together there on g.here k.leaf new.notes tt (rw at_leaf refl) (notes g.here)))
 
   pub before_answers : (T : Ty) (order : Order) (at message : ℕ) (root : Root) (s : List ℕ) → Reads C T order at message root d s →
       BeforeLast T order at root s octets part.count
   before_answers T order at message root s r =
-      let held = (gathered_whole C d octets part.of part.count ended [] f taken_together ((d.at + (part.count - 1)) % 8) refl).1 T order at message root s r in
+      let held = (gathered_whole C d octets part.of part.count ended [] f taken_together there on).1 T order at message root s r in
       let some = taken_together.some in
       record { below = omega (arith, some, taken_together.within); all = omega (arith, some); answers = held.takes.answers; quiet = held.quiet }
 
@@ -325,26 +335,23 @@ module _ (C : Table) (d : Decoder) (octets : List ℕ) (part : PartAhead) (f : F
       (spaced (kind_word part.prim)) (number_text (size_of part.prim) part.number)
       ≡ lines_text message root (added_lines order T at (s ++ take (part.count - 1) octets) (get_or octets (part.count - 1) 0))
   part_text T order at message root s r =
-      let last = part.count - 1 in
-      let there = (d.at + last) % 8 in
-      let before = before_last C d octets part.of part.count ended [] f taken_together there in
       let so_far = s ++ take last octets in
       let here = at + length so_far in
       let b = get_or octets last 0 in
-      let whole = gathered_whole C d octets part.of part.count ended [] f taken_together there refl in
+      let whole = gathered_whole C d octets part.of part.count ended [] f taken_together there on in
       let held = whole.1 T order at message root s r in
       let k = held.takes.reads (λ fault. fault) in
-      let says = says_at C d octets part.of part.count ended [] f taken_together here in
+      let says = says_at C d octets part.of part.count ended [] f taken_together there on here in
       let is = same_plain (tree C part.of.0) part.prim says.0.scalar h.prim says.0.is in
       let path = path_in [] (open_parts C here d.outer.items) in
       let place = (root_word d.root ++ frames_text C above) ++ segment_text (segment_in (open_part C 0 part.frame)) in
-      let ls = lines_whole C d octets part.of part.count ended [] f taken_together there here refl k.offset in
+      let ls = lines_whole C d octets part.of part.count ended [] f taken_together there on here k.offset in
       let placed : place ≡ path_text d.root path = path_is here in
       let taken : interpreted_as part.prim says.0.n ≡ Some part.number = rw is at says.0.taken in
       let value : value_text d.message place (Number (Plain part.prim) says.0.n)
-      ≡ lines_text d.message d.root (lines_at C d octets part.of part.count ended [] f taken_together here) =
+      ≡ lines_text d.message d.root (lines here) =
       said_one d.message d.root (here + 1) path place (Number (Plain part.prim) says.0.n)
-      (lines_at C d octets part.of part.count ended [] f taken_together here) placed (rw is at says.1) in
+      (lines here) placed (rw is at says.1) in
       rw (due_is C T order at message root before so_far b whole.0 k, ls, ← k.same_message, ← k.same_root)
       (sym (number_text_is d.message place part.prim says.0.n part.number taken) ∙ value)
     where

@@ -17,13 +17,13 @@ use Rattle.giop_decode.proofs.Surrounding.{inside_ticked, known_ticked, places_t
 use Rattle.giop_decode.proofs.Linking.{link_ticked}
 use Rattle.giop_sig.specs.Table.{Table}
 
--- a decoder whose held octets are these, at this offset
-abbrev pub held_in : Decoder → List ℕ → ArrayVec ℕ → ℕ → Decoder
-held_in d carry piece at = record {
+-- a decoder whose held octets are these
+abbrev pub held_in : Decoder → List ℕ → ArrayVec ℕ → Decoder
+held_in d carry piece = record {
   order = d.order;
   root = d.root;
   message = d.message;
-  at = at;
+  at = d.at;
   outer = d.outer;
   inside = d.inside;
   leaf = d.leaf;

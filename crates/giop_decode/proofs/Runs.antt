@@ -1,7 +1,8 @@
 -- A run of octets, taken in parts.
-use Rattle.std.proofs.Common.{◌≡◌, Result, Ok, Err, IsErr, ℕ, zero, suc, ◌+◌, ◌<◌, List, [], ◌∷◌, ◌++◌, length, take, drop, get_or, refl, sym, ◌∙◌, ap, subst, append-nil, append_assoc, add-one, length-append, arith}
+use Rattle.std.proofs.Common.{◌≡◌, Result, Ok, Err, IsErr, ℕ, zero, suc, ◌+◌, ◌<◌, ◌≤◌, List, [], ◌∷◌, ◌++◌, length, take, drop, get_or, refl, sym, ◌∙◌, ap, subst, append-nil, append_assoc, add-one, length-append, arith}
+use Rattle.std.specs.Prelude.{IfOk}
 use Rattle.std.proofs.Math.Seq.{drop-append_seam, take-suc}
-use Rattle.std.proofs.lemmas.List.{take-append-drop}
+use Rattle.std.proofs.lemmas.List.{take-append-drop, take-take}
 use Rattle.std.proofs.lemmas.Bool.{false≢true}
 use Rattle.giop_cdr.specs.declared.order.Order.{Order}
 use Rattle.giop_decode.specs.declared.progress.Progress.{Progress}
@@ -147,6 +148,49 @@ pub writes_broken : {E : Type 0} (r : Result (ℕ × Progress) E) (T : Ty) (orde
     WritesRun r T order at message root s octets a b
 writes_broken (Ok v) T order at message root s octets a b e h = absurd (false≢true e)
 writes_broken (Err e) T order at message root s octets a b _ h = h
+
+-- ---- a run of the first of several octets
+
+pub take_near : (n : ℕ) (near octets : List ℕ) → near ≡ take (length near) octets → n ≤ length near →
+    take n near ≡ take n octets
+take_near n near octets e le = ap (take n) e ∙ take-take n (length near) octets le
+
+broken_near : (T : Ty) (order : Order) (at message : ℕ) (root : Root) (s near octets : List ℕ)
+    (a b : OutLog) → near ≡ take (length near) octets →
+    BreaksOff T order at message root s near a b → BreaksOff T order at message root s octets a b
+broken_near T order at message root s near octets a b e h =
+    let behind = drop (length near) octets in
+    record {
+      front = h.front;
+      octet = h.octet;
+      rest = h.rest ++ behind;
+      all = sym (take-append-drop (length near) octets)
+          ∙ (ap (λ xs. xs ++ behind) (sym e ∙ h.all) ∙ append_assoc h.front (h.octet ∷ h.rest) behind);
+      answers = h.answers;
+      wrote = h.wrote;
+    }
+
+pub writes_near : {E : Type 0} (r : Result (ℕ × Progress) E) (T : Ty) (order : Order)
+    (at message : ℕ) (root : Root) (s near octets : List ℕ) (a b : OutLog) →
+    near ≡ take (length near) octets → IfOk r (λ taken. taken.0 ≤ length near) →
+    WritesRun r T order at message root s near a b → WritesRun r T order at message root s octets a b
+writes_near (Ok v) T order at message root s near octets a b e within h =
+    subst (λ xs. Wrote a b (lines_text message root (added_lines_of_run order T at s xs))) (take_near v.0 near octets e within) h
+writes_near (Err v) T order at message root s near octets a b e within h = broken_near T order at message root s near octets a b e h
+
+-- of any list that the decoder before reads
+pub takes_near : {E : Type 0} (r : Result (ℕ × Progress) E) (C : Table) (old new : Decoder)
+    (near octets : List ℕ) → near ≡ take (length near) octets →
+    IfOk r (λ taken. taken.0 ≤ length near) →
+    IfOk r (λ taken. (T : Ty) (order : Order) (at message : ℕ) (root : Root) (s : List ℕ) →
+    Reads C T order at message root old s →
+    TakesRun C T order at message root new s (take taken.0 near) taken.1) →
+    IfOk r (λ taken. (T : Ty) (order : Order) (at message : ℕ) (root : Root) (s : List ℕ) →
+    Reads C T order at message root old s →
+    TakesRun C T order at message root new s (take taken.0 octets) taken.1)
+takes_near (Ok v) C old new near octets e within h = λ T order at message root s r.
+    subst (λ xs. TakesRun C T order at message root new s xs v.1) (take_near v.0 near octets e within) (h T order at message root s r)
+takes_near (Err v) C old new near octets e within h = tt
 
 -- ---- two runs, one after the other
 

@@ -232,13 +232,6 @@ pub free_first : (inside : Option Order) (rest : Bool) → is_some_order inside 
 free_first None rest h = (refl, h)
 free_first (Some order) rest h = let e = h in absurd cc
 
-pub free_coded : (C : Table) (here : ℕ) (c : Coding) (frames : List Frame) →
-    is_inside frames ≡ false → coding_in c (open_parts C here frames) ≡ c
-free_coded C here c [] h = refl
-free_coded C here c (f ∷ frames) h =
-    let n = free_first f.inside (is_inside frames) h in
-    rw (n.0, part_coding c (tree C f.of.0) f.index f.count) (free_coded C here c frames n.1)
-
 free_index : (inside : Option Order) (i : ℕ) → inside ≡ None → ticked_at inside i ≡ i
 free_index inside i h = rw h refl
 

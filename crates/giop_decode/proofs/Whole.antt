@@ -29,13 +29,16 @@ use Rattle.giop_decode.specs.declared.notes.Notes.{Notes}
 use Rattle.giop_decode.specs.NotingSteps.{transition_offset, StringGoesOn, OutputFitsString, clears_name, leaf_in_string, transition_in_string}
 use Rattle.giop_decode.specs.Runs.{Adds, AllGathered, TakenTogether}
 use Rattle.giop_decode.specs.ReadResult.{plain, line, Coding, Line, PathSegment, Piece, lines_of, with_front}
-use Rattle.giop_decode.specs.ReadingSteps.{AreHeld, after, around, leading_width, leaf_step, path_in, step}
-use Rattle.giop_decode.specs.Transitions.{HasOutput, IsClean, IsOutput, IsWholeNumber, StandsWhole, TransitionGives, TransitionFits, is_inside, leaf_of, leaf_type, open_parts, still_held}
+use Rattle.giop_decode.specs.ReadingSteps.{AreHeld, after, around, coding_in, leading_width, leaf_step, path_in, step}
+use Rattle.giop_decode.specs.Transitions.{HasOutput, HaveOctetsLeft, IsClean, IsOutput, IsWholeNumber, StandsWhole, TransitionGives, TransitionFits, after_transition, coding_by, leaf_of, leaf_type, open_parts, still_held, ticked_by}
 use Rattle.giop_decode.proofs.Advancing.{lines_after_transition, same_some, stands_at}
-use Rattle.giop_decode.proofs.Gathering.{IsFurther, counted_free, number_gathered, waits_gathered}
+use Rattle.arrayvec.specs.ArrayVec.{ArrayVec}
+use Rattle.giop_decode.specs.declared.frame.Frame.{Frame}
+use Rattle.giop_decode.proofs.Counting.{ahead_fewer, coding_ticked_by}
+use Rattle.giop_decode.proofs.Gathering.{IsCountedBy, IsFurther, number_counted, waits_gathered}
 use Rattle.giop_decode.proofs.Noting.{noted_on, leaf_inside}
 use Rattle.giop_decode.proofs.PieceLaws.{full_whole, octets_last, text_last}
-use Rattle.giop_decode.proofs.Surrounding.{free_coded}
+use Rattle.giop_decode.proofs.Surrounding.{IsCoded, coded_in}
 use Rattle.giop_decode.proofs.PartialBlocks.{held_in}
 use Rattle.giop_sig.specs.declared.types.TypeId.{TypeId}
 use Rattle.giop_sig.specs.Table.{Table}
@@ -104,52 +107,56 @@ still_nothing outputs.Nothing = refl
 still_nothing _ = refl
 
 module _ (C : Table) (d : Decoder) (of : TypeId) (octets : List ℕ) (count : ℕ) (f : Fits C d)
-    (e : d.leaf ≡ Some (innermost.Number of)) (outside : d.inside ≡ false) (empty : d.carry ≡ []) where
+    (e : d.leaf ≡ Some (innermost.Number of)) (empty : d.carry ≡ []) where
   pub no_piece : d.piece.items ≡ []
   no_piece =
       let it : f.leaf ≡ innermost.Number of = same_some f.leaf (innermost.Number of) (sym f.goes_on ∙ e) in
       subst (λ l. IsClean l d.carry d.piece.items) it f.clean
 
-  pub comes_head : (all : List ℕ) (s : Step) →
-      StandsWhole (leading_width (tree C of.0)) d.at octets count all →
+  pub comes_head : (order : Order) (at : ℕ) → coding_by d.order d.at d.outer.items ≡ (order, at) →
+      (all : List ℕ) (s : Step) → StandsWhole (leading_width (tree C of.0)) at octets count all →
+      HaveOctetsLeft (ticked_by (length octets - 1) d.outer.items) →
       TransitionFits (tree C of.0) of.0 s.transition [] [] → HasOutput (tree C of.0) s.output →
       OutputFitsString (tree C of.0) false s.transition s.output →
       ((n : ℕ) → StringGoesOn (tree C of.0) None s.transition s.output n) →
-      ((coding : Coding) (path : List PathSegment) (at : ℕ) → TransitionGives C (tree C of.0) s.transition s.output [] [] path at
-      (after coding path (tree C of.0) (num d.order all) at [])) →
+      ((coding : Coding) (path : List PathSegment) (here : ℕ) → TransitionGives C (tree C of.0) s.transition s.output [] [] path here
+      (after coding path (tree C of.0) (num order all) here [])) →
       TakenTogether C d octets of count s []
-  comes_head all s stands transition_fits has_output output_fits_string string_goes_on transitions =
+  comes_head order at coded all s stands ahead transition_fits has_output output_fits_string string_goes_on transitions =
       let T = tree C of.0 in
       let nothing_held : still_held s.output d.piece.items ≡ [] = ap (still_held s.output) no_piece ∙ still_nothing s.output in
       record {
         leaf = innermost.Number of;
         goes_on = e;
         same = refl;
-        outside = outside;
         some = stands.some;
         within = stands.within;
+        ahead = ahead_fewer (count - 1) (length octets - 1) d.outer.items (let within = stands.within in omega (arith, within)) ahead;
         short = rw no_piece (omega arith);
         carry = stands.held;
         piece = d.piece.items;
-        adds = (rw empty stands.are_held, refl);
+        adds = (rw (empty, coded) stands.are_held, refl);
         transition_fits = rw (empty, nothing_held) transition_fits;
         has_output = has_output;
         output_fits_string = output_fits_string;
         string_goes_on = string_goes_on (length (d.piece.items ++ []));
-        lines = λ path here. (transitions (plain d.order) path (here + 1)).lines;
-        comes = λ path here at.
-            let t = transitions (plain d.order) path (here + 1) in
+        lines = λ coding path here. (transitions coding path (here + 1)).lines;
+        comes = λ coding path here ordered there.
+            let t = transitions coding path (here + 1) in
+            let is : coding.order ≡ order = ordered ∙ ap (λ (k : Order × ℕ). k.0) coded in
+            let aligned : (here - coding.origin) % 8 ≡ (at + (count - 1)) % 8 = there ∙ ap (λ (k : Order × ℕ). (k.1 + (count - 1)) % 8) coded in
             rw (empty, nothing_held)
-            (ap (after_leading_number T (λ xs at rest. after (plain d.order) path T (num d.order xs) at rest)) (stands.last 0 here (omega (arith, at)))
-            ∙ rw (still_nothing s.output) at t.comes);
-        says = λ path here. rw no_piece (transitions (plain d.order) path (here + 1)).says;
+            (ap (after_leading_number T (λ xs at rest. after coding path T (num coding.order xs) at rest)) (stands.last coding.origin here aligned)
+            ∙ (ap (λ o. after coding path T (num o all) (here + 1) []) is ∙ rw (still_nothing s.output) at t.comes));
+        says = λ coding path here. rw no_piece (transitions coding path (here + 1)).says;
       }
 
-  pub comes_number : (number : Taken) →
-      IsWholeNumber (tree C of.0) d.order d.at octets count number →
+  pub comes_number : (order : Order) (at : ℕ) → coding_by d.order d.at d.outer.items ≡ (order, at) →
+      (number : Taken) → IsWholeNumber (tree C of.0) order at octets count number →
+      HaveOctetsLeft (ticked_by (length octets - 1) d.outer.items) →
       TakenTogether C d octets of count (record { transition = transitions.Ended; output = outputs.Number number }) []
-  comes_number number h =
-      comes_head h.all (record { transition = transitions.Ended; output = outputs.Number number }) h.stands tt h.is (refl, refl) (λ n. (refl, refl))
+  comes_number order at coded number h ahead =
+      comes_head order at coded h.all (record { transition = transitions.Ended; output = outputs.Number number }) h.stands ahead tt h.is (refl, refl) (λ n. (refl, refl))
       (λ coding path at. subst (λ n. TransitionGives C (tree C of.0) transitions.Ended (outputs.Number number) [] [] path at (after coding path (tree C of.0) n at []))
       h.spelled (turns_number C coding path (tree C of.0) at number h.is))
 
@@ -157,7 +164,7 @@ module _ (C : Table) (d : Decoder) (of : TypeId) (octets : List ℕ) (count : �
 
 module _ (C : Table) (d : Decoder) (of : TypeId) (total offset : ℕ) (octets : List ℕ) (count : ℕ)
     (f : Fits C d)
-    (e : d.leaf ≡ Some (innermost.Content of total offset)) (outside : d.inside ≡ false) where
+    (e : d.leaf ≡ Some (innermost.Content of total offset)) (ahead : HaveOctetsLeft (ticked_by (length octets - 1) d.outer.items)) where
   content : ContentFits (tree C of.0) (tree C of.0) total offset d.piece.items
   content = (stands_at C d f (innermost.Content of total offset) e).fits
 
@@ -194,9 +201,9 @@ module _ (C : Table) (d : Decoder) (of : TypeId) (total offset : ℕ) (octets : 
         leaf = innermost.Content of total offset;
         goes_on = e;
         same = refl;
-        outside = outside;
         some = some;
         within = within;
+        ahead = ahead_fewer (count - 1) (length octets - 1) d.outer.items (omega (arith, within)) ahead;
         short = omega (arith, length-take-le count octets within, counted, room);
         carry = d.carry;
         piece = piece;
@@ -205,9 +212,9 @@ module _ (C : Table) (d : Decoder) (of : TypeId) (total offset : ℕ) (octets : 
         has_output = content.kind;
         output_fits_string = sym (and-true (is_text T));
         string_goes_on = (refl, refl, held_size count within ∙ omega (arith, counted, room));
-        lines = λ path here. line (here + 1) path (Piece T offset (d.piece.items ++ take count octets) true) ∷ [];
-        comes = λ path here at. rw (← with_last some within) (full_whole T path total offset here piece b large (omega (arith, size)));
-        says = λ path here. refl;
+        lines = λ coding path here. line (here + 1) path (Piece T offset (d.piece.items ++ take count octets) true) ∷ [];
+        comes = λ coding path here order at. rw (← with_last some within) (full_whole T path total offset here piece b large (omega (arith, size)));
+        says = λ coding path here. refl;
       }
 
   pub comes_bare : IsBare (tree C of.0) → total - offset ≤ 32 →
@@ -226,9 +233,9 @@ module _ (C : Table) (d : Decoder) (of : TypeId) (total offset : ℕ) (octets : 
         leaf = innermost.Content of total offset;
         goes_on = e;
         same = refl;
-        outside = outside;
         some = some;
         within = within;
+        ahead = ahead_fewer (count - 1) (length octets - 1) d.outer.items (omega (arith, within)) ahead;
         short = omega (arith, length-take-le count octets within, counted, small);
         carry = d.carry;
         piece = piece;
@@ -237,9 +244,9 @@ module _ (C : Table) (d : Decoder) (of : TypeId) (total offset : ℕ) (octets : 
         has_output = content.kind;
         output_fits_string = sym (and-false (is_text T));
         string_goes_on = (none_either (is_text T) (Some offset), refl);
-        lines = λ path here. line (here + 1) path (Piece T offset (d.piece.items ++ take count octets) false) ∷ [];
-        comes = λ path here at. rw (← with_last some within) (octets_last T path total offset here piece b bare small size);
-        says = λ path here. refl;
+        lines = λ coding path here. line (here + 1) path (Piece T offset (d.piece.items ++ take count octets) false) ∷ [];
+        comes = λ coding path here order at. rw (← with_last some within) (octets_last T path total offset here piece b bare small size);
+        says = λ coding path here. refl;
       }
     where
       bare_tail : (T : Ty) → IsBare T → tail T ≡ 0
@@ -263,9 +270,9 @@ module _ (C : Table) (d : Decoder) (of : TypeId) (total offset : ℕ) (octets : 
         leaf = innermost.Content of total offset;
         goes_on = e;
         same = refl;
-        outside = outside;
         some = omega (arith, counted);
         within = within;
+        ahead = ahead_fewer (count - 1) (length octets - 1) d.outer.items (omega (arith, within)) ahead;
         short = omega (arith, length-take-le size octets (omega (arith, within, counted)), sized, small, room, one);
         carry = d.carry;
         piece = piece;
@@ -274,114 +281,175 @@ module _ (C : Table) (d : Decoder) (of : TypeId) (total offset : ℕ) (octets : 
         has_output = content.kind;
         output_fits_string = sym (and-false (is_text T));
         string_goes_on = (none_either (is_text T) (Some offset), refl);
-        lines = λ path here. line (here + 1) path (Piece T offset piece false) ∷ [];
-        comes = λ path here at. rw n (text_last T path total offset here piece b bound is small all zero_end);
-        says = λ path here. refl;
+        lines = λ coding path here. line (here + 1) path (Piece T offset piece false) ∷ [];
+        comes = λ coding path here order at. rw n (text_last T path total offset here piece b bound is small all zero_end);
+        says = λ coding path here. refl;
       }
 
 -- ---- what they do to a decoder
 
 -- octets that only add to what is held
 adds_gathered : (C : Table) (d new : Decoder) (leaf : Innermost) (octets : List ℕ) →
-    is_inside d.outer.items ≡ false →
-    IsFurther d new (length octets) d.outer.items → Fits C d → d.leaf ≡ Some leaf →
+    IsCountedBy d new (length octets) → Fits C d → d.leaf ≡ Some leaf →
     Adds C d leaf octets new.carry new.piece.items → Fits C new × AllGathered C d new octets
-adds_gathered C d new (innermost.Number of) octets free on f e h = number_gathered C of d new octets free on h.1 f e h.0
-adds_gathered C d new (innermost.Opening of count) octets free on f e h = absurd h
-adds_gathered C d new (innermost.Content of total offset) octets free on f e h =
-    waits_gathered C of total offset (length new.piece.items) h.2 h.3 d new octets (counted_free d new (length octets) free f.ahead on) h.0 h.1 f e
+adds_gathered C d new (innermost.Number of) octets on f e h = number_counted C of d new octets on h.1 f e h.0
+adds_gathered C d new (innermost.Opening of count) octets on f e h = absurd h
+adds_gathered C d new (innermost.Content of total offset) octets on f e h =
+    waits_gathered C of total offset (length new.piece.items) h.2 h.3 d new octets on h.0 h.1 f e
     (omega (arith, ap length h.1, length-append d.piece.items octets))
 
--- a decoder before octets that it takes together
+-- a decoder that has counted octets which it has not taken: those before the last of so many
+pub record IsAtLast (d m : Decoder) (count : ℕ) : Type 0 where
+  pub further : IsFurther d m (count - 1) (ticked_by (count - 1) d.outer.items)
+  pub carry : m.carry ≡ d.carry
+  pub piece : m.piece.items ≡ d.piece.items
+
+abbrev pub at_last : Decoder → ℕ → ArrayVec Frame → Decoder
+at_last d at outer = record {
+  order = d.order;
+  root = d.root;
+  message = d.message;
+  at = at;
+  outer = outer;
+  inside = d.inside;
+  leaf = d.leaf;
+  carry = d.carry;
+  piece = d.piece;
+  notes = d.notes;
+}
+
+pub is_at_last : (d : Decoder) (count at : ℕ) (outer : ArrayVec Frame) → at ≡ (d.at + (count - 1)) % 8 →
+    outer.items ≡ ticked_by (count - 1) d.outer.items → IsAtLast d (at_last d at outer) count
+is_at_last d count at outer there counted = record {
+  further = record { order = refl; root = refl; message = refl; at = there; outer = counted; inside = refl; leaf = refl; notes = refl };
+  carry = refl;
+  piece = refl;
+}
+
+-- a decoder before octets that it takes together, and at the last of them
 module _ (C : Table) (d : Decoder) (octets : List ℕ) (of : TypeId) (count : ℕ) (s : Step)
     (rest : List ℕ) (f : Fits C d)
-    (h : TakenTogether C d octets of count s rest) where
-  free : is_inside d.outer.items ≡ false
-  free = sym f.inside ∙ h.outside
-
+    (h : TakenTogether C d octets of count s rest) (m : Decoder) (on : IsAtLast d m count) where
   -- the decoder after all but the last of them
-  abbrev pub before_last : ℕ → Decoder
-  before_last at = held_in d h.carry (record { items = h.piece }) at
+  abbrev pub before_last : Decoder
+  before_last = held_in m h.carry (record { items = h.piece })
 
-  pub around_whole : (at : ℕ) → at < 8 → IsAround C (held_in d d.carry d.piece at) of.0
-  around_whole at small =
-      let s = stands_at C d f h.leaf h.goes_on in
-      let same = ap leaf_type (same_some f.leaf h.leaf (sym f.goes_on ∙ h.goes_on)) ∙ h.same in
+  leads : m.leaf ≡ Some h.leaf
+  leads = on.further.leaf ∙ h.goes_on
+
+  pub gathered_whole : Fits C before_last × AllGathered C d before_last (take (count - 1) octets)
+  gathered_whole =
+      let t = on.further in
+      adds_gathered C d before_last h.leaf (take (count - 1) octets)
+      (rw (length-take-le (count - 1) octets (omega (arith, h.within))) (
+        record {
+          order = t.order;
+          root = t.root;
+          message = t.message;
+          at = t.at;
+          outer = t.outer;
+          inside = t.inside;
+          leaf = t.leaf;
+          notes = t.notes;
+        },
+        h.ahead,
+      )) f h.goes_on h.adds
+
+  fits_then : Fits C before_last
+  fits_then = gathered_whole.0
+
+  same_type : leaf_type fits_then.leaf ≡ of.0
+  same_type = ap leaf_type (same_some fits_then.leaf h.leaf (sym fits_then.goes_on ∙ leads)) ∙ h.same
+
+  pub around_whole : IsAround C m of.0
+  around_whole =
+      let s = stands_at C before_last fits_then h.leaf leads in
       record {
-        known = rw same at f.known;
-        known_outer = f.known_outer;
-        inside = f.inside;
-        ahead = f.ahead;
+        known = rw same_type at fits_then.known;
+        known_outer = fits_then.known_outer;
+        inside = fits_then.inside;
+        ahead = fits_then.ahead;
         are_open = s.are_open;
         room = s.room;
         fit = rw h.same at s.fit;
-        at = small;
+        at = fits_then.at;
       }
-
-  pub gathered_whole : (at : ℕ) → at ≡ (d.at + (count - 1)) % 8 → Fits C (before_last at) × AllGathered C d (before_last at) (take (count - 1) octets)
-  gathered_whole at e =
-      let size = length-take-le (count - 1) octets (omega (arith, h.within)) in
-      adds_gathered C d (before_last at) h.leaf (take (count - 1) octets) free
-      (record { order = refl; root = refl; message = refl; at = rw size e; outer = refl; inside = refl; leaf = refl; notes = refl })
-      f h.goes_on h.adds
 
   -- the lines that the last gives
   abbrev pub lines_at : ℕ → List Line
-  lines_at here = h.lines (path_in [] (open_parts C here d.outer.items)) here
+  lines_at here =
+      let ps = open_parts C here m.outer.items in
+      h.lines (coding_in (plain m.order) ps) (path_in [] ps) here
 
-  pub says_at : (here : ℕ) → IsOutput (tree C of.0) (path_in [] (open_parts C here d.outer.items))
-      (here + 1) s.output (d.piece.items ++ rest) (lines_at here)
-  says_at here = h.says (path_in [] (open_parts C here d.outer.items)) here
+  pub says_at : (here : ℕ) → IsOutput (tree C of.0) (path_in [] (open_parts C here m.outer.items))
+      (here + 1) s.output (m.piece.items ++ rest) (lines_at here)
+  says_at here =
+      let ps = open_parts C here m.outer.items in
+      subst (λ xs. IsOutput (tree C of.0) (path_in [] ps) (here + 1) s.output (xs ++ rest) (lines_at here)) (sym on.piece)
+      (h.says (coding_in (plain m.order) ps) (path_in [] ps) here)
 
-  pub told_whole : (at here : ℕ) → at ≡ (d.at + (count - 1)) % 8 → CanStandAt (before_last at) here →
-      decoder_step C (before_last at) here (get_or octets (count - 1) 0) ≡ emitted C d of.0 s.transition s.output
+  -- how the last is taken
+  coded : coding_by m.order m.at m.outer.items
+      ≡ ((coding_by d.order d.at d.outer.items).0, ((coding_by d.order d.at d.outer.items).1 + (count - 1)) % 8)
+  coded = rw (on.further.order, on.further.at, on.further.outer) (coding_ticked_by (count - 1) d.order d.at d.outer.items)
+
+  pub told_whole : (here : ℕ) → CanStandAt before_last here →
+      decoder_step C before_last here (get_or octets (count - 1) 0) ≡ emitted C m of.0 s.transition s.output
       (lines_at here) here
-  told_whole at here e stands =
-      let ps = open_parts C here d.outer.items in
+  told_whole here stands =
+      let ps = open_parts C here m.outer.items in
       let b = get_or octets (count - 1) 0 in
-      let path = path_in [] ps in
-      ap (λ l. step (plain d.order) [] ps (leaf_in C (before_last at) l) here b) h.goes_on
-      ∙ (ap (λ c. around (plain d.order) [] ps (leaf_step c path (leaf_of C h.leaf h.carry h.piece) here b))
-      (free_coded C here (plain d.order) d.outer.items free)
-      ∙ ap (around (plain d.order) [] ps) (h.comes path here (stands.0 ∙ e)))
+      let c = coding_in (plain m.order) ps in
+      let k : IsCoded here c (coding_by m.order m.at m.outer.items) =
+      coded_in C here (plain m.order) m.order m.at m.outer.items stands.1 (record { order = refl; at = omega (arith, stands.0) }) in
+      let T = tree C of.0 in
+      let comes : leaf_step c (path_in [] ps) (leaf_of C h.leaf h.carry h.piece) here b
+      ≡ after_transition C T s.transition m.carry (still_held s.output m.piece.items) (lines_at here) (here + 1) =
+      h.comes c (path_in [] ps) here (k.order ∙ ap (λ (p : Order × ℕ). p.0) coded) (k.at ∙ ap (λ (p : Order × ℕ). p.1) coded)
+      ∙ (ap (λ xs. after_transition C T s.transition xs (still_held s.output d.piece.items) (lines_at here) (here + 1)) (sym on.carry)
+      ∙ ap (λ xs. after_transition C T s.transition m.carry (still_held s.output xs) (lines_at here) (here + 1)) (sym on.piece)) in
+      ap (λ l. step (plain m.order) [] ps (leaf_in C before_last l) here b) leads ∙ ap (around (plain m.order) [] ps) comes
 
-  pub lines_whole : (at here : ℕ) → at ≡ (d.at + (count - 1)) % 8 → CanStandAt (before_last at) here → lines_of (decoder_step C (before_last at) here (get_or octets (count - 1) 0)) ≡ lines_at here
-  lines_whole at here e stands =
-      ap lines_of (told_whole at here e stands)
-      ∙ lines_after_transition C here (plain d.order) [] d.outer.items (tree C of.0) s.transition d.carry (still_held s.output d.piece.items)
-      (lines_at here) f.ahead f.known_outer
+  pub lines_whole : (here : ℕ) → CanStandAt before_last here →
+      lines_of (decoder_step C before_last here (get_or octets (count - 1) 0)) ≡ lines_at here
+  lines_whole here stands =
+      ap lines_of (told_whole here stands)
+      ∙ lines_after_transition C here (plain m.order) [] m.outer.items (tree C of.0) s.transition m.carry (still_held s.output m.piece.items)
+      (lines_at here) fits_then.ahead fits_then.known_outer
 
-  pub keeps_noted_whole : (new : Decoder) (at here : ℕ) (front : List Line) → at ≡ (d.at + (count - 1)) % 8 → CanStandAt (before_last at) here →
-      ends_in_string (emitted C d of.0 s.transition s.output (lines_at here) here) ≡ transition_in_string (tree C of.0)
+  pub keeps_noted_whole : (new : Decoder) (here : ℕ) (front : List Line) → CanStandAt before_last here →
+      ends_in_string (emitted C m of.0 s.transition s.output (lines_at here) here) ≡ transition_in_string (tree C of.0)
       s.transition →
-      ((o : Noted) → HoldsNoted d.notes o → HoldsNoted new.notes (without_name_if (clears_name s.output)
-      (noted (is_header_root d.root) o (lines_at here)))) →
-      KeepsNoted d.root (before_last at) (read_by_fields C (before_last at) front here) → KeepsNoted d.root new (with_front front (decoder_step C (before_last at) here (get_or octets (count - 1) 0)))
-  keeps_noted_whole new at here front e stands inside notes old =
-      let r = decoder_step C (before_last at) here (get_or octets (count - 1) 0) in
-      let header = is_header_root d.root in
-      let path = path_in [] (open_parts C here d.outer.items) in
+      ((o : Noted) → HoldsNoted m.notes o → HoldsNoted new.notes (without_name_if (clears_name s.output)
+      (noted (is_header_root m.root) o (lines_at here)))) →
+      KeepsNoted m.root before_last (read_by_fields C before_last front here) →
+      KeepsNoted m.root new (with_front front (decoder_step C before_last here (get_or octets (count - 1) 0)))
+  keeps_noted_whole new here front stands inside notes old =
+      let r = decoder_step C before_last here (get_or octets (count - 1) 0) in
+      let header = is_header_root m.root in
+      let path = path_in [] (open_parts C here m.outer.items) in
       let back = sym h.same in
       let T = tree C (leaf_type h.leaf) in
-      let before : HoldsNoted d.notes (without_name_if (leaf_in_string T h.leaf) (noted header nothing_noted front)) =
-      subst (λ b. HoldsNoted d.notes (without_name_if b (noted header nothing_noted front))) (leaf_inside C h.leaf h.carry h.piece)
-      (rw h.goes_on at old) in
-      let on = noted_on header C h.leaf s.transition s.output path (here + 1) (d.piece.items ++ rest) front (lines_at here) r
+      let before : HoldsNoted m.notes (without_name_if (leaf_in_string T h.leaf) (noted header nothing_noted front)) =
+      subst (λ b. HoldsNoted m.notes (without_name_if b (noted header nothing_noted front))) (leaf_inside C h.leaf h.carry h.piece)
+      (rw leads at old) in
+      let then = noted_on header C h.leaf s.transition s.output path (here + 1) (m.piece.items ++ rest) front (lines_at here) r
       (subst (λ t. OutputFitsString (tree C t) (leaf_in_string (tree C t) h.leaf) s.transition s.output) back h.output_fits_string)
-      (subst (λ t. IsOutput (tree C t) path (here + 1) s.output (d.piece.items ++ rest) (lines_at here)) back (says_at here))
-      (subst (λ t. ends_in_string r ≡ transition_in_string (tree C t) s.transition) back (ap ends_in_string (told_whole at here e stands) ∙ inside))
-      (lines_whole at here e stands) in
-      subst (HoldsNoted new.notes) on (notes (without_name_if (leaf_in_string T h.leaf) (noted header nothing_noted front)) before)
+      (subst (λ t. IsOutput (tree C t) path (here + 1) s.output (m.piece.items ++ rest) (lines_at here)) back (says_at here))
+      (subst (λ t. ends_in_string r ≡ transition_in_string (tree C t) s.transition) back (ap ends_in_string (told_whole here stands) ∙ inside))
+      (lines_whole here stands) in
+      subst (HoldsNoted new.notes) then (notes (without_name_if (leaf_in_string T h.leaf) (noted header nothing_noted front)) before)
 
   pub name_whole : (here : ℕ) (next : Innermost) (new : Notes) → IsNotRefused s.transition →
       string_offset (tree C (leaf_type next)) next ≡ transition_offset (tree C of.0) s.transition →
-      ((o : Noted) → HoldsNoted d.notes o → HoldsNoted new (without_name_if (clears_name s.output)
-      (noted (is_header_root d.root) o (lines_at here)))) →
-      FitsName d.root (string_offset (tree C (leaf_type next)) next) new.buffer new.name.items
-  name_whole here next new going leads notes =
+      ((o : Noted) → HoldsNoted m.notes o → HoldsNoted new (without_name_if (clears_name s.output)
+      (noted (is_header_root m.root) o (lines_at here)))) →
+      FitsName m.root (string_offset (tree C (leaf_type next)) next) new.buffer new.name.items
+  name_whole here next new going to notes =
       let T = tree C of.0 in
-      let same = same_some f.leaf h.leaf (sym f.goes_on ∙ h.goes_on) in
-      name_kept (is_header_root d.root) d.root T (string_offset T h.leaf) (string_offset (tree C (leaf_type next)) next) s.transition s.output
-      (path_in [] (open_parts C here d.outer.items)) (here + 1) (d.piece.items ++ rest) (lines_at here) d.notes new going h.string_goes_on leads (says_at here)
-      (subst (λ n. FitsName d.root (string_offset (tree C n) h.leaf) d.notes.buffer d.notes.name.items) h.same
-      (subst (λ l. FitsName d.root (string_offset (tree C (leaf_type l)) l) d.notes.buffer d.notes.name.items) same f.name)) notes
+      let same = same_some fits_then.leaf h.leaf (sym fits_then.goes_on ∙ leads) in
+      name_kept (is_header_root m.root) m.root T (string_offset T h.leaf) (string_offset (tree C (leaf_type next)) next) s.transition s.output
+      (path_in [] (open_parts C here m.outer.items)) (here + 1) (m.piece.items ++ rest) (lines_at here) m.notes new going
+      (rw on.piece h.string_goes_on) to (says_at here)
+      (subst (λ n. FitsName m.root (string_offset (tree C n) h.leaf) m.notes.buffer m.notes.name.items) h.same
+      (subst (λ l. FitsName m.root (string_offset (tree C (leaf_type l)) l) m.notes.buffer m.notes.name.items) same fits_then.name)) notes

@@ -27,7 +27,8 @@ use Rattle.giop_decode.proofs.Noting.{leaf_inside}
 use Rattle.giop_decode.proofs.Runs.{dues_both, take_more, takes_more}
 use Rattle.giop_decode.proofs.Surrounding.{around_unless_ended, free_ended, free_ticked, places_ticked}
 use Rattle.giop_decode.proofs.Taking.{due_is, takes_to}
-use Rattle.giop_decode.proofs.Whole.{before_last, comes_text, gathered_whole, keeps_noted_whole, lines_at, lines_whole, name_whole, says_at, told_whole}
+use Rattle.giop_decode.proofs.Counting.{ahead_free, free_ticked_by}
+use Rattle.giop_decode.proofs.Whole.{IsAtLast, at_last, before_last, is_at_last, comes_text, gathered_whole, keeps_noted_whole, lines_at, lines_whole, name_whole, says_at, told_whole}
 use Rattle.giop_print.specs.declared.path.Root.{Root}
 use Rattle.giop_sig.specs.Types.{Text, Ty}
 use Rattle.giop_sig.specs.Table.{Table, type_id}
@@ -101,12 +102,12 @@ same_type a b e = ap type_id e
 
 -- a length ahead that leads into a content of one piece, with the content and a zero behind it
 pub text_stands : (C : Table) (d : Decoder) (octets : List ℕ) (of inner by : TypeId) (head total : ℕ) (s : Step) (rest : List ℕ)
-    (bound : Option ℕ) (text : TextAhead) → d.leaf ≡ Some (innermost.Number of) → tree C of.0 ≡ Text bound →
+    (bound : Option ℕ) (text : TextAhead) → d.inside ≡ false → d.leaf ≡ Some (innermost.Number of) → tree C of.0 ≡ Text bound →
     s.transition ≡ transitions.More (innermost.Content inner total 0) → s.output ≡ outputs.Length →
     TakenTogether C d octets by head s rest → total ≤ 32 → total < length (drop head octets) →
     get_or (drop head octets) total 0 ≡ 0 → text.of ≡ inner → text.head ≡ head →
     text.content.now ≡ take total (drop head octets) → IsTextAhead C d octets text
-text_stands C d octets of inner by head total s rest bound text leaf is transition output t small within zero_end e1 e2 e3 =
+text_stands C d octets of inner by head total s rest bound text outside leaf is transition output t small within zero_end e1 e2 e3 =
     let size : length text.content.now ≡ total = ap length e3 ∙ length-take-le total (drop head octets) (omega (arith, within)) in
     let by_leaf : of.0 ≡ by.0 = ap leaf_type (same_some (innermost.Number of) t.leaf (sym leaf ∙ t.goes_on)) ∙ t.same in
     let fits = rw transition at t.transition_fits in
@@ -120,6 +121,7 @@ text_stands C d octets of inner by head total s rest bound text leaf is transiti
       bound = bound;
       is = rw (e1, same, whole) is;
       number = rw (e1, same, whole) leaf;
+      outside = outside;
       none = rest;
       leads = rw (e1, e2, size) leads;
       short = omega (arith, size, small);
@@ -129,6 +131,11 @@ text_stands C d octets of inner by head total s rest bound text leaf is transiti
     }
 
 -- ---- a decoder before a string
+
+-- in no encapsulation the frames stay as they are
+pub free_at_last : (d : Decoder) (count at : ℕ) → is_inside d.outer.items ≡ false → at ≡ (d.at + (count - 1)) % 8 →
+    IsAtLast d (at_last d at d.outer) count
+free_at_last d count at free there = is_at_last d count at d.outer there (free_ticked_by (count - 1) d.outer.items free)
 
 module _ (C : Table) (d : Decoder) (octets : List ℕ) (text : TextAhead) (f : Fits C d)
     (h : IsTextAhead C d octets text) where
@@ -143,6 +150,16 @@ module _ (C : Table) (d : Decoder) (octets : List ℕ) (text : TextAhead) (f : F
 
   abbrev there : ℕ
   there = (d.at + last) % 8
+
+  free : is_inside d.outer.items ≡ false
+  free = sym f.inside ∙ h.outside
+
+  -- the decoder at the last octet of its length
+  abbrev at_head : Decoder
+  at_head = at_last d there d.outer
+
+  on_head : IsAtLast d at_head text.head
+  on_head = free_at_last d text.head there free refl
 
   -- the decoder after its length
   abbrev pub begun : Decoder
@@ -160,13 +177,10 @@ module _ (C : Table) (d : Decoder) (octets : List ℕ) (text : TextAhead) (f : F
   }
 
   abbrev before : Decoder
-  before = before_last C d octets text.of text.head step h.none f h.leads there
+  before = before_last C d octets text.of text.head step h.none f h.leads at_head on_head
 
   abbrev lines : ℕ → List Line
-  lines here = lines_at C d octets text.of text.head step h.none f h.leads here
-
-  free : is_inside d.outer.items ≡ false
-  free = sym f.inside ∙ h.leads.outside
+  lines here = lines_at C d octets text.of text.head step h.none f h.leads at_head on_head here
 
   pub no_piece : d.piece.items ≡ []
   no_piece =
@@ -174,7 +188,7 @@ module _ (C : Table) (d : Decoder) (octets : List ℕ) (text : TextAhead) (f : F
       subst (λ l. IsClean l d.carry d.piece.items) it f.clean
 
   silent : (here : ℕ) → lines here ≡ []
-  silent here = says_at C d octets text.of text.head step h.none f h.leads here
+  silent here = says_at C d octets text.of text.head step h.none f h.leads at_head on_head here
 
   come : (here : ℕ) → emitted C d text.of.0 step.transition step.output (lines here) here ≡ read_by_fields C begun [] (here + 1)
   come here =
@@ -200,15 +214,15 @@ module _ (C : Table) (d : Decoder) (octets : List ℕ) (text : TextAhead) (f : F
       TakesRun C T order at message root begun s (take text.head octets) progress.More
   takes T order at message root s r =
       let b = get_or octets last 0 in
-      let whole = gathered_whole C d octets text.of text.head step h.none f h.leads there refl in
+      let whole = gathered_whole C d octets text.of text.head step h.none f h.leads at_head on_head in
       let held = whole.1 T order at message root s r in
       let below : last < length octets = let some = h.leads.some in omega (arith, some, h.leads.within) in
       let all : last + 1 ≡ text.head = let some = h.leads.some in omega (arith, some) in
       subst (λ n. TakesRun C T order at message root begun s (take n octets) progress.More) all
       (takes_more C T order at message root begun s octets last progress.More below held.takes.answers
       (takes_to C T order at message root before begun (s ++ take last octets) b progress.More whole.0 refl refl refl stands_begun
-      (λ here stands. rw (told_whole C d octets text.of text.head step h.none f h.leads there here refl stands) (comes here))
-      (λ here front stands old. keeps_noted_whole C d octets text.of text.head step h.none f h.leads begun there here front refl stands
+      (λ here stands. rw (told_whole C d octets text.of text.head step h.none f h.leads at_head on_head here stands) (comes here))
+      (λ here front stands old. keeps_noted_whole C d octets text.of text.head step h.none f h.leads at_head on_head begun here front stands
       (inside here) (notes here) old)
       (held.takes.reads (λ fault. fault))))
     where
@@ -222,14 +236,14 @@ module _ (C : Table) (d : Decoder) (octets : List ℕ) (text : TextAhead) (f : F
       let b = get_or octets last 0 in
       let so_far = s ++ take last octets in
       let here = at + length so_far in
-      let whole = gathered_whole C d octets text.of text.head step h.none f h.leads there refl in
+      let whole = gathered_whole C d octets text.of text.head step h.none f h.leads at_head on_head in
       let held = whole.1 T order at message root s r in
       let k = held.takes.reads (λ fault. fault) in
       let below : last < length octets = let some = h.leads.some in omega (arith, some, h.leads.within) in
       let all : text.head ≡ last + 1 = let some = h.leads.some in omega (arith, some) in
       let one : added_lines_of_run order T at so_far (b ∷ []) ≡ [] =
       due_is C T order at message root before so_far b whole.0 k
-      ∙ (lines_whole C d octets text.of text.head step h.none f h.leads there here refl k.offset ∙ silent here) in
+      ∙ (lines_whole C d octets text.of text.head step h.none f h.leads at_head on_head here k.offset ∙ silent here) in
       record {
         takes = takes T order at message root s r;
         quiet = ap (λ n. added_lines_of_run order T at s (take n octets)) all
@@ -240,9 +254,9 @@ module _ (C : Table) (d : Decoder) (octets : List ℕ) (text : TextAhead) (f : F
   pub begun_fits : Fits C begun
   begun_fits =
       let b = get_or octets last 0 in
-      let whole = gathered_whole C d octets text.of text.head step h.none f h.leads there refl in
+      let whole = gathered_whole C d octets text.of text.head step h.none f h.leads at_head on_head in
       let g = whole.0 in
-      let emits = told_whole C d octets text.of text.head step h.none f h.leads there g.here refl g.stands in
+      let emits = told_whole C d octets text.of text.head step h.none f h.leads at_head on_head g.here g.stands in
       let k = goes C begun progress.More (g.here + 1) (decoder_step C before g.here b) (rw emits (comes g.here)) tt in
       let at_leaf : k.leaf ≡ leaf = same_some k.leaf leaf (sym k.goes_on) in
       let same : leaf_type g.leaf ≡ text.of.0 = ap leaf_type (same_some g.leaf h.leads.leaf (sym g.goes_on ∙ h.leads.goes_on)) ∙ h.leads.same in
@@ -251,7 +265,7 @@ module _ (C : Table) (d : Decoder) (octets : List ℕ) (text : TextAhead) (f : F
       step_fits C before begun g b k (stands_begun g.here g.stands) f.ahead f.inside (rw at_leaf link) f.known_outer (rw at_leaf known)
       (rw at_leaf h.leads.transition_fits.1)
       (λ other. forgotten_id d.notes d.notes.buffer ∙ f.id_in_header_only other)
-      (name_whole C d octets text.of text.head step h.none f h.leads g.here k.leaf begun.notes tt (rw at_leaf refl) (notes g.here))
+      (name_whole C d octets text.of text.head step h.none f h.leads at_head on_head g.here k.leaf begun.notes tt (rw at_leaf refl) (notes g.here))
 
   -- the content and the zero behind it
   pub content_ahead : TakenTogether C begun (drop text.head octets) text.of (length text.content.now + 1)
@@ -261,7 +275,8 @@ module _ (C : Table) (d : Decoder) (octets : List ℕ) (text : TextAhead) (f : F
       let left = length-drop text.head octets in
       subst (λ xs. TakenTogether C begun (drop text.head octets) text.of (n + 1) (record { transition = transitions.Ended; output = outputs.Piece 0 false }) xs)
       (sym h.content)
-      (comes_text C begun text.of n 0 (drop text.head octets) (n + 1) begun_fits refl h.leads.outside h.bound n h.is
+      (comes_text C begun text.of n 0 (drop text.head octets) (n + 1) begun_fits refl
+      (ahead_free (length (drop text.head octets) - 1) d.outer.items free f.ahead) h.bound n h.is
       (omega (arith, h.short)) (omega (arith, ap length no_piece)) refl (omega (arith, left, h.within)) h.zero_end)
 
   -- what is noted of the content's line, from what was noted before the length

@@ -1,10 +1,10 @@
 -- What a decoder that reads a list does with more octets, taken as a run (state).
-use Rattle.std.specs.Prelude.{◌≡◌, ℕ, ◌+◌, ◌-◌, ◌%◌, ◌<◌, ◌≤◌, false, List, [], ◌∷◌, ◌++◌, length, take, drop, get_or, Some, Result, MatchResult}
+use Rattle.std.specs.Prelude.{◌≡◌, ℕ, ◌+◌, ◌-◌, ◌%◌, ◌<◌, ◌≤◌, List, [], ◌∷◌, ◌++◌, length, take, drop, get_or, Some, Result, MatchResult}
 use Rattle.giop_cdr.specs.declared.order.Order.{Order}
 use Rattle.giop_decode.specs.declared.decoder.Decoder.{Decoder}
 use Rattle.giop_decode.specs.declared.progress.Progress.{Progress}
 use Rattle.giop_decode.specs.declared.progress.Progress.TheVariants as progress
-use Rattle.giop_decode.specs.ReadResult.{plain, Line, PathSegment, lines_of}
+use Rattle.giop_decode.specs.ReadResult.{plain, Coding, Line, PathSegment, lines_of}
 use Rattle.giop_decode.specs.Reading.{read}
 use Rattle.giop_decode.specs.Noted.{is_header_root, names_operation}
 use Rattle.giop_decode.specs.DecoderState.{Reads, KeepsNoted, IsAnswer, IsFault, added_lines}
@@ -22,7 +22,7 @@ use Rattle.giop_decode.specs.Pieces.{tail}
 use Rattle.giop_decode.specs.NameBuffer.{string_offset}
 use Rattle.giop_decode.specs.NotingSteps.{OutputFitsString, StringGoesOn, leaf_in_string}
 use Rattle.giop_decode.specs.ReadingSteps.{AreHeld, leading_width, leaf_step}
-use Rattle.giop_decode.specs.Transitions.{HasOutput, IsOutput, TransitionFits, leaf_of, leaf_type, still_held, after_transition}
+use Rattle.giop_decode.specs.Transitions.{HasOutput, HaveOctetsLeft, IsOutput, TransitionFits, coding_by, leaf_of, leaf_type, still_held, ticked_by, after_transition}
 
 -- the lines that octets more give
 abbrev pub added_lines_of_run : Order → Ty → ℕ → List ℕ → List ℕ → List Line
@@ -89,26 +89,27 @@ AllGathered C d new octets = (T : Ty) (order : Order) (at message : ℕ) (root :
 
 -- ---- octets that are taken together
 
--- what is held after octets that only add to it, in no encapsulation
+-- what is held after octets that only add to it
 abbrev pub Adds : Table → Decoder → Innermost → List ℕ → List ℕ → List ℕ → Type 0
 Adds C d (innermost.Number of) octets carry piece =
-    AreHeld (leading_width (tree C of.0)) d.at d.carry octets carry × (piece ≡ d.piece.items)
+    AreHeld (leading_width (tree C of.0)) (coding_by d.order d.at d.outer.items).1 d.carry octets carry
+    × (piece ≡ d.piece.items)
 Adds C d (innermost.Opening of count) octets carry piece = ⊥
 Adds C d (innermost.Content of total offset) octets carry piece =
     (carry ≡ d.carry) × (piece ≡ d.piece.items ++ octets)
     × (32 < total - offset → length piece < 32)
     × (total - offset ≤ 32 → length piece < total - offset + tail (tree C of.0))
 
--- So many octets stand at the head of these, in no encapsulation, of which all but the last only add to what is held,
--- and the last does this step: a piece that it gives are the octets that are held, and the rest.
+-- So many octets stand at the head of these, and no encapsulation ends before the last of them. All but the last only add
+-- to what is held, and the last does this step: a piece that it gives are the octets that are held, and the rest.
 pub record TakenTogether (C : Table) (d : Decoder) (octets : List ℕ) (of : TypeId) (count : ℕ)
     (step : Step) (rest : List ℕ) : Type 0 where
   pub leaf : Innermost
   pub goes_on : d.leaf ≡ Some leaf
   pub same : leaf_type leaf ≡ of.0
-  pub outside : d.inside ≡ false
   pub some : 0 < count
   pub within : count ≤ length octets
+  pub ahead : HaveOctetsLeft (ticked_by (count - 1) d.outer.items)
   pub short : length d.piece.items + length rest ≤ 32
   -- what is held before the last of them
   pub carry : List ℕ
@@ -121,11 +122,13 @@ pub record TakenTogether (C : Table) (d : Decoder) (octets : List ℕ) (of : Typ
   pub output_fits_string : OutputFitsString (tree C of.0) (leaf_in_string (tree C of.0) leaf) step.transition step.output
   pub string_goes_on : StringGoesOn (tree C of.0) (string_offset (tree C of.0) leaf) step.transition step.output
       (length (d.piece.items ++ rest))
-  pub lines : List PathSegment → ℕ → List Line
-  pub comes : (path : List PathSegment) (here : ℕ) → here % 8 ≡ (d.at + (count - 1)) % 8 →
-      leaf_step (plain d.order) path (leaf_of C leaf carry piece) here
-      (get_or octets (count - 1) 0)
+  pub lines : Coding → List PathSegment → ℕ → List Line
+  pub comes : (coding : Coding) (path : List PathSegment) (here : ℕ) →
+      coding.order ≡ (coding_by d.order d.at d.outer.items).0 →
+      (here - coding.origin) % 8 ≡ ((coding_by d.order d.at d.outer.items).1 + (count - 1)) % 8 →
+      leaf_step coding path (leaf_of C leaf carry piece) here (get_or octets (count - 1) 0)
       ≡ after_transition C (tree C of.0) step.transition d.carry (still_held step.output d.piece.items)
-      (lines path here) (here + 1)
-  pub says : (path : List PathSegment) (here : ℕ) →
-      IsOutput (tree C of.0) path (here + 1) step.output (d.piece.items ++ rest) (lines path here)
+      (lines coding path here) (here + 1)
+  pub says : (coding : Coding) (path : List PathSegment) (here : ℕ) →
+      IsOutput (tree C of.0) path (here + 1) step.output (d.piece.items ++ rest)
+      (lines coding path here)

@@ -1,5 +1,5 @@
 -- A string that stands whole ahead (steps).
-use Rattle.std.specs.Prelude.{◌≡◌, ℕ, ◌+◌, ◌<◌, ◌≤◌, List, length, take, drop, get_or, Option, Some}
+use Rattle.std.specs.Prelude.{◌≡◌, ℕ, ◌+◌, ◌<◌, ◌≤◌, false, List, length, take, drop, get_or, Option, Some}
 use Rattle.giop_decode.specs.declared.decoder.Decoder.{Decoder}
 use Rattle.giop_decode.specs.declared.leaf.Leaf.TheVariants as innermost
 use Rattle.giop_decode.specs.declared.leaf.Output.TheVariants as outputs
@@ -15,6 +15,7 @@ pub record IsTextAhead (C : Table) (d : Decoder) (octets : List ℕ) (text : Tex
   pub bound : Option ℕ
   pub is : tree C text.of.0 ≡ Text bound
   pub number : d.leaf ≡ Some (innermost.Number text.of)
+  pub outside : d.inside ≡ false
   pub none : List ℕ
   pub leads : TakenTogether C d octets text.of text.head (record {
     transition = transitions.More (innermost.Content text.of (length text.content.now) 0);

@@ -1,6 +1,6 @@
 //! Whether the parts of a decoder that is restored from octets fit a catalogue.
 
-ghost use Rattle.std.specs.Prelude.{◌≡◌, ◌↔◌, IsTrue, ℕ, ◌+◌, ◌-◌, ◌<◌, ◌≤◌, List, [], length};
+ghost use Rattle.std.specs.Prelude.{◌≡◌, ◌↔◌, IsTrue, ◌+◌, ◌-◌, ◌<◌, ◌≤◌, [], length};
 ghost use Rattle.giop_decode.specs.FrameChain.{HasFrame, HasPart, LeafFits, Chained, Chains, root_of};
 ghost use Rattle.giop_decode.specs.Fits.{HasLeadingNumber, IsEncapsulation};
 ghost use Rattle.giop_decode.specs.NameBuffer.{FitsName, IsNotedOf, string_offset};

@@ -1,7 +1,6 @@
 //! The parts that are begun and not ended, and have parts of their own.
 
-ghost use Rattle.std.specs.Prelude.{◌≡◌, ℕ, ◌+◌, ◌-◌, ◌^◌, ◌<◌, ◌≤◌, List, [], ◌∷◌, ◌++◌, length, ◌↔◌, IsTrue, IfSome, IfNone, false};
-ghost use Rattle.std.specs.Option.{option_map};
+ghost use Rattle.std.specs.Prelude.{◌≡◌, ℕ, ◌+◌, ◌-◌, ◌^◌, ◌<◌, ◌≤◌, List, [], ◌∷◌, ◌++◌, length, take, ◌↔◌, IsTrue, IfSome, IfNone, false};
 ghost use Rattle.arrayvec.specs.ArrayVec.{array_vec_len};
 ghost use Rattle.giop_decode.specs.ReadResult.{Coding, PathSegment, LeadingNumber, Done};
 ghost use Rattle.giop_decode.specs.ReadingSteps.{around};
@@ -152,6 +151,24 @@ fn before_last(frame: Frame, octets: usize) -> usize
         Some(_) => octets.min((frame.count - frame.index - 1) as usize),
         None => octets,
     }
+}
+
+/// Those of these octets that stand up to the last one of each encapsulation: all of them where there is none.
+#[inline(always)]
+pub(crate) fn up_to_end<'a>(inside: bool, outer: &[Frame], octets: &'a [u8]) -> &'a [u8]
+    requires inside { inside ≡ is_inside outer.now }
+    requires ahead { HaveOctetsLeft outer.now }
+    ensures within { length result.now ≤ length octets.now }
+    ensures some { 0 < length octets.now → 0 < length result.now }
+    ensures head { result.now ≡ take (length result.now) octets.now }
+    ensures ahead { HaveOctetsLeft (ticked_by (length result.now - 1) outer.now) }
+{
+    if !inside {
+        return octets;
+    }
+    let before = before_ends(outer, octets.len());
+    let count = octets.len().min(before + 1);
+    &octets[..count]
 }
 
 /// Whether an encapsulation has ended, where there is one.

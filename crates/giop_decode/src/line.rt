@@ -23,6 +23,7 @@ use giop_sig::{Catalogue, Shape, TypeId};
 
 /// The line of a value of a type of one number.
 #[tactic(auto, unfolding(giop_print::specs::Lines::kind_line))]
+#[inline(always)]
 fn number_line<O: Out>(
     catalogue: &Catalogue,
     message: u64,

@@ -7,7 +7,7 @@ ghost use Rattle.giop_decode.specs.Fits.{IsBare};
 ghost use Rattle.giop_decode.specs.DecoderState.{Fits};
 ghost use Rattle.giop_decode.specs.NotingSteps.{IsPlain, IsPrim};
 ghost use Rattle.giop_decode.specs.Runs.{TakenTogether};
-ghost use Rattle.giop_decode.specs.Transitions.{IsWholeNumber, StandsWhole};
+ghost use Rattle.giop_decode.specs.Transitions.{HaveOctetsLeft, IsWholeNumber, StandsWhole, coding_by, ticked_by};
 ghost use Rattle.giop_sig.specs.Types.{Single, Plain};
 ghost use Rattle.giop_sig.specs.Trees.{tree};
 
@@ -31,27 +31,29 @@ pub(crate) struct Lookahead<'a> {
 }
 
 impl Decoder {
-    /// The number of a primitive that comes next, where it stands whole at the head of these octets, in no
-    /// encapsulation, and none of it is held.
+    /// The number of a primitive that comes next, where it stands whole at the head of these octets, and none of it is
+    /// held. They are taken in this order and by this offset, and no encapsulation ends before the last of them.
     #[inline(always)]
     pub(crate) fn number_ahead<'a>(
         &self,
         catalogue: &Catalogue,
+        order: Order,
+        at: u8,
         octets: &'a [u8],
     ) -> Option<Lookahead<'a>>
-        requires { Fits catalogue.now self.now }
+        requires fits { Fits catalogue.now self.now }
+        requires coded { coding_by self.now.order self.now.at self.now.outer.items ≡ (order, at) }
+        requires ahead { HaveOctetsLeft (ticked_by (length octets.now - 1) self.now.outer.items) }
         ensures ahead { IfSome result (λ ahead. TakenTogether catalogue.now self.now octets.now ahead.of
             ahead.count ahead.step ahead.rest.now) }
         ensures plain { IfSome result (λ ahead.
             IsPlain (tree catalogue.now ahead.of.0) ahead.step.output) }
     {
-        if self.inside || !self.carry.is_empty() {
+        if !self.carry.is_empty() {
             return None;
         }
         match self.leaf {
-            Some(Leaf::Number(of)) => match whole_number(
-                catalogue, self.order, self.at, of, octets,
-            ) {
+            Some(Leaf::Number(of)) => match whole_number(catalogue, order, at, of, octets) {
                 Some((count, number)) => Some(Lookahead {
                     of,
                     count,
@@ -72,21 +74,25 @@ impl Decoder {
     pub(crate) fn leading_number_ahead<'a>(
         &self,
         catalogue: &Catalogue,
+        order: Order,
+        at: u8,
         octets: &'a [u8],
     ) -> Option<Lookahead<'a>>
-        requires { Fits catalogue.now self.now }
+        requires fits { Fits catalogue.now self.now }
+        requires coded { coding_by self.now.order self.now.at self.now.outer.items ≡ (order, at) }
+        requires ahead { HaveOctetsLeft (ticked_by (length octets.now - 1) self.now.outer.items) }
         ensures { IfSome result (λ ahead. TakenTogether catalogue.now self.now octets.now ahead.of
             ahead.count ahead.step ahead.rest.now) }
     {
-        if self.inside || !self.carry.is_empty() {
+        if !self.carry.is_empty() {
             return None;
         }
         match self.leaf {
-            Some(Leaf::Number(of)) => match whole_octets(width(catalogue, of), self.at, octets) {
+            Some(Leaf::Number(of)) => match whole_octets(width(catalogue, of), at, octets) {
                 Some((count, whole)) => Some(Lookahead {
                     of,
                     count,
-                    step: take_value(catalogue, self.order, of, whole),
+                    step: take_value(catalogue, order, of, whole),
                     rest: &[],
                 }),
                 None => None,
@@ -96,20 +102,18 @@ impl Decoder {
     }
 
     /// The rest of the unfinished piece, where it stands whole at the head of these octets, with the zero that ends it
-    /// where it is a string's last, in no encapsulation.
+    /// where it is a string's last. No encapsulation ends before the last of them.
     #[inline(always)]
     pub(crate) fn piece_ahead<'a>(
         &self,
         catalogue: &Catalogue,
         octets: &'a [u8],
     ) -> Option<Lookahead<'a>>
-        requires { Fits catalogue.now self.now }
+        requires fits { Fits catalogue.now self.now }
+        requires ahead { HaveOctetsLeft (ticked_by (length octets.now - 1) self.now.outer.items) }
         ensures { IfSome result (λ ahead. TakenTogether catalogue.now self.now octets.now ahead.of
             ahead.count ahead.step ahead.rest.now) }
     {
-        if self.inside {
-            return None;
-        }
         match self.leaf {
             Some(Leaf::Content { of, total, offset }) => {
                 if total.saturating_sub(offset) > 32 {
@@ -134,7 +138,7 @@ impl Decoder {
     ) -> Option<Lookahead<'a>>
         requires fits { Fits catalogue.now self.now }
         requires leaf { self.now.leaf ≡ Some (Leaf.Content of total offset) }
-        requires outside { self.now.inside ≡ false }
+        requires ahead { HaveOctetsLeft (ticked_by (length octets.now - 1) self.now.outer.items) }
         requires more { 32 < total - offset }
         ensures { IfSome result (λ ahead. TakenTogether catalogue.now self.now octets.now ahead.of
             ahead.count ahead.step ahead.rest.now) }
@@ -171,7 +175,7 @@ impl Decoder {
     ) -> Option<Lookahead<'a>>
         requires fits { Fits catalogue.now self.now }
         requires leaf { self.now.leaf ≡ Some (Leaf.Content of total offset) }
-        requires outside { self.now.inside ≡ false }
+        requires ahead { HaveOctetsLeft (ticked_by (length octets.now - 1) self.now.outer.items) }
         requires last { total - offset ≤ 32 }
         ensures { IfSome result (λ ahead. TakenTogether catalogue.now self.now octets.now ahead.of
             ahead.count ahead.step ahead.rest.now) }
@@ -203,7 +207,7 @@ impl Decoder {
         requires fits { Fits catalogue.now self.now }
         requires leaf { self.now.leaf ≡ Some (Leaf.Content of total offset) }
         requires bare { IsBare (tree catalogue.now of.0) }
-        requires outside { self.now.inside ≡ false }
+        requires ahead { HaveOctetsLeft (ticked_by (length octets.now - 1) self.now.outer.items) }
         requires last { total - offset ≤ 32 }
         ensures { IfSome result (λ ahead. TakenTogether catalogue.now self.now octets.now ahead.of
             ahead.count ahead.step ahead.rest.now) }

@@ -52,18 +52,17 @@ const HEAD: usize = 31;
 const RUN: usize = 16;
 
 impl Decoder {
-    /// Whether a number comes next that is one of several parts of which three are to come, in no header and no
-    /// encapsulation, and there are octets for more than one.
+    /// Whether a number comes next that is one of several parts of which three are to come, in no header, and there are
+    /// octets for more than one.
     #[inline(always)]
     pub(crate) fn has_parts(&self, octets: &[u8]) -> bool
         ensures some { IsTrue result → 0 < length self.now.outer.items }
         ensures body { IsTrue result → is_header_root self.now.root ≡ false }
-        ensures outside { IsTrue result → self.now.inside ≡ false }
     {
         let Some(Leaf::Number(_)) = self.leaf else {
             return false;
         };
-        if is_header(self.root) || self.inside || octets.len() < RUN {
+        if is_header(self.root) || octets.len() < RUN {
             return false;
         }
         let depth = self.outer.len();

@@ -1,21 +1,23 @@
 //! A run of octets, taken up to the one at which an operation or the value ends, or a rule is broken.
 
-ghost use Rattle.std.specs.Prelude.{◌≡◌, ℕ, ◌+◌, ◌%◌, ◌^◌, ◌<◌, ◌≤◌, List, length, take, IfOk, IsTrue};
+ghost use Rattle.std.specs.Prelude.{◌≡◌, ℕ, ◌+◌, ◌-◌, ◌%◌, ◌^◌, ◌<◌, ◌≤◌, List, length, take, IfOk, IsTrue};
 ghost use Rattle.giop_cdr.specs.declared.order.Order.{Order as ByteOrder};
 ghost use Rattle.giop_decode.specs.DecoderState.{Fits, GoesOn, IsDone, Reads};
 ghost use Rattle.giop_decode.specs.NotingSteps.{IsPlain};
 ghost use Rattle.giop_decode.specs.Runs.{TakesRun, WritesRun, AllGathered, TakenTogether};
+ghost use Rattle.giop_decode.specs.Transitions.{HaveOctetsLeft, coding_by, ticked_by};
 ghost use Rattle.giop_print.specs.declared.path.Root.{Root as PathRoot};
 ghost use Rattle.giop_sig.specs.Trees.{tree};
 ghost use Rattle.giop_sig.specs.Types.{Ty};
 
 use crate::contents::gather_content;
 use crate::decoder::Decoder;
-use crate::frame::{before_end, coding, tick_by};
+use crate::frame::{before_end, coding, tick_by, up_to_end};
 use crate::leading_numbers::{gather_number, width};
 use crate::leaf::Leaf;
 use crate::lookahead::Lookahead;
 use crate::progress::Progress;
+use giop_cdr::Order;
 use giop_print::{Out, OutFault};
 use giop_sig::Catalogue;
 
@@ -83,8 +85,11 @@ impl Decoder {
         ensures fits { IfOk result (λ taken. GoesOn taken.1 → Fits catalogue.now self.new) }
         ensures done { IfOk result (λ taken. taken.1 ≡ Progress.Done → IsDone self.new) }
     {
-        let Some(ahead) = self.number_ahead(catalogue, octets) else {
-            return self.take_other(catalogue, octets, out);
+        if self.inside {
+            return self.take_one(catalogue, octets, out);
+        }
+        let Some(ahead) = self.number_ahead(catalogue, self.order, self.at, octets) else {
+            return self.take_other(catalogue, self.order, self.at, octets, out);
         };
         if self.has_parts(octets) {
             return self.take_parts(catalogue, octets, out);
@@ -92,7 +97,7 @@ impl Decoder {
         self.take_ahead(catalogue, octets, ahead, true, out)
     }
 
-    /// The same, but for numbers one at a time.
+    /// The same, but for numbers one at a time, and within encapsulations too: there of the octets up to where one ends.
     #[inline(never)]
     pub(crate) fn take_one<O: Out>(
         &mut self,
@@ -116,21 +121,28 @@ impl Decoder {
         ensures fits { IfOk result (λ taken. GoesOn taken.1 → Fits catalogue.now self.new) }
         ensures done { IfOk result (λ taken. taken.1 ≡ Progress.Done → IsDone self.new) }
     {
-        match self.number_ahead(catalogue, octets) {
-            Some(ahead) => self.take_ahead(catalogue, octets, ahead, true, out),
-            None => self.take_other(catalogue, octets, out),
+        let (order, at) = coding(self.inside, self.order, self.at, self.outer.as_slice());
+        let near = up_to_end(self.inside, self.outer.as_slice(), octets);
+        match self.number_ahead(catalogue, order, at, near) {
+            Some(ahead) => self.take_ahead(catalogue, near, ahead, true, out),
+            None => self.take_other(catalogue, order, at, near, out),
         }
     }
 
-    /// The same where no primitive's number stands whole at their head.
+    /// The same where no primitive's number stands whole at their head. They are taken in this order and by this offset,
+    /// and no encapsulation ends before the last of them.
     #[inline(always)]
     fn take_other<O: Out>(
         &mut self,
         catalogue: &Catalogue,
+        order: Order,
+        at: u8,
         octets: &[u8],
         out: &mut O,
     ) -> Result<(usize, Progress), OutFault>
         requires fits { Fits catalogue.now self.old }
+        requires coded { coding_by self.old.order self.old.at self.old.outer.items ≡ (order, at) }
+        requires ahead { HaveOctetsLeft (ticked_by (length octets.now - 1) self.old.outer.items) }
         requires some { 0 < length octets.now }
         ensures writes { (T : Ty) (order : ByteOrder) (at message : ℕ) (root : PathRoot)
             (s : List ℕ) →
@@ -152,7 +164,7 @@ impl Decoder {
         if let Some(text) = self.text_ahead(catalogue, octets) {
             return self.take_text(catalogue, octets, text, out);
         }
-        if let Some(ahead) = self.leading_number_ahead(catalogue, octets) {
+        if let Some(ahead) = self.leading_number_ahead(catalogue, order, at, octets) {
             return self.take_ahead(catalogue, octets, ahead, false, out);
         }
         let gathered = self.gather(catalogue, octets);
@@ -194,6 +206,7 @@ impl Decoder {
     {
         let _octets = octets;
         self.at = further(self.at, ahead.count - 1);
+        tick_by(self.inside, &mut self.outer, ahead.count - 1);
         let progress = self.emit(catalogue, ahead.of, ahead.step, ahead.rest, is_plain, out)?;
         Ok((ahead.count, progress))
     }

@@ -38,13 +38,16 @@ impl Decoder {
         requires { Fits catalogue.now self.now }
         ensures { IfSome result (λ text. IsTextAhead catalogue.now self.now octets.now text) }
     {
+        if self.inside {
+            return None;
+        }
         let Some(Leaf::Number(of)) = self.leaf else {
             return None;
         };
         let Shape::Text(_) = catalogue.shape(of) else {
             return None;
         };
-        let Some(length) = self.leading_number_ahead(catalogue, octets) else {
+        let Some(length) = self.leading_number_ahead(catalogue, self.order, self.at, octets) else {
             return None;
         };
         let Output::Length = length.step.output else {

@@ -2,22 +2,28 @@ use Rattle.std.proofs.Common.{◌≡◌, Some, ◌∙◌, ap, refl, subst}
 use Rattle.giop_decode.specs.Transitions.{StandsWhole}
 use Rattle.giop_decode.specs.declared.leaf.Leaf.TheVariants as innermost
 use Rattle.giop_decode.proofs.Advancing.{stands_at}
+use Rattle.giop_decode.proofs.Counting.{coding_small}
 use Rattle.giop_decode.proofs.Whole.{comes_head}
 use Rattle.giop_decode.proofs.decoder.Decoder.leading_number_ahead.Goals as goal
+
+pub whole_octets-requires-clause-small : goal.whole_octets-requires-clause-small
+whole_octets-requires-clause-small c =
+    let d = c.args.self.now in
+    rw c.requires.coded at (coding_small d.order d.at d.outer.items c.requires.fits.at)
 
 pub take_value-requires-clause-head : goal.take_value-requires-clause-head
 take_value-requires-clause-head c =
     let some : c.args.self.now.leaf ≡ Some c.in-Some-Number.field-0 = c.in-Some-Number.is in
     let number : c.in-Some-Number.field-0 ≡ innermost.Number c.in-Some-Number.of = rw some at c.in-Some-Number.field-0-is in
     let e : c.args.self.now.leaf ≡ Some (innermost.Number c.in-Some-Number.of) = some ∙ ap Some number in
-    (stands_at c.args.catalogue.now c.args.self.now c.requires (innermost.Number c.in-Some-Number.of) e).fits.kind
+    (stands_at c.args.catalogue.now c.args.self.now c.requires.fits (innermost.Number c.in-Some-Number.of) e).fits.kind
 
 pub take_value-requires-clause-fit : goal.take_value-requires-clause-fit
 take_value-requires-clause-fit c =
     let some : c.args.self.now.leaf ≡ Some c.in-Some-Number.field-0 = c.in-Some-Number.is in
     let number : c.in-Some-Number.field-0 ≡ innermost.Number c.in-Some-Number.of = rw some at c.in-Some-Number.field-0-is in
     let e : c.args.self.now.leaf ≡ Some (innermost.Number c.in-Some-Number.of) = some ∙ ap Some number in
-    (_, (stands_at c.args.catalogue.now c.args.self.now c.requires (innermost.Number c.in-Some-Number.of) e).fit)
+    (_, (stands_at c.args.catalogue.now c.args.self.now c.requires.fits (innermost.Number c.in-Some-Number.of) e).fit)
 
 pub take_value-requires-clause-whole : goal.take_value-requires-clause-whole
 take_value-requires-clause-whole c = c.in-Some.ensures.width ∙ c.width.ensures.width (take_value-requires-clause-head c)
@@ -29,9 +35,9 @@ returns-in-Some c =
     let some : d.leaf ≡ Some c.in-Some-Number.field-0 = c.in-Some-Number.is in
     let number : c.in-Some-Number.field-0 ≡ innermost.Number c.in-Some-Number.of = rw some at c.in-Some-Number.field-0-is in
     let e : d.leaf ≡ Some (innermost.Number c.in-Some-Number.of) = some ∙ ap Some number in
-    let head = (stands_at C d c.requires (innermost.Number c.in-Some-Number.of) e).fits.kind in
+    let head = (stands_at C d c.requires.fits (innermost.Number c.in-Some-Number.of) e).fits.kind in
     let v = c.take_value.ensures in
-    comes_head C d c.in-Some-Number.of c.args.octets.now c.in-Some.count c.requires e c.if-self.false
-    (c.if-not-is_empty.ensures.0 refl) c.in-Some.whole.now c.take_value.result
-    (subst (λ w. StandsWhole w d.at c.args.octets.now c.in-Some.count c.in-Some.whole.now) (c.width.ensures.width head) c.in-Some.ensures.stands)
-    v.transition_fits v.has_output v.output_fits_string v.string_goes_on v.transitions
+    comes_head C d c.in-Some-Number.of c.args.octets.now c.in-Some.count c.requires.fits e
+    (c.if-not-is_empty.ensures.0 refl) c.args.order c.args.at c.requires.coded c.in-Some.whole.now c.take_value.result
+    (subst (λ w. StandsWhole w c.args.at c.args.octets.now c.in-Some.count c.in-Some.whole.now) (c.width.ensures.width head) c.in-Some.ensures.stands)
+    c.requires.ahead v.transition_fits v.has_output v.output_fits_string v.string_goes_on v.transitions

@@ -2,7 +2,7 @@ use Rattle.std.proofs.Common.{◌≡◌, ◌+◌, ◌-◌, ◌<◌, [], ◌++◌
 use Rattle.giop_decode.specs.declared.leaf.Step.{Step}
 use Rattle.giop_decode.specs.declared.leaf.Output.TheVariants as outputs
 use Rattle.giop_decode.specs.declared.leaf.Transition.TheVariants as transitions
-use Rattle.giop_decode.proofs.NextParts.{before_answers, part_text, taken_together}
+use Rattle.giop_decode.proofs.NextParts.{before_answers, part_at_last, part_text, taken_together}
 use Rattle.giop_decode.specs.NextParts.{frames_above}
 use Rattle.giop_decode.specs.Segments.{frames_text}
 use Rattle.giop_print.specs.Output.{Wrote, WroteFront}
@@ -11,7 +11,7 @@ use Rattle.giop_decode.proofs.Advancing.{goes, same_some, step_fits}
 use Rattle.giop_decode.proofs.Runs.{text_more, takes_more, breaks_off, writes_broken}
 use Rattle.giop_decode.proofs.Segments.{said_none}
 use Rattle.giop_decode.proofs.Taking.{takes_to, done}
-use Rattle.giop_decode.proofs.Whole.{around_whole, before_last, gathered_whole, lines_at, name_whole, keeps_noted_whole, says_at, told_whole}
+use Rattle.giop_decode.proofs.Whole.{around_whole, at_last, before_last, gathered_whole, lines_at, name_whole, keeps_noted_whole, says_at, told_whole}
 use Rattle.giop_decode.specs.DecoderSteps.{decoder_step}
 use Rattle.giop_decode.specs.NameBuffer.{FitsName, string_offset}
 use Rattle.giop_sig.specs.Trees.{tree}
@@ -28,7 +28,8 @@ pass-progress-requires-clause-around g c =
     let d = c.args.self.now in
     let octets = c.args.octets.now in
     around_whole C d octets a.of a.count (record { transition = transitions.Ended; output = outputs.Number a.number }) [] c.requires.fits
-    (taken_together C d octets a c.requires.fits c.requires.ahead) c.further-self.result (omega (arith, c.further-self.ensures))
+    (taken_together C d octets a c.requires.fits c.requires.ahead) (at_last d c.further-self.result d.outer)
+    (part_at_last C d octets a c.requires.fits c.requires.ahead c.further-self.result c.further-self.ensures)
 
 pub returns-in_err-part_line-clause-writes : goal.returns-in_err-part_line-clause-writes
 returns-in_err-part_line-clause-writes g c T order at message root s r =
@@ -72,25 +73,25 @@ returns-clause-takes g c T order at message root s r =
     let octets = c.args.octets.now in
     let f = c.requires.fits in
     let h = taken_together C d octets a f c.requires.ahead in
+    let m = at_last d c.further-self.result d.outer in
+    let on = part_at_last C d octets a f c.requires.ahead c.further-self.result c.further-self.ensures in
     let i = a.count - 1 in
     let b = get_or octets i 0 in
     let p = c.pass-progress.result in
     let new = c.pass-progress.new.self in
     let e = c.pass-progress.ensures in
-    let moved = c.further-self.ensures in
-    let there = c.further-self.result in
-    let whole = gathered_whole C d octets a.of a.count step [] f h there moved in
-    let before = before_last C d octets a.of a.count step [] f h there in
-    let lines = lines_at C d octets a.of a.count step [] f h in
-    let says = says_at C d octets a.of a.count step [] f h in
+    let whole = gathered_whole C d octets a.of a.count step [] f h m on in
+    let before = before_last C d octets a.of a.count step [] f h m on in
+    let lines = lines_at C d octets a.of a.count step [] f h m on in
+    let says = says_at C d octets a.of a.count step [] f h m on in
     let held = whole.1 T order at message root s r in
     let below : i < length octets = omega (arith, h.some, h.within) in
     let all : i + 1 ≡ a.count = omega (arith, h.some) in
     subst (λ n. TakesRun C T order at message root new s (take n octets) p) all
     (takes_more C T order at message root new s octets i p below held.takes.answers
     (takes_to C T order at message root before new (s ++ take i octets) b p whole.0 e.order e.root e.message e.here
-    (λ here stands. rw (told_whole C d octets a.of a.count step [] f h there here moved stands) (e.steps here (lines here) (says here)))
-    (λ here front stands old. keeps_noted_whole C d octets a.of a.count step [] f h new there here front moved stands (e.inside here (lines here))
+    (λ here stands. rw (told_whole C d octets a.of a.count step [] f h m on here stands) (e.steps here (lines here) (says here)))
+    (λ here front stands old. keeps_noted_whole C d octets a.of a.count step [] f h m on new here front stands (e.inside here (lines here))
     (λ o recalls. e.notes o here (here + 1) (lines here) recalls (says here)) old)
     (held.takes.reads (λ fault. fault))))
 
@@ -103,17 +104,18 @@ returns-clause-fits g c goes_on =
     let octets = c.args.octets.now in
     let f = c.requires.fits in
     let h = taken_together C d octets a f c.requires.ahead in
+    let m = at_last d c.further-self.result d.outer in
+    let on = part_at_last C d octets a f c.requires.ahead c.further-self.result c.further-self.ensures in
     let b = get_or octets (a.count - 1) 0 in
     let new = c.pass-progress.new.self in
     let e = c.pass-progress.ensures in
-    let there = c.further-self.result in
-    let whole = gathered_whole C d octets a.of a.count step [] f h there c.further-self.ensures in
-    let before = before_last C d octets a.of a.count step [] f h there in
+    let whole = gathered_whole C d octets a.of a.count step [] f h m on in
+    let before = before_last C d octets a.of a.count step [] f h m on in
     let g' = whole.0 in
-    let emitted = told_whole C d octets a.of a.count step [] f h there g'.here c.further-self.ensures g'.stands in
+    let emitted = told_whole C d octets a.of a.count step [] f h m on g'.here g'.stands in
     let k = goes C new c.pass-progress.result (g'.here + 1) (decoder_step C before g'.here b)
-    (rw emitted (e.steps g'.here (lines_at C d octets a.of a.count step [] f h g'.here)
-    (says_at C d octets a.of a.count step [] f h g'.here))) goes_on in
+    (rw emitted (e.steps g'.here (lines_at C d octets a.of a.count step [] f h m on g'.here)
+    (says_at C d octets a.of a.count step [] f h m on g'.here))) goes_on in
     let next = e.next goes_on in
     let same = ap leaf_type (same_some g'.leaf h.leaf (sym g'.goes_on ∙ h.goes_on)) ∙ h.same in
     let link : Link C g'.root d.outer.items a.of.0 = subst (Link C g'.root d.outer.items) same g'.link in
@@ -121,9 +123,9 @@ returns-clause-fits g c goes_on =
     (next.link g'.root k.leaf link k.goes_on) next.known_outer (next.known k.leaf k.goes_on) (next.clean k.leaf k.goes_on)
     (λ other. let was = rw e.root at other in e.id was ∙ f.id_in_header_only was)
     (subst (λ r. FitsName r (string_offset (tree C (leaf_type k.leaf)) k.leaf) new.notes.buffer new.notes.name.items) (sym e.root)
-    (name_whole C d octets a.of a.count step [] f h g'.here k.leaf new.notes next.going (next.offset k.leaf k.goes_on)
-    (λ o held. e.notes o g'.here (g'.here + 1) (lines_at C d octets a.of a.count step [] f h g'.here) held
-    (says_at C d octets a.of a.count step [] f h g'.here))))
+    (name_whole C d octets a.of a.count step [] f h m on g'.here k.leaf new.notes next.going (next.offset k.leaf k.goes_on)
+    (λ o held. e.notes o g'.here (g'.here + 1) (lines_at C d octets a.of a.count step [] f h m on g'.here) held
+    (says_at C d octets a.of a.count step [] f h m on g'.here))))
 
 pub returns-clause-done : goal.returns-clause-done
 returns-clause-done g c is =
@@ -134,7 +136,9 @@ returns-clause-done g c is =
     let octets = c.args.octets.now in
     let f = c.requires.fits in
     let h = taken_together C d octets a f c.requires.ahead in
-    let whole = gathered_whole C d octets a.of a.count step [] f h c.further-self.result c.further-self.ensures in
+    let m = at_last d c.further-self.result d.outer in
+    let on = part_at_last C d octets a f c.requires.ahead c.further-self.result c.further-self.ensures in
+    let whole = gathered_whole C d octets a.of a.count step [] f h m on in
     done C c.pass-progress.new.self c.pass-progress.result (whole.0.here + 1) _
-    (c.pass-progress.ensures.steps whole.0.here (lines_at C d octets a.of a.count step [] f h whole.0.here)
-    (says_at C d octets a.of a.count step [] f h whole.0.here)) is
+    (c.pass-progress.ensures.steps whole.0.here (lines_at C d octets a.of a.count step [] f h m on whole.0.here)
+    (says_at C d octets a.of a.count step [] f h m on whole.0.here)) is
