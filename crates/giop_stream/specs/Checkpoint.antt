@@ -28,9 +28,7 @@ use Rattle.giop_checkpoint.specs.Fixed.{fixed_octets}
 use Rattle.giop_checkpoint.specs.Records.{Entry, EntryHasRange, entry_octets}
 use Rattle.giop_checkpoint.specs.Refusals.{HasState, HasRecords, IsOurs, IsNotOurs, IsOutOfRange, Refused}
 use Rattle.giop_message.specs.Stored.{Stored}
-use Rattle.giop_stream.specs.SlotsRepresent.{OpenEntry}
-use Rattle.giop_stream.specs.declared.slots.Payload.{Payload as PayloadOwner}
-use Rattle.giop_stream.specs.declared.slots.Payload.TheVariants as payload
+use Rattle.giop_stream.specs.SlotsRepresent.{OpenEntry, index_of, current_of}
 use Rattle.giop_stream.specs.declared.fault.Stop.{Stop}
 use Rattle.giop_stream.specs.EngineHolds.{StopWrites}
 use Rattle.giop_stream.specs.SlotsRepresent.{AreReady}
@@ -50,16 +48,12 @@ place_of (Some fault) header payload_count = Stopped fault
 place_of None header payload_count =
     if nat_lt (length header) 12 then Header (record { items = header }) else Payload header (size header - payload_count)
 
--- the record of the current message itself, after those of the open ones
-abbrev pub own_record : ℕ → Option Message → Option ℕ
-own_record many None = None
-own_record many (Some m) = Some many
-
--- the record of the message that the payload belongs to
-abbrev pub owner_of : PayloadOwner → ℕ → Option Message → Option ℕ
-owner_of payload.Own many own = own_record many own
-owner_of (payload.Open k) many own = if nat_lt k many then Some k else None
-owner_of payload.Nobody many own = None
+-- the record of the message that the payload belongs to, an open one at this index or the current one, whose record stands
+-- after those of the open ones
+abbrev pub owner_of : Option ℕ → Option Message → ℕ → Option ℕ
+owner_of (Some k) message many = if nat_lt k many then Some k else None
+owner_of None None many = None
+owner_of None (Some m) many = Some many
 
 abbrev pub count_own : Option Message → ℕ
 count_own None = 0
@@ -69,12 +63,12 @@ unfoldable pub fixed_of : Table → RequestTable → FramingView → Fixed
 fixed_of C l m = record {
   counts = counts_of C l;
   most_open = m.slots.slots.most;
-  records = length m.slots.slots.entries + count_own m.slots.own;
+  records = length m.slots.slots.entries + count_own (current_of m.slots.owner);
   octets = m.totals.octets;
   messages = m.totals.messages;
   faults = m.totals.faults;
   place = place_of m.stopped m.header m.payload_count;
-  owner = owner_of m.slots.payload (length m.slots.slots.entries) m.slots.own;
+  owner = owner_of (index_of m.slots.owner) (current_of m.slots.owner) (length m.slots.slots.entries);
 }
 
 -- ---- the records
@@ -164,7 +158,7 @@ checkpoint_octets layout C l m entries =
 pub record IsPutWhole (layout : Layout) (C : Table) (l : RequestTable) (m : FramingView) (octets : List ℕ)
     : Type 0 where
   pub entries : List Entry
-  pub are : AreEntries m.slots.slots.entries m.slots.own entries
+  pub are : AreEntries m.slots.slots.entries (current_of m.slots.owner) entries
   pub put : octets ≡ checkpoint_octets layout C l m entries
 
 -- These octets are the checkpoint of an engine that holds the stream p, by this table and list, where
@@ -176,7 +170,7 @@ pub record Spells (octets : List ℕ) (C : Table) (l : RequestTable) (most : ℕ
   pub octets_are : octets ≡ checkpoint_octets layout C l memory entries
   pub allows : OpenHasRange layout most
   pub limit : memory.slots.slots.most ≡ most
-  pub entries_are : AreEntries memory.slots.slots.entries memory.slots.own entries
+  pub entries_are : AreEntries memory.slots.slots.entries (current_of memory.slots.owner) entries
   pub stream : AreOctets p
   pub shows : Shows C (by_list l) memory (state_of (rules C l most) p)
   pub ready : AreReady C (memory.totals.octets + 1) memory.slots

@@ -9,11 +9,10 @@ use Rattle.giop_message.specs.ReaderOfTable.{message_reader}
 use Rattle.giop_stream.specs.Rules.{rules_by}
 use Rattle.giop_message.specs.Headers.{minor, kind, size, is_fragment, has_name}
 use Rattle.giop_stream.specs.declared.slots.Slots.{Slots}
-use Rattle.giop_stream.specs.declared.slots.Payload.TheVariants.{Own}
 use Rattle.giop_stream.specs.declared.current.Current.{Current}
 use Rattle.giop_stream.specs.Framing.{Message, with_payload, cut}
 use Rattle.giop_stream.specs.Events.{MessageKey, Event, Open, Rising, id, message_key, place, opener_of, has_named, goes_past, events_at_request_id, events_at_end, events_of_octet, open_after}
-use Rattle.giop_stream.specs.Effects.{Tracked, Effect, effects, then_effect, tracked_after, with_octet}
+use Rattle.giop_stream.specs.Effects.{Tracked, Effect, IsNotOpen, effects, then_effect, tracked_after, with_octet}
 use Rattle.giop_stream.specs.SlotsRepresent.{SlotsRepresent}
 use Rattle.giop_stream.specs.PayloadRuns.{run_effect}
 
@@ -40,14 +39,13 @@ pub record IsCurrent (now : Current) (m : Message) : Type 0 where
 abbrev pub SaysId : List ℕ → Type 0
 SaysId header = (T : Ty) × (header_type (minor header) (kind header) ≡ Some T) × BeginsWithId T
 
--- The request id of a message is complete. Where the message begins with it, its octets were the message's own, and the
--- message isn't over.
+-- The request id of a message is complete. Where the message begins with it, the message is neither open nor over.
 pub record IsAtRequestId (C : Table) (l : Answers) (s : Slots) (c : Tracked) (m : Message) (now : Current) (i : ℕ) : Type 0 where
   pub keeps : SlotsRepresent C l s c (Some (message_key m))
   pub rising : Rising c.still_open
   pub current : IsCurrent now m
   pub id_is : has_name m.header ≡ true → id m ≡ i
-  pub own_comes : has_name m.header ≡ true → s.payload ≡ Own
+  pub not_open : has_name m.header ≡ true → IsNotOpen m.number c.still_open
   pub alive : has_name m.header ≡ true → (xs : List ℕ) × (c.known m.number ≡ Some xs)
 
 -- The slots represent what is tracked at an octet of a message, the last that came.

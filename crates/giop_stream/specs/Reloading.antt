@@ -1,8 +1,8 @@
 -- Which fields of an engine the parts of a checkpoint give; and what is known of its records while they are read (state).
-use Rattle.std.specs.Prelude.{◌≡◌, ◌⊎◌, ℕ, ◌-◌, Bool, false, not, ◌&&◌, List, [], ◌∷◌, ◌++◌, length, flat_map, Option, Some, None, nat_lt, nat_le, if◌then◌else◌}
+use Rattle.std.specs.Prelude.{◌≡◌, ◌⊎◌, ℕ, ◌-◌, List, [], ◌∷◌, ◌++◌, length, flat_map, Option, Some, None, nat_lt, if◌then◌else◌}
 use Rattle.std.specs.List.{AllByRecursion as Each}
 use Rattle.giop_sig.specs.Table.{Table}
-use Rattle.giop_message.specs.Headers.{size, is_fragment}
+use Rattle.giop_message.specs.Headers.{size}
 use Rattle.giop_message.specs.Signatures.{Answers}
 use Rattle.giop_message.specs.declared.message.Message.{Message}
 use Rattle.giop_checkpoint.specs.declared.fault.StreamFault.{StreamFault}
@@ -11,11 +11,11 @@ use Rattle.giop_checkpoint.specs.declared.fixed.Place.TheVariants.{Header, Paylo
 use Rattle.giop_checkpoint.specs.declared.record.FirstRecord.{FirstRecord}
 use Rattle.giop_checkpoint.specs.Records.{Entry, entry_octets}
 use Rattle.giop_stream.specs.declared.slots.Slots.{Slots}
-use Rattle.giop_stream.specs.declared.slots.Payload.{Payload as PayloadOwner}
-use Rattle.giop_stream.specs.declared.slots.Payload.TheVariants as payload
+use Rattle.giop_stream.specs.declared.slots.PayloadOwner.{PayloadOwner}
+use Rattle.giop_stream.specs.declared.slots.PayloadOwner.TheVariants.{Open}
 use Rattle.giop_stream.specs.OpenSlots.{Slot as Held}
 use Rattle.giop_stream.specs.EngineState.{Own}
-use Rattle.giop_stream.specs.SlotsRepresent.{OpenEntry, open_entry, IsReady, IsSlot, AreSlots}
+use Rattle.giop_stream.specs.SlotsRepresent.{OpenEntry, open_entry, IsReady, IsSlot, AreSlots, index_of, current_of}
 use Rattle.giop_stream.specs.ViewOfState.{IsOwn}
 use Rattle.giop_stream.specs.Checkpoint.{IsOpen, IsCurrent, AreEntries}
 
@@ -38,20 +38,15 @@ payload_count_in (Header held) = 0
 payload_count_in (Payload header left) = size header - left
 payload_count_in (Stopped fault) = 0
 
--- the next octets belong to the current message itself: it isn't a Fragment with a complete request id
-abbrev pub comes_in : Place → Bool
-comes_in (Header held) = false
-comes_in (Payload header left) = not (is_fragment header && nat_le 4 (size header - left))
-comes_in (Stopped fault) = false
+-- the owner of the payload: the message of this record, where that is an open one, or else the current message, which was
+-- loaded before
+abbrev pub owner_by : Option ℕ → ℕ → PayloadOwner → PayloadOwner
+owner_by None many current = current
+owner_by (Some k) many current = if nat_lt k many then Open (Some k) else current
 
--- the owner where no record is named: the current message itself, or nobody
-abbrev pub by_turn : Bool → PayloadOwner
-by_turn itself = if itself then payload.Own else payload.Nobody
-
--- their owner: after the records of the open messages stands the current one's
-abbrev pub payload_of : Option ℕ → Bool → ℕ → PayloadOwner
-payload_of None itself many = by_turn itself
-payload_of (Some k) itself many = if nat_lt k many then payload.Open k else payload.Own
+-- It is the current message with these octets, or none.
+abbrev pub IsCurrentOwner : Table → Answers → PayloadOwner → Option Own → Type 0
+IsCurrentOwner C l of own = (index_of of ≡ None) × IsOwn C l (current_of of) own
 
 -- ---- a record
 
@@ -113,7 +108,7 @@ pub record HasAddedOpen (C : Table) (l : Answers) (at count : ℕ) (before after
   pub others : List Held
   pub held_are : held ≡ here ∷ others
   pub added : HasAdded C l before after (here ∷ [])
-  pub same_own : after.own ≡ before.own
+  pub same_owner : after.owner ≡ before.owner
   pub left : AreLeft C l at (count - 1) rest others own
 
 -- It was that of the current message, which is the last.
@@ -123,7 +118,7 @@ pub record HasAddedOwn (C : Table) (l : Answers) (count : ℕ) (before after : S
   pub no_held : held ≡ []
   pub own_here : own ≡ Some here
   pub same : after.slots ≡ before.slots
-  pub is : IsOwn C l after.own (Some here)
+  pub is : IsCurrentOwner C l after.owner (Some here)
   pub last : count - 1 ≡ 0
 
 -- The first record was one or the other.

@@ -9,12 +9,12 @@ use Rattle.giop_message.specs.MessageState.{Follows, Fits, reach}
 use Rattle.giop_entry_table.specs.declared.entry_table.Entry.{Entry}
 use Rattle.giop_stream.specs.declared.slots.Slot.{Slot as Contents}
 use Rattle.giop_stream.specs.declared.slots.Slots.{Slots}
-use Rattle.giop_stream.specs.declared.slots.Payload.{Payload}
-use Rattle.giop_stream.specs.declared.slots.Payload.TheVariants.{Own, Open, Nobody}
+use Rattle.giop_stream.specs.declared.slots.PayloadOwner.{PayloadOwner}
+use Rattle.giop_stream.specs.declared.slots.PayloadOwner.TheVariants.{Current, Open}
 use Rattle.giop_stream.specs.Events.{MessageKey, Event, EventKind}
 use Rattle.giop_stream.specs.Events as events
 use Rattle.giop_stream.specs.OpenSlots.{Slot, slots_of}
-use Rattle.giop_stream.specs.Effects.{Tracked, Effect, one_effect, no_effect}
+use Rattle.giop_stream.specs.Effects.{Tracked, Effect, IsNotOpen, one_effect, no_effect}
 
 -- An open message, under its request id.
 abbrev pub OpenEntry : Type 0
@@ -40,9 +40,19 @@ abbrev pub IsReady : Table → ℕ → Option CodeMessage → Type 0
 IsReady C at None = Unit {0}
 IsReady C at (Some m) = Fits C m × (reach m < at)
 
+-- the current message, unless it is open or over
+abbrev pub current_of : PayloadOwner → Option CodeMessage
+current_of (Current message) = message
+current_of (Open k) = None
+
+-- the index of the open message that the payload's octets belong to
+abbrev pub index_of : PayloadOwner → Option ℕ
+index_of (Current message) = None
+index_of (Open k) = k
+
 -- each message in the slots can
 pub record AreReady (C : Table) (at : ℕ) (s : Slots) : Type 0 where
-  pub own_ready : IsReady C at s.own
+  pub current_ready : IsReady C at (current_of s.owner)
   pub each_ready : Each (λ slot. IsReady C at slot.value.message) s.slots.entries
 
 pub record IsSlot (C : Table) (l : Answers) (kept : OpenEntry) (slot : Slot) : Type 0 where
@@ -57,24 +67,21 @@ AreSlots C l (kept ∷ more) (slot ∷ slots) = IsSlot C l kept slot × AreSlots
 AreSlots C l [] (slot ∷ slots) = ⊥
 AreSlots C l (kept ∷ more) [] = ⊥
 
--- the owner of the payload's octets
-abbrev pub PayloadBelongs : Table → Answers → Payload → Option CodeMessage → Tracked → Option MessageKey → Type 0
-PayloadBelongs C l Own own c (Some w) = Each (λ o. o.opener.number ≡ w.number → ⊥) c.still_open × RepresentsMessage C l own w (c.known w.number)
-PayloadBelongs C l (Open k) own c (Some w) = (own ≡ None) × ((o : events.Open) × (slice_get c.still_open k ≡ Some o) × (o.opener ≡ w))
-PayloadBelongs C l Nobody own c None = own ≡ None
-PayloadBelongs C l Own own c None = ⊥
-PayloadBelongs C l (Open k) own c None = ⊥
-PayloadBelongs C l Nobody own c (Some w) = ⊥
+-- the owner of the payload's octets: the open message at this index; or one that isn't open, of which this is kept, or none
+abbrev pub PayloadBelongs : Table → Answers → Option ℕ → Option CodeMessage → Tracked → Option MessageKey → Type 0
+PayloadBelongs C l (Some k) message c None = ⊥
+PayloadBelongs C l (Some k) message c (Some w) = (o : events.Open) × (slice_get c.still_open k ≡ Some o) × (o.opener ≡ w)
+PayloadBelongs C l None message c None = message ≡ None
+PayloadBelongs C l None message c (Some w) = IsNotOpen w.number c.still_open × RepresentsMessage C l message w (c.known w.number)
 
 pub record SlotsRepresent (C : Table) (l : Answers) (s : Slots) (c : Tracked) (owner_of_next : Option MessageKey) : Type 0 where
   pub slots : AreSlots C l s.slots.entries (slots_of c.known c.still_open)
-  pub payload : PayloadBelongs C l s.payload s.own c owner_of_next
+  pub owner : PayloadBelongs C l (index_of s.owner) (current_of s.owner) c owner_of_next
 
 -- the slots hold no message
 pub record IsBare (s : Slots) : Type 0 where
   pub no_slots : s.slots.entries ≡ []
-  pub no_own : s.own ≡ None
-  pub nobody : s.payload ≡ Nobody
+  pub no_owner : s.owner ≡ Current None
 
 -- an event of a message at a place
 abbrev pub event : ℕ → MessageKey → EventKind → Event

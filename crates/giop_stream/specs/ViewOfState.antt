@@ -1,19 +1,17 @@
 -- How the fields of the code show the state that an engine holds of a stream (state); and what a call does to them (steps).
-use Rattle.std.specs.Prelude.{◌≡◌, ◌-◌, ℕ, Bool, true, false, not, ◌&&◌, List, length, Option, Some, None, Result, OnOk, slice_get, option_map, nat_lt, nat_le, if◌then◌else◌}
+use Rattle.std.specs.Prelude.{◌≡◌, ◌-◌, ℕ, List, length, Option, Some, None, Result, OnOk, slice_get, option_map, nat_lt, if◌then◌else◌}
 use Rattle.giop_print.specs.Output.{OutLog, Writes}
 use Rattle.giop_cdr.specs.Numbers.{AreOctets}
 use Rattle.giop_sig.specs.Table.{Table}
 use Rattle.giop_message.specs.declared.message.Message.{Message as CodeMessage}
-use Rattle.giop_message.specs.Headers.{size, is_fragment}
+use Rattle.giop_message.specs.Headers.{size}
 use Rattle.giop_message.specs.MessageState.{Follows}
 use Rattle.giop_stream.specs.Rules.{rules_by}
 use Rattle.giop_message.specs.Signatures.{Answers}
 use Rattle.giop_stream.specs.EngineView.{FramingView}
-use Rattle.giop_stream.specs.declared.slots.Payload.{Payload}
-use Rattle.giop_stream.specs.declared.slots.Payload.TheVariants as payload
 use Rattle.giop_stream.specs.Text.{lines_text}
 use Rattle.giop_stream.specs.OpenSlots.{Slot}
-use Rattle.giop_stream.specs.SlotsRepresent.{AreSlots}
+use Rattle.giop_stream.specs.SlotsRepresent.{AreSlots, index_of, current_of}
 use Rattle.giop_stream.specs.EngineState.{State, Own, state_of}
 use Rattle.giop_stream.specs.EngineStep.{Step}
 
@@ -27,33 +25,21 @@ IsOwn C l None (Some o) = ⊥
 unfoldable pub payload_count_in : State → ℕ
 payload_count_in s = if nat_lt (length s.held) 12 then 0 else size s.held - s.left
 
--- the next octets are of a payload, and belong to the current message itself: it isn't a Fragment with a complete request id
-unfoldable pub comes_itself : State → Bool
-comes_itself s = nat_le 12 (length s.held) && not (is_fragment s.held && nat_le 4 (payload_count_in s))
-
--- The owner of the payload's next octets: the current message, unless it is over; an open message; or none.
-abbrev pub IsOwner : Payload → State → Type 0
-IsOwner payload.Own s = s.owner ≡ option_map (λ o. o.message_key.number) s.own
-IsOwner (payload.Open k) s =
+-- The owner of the payload's next octets: the open message at this index; or the current message, of which this is kept
+-- unless it is over, or none.
+abbrev pub IsOwner : Table → Answers → Option ℕ → Option CodeMessage → State → Type 0
+IsOwner C l (Some k) message s =
     (s.own ≡ None) × ((slot : Slot) × (slice_get s.slots k ≡ Some slot) × (s.owner ≡ Some slot.open_as.opener.number))
-IsOwner payload.Nobody s = s.owner ≡ None
+IsOwner C l None message s = IsOwn C l message s.own × (s.owner ≡ option_map (λ o. o.message_key.number) s.own)
 
--- and whether they belong to the current message itself, be it over or not
-abbrev pub IsTurn : Payload → State → Type 0
-IsTurn payload.Own s = comes_itself s ≡ true
-IsTurn (payload.Open k) s = Unit {0}
-IsTurn payload.Nobody s = comes_itself s ≡ false
-
--- The fields show this state; `turn` is asked only before a stream fault, while there are octets to come.
+-- The fields show this state.
 pub record Shows (C : Table) (l : Answers) (f : FramingView) (s : State) : Type 0 where
   pub totals : f.totals ≡ s.totals
   pub stopped : f.stopped ≡ s.stop
   pub header : f.header ≡ s.held
   pub payload_count : f.payload_count ≡ payload_count_in s
   pub slots : AreSlots C l f.slots.slots.entries s.slots
-  pub own : IsOwn C l f.slots.own s.own
-  pub owner : IsOwner f.slots.payload s
-  pub turn : s.stop ≡ None → IsTurn f.slots.payload s
+  pub owner : IsOwner C l (index_of f.slots.owner) (current_of f.slots.owner) s
 
 -- An engine that has read some stream of octets holds this state.
 pub record IsReached (C : Table) (l : Answers) (most : ℕ) (s : State) : Type 0 where

@@ -71,7 +71,7 @@ impl Framing {
             Writes result (O.log out.old) (O.log out.new)
             (flat_map unfinished_line (one.left_own s.own)) }
     {
-        let Some(message) = &self.slots.own else {
+        let Some(message) = self.slots.current() else {
             return Ok(());
         };
         if is_fragment(&message.header()) {

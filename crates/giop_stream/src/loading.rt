@@ -11,18 +11,18 @@ ghost use Rattle.giop_checkpoint.specs.Refusals.{IsOurs};
 ghost use Rattle.giop_checkpoint.specs.declared.record.RecordKind.TheVariants as record_kinds;
 ghost use Rattle.giop_stream.specs.Rules.{rules, most_open};
 ghost use Rattle.giop_stream.specs.OpenSlots.{Slot as Held};
-ghost use Rattle.giop_stream.specs.SlotsRepresent.{AreReady, IsBare, IsReady};
+ghost use Rattle.giop_stream.specs.SlotsRepresent.{AreReady, IsBare, IsReady, current_of};
+ghost use Rattle.giop_stream.specs.declared.slots.PayloadOwner.TheVariants.{Current};
 ghost use Rattle.giop_stream.specs.FramingView.{framing_view};
 ghost use Rattle.giop_stream.specs.EngineState.{state_of, Own};
-ghost use Rattle.giop_stream.specs.ViewOfState.{Shows, IsOwn};
+ghost use Rattle.giop_stream.specs.ViewOfState.{Shows};
 ghost use Rattle.giop_stream.specs.Checkpoint.{counts_of, fixed_of, Allows, IsRefused, OrNoMemory, Spells};
-ghost use Rattle.giop_stream.specs.Reloading.{stop_in, header_in, payload_count_in, comes_in, payload_of, pushed, IsOpenEntry, IsCurrentEntry, HasAdded, HasAddedFirst, AreLeft};
+ghost use Rattle.giop_stream.specs.Reloading.{stop_in, header_in, payload_count_in, owner_by, pushed, IsOpenEntry, IsCurrentOwner, IsCurrentEntry, HasAdded, HasAddedFirst, AreLeft};
 
 use crate::framing::Framing;
 use crate::header::size_of;
-use crate::kinds::is_fragment;
 use crate::saving::counts_of;
-use crate::slots::{Payload, Slot, Slots};
+use crate::slots::{PayloadOwner, Slot, Slots};
 use crate::status::Totals;
 use arrayvec::ArrayVec;
 use giop_checkpoint::{
@@ -84,7 +84,7 @@ fn framing_of(catalogue: &Catalogue, fixed: Fixed, records: &[u8], slots: Slots)
     if !add_all(&mut slots, catalogue, fixed.octets, fixed.records, records) {
         return None;
     }
-    slots.payload = payload_of(&fixed, &slots);
+    set_owner(&mut slots, fixed.owner);
     let totals = Totals {
         messages: fixed.messages,
         faults: fixed.faults,
@@ -157,28 +157,17 @@ fn held_of(octets: &[u8]) -> ArrayVec<u8, 12>
     held
 }
 
-/// The owner of the payload's octets.
-fn payload_of(fixed: &Fixed, slots: &Slots) -> Payload
-    ensures { result ≡ payload_of fixed.now.owner (comes_in fixed.now.place)
-        (length slots.now.slots.entries) }
+/// Makes the message of this record the owner of the payload, where it is an open one; else the current message stays it,
+/// where there is one.
+fn set_owner(slots: &mut Slots, owner: Option<u32>)
+    ensures owner { slots.new.owner ≡ owner_by owner (length slots.old.slots.entries) slots.old.owner }
+    ensures same { slots.new.slots ≡ slots.old.slots }
+    ensures ready { (C : Table) (n : ℕ) → AreReady C n slots.old → AreReady C n slots.new }
 {
-    match fixed.owner {
-        Some(record) if (record as usize) < slots.slots.len() => Payload::Open(record as usize),
-        Some(_) => Payload::Own,
-        None if comes_itself(&fixed.place) => Payload::Own,
-        None => Payload::Nobody,
-    }
-}
-
-/// Whether the next octets belong to the current message itself: it isn't a Fragment with a complete request id.
-fn comes_itself(place: &Place) -> bool
-    ensures { result ≡ comes_in place.now }
-{
-    match place {
-        Place::Payload { header, left } => {
-            !is_fragment(header) || size_of(header).saturating_sub(*left) < 4
+    if let Some(k) = owner {
+        if (k as usize) < slots.slots.len() {
+            slots.owner = PayloadOwner::Open(Some(k as usize));
         }
-        _ => false,
     }
 }
 
@@ -196,9 +185,9 @@ fn add_all(
     ensures ready { result ≡ true → AreReady catalogue.now (octets + 1) slots.new }
     ensures again { (l : Answers) (held : List Held) (own : Option Own) →
         AreLeft catalogue.now l (octets + 1) count records.now held own →
-        length slots.old.slots.entries + length held ≤ slots.old.slots.most → slots.old.own ≡ None →
+        length slots.old.slots.entries + length held ≤ slots.old.slots.most → slots.old.owner ≡ Current None →
         (result ≡ true) × HasAdded catalogue.now l slots.old slots.new held
-        × IsOwn catalogue.now l slots.new.own own }
+        × IsCurrentOwner catalogue.now l slots.new.owner own }
     ensures most { slots.new.slots.most ≡ slots.old.slots.most }
 {
     let mut rest = records;
@@ -226,13 +215,13 @@ fn add_first<'a>(
     ensures rest { IfSome result (λ rest. rest.now ≡ drop (used records.now) records.now) }
     ensures again { (l : Answers) (count : ℕ) (held : List Held) (own : Option Own) →
         (count ≡ 0 → ⊥) → AreLeft catalogue.now l (octets + 1) count records.now held own →
-        length slots.old.slots.entries + length held ≤ slots.old.slots.most → slots.old.own ≡ None →
+        length slots.old.slots.entries + length held ≤ slots.old.slots.most → slots.old.owner ≡ Current None →
         IsSomeAnd result (λ rest. HasAddedFirst catalogue.now l (octets + 1) count
         slots.old slots.new rest.now held own) }
-    ensures last { IsSome slots.old.own → result ≡ None }
+    ensures last { IsSome (current_of slots.old.owner) → result ≡ None }
     ensures most { slots.new.slots.most ≡ slots.old.slots.most }
 {
-    if slots.own.is_some() {
+    if slots.current().is_some() {
         return None;
     }
     let Some(first) = first_record(records) else {
@@ -253,11 +242,11 @@ fn add(slots: &mut Slots, catalogue: &Catalogue, octets: u64, first: &FirstRecor
         IsOpenEntry catalogue.now l (octets + 1) first.now held →
         length slots.old.slots.entries < slots.old.slots.most →
         (result ≡ true) × HasAdded catalogue.now l slots.old slots.new (held ∷ [])
-        × (slots.new.own ≡ slots.old.own) }
+        × (slots.new.owner ≡ slots.old.owner) }
     ensures one_current { (l : Answers) (own : Own) →
         IsCurrentEntry catalogue.now l (octets + 1) first.now own →
         (result ≡ true) × (slots.new.slots ≡ slots.old.slots)
-        × IsOwn catalogue.now l slots.new.own (Some own) }
+        × IsCurrentOwner catalogue.now l slots.new.owner (Some own) }
     ensures most { slots.new.slots.most ≡ slots.old.slots.most }
 {
     match first.record.record_kind {
@@ -280,11 +269,13 @@ fn add_current(
     ensures same { slots.new.slots ≡ slots.old.slots }
     ensures again { (l : Answers) (own : Own) →
         IsCurrentEntry catalogue.now l (octets + 1) first.now own →
-        (result ≡ true) × IsOwn catalogue.now l slots.new.own (Some own) }
+        (result ≡ true) × IsCurrentOwner catalogue.now l slots.new.owner (Some own) }
     ensures most { slots.new.slots.most ≡ slots.old.slots.most }
 {
-    slots.own = message_of(catalogue, octets, first);
-    slots.own.is_some()
+    let message = message_of(catalogue, octets, first);
+    let in_range = message.is_some();
+    slots.owner = PayloadOwner::Current(message);
+    in_range
 }
 
 /// Adds an open message that isn't over.
@@ -298,7 +289,7 @@ fn add_open(
     requires range { octets ≤ 2 ^ 48 + 1 }
     requires ready { AreReady catalogue.now (octets + 1) slots.old }
     ensures ready { result ≡ true → AreReady catalogue.now (octets + 1) slots.new }
-    ensures own { slots.new.own ≡ slots.old.own }
+    ensures owner { slots.new.owner ≡ slots.old.owner }
     ensures again { (l : Answers) (held : Held) →
         IsOpenEntry catalogue.now l (octets + 1) first.now held →
         first.now.record.record_kind ≡ record_kinds.Open id →
@@ -313,7 +304,7 @@ fn add_open(
 /// Adds an open message that is over.
 fn add_over(slots: &mut Slots, first: &FirstRecord<'_>, id: u32) -> bool
     ensures ready { (C : Table) (n : ℕ) → AreReady C n slots.old → AreReady C n slots.new }
-    ensures own { slots.new.own ≡ slots.old.own }
+    ensures owner { slots.new.owner ≡ slots.old.owner }
     ensures again { (C : Table) (l : Answers) (n : ℕ) (held : Held) →
         IsOpenEntry C l n first.now held →
         first.now.record.record_kind ≡ record_kinds.Over id →
@@ -328,7 +319,7 @@ fn add_over(slots: &mut Slots, first: &FirstRecord<'_>, id: u32) -> bool
 fn push(slots: &mut Slots, first: &FirstRecord<'_>, id: u32, message: Option<Message>) -> bool
     ensures ready { (C : Table) (n : ℕ) → AreReady C n slots.old → IsReady C n message →
         AreReady C n slots.new }
-    ensures own { slots.new.own ≡ slots.old.own }
+    ensures owner { slots.new.owner ≡ slots.old.owner }
     ensures added { length slots.old.slots.entries < slots.old.slots.most → (result ≡ true)
         × (slots.new.slots.entries ≡ slots.old.slots.entries ++ pushed first.now id message ∷ []) }
     ensures most { slots.new.slots.most ≡ slots.old.slots.most }

@@ -11,13 +11,13 @@ ghost use Rattle.giop_checkpoint.specs.Layouts.{OpenHasRange};
 ghost use Rattle.giop_checkpoint.specs.Fixed.{fixed_octets};
 ghost use Rattle.giop_message.specs.MessageState.{Fits};
 ghost use Rattle.giop_stream.specs.Rules.{most_open};
-ghost use Rattle.giop_stream.specs.SlotsRepresent.{AreReady, IsReady};
+ghost use Rattle.giop_stream.specs.SlotsRepresent.{AreReady, IsReady, index_of, current_of};
 ghost use Rattle.giop_stream.specs.FramingView.{framing_view};
 ghost use Rattle.giop_stream.specs.Checkpoint.{counts_of, place_of, owner_of, count_own, fixed_of, IsOpen, IsMessageRecord, IsPutOne, AreOpen, IsPut, IsPutWhole, Puts, PutsSuch};
 
 use crate::framing::Framing;
 use crate::header::size_of;
-use crate::slots::{Payload, Slot, Slots};
+use crate::slots::{PayloadOwner, Slot, Slots};
 use arrayvec::ArrayVec;
 use giop_checkpoint::{Counts, FRAME_SIZE, Fixed, MESSAGE_SIZE, Place, Record, RecordKind};
 use giop_message::Message;
@@ -43,7 +43,7 @@ pub fn write<O: Out>(
     fixed_part(framing, catalogue, requests).write(&mut fixed);
     let begun = put_next(Ok(0), fixed.as_slice(), out);
     let written = write_open(&framing.slots, begun, out);
-    let Some(message) = &framing.slots.own else {
+    let Some(message) = framing.slots.current() else {
         return written;
     };
     let (number, header) = (message.number(), message.header());
@@ -104,9 +104,9 @@ pub fn counts_of(catalogue: &Catalogue, requests: &Requests) -> Counts
 /// How many records there are.
 fn records_of(slots: &Slots) -> u32
     requires { slots.now.slots.most ≤ most_open }
-    ensures { result ≡ length slots.now.slots.entries + count_own slots.now.own }
+    ensures { result ≡ length slots.now.slots.entries + count_own (current_of slots.now.owner) }
 {
-    slots.slots.len() as u32 + u32::from(slots.own.is_some())
+    slots.slots.len() as u32 + u32::from(slots.current().is_some())
 }
 
 /// Where the next octet is: in a header, in a payload, or after a stream fault.
@@ -142,14 +142,13 @@ fn held(octets: &[u8]) -> ArrayVec<u8, 11>
 /// The record of the message that the payload belongs to.
 fn owner_of(slots: &Slots) -> Option<u32>
     requires { slots.now.slots.most ≤ most_open }
-    ensures { result ≡ owner_of slots.now.payload (length slots.now.slots.entries) slots.now.own }
+    ensures { result ≡ owner_of (index_of slots.now.owner) (current_of slots.now.owner) (length slots.now.slots.entries) }
 {
-    match slots.payload {
-        Payload::Own if slots.own.is_some() => Some(slots.slots.len() as u32),
-        Payload::Own => None,
-        Payload::Open(place) if place < slots.slots.len() => Some(place as u32),
-        Payload::Open(_) => None,
-        Payload::Nobody => None,
+    match &slots.owner {
+        PayloadOwner::Current(Some(_)) => Some(slots.slots.len() as u32),
+        PayloadOwner::Current(None) => None,
+        PayloadOwner::Open(Some(place)) if *place < slots.slots.len() => Some(*place as u32),
+        PayloadOwner::Open(_) => None,
     }
 }
 

@@ -8,6 +8,7 @@ ghost use Rattle.giop_message.specs.MessageState.{AreKnown};
 ghost use Rattle.giop_stream.specs.Events.{MessageKey, Faults, Closes};
 ghost use Rattle.giop_stream.specs.Rules.{most_open};
 ghost use Rattle.giop_stream.specs.Effects.{Tracked, IsNotOpen};
+ghost use Rattle.giop_stream.specs.SlotsRepresent.{current_of};
 
 use crate::fault::FramingFault;
 use crate::open_message::{close_message, fault_message, take_octets, told_after};
@@ -30,29 +31,37 @@ pub struct Slot {
 }
 
 /// The message that the payload's octets belong to.
-#[derive(Clone, Copy, Debug)]
-pub enum Payload {
-    /// The current message itself, which isn't open.
-    Own,
-    /// The open message at this index.
-    Open(usize),
-    /// No message.
-    Nobody,
+#[derive(Drop)]
+pub enum PayloadOwner {
+    /// The current message itself, which isn't open; None once it is over.
+    Current(Option<Message>),
+    /// The open message at this index; None where the octets belong to no message.
+    Open(Option<usize>),
 }
 
-/// The open messages, and the current message where it isn't one of them.
+impl PayloadOwner {
+    /// The current message, unless it is open or over; it is kept no longer.
+    fn take_current(&mut self) -> Option<Message>
+        ensures { result ≡ current_of self.old }
+    {
+        match self {
+            PayloadOwner::Current(message) => message.take(),
+            PayloadOwner::Open(_) => None,
+        }
+    }
+}
+
+/// The open messages, and the message that the payload's octets belong to.
 #[derive(Drop)]
 pub struct Slots {
     pub slots: EntryTable<Slot>,
-    pub own: Option<Message>,
-    pub payload: Payload,
+    pub owner: PayloadOwner,
 }
 
 impl Slots {
-    ghost use Rattle.std.specs.Prelude.{◌<◌, ◌==◌, List, IfSome, flat_map, nat_le, option_map, slice_get};
+    ghost use Rattle.std.specs.Prelude.{◌<◌, ◌==◌, List, IfSome, flat_map, nat_le, is_some, option_copied, option_map, slice_get};
     ghost use Rattle.std.specs.List.{AllByRecursion as Each, position_from};
     ghost use Rattle.giop_print.specs.Lines.{unfinished_line};
-    ghost use Rattle.giop_stream.specs.declared.slots.Payload.TheVariants as Payload;
     ghost use Rattle.giop_stream.specs.Events.{Open, Opens, Cancelled, Rising};
     ghost use Rattle.giop_message.specs.Signatures.{signatures_of};
     ghost use Rattle.giop_message.specs.Messages.{message, message_lines};
@@ -73,8 +82,7 @@ impl Slots {
     {
         Ok(Slots {
             slots: EntryTable::new(alloc, most)?,
-            own: None,
-            payload: Payload::Nobody,
+            owner: PayloadOwner::Current(None),
         })
     }
 
@@ -85,8 +93,7 @@ impl Slots {
         ensures ready { (C : Table) (n : ℕ) → AreReady C n self.new }
     {
         self.slots.clear();
-        self.own = None;
-        self.payload = Payload::Nobody;
+        self.owner = PayloadOwner::Current(None);
     }
 
     /// The open message at this index.
@@ -109,6 +116,17 @@ impl Slots {
         match self.slots.key(k) {
             Some(id) => id,
             None => unreachable!(),
+        }
+    }
+
+    /// The current message, unless it is open or over.
+    pub fn current(&self) -> Option<&Message>
+        ensures value { option_copied result ≡ current_of self.now.owner }
+        ensures variant { is_some result ≡ is_some (current_of self.now.owner) }
+    {
+        match &self.owner {
+            PayloadOwner::Current(message) => message.as_ref(),
+            PayloadOwner::Open(_) => None,
         }
     }
 
@@ -157,16 +175,12 @@ impl Slots {
             (AreReady catalogue.now (before + length octets.now + 1) self.new) }
         ensures most { self.new.slots.most ≡ self.old.slots.most }
     {
-        match self.payload {
-            Payload::Own => take_octets(
-                &mut self.own,
-                catalogue,
-                correspondent,
-                octets,
-                before,
-                out,
-            ),
-            Payload::Open(k) => match self.slots.get_mut(k) {
+        match &mut self.owner {
+            PayloadOwner::Current(message) => {
+                take_octets(message, catalogue, correspondent, octets, before, out)
+            }
+            PayloadOwner::Open(None) => Ok(false),
+            PayloadOwner::Open(Some(k)) => match self.slots.get_mut(*k) {
                 Some(slot) => {
                     take_octets(
                         &mut slot.message,
@@ -179,7 +193,6 @@ impl Slots {
                 }
                 None => Ok(false),
             },
-            Payload::Nobody => Ok(false),
         }
     }
 
@@ -192,13 +205,13 @@ impl Slots {
             SlotsRepresent catalogue.now a self.now c owner_of_next →
             result ≡ owner_told_after catalogue.now a c owner_of_next }
     {
-        match self.payload {
-            Payload::Own => told_after(&self.own, catalogue),
-            Payload::Open(k) => match self.slots.get(k) {
+        match &self.owner {
+            PayloadOwner::Current(message) => told_after(message, catalogue),
+            PayloadOwner::Open(None) => None,
+            PayloadOwner::Open(Some(k)) => match self.slots.get(*k) {
                 Some(slot) => told_after(&slot.message, catalogue),
                 None => None,
             },
-            Payload::Nobody => None,
         }
     }
 
@@ -217,13 +230,13 @@ impl Slots {
         ensures ready { (C : Table) (n : ℕ) → AreReady C n self.old → AreReady C n self.new }
         ensures most { self.new.slots.most ≡ self.old.slots.most }
     {
-        match self.payload {
-            Payload::Own => fault_message(&mut self.own, number, fault, place, out),
-            Payload::Open(k) => match self.slots.get_mut(k) {
+        match &mut self.owner {
+            PayloadOwner::Current(message) => fault_message(message, number, fault, place, out),
+            PayloadOwner::Open(None) => Ok(false),
+            PayloadOwner::Open(Some(k)) => match self.slots.get_mut(*k) {
                 Some(slot) => fault_message(&mut slot.message, slot.number, fault, place, out),
                 None => Ok(false),
             },
-            Payload::Nobody => Ok(false),
         }
     }
 
@@ -242,15 +255,15 @@ impl Slots {
         ensures ready { AreReady catalogue.now (place + 1) self.new }
         ensures most { self.new.slots.most ≡ self.old.slots.most }
     {
-        let payload = self.payload;
-        self.payload = Payload::Nobody;
-        match payload {
-            Payload::Own => close_message(self.own.take(), catalogue, place, out),
-            Payload::Open(k) => match self.slots.take(k) {
-                Some(entry) => close_message(entry.value.message, catalogue, place, out),
+        match &mut self.owner {
+            PayloadOwner::Current(message) => close_message(message.take(), catalogue, place, out),
+            PayloadOwner::Open(owner) => match owner.take() {
+                Some(k) => match self.slots.take(k) {
+                    Some(entry) => close_message(entry.value.message, catalogue, place, out),
+                    None => Ok(false),
+                },
                 None => Ok(false),
             },
-            Payload::Nobody => Ok(false),
         }
     }
 
@@ -265,14 +278,14 @@ impl Slots {
     pub fn open(&mut self, number: u64, header: [u8; 12], id: u32)
         requires { length self.old.slots.entries < self.old.slots.most }
         ensures kept { (C : Table) (l : Answers) (c : Tracked) (w : MessageKey) (place : ℕ) →
-            SlotsRepresent C l self.old c (Some w) → self.old.payload ≡ Payload.Own →
+            SlotsRepresent C l self.old c (Some w) → IsNotOpen w.number c.still_open →
             w.number ≡ number → w.header ≡ header →
             SlotsRepresent C l self.new (effect_to C l place c (Some w) (Opens id)).tracked (Some w) }
         ensures ready { (C : Table) (n : ℕ) → AreReady C n self.old → AreReady C n self.new }
         ensures most { self.new.slots.most ≡ self.old.slots.most }
     {
-        let message = self.own.take();
-        self.payload = Payload::Open(self.slots.len());
+        let message = self.owner.take_current();
+        self.owner = PayloadOwner::Open(Some(self.slots.len()));
         let slot = Slot {
             number,
             header,
@@ -289,8 +302,7 @@ impl Slots {
         ensures ready { (C : Table) (n : ℕ) → AreReady C n self.old → AreReady C n self.new }
         ensures most { self.new.slots.most ≡ self.old.slots.most }
     {
-        self.own = None;
-        self.payload = Payload::Open(k);
+        self.owner = PayloadOwner::Open(Some(k));
     }
 
     /// From now on the payload belongs to no message.
@@ -300,10 +312,11 @@ impl Slots {
         ensures ready { (C : Table) (n : ℕ) → AreReady C n self.old → AreReady C n self.new }
         ensures most { self.new.slots.most ≡ self.old.slots.most }
     {
-        if self.own.is_some() {
-            self.own = None;
+        match &mut self.owner {
+            PayloadOwner::Current(None) => {}
+            PayloadOwner::Current(message) => *message = None,
+            PayloadOwner::Open(owner) => *owner = None,
         }
-        self.payload = Payload::Nobody;
     }
 
     /// A message begins: it is the current one, and not open.
@@ -316,17 +329,16 @@ impl Slots {
             AreReady catalogue.now n self.new }
         ensures most { self.new.slots.most ≡ self.old.slots.most }
     {
-        self.own = Some(Message::start(catalogue, number, header));
-        self.payload = Payload::Own;
+        self.owner = PayloadOwner::Current(Some(Message::start(catalogue, number, header)));
     }
 
     /// The request id of the current message, once its own octets have completed it.
     pub fn request_id(&self) -> u32
         ensures { (C : Table) (l : Answers) (w : MessageKey) (xs : List ℕ) (i : ℕ) →
-            RepresentsMessage C l self.now.own w (Some xs) →
+            RepresentsMessage C l (current_of self.now.owner) w (Some xs) →
             first_request_id (message_lines (message (signatures_of C (l w.number)) w.header xs)) ≡ Some i → result ≡ i }
     {
-        match &self.own {
+        match self.current() {
             Some(message) => message.request_id().unwrap_or(0),
             None => 0,
         }
@@ -349,7 +361,7 @@ impl Slots {
         out: &mut O,
     ) -> Result<(), OutFault>
         ensures does { (C : Table) (l : Answers) (c : Tracked) (w : MessageKey) (o : Open) →
-            SlotsRepresent C l self.old c (Some w) → self.old.payload ≡ Payload.Own →
+            SlotsRepresent C l self.old c (Some w) → IsNotOpen w.number c.still_open →
             slice_get c.still_open k ≡ Some o → Rising c.still_open →
             DoesEffect C l never result (O.log out.old) (O.log out.new) self.new
             (effect_to C l place c (Some o.opener) (Cancelled by)) (Some w) }

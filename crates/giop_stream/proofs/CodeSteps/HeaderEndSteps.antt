@@ -15,7 +15,6 @@ use Rattle.giop_message.specs.HeaderEnds.{HeaderEnd, Header_end, Exception_end, 
 use Rattle.giop_message.proofs.MessageLaws.{header_ends_both, over_none, octet_over, told_both, answers_first, answers_then}
 use Rattle.giop_stream.specs.declared.slots.Slot.{Slot as Contents}
 use Rattle.giop_stream.specs.declared.slots.Slots.{Slots}
-use Rattle.giop_stream.specs.declared.slots.Payload.TheVariants as payload
 use Rattle.giop_stream.specs.HeaderOctets.{wrong}
 use Rattle.giop_stream.specs.Rules.{Rules, rules_by}
 use Rattle.giop_message.specs.Headers.{size}
@@ -26,14 +25,14 @@ use Rattle.giop_stream.specs.ViewOfState.{IsReached, Shows}
 use Rattle.giop_stream.specs.Framing.{Message, Cut, limit, cut, fault_of}
 use Rattle.giop_stream.specs.Events.{MessageKey, Takes, open_after}
 use Rattle.giop_stream.specs.Effects.{Tracked, octets_then, tracked_after, with_octet}
-use Rattle.giop_stream.specs.SlotsRepresent.{RepresentsMessage, SlotsRepresent, event, effect_to}
+use Rattle.giop_stream.specs.SlotsRepresent.{RepresentsMessage, SlotsRepresent, index_of, event, effect_to}
 use Rattle.giop_stream.specs.PayloadOwner.{owner_of_next}
-use Rattle.giop_stream.specs.HeaderEndsOfStream.{run_header_ends, owner_header_ends, current_header_ends, header_ends_at, header_ends_from}
+use Rattle.giop_stream.specs.HeaderEndsOfStream.{reply_told_after, run_header_ends, owner_header_ends, current_header_ends, header_ends_at, header_ends_from}
 use Rattle.giop_stream.proofs.Cuts.Cutting.{of_parts, next, parts_by, cut_grows, next_limit, next_front, next_stopped}
 use Rattle.giop_stream.proofs.Cuts.CutFrom.{header_case}
 use Rattle.giop_stream.proofs.SlotSteps.OneSlotChanges.{own_then}
 use Rattle.giop_stream.proofs.SlotSteps.ReadingEffects.{Faulty, over_then, then_by}
-use Rattle.giop_stream.proofs.SlotSteps.EventsOnSlots.{own_has, slot_has, nobody_has, own_kept, slot_kept}
+use Rattle.giop_stream.proofs.SlotSteps.EventsOnSlots.{IsItself, no_key, own_has, slot_has, own_kept, slot_kept}
 use Rattle.giop_stream.proofs.CodeSteps.Runs.{over_stays}
 use Rattle.giop_stream.proofs.CodeSteps.PayloadRunSteps.{Within, within_on, octet_adds, octet_owner, begins, octets_are}
 use Rattle.giop_stream.proofs.CodeSteps.MessageOctets.{runs_on, all_read, header_at, no_current, has_current}
@@ -59,6 +58,10 @@ pub none_told : {St : Type 0} (notified : St → CallEvent → St) (C : Table) (
 none_told notified C a st w None octets k = refl
 none_told notified C a st w (Some s) octets k = absurd k
 
+pub none_told_after : (C : Table) (a : Answers) (w : MessageKey) (o : Option (List ℕ)) → RepresentsMessage C a None w o → None ≡ reply_told_after C a w o
+none_told_after C a w None k = refl
+none_told_after C a w (Some s) k = absurd k
+
 pub given_told : {St : Type 0} (notified : St → CallEvent → St) (C : Table) (a : Answers) (st now : St) (m : CodeMessage) (w : MessageKey)
     (o : Option (List ℕ)) (octets : List ℕ) → RepresentsMessage C a (Some m) w o
     → ((s : List ℕ) → o ≡ Some s → Follows C a w.number w.header m s → now ≡ after_ends notified C st (header_ends w.number w.header s octets))
@@ -76,20 +79,19 @@ module _ {St : Type 0} (answer : St → Answer) (notified : St → CallEvent →
   abbrev IsTold : Option MessageKey → Type 0
   IsTold who' = now ≡ after_ends notified C st (owner_header_ends c who' octets)
 
-  pub own_told : s.payload ≡ payload.Own → Agrees who
-      → ((w : MessageKey) → RepresentsMessage C a s.own w (c.known w.number) → AgreesAtEnds answer notified C st a (run_header_ends w (c.known w.number) octets)
-      → now ≡ after_ends notified C st (run_header_ends w (c.known w.number) octets)) → IsTold who
-  own_told e agrees f = own_has C a (λ v. Agrees v → IsTold v) s c who e h (λ w k agrees_here. f w (own_kept C a s c w e k) agrees_here) agrees
+  pub own_told : (m : Option CodeMessage) → IsItself s.owner m → Agrees who
+      → ((w : MessageKey) (o : Option (List ℕ)) → RepresentsMessage C a m w o → AgreesAtEnds answer notified C st a (run_header_ends w o octets)
+      → now ≡ after_ends notified C st (run_header_ends w o octets)) → IsTold who
+  own_told m e agrees f =
+      own_has C a (λ v. Agrees v → IsTold v) s c who m e h (λ none agrees_here. f no_key None (rw none tt) agrees_here)
+      (λ w k agrees_here. f w (c.known w.number) (own_kept C a s c w m e k) agrees_here) agrees
 
-  pub slot_told : (v : Contents) (k : ℕ) → s.payload ≡ payload.Open k → option_map (λ e. e.value) (slice_get s.slots.entries k) ≡ Some v
+  pub slot_told : (v : Contents) (k : ℕ) → index_of s.owner ≡ Some k → option_map (λ e. e.value) (slice_get s.slots.entries k) ≡ Some v
       → Agrees who
       → ((w : MessageKey) → RepresentsMessage C a v.message w (c.known w.number) → AgreesAtEnds answer notified C st a (run_header_ends w (c.known w.number) octets)
       → now ≡ after_ends notified C st (run_header_ends w (c.known w.number) octets)) → IsTold who
   slot_told v k e get agrees f =
       slot_has C a (λ v. Agrees v → IsTold v) s c who k e h (λ w kept agrees_here. f w (slot_kept C a s v c w k e get kept) agrees_here) agrees
-
-  pub nobody_told : s.payload ≡ payload.Nobody → now ≡ st → IsTold who
-  nobody_told e same = nobody_has C a IsTold s c who e h (λ k. same)
 
 -- ---- one octet, and others after it
 

@@ -1,7 +1,7 @@
 -- An octet outside of messages (of an incomplete header, past the limit, or after a stream fault): the code does the step.
 use Rattle.std.proofs.Common.{inl, inr, ◌≡◌, ℕ, suc, ◌+◌, ◌-◌, ◌^◌, ◌<◌, ◌≤◌, true, false, List, [], ◌∷◌, ◌++◌, length, refl, sym, ap, subst, ◌∙◌, append-nil, Option, Some, None, arith}
 use Rattle.std.specs.Prelude.{nat_lt, is_some}
-use Rattle.std.proofs.lemmas.Bool.{cases_eq, lt-ltb, le-ltb, lt-leb, ne_eqb, false≢true}
+use Rattle.std.proofs.lemmas.Bool.{cases_eq, lt-ltb, le-ltb, ne_eqb, false≢true}
 use Rattle.std.proofs.lemmas.List.{length_push}
 use Rattle.giop_sig.specs.Table.{Table}
 use Rattle.giop_message.specs.Headers.{size}
@@ -9,20 +9,18 @@ use Rattle.giop_message.specs.Signatures.{Answers}
 use Rattle.giop_checkpoint.specs.declared.fault.StreamFault.{StreamFault}
 use Rattle.giop_checkpoint.specs.declared.fault.StreamFault.TheVariants.{StreamLimit}
 use Rattle.giop_stream.specs.declared.status.Totals.{Totals}
-use Rattle.giop_stream.specs.declared.slots.Payload.{Payload}
-use Rattle.giop_stream.specs.declared.slots.Payload.TheVariants as payload
 use Rattle.giop_stream.specs.HeaderOctets.{wrong}
 use Rattle.giop_stream.specs.Rules.{Rules, rules_by}
 use Rattle.giop_stream.specs.Framing.{limit}
 use Rattle.giop_stream.specs.Lines.{stop_line}
 use Rattle.giop_stream.specs.Text.{stop_text, lines_text}
-use Rattle.giop_stream.specs.SlotsRepresent.{IsBare, AreReady}
+use Rattle.giop_stream.specs.SlotsRepresent.{IsBare, AreReady, index_of, current_of}
 use Rattle.giop_stream.specs.EngineView.{FramingView}
 use Rattle.giop_stream.specs.Octet.{AfterStop, Ends, Held, front_is, octet_in}
 use Rattle.giop_stream.specs.EngineState.{State}
 use Rattle.giop_stream.specs.EngineStep.{fresh, octet_at, ended, held_on, step_by, step}
 use Rattle.giop_stream.specs.FramingSteps as steps
-use Rattle.giop_stream.specs.ViewOfState.{IsTurn, Shows, payload_count_in, comes_itself}
+use Rattle.giop_stream.specs.ViewOfState.{Shows, payload_count_in}
 use Rattle.giop_stream.proofs.SlotSteps.StateToSlots.{owner_stays}
 use Rattle.giop_stream.proofs.CodeSteps.OneOctet.{octet_limit, octet_front, front_short}
 
@@ -54,22 +52,11 @@ pushed_is m x header e =
     let one : m.totals.octets + 1 ≡ suc m.totals.octets = omega arith in
     λ j. record m { totals = record { messages = m.totals.messages; faults = m.totals.faults; octets = one j }; header = e j }
 
--- ---- The owner of the next octets, between messages.
-
-turn_short : (of : Payload) (s t : State) → comes_itself s ≡ false → comes_itself t ≡ false → IsTurn of s → IsTurn of t
-turn_short payload.Own s t e f h = absurd (false≢true (sym e ∙ h))
-turn_short (payload.Open k) s t e f h = tt
-turn_short payload.Nobody s t e f h = f
-
-not_itself : (s : State) → length s.held < 12 → comes_itself s ≡ false
-unfolding comes_itself
-not_itself s short = rw (lt-leb 12 (length s.held) short) refl
-
 -- ---- Before the first octet.
 
 pub nothing_shown : (C : Table) (l : Answers) (m : FramingView) → m.totals ≡ record { messages = 0; faults = 0; octets = 0 }
     → m.stopped ≡ None → m.header ≡ [] → m.payload_count ≡ 0 → IsBare m.slots → Shows C l m fresh
-unfolding fresh payload_count_in comes_itself
+unfolding fresh payload_count_in
 nothing_shown C l m totals stopped header payload_count bare =
     record {
       totals = totals;
@@ -77,9 +64,7 @@ nothing_shown C l m totals stopped header payload_count bare =
       header = header;
       payload_count = payload_count;
       slots = rw bare.no_slots tt;
-      own = rw bare.no_own tt;
-      owner = rw bare.nobody refl;
-      turn = λ free. rw bare.nobody refl;
+      owner = rw bare.no_owner (tt, refl);
     }
 
 module _ (C : Table) (l : Answers) (most : ℕ) (m : FramingView) (s : State) (h : Shows C l m s) where
@@ -133,9 +118,7 @@ module _ (C : Table) (l : Answers) (most : ℕ) (m : FramingView) (s : State) (h
         header = refl;
         payload_count = refl;
         slots = h.slots;
-        own = h.own;
-        owner = owner_stays m.slots.payload s (ended s fault).state refl refl refl h.owner;
-        turn = λ no. absurd cc;
+        owner = owner_stays C l (index_of m.slots.owner) (current_of m.slots.owner) s (ended s fault).state refl refl refl h.owner;
       })
 
   -- ---- An octet of a header.
@@ -180,9 +163,7 @@ module _ (C : Table) (l : Answers) (most : ℕ) (m : FramingView) (s : State) (h
           header = refl;
           payload_count = none_come ∙ sym (rw (lt-ltb (length front) 12 less) refl);
           slots = h.slots;
-          own = h.own;
-          owner = owner_stays m.slots.payload s (held_on s front).state refl refl refl h.owner;
-          turn = λ runs. turn_short m.slots.payload s (held_on s front).state (not_itself s short) (not_itself (held_on s front).state less) (h.turn runs);
+          owner = owner_stays C l (index_of m.slots.owner) (current_of m.slots.owner) s (held_on s front).state refl refl refl h.owner;
         }
 
     pub held_text : lines_text (held_on s front).lines ≡ []

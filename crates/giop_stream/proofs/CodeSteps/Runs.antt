@@ -14,20 +14,21 @@ use Rattle.giop_message.proofs.MessageLaws.{octet_over, text_both, text_none, te
 use Rattle.giop_entry_table.specs.EntryTable.{with_value}
 use Rattle.giop_stream.specs.declared.slots.Slot.{Slot as Contents}
 use Rattle.giop_stream.specs.declared.slots.Slots.{Slots}
-use Rattle.giop_stream.specs.declared.slots.Payload.TheVariants as payload
+use Rattle.giop_stream.specs.declared.slots.PayloadOwner.{PayloadOwner}
 use Rattle.giop_stream.specs.Events.{MessageKey, Takes, Rising}
 use Rattle.giop_stream.specs.Lines.{Line}
 use Rattle.giop_stream.specs.Text.{lines_text}
 use Rattle.giop_stream.specs.Stream.{fault_count}
 use Rattle.giop_stream.specs.Effects.{Tracked, Part, part_of, tracked_at, lines_of, octets_then, no_effect, no_part}
-use Rattle.giop_stream.specs.SlotsRepresent.{RepresentsMessage, SlotsRepresent, event}
+use Rattle.giop_stream.specs.SlotsRepresent.{RepresentsMessage, SlotsRepresent, index_of, event}
 use Rattle.giop_stream.specs.DoesEffect.{DoesEffect, DoesPart, one_if}
 use Rattle.giop_stream.specs.PayloadRuns.{run_effect, run_part}
+use Rattle.giop_stream.specs.HeaderEndsOfStream.{run_header_ends, owner_header_ends}
 use Rattle.giop_stream.proofs.Lists.{any_append}
 use Rattle.giop_stream.proofs.Events.AfterMoreEvents.{count_append}
 use Rattle.giop_stream.proofs.SlotSteps.ReadingEffects.{over_lines, over_then, take_text, then_by, faults_by}
-use Rattle.giop_stream.proofs.SlotSteps.Performing.{text_append, does_nothing}
-use Rattle.giop_stream.proofs.SlotSteps.EventsOnSlots.{Alters, still_takes, still_alters, own_effects, slot_effects, own_has, slot_has, nobody_has}
+use Rattle.giop_stream.proofs.SlotSteps.Performing.{text_append, performs_on}
+use Rattle.giop_stream.proofs.SlotSteps.EventsOnSlots.{Alters, IsItself, still_takes, still_alters, no_key, own_effects, slot_effects, own_has, slot_has}
 
 -- A message that is over stays so.
 pub over_stays : (S : Signatures) (header s more : List ℕ) → is_over (stage_of (message S header s)) ≡ true
@@ -215,35 +216,44 @@ module _ (C : Table) (l : Answers) where
     abbrev Makes : Option Message → MessageKey → Type 0
     Makes message w = DoesPart C l one_if r a b message w (run_part C l before w (c.known w.number) xs)
 
-    pub own_runs : (own' : Option Message) → s.payload ≡ payload.Own → ((w : MessageKey) → owner_of_next ≡ Some w → RepresentsMessage C l s.own w (c.known w.number) → Makes own' w)
-        → DoesEffect C l one_if r a b (record { slots = s.slots; own = own'; payload = s.payload }) (run_effect C l before c owner_of_next xs) owner_of_next
-    own_runs own' e f =
-        own_has C l (λ who. ((w : MessageKey) → who ≡ Some w → RepresentsMessage C l s.own w (c.known w.number) → Makes own' w)
-        → DoesEffect C l one_if r a b (record { slots = s.slots; own = own'; payload = s.payload })
-        (run_effect C l before c who xs) who) s c owner_of_next e h
-        (λ w k f. own_effects C l r a b s own' c w _ _ e k (run_alters w xs before c) (f w refl)) f
+    -- what becomes of a message that is over, or of none
+    none_runs : (of : PayloadOwner) (message own' : Option Message) → IsItself of own' → message ≡ None → ((o : Option (List ℕ)) → RepresentsMessage C l message no_key o → DoesPart C l one_if r a b own' no_key (run_part C l before no_key o xs))
+        → DoesEffect C l one_if r a b (record { slots = s.slots; owner = of }) (run_effect C l before c None xs) None
+    none_runs of message own' is none f =
+        rw (nobody_run xs before c) (performs_on r a b refl (λ k. record { slots = h.slots; owner = rw (is.0, is.1) (over own' k) })
+        (rw (none_run no_key None before xs tt) at (f None (rw none tt))))
+      where
+        over : (own' : Option Message) → RepresentsMessage C l own' no_key None → own' ≡ None
+        over None k = refl
+        over (Some m) k = absurd k
 
-    pub slot_runs : (v : Contents) (message : Option Message) (k : ℕ) → s.payload ≡ payload.Open k
+    pub own_runs : (of : PayloadOwner) (message own' : Option Message) → IsItself of own' → IsItself s.owner message
+        → ((w : MessageKey) (o : Option (List ℕ)) → owner_header_ends c owner_of_next xs ≡ run_header_ends w o xs → RepresentsMessage C l message w o
+        → DoesPart C l one_if r a b own' w (run_part C l before w o xs))
+        → DoesEffect C l one_if r a b (record { slots = s.slots; owner = of }) (run_effect C l before c owner_of_next xs) owner_of_next
+    own_runs of message own' is e f =
+        own_has C l (λ who. ((w : MessageKey) (o : Option (List ℕ)) → owner_header_ends c who xs ≡ run_header_ends w o xs → RepresentsMessage C l message w o
+        → DoesPart C l one_if r a b own' w (run_part C l before w o xs))
+        → DoesEffect C l one_if r a b (record { slots = s.slots; owner = of }) (run_effect C l before c who xs) who) s c owner_of_next message e h
+        (λ none f. none_runs of message own' is none (λ o k. f no_key o (no_ends o (rw none at k)) k))
+        (λ w k f. own_effects C l r a b s of message own' c w _ _ is e k (run_alters w xs before c) (f w (c.known w.number) refl)) f
+      where
+        no_ends : (o : Option (List ℕ)) → RepresentsMessage C l None no_key o → [] ≡ run_header_ends no_key o xs
+        no_ends None k = refl
+        no_ends (Some zs) k = absurd k
+
+    pub slot_runs : (of : PayloadOwner) (v : Contents) (message : Option Message) (k : ℕ) → index_of of ≡ Some k → index_of s.owner ≡ Some k
         → option_map (λ e. e.value) (slice_get s.slots.entries k) ≡ Some v → Rising c.still_open
         → ((w : MessageKey) → owner_of_next ≡ Some w → RepresentsMessage C l v.message w (c.known w.number) → Makes message w)
         → DoesEffect C l one_if r a b (record {
           slots = with_value s.slots k (record v { message = message });
-          own = s.own;
-          payload = s.payload;
+          owner = of;
         }) (run_effect C l before c owner_of_next xs) owner_of_next
-    slot_runs v message k e get rising f =
+    slot_runs of v message k is e get rising f =
         slot_has C l (λ who. ((w : MessageKey) → who ≡ Some w → RepresentsMessage C l v.message w (c.known w.number) → Makes message w)
         → DoesEffect C l one_if r a b
         (record {
           slots = with_value s.slots k (record v { message = message });
-          own = s.own;
-          payload = s.payload;
+          owner = of;
         }) (run_effect C l before c who xs) who) s c owner_of_next k e h
-        (λ w kept f. slot_effects C l r a b s v message c w _ _ k e get rising kept (run_alters w xs before c) (λ n. f w refl)) f
-
-  pub nobody_runs : {E : Type 0} (log : OutLog) (s : Slots) (c : Tracked) (owner_of_next : Option MessageKey) (before : ℕ) (xs : List ℕ)
-      → s.payload ≡ payload.Nobody → SlotsRepresent C l s c owner_of_next
-      → DoesEffect {E = E} C l one_if (Ok false) log log s (run_effect C l before c owner_of_next xs) owner_of_next
-  nobody_runs {E} log s c owner_of_next before xs e h =
-      nobody_has C l (λ owner_of_next. DoesEffect {E = E} C l one_if (Ok false) log log s (run_effect C l before c owner_of_next xs) owner_of_next) s c owner_of_next e h
-      (λ k. rw (nobody_run xs before c) (does_nothing false log refl k))
+        (λ w kept f. slot_effects C l r a b s of v message c w _ _ k is e get rising kept (run_alters w xs before c) (λ n. f w refl)) f

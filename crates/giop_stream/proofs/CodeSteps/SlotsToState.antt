@@ -1,38 +1,36 @@
 -- Two forms of one relation: the slots represent the messages of a stream, and the fields show its state.
-use Rattle.std.proofs.Common.{◌≡◌, ℕ, zero, suc, ◌-◌, ◌<◌, Bool, true, false, not, List, [], ◌∷◌, length, refl, sym, ap, ◌∙◌, Option, Some, None, arith}
-use Rattle.std.specs.Prelude.{◌==◌, ◌&&◌, ◌||◌, nat_lt, nat_le, slice_get, is_some, option_map, IfSome, if◌then◌else◌}
+use Rattle.std.proofs.Common.{◌≡◌, ℕ, zero, suc, ◌-◌, ◌<◌, Bool, true, false, List, [], ◌∷◌, length, refl, sym, ap, ◌∙◌, Option, Some, None, arith}
+use Rattle.std.specs.Prelude.{◌==◌, ◌||◌, nat_lt, slice_get, is_some, option_map, IfSome, if◌then◌else◌}
 use Rattle.std.specs.List.{AllByRecursion as Each}
-use Rattle.std.proofs.lemmas.Bool.{lt-ltb, le-ltb, lt-leb, le-leb, eq-eqb, false≢true}
+use Rattle.std.proofs.lemmas.Bool.{lt-ltb, le-ltb, eq-eqb, false≢true}
 use Rattle.giop_sig.specs.Table.{Table}
 use Rattle.giop_message.specs.declared.message.Message.{Message as CodeMessage}
-use Rattle.giop_message.specs.Headers.{size, is_fragment}
+use Rattle.giop_message.specs.Headers.{size}
 use Rattle.giop_message.specs.Signatures.{Answers, signatures_of}
 use Rattle.giop_message.proofs.MessageLaws.{is_causal}
 use Rattle.giop_checkpoint.specs.declared.fault.StreamFault.{StreamFault}
-use Rattle.giop_stream.specs.declared.slots.Payload.{Payload}
-use Rattle.giop_stream.specs.declared.slots.Payload.TheVariants as payload
 use Rattle.giop_stream.specs.Rules.{Rules, rules_by}
 use Rattle.giop_stream.specs.Framing.{Message, Cut, cut, fault_of}
 use Rattle.giop_stream.specs.Events.{MessageKey, Open, Rising, message_key, id, opener_of, has_named, Now, now_of}
 use Rattle.giop_stream.specs.Stream.{tally}
 use Rattle.giop_stream.specs.OpenSlots.{Slot, OctetsByNumber, is_open, slots_of}
-use Rattle.giop_stream.specs.Effects.{Tracked, tracked_after}
-use Rattle.giop_stream.specs.SlotsRepresent.{RepresentsMessage, PayloadBelongs}
+use Rattle.giop_stream.specs.Effects.{Tracked, IsNotOpen, tracked_after}
+use Rattle.giop_stream.specs.SlotsRepresent.{RepresentsMessage, PayloadBelongs, index_of, current_of}
 use Rattle.giop_stream.specs.PayloadOwner.{SlotsRepresentStream, opener_key, owner_of_next, owner_of_next_in}
 use Rattle.giop_stream.specs.Octet.{header_of, payload_count_of}
 use Rattle.giop_stream.specs.EngineState.{State, Own, unless, left_of, is_named, owner_for, state_of}
 use Rattle.giop_stream.specs.EngineView.{FramingView}
-use Rattle.giop_stream.specs.ViewOfState.{IsOwn, IsOwner, IsTurn, Shows, payload_count_in, comes_itself}
+use Rattle.giop_stream.specs.ViewOfState.{IsOwn, IsOwner, Shows, payload_count_in}
 use Rattle.giop_stream.proofs.Lists.{each_weaker}
 use Rattle.giop_stream.proofs.SlotSteps.OneSlotChanges.{at_index}
 use Rattle.giop_stream.proofs.SlotSteps.Parts.{in_turn}
 use Rattle.giop_stream.proofs.Events.Soundness.{CurrentFits, IsSound}
 use Rattle.giop_stream.proofs.Events.EventsByEngine.{found_in}
-use Rattle.giop_stream.proofs.SlotSteps.StateToSlots.{own_open, own_named, own_else, owner_named, owner_open, Tells, own_known, owner_known}
+use Rattle.giop_stream.proofs.SlotSteps.StateToSlots.{own_open, own_named, own_else, owner_named, owner_open, Tells, owner_known}
 use Rattle.giop_stream.proofs.CodeSteps.EngineAlive.{sound}
 use Rattle.giop_stream.proofs.Events.CurrentIsOpen.{IsCurrentOpen, message_key_is}
 
--- ---- How many payload octets have come, and whether the next belong to the current message itself.
+-- ---- How many payload octets have come.
 
 come_by : (stop : Option (ℕ × StreamFault)) (current : Option Message) (held : List ℕ)
     → (stop ≡ None → IfSome current (λ m. (length m.header ≡ 12) × (length m.payload < size m.header)))
@@ -47,33 +45,11 @@ fits_of : (n : ℕ) (c : Cut) (o : Option Message) → IfSome o (CurrentFits n c
 fits_of n c None h = tt
 fits_of n c (Some m) h = (h.twelve, h.lacks)
 
--- whether the next octets belong to the current message itself, from that message
-itself : Option Message → Bool
-itself None = false
-itself (Some m) = not (has_named m)
-
-itself_by : (stop : Option (ℕ × StreamFault)) → stop ≡ None → (current : Option Message) (held : List ℕ) (payload_count : ℕ)
-    → payload_count ≡ payload_count_of current → IfSome current (λ m. (length m.header ≡ 12) × (length m.payload < size m.header))
-    → length held < 12
-    → (nat_le 12 (length (unless stop [] (header_of current held))) && not
-    (is_fragment (unless stop [] (header_of current held)) && nat_le 4 payload_count)) ≡ itself current
-unfolding itself has_named
-itself_by (Some found) st current held payload_count e h short = absurd cc
-itself_by None st None held payload_count e h short = rw (lt-leb 12 (length held) short) refl
-itself_by None st (Some m) held payload_count e h short = rw (e, le-leb 12 (length m.header) (omega (arith, h.0))) refl
-
 module _ (R : Rules) (p : List ℕ) (so : IsSound R p) where
   pub come_state : payload_count_in (state_of R p) ≡ unless (cut p).stop 0 (payload_count_of (cut p).current)
   unfolding payload_count_in state_of
   come_state =
       come_by (cut p).stop (cut p).current (cut p).held (λ st. fits_of (length p) (cut p) (cut p).current (so.fits st).current) (λ st. (so.fits st).short)
-
-  itself_state : (cut p).stop ≡ None → comes_itself (state_of R p) ≡ itself (cut p).current
-  unfolding comes_itself state_of
-  itself_state st =
-      let payload_count : payload_count_in (state_of R p) ≡ payload_count_of (cut p).current = come_state ∙ rw st refl in
-      itself_by (cut p).stop st (cut p).current (cut p).held (payload_count_in (state_of R p)) payload_count
-      (fits_of (length p) (cut p) (cut p).current (so.fits st).current) (so.fits st).short
 
 -- ---- The owner of the next octets, by number.
 
@@ -140,112 +116,78 @@ kept_own C l (Some m) w (Some xs) h = h
 
 -- ---- The owner of the payload, by message.
 
-module _ (C : Table) (l : Answers) (s : State) (c : Tracked) (own : Option CodeMessage) where
+module _ (C : Table) (l : Answers) (s : State) (c : Tracked) where
   -- no current message
-  none_turn : (of : Payload) → comes_itself s ≡ false → PayloadBelongs C l of own c None → IsTurn of s
-  none_turn payload.Nobody t h = t
-  none_turn _ t h = absurd h
-
-  none_back : (of : Payload) → Tells s c None → comes_itself s ≡ false → IsOwn C l own s.own → IsOwner of s → IsTurn of s → PayloadBelongs C l of own c None
-  none_back payload.Own e t k h u = absurd (false≢true (sym t ∙ u))
-  none_back (payload.Open i) e t k h u = absurd (let no : None ≡ Some h.1.0.open_as.opener.number = sym e.owner ∙ h.1.2 in cc)
-  none_back payload.Nobody e t k h u = none_own C l own s.own e.own k
+  none_back : (i : Option ℕ) (message : Option CodeMessage) → Tells s c None → IsOwner C l i message s → PayloadBelongs C l i message c None
+  none_back None message e h = none_own C l message s.own e.own h.0
+  none_back (Some k) message e h = absurd (let no : None ≡ Some h.1.0.open_as.opener.number = sym e.owner ∙ h.1.2 in cc)
 
   -- a Fragment whose request id is complete
-  module _ (m : Message) (e : Tells s c (Some m)) (named : has_named m ≡ true) (t : comes_itself s ≡ false) where
+  module _ (m : Message) (e : Tells s c (Some m)) (named : has_named m ≡ true) (rising : Rising c.still_open) where
     other_own : s.own ≡ None
     unfolding has_named
     other_own = e.own ∙ own_named c.known c.still_open (now_of m) named
 
-    other_number : s.owner ≡ option_map (λ o. o.opener.number) (opener_of c.still_open m)
+    other_number : (r : Option Open) → opener_of c.still_open m ≡ r → s.owner ≡ option_map (λ o. o.opener.number) r
     unfolding has_named
-    other_number = e.owner ∙ owner_named c.known c.still_open (now_of m) (opener_of c.still_open m) named
+    other_number r f = e.owner ∙ owner_named c.known c.still_open (now_of m) (opener_of c.still_open m) named ∙ ap (option_map (λ (o : Open). o.opener.number)) f
 
-    other_turn : (of : Payload) (r : Option Open) → opener_of c.still_open m ≡ r → PayloadBelongs C l of own c (opener_key r) → IsTurn of s
+    other_back : (i : Option ℕ) (message : Option CodeMessage) (r : Option Open) → opener_of c.still_open m ≡ r → IsOwner C l i message s → PayloadBelongs C l i message c (opener_key r)
     unfolding opener_of
-    other_turn payload.Own None f h = absurd h
-    other_turn (payload.Open k) r f h = tt
-    other_turn payload.Nobody r f h = t
-    other_turn payload.Own (Some o) f h = absurd (found_in (λ a. a.opener.number ≡ o.opener.number → ⊥) (λ a. a.id == id m) c.still_open o h.0 f refl)
-
-    other_back : Rising c.still_open → (of : Payload) (r : Option Open) → opener_of c.still_open m ≡ r → IsOwn C l own s.own
-        → IsOwner of s → IsTurn of s → PayloadBelongs C l of own c (opener_key r)
-    unfolding opener_of
-    other_back rising payload.Own r f k h u = absurd (false≢true (sym t ∙ u))
-    other_back rising (payload.Open i) None f k h u =
-        absurd (let no : None ≡ Some h.1.0.open_as.opener.number = sym (other_number ∙ ap (option_map (λ (o : Open). o.opener.number)) f) ∙ h.1.2 in cc)
-    other_back rising (payload.Open i) (Some o) f k h u =
-        let at = opened_at c.known c.still_open i h.1.0 (rw e.slots at h.1.1) in
-        let both : Some o.opener.number ≡ Some h.1.0.open_as.opener.number = sym (other_number ∙ ap (option_map (λ (o : Open). o.opener.number)) f) ∙ h.1.2 in
+    other_back None message None f h = none_own C l message s.own other_own h.0
+    other_back None message (Some o) f h =
+        absurd (let no : Some o.opener.number ≡ None = sym (other_number (Some o) f) ∙ h.1
+        ∙ ap (option_map (λ (o : Own). o.message_key.number)) other_own in cc)
+    other_back (Some k) message None f h = absurd (let no : None ≡ Some h.1.0.open_as.opener.number = sym (other_number None f) ∙ h.1.2 in cc)
+    other_back (Some k) message (Some o) f h =
+        let at = opened_at c.known c.still_open k h.1.0 (rw e.slots at h.1.1) in
+        let both : Some o.opener.number ≡ Some h.1.0.open_as.opener.number = sym (other_number (Some o) f) ∙ h.1.2 in
         let number : at.o.opener.number ≡ o.opener.number = ap (λ (a : Open). a.opener.number) (sym at.is) ∙ cc in
         let same : at.o ≡ o =
         found_in (λ b. at.o.opener.number ≡ b.opener.number → at.o ≡ b) (λ a. a.id == id m) c.still_open o
-        (unique_at c.still_open i at.o rising at.here) f number in
-        (none_own C l own s.own other_own k, (at.o, at.here, ap (λ (a : Open). a.opener) same))
-    other_back rising payload.Nobody None f k h u = none_own C l own s.own other_own k
-    other_back rising payload.Nobody (Some o) f k h u =
-        absurd (let no : Some o.opener.number ≡ None = sym (other_number ∙ ap (option_map (λ (o : Open). o.opener.number)) f) ∙ h in cc)
+        (unique_at c.still_open k at.o rising at.here) f number in
+        (at.o, at.here, ap (λ (a : Open). a.opener) same)
 
   -- the current message itself
-  module _ (m : Message) (e : Tells s c (Some m)) (unnamed : has_named m ≡ false) (t : comes_itself s ≡ true) where
+  module _ (m : Message) (e : Tells s c (Some m)) (unnamed : has_named m ≡ false) where
     unnamed_too : is_named (now_of m) ≡ false
     unfolding has_named
     unnamed_too = unnamed
 
-    own_turn : (of : Payload) → PayloadBelongs C l of own c (Some (message_key m)) → IsTurn of s
-    own_turn payload.Own h = t
-    own_turn (payload.Open k) h = tt
-    own_turn payload.Nobody h = absurd h
-
-    own_back : IsCurrentOpen m c.still_open → (of : Payload) → IsOwn C l own s.own → IsOwner of s → IsTurn of s → PayloadBelongs C l of own c (Some (message_key m))
-    own_back titled payload.Own k h u = go (is_open c.still_open m.number) refl
+    own_back : IsCurrentOpen m c.still_open → (i : Option ℕ) (message : Option CodeMessage) → IsOwner C l i message s → PayloadBelongs C l i message c (Some (message_key m))
+    own_back titled None message h = go (is_open c.still_open m.number) refl
       where
-        go : (b : Bool) → is_open c.still_open m.number ≡ b → Each (λ o. o.opener.number ≡ m.number → ⊥) c.still_open × RepresentsMessage C l own (message_key m) (c.known m.number)
+        go : (b : Bool) → is_open c.still_open m.number ≡ b → IsNotOpen m.number c.still_open × RepresentsMessage C l message (message_key m) (c.known m.number)
         go true there =
             absurd (let no : Some m.number ≡ None = sym
             (e.owner ∙ owner_open c.known c.still_open (now_of m) (opener_of c.still_open m) unnamed_too there)
-            ∙ (h ∙ ap (option_map (λ (o : Own). o.message_key.number)) (e.own ∙ own_open c.known c.still_open (now_of m) there)) in cc)
+            ∙ (h.1 ∙ ap (option_map (λ (o : Own). o.message_key.number)) (e.own ∙ own_open c.known c.still_open (now_of m) there)) in cc)
         go false free = (
           all_apart c.still_open m.number free,
-          kept_own C l own (message_key m) (c.known m.number)
-              (rw (e.own ∙ own_else c.known c.still_open (now_of m) free unnamed_too) at k),
+          kept_own C l message (message_key m) (c.known m.number)
+              (rw (e.own ∙ own_else c.known c.still_open (now_of m) free unnamed_too) at h.0),
         )
-    own_back titled (payload.Open i) k h u =
-        let at = opened_at c.known c.still_open i h.1.0 (rw e.slots at h.1.1) in
+    own_back titled (Some k) message h =
+        let at = opened_at c.known c.still_open k h.1.0 (rw e.slots at h.1.1) in
         let number : h.1.0.open_as.opener.number ≡ m.number =
         owner_number c.known c.still_open (now_of m) (opener_of c.still_open m) h.1.0.open_as.opener.number unnamed_too
         (sym e.owner ∙ h.1.2) in (
-          none_own C l own s.own h.0 k,
-          (
-            at.o,
-            at.here,
-            at_index
-                (λ o. o.opener.number ≡ m.number → o.opener ≡ message_key m) c.still_open i at.o at.here titled
-                (ap (λ (a : Open). a.opener.number) (sym at.is) ∙ number),
-          ),
+          at.o,
+          at.here,
+          at_index
+              (λ o. o.opener.number ≡ m.number → o.opener ≡ message_key m) c.still_open k at.o at.here titled
+              (ap (λ (a : Open). a.opener.number) (sym at.is) ∙ number),
         )
-    own_back titled payload.Nobody k h u = absurd (false≢true (sym u ∙ t))
 
-  turns : (of : Payload) (current : Option Message) → Tells s c current → comes_itself s ≡ itself current
-      → PayloadBelongs C l of own c (owner_of_next_in c.still_open current) → IsTurn of s
-  unfolding owner_of_next itself
-  turns of None e t h = none_turn of t h
-  turns of (Some m) e t h = go (has_named m) refl
+  back : (i : Option ℕ) (message : Option CodeMessage) (current : Option Message) → Tells s c current → Rising c.still_open
+      → ((m : Message) → current ≡ Some m → IsCurrentOpen m c.still_open) → IsOwner C l i message s → PayloadBelongs C l i message c (owner_of_next_in c.still_open current)
+  unfolding owner_of_next
+  back i message None e rising titled h = none_back i message e h
+  back i message (Some m) e rising titled h = go (has_named m) refl
     where
-      go : (b : Bool) → has_named m ≡ b → IsTurn of s
-      go true f = other_turn m e f (t ∙ rw f refl) of (opener_of c.still_open m) refl (rw f at h)
-      go false f = own_turn m e f (t ∙ rw f refl) of (rw f at h)
-
-  back : (of : Payload) (current : Option Message) → Tells s c current → comes_itself s ≡ itself current → Rising c.still_open
-      → ((m : Message) → current ≡ Some m → IsCurrentOpen m c.still_open) → IsOwn C l own s.own → IsOwner of s → IsTurn of s
-      → PayloadBelongs C l of own c (owner_of_next_in c.still_open current)
-  unfolding owner_of_next itself
-  back of None e t rising titled k h u = none_back of e t k h u
-  back of (Some m) e t rising titled k h u = go (has_named m) refl
-    where
-      go : (b : Bool) → has_named m ≡ b → PayloadBelongs C l of own c (if has_named m then opener_key (opener_of c.still_open m) else Some (message_key m))
-      go true f = rw f (other_back m e f (t ∙ rw f refl) rising of (opener_of c.still_open m) refl k h u)
-      go false f = rw f (own_back m e f (t ∙ rw f refl) (titled m refl) of k h u)
+      go : (b : Bool) → has_named m ≡ b → PayloadBelongs C l i message c (if has_named m then opener_key (opener_of c.still_open m) else Some (message_key m))
+      go true f = rw f (other_back m e f rising i message (opener_of c.still_open m) refl h)
+      go false f = rw f (own_back m e f (titled m refl) i message h)
 
 -- ---- Of a stream.
 
@@ -274,9 +216,7 @@ module _ (C : Table) (l : Answers) (most : ℕ) (p : List ℕ) where
         header = header ∙ sym same;
         payload_count = payload_count ∙ sym (come_state R p so ∙ many);
         slots = knows.slots;
-        own = own_known C l (tracked_after R p) m.slots.own m.slots.payload (cut p).current knows.payload;
-        owner = owner_known C l (state_of R p) (tracked_after R p) m.slots.own m.slots.payload (cut p).current lines_of_event knows.payload;
-        turn = λ free. turns C l (state_of R p) (tracked_after R p) m.slots.own m.slots.payload (cut p).current lines_of_event (itself_state R p so goes_on) knows.payload;
+        owner = owner_known C l (state_of R p) (tracked_after R p) (index_of m.slots.owner) (current_of m.slots.owner) (cut p).current lines_of_event knows.owner;
       }
 
   -- and from the state to the slots
@@ -284,7 +224,6 @@ module _ (C : Table) (l : Answers) (most : ℕ) (p : List ℕ) where
   unfolding state_of tracked_after
   knows_it m st h = record {
     slots = h.slots;
-    payload = back C l (state_of R p) (tracked_after R p) m.slots.own m.slots.payload (cut p).current lines_of_event
-        (itself_state R p so st) so.rising (λ c cur. message_key_is R (is_causal (λ number. signatures_of C (l number)))
-        (in_turn C l) p st c cur) h.own h.owner (h.turn (ap fault_of st));
+    owner = back C l (state_of R p) (tracked_after R p) (index_of m.slots.owner) (current_of m.slots.owner) (cut p).current lines_of_event so.rising
+        (λ c cur. message_key_is R (is_causal (λ number. signatures_of C (l number))) (in_turn C l) p st c cur) h.owner;
   }

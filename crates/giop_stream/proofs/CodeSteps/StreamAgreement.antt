@@ -12,8 +12,8 @@ use Rattle.giop_stream.specs.Rules.{Rules, rules_by}
 use Rattle.giop_message.specs.declared.message.Message.{Message as CodeMessage}
 use Rattle.giop_stream.specs.EngineView.{EngineView, FramingView}
 use Rattle.giop_stream.specs.EngineHolds.{HoldsBy}
-use Rattle.giop_stream.specs.SlotsRepresent.{OpenEntry, RepresentsMessage, AreSlots}
-use Rattle.giop_stream.specs.ViewOfState.{IsOwn, Shows}
+use Rattle.giop_stream.specs.SlotsRepresent.{OpenEntry, RepresentsMessage, AreSlots, index_of, current_of}
+use Rattle.giop_stream.specs.ViewOfState.{IsOwn, IsOwner, Shows}
 use Rattle.giop_stream.specs.Events.{Event, MessageKey, Open, EventKind, Begins, Takes, Opens, Continues, Cancelled, Faults, Closes, message_key, now_of, own, header_events, events_of_octet, events_of, events_from, events, opened, open_after, joined}
 use Rattle.giop_stream.specs.HeaderOctets.{fronts}
 use Rattle.giop_stream.specs.Framing.{Message, with_payload, cut, messages}
@@ -131,10 +131,12 @@ module _ (C : Table) (a b : Answers) where
     header = h.header;
     payload_count = h.payload_count;
     slots = slots_agree f.slots.slots.entries s.slots same h.slots;
-    own = own_agree f.slots.own s.own own h.own;
-    owner = h.owner;
-    turn = h.turn;
+    owner = owner_agree (index_of f.slots.owner) (current_of f.slots.owner) h.owner;
   }
+    where
+      owner_agree : (i : Option ℕ) (m : Option CodeMessage) → IsOwner C a i m s → IsOwner C b i m s
+      owner_agree None m k = (own_agree m s.own own k.0, k.1)
+      owner_agree (Some i) m k = k
 
 -- ---- the messages that an engine keeps
 

@@ -13,8 +13,7 @@ use Rattle.giop_checkpoint.specs.declared.fault.StreamFault.{StreamFault}
 use Rattle.giop_checkpoint.specs.declared.fixed.Place.TheVariants.{Header, Payload}
 use Rattle.giop_checkpoint.specs.Layouts.{IsAmong}
 use Rattle.giop_checkpoint.specs.Fixed.{PlaceHasRange, HasRange}
-use Rattle.giop_stream.specs.declared.slots.Payload.{Payload as PayloadOwner}
-use Rattle.giop_stream.specs.declared.slots.Payload.TheVariants as payload
+use Rattle.giop_stream.specs.SlotsRepresent.{index_of, current_of}
 use Rattle.giop_stream.specs.HeaderOctets.{first_wrong_octet}
 use Rattle.giop_stream.specs.Rules.{Rules, rules}
 use Rattle.giop_stream.specs.Framing.{Message, Cut, cut, limit, read_of, fault_of}
@@ -43,11 +42,10 @@ among : (b : Bool) (k many more : ℕ) → nat_lt k many ≡ b → IsAmong (many
 among true k many more e = omega (arith, ltb-true k many e)
 among false k many more e = tt
 
-owner_among : (w : PayloadOwner) (many : ℕ) (own : Option CodeMessage) → IsAmong (many + count_own own) (owner_of w many own)
-owner_among payload.Own many None = tt
-owner_among payload.Own many (Some m) = omega arith
-owner_among (payload.Open k) many own = among (nat_lt k many) k many (count_own own) refl
-owner_among payload.Nobody many own = tt
+owner_among : (i : Option ℕ) (own : Option CodeMessage) (many : ℕ) → IsAmong (many + count_own own) (owner_of i own many)
+owner_among None None many = tt
+owner_among None (Some m) many = omega arith
+owner_among (Some k) own many = among (nat_lt k many) k many (count_own own) refl
 
 -- a header has 12 octets at most, and a size of 32 bits if it is complete
 record IsHeader (header : List ℕ) : Type 0 where
@@ -187,10 +185,10 @@ module _ (octets p : List ℕ) (C : Table) (l : RequestTable) (most : ℕ) (s : 
       let m = s.memory in
       record {
         most_open = rw s.limit s.allows;
-        records = omega (arith, few_slots, s.limit, one_own m.slots.own);
+        records = omega (arith, few_slots, s.limit, one_own (current_of m.slots.owner));
         octets = rw totals_are (omega (arith, few));
         messages = rw totals_are (omega (arith, few, twelfth));
         faults = rw totals_are (omega (arith, few, twelfth, tally_faults R causal laws p, one_stop (cut p).stop));
         place = place_range m.stopped m.header m.payload_count header_is.0;
-        owner = owner_among m.slots.payload (length m.slots.slots.entries) m.slots.own;
+        owner = owner_among (index_of m.slots.owner) (current_of m.slots.owner) (length m.slots.slots.entries);
       }

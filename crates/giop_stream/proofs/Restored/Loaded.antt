@@ -14,13 +14,14 @@ use Rattle.giop_checkpoint.specs.declared.record.RecordKind.TheVariants as recor
 use Rattle.giop_checkpoint.specs.Records.{Entry, EntryHasRange, AreRecords, entry_octets, used}
 use Rattle.giop_stream.specs.SlotsRepresent.{OpenEntry}
 use Rattle.giop_stream.specs.declared.slots.Slots.{Slots}
+use Rattle.giop_stream.specs.declared.slots.PayloadOwner.TheVariants as owners
 use Rattle.giop_stream.specs.Events.{MessageKey}
 use Rattle.giop_stream.specs.OpenSlots.{Slot as Held}
 use Rattle.giop_stream.specs.EngineState.{Own}
 use Rattle.giop_stream.specs.SlotsRepresent.{IsReady, RepresentsMessage, IsSlot, AreSlots}
 use Rattle.giop_stream.specs.ViewOfState.{IsOwn}
 use Rattle.giop_stream.specs.Checkpoint.{IsStored, IsHeld, AreEntries, standing_of}
-use Rattle.giop_stream.specs.Reloading.{IsEntry, pushed, IsOpenEntry, IsCurrentEntry, AreLeft, HasAdded, HasAddedFirst}
+use Rattle.giop_stream.specs.Reloading.{IsEntry, pushed, IsOpenEntry, IsCurrentEntry, IsCurrentOwner, AreLeft, HasAdded, HasAddedFirst}
 use Rattle.giop_stream.proofs.SlotSteps.SlotLists.{are_as_many}
 use Rattle.giop_stream.proofs.Restored.SavedSizes.{entries_range}
 
@@ -273,12 +274,12 @@ module _ (C : Table) (l : Answers) (at count : ℕ) (octets : List ℕ) where
       go [] many spelled range = some many
       go (e ∷ es) many spelled range = read e (flat_map entry_octets es) range.0 spelled
 
-  none_by : (slots : Slots) → slots.own ≡ None → count ≡ 0 → (kept : List OpenEntry) (held : List Held)
+  none_by : (slots : Slots) → slots.owner ≡ owners.Current None → count ≡ 0 → (kept : List OpenEntry) (held : List Held)
       (current : Option Message) (own : Option Own) (entries : List Entry) →
       Parts C l at count octets kept held current own entries →
-      HasAdded C l slots slots held × IsOwn C l slots.own own
+      HasAdded C l slots slots held × IsCurrentOwner C l slots.owner own
   none_by slots bare none [] [] None own [] is =
-      (added_none C l slots slots refl, subst (λ (m : Option Message). IsOwn C l m own) (sym bare) is.own_is)
+      (added_none C l slots slots refl, subst (λ of. IsCurrentOwner C l of own) (sym bare) (refl, is.own_is))
   none_by slots bare none [] [] None own (e ∷ es) is = absurd is.entries_are
   none_by slots bare none [] [] (Some m) own [] is = absurd is.entries_are
   none_by slots bare none [] [] (Some m) own (e ∷ es) is = absurd (omega (arith, none, is.count_is))
@@ -288,7 +289,7 @@ module _ (C : Table) (l : Answers) (at count : ℕ) (octets : List ℕ) where
   none_by slots bare none (k ∷ ks) (h ∷ hs) current own (e ∷ es) is = absurd (omega (arith, none, is.count_is))
 
   pub all_none : (slots : Slots) (held : List Held) (own : Option Own) → AreLeft C l at count octets held own →
-      count ≡ 0 → slots.own ≡ None → HasAdded C l slots slots held × IsOwn C l slots.own own
+      count ≡ 0 → slots.owner ≡ owners.Current None → HasAdded C l slots slots held × IsCurrentOwner C l slots.owner own
   all_none slots held own left none bare =
       none_by slots bare none left.kept held left.current own left.entries (parts_of held own left)
 
@@ -371,7 +372,7 @@ false_not_true e = cc
 
 -- all that was left was added
 abbrev pub IsAll : Table → Answers → Bool → Slots → Slots → List Held → Option Own → Type 0
-IsAll C l result before after held own = (result ≡ true) × HasAdded C l before after held × IsOwn C l after.own own
+IsAll C l result before after held own = (result ≡ true) × HasAdded C l before after held × IsCurrentOwner C l after.owner own
 
 room_here : (n most : ℕ) (held : List Held) (h : Held) (hs : List Held) → n + length held ≤ most → held ≡ h ∷ hs →
     n + suc (length hs) ≤ most
@@ -379,9 +380,9 @@ room_here n most held h hs room e = omega (arith, room, ap length e)
 
 module _ (C : Table) (l : Answers) (at count : ℕ) (first : FirstRecord) (before mid : Slots) (added : Bool)
     (slot : (held : Held) → IsOpenEntry C l at first held → length before.slots.entries < before.slots.most →
-    (added ≡ true) × HasAdded C l before mid (held ∷ []) × (mid.own ≡ before.own))
+    (added ≡ true) × HasAdded C l before mid (held ∷ []) × (mid.owner ≡ before.owner))
     (current : (own : Own) → IsCurrentEntry C l at first own →
-    (added ≡ true) × (mid.slots ≡ before.slots) × IsOwn C l mid.own (Some own)) where
+    (added ≡ true) × (mid.slots ≡ before.slots) × IsCurrentOwner C l mid.owner (Some own)) where
   pub first_added : (held : List Held) (own : Option Own) →
       FrontOpen C l at count first held own ⊎ FrontOwn C l at count first held own →
       length before.slots.entries + length held ≤ before.slots.most →
@@ -395,7 +396,7 @@ module _ (C : Table) (l : Answers) (at count : ℕ) (first : FirstRecord) (befor
           others = f.others;
           held_are = f.held_are;
           added = one.1;
-          same_own = one.2;
+          same_owner = one.2;
           left = f.left;
         }),
       )
@@ -416,14 +417,14 @@ module _ (C : Table) (l : Answers) (at count : ℕ) (before mid after : Slots) (
     (same_most : mid.slots.most ≡ before.slots.most)
     (none : count - 1 ≡ 0 → (result ≡ true) × (after ≡ mid))
     (again : (hs : List Held) (o : Option Own) → AreLeft C l at (count - 1) rest hs o →
-    length mid.slots.entries + length hs ≤ mid.slots.most → mid.own ≡ None → IsAll C l result mid after hs o) where
+    length mid.slots.entries + length hs ≤ mid.slots.most → mid.owner ≡ owners.Current None → IsAll C l result mid after hs o) where
   all_again : (held : List Held) (own : Option Own) → HasAddedFirst C l at count before mid rest held own →
-      length before.slots.entries + length held ≤ before.slots.most → before.own ≡ None → IsAll C l result before after held own
+      length before.slots.entries + length held ≤ before.slots.most → before.owner ≡ owners.Current None → IsAll C l result before after held own
   all_again held own (inl f) room bare =
       let few = room_here (length before.slots.entries) before.slots.most held f.here f.others room f.held_are in
       let space : length mid.slots.entries + length f.others ≤ mid.slots.most =
       omega (arith, few, same_most, added_long C l before mid f.here f.added) in
-      let more = again f.others own f.left space (f.same_own ∙ bare) in
+      let more = again f.others own f.left space (f.same_owner ∙ bare) in
       let all = added_more C l before mid after f.here f.others f.added more.1 in
       (more.0, subst (λ (hs : List Held). HasAdded C l before after hs) (sym f.held_are) all, more.2)
   all_again held own (inr f) room bare =
@@ -432,8 +433,8 @@ module _ (C : Table) (l : Answers) (at count : ℕ) (before mid after : Slots) (
       let empty = added_none C l before after (ap (λ s. s.entries) same) in (
         done.0,
         subst (λ (hs : List Held). HasAdded C l before after hs) (sym f.no_held) empty,
-        subst (λ (o : Option Own). IsOwn C l after.own o) (sym f.own_here)
-            (subst (λ (s : Slots). IsOwn C l s.own (Some f.here)) (sym done.1) f.is),
+        subst (λ (o : Option Own). IsCurrentOwner C l after.owner o) (sym f.own_here)
+            (subst (λ (s : Slots). IsCurrentOwner C l s.owner (Some f.here)) (sym done.1) f.is),
       )
 
 -- Up to `mid` these records were added, and so many are left, in `rest`: whatever adds those has added all.
@@ -441,9 +442,9 @@ abbrev pub Completes : Table → Answers → ℕ → ℕ → List ℕ → Slots 
 Completes C l at count octets before mid left rest =
     (result : Bool) (after : Slots) → (left ≡ 0 → (result ≡ true) × (after ≡ mid)) →
     ((hs : List Held) (o : Option Own) → AreLeft C l at left rest hs o →
-    length mid.slots.entries + length hs ≤ mid.slots.most → mid.own ≡ None → IsAll C l result mid after hs o) →
+    length mid.slots.entries + length hs ≤ mid.slots.most → mid.owner ≡ owners.Current None → IsAll C l result mid after hs o) →
     (held : List Held) (own : Option Own) → AreLeft C l at count octets held own →
-    length before.slots.entries + length held ≤ before.slots.most → before.own ≡ None →
+    length before.slots.entries + length held ≤ before.slots.most → before.owner ≡ owners.Current None →
     IsAll C l result before after held own
 
 module _ (C : Table) (l : Answers) (at count : ℕ) (octets : List ℕ) (before : Slots) where
@@ -453,7 +454,7 @@ module _ (C : Table) (l : Answers) (at count : ℕ) (octets : List ℕ) (before 
   module _ (mid : Slots) (left : ℕ) (rest : List ℕ) (before_here : Completes C l at count octets before mid left rest) where
     pub one_more : (next : Slots) (behind : List ℕ) → (left ≡ 0 → ⊥) → next.slots.most ≡ mid.slots.most →
         ((hs : List Held) (o : Option Own) → AreLeft C l at left rest hs o →
-        length mid.slots.entries + length hs ≤ mid.slots.most → mid.own ≡ None →
+        length mid.slots.entries + length hs ≤ mid.slots.most → mid.owner ≡ owners.Current None →
         HasAddedFirst C l at left mid next behind hs o) →
         Completes C l at count octets before next (left - 1) behind
     one_more next behind some same_most first result after none again =
@@ -461,15 +462,15 @@ module _ (C : Table) (l : Answers) (at count : ℕ) (octets : List ℕ) (before 
         (λ hs o are room bare. all_again C l at left mid next after behind result same_most none again hs o (first hs o are room bare) room bare)
 
     pub no_more : left ≡ 0 → (held : List Held) (own : Option Own) → AreLeft C l at count octets held own →
-        length before.slots.entries + length held ≤ before.slots.most → before.own ≡ None → IsAll C l true before mid held own
+        length before.slots.entries + length held ≤ before.slots.most → before.owner ≡ owners.Current None → IsAll C l true before mid held own
     no_more none =
         before_here true mid (λ z. (refl, refl))
         (λ hs o are room bare. let made = all_none C l at left rest mid hs o are none bare in (refl, made.0, made.1))
 
     pub not_one : (left ≡ 0 → ⊥) → ((hs : List Held) (o : Option Own) → AreLeft C l at left rest hs o →
-        length mid.slots.entries + length hs ≤ mid.slots.most → mid.own ≡ None → ⊥) →
+        length mid.slots.entries + length hs ≤ mid.slots.most → mid.owner ≡ owners.Current None → ⊥) →
         (held : List Held) (own : Option Own) → AreLeft C l at count octets held own →
-        length before.slots.entries + length held ≤ before.slots.most → before.own ≡ None → ⊥
+        length before.slots.entries + length held ≤ before.slots.most → before.owner ≡ owners.Current None → ⊥
     not_one some fails held own are room bare =
         let all : IsAll C l false before mid held own = before_here false mid (λ z. absurd (some z))
         (λ hs o here space none. absurd (fails hs o here space none)) held own are room bare in

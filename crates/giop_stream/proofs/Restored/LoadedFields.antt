@@ -1,11 +1,11 @@
 -- The fields of an engine that are read from a checkpoint's fixed part show the same state as those that were written.
-use Rattle.std.proofs.Common.{◌≡◌, ℕ, ◌+◌, ◌-◌, ◌*◌, ◌^◌, ◌<◌, ◌≤◌, Bool, true, false, not, List, [], ◌++◌, length, flat_map, arith, Option, Some, None, refl, sym, ap, ◌∙◌, subst}
-use Rattle.std.specs.Prelude.{◌&&◌, nat_lt, nat_le, option_map, if◌then◌else◌}
-use Rattle.std.proofs.lemmas.Bool.{lt-ltb, le-ltb, lt-leb, le-leb, ltb-true, ltb-false}
+use Rattle.std.proofs.Common.{◌≡◌, ℕ, ◌+◌, ◌-◌, ◌*◌, ◌^◌, ◌<◌, ◌≤◌, Bool, true, false, List, [], ◌++◌, length, flat_map, arith, Option, Some, None, refl, sym, ap, ◌∙◌, subst}
+use Rattle.std.specs.Prelude.{nat_lt, if◌then◌else◌}
+use Rattle.std.proofs.lemmas.Bool.{lt-ltb, le-ltb}
 use Rattle.std.proofs.lemmas.Option.{slice_get_within}
 use Rattle.giop_sig.specs.Table.{Table}
 use Rattle.giop_message.specs.declared.message.Message.{Message}
-use Rattle.giop_message.specs.Headers.{size, is_fragment}
+use Rattle.giop_message.specs.Headers.{size}
 use Rattle.giop_message.specs.Signatures.{RequestTable, Answers, by_list}
 use Rattle.giop_checkpoint.specs.declared.fault.StreamFault.{StreamFault}
 use Rattle.giop_checkpoint.specs.declared.fixed.Fixed.{Fixed}
@@ -14,21 +14,21 @@ use Rattle.giop_checkpoint.specs.declared.fixed.Place.TheVariants.{Header, Paylo
 use Rattle.giop_checkpoint.specs.Records.{entry_octets}
 use Rattle.giop_stream.specs.SlotsRepresent.{OpenEntry}
 use Rattle.giop_stream.specs.declared.slots.Slots.{Slots}
-use Rattle.giop_stream.specs.declared.slots.Payload.{Payload as PayloadOwner}
-use Rattle.giop_stream.specs.declared.slots.Payload.TheVariants as payload
+use Rattle.giop_stream.specs.declared.slots.PayloadOwner.{PayloadOwner}
 use Rattle.giop_stream.specs.Rules.{Rules, rules}
 use Rattle.giop_stream.specs.Framing.{cut, fault_of}
 use Rattle.giop_stream.specs.Events.{open_after}
 use Rattle.giop_stream.specs.OpenSlots.{Slot as Held, octets_of}
-use Rattle.giop_stream.specs.EngineState.{State, Own, unless, state_of}
-use Rattle.giop_stream.specs.SlotsRepresent.{AreSlots}
-use Rattle.giop_stream.specs.ViewOfState.{IsOwn, IsOwner, IsTurn, Shows, payload_count_in, comes_itself}
+use Rattle.giop_stream.specs.EngineState.{State, unless, state_of}
+use Rattle.giop_stream.specs.SlotsRepresent.{AreSlots, index_of, current_of}
+use Rattle.giop_stream.specs.ViewOfState.{IsOwner, Shows, payload_count_in}
 use Rattle.giop_stream.specs.EngineView.{FramingView}
 use Rattle.giop_stream.specs.Checkpoint.{place_of, owner_of, fixed_of, Spells}
 use Rattle.giop_stream.specs.Reloading as fields
-use Rattle.giop_stream.specs.Reloading.{AreLeft, HasAdded}
+use Rattle.giop_stream.specs.Reloading.{AreLeft, HasAdded, IsCurrentOwner}
 use Rattle.giop_stream.proofs.CodeSteps.EngineAlive.{few_open}
 use Rattle.giop_stream.proofs.SlotSteps.SlotLists.{slots_many, are_as_many}
+use Rattle.giop_stream.proofs.SlotSteps.StateToSlots.{own_shown}
 use Rattle.giop_stream.proofs.Restored.LoadRanges.{AreTotals, may_be_again}
 use Rattle.giop_stream.proofs.Restored.SavedSizes.{entries_count}
 
@@ -42,15 +42,15 @@ unfolding fixed_of
 spells_left octets p C l most s fixed records is are =
     subst P (sym is) (record {
       kept = s.memory.slots.slots.entries;
-      current = s.memory.slots.own;
+      current = current_of s.memory.slots.owner;
       entries = s.entries;
       entries_are = s.entries_are;
-      count_is = sym (entries_count s.memory.slots.slots.entries s.memory.slots.own s.entries s.entries_are);
+      count_is = sym (entries_count s.memory.slots.slots.entries (current_of s.memory.slots.owner) s.entries s.entries_are);
       octets_are = are;
       slots_are = s.shows.slots;
-      own_is = s.shows.own;
+      own_is = own_shown C (by_list l) s.memory.slots.owner (state_of (rules C l most) p) s.shows.owner;
       each_ready = s.ready.each_ready;
-      own_ready = s.ready.own_ready;
+      own_ready = s.ready.current_ready;
     })
   where
     P : Fixed → Type 0
@@ -124,57 +124,17 @@ come_again (Some fault) header left payload_count behind e =
     sym (e ∙ ap (λ (xs : List ℕ). payload_count_of (nat_lt (length xs) 12) xs left) (behind fault refl))
 come_again None header left payload_count behind e = come_by (nat_lt (length header) 12) header left payload_count e
 
--- whether the next octets belong to the current message itself
-abbrev own_comes : List ℕ → ℕ → Bool
-own_comes header payload_count = nat_le 12 (length header) && not (is_fragment header && nat_le 4 payload_count)
-
-itself_by : (b : Bool) (header : List ℕ) (left payload_count : ℕ) → nat_lt (length header) 12 ≡ b → payload_count ≡ payload_count_of b header left →
-    fields.comes_in (running_place b header payload_count) ≡ own_comes header payload_count
-itself_by true header left payload_count short e = rw (lt-leb 12 (length header) (omega (arith, ltb-true (length header) 12 short))) refl
-itself_by false header left payload_count long e =
-    rw (le-leb 12 (length header) (omega (arith, ltb-false (length header) 12 long)), come_by false header left payload_count e) refl
-
-itself_again : (header : List ℕ) (left payload_count : ℕ) → payload_count ≡ payload_count_of (nat_lt (length header) 12) header left →
-    fields.comes_in (place_of None header payload_count) ≡ own_comes header payload_count
-itself_again header left payload_count e = itself_by (nat_lt (length header) 12) header left payload_count refl e
-
 -- ---- the owner of the payload
 
--- `itself` is whether the next octets belong to the current message itself, by the state
-pub record IsItself (itself : Bool) (s : State) : Type 0 where
-  pub running : s.stop ≡ None → itself ≡ comes_itself s
-  pub behind : (fault : StreamFault) → s.stop ≡ Some fault → itself ≡ false
-
-abbrev IsPayload : PayloadOwner → State → Type 0
-IsPayload w s = IsOwner w s × (s.stop ≡ None → IsTurn w s)
-
-no_own : (C : Table) (l : Answers) (s : State) (own : Option Own) → s.own ≡ own → IsOwn C l None own →
-    s.owner ≡ option_map (λ o. o.message_key.number) s.own → s.owner ≡ None
-no_own C l s None none is owner = owner ∙ ap (λ (o : Option Own). option_map (λ o. o.message_key.number) o) none
-no_own C l s (Some o) none is owner = absurd is
-
--- the payload belongs to nobody, or to a current message that is over
-own_turn : (itself : Bool) (s : State) → IsItself itself s → s.owner ≡ option_map (λ o. o.message_key.number) s.own →
-    s.owner ≡ None → IsPayload (fields.by_turn itself) s
-own_turn true s is owner none = (owner, λ running. sym (is.running running))
-own_turn false s is owner none = (none, λ running. sym (is.running running))
-
-not_itself : (itself : Bool) (s : State) (stop : Option StreamFault) → s.stop ≡ stop → IsItself itself s →
-    (s.stop ≡ None → comes_itself s ≡ false) → itself ≡ false
-not_itself itself s None e is turn = is.running e ∙ turn e
-not_itself itself s (Some fault) e is turn = is.behind fault e
-
-payload_again : (C : Table) (l : Answers) (w : PayloadOwner) (own : Option Message) (many : ℕ) (s : State) (itself : Bool) →
-    many ≡ length s.slots → IsOwn C l own s.own → IsPayload w s → IsItself itself s →
-    IsPayload (fields.payload_of (owner_of w many own) itself many) s
-payload_again C l payload.Own None many s itself long owner_of_next of is =
-    own_turn itself s is of.0 (no_own C l s s.own refl owner_of_next of.0)
-payload_again C l payload.Own (Some m) many s itself long owner_of_next of is = rw (le-ltb many many (omega arith)) of
-payload_again C l (payload.Open k) own many s itself long owner_of_next of is =
-    let low : k < many = omega (arith, long, slice_get_within s.slots k of.0.1.0 of.0.1.1) in
-    rw (lt-ltb k many low, lt-ltb k many low) of
-payload_again C l payload.Nobody own many s itself long owner_of_next of is =
-    subst (λ (b : Bool). IsPayload (fields.by_turn b) s) (sym (not_itself itself s s.stop refl is of.1)) of
+-- Where the current message was loaded, the owner that is loaded shows this state too.
+owner_again : (C : Table) (l : Answers) (i : Option ℕ) (own : Option Message) (made : PayloadOwner) (many : ℕ) (s : State) → many ≡ length s.slots →
+    IsOwner C l i own s → IsCurrentOwner C l made s.own →
+    (let of = fields.owner_by (owner_of i own many) many made in IsOwner C l (index_of of) (current_of of) s)
+owner_again C l None None made many s long is current = rw current.0 (current.1, is.1)
+owner_again C l None (Some m) made many s long is current = rw (le-ltb many many (omega arith), current.0) (current.1, is.1)
+owner_again C l (Some k) own made many s long is current =
+    let low : k < many = omega (arith, long, slice_get_within s.slots k is.1.0 is.1.1) in
+    rw (lt-ltb k many low, lt-ltb k many low) is
 
 -- ---- the fields
 
@@ -184,9 +144,8 @@ pub record IsReadAs (m : FramingView) (fixed : Fixed) (made : Slots) : Type 0 wh
   pub stopped : m.stopped ≡ fields.stop_in fixed.place
   pub header : m.header ≡ fields.header_in fixed.place
   pub payload_count : m.payload_count ≡ fields.payload_count_in fixed.place
-  pub payload : m.slots.payload ≡ fields.payload_of fixed.owner (fields.comes_in fixed.place) (length made.slots.entries)
+  pub owner : m.slots.owner ≡ fields.owner_by fixed.owner (length made.slots.entries) made.owner
   pub slots : m.slots.slots ≡ made.slots
-  pub own : m.slots.own ≡ made.own
 
 -- bounds for the totals of a stream that stopped so and holds so many header octets
 pub record MayBe (fixed : Fixed) (stop : Option StreamFault) (long : ℕ) : Type 0 where
@@ -215,38 +174,21 @@ module _ (octets p : List ℕ) (C : Table) (l : RequestTable) (most : ℕ) (s : 
       s.shows.payload_count
       ∙ ap (λ (xs : List ℕ). payload_count_of (nat_lt (length xs) 12) xs (state_of (rules C l most) p).left) (sym s.shows.header)
 
-  -- whether the next octets belong to the current message itself, by the place that was written
-  itself_now : Option StreamFault → Bool
-  itself_now stopped = fields.comes_in (place_of stopped s.memory.header s.memory.payload_count)
-
-  itself_is : IsItself (itself_now s.memory.stopped) state
-  unfolding state comes_itself itself_now
-  itself_is = record {
-    running = λ e. ap itself_now (s.shows.stopped ∙ e)
-        ∙ itself_again s.memory.header state.left s.memory.payload_count come_is
-        ∙ ap (λ (xs : List ℕ). own_comes xs s.memory.payload_count) s.shows.header
-        ∙ ap (λ (n : ℕ). own_comes state.held n) s.shows.payload_count;
-    behind = λ fault e. ap itself_now (s.shows.stopped ∙ e);
-  }
-
-  payload_is : (many : ℕ) → many ≡ length state.slots → IsPayload (fields.payload_of
-      (owner_of s.memory.slots.payload (length s.memory.slots.slots.entries) s.memory.slots.own)
-      (itself_now s.memory.stopped) many) state
+  owner_is : (many : ℕ) (made : PayloadOwner) → many ≡ length state.slots → IsCurrentOwner C (by_list l) made state.own →
+      (let of = fields.owner_by (owner_of (index_of s.memory.slots.owner) (current_of s.memory.slots.owner) (length s.memory.slots.slots.entries)) many made in
+      IsOwner C (by_list l) (index_of of) (current_of of) state)
   unfolding state
-  payload_is many long =
+  owner_is many made long own =
       let kept = are_as_many C (by_list l) s.memory.slots.slots.entries (state_of (rules C l most) p).slots s.shows.slots in
       let same : many ≡ length s.memory.slots.slots.entries = long ∙ sym kept in
-      rw same (payload_again C (by_list l) s.memory.slots.payload s.memory.slots.own (length s.memory.slots.slots.entries) state
-      (itself_now s.memory.stopped) kept s.shows.own (s.shows.owner, s.shows.turn) itself_is)
+      rw same (owner_again C (by_list l) (index_of s.memory.slots.owner) (current_of s.memory.slots.owner) made (length s.memory.slots.slots.entries) state kept s.shows.owner own)
 
   module _ (m : FramingView) (bare slots : Slots) (none : bare.slots.entries ≡ []) where
     shows_fixed : IsReadAs m (fixed_of C l s.memory) slots → HasAdded C (by_list l) bare slots state.slots →
-        IsOwn C (by_list l) slots.own state.own → Shows C (by_list l) m state
-    unfolding state fixed_of itself_now
+        IsCurrentOwner C (by_list l) slots.owner state.own → Shows C (by_list l) m state
+    unfolding state fixed_of
     shows_fixed is added own =
         let all = added_all C (by_list l) bare slots state.slots none added in
-        let owner_of_next : IsPayload m.slots.payload state = subst (λ (w : PayloadOwner). IsPayload w state) (sym is.payload)
-        (payload_is (length slots.slots.entries) (are_as_many C (by_list l) slots.slots.entries state.slots all)) in
         record {
           totals = is.totals ∙ s.shows.totals;
           stopped = is.stopped ∙ stop_again s.memory.stopped s.memory.header s.memory.payload_count ∙ s.shows.stopped;
@@ -255,14 +197,13 @@ module _ (octets p : List ℕ) (C : Table) (l : RequestTable) (most : ℕ) (s : 
               ∙ come_again s.memory.stopped s.memory.header state.left s.memory.payload_count behind come_is
               ∙ s.shows.payload_count;
           slots = subst (λ (xs : List OpenEntry). AreSlots C (by_list l) xs state.slots) (sym (ap (λ s. s.entries) is.slots)) all;
-          own = subst (λ (o : Option Message). IsOwn C (by_list l) o state.own) (sym is.own) own;
-          owner = owner_of_next.0;
-          turn = owner_of_next.1;
+          owner = subst (λ of. IsOwner C (by_list l) (index_of of) (current_of of) state) (sym is.owner)
+              (owner_is (length slots.slots.entries) slots.owner (are_as_many C (by_list l) slots.slots.entries state.slots all) own);
         }
 
     pub shows_again : (fixed : Fixed) → fixed ≡ fixed_of C l s.memory → IsReadAs m fixed slots →
         HasAdded C (by_list l) bare slots (state_of (rules C l most) p).slots →
-        IsOwn C (by_list l) slots.own (state_of (rules C l most) p).own → Shows C (by_list l) m (state_of (rules C l most) p)
+        IsCurrentOwner C (by_list l) slots.owner (state_of (rules C l most) p).own → Shows C (by_list l) m (state_of (rules C l most) p)
     unfolding state
     shows_again fixed e is added own = shows_fixed (subst (λ (f : Fixed). IsReadAs m f slots) e is) added own
 

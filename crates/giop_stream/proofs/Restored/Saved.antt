@@ -12,7 +12,7 @@ use Rattle.giop_message.specs.MessageState.{Fits}
 use Rattle.giop_message.specs.Signatures.{RequestTable}
 use Rattle.giop_checkpoint.specs.declared.layout.Layout.TheVariants.{Third}
 use Rattle.giop_checkpoint.specs.Fixed.{fixed_octets}
-use Rattle.giop_stream.specs.SlotsRepresent.{OpenEntry}
+use Rattle.giop_stream.specs.SlotsRepresent.{OpenEntry, current_of}
 use Rattle.giop_stream.specs.SlotsRepresent.{IsReady}
 use Rattle.std.specs.Result.{IfOk}
 use Rattle.std.proofs.lemmas.Bool.{false≢true}
@@ -120,12 +120,12 @@ ready_fits C at (Some n) m e ready = let P : Message → Type 0 = λ x. Fits C x
 
 -- ---- the whole checkpoint
 
-pub whole_is : (C : Table) (l : RequestTable) (m : FramingView) (fixed after : List ℕ) → m.slots.own ≡ None → fixed ≡ fixed_octets Third (fixed_of C l m)
+pub whole_is : (C : Table) (l : RequestTable) (m : FramingView) (fixed after : List ℕ) → current_of m.slots.owner ≡ None → fixed ≡ fixed_octets Third (fixed_of C l m)
     → IsPut fixed after (AreOpen m.slots.slots.entries) → IsPutWhole Third C l m after
 unfolding checkpoint_octets
 whole_is C l m fixed after none e p = record {
   entries = p.entries;
-  are = own_none m.slots.own none;
+  are = own_none (current_of m.slots.owner) none;
   put = p.put ∙ ap (λ (xs : List ℕ). xs ++ flat_map entry_octets p.entries) e;
 }
   where
@@ -133,13 +133,13 @@ whole_is C l m fixed after none e p = record {
     own_none None e = p.are
     own_none (Some x) e = absurd (let no : Some x ≡ None = e in cc)
 
-pub whole_own : (C : Table) (l : RequestTable) (m : FramingView) (x : Message) (fixed between after : List ℕ) → m.slots.own ≡ Some x
+pub whole_own : (C : Table) (l : RequestTable) (m : FramingView) (x : Message) (fixed between after : List ℕ) → current_of m.slots.owner ≡ Some x
     → fixed ≡ fixed_octets Third (fixed_of C l m)
     → IsPut fixed between (AreOpen m.slots.slots.entries) → IsPutOne between after (IsCurrent x) → IsPutWhole Third C l m after
 unfolding checkpoint_octets
 whole_own C l m x fixed between after some e p one = record {
   entries = p.entries ++ one.entry ∷ [];
-  are = own_some m.slots.own some;
+  are = own_some (current_of m.slots.owner) some;
   put = one.put
       ∙ ap (λ (xs : List ℕ). xs ++ entry_octets one.entry) (p.put ∙ ap (λ (xs : List ℕ). xs ++ flat_map entry_octets p.entries) e)
       ∙ append_assoc (fixed_octets Third (fixed_of C l m)) (flat_map entry_octets p.entries) (entry_octets one.entry)

@@ -13,7 +13,7 @@ use Rattle.giop_checkpoint.specs.Layouts.{OpenHasRange}
 use Rattle.giop_checkpoint.specs.Fixed.{fixed_octets}
 use Rattle.giop_checkpoint.specs.Records.{Entry, EntryHasRange, own_octets, entry_octets}
 use Rattle.giop_checkpoint.proofs.RecordFields.{own_long}
-use Rattle.giop_stream.specs.SlotsRepresent.{OpenEntry}
+use Rattle.giop_stream.specs.SlotsRepresent.{OpenEntry, current_of}
 use Rattle.giop_stream.specs.SlotsRepresent.{IsReady, AreReady}
 use Rattle.giop_stream.specs.EngineView.{FramingView}
 use Rattle.giop_stream.specs.Checkpoint.{IsStored, AreEntries, fixed_of, count_own, entries_size, checkpoint_octets, IsPutWhole, checkpoint_limit}
@@ -103,7 +103,7 @@ whole_long layout C l m written whole room =
       arith,
       length-append (fixed_octets layout (fixed_of C l m)) (flat_map entry_octets whole.entries),
       room.fixed,
-      entries_long whole.entries (entries_range m.slots.slots.entries m.slots.own whole.entries whole.are),
+      entries_long whole.entries (entries_range m.slots.slots.entries (current_of m.slots.owner) whole.entries whole.are),
     )
 
 many_within : (n most w sum : ℕ) → n ≤ most + 1 → sum ≤ n * w → sum ≤ (most + 1) * w
@@ -113,11 +113,11 @@ pub whole_within : (layout : Layout) (C : Table) (l : RequestTable) (m : Framing
     HasRoom layout C l m → length m.slots.slots.entries ≤ most → 96 + entries_size whole.entries ≤ checkpoint_limit most (depth_of C.types)
 unfolding checkpoint_limit
 whole_within layout C l m most written whole room few =
-    let many = entries_count m.slots.slots.entries m.slots.own whole.entries whole.are in
-    let shallow = entries_shallow C (m.totals.octets + 1) m.slots.slots.entries m.slots.own whole.entries whole.are
-    room.ready.each_ready room.ready.own_ready in
+    let many = entries_count m.slots.slots.entries (current_of m.slots.owner) whole.entries whole.are in
+    let shallow = entries_shallow C (m.totals.octets + 1) m.slots.slots.entries (current_of m.slots.owner) whole.entries whole.are
+    room.ready.each_ready room.ready.current_ready in
     omega (
       arith,
       many_within (length whole.entries) most (256 + FRAME_SIZE * depth_of C.types) (entries_size whole.entries)
-          (omega (arith, many, few, one_own m.slots.own)) (entries_within (depth_of C.types) whole.entries shallow),
+          (omega (arith, many, few, one_own (current_of m.slots.owner))) (entries_within (depth_of C.types) whole.entries shallow),
     )

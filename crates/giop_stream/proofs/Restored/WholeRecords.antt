@@ -15,6 +15,7 @@ use Rattle.giop_checkpoint.specs.declared.sizes.TheConstants.{FRAME_SIZE}
 use Rattle.giop_checkpoint.specs.Fixed.{HasRange, fixed_octets}
 use Rattle.giop_checkpoint.specs.Records.{Entry, EntryHasRange, AreRecords, used, kind_octets, own_octets, entry_octets}
 use Rattle.giop_checkpoint.specs.Refusals.{Refused, Passes}
+use Rattle.giop_stream.specs.SlotsRepresent.{current_of}
 use Rattle.giop_stream.specs.Rules.{most_open}
 use Rattle.giop_stream.specs.EngineView.{FramingView}
 use Rattle.giop_stream.specs.Checkpoint.{counts_of, fixed_of, checkpoint_octets, Spells, Allows, IsRefused}
@@ -50,7 +51,7 @@ module _ (octets p : List ℕ) (C : Table) (l : RequestTable) (most : ℕ) (s : 
   unfolding fixed_of
   fixed_records =
       let slots = s.memory.slots.slots.entries in
-      let own = s.memory.slots.own in
+      let own = current_of s.memory.slots.owner in
       let P : ℕ → Type 0 = λ n. AreRecords n (flat_map entry_octets s.entries) in
       subst P (entries_count slots own s.entries s.entries_are)
       (records_are s.entries (entries_range slots own s.entries s.entries_are))

@@ -2,23 +2,21 @@
 use Rattle.std.proofs.Common.{inl, inr, ◌≡◌, ℕ, ◌<◌, ◌≤◌, Bool, true, false, List, length, refl, sym, ap, subst, ◌∙◌, Option, Some, None, arith}
 use Rattle.std.specs.Prelude.{◌==◌, ◌&&◌, nat_lt, nat_le, if◌then◌else◌}
 use Rattle.std.proofs.lemmas.Bool.{eq-eqb, eqb-true, lt-leb, le-leb, lt-ltb, le-ltb, cases_lt, false≢true}
-use Rattle.std.specs.List.{AllByRecursion as Each}
 use Rattle.giop_sig.specs.Table.{Table}
 use Rattle.giop_message.specs.Signatures.{Answers, signatures_of}
 use Rattle.giop_message.specs.Messages.{message, message_lines}
 use Rattle.giop_message.specs.ReaderOfTable.{message_reader, first_request_id}
 use Rattle.giop_message.specs.Headers.{size, is_fragment}
 use Rattle.giop_stream.specs.declared.slots.Slots.{Slots}
-use Rattle.giop_stream.specs.declared.slots.Payload.{Payload}
-use Rattle.giop_stream.specs.declared.slots.Payload.TheVariants as payload
 use Rattle.giop_stream.specs.declared.current.Current.{Current}
 use Rattle.giop_stream.specs.Framing.{Message}
 use Rattle.giop_stream.specs.Events.{MessageKey, Open, id, message_key, opener_of, has_named, goes_past, events_at_request_id, events_at_end}
-use Rattle.giop_stream.specs.Effects.{Tracked, effects, no_effect}
-use Rattle.giop_stream.specs.SlotsRepresent.{RepresentsMessage, PayloadBelongs, SlotsRepresent}
+use Rattle.giop_stream.specs.Effects.{Tracked, IsNotOpen, effects, no_effect}
+use Rattle.giop_stream.specs.SlotsRepresent.{RepresentsMessage, SlotsRepresent, current_of}
 use Rattle.giop_stream.specs.PayloadOwner.{IsAtRequestId, IsAfterTake, IsAtOctet, IsNewest, opener_key, owner_of_next, owner_after_id, owner_of_octet, owner_after, id_events, end_events}
 use Rattle.giop_stream.proofs.SlotSteps.RequestIds.{id_is_id}
-use Rattle.giop_stream.proofs.SlotSteps.OneSlotChanges.{at_index}
+use Rattle.giop_stream.proofs.Lists.{each_weaker}
+use Rattle.giop_stream.proofs.SlotSteps.EventsOnSlots.{current_kept}
 use Rattle.giop_stream.proofs.StreamLines.LineOrder.{not_past}
 use Rattle.giop_stream.proofs.SlotSteps.Cases.{effects_none}
 
@@ -56,20 +54,11 @@ pub owner_own : (still_open : List Open) (m : Message) → length m.payload ≤ 
 unfolding owner_of_octet
 owner_own still_open m few = rw (not_past m few) refl
 
--- ---- A message that is newer than the open ones takes its octets itself.
+-- ---- A message that is newer than the open ones isn't open.
 
-module _ (C : Table) (l : Answers) where
-  pub own_by : (s : Slots) (c : Tracked) (w : MessageKey) → IsNewest w.number c.still_open → SlotsRepresent C l s c (Some w) → s.payload ≡ payload.Own
-  own_by s c w newest h = go s.payload refl h.payload
-    where
-      go : (p : Payload) → s.payload ≡ p → PayloadBelongs C l p s.own c (Some w) → p ≡ payload.Own
-      go payload.Own e k = refl
-      go (payload.«Open» i) e k =
-          let o = k.1.0 in
-          let less : o.opener.number < w.number = at_index (λ a. a.opener.number < w.number) c.still_open i o k.1.1 newest in
-          let same : o.opener.number ≡ w.number = ap (λ (t : MessageKey). t.number) k.1.2 in
-          absurd (omega (arith, less, same))
-      go payload.Nobody e k = absurd k
+pub newest_apart : (n : ℕ) (still_open : List Open) → IsNewest n still_open → IsNotOpen n still_open
+newest_apart n still_open newest =
+    each_weaker {A = Open} (λ o. o.opener.number < n) (λ o. o.opener.number ≡ n → ⊥) (λ o less same. omega (arith, less, same)) still_open newest
 
 module _ (C : Table) (l : Answers) (s : Slots) (c : Tracked) (m : Message) (now : Current) (h : IsAfterTake C l s c m now) where
   four_is : (now.payload_count == 4) ≡ true → length m.payload ≡ 4
@@ -84,30 +73,24 @@ module _ (C : Table) (l : Answers) (s : Slots) (c : Tracked) (m : Message) (now 
   no_id e = rw (h.payload_count, e) (effects_none (message_reader C l) c)
 
   -- the request id that is read from the message's own octets
-  pub named_here : (i : ℕ) → ((w : MessageKey) (xs : List ℕ) (j : ℕ) → RepresentsMessage C l s.own w (Some xs)
+  pub named_here : (i : ℕ) → ((w : MessageKey) (xs : List ℕ) (j : ℕ) → RepresentsMessage C l (current_of s.owner) w (Some xs)
       → first_request_id (message_lines (message (signatures_of C (l w.number)) w.header xs)) ≡ Some j → i ≡ j) → (now.payload_count == 4) ≡ true
       → IsAtRequestId C l s c m now i
   named_here i f e =
       let four = four_is e in
       let few : length m.payload ≤ 4 = omega (arith, four) in
+      let apart = newest_apart m.number c.still_open (h.newest four) in
       let keeps : SlotsRepresent C l s c (Some (message_key m)) = rw (owner_own c.still_open m few) at h.keeps in
       record {
         keeps = keeps;
         rising = h.rising;
         current = h.current;
         id_is = λ name. sym (f (message_key m) m.payload (id m)
-            (kept keeps (h.alive name four) (own_by C l s c (message_key m) (h.newest four) keeps))
+            (subst (RepresentsMessage C l (current_of s.owner) (message_key m)) (h.alive name four) (current_kept C l s c (message_key m) apart keeps))
             (id_is_id C l m four (h.says name)));
-        own_comes = λ name. own_by C l s c (message_key m) (h.newest four) keeps;
+        not_open = λ name. apart;
         alive = λ name. (m.payload, h.alive name four);
       }
-    where
-      kept : SlotsRepresent C l s c (Some (message_key m)) → c.known m.number ≡ Some m.payload → s.payload ≡ payload.Own → RepresentsMessage C l s.own (message_key m) (Some m.payload)
-      kept keeps known own = let parts = whole keeps own in subst (RepresentsMessage C l s.own (message_key m)) known parts.1
-        where
-          whole : SlotsRepresent C l s c (Some (message_key m)) → s.payload ≡ payload.Own
-              → Each (λ o. o.opener.number ≡ m.number → ⊥) c.still_open × RepresentsMessage C l s.own (message_key m) (c.known m.number)
-          whole keeps own = rw own at keeps.payload
 
   pub owner_then : (now.payload_count == 4) ≡ true → owner_of_next c.still_open m ≡ owner_after_id c.still_open m
   owner_then e = owner_at_id c.still_open m (four_is e)

@@ -17,11 +17,11 @@ use Rattle.giop_stream.specs.Events.{MessageKey, Open, Event, Faults, message_ke
 use Rattle.giop_stream.specs.Lines.{Line}
 use Rattle.giop_stream.specs.Stream.{fault_count}
 use Rattle.giop_stream.specs.Effects.{Tracked, Effect, effects, one_effect, no_effect, then_effect, line_effect, starts, IsNotOpen}
-use Rattle.giop_stream.specs.SlotsRepresent.{SlotsRepresent, AreReady}
+use Rattle.giop_stream.specs.SlotsRepresent.{SlotsRepresent, AreReady, current_of}
 use Rattle.giop_stream.specs.PayloadOwner.{IsBeforeMessage, IsAtOctet, owner_of_next, owner_after, end_events}
-use Rattle.giop_stream.proofs.Lists.{each_weaker}
 use Rattle.giop_stream.proofs.Events.EventsOfOctet.{quiet_header}
 use Rattle.giop_stream.proofs.SlotSteps.SlotLists.{later_ready, all_later}
+use Rattle.giop_stream.proofs.SlotSteps.AfterOctet.{newest_apart}
 use Rattle.giop_stream.proofs.SlotSteps.Cases.{effects_append, header_begins, header_refused}
 use Rattle.giop_stream.proofs.SlotSteps.Performing.{BeginsSo}
 use Rattle.giop_stream.proofs.SlotSteps.Ending.{owner_early}
@@ -29,7 +29,7 @@ use Rattle.giop_stream.proofs.SlotSteps.Parts.{effects_still_open}
 
 -- slots that are ready for an octet are ready for a later one
 pub ready_later : (C : Table) (n n' : ℕ) (s : Slots) → n ≤ n' → AreReady C n s → AreReady C n' s
-ready_later C n n' s less h = record { own_ready = later_ready C n n' s.own less h.own_ready; each_ready = all_later C n n' s.slots.entries less h.each_ready }
+ready_later C n n' s less h = record { current_ready = later_ready C n n' (current_of s.owner) less h.current_ready; each_ready = all_later C n n' s.slots.entries less h.each_ready }
 
 pub starts_faults : (m : Message) (ls : List Line) → fault_count (starts m ∷ ls) ≡ fault_count ls
 unfolding fault_count
@@ -67,8 +67,7 @@ module _ (R : Rules) (c : Tracked) (m : Message) where
 
 module _ (C : Table) (l : Answers) (s : Slots) (c : Tracked) (who : Option MessageKey) (m : Message) (now : Current) (h : IsBeforeMessage C l s c who m now) where
   pub apart : IsNotOpen m.number c.still_open
-  apart =
-      each_weaker {A = Open} (λ o. o.opener.number < m.number) (λ o. o.opener.number ≡ m.number → ⊥) (λ o less same. omega (arith, less, same)) c.still_open h.newest
+  apart = newest_apart m.number c.still_open h.newest
 
   pub none_come : length m.payload ≡ 0
   none_come = ap length h.none_come

@@ -1,5 +1,5 @@
 -- Calls of the code that do an event or a run: what the slots represent then.
-use Rattle.std.proofs.Common.{◌≡◌, ℕ, ◌<◌, true, false, not, List, [], ◌∷◌, ◌++◌, length, refl, sym, ap, subst, ◌∙◌, Option, Some, None, Result, Ok, append-nil}
+use Rattle.std.proofs.Common.{◌≡◌, ℕ, ◌<◌, true, not, List, [], ◌∷◌, ◌++◌, length, refl, sym, ap, subst, ◌∙◌, Option, Some, None, Result, append-nil}
 use Rattle.std.specs.Prelude.{◌==◌, slice_get, slice_set, option_map}
 use Rattle.std.specs.List.{filter, remove, AllByRecursion as Each}
 use Rattle.std.proofs.lemmas.Bool.{ne_eqb}
@@ -9,7 +9,8 @@ use Rattle.giop_stream.specs.declared.fault.FramingFault.{FramingFault}
 use Rattle.giop_message.specs.declared.message.Message.{Message}
 use Rattle.giop_stream.specs.SlotsRepresent.{OpenEntry, open_entry, with_message}
 use Rattle.giop_stream.specs.declared.slots.Slots.{Slots}
-use Rattle.giop_stream.specs.declared.slots.Payload.TheVariants as payload
+use Rattle.giop_stream.specs.declared.slots.PayloadOwner.{PayloadOwner}
+use Rattle.giop_stream.specs.declared.slots.PayloadOwner.TheVariants as owners
 use Rattle.giop_sig.specs.Table.{Table}
 use Rattle.giop_message.specs.Signatures.{Answers}
 use Rattle.giop_message.specs.ReaderOfTable.{message_reader}
@@ -19,12 +20,17 @@ use Rattle.giop_stream.specs.Events.{MessageKey, Open, EventKind, Takes, Opens, 
 use Rattle.giop_stream.specs.Lines.{lines_of_event, up_to_last_line}
 use Rattle.giop_stream.specs.OpenSlots.{Slot, slots_of}
 use Rattle.giop_stream.specs.Effects.{Tracked, Effect, Part, part_of, tracked_at, lines_of, octets_then, one_effect, IsNotOpen, lines_for}
-use Rattle.giop_stream.specs.SlotsRepresent.{RepresentsMessage, IsSlot, AreSlots, SlotsRepresent, event, effect_to}
-use Rattle.giop_stream.specs.DoesEffect.{DoesEffect, DoesPart, WritesLines, one_if}
+use Rattle.giop_stream.specs.SlotsRepresent.{RepresentsMessage, IsSlot, AreSlots, PayloadBelongs, SlotsRepresent, index_of, current_of, event, effect_to}
+use Rattle.giop_stream.specs.DoesEffect.{DoesEffect, DoesPart, WritesLines}
 use Rattle.giop_stream.proofs.Lists.{each_weaker, each_filter, filter_keeps}
-use Rattle.giop_stream.proofs.SlotSteps.Performing.{performs_on, does_nothing}
+use Rattle.giop_stream.proofs.SlotSteps.Performing.{performs_on}
+use Rattle.giop_stream.proofs.SlotSteps.ReadingEffects.{over_lines}
 use Rattle.giop_stream.proofs.SlotSteps.OneSlotChanges.{at_index, own_then, others_then, slot_at, no_slot, slot_gone, slot_comes}
 use Rattle.giop_stream.proofs.SlotSteps.SlotLists.{slots_get, get_last, slots_many, slot_of, entry_there, revalued_set, set_slot, no_more_slots, are_as_many, push_slot, remove_slot}
+
+-- the key of no message
+pub no_key : MessageKey
+no_key = record { number = 0; header = [] }
 
 -- ---- An event that opens and closes nothing.
 
@@ -40,11 +46,14 @@ unfolding changed
 still_faulted fault still_open subject = refl
 
 -- the message w is open, at index k of the slots
-record Place (s : Slots) (c : Tracked) (w : MessageKey) (k : ℕ) : Type 0 where
-  own : s.own ≡ None
+record Place (c : Tracked) (w : MessageKey) (k : ℕ) : Type 0 where
   slot : Open
   here : slice_get c.still_open k ≡ Some slot
   is : slot.opener ≡ w
+
+-- The owner isn't an open message, and this is kept of it.
+abbrev pub IsItself : PayloadOwner → Option Message → Type 0
+IsItself of message = (index_of of ≡ None) × (current_of of ≡ message)
 
 -- The effect changes one message, as this part says, and no other.
 pub record Alters (c : Tracked) (w : MessageKey) (effect : Effect) (part : Part) : Type 0 where
@@ -84,25 +93,37 @@ module _ (C : Table) (l : Answers) where
       record { lines = refl; still_open = still c.still_open w; own = own_then R c e; others = λ i h. others_then R c e i h }
 
   -- the current message isn't open, and this is kept of it
-  own_parts : (s : Slots) (c : Tracked) (w : MessageKey) → s.payload ≡ payload.Own → SlotsRepresent C l s c (Some w)
-      → IsNotOpen w.number c.still_open × RepresentsMessage C l s.own w (c.known w.number)
-  own_parts s c w e k = rw e at k.payload
+  own_parts : (s : Slots) (c : Tracked) (w : MessageKey) (message : Option Message) → IsItself s.owner message → SlotsRepresent C l s c (Some w)
+      → IsNotOpen w.number c.still_open × RepresentsMessage C l message w (c.known w.number)
+  own_parts s c w message e h = rw (e.0, e.1) at h.owner
 
-  own_now : (s : Slots) (own' : Option Message) (c : Tracked) (w : MessageKey) (effect : Effect) (part : Part) → Alters c w effect part
+  -- a message that isn't open is no open one
+  no_index : (Q : Option ℕ → Type 0) (i : Option ℕ) (message : Option Message) (c : Tracked) (w : MessageKey) → IsNotOpen w.number c.still_open
+      → PayloadBelongs C l i message c (Some w) → (RepresentsMessage C l message w (c.known w.number) → Q None) → Q i
+  no_index Q None message c w apart h f = f h.1
+  no_index Q (Some k) message c w apart h f =
+      absurd (at_index (λ o. o.opener.number ≡ w.number → ⊥) c.still_open k h.0 h.1 apart (ap (λ (t : MessageKey). t.number) h.2))
+
+  pub current_kept : (s : Slots) (c : Tracked) (w : MessageKey) → IsNotOpen w.number c.still_open → SlotsRepresent C l s c (Some w)
+      → RepresentsMessage C l (current_of s.owner) w (c.known w.number)
+  current_kept s c w apart h =
+      no_index (λ i. RepresentsMessage C l (current_of s.owner) w (c.known w.number)) (index_of s.owner) (current_of s.owner) c w apart h.owner (λ k. k)
+
+  own_now : (s : Slots) (of : PayloadOwner) (own' : Option Message) (c : Tracked) (w : MessageKey) (effect : Effect) (part : Part) → IsItself of own' → Alters c w effect part
       → AreSlots C l s.slots.entries (slots_of c.known c.still_open) → IsNotOpen w.number c.still_open
-      → RepresentsMessage C l own' w part.octets → SlotsRepresent C l (record { slots = s.slots; own = own'; payload = payload.Own }) effect.tracked (Some w)
-  own_now s own' c w effect part alters slots apart kept = record {
+      → RepresentsMessage C l own' w part.octets → SlotsRepresent C l (record { slots = s.slots; owner = of }) effect.tracked (Some w)
+  own_now s of own' c w effect part is alters slots apart kept = record {
     slots = rw (alters.still_open, no_slot effect.tracked.known c.known c.still_open w.number apart alters.others) slots;
-    payload = (rw alters.still_open apart, rw alters.own kept);
+    owner = rw (is.0, is.1) (rw alters.still_open apart, rw alters.own kept);
   }
 
-  place_of : (s : Slots) (c : Tracked) (w : MessageKey) (k : ℕ) → s.payload ≡ payload.Open k → SlotsRepresent C l s c (Some w) → Place s c w k
-  place_of s c w k e h = let p = parts in record { own = p.0; slot = p.1.0; here = p.1.1; is = p.1.2 }
+  place_of : (s : Slots) (c : Tracked) (w : MessageKey) (k : ℕ) → index_of s.owner ≡ Some k → SlotsRepresent C l s c (Some w) → Place c w k
+  place_of s c w k e h = let p = parts in record { slot = p.0; here = p.1; is = p.2 }
     where
-      parts : (s.own ≡ None) × ((o : Open) × (slice_get c.still_open k ≡ Some o) × (o.opener ≡ w))
-      parts = rw e at h.payload
+      parts : (o : Open) × (slice_get c.still_open k ≡ Some o) × (o.opener ≡ w)
+      parts = rw e at h.owner
 
-  slot_here : (s : Slots) (c : Tracked) (w : MessageKey) (k : ℕ) (x : OpenEntry) → SlotsRepresent C l s c (Some w) → (p : Place s c w k)
+  slot_here : (s : Slots) (c : Tracked) (w : MessageKey) (k : ℕ) (x : OpenEntry) → SlotsRepresent C l s c (Some w) → (p : Place c w k)
       → slice_get s.slots.entries k ≡ Some x → IsSlot C l x (record { open_as = p.slot; octets = c.known w.number })
   slot_here s c w k x h p e =
       let number : p.slot.opener.number ≡ w.number = ap (λ (t : MessageKey). t.number) p.is in
@@ -111,15 +132,14 @@ module _ (C : Table) (l : Answers) where
       (record { open_as = p.slot; octets = c.known p.slot.opener.number }) h.slots e (slots_get c k p.slot p.here) in
       subst (λ (n : ℕ). IsSlot C l x (record { open_as = p.slot; octets = c.known n })) number one
 
-  slot_now : (s : Slots) (x : OpenEntry) (message : Option Message) (c : Tracked) (w : MessageKey) (effect : Effect) (part : Part)
-      (k : ℕ) → Alters c w effect part → Rising c.still_open → SlotsRepresent C l s c (Some w)
-      → s.payload ≡ payload.Open k → slice_get s.slots.entries k ≡ Some x → RepresentsMessage C l message w part.octets
+  slot_now : (s : Slots) (of : PayloadOwner) (x : OpenEntry) (message : Option Message) (c : Tracked) (w : MessageKey) (effect : Effect) (part : Part)
+      (k : ℕ) → index_of of ≡ Some k → Alters c w effect part → Rising c.still_open → SlotsRepresent C l s c (Some w)
+      → index_of s.owner ≡ Some k → slice_get s.slots.entries k ≡ Some x → RepresentsMessage C l message w part.octets
       → SlotsRepresent C l (record {
         slots = record { most = s.slots.most; entries = slice_set s.slots.entries k (with_message x message) };
-        own = s.own;
-        payload = payload.Open k;
+        owner = of;
       }) effect.tracked (Some w)
-  slot_now s x message c w effect part k alters rising h e get kept =
+  slot_now s of x message c w effect part k is alters rising h e get kept =
       let p = place_of s c w k e h in
       let number : p.slot.opener.number ≡ w.number = ap (λ (t : MessageKey). t.number) p.is in
       let was = slot_here s c w k x h p get in
@@ -129,29 +149,25 @@ module _ (C : Table) (l : Answers) where
       let later : effect.tracked.known p.slot.opener.number ≡ part.octets = ap effect.tracked.known number ∙ alters.own in
       record {
         slots = rw (alters.still_open, slots', later) (set_slot C l s.slots.entries (slots_of c.known c.still_open) k (with_message x message) slot h.slots new);
-        payload = (p.own, (p.slot, rw alters.still_open p.here, p.is));
+        owner = rw is (p.slot, rw alters.still_open p.here, p.is);
       }
 
   -- ---- A call that does a part of an effect, on the owner of the octets.
 
-  -- the owner is the current message
-  pub own_has : (Q : Option MessageKey → Type 0) (s : Slots) (c : Tracked) (owner_of_next : Option MessageKey) → s.payload ≡ payload.Own
-      → SlotsRepresent C l s c owner_of_next → ((w : MessageKey) → SlotsRepresent C l s c (Some w) → Q (Some w)) → Q owner_of_next
-  own_has Q s c None e h f = absurd (rw e at h.payload)
-  own_has Q s c (Some w) e h f = f w h
+  -- the owner is the current message, or there is none
+  pub own_has : (Q : Option MessageKey → Type 0) (s : Slots) (c : Tracked) (owner_of_next : Option MessageKey) (message : Option Message)
+      → IsItself s.owner message → SlotsRepresent C l s c owner_of_next → (message ≡ None → Q None)
+      → ((w : MessageKey) → SlotsRepresent C l s c (Some w) → Q (Some w)) → Q owner_of_next
+  own_has Q s c None message e h none f = none (rw (e.0, e.1) at h.owner)
+  own_has Q s c (Some w) message e h none f = f w h
 
   pub slot_has : (Q : Option MessageKey → Type 0) (s : Slots) (c : Tracked) (owner_of_next : Option MessageKey) (k : ℕ)
-      → s.payload ≡ payload.Open k → SlotsRepresent C l s c owner_of_next → ((w : MessageKey) → SlotsRepresent C l s c (Some w) → Q (Some w)) → Q owner_of_next
-  slot_has Q s c None k e h f = absurd (rw e at h.payload)
+      → index_of s.owner ≡ Some k → SlotsRepresent C l s c owner_of_next → ((w : MessageKey) → SlotsRepresent C l s c (Some w) → Q (Some w)) → Q owner_of_next
+  slot_has Q s c None k e h f = absurd (rw e at h.owner)
   slot_has Q s c (Some w) k e h f = f w h
 
-  pub nobody_has : (Q : Option MessageKey → Type 0) (s : Slots) (c : Tracked) (owner_of_next : Option MessageKey) → s.payload ≡ payload.Nobody
-      → SlotsRepresent C l s c owner_of_next → (SlotsRepresent C l s c None → Q None) → Q owner_of_next
-  nobody_has Q s c None e h f = f h
-  nobody_has Q s c (Some w) e h f = absurd (rw e at h.payload)
-
   -- the owner is the open message of this slot
-  in_slot : (s : Slots) (x : OpenEntry) (c : Tracked) (w : MessageKey) (k : ℕ) → s.payload ≡ payload.Open k
+  in_slot : (s : Slots) (x : OpenEntry) (c : Tracked) (w : MessageKey) (k : ℕ) → index_of s.owner ≡ Some k
       → slice_get s.slots.entries k ≡ Some x → SlotsRepresent C l s c (Some w)
       → (w.number ≡ x.value.number) × RepresentsMessage C l x.value.message w (c.known w.number)
   in_slot s x c w k e get h =
@@ -161,39 +177,39 @@ module _ (C : Table) (l : Answers) where
       (sym number ∙ sym was.number, rw p.is at was.message)
 
   module _ {A E : Type 0} {n : A → ℕ} (r : Result A E) (a b : OutLog) where
-    pub own_effects : (s : Slots) (own' : Option Message) (c : Tracked) (w : MessageKey) (effect : Effect) (part : Part)
-        → s.payload ≡ payload.Own → SlotsRepresent C l s c (Some w) → Alters c w effect part
-        → (RepresentsMessage C l s.own w (c.known w.number) → DoesPart C l n r a b own' w part)
-        → DoesEffect C l n r a b (record { slots = s.slots; own = own'; payload = s.payload }) effect (Some w)
-    own_effects s own' c w effect part e h alters f =
-        let now = own_parts s c w e h in
-        performs_on r a b alters.lines (λ k. rw e (own_now s own' c w effect part alters h.slots now.0 k)) (f now.1)
+    pub own_effects : (s : Slots) (of : PayloadOwner) (message own' : Option Message) (c : Tracked) (w : MessageKey) (effect : Effect) (part : Part)
+        → IsItself of own'
+        → IsItself s.owner message → SlotsRepresent C l s c (Some w) → Alters c w effect part
+        → (RepresentsMessage C l message w (c.known w.number) → DoesPart C l n r a b own' w part)
+        → DoesEffect C l n r a b (record { slots = s.slots; owner = of }) effect (Some w)
+    own_effects s of message own' c w effect part is e h alters f =
+        let now = own_parts s c w message e h in
+        performs_on r a b alters.lines (λ k. own_now s of own' c w effect part is alters h.slots now.0 k) (f now.1)
 
     -- the owner is an open message
-    pub slot_effects : (s : Slots) (v : Contents) (message : Option Message) (c : Tracked) (w : MessageKey) (effect : Effect)
-        (part : Part) (k : ℕ) → s.payload ≡ payload.Open k → option_map (λ e. e.value) (slice_get s.slots.entries k) ≡ Some v
+    pub slot_effects : (s : Slots) (of : PayloadOwner) (v : Contents) (message : Option Message) (c : Tracked) (w : MessageKey) (effect : Effect)
+        (part : Part) (k : ℕ) → index_of of ≡ Some k → index_of s.owner ≡ Some k → option_map (λ e. e.value) (slice_get s.slots.entries k) ≡ Some v
         → Rising c.still_open → SlotsRepresent C l s c (Some w) → Alters c w effect part
         → (w.number ≡ v.number → RepresentsMessage C l v.message w (c.known w.number) → DoesPart C l n r a b message w part)
         → DoesEffect C l n r a b (record {
           slots = with_value s.slots k (record v { message = message });
-          own = s.own;
-          payload = s.payload;
+          owner = of;
         }) effect (Some w)
-    slot_effects s v message c w effect part k e get rising h alters f =
+    slot_effects s of v message c w effect part k is e get rising h alters f =
         let there = entry_there s.slots.entries k v get in
         let x = there.0 in
         let was = in_slot s x c w k e there.1 h in
         performs_on r a b alters.lines
-        (λ kept. rw (e, ← there.2, revalued_set s.slots.entries k x message there.1)
-        (slot_now s x message c w effect part k alters rising h e there.1 kept))
+        (λ kept. rw (← there.2, revalued_set s.slots.entries k x message there.1)
+        (slot_now s of x message c w effect part k is alters rising h e there.1 kept))
         (f (rw there.2 at was.0) (rw there.2 at was.1))
 
   -- the message that represents the owner of the octets
-  pub own_kept : (s : Slots) (c : Tracked) (w : MessageKey) → s.payload ≡ payload.Own → SlotsRepresent C l s c (Some w)
-      → RepresentsMessage C l s.own w (c.known w.number)
-  own_kept s c w e h = (own_parts s c w e h).1
+  pub own_kept : (s : Slots) (c : Tracked) (w : MessageKey) (message : Option Message) → IsItself s.owner message → SlotsRepresent C l s c (Some w)
+      → RepresentsMessage C l message w (c.known w.number)
+  own_kept s c w message e h = (own_parts s c w message e h).1
 
-  pub slot_kept : (s : Slots) (v : Contents) (c : Tracked) (w : MessageKey) (k : ℕ) → s.payload ≡ payload.Open k
+  pub slot_kept : (s : Slots) (v : Contents) (c : Tracked) (w : MessageKey) (k : ℕ) → index_of s.owner ≡ Some k
       → option_map (λ e. e.value) (slice_get s.slots.entries k) ≡ Some v → SlotsRepresent C l s c (Some w)
       → RepresentsMessage C l v.message w (c.known w.number)
   slot_kept s v c w k e get h =
@@ -202,9 +218,9 @@ module _ (C : Table) (l : Answers) where
       rw there.2 at was.1
 
   -- an open owner has a slot
-  pub no_slot_says : {A : Type 0} (s : Slots) (c : Tracked) (owner_of_next : Option MessageKey) (k : ℕ) → s.payload ≡ payload.Open k
+  pub no_slot_says : {A : Type 0} (s : Slots) (c : Tracked) (owner_of_next : Option MessageKey) (k : ℕ) → index_of s.owner ≡ Some k
       → (k < length s.slots.entries → ⊥) → SlotsRepresent C l s c owner_of_next → A
-  no_slot_says s c None k e n h = absurd (rw e at h.payload)
+  no_slot_says s c None k e n h = absurd (rw e at h.owner)
   no_slot_says s c (Some w) k e n h =
       let p = place_of s c w k e h in
       absurd (n (no_more_slots C l s.slots.entries (slots_of c.known c.still_open) k
@@ -213,8 +229,8 @@ module _ (C : Table) (l : Answers) where
   pub begin_keeps : (s : Slots) (m : Message) (c : Tracked) (owner_of_next : Option MessageKey) (w : MessageKey) (number : ℕ) (header : List ℕ)
       → SlotsRepresent C l s c owner_of_next → Follows C l number header m [] → w.number ≡ number → w.header ≡ header
       → c.known w.number ≡ Some [] → Each (λ o. o.opener.number ≡ w.number → ⊥) c.still_open
-      → SlotsRepresent C l (record { slots = s.slots; own = Some m; payload = payload.Own }) c (Some w)
-  begin_keeps s m c owner_of_next w number header h e n f known apart = record { slots = h.slots; payload = (apart, rw known kept) }
+      → SlotsRepresent C l (record { slots = s.slots; owner = owners.Current (Some m) }) c (Some w)
+  begin_keeps s m c owner_of_next w number header h e n f known apart = record { slots = h.slots; owner = (apart, rw known kept) }
     where
       kept : RepresentsMessage C l (Some m) w (Some [])
       kept = rw (n, f) e
@@ -230,19 +246,12 @@ module _ (C : Table) (l : Answers) where
   unfolding tracked_at changed
   opened_still_open at c w i = refl
 
-  open_keeps : (s : Slots) (c : Tracked) (w : MessageKey) (at number : ℕ) (header : List ℕ) (i : ℕ) → s.payload ≡ payload.Own
-      → SlotsRepresent C l s c (Some w) → w.number ≡ number → w.header ≡ header
-      → SlotsRepresent C l (record {
-        slots = record {
-          most = s.slots.most;
-          entries = s.slots.entries ++ open_entry i number header s.own ∷ [];
-        };
-        own = None;
-        payload = payload.Open (length s.slots.entries);
-      })
-      (tracked_at (message_reader C l) c (event at w (Opens i))) (Some w)
-  open_keeps s c w at number header i e h n f =
-      let own = own_parts s c w e h in
+  -- a message becomes open, as the code does it
+  pub open_keeps : (s : Slots) (slots' : Entries Contents) (c : Tracked) (w : MessageKey) (at number : ℕ) (header : List ℕ) (i : ℕ) (message : Option Message) (k : ℕ)
+      → slots'.entries ≡ s.slots.entries ++ open_entry i number header message ∷ [] → message ≡ current_of s.owner → k ≡ length s.slots.entries
+      → SlotsRepresent C l s c (Some w) → IsNotOpen w.number c.still_open → w.number ≡ number → w.header ≡ header
+      → SlotsRepresent C l (record { slots = slots'; owner = owners.Open (Some k) }) (tracked_at (message_reader C l) c (event at w (Opens i))) (Some w)
+  open_keeps s slots' c w at number header i message k items is long h apart n f =
       let ev = event at w (Opens i) in
       let o : Open = record { id = i; opener = w } in
       let known : (tracked_at (message_reader C l) c ev).known w.number ≡ c.known w.number =
@@ -250,15 +259,15 @@ module _ (C : Table) (l : Answers) where
       let same : Each (λ a. (tracked_at (message_reader C l) c ev).known a.opener.number ≡ c.known a.opener.number) c.still_open =
       each_weaker (λ a. a.opener.number ≡ w.number → ⊥)
       (λ a. (tracked_at (message_reader C l) c ev).known a.opener.number ≡ c.known a.opener.number)
-      (λ a j. others_then (message_reader C l) c ev a.opener.number j) c.still_open own.0 in
+      (λ a j. others_then (message_reader C l) c ev a.opener.number j) c.still_open apart in
       let many : length s.slots.entries ≡ length c.still_open = are_as_many C l s.slots.entries (slots_of c.known c.still_open) h.slots ∙ slots_many c.known c.still_open in
       record {
-        slots = rw (opened_still_open at c w i, slot_comes (tracked_at (message_reader C l) c ev).known c.known c.still_open o same, known)
+        slots = rw (items, opened_still_open at c w i, slot_comes (tracked_at (message_reader C l) c ev).known c.known c.still_open o same, known)
             (push_slot C l s.slots.entries (slots_of c.known c.still_open)
-            (open_entry i number header s.own)
+            (open_entry i number header message)
             (record { open_as = o; octets = c.known w.number }) h.slots
-            (record { number = sym n; header = sym f; id = refl; message = own.1 }));
-        payload = (refl, (o, rw (opened_still_open at c w i, many) (get_last c.still_open o), refl));
+            (record { number = sym n; header = sym f; id = refl; message = rw is (current_kept s c w apart h) }));
+        owner = (o, rw (opened_still_open at c w i, long, many) (get_last c.still_open o), refl);
       }
 
   gone_still_open : (at : ℕ) (c : Tracked) (w : MessageKey) (what : EventKind) → IsGone what
@@ -296,44 +305,31 @@ module _ (C : Table) (l : Answers) where
 
   -- a call that closes a message
   module _ {A E : Type 0} {n : A → ℕ} (r : Result A E) (a b : OutLog) (at : ℕ) where
-    pub own_closes : (s : Slots) (own' : Option Message) (c : Tracked) (owner_of_next : Option MessageKey) → s.payload ≡ payload.Own → own' ≡ None → SlotsRepresent C l s c owner_of_next
-        → ((w : MessageKey) → RepresentsMessage C l s.own w (c.known w.number) → WritesLines n r a b (lines_of (message_reader C l) (event at w Closes) (c.known w.number)))
-        → DoesEffect C l n r a b (record { slots = s.slots; own = own'; payload = payload.Nobody }) (effect_to C l at c owner_of_next Closes) None
-    own_closes s own' c None e none h f = absurd (rw e at h.payload)
-    own_closes s own' c (Some w) e none h f =
-        let now = own_parts s c w e h in
-        performs_on r a b refl (λ k. record { slots = own_gone c w at Closes s.slots.entries gone_closes now.0 h.slots; payload = none }) (f w now.1)
+    pub own_closes : (s : Slots) (of : PayloadOwner) (message : Option Message) (c : Tracked) (owner_of_next : Option MessageKey) → IsItself of None
+        → IsItself s.owner message → SlotsRepresent C l s c owner_of_next
+        → ((w : MessageKey) (o : Option (List ℕ)) → RepresentsMessage C l message w o → WritesLines n r a b (lines_of (message_reader C l) (event at w Closes) o))
+        → DoesEffect C l n r a b (record { slots = s.slots; owner = of }) (effect_to C l at c owner_of_next Closes) None
+    own_closes s of message c None is e h f =
+        performs_on r a b (sym (over_lines (message_reader C l) (event at no_key Closes))) (λ k. record { slots = h.slots; owner = rw (is.0, is.1) refl })
+        (f no_key None (rw (rw (e.0, e.1) at h.owner) tt))
+    own_closes s of message c (Some w) is e h f =
+        let now = own_parts s c w message e h in
+        performs_on r a b refl (λ k. record { slots = own_gone c w at Closes s.slots.entries gone_closes now.0 h.slots; owner = rw (is.0, is.1) refl }) (f w (c.known w.number) now.1)
 
-    pub slot_closes : (s : Slots) (x : OpenEntry) (slots' : Entries Contents) (c : Tracked) (owner_of_next : Option MessageKey) (k : ℕ)
-        → s.payload ≡ payload.Open k → slice_get s.slots.entries k ≡ Some x → slots'.entries ≡ remove s.slots.entries k
+    pub slot_closes : (s : Slots) (of : PayloadOwner) (x : OpenEntry) (slots' : Entries Contents) (c : Tracked) (owner_of_next : Option MessageKey) (k : ℕ)
+        → IsItself of None → index_of s.owner ≡ Some k → slice_get s.slots.entries k ≡ Some x → slots'.entries ≡ remove s.slots.entries k
         → Rising c.still_open → SlotsRepresent C l s c owner_of_next
         → ((w : MessageKey) → RepresentsMessage C l x.value.message w (c.known w.number) → WritesLines n r a b (lines_of (message_reader C l) (event at w Closes) (c.known w.number)))
-        → DoesEffect C l n r a b (record { slots = slots'; own = s.own; payload = payload.Nobody }) (effect_to C l at c owner_of_next Closes) None
-    slot_closes s x slots' c None k e get items rising h f = absurd (rw e at h.payload)
-    slot_closes s x slots' c (Some w) k e get items rising h f =
+        → DoesEffect C l n r a b (record { slots = slots'; owner = of }) (effect_to C l at c owner_of_next Closes) None
+    slot_closes s of x slots' c None k is e get items rising h f = absurd (rw e at h.owner)
+    slot_closes s of x slots' c (Some w) k is e get items rising h f =
         let p = place_of s c w k e h in
         performs_on r a b refl (λ j. record {
           slots = rw (items, ← p.is)
               (slot_goes c k p.slot at Closes s.slots.entries gone_closes rising p.here h.slots);
-          payload = p.own;
+          owner = rw (is.0, is.1) refl;
         })
         (f w (in_slot s x c w k e get h).1)
-
-  pub nobody_closes : {E : Type 0} (log : OutLog) (at : ℕ) (s : Slots) (c : Tracked) (owner_of_next : Option MessageKey) → s.payload ≡ payload.Nobody → SlotsRepresent C l s c owner_of_next
-      → DoesEffect {E = E} C l one_if (Ok false) log log (record { slots = s.slots; own = s.own; payload = payload.Nobody }) (effect_to C l at c owner_of_next Closes) None
-  nobody_closes log at s c None e h = does_nothing false log refl (record { slots = h.slots; payload = rw e at h.payload })
-  nobody_closes log at s c (Some w) e h = absurd (rw e at h.payload)
-
-  -- a message becomes open, as the code does it
-  pub open_with : (s : Slots) (slots' : Entries Contents) (c : Tracked) (w : MessageKey) (at number : ℕ) (header : List ℕ)
-      (i : ℕ) (message own' : Option Message) (k : ℕ)
-      → slots'.entries ≡ s.slots.entries ++ open_entry i number header message ∷ []
-      → message ≡ s.own → own' ≡ None → k ≡ length s.slots.entries
-      → s.payload ≡ payload.Own → SlotsRepresent C l s c (Some w) → w.number ≡ number → w.header ≡ header
-      → SlotsRepresent C l (record { slots = slots'; own = own'; payload = payload.Open k }) (tracked_at (message_reader C l) c (event at w (Opens i))) (Some w)
-  open_with s slots' c w at number header i message own' k items m o l e h n f =
-      let all = open_keeps s c w at number header i e h n f in
-      record { slots = rw (items, m) all.slots; payload = rw (o, l) all.payload }
 
   pub open_slot : (s : Slots) (x : OpenEntry) (c : Tracked) (owner_of_next : Option MessageKey) (k : ℕ) (o : Open) → SlotsRepresent C l s c owner_of_next
       → slice_get c.still_open k ≡ Some o → slice_get s.slots.entries k ≡ Some x
@@ -348,19 +344,18 @@ module _ (C : Table) (l : Answers) where
       (record { open_as = o; octets = c.known o.opener.number }) h.slots (slots_get c k o here)))
 
   pub cancel_keeps : (s : Slots) (slots' : Entries Contents) (c : Tracked) (w : MessageKey) (k : ℕ) (o : Open) (at j : ℕ)
-      → SlotsRepresent C l s c (Some w) → s.payload ≡ payload.Own → slice_get c.still_open k ≡ Some o → Rising c.still_open
+      → SlotsRepresent C l s c (Some w) → IsNotOpen w.number c.still_open → slice_get c.still_open k ≡ Some o → Rising c.still_open
       → slots'.entries ≡ remove s.slots.entries k
-      → SlotsRepresent C l (record { slots = slots'; own = s.own; payload = s.payload }) (tracked_at (message_reader C l) c (event at o.opener (Cancelled j))) (Some w)
-  cancel_keeps s slots' c w k o at j h e here rising items =
-      let p = own_parts s c w e h in
+      → SlotsRepresent C l (record { slots = slots'; owner = s.owner }) (tracked_at (message_reader C l) c (event at o.opener (Cancelled j))) (Some w)
+  cancel_keeps s slots' c w k o at j h free here rising items =
       let ev = event at o.opener (Cancelled j) in
-      let apart : o.opener.number ≡ w.number → ⊥ = at_index (λ a. a.opener.number ≡ w.number → ⊥) c.still_open k o here p.0 in
-      rw e (record {
+      let after = tracked_at (message_reader C l) c ev in
+      let apart : o.opener.number ≡ w.number → ⊥ = at_index (λ a. a.opener.number ≡ w.number → ⊥) c.still_open k o here free in
+      let others : IsNotOpen w.number after.still_open =
+      rw (gone_still_open at c o.opener (Cancelled j) (gone_cancelled j))
+      (each_filter (λ a. a.opener.number ≡ w.number → ⊥) (λ a. not (a.opener.number == o.opener.number)) c.still_open free) in
+      record {
         slots = rw items (slot_goes c k o at (Cancelled j) s.slots.entries (gone_cancelled j) rising here h.slots);
-        payload = (
-          rw (gone_still_open at c o.opener (Cancelled j) (gone_cancelled j))
-              (each_filter (λ a. a.opener.number ≡ w.number → ⊥) (λ a. not (a.opener.number == o.opener.number)) c.still_open p.0),
-          rw
-              (others_then (message_reader C l) c ev w.number (λ same. apart (sym same))) p.1,
-        );
-      })
+        owner = no_index (λ i. PayloadBelongs C l i (current_of s.owner) after (Some w)) (index_of s.owner) (current_of s.owner) c w free h.owner
+            (λ k. (others, rw (others_then (message_reader C l) c ev w.number (λ same. apart (sym same))) k));
+      }

@@ -1,18 +1,18 @@
 -- From what the slots represent to the state: what is kept of the current message, and the number of the next octets' owner.
 use Rattle.std.proofs.Common.{◌≡◌, ℕ, zero, suc, Bool, true, false, List, [], ◌∷◌, refl, sym, ap, ◌∙◌, Option, Some, None}
 use Rattle.std.specs.Prelude.{◌==◌, ◌||◌, slice_get, is_some, option_map, if◌then◌else◌}
-use Rattle.std.specs.List.{find, AllByRecursion as Each}
+use Rattle.std.specs.List.{AllByRecursion as Each}
 use Rattle.std.proofs.lemmas.Bool.{eq-eqb, ne_eqb, or_right}
 use Rattle.giop_sig.specs.Table.{Table}
 use Rattle.giop_message.specs.declared.message.Message.{Message as CodeMessage}
 use Rattle.giop_message.specs.Signatures.{Answers}
-use Rattle.giop_stream.specs.declared.slots.Payload.{Payload}
-use Rattle.giop_stream.specs.declared.slots.Payload.TheVariants as payload
+use Rattle.giop_stream.specs.declared.slots.PayloadOwner.{PayloadOwner}
+use Rattle.giop_stream.specs.declared.slots.PayloadOwner.TheVariants as owners
 use Rattle.giop_stream.specs.Framing.{Message}
 use Rattle.giop_stream.specs.Events.{MessageKey, Open, message_key, id, opener_of, has_named, Now, now_of}
 use Rattle.giop_stream.specs.OpenSlots.{OctetsByNumber, is_open, slots_of}
 use Rattle.giop_stream.specs.Effects.{Tracked}
-use Rattle.giop_stream.specs.SlotsRepresent.{RepresentsMessage, PayloadBelongs}
+use Rattle.giop_stream.specs.SlotsRepresent.{RepresentsMessage, PayloadBelongs, index_of, current_of}
 use Rattle.giop_stream.specs.PayloadOwner.{opener_key, owner_of_next, owner_of_next_in}
 use Rattle.giop_stream.specs.EngineState.{State, Own, is_named, own_for, owner_for, own_in, owner_in}
 use Rattle.giop_stream.specs.ViewOfState.{IsOwn, IsOwner}
@@ -62,42 +62,6 @@ module _ (C : Table) (l : Answers) where
   own_by (Some m) w None k = absurd k
   own_by (Some m) w (Some xs) k = k
 
-  module _ (c : Tracked) (own : Option CodeMessage) where
-    -- nothing is kept of a Fragment whose octets belong to another message
-    of_other : (of : Payload) (test : Open → Bool) (o : Option Open) → find test c.still_open ≡ o → PayloadBelongs C l of own c (opener_key o) → own ≡ None
-    of_other payload.Own test None e h = absurd h
-    of_other (payload.Open k) test None e h = absurd h
-    of_other payload.Nobody test None e h = h
-    of_other payload.Own test (Some o) e h = absurd (found_in (λ a. a.opener.number ≡ o.opener.number → ⊥) test c.still_open o h.0 e refl)
-    of_other (payload.Open k) test (Some o) e h = h.0
-    of_other payload.Nobody test (Some o) e h = absurd h
-
-    of_itself : (of : Payload) (m : Message) → has_named m ≡ false → PayloadBelongs C l of own c (Some (message_key m)) → IsOwn C l own (own_for c.known c.still_open (now_of m))
-    unfolding has_named
-    of_itself payload.Own m f h = rw (own_else c.known c.still_open (now_of m) (not_open c.still_open m.number h.0) f) (own_by own (message_key m) (c.known m.number) h.1)
-    of_itself (payload.Open k) m f h =
-        let number : h.1.0.opener.number ≡ m.number = ap (λ (t : MessageKey). t.number) h.1.2 in
-        let there : is_open c.still_open m.number ≡ true = rw number at (open_at c.still_open k h.1.0 h.1.1) in
-        rw (own_open c.known c.still_open (now_of m) there, h.0) tt
-    of_itself payload.Nobody m f h = absurd h
-
-    by_name : (of : Payload) (m : Message) (named : Bool) → has_named m ≡ named → PayloadBelongs C l of own c (owner_of_next c.still_open m)
-        → IsOwn C l own (own_for c.known c.still_open (now_of m))
-    unfolding owner_of_next opener_of
-    by_name of m true e h =
-        let none : own ≡ None = of_other of (λ o. o.id == id m) (find (λ o. o.id == id m) c.still_open) refl (rw e at h) in
-        rw (own_named c.known c.still_open (now_of m) (unfold has_named in e), none) tt
-    by_name of m false e h = of_itself of m e (rw e at h)
-
-    -- nor where the octets belong to no message
-    of_none : (of : Payload) → PayloadBelongs C l of own c None → own ≡ None
-    of_none payload.Nobody h = h
-    of_none _ h = absurd h
-
-    pub own_known : (of : Payload) (current : Option Message) → PayloadBelongs C l of own c (owner_of_next_in c.still_open current) → IsOwn C l own (own_in c.known c.still_open current)
-    own_known of None h = rw (of_none of h) tt
-    own_known of (Some m) h = by_name of m (has_named m) refl h
-
 -- ---- The owner of the next octets, by number.
 
 pub owner_named : (K : OctetsByNumber) (still_open : List Open) (now : Now) (other : Option Open) → is_named now ≡ true
@@ -128,57 +92,65 @@ pub record Tells (s : State) (c : Tracked) (current : Option Message) : Type 0 w
   pub own : s.own ≡ own_in c.known c.still_open current
   pub owner : s.owner ≡ owner_in c.known c.still_open current
 
-module _ (C : Table) (l : Answers) (s : State) (c : Tracked) (own : Option CodeMessage) where
+module _ (C : Table) (l : Answers) (s : State) (c : Tracked) where
   slot_is : (current : Option Message) → Tells s c current → (k : ℕ) (o : Open) → slice_get c.still_open k ≡ Some o
       → slice_get s.slots k ≡ Some (record { open_as = o; octets = c.known o.opener.number })
   slot_is current e k o here = rw e.slots (slots_get c k o here)
 
-  owns_none : (of : Payload) → Tells s c None → PayloadBelongs C l of own c None → IsOwner of s
-  owns_none payload.Nobody e h = e.owner
-  owns_none _ e h = absurd h
+  owns_none : (i : Option ℕ) (message : Option CodeMessage) → Tells s c None → PayloadBelongs C l i message c None → IsOwner C l i message s
+  owns_none None message e h = rw (h, e.own, e.owner) (tt, refl)
+  owns_none (Some k) message e h = absurd h
 
-  owns_other : (m : Message) → Tells s c (Some m) → has_named m ≡ true → (of : Payload) (r : Option Open)
-      → opener_of c.still_open m ≡ r → PayloadBelongs C l of own c (opener_key r) → IsOwner of s
+  -- a Fragment whose request id is complete
+  owns_other : (m : Message) → Tells s c (Some m) → has_named m ≡ true → (i : Option ℕ) (message : Option CodeMessage) (r : Option Open)
+      → opener_of c.still_open m ≡ r → PayloadBelongs C l i message c (opener_key r) → IsOwner C l i message s
   unfolding opener_of has_named
-  owns_other m e named payload.Own None f h = absurd h
-  owns_other m e named (payload.Open k) None f h = absurd h
-  owns_other m e named payload.Nobody r f h =
-      e.owner ∙ (owner_named c.known c.still_open (now_of m) (opener_of c.still_open m) named ∙ ap (option_map (λ (o : Open). o.opener.number)) (f ∙ nobody r h))
+  owns_other m e named i message r f h = go i r f h
     where
-      nobody : (r : Option Open) → PayloadBelongs C l payload.Nobody own c (opener_key r) → r ≡ None
-      nobody None h = refl
-      nobody (Some o) h = absurd h
-  owns_other m e named payload.Own (Some o) f h = absurd (found_in (λ a. a.opener.number ≡ o.opener.number → ⊥) (λ a. a.id == id m) c.still_open o h.0 f refl)
-  owns_other m e named (payload.Open k) (Some o) f h =
-      let number : o.opener.number ≡ h.1.0.opener.number = sym (ap (λ (w : MessageKey). w.number) h.1.2) in
-      let owner =
-      e.owner ∙ (owner_named c.known c.still_open (now_of m) (opener_of c.still_open m) named
-      ∙ (ap (option_map (λ (o : Open). o.opener.number)) f ∙ ap (λ (n : ℕ). Some n) number)) in
-      (e.own ∙ own_named c.known c.still_open (now_of m) named, (_, slot_is (Some m) e k h.1.0 h.1.1, owner))
+      none : s.own ≡ None
+      none = e.own ∙ own_named c.known c.still_open (now_of m) named
 
-  owns_itself : (m : Message) → Tells s c (Some m) → has_named m ≡ false → (of : Payload) → PayloadBelongs C l of own c (Some (message_key m)) → IsOwner of s
+      number : (r : Option Open) → opener_of c.still_open m ≡ r → s.owner ≡ option_map (λ o. o.opener.number) r
+      number r f = e.owner ∙ owner_named c.known c.still_open (now_of m) (opener_of c.still_open m) named ∙ ap (option_map (λ (o : Open). o.opener.number)) f
+
+      go : (i : Option ℕ) (r : Option Open) → opener_of c.still_open m ≡ r → PayloadBelongs C l i message c (opener_key r) → IsOwner C l i message s
+      go None None f h = rw (h, none, number None f) (tt, refl)
+      go None (Some o) f h = absurd (found_in (λ a. a.opener.number ≡ o.opener.number → ⊥) (λ a. a.id == id m) c.still_open o h.0 f refl)
+      go (Some k) None f h = absurd h
+      go (Some k) (Some o) f h =
+          (none, (_, slot_is (Some m) e k h.0 h.1, number (Some o) f ∙ ap (λ (w : MessageKey). Some w.number) (sym h.2)))
+
+  owns_itself : (m : Message) → Tells s c (Some m) → has_named m ≡ false → (i : Option ℕ) (message : Option CodeMessage) → PayloadBelongs C l i message c (Some (message_key m)) → IsOwner C l i message s
   unfolding has_named
-  owns_itself m e unnamed payload.Own h =
-      e.owner ∙ (owner_kept c.known c.still_open (now_of m) (opener_of c.still_open m) unnamed (not_open c.still_open m.number h.0)
-      ∙ ap (option_map (λ (o : Own). o.message_key.number)) (sym e.own))
-  owns_itself m e unnamed (payload.Open k) h =
-      let number : h.1.0.opener.number ≡ m.number = ap (λ (w : MessageKey). w.number) h.1.2 in
-      let there : is_open c.still_open m.number ≡ true = rw number at (open_at c.still_open k h.1.0 h.1.1) in
+  owns_itself m e unnamed None message h =
+      let own = e.own ∙ own_else c.known c.still_open (now_of m) (not_open c.still_open m.number h.0) unnamed in (
+        rw own (own_by C l message (message_key m) (c.known m.number) h.1),
+        e.owner ∙ (owner_kept c.known c.still_open (now_of m) (opener_of c.still_open m) unnamed (not_open c.still_open m.number h.0)
+            ∙ ap (option_map (λ (o : Own). o.message_key.number)) (sym e.own)),
+      )
+  owns_itself m e unnamed (Some k) message h =
+      let number : h.0.opener.number ≡ m.number = ap (λ (w : MessageKey). w.number) h.2 in
+      let there : is_open c.still_open m.number ≡ true = rw number at (open_at c.still_open k h.0 h.1) in
       let owner = e.owner ∙ (owner_open c.known c.still_open (now_of m) (opener_of c.still_open m) unnamed there ∙ ap (λ (n : ℕ). Some n) (sym number)) in
-      (e.own ∙ own_open c.known c.still_open (now_of m) there, (_, slot_is (Some m) e k h.1.0 h.1.1, owner))
-  owns_itself m e unnamed payload.Nobody h = absurd h
+      (e.own ∙ own_open c.known c.still_open (now_of m) there, (_, slot_is (Some m) e k h.0 h.1, owner))
 
-  pub owner_known : (of : Payload) (current : Option Message) → Tells s c current → PayloadBelongs C l of own c (owner_of_next_in c.still_open current) → IsOwner of s
+  pub owner_known : (i : Option ℕ) (message : Option CodeMessage) (current : Option Message) → Tells s c current → PayloadBelongs C l i message c (owner_of_next_in c.still_open current) → IsOwner C l i message s
   unfolding owner_of_next
-  owner_known of None e h = owns_none of e h
-  owner_known of (Some m) e h = go (has_named m) refl
+  owner_known i message None e h = owns_none i message e h
+  owner_known i message (Some m) e h = go (has_named m) refl
     where
-      go : (b : Bool) → has_named m ≡ b → IsOwner of s
-      go true f = owns_other m e f of (opener_of c.still_open m) refl (rw f at h)
-      go false f = owns_itself m e f of (rw f at h)
+      go : (b : Bool) → has_named m ≡ b → IsOwner C l i message s
+      go true f = owns_other m e f i message (opener_of c.still_open m) refl (rw f at h)
+      go false f = owns_itself m e f i message (rw f at h)
 
 -- the owner stays the same where the slots, the own message and its number do
-pub owner_stays : (of : Payload) (s t : State) → t.slots ≡ s.slots → t.own ≡ s.own → t.owner ≡ s.owner → IsOwner of s → IsOwner of t
-owner_stays payload.Own s t e f g h = rw (f, g) h
-owner_stays (payload.Open k) s t e f g h = rw (e, f, g) h
-owner_stays payload.Nobody s t e f g h = rw g h
+pub owner_stays : (C : Table) (l : Answers) (i : Option ℕ) (message : Option CodeMessage) (s t : State) → t.slots ≡ s.slots → t.own ≡ s.own → t.owner ≡ s.owner
+    → IsOwner C l i message s → IsOwner C l i message t
+owner_stays C l None message s t e f g h = rw (f, g) h
+owner_stays C l (Some k) message s t e f g h = rw (e, f, g) h
+
+-- what is kept of the current message
+pub own_shown : (C : Table) (l : Answers) (of : PayloadOwner) (s : State) → IsOwner C l (index_of of) (current_of of) s → IsOwn C l (current_of of) s.own
+own_shown C l (owners.Current message) s h = h.0
+own_shown C l (owners.Open None) s h = h.0
+own_shown C l (owners.Open (Some k)) s h = rw h.0 tt

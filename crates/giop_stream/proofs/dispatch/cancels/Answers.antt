@@ -17,7 +17,7 @@ returns-then-may_be_cancelled-clause-does g c =
     header_may C l c.args.slots.now c' m c.args.now c.args.id h found.o _ c.in-Some.k _ found.here c.at.ensures
     (sym c.if-may_be_cancelled.ensures) in
     rw (cancels_one C l c.args.slots.now c' m c.args.now c.args.id h found.o f o b found.is may)
-    (c.cancel.ensures.does C l c' _ found.o h.keeps (h.own_comes (cancel_named m.header b)) found.here h.rising)
+    (c.cancel.ensures.does C l c' _ found.o h.keeps (h.not_open (cancel_named m.header b)) found.here h.rising)
 
 pub returns-clause-does : goal.returns-clause-does
 returns-clause-does g c =

@@ -21,6 +21,6 @@ pub returns-clause-does : goal.returns-clause-does
 returns-clause-does g c =
     λ C l c' m h f o.
     let room = leb-false c.args.slots.now.slots.most _ (sym c.if-is_full.ensures) in
-    let keeps = c.open.ensures.kept C l c' _ c.args.now.place h.keeps (h.own_comes (opener_named m.header o)) h.current.number h.current.header in
+    let keeps = c.open.ensures.kept C l c' _ c.args.now.place h.keeps (h.not_open (opener_named m.header o)) h.current.number h.current.header in
     rw (opens_one C l c.args.slots.now c' m c.args.now c.args.id h c.find.result c.find.ensures.value (sym c.if-is_some.ensures) room f o)
     (performs_on _ _ _ (opens_lines C l c' m c.args.now.place c.args.id) (λ k. k) (does_nothing _ _ refl keeps))

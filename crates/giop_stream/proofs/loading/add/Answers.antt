@@ -14,7 +14,7 @@ returns-in-Current-clause-one_current c l own is =
 pub returns-in-Open-clause-one_open : goal.returns-in-Open-clause-one_open
 returns-in-Open-clause-one_open c l held is room =
     let made = c.add_open.ensures.again l held is c.in-Open.is room in
-    (made.0, made.1, c.add_open.ensures.own)
+    (made.0, made.1, c.add_open.ensures.owner)
 
 pub returns-in-Open-clause-one_current : goal.returns-in-Open-clause-one_current
 returns-in-Open-clause-one_current c l own is =
@@ -26,7 +26,7 @@ returns-in-Over-clause-ready c e = c.add_over.ensures.ready c.args.catalogue.now
 pub returns-in-Over-clause-one_open : goal.returns-in-Over-clause-one_open
 returns-in-Over-clause-one_open c l held is room =
     let made = c.add_over.ensures.again c.args.catalogue.now l (c.args.octets + 1) held is c.in-Over.is room in
-    (made.0, made.1, c.add_over.ensures.own)
+    (made.0, made.1, c.add_over.ensures.owner)
 
 pub returns-in-Over-clause-one_current : goal.returns-in-Over-clause-one_current
 returns-in-Over-clause-one_current c l own is =

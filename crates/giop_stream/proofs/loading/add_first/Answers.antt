@@ -1,5 +1,6 @@
 use Rattle.std.proofs.Common.{◌+◌, is_some, sym, ap, ◌∙◌}
 use Rattle.std.proofs.lemmas.Bool.{false≢true}
+use Rattle.giop_stream.specs.SlotsRepresent.{current_of}
 use Rattle.giop_stream.proofs.Restored.Loaded.{front_is, front_found, first_added}
 use Rattle.giop_stream.proofs.loading.add_first.Goals as goal
 
@@ -27,4 +28,4 @@ returns-clause-again c l count held own some left room bare =
 
 pub returns-then-is_some-clause-again : goal.returns-then-is_some-clause-again
 returns-then-is_some-clause-again c l count held own some left room bare =
-    absurd (false≢true (sym (ap is_some bare) ∙ sym c.is_some.ensures ∙ c.if-is_some.true))
+    absurd (false≢true (sym (ap (λ of. is_some (current_of of)) bare) ∙ sym c.current.ensures.variant ∙ sym c.is_some.ensures ∙ c.if-is_some.true))

@@ -12,7 +12,7 @@ returns-then-not-add_all-clause-again c l n octets p s fixed_is records_are =
     let limit = c.requires.most ∙ limit_is octets p c.args.catalogue.now l n s c.args.fixed fixed_is in
     let left = spells_left octets p c.args.catalogue.now l n s c.args.fixed c.args.records.now fixed_is records_are in
     let room = room_for R p c.args.slots bare.no_slots in
-    let made = c.add_all.ensures.again (by_list l) (state_of R p).slots (state_of R p).own left (omega (arith, room, limit)) bare.no_own in
+    let made = c.add_all.ensures.again (by_list l) (state_of R p).slots (state_of R p).own left (omega (arith, room, limit)) bare.no_owner in
     cc (made.0, c.if-not-add_all.true)
 
 pub returns-then-not-may_be-clause-again : goal.returns-then-not-may_be-clause-again
@@ -29,15 +29,14 @@ returns-clause-again c l n octets p s fixed_is records_are =
     let limit = c.requires.most ∙ limit_is octets p c.args.catalogue.now l n s c.args.fixed fixed_is in
     let left = spells_left octets p c.args.catalogue.now l n s c.args.fixed c.args.records.now fixed_is records_are in
     let room = room_for R p c.args.slots bare.no_slots in
-    let made = c.add_all.ensures.again (by_list l) (state_of R p).slots (state_of R p).own left (omega (arith, room, limit)) bare.no_own in
+    let made = c.add_all.ensures.again (by_list l) (state_of R p).slots (state_of R p).own left (omega (arith, room, limit)) bare.no_owner in
     shows_again octets p c.args.catalogue.now l n s _ c.args.slots c.add_all.new.slots bare.no_slots c.args.fixed fixed_is
     (record {
       totals = refl;
       stopped = c.stop_of-stopped.ensures;
       header = c.header_of-header.ensures.header;
       payload_count = c.header_of-header.ensures.payload_count;
-      payload = c.payload_of-slots.ensures;
-      slots = refl;
-      own = refl;
+      owner = c.set_owner.ensures.owner;
+      slots = c.set_owner.ensures.same;
     })
     made.1 made.2

@@ -1,6 +1,7 @@
-use Rattle.std.proofs.Common.{ℕ, List, [], ◌+◌, ◌++◌, ap, ◌∙◌}
+use Rattle.std.proofs.Common.{ℕ, List, [], ◌+◌, ◌++◌, sym, ap, ◌∙◌}
 use Rattle.giop_checkpoint.specs.declared.layout.Layout.TheVariants.{Third}
 use Rattle.giop_checkpoint.specs.Fixed.{fixed_octets}
+use Rattle.giop_stream.specs.SlotsRepresent.{current_of}
 use Rattle.giop_stream.proofs.Restored.Saved.{put_behind, put_none_yet, whole_is, whole_own, current_is, ready_fits}
 use Rattle.giop_stream.proofs.saving.write.Goals as goal
 
@@ -13,7 +14,7 @@ returns-in_default-clause-whole g c =
     let begun = c.put_next-begun.ensures.put before [] (put_none_yet before) in
     let at = c.args.framing.now.totals.octets + 1 in
     let so_far = c.write_open-written.ensures.put C at before _ c.requires.ready.each_ready begun in
-    record { octets = so_far.octets; is = whole_is C c.args.requests.now _ _ _ c.in_default.is fixed so_far.is; puts = so_far.puts }
+    record { octets = so_far.octets; is = whole_is C c.args.requests.now _ _ _ (sym c.in_default.ensures.value) fixed so_far.is; puts = so_far.puts }
 
 pub returns-clause-whole : goal.returns-clause-whole
 returns-clause-whole g c =
@@ -24,11 +25,11 @@ returns-clause-whole g c =
     let begun = c.put_next-begun.ensures.put before [] (put_none_yet before) in
     let at = c.args.framing.now.totals.octets + 1 in
     let so_far = c.write_open-written.ensures.put C at before _ c.requires.ready.each_ready begun in
-    let m = c.in-Some.message in
-    let one = c.write_message.ensures.put C (ready_fits C at c.args.framing.now.slots.own m c.in-Some.is c.requires.ready.own_ready) in
+    let m = c.in-Some.message.now in
+    let one = c.write_message.ensures.put C (ready_fits C at (current_of c.args.framing.now.slots.owner) m (sym c.in-Some.ensures.value) c.requires.ready.current_ready) in
     let last = current_is m _ _ _ _ c.number-number.ensures c.header-header.ensures (put_behind _ _ _ _ _ c.new-record.ensures c.as_slice-2.ensures.value one) in
     record {
       octets = so_far.octets ++ c.as_slice-2.result.now;
-      is = whole_own C c.args.requests.now _ m _ _ _ c.in-Some.is fixed so_far.is last;
+      is = whole_own C c.args.requests.now _ m _ _ _ (sym c.in-Some.ensures.value) fixed so_far.is last;
       puts = c.put_next.ensures.put before so_far.octets so_far.puts;
     }
