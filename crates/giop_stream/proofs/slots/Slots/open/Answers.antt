@@ -6,7 +6,7 @@ pub returns : goal.returns
 returns c = record {
   kept = λ C l c' w place h apart n f.
       open_keeps C l c.args.self.now c.add.new.self c' w place c.args.number c.args.header c.args.id c.take_current-message.result c.len.result
-          c.add.ensures.entries c.take_current-message.ensures c.len.ensures.value h apart n f;
+      c.add.ensures.entries c.take_current-message.ensures c.len.ensures.value h apart n f;
   most = c.add.ensures.most;
   ready = λ C n h. record {
     current_ready = tt;
