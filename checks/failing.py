@@ -118,15 +118,19 @@ def run_in(folder: str, library: str, case: Case, call: str, settings: Dict[str,
     named = {f"FAILING_{name.upper()}": str(value) for name, value in settings.items()}
     environment = {"LD_PRELOAD": library, "FAILING_CALL": call, "FAILING_REPORT": str(writing), **named}
     try:
-        process = subprocess.run(
-            [str(case.program), *case.words],
-            input=case.stream,
-            capture_output=True,
-            env=environment,
-            cwd=folder,
-            pass_fds=[writing],
-            timeout=SECONDS,
-        )
+        # A file, and no pipe, so that the reads of one run are those of another, however busy the machine is.
+        with tempfile.TemporaryFile() as stream:
+            stream.write(case.stream)
+            stream.seek(0)
+            process = subprocess.run(
+                [str(case.program), *case.words],
+                stdin=stream,
+                capture_output=True,
+                env=environment,
+                cwd=folder,
+                pass_fds=[writing],
+                timeout=SECONDS,
+            )
         os.close(writing)
         report = os.read(reading, 4096).split()
     except subprocess.TimeoutExpired:
