@@ -1,6 +1,7 @@
 mod Going
 mod Causal
 mod Named
+mod RequestIdLine
 mod Faults
 mod AtOctet
 mod Spelling

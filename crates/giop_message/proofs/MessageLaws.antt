@@ -17,6 +17,8 @@ pub use Rattle.giop_message.proofs.Named.{is_ending}
 -- the header of a message that the stream finds by its request id begins with it, which is the number of the first four
 -- octets
 pub use Rattle.giop_message.proofs.Named.{begins_with_id, id_is_said}
+-- and which is all that is said of them
+pub use Rattle.giop_message.proofs.RequestIdLine.{few_said, four_said}
 -- the lines of more octets, and where a message is over
 pub use Rattle.giop_message.proofs.Followings.{told_more}
 pub use Rattle.giop_message.proofs.Faults.{over_where_faulted}

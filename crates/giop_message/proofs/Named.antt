@@ -127,17 +127,17 @@ module _ (o : Order) (n : ℕ) (of : ℕ → List ℕ) (parts : ℕ → Ty)
 
 -- of a header that begins with its request id
 module _ (S : Signatures) (header : List ℕ) where
-  id_told : List ℕ → List LineAt
+  unfoldable pub id_told : List ℕ → List LineAt
   id_told xs = line_at 16 (ValueLine roots.Header (Name (codes "request_id") ∷ []) (Number (Plain prims.ULong) (num (order header) xs))) ∷ []
 
-  few_by : (T : Ty) → BeginsWithId T → (xs : List ℕ) → length xs < 4 →
+  pub few_by : (T : Ty) → BeginsWithId T → (xs : List ℕ) → length xs < 4 →
       message_lines (of_header S header (Some T) 12 xs) ≡ []
   unfolding of_header
   few_by T (n, of, parts, is, name_is, long) xs h =
       ap (λ U. message_lines (of_header S header (Some U) 12 xs)) is
       ∙ told_few (order header) n of parts long (is_request header) (after_header S header) (λ h. after_silent S header sections.Header h 16) xs h
 
-  four_by : (T : Ty) → BeginsWithId T → (a b c d : ℕ) →
+  pub four_by : (T : Ty) → BeginsWithId T → (a b c d : ℕ) →
       message_lines (of_header S header (Some T) 12 (a ∷ b ∷ c ∷ d ∷ [])) ≡ id_told (a ∷ b ∷ c ∷ d ∷ [])
   unfolding of_header id_told
   four_by T (n, of, parts, is, name_is, long) a b c d =

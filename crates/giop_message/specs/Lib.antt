@@ -7,6 +7,7 @@ pub mod Messages
 pub mod HeaderEnds
 pub mod StageSteps
 pub mod ReaderOfTable
+pub mod RequestId
 pub mod MessageState
 pub mod MessageSteps
 pub mod Stored

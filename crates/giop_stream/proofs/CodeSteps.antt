@@ -12,6 +12,7 @@ pub mod Runs
 pub mod OutsideMessages
 pub mod HeaderRuns
 pub mod HeaderEndSteps
+pub mod FragmentSteps
 pub mod QuietOctets
 pub mod StreamAgreement
 pub mod AnswersGoOn

@@ -14,4 +14,5 @@ pub mod StateToSlots
 pub mod RequestIds
 pub mod Cases
 pub mod ReadingEffects
+pub mod Continuing
 pub mod Adding

@@ -13,6 +13,7 @@ pub mod SlotsRepresent
 pub mod DoesEffect
 pub mod PayloadRuns
 pub mod PayloadOwner
+pub mod Continuation
 pub mod HeaderEndsOfStream
 pub mod AnswersAgree
 pub mod EngineView

@@ -15,6 +15,7 @@ ghost use Rattle.giop_stream.specs.DoesEffect.{DoesEffect, one_if, never, all};
 ghost use Rattle.giop_stream.specs.HeaderEndsOfStream.{owner_header_ends};
 ghost use Rattle.giop_message.specs.HeaderEnds.{AgreesAtEnds, after_ends};
 ghost use Rattle.giop_stream.specs.PayloadOwner.{IsAtRequestId, IsBeforeMessage, IsBeforeOctets, IsAfterTake, IsAtOctet, opener_key, owner_after_id, owner_of_next, owner_after, id_events, end_events, octets_effect};
+ghost use Rattle.giop_stream.specs.Continuation.{IsContinuing};
 
 use crate::current::Current;
 use crate::fault::FramingFault;
@@ -84,10 +85,15 @@ fn fault_unopened<O: Out>(slots: &mut Slots, now: Current, out: &mut O) -> Resul
 
 /// A Fragment continues the open message at this index.
 #[tactic(auto, using(giop_print::proofs::Writing::writes_then, giop_print::proofs::Writing::writes_err))]
-fn passes<O: Out>(slots: &mut Slots, k: usize, now: Current, out: &mut O) -> Result<bool, OutFault>
+pub fn passes<O: Out>(
+    slots: &mut Slots,
+    k: usize,
+    now: Current,
+    out: &mut O,
+) -> Result<bool, OutFault>
     requires { k < length slots.old.slots.entries }
-    ensures does { (C : Table) (l : Answers) (c : Tracked) (m : Message) (id : ℕ) (o : Open) →
-        IsAtRequestId C l slots.old c m now id →
+    ensures does { (C : Table) (l : Answers) (c : Tracked) (owner : Option MessageKey) (m : Message) (o : Open) →
+        IsContinuing C l slots.old c owner m now →
         is_fragment m.header ≡ true → opener_of c.still_open m ≡ Some o → slice_get c.still_open k ≡ Some o →
         DoesEffect C l one_if result (O.log out.old) (O.log out.new) slots.new
         (effects (message_reader C l) c (events_at_request_id slots.old.slots.most c.still_open m)) (Some o.opener) }
@@ -199,7 +205,7 @@ fn at_fourth_octet<O: Out>(slots: &mut Slots, now: Current, out: &mut O) -> Resu
 
 /// What an octet does where it is the message's last.
 #[inline(always)]
-fn at_last_octet<O: Out>(
+pub fn at_last_octet<O: Out>(
     slots: &mut Slots,
     catalogue: &Catalogue,
     now: Current,
@@ -220,7 +226,7 @@ fn at_last_octet<O: Out>(
 }
 
 /// How many messages an octet faults, in its three parts.
-fn count(a: bool, b: bool, c: bool) -> u8
+pub fn count(a: bool, b: bool, c: bool) -> u8
     ensures value { result ≡ (if a then 1 else 0) + ((if b then 1 else 0) + (if c then 1 else 0)) }
     ensures few { result ≤ 3 }
 {

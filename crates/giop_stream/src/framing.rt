@@ -135,7 +135,7 @@ impl Framing {
 
     /// After a message's last octet: the next octet is the first of a header.
     #[tactic(auto, unfolding(crate::specs::FramingSteps::end_message))]
-    fn end_message(&mut self, size: u32)
+    pub fn end_message(&mut self, size: u32)
         ensures state { framing_view self.new ≡ end_message (framing_view self.old) size }
         ensures most { self.new.slots.slots.most ≡ self.old.slots.slots.most }
     {
@@ -146,7 +146,7 @@ impl Framing {
     }
 
     /// The current message, at the octet that was read last.
-    fn current(&self) -> Current
+    pub fn current(&self) -> Current
         requires { length self.now.header.items ≡ 12 }
         ensures number { result.number ≡ self.now.totals.messages }
         ensures header { result.header ≡ self.now.header.items }

@@ -1,7 +1,7 @@
 //! The fields of a message header, and the octets that it may have (GIOP Message Formats, GIOP Message Header).
 
 ghost use Rattle.std.specs.Prelude.{◌≡◌, ◌≤◌, ◌<◌, ◌+◌, ℕ, List, [], ◌∷◌, length, take, None, IsTrue};
-ghost use Rattle.giop_cdr.specs.Numbers.{little};
+ghost use Rattle.giop_cdr.specs.Numbers.{little, num};
 ghost use Rattle.giop_message.specs.Headers.{has_more, size};
 ghost use Rattle.giop_stream.specs.HeaderOctets.{wrong};
 
@@ -16,6 +16,17 @@ fn lightest_first(a: u8, b: u8, c: u8, d: u8) -> u32
     u32::from(a) + 256 * (u32::from(b) + 256 * (u32::from(c) + 256 * u32::from(d)))
 }
 
+/// The number that four octets spell in a byte order.
+#[tactic(auto, unfolding(giop_cdr::specs::Numbers::num))]
+pub fn number_of(order: Order, a: u8, b: u8, c: u8, d: u8) -> u32
+    ensures { result ≡ num order (a ∷ b ∷ c ∷ d ∷ []) }
+{
+    match order {
+        Order::Big => lightest_first(d, c, b, a),
+        Order::Little => lightest_first(a, b, c, d),
+    }
+}
+
 /// Whether more fragments follow.
 #[tactic(auto, unfolding(giop_message::specs::Headers::has_more, giop_message::specs::Headers::minor))]
 pub fn more_of(header: &[u8]) -> bool
@@ -26,15 +37,17 @@ pub fn more_of(header: &[u8]) -> bool
 }
 
 /// How many octets follow the header.
-#[tactic(auto, unfolding(giop_message::specs::Headers::size))]
 pub fn size_of(header: &[u8]) -> u32
     requires { length header.now ≡ 12 }
     ensures { result ≡ size header.now }
 {
-    match order_of(header) {
-        Order::Big => lightest_first(header[11], header[10], header[9], header[8]),
-        Order::Little => lightest_first(header[8], header[9], header[10], header[11]),
-    }
+    number_of(
+        order_of(header),
+        header[8],
+        header[9],
+        header[10],
+        header[11],
+    )
 }
 
 /// What is wrong with the last octet of a header's front.

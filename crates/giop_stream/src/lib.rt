@@ -6,6 +6,7 @@ mod dispatch;
 mod engine;
 mod fault;
 mod finish;
+mod fragment;
 mod framing;
 mod going_on;
 mod header;

@@ -137,8 +137,13 @@ impl Framing {
                 self.take_header_octets(&rest[..header_run]);
                 rest = &rest[header_run..];
             } else if payload_run == 0 {
-                self.step(catalogue, correspondent, *octet, out)?;
-                rest = &rest[1..];
+                if let Some(found) = self.continuation(rest) {
+                    self.take_continuation(catalogue, found, &rest[..5], out)?;
+                    rest = &rest[5..];
+                } else {
+                    self.step(catalogue, correspondent, *octet, out)?;
+                    rest = &rest[1..];
+                }
             } else {
                 self.payload_octets(catalogue, correspondent, &rest[..payload_run], out)?;
                 rest = &rest[payload_run..];

@@ -11,7 +11,7 @@ use Rattle.giop_stream.specs.declared.slots.Slots.{Slots}
 use Rattle.giop_stream.specs.declared.current.Current.{Current}
 use Rattle.giop_stream.specs.Rules.{rules_by}
 use Rattle.giop_stream.specs.Framing.{Message}
-use Rattle.giop_stream.specs.Events.{Open, Opens, Faults, Cancelled, message_key, opener_of, events_at_request_id, same_order}
+use Rattle.giop_stream.specs.Events.{MessageKey, Open, Opens, Faults, Cancelled, message_key, opener_of, events_at_request_id, same_order}
 use Rattle.giop_stream.specs.OpenSlots.{slots_of}
 use Rattle.giop_stream.specs.Effects.{Tracked, Effect, effects, one_effect, no_effect, line_effect, lines_of, goes_on, lines_for}
 use Rattle.giop_stream.specs.Lines.{Line, lines_of_event, up_to_last_line}
@@ -21,9 +21,8 @@ use Rattle.giop_cdr.specs.declared.order.Order.{Order}
 use Rattle.giop_stream.specs.Kinds.{may_be_cancelled}
 use Rattle.giop_stream.specs.declared.slots.Slot.{Slot as Contents}
 use Rattle.giop_print.specs.Lines.{continues_line}
-use Rattle.giop_stream.specs.SlotsRepresent.{event}
+use Rattle.giop_stream.specs.SlotsRepresent.{SlotsRepresent, event}
 use Rattle.giop_stream.specs.PayloadOwner.{IsAtRequestId, opener_key, owner_after_id}
-use Rattle.giop_stream.proofs.SlotSteps.Performing.{BeginsSo}
 use Rattle.giop_stream.proofs.SlotSteps.EventsOnSlots.{open_slot}
 use Rattle.giop_stream.proofs.SlotSteps.SlotLists.{are_as_many, entry_there, slots_many}
 use Rattle.giop_stream.proofs.SlotSteps.FindingOpen.{none_open, one_open}
@@ -66,10 +65,6 @@ module _ (C : Table) (l : Answers) where
       go None = refl
       go (Some xs) = refl
 
-pub goes_faults : (m : Message) (o : Open) (ls : List Line) → fault_count (goes_on m o ∷ ls) ≡ fault_count ls
-unfolding fault_count
-goes_faults m o ls = refl
-
 -- ---- The owner of the octets after the request id.
 
 pub owner_fragment : (still_open : List Open) (m : Message) → is_fragment m.header ≡ true → owner_after_id still_open m ≡ opener_key (opener_of still_open m)
@@ -79,6 +74,17 @@ owner_fragment still_open m f = rw f refl
 pub owner_other : (still_open : List Open) (m : Message) → is_fragment m.header ≡ false → owner_after_id still_open m ≡ Some (message_key m)
 unfolding owner_after_id
 owner_other still_open m f = rw f refl
+
+-- ---- The slot of an open message.
+
+pub opener_slot : (C : Table) (l : Answers) (s : Slots) (c : Tracked) (owner : Option MessageKey) → SlotsRepresent C l s c owner
+    → (k : ℕ) (o : Open) (v : Contents) → slice_get c.still_open k ≡ Some o
+    → option_map (λ e. e.value) (slice_get s.slots.entries k) ≡ Some v
+    → (v.number ≡ o.opener.number) × (v.header ≡ o.opener.header)
+opener_slot C l s c owner keeps k o v here e =
+    let there = entry_there s.slots.entries k v e in
+    let is = open_slot C l s there.0 c owner k o keeps here there.1 in
+    (rw there.2 at is.number, rw there.2 at is.header)
 
 module _ (C : Table) (l : Answers) (s : Slots) (c : Tracked) (m : Message) (now : Current) (i : ℕ) (h : IsAtRequestId C l s c m now i) where
   -- ---- The search.
@@ -135,42 +141,6 @@ module _ (C : Table) (l : Answers) (s : Slots) (c : Tracked) (m : Message) (now 
       → effects (message_reader C l) c (events_at_request_id s.slots.most c.still_open m) ≡ one_effect (message_reader C l) c now.place (message_key m) (Faults NoOpen)
   unknown f e = fragment_unknown (rules_by C l s.slots.most) c c.still_open m f e ∙ rw h.current.place refl
 
-  pub in_order : (o : Open) → is_fragment m.header ≡ true → opener_of c.still_open m ≡ Some o → same_order (order m.header) (order o.opener.header) ≡ true
-      → effects (message_reader C l) c (events_at_request_id s.slots.most c.still_open m) ≡ line_effect (goes_on m o) (no_effect c)
-  in_order o f e same = let xs = h.alive (fragment_named m.header f) in fragment_in_order (rules_by C l s.slots.most) c c.still_open m o xs.0 f e xs.1 same
-
-  pub out_of_order : (o : Open) → is_fragment m.header ≡ true → opener_of c.still_open m ≡ Some o → same_order (order m.header) (order o.opener.header) ≡ false
-      → effects (message_reader C l) c (events_at_request_id s.slots.most c.still_open m) ≡ line_effect (goes_on m o) (one_effect (message_reader C l) c now.place o.opener (Faults FragmentOrder))
-  out_of_order o f e other =
-      let xs = h.alive (fragment_named m.header f) in
-      fragment_out_of_order (rules_by C l s.slots.most) c c.still_open m o xs.0 f e xs.1 other ∙ rw h.current.place refl
-
-  -- the line of a Fragment, as the code writes it
-  pub goes_text : (o : Open) (number : ℕ) → o.opener.number ≡ number → line_text (goes_on m o) ≡ continues_line now.number number
-  goes_text o number e = rw (h.current.number, e) refl
-
-  -- which is the first of its lines
-  pub goes_first : (o : Open) → is_fragment m.header ≡ true → opener_of c.still_open m ≡ Some o
-      → BeginsSo (goes_on m o) (effects (message_reader C l) c (events_at_request_id s.slots.most c.still_open m)).lines
-  goes_first o f e = go (same_order (order m.header) (order o.opener.header)) refl
-    where
-      go : (b : Bool) → same_order (order m.header) (order o.opener.header) ≡ b → BeginsSo (goes_on m o) (effects (message_reader C l) c (events_at_request_id s.slots.most c.still_open m)).lines
-      go true same = record { more = _; is = ap (λ (p : Effect). p.lines) (in_order o f e same) }
-      go false other = record { more = _; is = ap (λ (p : Effect). p.lines) (out_of_order o f e other) }
-
-  -- the slot of its opener
-  pub opener_slot : (k : ℕ) (o : Open) (v : Contents) → slice_get c.still_open k ≡ Some o
-      → option_map (λ e. e.value) (slice_get s.slots.entries k) ≡ Some v
-      → (v.number ≡ o.opener.number) × (v.header ≡ o.opener.header)
-  opener_slot k o v here e =
-      let there = entry_there s.slots.entries k v e in
-      let is = open_slot C l s there.0 c (Some (message_key m)) k o h.keeps here there.1 in
-      (rw there.2 at is.number, rw there.2 at is.header)
-
-  pub orders : (o : Open) (a b : Order) (header : List ℕ) (r : Bool) → a ≡ order now.header → b ≡ order header
-      → header ≡ o.opener.header → same_order a b ≡ r → same_order (order m.header) (order o.opener.header) ≡ r
-  orders o a b header r e f g same = rw (h.current.header, ← g, ← e, ← f) same
-
   -- ---- A CancelRequest.
 
   pub misses_all : (r : Option ℕ) → r ≡ position_from (λ slot. slot.key == i) 0 s.slots.entries → is_some r ≡ false
@@ -182,7 +152,7 @@ module _ (C : Table) (l : Answers) (s : Slots) (c : Tracked) (m : Message) (now 
   pub header_may : (o : Open) (v : Contents) (k : ℕ) (r : Bool) → slice_get c.still_open k ≡ Some o
       → option_map (λ e. e.value) (slice_get s.slots.entries k) ≡ Some v → may_be_cancelled v.header ≡ r
       → may_be_cancelled o.opener.header ≡ r
-  header_may o v k r here e may = let kept = opener_slot k o v here e in rw (← kept.1) may
+  header_may o v k r here e may = let kept = opener_slot C l s c (Some (message_key m)) h.keeps k o v here e in rw (← kept.1) may
 
   pub spares : (o : Open) → is_fragment m.header ≡ false → is_opener m.header ≡ false → is_cancel m.header ≡ true
       → opener_of c.still_open m ≡ Some o → may_be_cancelled o.opener.header ≡ false

@@ -168,7 +168,7 @@ module _ (C : Table) (l : Answers) (most : ℕ) (c : Tracked) (m : Message) (now
   unfolding place
   some_place = omega (arith, h.current.place)
 
-  takes_at : first (rules_by C l most) c (with_octet m x) ≡ effect_to C l now.place c (owner_of_next c.still_open m) (Takes x)
+  pub takes_at : first (rules_by C l most) c (with_octet m x) ≡ effect_to C l now.place c (owner_of_next c.still_open m) (Takes x)
   takes_at = rw (← owner_next c.still_open m x) (octet_does C l c (with_octet m x) x now.place last_is h.current.place)
 
   -- which is a run of one octet
@@ -178,7 +178,7 @@ module _ (C : Table) (l : Answers) (most : ℕ) (c : Tracked) (m : Message) (now
       let effect = effect_to C l now.place c (owner_of_next c.still_open m) (Takes x) in
       takes_at ∙ rw some_place (λ j. record { tracked = effect.tracked; lines = sym (append-nil effect.lines) j })
 
-  known_is : length m.payload < 4 → has_name m.header ≡ true
+  pub known_is : length m.payload < 4 → has_name m.header ≡ true
       → (first (rules_by C l most) c (with_octet m x)).tracked.known m.number ≡ Some (m.payload ++ x ∷ [])
   known_is few name =
       let w : owner_of_octet c.still_open (with_octet m x) ≡ Some (message_key m) = owner_own c.still_open (with_octet m x) (omega (arith, length_push m.payload x)) in

@@ -25,7 +25,7 @@ use Rattle.giop_stream.specs.DoesEffect.{WritesLines, one_if}
 
 -- ---- Lines that a reader gives.
 
-abbrev reader_lines : ℕ → ℕ → List TimedLine → List Line
+abbrev pub reader_lines : ℕ → ℕ → List TimedLine → List Line
 reader_lines at number rs = map (λ r. record { place = at; number = number; content = Said r.line_class r.text }) rs
 
 abbrev close_lines : ℕ → ℕ → List (LineClass × List ℕ) → List Line
@@ -169,7 +169,7 @@ module _ (C : Table) (l : Answers) where
   at_close : (number : ℕ) (header xs : List ℕ) → AtClose (map (λ c. c.0) (R_of.closes number header xs))
   at_close number header xs = (is_closing (λ number. signatures_of C (l number))).closed number header xs
 
-  take_lines : (at : ℕ) (w : MessageKey) (xs : List ℕ) (x : ℕ) → lines_of R_of (event at w (Takes x)) (Some xs) ≡ reader_lines at w.number (due R_of w.number w.header xs x)
+  pub take_lines : (at : ℕ) (w : MessageKey) (xs : List ℕ) (x : ℕ) → lines_of R_of (event at w (Takes x)) (Some xs) ≡ reader_lines at w.number (due R_of w.number w.header xs x)
   unfolding lines_of lines_for lines_of_event line
   take_lines at w xs x = rw (one_octet at w x) (turn_stands at w.number (due R_of w.number w.header xs x) (in_turn w.number w.header xs x))
 

@@ -124,6 +124,24 @@ says_id header twelve right name =
     let type = has_type header (minor_few header twelve right) name in
     (type.0, type.1, id_first (header_type (minor header) (kind header)) type.0 type.1 (begins_with_id header name))
 
+-- so has a Fragment's, whatever else is in it
+pub fragment_says : (header : List ℕ) → is_fragment header ≡ true → SaysId header
+unfolding is_fragment
+fragment_says header f =
+    let both = and_parts (minor header == 2) (kind header == 7) f in
+    let two = eqb-true (minor header) 2 both.0 in
+    let few : minor header < 3 = omega (arith, two) in
+    let name : has_name header ≡ true = fragment_named header f in
+    let type = fragment_type header few f in
+    (type.0, type.1, id_first (header_type (minor header) (kind header)) type.0 type.1 (begins_with_id header name))
+  where
+    fragment_named : (header : List ℕ) → is_fragment header ≡ true → has_name header ≡ true
+    fragment_named header f = rw f (go (is_opener header) (is_cancel header))
+      where
+        go : (a b : Bool) → (a || true || b) ≡ true
+        go true b = refl
+        go false b = refl
+
 -- ---- The request id that is read from its first four octets.
 
 pub id_is_id : (C : Table) (l : Answers) (m : Message) → length m.payload ≡ 4 → SaysId m.header

@@ -16,6 +16,7 @@ use Rattle.giop_stream.proofs.SlotSteps.Performing.{nothing_text}
 use Rattle.giop_stream.proofs.CodeSteps.MessageOctets.{reached_on, reached_at}
 use Rattle.giop_stream.proofs.CodeSteps.MessageEnds.{on_err}
 use Rattle.giop_stream.proofs.StreamLines.MoreOctets.{first_of, further, octets_come, run_within, run_state_on, run_text_on, one_run}
+use Rattle.giop_stream.proofs.CodeSteps.FragmentSteps.{continuation_told}
 use Rattle.giop_stream.proofs.CodeSteps.HeaderEndSteps.{positive, none_first, step_agrees, run_agrees, told_step, told_on, told_none, told_ahead, told_run}
 use Rattle.giop_stream.proofs.framing.Framing.steps.Goals as goal
 
@@ -51,14 +52,14 @@ returns-in_err-step-clause-does g c a s r h agrees =
     let split =
     run_within R s so_far.octets_taken (octet ∷ []) (drop 1 rest) c.args.piece.now
     (further so_far.octets_taken rest (octet ∷ []) _ c.args.piece.now so_far.split (first_of rest octet c.in-Some.ensures.value)) in
-    let failed = c.from_residual.ensures.0 in
+    let failed = c.from_residual-in_err-step.ensures.0 in
     record {
       text = rw split.1 (writes_err _ _ _ _ _ failed (wrote-front _ _ _ _ _ (so_far.text a s r h agrees) does.text));
-      shows = on_err _ c.from_residual.result failed;
+      shows = on_err _ c.from_residual-in_err-step.result failed;
     }
 
-pub loop-octet-preserved-then-payload_run-eq0 : goal.loop-octet-preserved-then-payload_run-eq0
-loop-octet-preserved-then-payload_run-eq0 g c =
+pub loop-octet-preserved-in_default-continuation : goal.loop-octet-preserved-in_default-continuation
+loop-octet-preserved-in_default-continuation g c =
     let C = c.args.catalogue.now in
     let most = c.args.self.now.slots.slots.most in
     let so_far = c.loop-octet.invariant in
@@ -122,6 +123,60 @@ loop-octet-preserved-then-header_run-gt0 g c =
           (told_ahead C a most (run_state (rules_by C a most) s so_far.octets_taken) (reached_on C a most s so_far.octets_taken octets r) (framing_view c.loop-octet.self) (so_far.shows a s r h agrees) (take n rest)
           (c.header_run-header_run.ensures.running (omega (arith, c.if-header_run-gt0.true))) (rw (← length-take-le n rest c.header_run-header_run.ensures.within) at (c.header_run-header_run.ensures.before_last (omega (arith, c.if-header_run-gt0.true)))));
       ready = c.take_header_octets.ensures.ready C so_far.ready;
+    }
+
+pub returns-in_err-take_continuation-clause-does : goal.returns-in_err-take_continuation-clause-does
+returns-in_err-take_continuation-clause-does g c a s r h agrees =
+    let C = c.args.catalogue.now in
+    let most = c.args.self.now.slots.slots.most in
+    let so_far = c.loop-octet.invariant in
+    let rest = c.loop-octet.rest.now in
+    let octets =
+    octets_come so_far.octets_taken rest c.args.piece.now so_far.split
+    (All-from_get_or (λ x. x < 256) c.args.piece.now 0 (λ i below. omega (arith, c.type_inv.piece i))) in
+    let R = rules_by C a most in
+    let does = rw so_far.most at (c.in_err-take_continuation.ensures.does a (run_state R s so_far.octets_taken)
+    (reached_at C a _ _ _ (sym so_far.most) (reached_on C a most s so_far.octets_taken octets r)) (so_far.shows a s r h agrees)) in
+    let split =
+    run_within R s so_far.octets_taken (take 5 rest) (drop 5 rest) c.args.piece.now
+    (further so_far.octets_taken rest (take 5 rest) (drop 5 rest) c.args.piece.now so_far.split (sym (take-append-drop 5 rest))) in
+    let failed = c.from_residual.ensures.0 in
+    record {
+      text = rw split.1 (writes_err _ _ _ _ _ failed (wrote-front _ _ _ _ _ (so_far.text a s r h agrees) does.text));
+      shows = on_err _ c.from_residual.result failed;
+    }
+
+pub loop-octet-preserved-in-Some-continuation : goal.loop-octet-preserved-in-Some-continuation
+loop-octet-preserved-in-Some-continuation g c =
+    let C = c.args.catalogue.now in
+    let most = c.args.self.now.slots.slots.most in
+    let so_far = c.loop-octet.invariant in
+    let found = c.in-Some-continuation.found in
+    let running = rw c.in-Some-continuation.is at c.continuation.ensures.running in
+    let limit = rw c.in-Some-continuation.is at c.continuation.ensures.limit in
+    let is = rw c.in-Some-continuation.is at c.continuation.ensures.is in
+    let rest = c.loop-octet.rest.now in
+    let octets =
+    octets_come so_far.octets_taken rest c.args.piece.now so_far.split
+    (All-from_get_or (λ x. x < 256) c.args.piece.now 0 (λ i below. omega (arith, c.type_inv.piece i))) in
+    let left : drop 5 rest ≡ take (length rest - 5) (drop 5 rest) = sym (take_all (length rest - 5) (drop 5 rest) (omega (arith, length-drop 5 rest))) in
+    let next =
+    λ (a : Answers) (s : State) (r : IsReached C a most s) (h : Shows C a (framing_view c.args.self.now) s)
+    (agrees : AgreesAtEnds g.Q.Correspondent.answer g.Q.Correspondent.notified C (g.Q.Correspondent.state c.args.correspondent.now) a (header_ends_from (rules_by C a most) r.stream c.args.piece.now)).
+    rw so_far.most at (c.in_ok-take_continuation.ensures.does a (run_state (rules_by C a most) s so_far.octets_taken)
+    (reached_at C a _ _ _ (sym so_far.most) (reached_on C a most s so_far.octets_taken octets r)) (so_far.shows a s r h agrees)) in
+    record {
+      octets_taken = so_far.octets_taken ++ take 5 rest;
+      most = c.in_ok-take_continuation.ensures.most ∙ so_far.most;
+      split = further so_far.octets_taken rest (take 5 rest) _ c.args.piece.now so_far.split
+          (sym (take-append-drop 5 rest) ∙ ap (λ (z : List ℕ). take 5 rest ++ z) left);
+      known = so_far.known;
+      shows = λ a s r h agrees. rw (run_state_on (rules_by C a most) s so_far.octets_taken (take 5 rest)) (next a s r h agrees).shows;
+      text = λ a s r h agrees. rw (run_text_on (rules_by C a most) s so_far.octets_taken (take 5 rest)) (wrote-append _ _ _ _ _ (so_far.text a s r h agrees) (next a s r h agrees).text);
+      told = λ a s r h agrees. told_on g.Q.Correspondent.answer g.Q.Correspondent.notified C a _ _ (rules_by C a most) r.stream so_far.octets_taken (so_far.told a s r h agrees) (take 5 rest) _
+          (sym (continuation_told C a most (run_state (rules_by C a most) s so_far.octets_taken) (reached_on C a most s so_far.octets_taken octets r)
+          (framing_view c.loop-octet.self) (so_far.shows a s r h agrees) (take 5 rest) found running limit is g.Q.Correspondent.notified _));
+      ready = c.in_ok-take_continuation.ensures.ready;
     }
 
 pub returns-in_err-payload_octets-clause-does : goal.returns-in_err-payload_octets-clause-does

@@ -1,0 +1,59 @@
+//! The request id that the header of a message begins with: what is said of its octets, and its line.
+
+ghost use Rattle.std.specs.Prelude.{◌≡◌, ◌<◌, ℕ, List, [], ◌∷◌, length, Some};
+ghost use Rattle.giop_cdr.specs.Numbers.{num};
+ghost use Rattle.giop_print.specs.Output.{Writes};
+ghost use Rattle.giop_sig.specs.Types.{Ty};
+ghost use Rattle.giop_sig.specs.Table.{Table};
+ghost use Rattle.giop_sig.specs.HeaderTypes.{BeginsWithId, header_type};
+ghost use Rattle.giop_message.specs.Headers.{minor, kind, order};
+ghost use Rattle.giop_message.specs.Text.{numbered_line};
+ghost use Rattle.giop_message.specs.Signatures.{Answers};
+ghost use Rattle.giop_message.specs.ReaderOfTable.{message_reader};
+ghost use Rattle.giop_message.specs.RequestId.{request_id_text, request_id_said};
+
+use giop_cdr::{Number, Prim};
+use giop_print::{Line, Out, OutFault, Path, Position, Root, Value, value_line};
+
+/// A header that begins with its request id says it with its first four octets, and nothing else. It has no body, and is
+/// called for its contract.
+pub fn request_id_laws()
+    ensures few { (C : Table) (answers : Answers) (number : ℕ) (header : List ℕ) (T : Ty) →
+        header_type (minor header) (kind header) ≡ Some T → BeginsWithId T →
+        (xs : List ℕ) → length xs < 4 → (message_reader C answers).reads number header xs ≡ [] }
+    ensures four { (C : Table) (answers : Answers) (number : ℕ) (header : List ℕ) (T : Ty) →
+        header_type (minor header) (kind header) ≡ Some T → BeginsWithId T →
+        (a b c d : ℕ) → (message_reader C answers).reads number header (a ∷ b ∷ c ∷ d ∷ [])
+        ≡ request_id_said (num (order header) (a ∷ b ∷ c ∷ d ∷ [])) ∷ [] }
+{}
+
+/// The path of the request id.
+struct RequestIdPath;
+
+impl Position for RequestIdPath {
+    ghost use Rattle.giop_message.specs.RequestId.{request_id_path};
+
+    ghost spelled = { λ _. request_id_path };
+
+    fn spell(&self, line: &mut Line) -> bool {
+        if line.room() < 17 {
+            return false;
+        }
+        line.put_octets(b"header.request_id");
+        true
+    }
+
+    fn path(&self) -> Path {
+        let mut path = Path::new(Root::Header);
+        path.push_name(b"request_id");
+        path
+    }
+}
+
+/// The line of the request id of the message of this number.
+pub fn request_id_line<O: Out>(out: &mut O, number: u64, id: u32) -> Result<(), OutFault>
+    ensures { Writes result (O.log out.old) (O.log out.new) (numbered_line number (request_id_text id)) }
+{
+    let value = Value::Primitive(Prim::ULong, Number::Unsigned(u64::from(id)));
+    value_line(out, number, &RequestIdPath, value)
+}

@@ -1,0 +1,412 @@
+-- The last octet of a header and the request id of a Fragment that continues an open message: the stream with them, and that
+-- the code does their steps. They write the start, the request id, and what its last octet does.
+use Rattle.std.proofs.Common.{◌≡◌, ℕ, suc, ◌+◌, ◌^◌, ◌<◌, ◌≤◌, true, List, [], ◌∷◌, ◌++◌, length, take, refl, sym, ap, subst, ◌∙◌, append_assoc, append-nil, length-append, take_all, Option, Some, None, Result, arith}
+use Rattle.std.specs.Prelude.{◌==◌, OnOk}
+use Rattle.std.proofs.lemmas.Bool.{and_parts, eqb-true, le-ltb, ne_eqb}
+use Rattle.std.proofs.lemmas.List.{length_push}
+use Rattle.giop_cdr.specs.Numbers.{num}
+use Rattle.giop_print.specs.Output.{OutLog, Writes}
+use Rattle.giop_sig.specs.Table.{Table}
+use Rattle.giop_decode.specs.Noted.{Noted}
+use Rattle.giop_message.specs.Headers.{minor, kind, order, size, is_fragment}
+use Rattle.giop_message.specs.MessageReader.{IsCausal}
+use Rattle.giop_message.specs.Signatures.{Answers, signatures_of}
+use Rattle.giop_message.specs.ReaderOfTable.{message_reader}
+use Rattle.giop_message.specs.HeaderEnds.{HeaderEnd, Header_end, CallEvent, ends_between, header_noted, raised, header_ends, header_event, call_event, after_event, after_ends}
+use Rattle.giop_message.proofs.MessageLaws.{is_causal}
+use Rattle.giop_stream.specs.declared.current.Current.{Current}
+use Rattle.giop_stream.specs.declared.fragment.Continuation.{Continuation}
+use Rattle.giop_stream.specs.HeaderOctets.{wrong}
+use Rattle.giop_stream.specs.Rules.{Rules, rules_by}
+use Rattle.giop_stream.specs.Framing.{Message, Cut, with_payload, limit, cut, messages}
+use Rattle.giop_stream.specs.Kinds.{refused}
+use Rattle.giop_stream.specs.Events.{Takes, MessageKey, Event, Open, changed, message_key, id, events_at_header, events_of_octet, open_after}
+use Rattle.giop_stream.specs.Lines.{Line, lines}
+use Rattle.giop_stream.specs.Text.{lines_text}
+use Rattle.giop_stream.specs.Stream.{fault_count}
+use Rattle.giop_stream.specs.Effects.{Tracked, Effect, effects, then_effect, starts, tracked_at, tracked_after, lines_of, with_octet, IsNotOpen, slots_at}
+use Rattle.giop_stream.specs.SlotsRepresent.{SlotsRepresent, event, effect_to}
+use Rattle.giop_stream.specs.PayloadRuns.{run_effect}
+use Rattle.giop_stream.specs.PayloadOwner.{IsBeforeOctet, IsNewest, SaysId, end_events, owner_of_next, owner_of_next_in, owner_after}
+use Rattle.giop_stream.specs.Continuation.{IsContinuation, IsBeforeContinuation, continuation_effect}
+use Rattle.giop_stream.specs.HeaderEndsOfStream.{run_header_ends, owner_header_ends, header_ends_at, header_ends_from}
+use Rattle.giop_stream.specs.EngineView.{FramingView}
+use Rattle.giop_stream.specs.EngineState.{State, state_of}
+use Rattle.giop_stream.specs.EngineStep.{runs}
+use Rattle.giop_stream.specs.Octet.{header_of}
+use Rattle.giop_stream.specs.FramingSteps.{end_message as settled}
+use Rattle.giop_stream.specs.ViewOfState.{IsReached, Shows, Does}
+use Rattle.giop_stream.proofs.Lists.{each_weaker}
+use Rattle.giop_stream.proofs.Cuts.Cutting.{of_parts}
+use Rattle.giop_stream.proofs.Cuts.CutFrom.{end_message}
+use Rattle.giop_stream.proofs.Events.AfterMoreEvents.{count_append}
+use Rattle.giop_stream.proofs.Events.Soundness.{CurrentFits, IsSound}
+use Rattle.giop_stream.proofs.Events.StepCases.{place_more, if_some}
+use Rattle.giop_stream.proofs.SlotSteps.AtHeader.{in_two, starts_faults}
+use Rattle.giop_stream.proofs.SlotSteps.Cases.{effects_none, header_begins}
+use Rattle.giop_stream.proofs.SlotSteps.Continuing.{few_due, owned_by_none}
+use Rattle.giop_stream.proofs.SlotSteps.Ending.{owner_early}
+use Rattle.giop_stream.proofs.SlotSteps.EventsInSlots.{slots_stay}
+use Rattle.giop_stream.proofs.SlotSteps.OneSlotChanges.{own_then}
+use Rattle.giop_stream.proofs.SlotSteps.Parts.{in_turn}
+use Rattle.giop_stream.proofs.SlotSteps.Performing.{no_faults}
+use Rattle.giop_stream.proofs.SlotSteps.ReadingEffects.{reader_lines, take_lines, then_by}
+use Rattle.giop_stream.proofs.SlotSteps.RequestIds.{fragment_says}
+use Rattle.giop_stream.proofs.CodeSteps.EngineAlive.{sound, alive}
+use Rattle.giop_stream.proofs.CodeSteps.HeaderEndSteps.{at_none, run_from}
+use Rattle.giop_stream.proofs.CodeSteps.MessageEnds.{goes_on}
+use Rattle.giop_stream.proofs.CodeSteps.MessageOctets.{does_run, runs_on, all_read, header_at, no_current, knows_at, messages_at, faults_at, settled_shows}
+use Rattle.giop_stream.proofs.CodeSteps.OneOctet.{Adds, beginner, begins_is, paid_is}
+use Rattle.giop_stream.proofs.CodeSteps.PayloadRunSteps.{Within, IsRun, octets_are, run_is}
+
+-- ---- The header of a Fragment.
+
+-- the last octet of a header is not wrong
+right_at_twelve : (header : List ℕ) → length header ≡ 12 → wrong header ≡ None
+unfolding wrong
+right_at_twelve header twelve = rw twelve refl
+
+fragment_is : (header : List ℕ) → is_fragment header ≡ true → (minor header ≡ 2) × (kind header ≡ 7)
+unfolding is_fragment
+fragment_is header f =
+    let both = and_parts (minor header == 2) (kind header == 7) f in
+    (eqb-true (minor header) 2 both.0, eqb-true (kind header) 7 both.1)
+
+-- it is not refused
+fragment_stands : (header : List ℕ) → is_fragment header ≡ true → refused header ≡ None
+unfolding refused
+fragment_stands header f = let is = fragment_is header f in rw (is.0, is.1) refl
+
+-- and the correspondent is told nothing of it
+fragment_tells : (C : Table) (number : ℕ) (header : List ℕ) (n : Noted) → kind header ≡ 7 → call_event C (Header_end number header n) ≡ None
+unfolding header_event
+fragment_tells C number header n seven = rw seven refl
+
+module _ {St : Type 0} (notified : St → CallEvent → St) (C : Table) (st : St) where
+  ends_tell : (number : ℕ) (header : List ℕ) (before now : Option Noted) → kind header ≡ 7
+      → after_ends notified C st (ends_between number header before now ++ []) ≡ st
+  ends_tell number header (Some before) now seven = refl
+  ends_tell number header None None seven = refl
+  ends_tell number header None (Some n) seven = ap (after_event notified st) (fragment_tells C number header n seven)
+
+  fragment_told : (w : MessageKey) (o : Option (List ℕ)) (octets : List ℕ) → kind w.header ≡ 7
+      → after_ends notified C st (run_header_ends w o octets) ≡ st
+  unfolding header_ends raised
+  fragment_told w None octets seven = refl
+  fragment_told w (Some xs) octets seven = rw seven (ends_tell w.number w.header (header_noted w.header xs) (header_noted w.header (xs ++ octets)) seven)
+
+-- ---- The octets of a request id before the last one.
+
+-- They say nothing, and change no slot.
+record IsQuietRun (c : Tracked) (ran : Effect) : Type 0 where
+  lines : ran.lines ≡ []
+  slots : slots_at ran.tracked ≡ slots_at c
+
+module _ (C : Table) (l : Answers) (w : MessageKey) (says : SaysId w.header) where
+  quiet_run : (q xs : List ℕ) (at : ℕ) (c : Tracked) → c.known w.number ≡ Some xs → length xs + length q ≤ 3 → IsNotOpen w.number c.still_open
+      → IsQuietRun c (run_effect C l at c (Some w) q)
+  unfolding run_effect tracked_at changed
+  quiet_run [] xs at c known few apart = record { lines = refl; slots = refl }
+  quiet_run (x ∷ q) xs at c known few apart =
+      let e = event (suc at) w (Takes x) in
+      let one = effect_to C l (suc at) c (Some w) (Takes x) in
+      let nothing = few_due C l w.number w.header says xs x (omega (arith, few)) in
+      let silent : one.lines ≡ [] =
+      ap (λ (o : Option (List ℕ)). lines_of (message_reader C l) e o) known
+      ∙ (take_lines C l (suc at) w xs x ∙ ap (reader_lines (suc at) w.number) nothing) in
+      let kept : one.tracked.known w.number ≡ Some (xs ++ x ∷ []) =
+      own_then (message_reader C l) c e ∙ rw known (then_by C l (suc at) w xs x ∙ rw nothing refl) in
+      let slots : slots_at one.tracked ≡ slots_at c = slots_stay (message_reader C l) c e refl apart in
+      let more = quiet_run q (xs ++ x ∷ []) (suc at) one.tracked kept (omega (arith, few, length_push xs x)) apart in
+      let ran = run_effect C l (suc at) one.tracked (Some w) q in
+      record { lines = ap (λ (ls : List Line). ls ++ ran.lines) silent ∙ more.lines; slots = more.slots ∙ slots }
+
+-- ---- The stream with these octets: x, the last one of a header, q and d, those of a request id.
+
+module _ (C : Table) (l : Answers) (most : ℕ) (p : List ℕ) (x : ℕ) (q : List ℕ) (d : ℕ) (free : (cut p).stop ≡ None)
+    (none : (cut p).current ≡ None) (three : length q ≡ 3) (full : length ((cut p).held ++ x ∷ []) ≡ 12)
+    (fragment : is_fragment ((cut p).held ++ x ∷ []) ≡ true) (sized : 4 ≤ size ((cut p).held ++ x ∷ []))
+    (room : length p + 5 ≤ limit) where
+  abbrev R : Rules
+  R = rules_by C l most
+
+  causal : IsCausal R.reading
+  causal = is_causal (λ number. signatures_of C (l number))
+
+  so : IsSound R p
+  so = sound R causal (in_turn C l) p
+
+  abbrev pub header : List ℕ
+  header = (cut p).held ++ x ∷ []
+
+  -- the Fragment, as it begins
+  abbrev pub first : Message
+  first = beginner (cut p).whole (suc (length p)) header
+
+  abbrev p₁ : List ℕ
+  p₁ = p ++ x ∷ []
+
+  abbrev c₀ : Tracked
+  c₀ = tracked_after R p
+
+  pub count : length (messages (cut p)) ≡ length (cut p).whole
+  unfolding messages
+  count = rw none (ap length (append-nil (cut p).whole))
+
+  abbrev begun : Effect
+  begun = effects R.reading c₀ (events_of_octet most c₀.still_open first)
+
+  first_adds : Adds R p p₁ (end_message (cut p).whole first) begun.lines begun.tracked
+  unfolding tracked_after
+  first_adds = begins_is R causal (in_turn C l) p x so free none (le-ltb limit (suc (length p)) (omega (arith, room))) (right_at_twelve header full) full
+
+  -- it starts, and nothing else
+  begun_is : begun ≡ record { tracked = c₀; lines = starts first ∷ [] }
+  unfolding tracked_after end_events
+  begun_is =
+      in_two R c₀ first refl
+      ∙ (ap (λ (b : Effect). then_effect b (effects R.reading b.tracked (end_events b.tracked.still_open first))) header_is
+      ∙ ap (then_effect (record { tracked = c₀; lines = starts first ∷ [] })) (ap (effects R.reading c₀) goes ∙ effects_none R.reading c₀))
+    where
+      known : c₀.known first.number ≡ Some []
+      known = so.unknown (suc (length (cut p).whole)) (omega (arith, count))
+
+      header_is : effects R.reading c₀ (events_at_header first) ≡ record { tracked = c₀; lines = starts first ∷ [] }
+      header_is = header_begins R.reading c₀ first [] known (fragment_stands header fragment)
+
+      goes : end_events c₀.still_open first ≡ []
+      goes = rw (ne_eqb 0 (size header) (λ e. omega (arith, e, sized))) refl
+
+  begun_cut : cut p₁ ≡ of_parts (cut p).whole (Some first) [] None
+  begun_cut = first_adds.cut_is ∙ goes_on (cut p).whole first (omega (arith, sized))
+
+  begun_tracked : tracked_after R p₁ ≡ c₀
+  begun_tracked = first_adds.tracked_after ∙ ap (λ (b : Effect). b.tracked) begun_is
+
+  begun_lines : lines R p₁ ≡ lines R p ++ starts first ∷ []
+  begun_lines = first_adds.lines ∙ ap (λ (b : Effect). lines R p ++ b.lines) begun_is
+
+  within : Within p₁ first (length q)
+  unfolding of_parts
+  within = record {
+    free = ap (λ (c : Cut). c.stop) begun_cut;
+    current = ap (λ (c : Cut). c.current) begun_cut;
+    apart = λ less. omega (arith, three);
+    before_last = omega (arith, three, sized);
+    room = omega (arith, room, three, length_push p x);
+  }
+
+  -- ---- With the request id but its last octet.
+
+  run : IsRun C l most p₁ first q
+  run = run_is C l most q p₁ first within
+
+  abbrev p₄ : List ℕ
+  p₄ = p₁ ++ q
+
+  abbrev pub c₄ : Tracked
+  c₄ = tracked_after R p₄
+
+  abbrev pub m₄ : Message
+  m₄ = with_payload first q
+
+  own : owner_of_next (open_after most p₁) first ≡ Some (message_key first)
+  own = owner_early (open_after most p₁) first (omega arith)
+
+  quiet : IsQuietRun c₀ (run_effect C l (length p₁) c₀ (Some (message_key first)) q)
+  unfolding tracked_after
+  quiet =
+      quiet_run C l (message_key first) (fragment_says header fragment) q [] (length p₁) c₀
+      (so.unknown (suc (length (cut p).whole)) (omega (arith, count))) (omega (arith, three))
+      (each_weaker {A = Open} (λ o. o.opener.number ≤ length (messages (cut p))) (λ o. o.opener.number ≡ suc (length (cut p).whole) → ⊥)
+      (λ o k same. omega (arith, k, same, count)) (open_after most p) so.numbers)
+
+  pub same_slots : slots_at c₄ ≡ slots_at c₀
+  same_slots =
+      ap slots_at (run.tracked_after ∙ (λ j. (run_effect C l (length p₁) (begun_tracked j) (own j) q).tracked)) ∙ quiet.slots
+
+  pub started : lines R p₄ ≡ lines R p ++ starts first ∷ []
+  started =
+      run.lines ∙ ((λ j. begun_lines j ++ (run_effect C l (length p₁) (begun_tracked j) (own j) q).lines)
+      ∙ (ap (λ (ls : List Line). (lines R p ++ starts first ∷ []) ++ ls) quiet.lines ∙ append-nil (lines R p ++ starts first ∷ [])))
+
+  so₄ : IsSound R p₄
+  so₄ = sound R causal (in_turn C l) p₄
+
+  pub fits : CurrentFits (length p₄) (cut p₄) m₄
+  fits = if_some (CurrentFits (length p₄) (cut p₄)) (cut p₄).current m₄ run.within.current (so₄.fits run.within.free).current
+
+  pub many : length p₄ ≡ length p + 4
+  many = omega (arith, length-append p₁ q, length_push p x, three)
+
+  pub before_last : (now : Current) → now.number ≡ suc (length (cut p).whole) → now.header ≡ header → now.place ≡ length p + 5
+      → now.payload_count ≡ 4 → IsBeforeOctet c₄ m₄ now d
+  unfolding tracked_after
+  before_last now number head place_is payload_count = record {
+    rising = so₄.rising;
+    current = record {
+      number = sym number;
+      header = sym head;
+      place = omega (arith, place_more m₄ d (length p₄) fits.place_is, many, place_is);
+    };
+    payload_count = omega (arith, three, payload_count);
+    newest = if_some (λ m. length m.payload < 4 → IsNewest m.number (open_after most p₄)) (cut p₄).current m₄ run.within.current (so₄.early run.within.free);
+    alive = λ name less. alive R causal (in_turn C l) p₄ run.within.free m₄ run.within.current name less;
+    says = λ name. fragment_says header fragment;
+  }
+
+  -- the request id
+  pub id_is : id (with_octet m₄ d) ≡ num (order header) (q ++ d ∷ [])
+  unfolding id
+  id_is = ap (num (order header)) (take_all 4 (q ++ d ∷ []) (omega (arith, three, length_push q d)))
+
+  -- ---- With all of them.
+
+  abbrev pub all_do : Effect
+  all_do = continuation_effect C l most c₄ m₄ d
+
+  abbrev last_does : Effect
+  last_does = effects R.reading c₄ (events_of_octet most c₄.still_open (with_octet m₄ d))
+
+  pub paid : Adds R p₄ (p₄ ++ d ∷ []) (end_message (cut p₄).whole (with_octet m₄ d)) last_does.lines last_does.tracked
+  unfolding tracked_after
+  paid = paid_is R causal (in_turn C l) p₄ d so₄ m₄ run.within.free run.within.current (le-ltb limit (suc (length p₄)) (omega (arith, room, many)))
+
+  pub all_octets : p₄ ++ d ∷ [] ≡ p ++ (x ∷ (q ++ d ∷ []))
+  all_octets = append_assoc p₁ q (d ∷ []) ∙ append_assoc p (x ∷ []) (q ++ d ∷ [])
+
+  pub grows : lines R (p ++ (x ∷ (q ++ d ∷ []))) ≡ lines R p ++ all_do.lines
+  grows =
+      ap (lines R) (sym all_octets) ∙ (paid.lines ∙ (ap (λ (ls : List Line). ls ++ last_does.lines) started
+      ∙ append_assoc (lines R p) (starts first ∷ []) last_does.lines))
+
+  -- the correspondent is told nothing
+  pub tells_none : {St : Type 0} (notified : St → CallEvent → St) (st : St)
+      → after_ends notified C st (header_ends_from R p (x ∷ (q ++ d ∷ []))) ≡ st
+  unfolding header_ends_from
+  tells_none notified st =
+      let ends : header_ends_from R p₁ (q ++ d ∷ []) ≡ run_header_ends (message_key first) ((tracked_after R p₁).known first.number) (q ++ d ∷ []) =
+      sym (run_from C l most q p₁ first d within (omega (arith, room, length_push p x, three)))
+      ∙ ap (λ (w : Option MessageKey). owner_header_ends (tracked_after R p₁) w (q ++ d ∷ [])) own in
+      ap (after_ends notified C st) (ap (λ (es : List HeaderEnd). es ++ header_ends_from R p₁ (q ++ d ∷ [])) (at_none R p x none) ∙ ends)
+      ∙ fragment_told notified C st (message_key first) ((tracked_after R p₁).known first.number) (q ++ d ∷ []) (fragment_is header fragment).1
+
+-- ---- By the fields.
+
+module _ (C : Table) (l : Answers) (most : ℕ) (s : State) (reached : IsReached C l most s) (m : FramingView) (h : Shows C l m s)
+    (octets : List ℕ) (found : Continuation) (free : m.stopped ≡ None) (room : m.totals.octets + 5 ≤ 2 ^ 48)
+    (is : IsContinuation m.header octets m.slots found) where
+  abbrev R' : Rules
+  R' = rules_by C l most
+
+  abbrev p : List ℕ
+  p = reached.stream
+
+  abbrev x : ℕ
+  x = is.last
+
+  pub runs_free : (cut p).stop ≡ None
+  runs_free = runs_on C l most s reached m h free
+
+  pub no_message : (cut p).current ≡ None
+  no_message = no_current C l most s reached m h free (omega (arith, is.eleven))
+
+  held : m.header ≡ (cut p).held
+  held = header_at C l most s reached m h free ∙ ap (λ (o : Option Message). header_of o (cut p).held) no_message
+
+  pub all_come : m.totals.octets ≡ length p
+  all_come = all_read C l most s reached m h free
+
+  -- the octets of the request id before the last one, and that
+  pub parts : (q : List ℕ) × ((d : ℕ) × (is.id ≡ q ++ d ∷ []))
+  parts = octets_are is.id (omega (arith, is.four))
+
+  abbrev q : List ℕ
+  q = parts.0
+
+  abbrev pub d : ℕ
+  d = parts.1.0
+
+  pub three : length q ≡ 3
+  three = omega (arith, is.four, ap length parts.1.1, length_push q d)
+
+  pub full : length ((cut p).held ++ x ∷ []) ≡ 12
+  full = omega (arith, length_push (cut p).held x, ap length held, is.eleven)
+
+  header_as : m.header ++ x ∷ [] ≡ (cut p).held ++ x ∷ []
+  header_as = ap (λ (z : List ℕ). z ++ x ∷ []) held
+
+  pub fragment : is_fragment ((cut p).held ++ x ∷ []) ≡ true
+  fragment = subst (λ (z : List ℕ). is_fragment z ≡ true) header_as is.fragment
+
+  pub sized : 4 ≤ size ((cut p).held ++ x ∷ [])
+  sized = subst (λ (z : List ℕ). 4 ≤ size z) header_as is.sized
+
+  pub within_limit : length p + 5 ≤ limit
+  unfolding limit
+  within_limit = omega (arith, room, all_come)
+
+  come : octets ≡ x ∷ (q ++ d ∷ [])
+  come = is.parts ∙ ap (λ (z : List ℕ). x ∷ z) parts.1.1
+
+  abbrev pub tracked : Tracked
+  tracked = c₄ C l most p x q d runs_free no_message three full fragment sized within_limit
+
+  abbrev pub message : Message
+  message = m₄ C l most p x q d runs_free no_message three full fragment sized within_limit
+
+  abbrev pub effect : Effect
+  effect = continuation_effect C l most tracked message d
+
+  pub is_before : (now : Current) → now.number ≡ m.totals.messages + 1 → now.header ≡ m.header ++ x ∷ [] → now.place ≡ m.totals.octets + 5
+      → now.payload_count ≡ 4 → IsBeforeContinuation C l m.slots tracked message now d found
+  is_before now number head place_is payload_count = record {
+    keeps = owned_by_none C l m.slots (tracked_after R' p) tracked
+        (same_slots C l most p x q d runs_free no_message three full fragment sized within_limit)
+        (subst (λ (o : Option Message). SlotsRepresent C l m.slots (tracked_after R' p) (owner_of_next_in (open_after most p) o)) no_message (knows_at C l most s reached m h free));
+    before = before_last C l most p x q d runs_free no_message three full fragment sized within_limit now
+        (omega (arith, number, messages_at C l most s reached m h, count C l most p x q d runs_free no_message three full fragment sized within_limit))
+        (head ∙ header_as) (omega (arith, place_is, all_come)) payload_count;
+    three = three;
+    fragment = fragment;
+    spells = id_is C l most p x q d runs_free no_message three full fragment sized within_limit
+        ∙ (ap (num (order ((cut p).held ++ x ∷ []))) (sym parts.1.1) ∙ (ap (λ (z : List ℕ). num (order z) is.id) (sym header_as) ∙ sym is.spells));
+    open_at = is.open_at;
+  }
+
+  pub continuation_does : {A E : Type 0} (result : Result A E) (before after : OutLog) (f : FramingView)
+      → Writes result before after (lines_text effect.lines) → OnOk result (Shows C l f (state_of R' (p ++ octets)))
+      → Does C l result before after f (runs R' s octets)
+  continuation_does result before after f text shows =
+      does_run C l most s reached m h octets effect.lines result before after f
+      (ap (λ (z : List ℕ). lines R' (p ++ z)) come ∙ grows C l most p x q d runs_free no_message three full fragment sized within_limit) text shows
+
+  pub continuation_shows : (b f : FramingView) (k : ℕ) → f ≡ settled b k → b.totals.messages ≡ m.totals.messages + 1
+      → b.totals.faults ≡ m.totals.faults + fault_count effect.lines → b.totals.octets ≡ m.totals.octets + 5
+      → b.stopped ≡ m.stopped → b.header ≡ m.header ++ x ∷ [] → b.payload_count ≡ 4 → k ≡ size (m.header ++ x ∷ [])
+      → SlotsRepresent C l b.slots effect.tracked (owner_after effect.tracked.still_open (with_octet message d))
+      → Shows C l f (state_of R' (p ++ octets))
+  continuation_shows b f k settles messages_are faults_are octets_read stopped head payload_count size_is keeps =
+      let p₄ = (p ++ x ∷ []) ++ q in
+      let n = with_octet message d in
+      let last = effects R'.reading tracked (events_of_octet most tracked.still_open n) in
+      let here = fits C l most p x q d runs_free no_message three full fragment sized within_limit in
+      let before : fault_count (lines R' p₄) ≡ fault_count (lines R' p) =
+      ap fault_count (started C l most p x q d runs_free no_message three full fragment sized within_limit)
+      ∙ (count_append (lines R' p) (starts (with_payload message []) ∷ [])
+      ∙ omega (arith, starts_faults (with_payload message []) [], no_faults)) in
+      let start : fault_count effect.lines ≡ fault_count last.lines = starts_faults (with_payload message []) last.lines in
+      let messages_before = count C l most p x q d runs_free no_message three full fragment sized within_limit in
+      let octets_before = many C l most p x q d runs_free no_message three full fragment sized within_limit in
+      subst (λ (z : List ℕ). Shows C l f (state_of R' z))
+      (all_octets C l most p x q d runs_free no_message three full fragment sized within_limit ∙ ap (λ (z : List ℕ). p ++ z) (sym come))
+      (settled_shows C l most p₄ d n (omega (arith, length_push q d, three, sized)) here.number_is
+      (paid C l most p x q d runs_free no_message three full fragment sized within_limit) b f k settles
+      (omega (arith, messages_are, messages_at C l most s reached m h, messages_before)) (omega (arith, faults_are, faults_at C l most s reached m h, before, start))
+      (omega (arith, octets_read, all_come, octets_before)) (stopped ∙ free) (head ∙ header_as)
+      (omega (arith, payload_count, length_push q d, three)) (size_is ∙ ap size header_as) keeps)
+
+  pub continuation_told : {St : Type 0} (notified : St → CallEvent → St) (st : St) → after_ends notified C st (header_ends_from R' p octets) ≡ st
+  continuation_told notified st =
+      ap (λ (z : List ℕ). after_ends notified C st (header_ends_from R' p z)) come
+      ∙ tells_none C l most p x q d runs_free no_message three full fragment sized within_limit notified st

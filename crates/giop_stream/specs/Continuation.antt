@@ -1,0 +1,56 @@
+-- A Fragment of an open message, where the last octet of its header and its request id come together (state, steps). Only
+-- private clauses cite these.
+use Rattle.std.specs.Prelude.{◌≡◌, ◌==◌, ◌<◌, ◌≤◌, ℕ, true, List, [], ◌∷◌, ◌++◌, length, Option, Some, None}
+use Rattle.std.specs.List.{position_from}
+use Rattle.giop_cdr.specs.Numbers.{num}
+use Rattle.giop_sig.specs.Table.{Table}
+use Rattle.giop_message.specs.Headers.{order, size, is_fragment}
+use Rattle.giop_message.specs.Signatures.{Answers}
+use Rattle.giop_message.specs.ReaderOfTable.{message_reader}
+use Rattle.giop_stream.specs.declared.slots.Slots.{Slots}
+use Rattle.giop_stream.specs.declared.current.Current.{Current}
+use Rattle.giop_stream.specs.declared.fragment.Continuation.{Continuation}
+use Rattle.giop_stream.specs.Framing.{Message, with_payload}
+use Rattle.giop_stream.specs.Events.{MessageKey, Rising, id, events_of_octet}
+use Rattle.giop_stream.specs.Effects.{Tracked, Effect, effects, line_effect, starts, with_octet}
+use Rattle.giop_stream.specs.SlotsRepresent.{SlotsRepresent}
+use Rattle.giop_stream.specs.PayloadOwner.{IsCurrent, IsBeforeOctet}
+
+-- The index is that of the open message with this request id.
+pub record IsOpenAt (s : Slots) (found : Continuation) : Type 0 where
+  pub within : found.index < length s.slots.entries
+  pub here : position_from (λ slot. slot.key == found.id) 0 s.slots.entries ≡ Some found.index
+
+-- These five octets, behind the first eleven of a header, are its last one and the request id of a Fragment of that open
+-- message.
+pub record IsContinuation (front octets : List ℕ) (s : Slots) (found : Continuation) : Type 0 where
+  pub last : ℕ
+  pub id : List ℕ
+  pub parts : octets ≡ last ∷ id
+  pub eleven : length front ≡ 11
+  pub four : length id ≡ 4
+  pub fragment : is_fragment (front ++ last ∷ []) ≡ true
+  pub sized : 4 ≤ size (front ++ last ∷ [])
+  pub spells : found.id ≡ num (order (front ++ last ∷ [])) id
+  pub open_at : IsOpenAt s found
+
+-- The slots represent what is tracked where the request id of a Fragment is complete, whoever owns the octets so far.
+pub record IsContinuing (C : Table) (l : Answers) (s : Slots) (c : Tracked) (owner : Option MessageKey) (m : Message) (now : Current) : Type 0 where
+  pub keeps : SlotsRepresent C l s c owner
+  pub rising : Rising c.still_open
+  pub current : IsCurrent now m
+  pub alive : (xs : List ℕ) × (c.known m.number ≡ Some xs)
+
+-- The slots represent what is tracked before the last octet x of a Fragment's request id, but for the Fragment itself.
+pub record IsBeforeContinuation (C : Table) (l : Answers) (s : Slots) (c : Tracked) (m : Message) (now : Current) (x : ℕ) (found : Continuation) : Type 0 where
+  pub keeps : SlotsRepresent C l s c None
+  pub before : IsBeforeOctet c m now x
+  pub three : length m.payload ≡ 3
+  pub fragment : is_fragment m.header ≡ true
+  pub spells : id (with_octet m x) ≡ found.id
+  pub open_at : IsOpenAt s found
+
+-- what the last octet of its header and those of its request id do: the message starts, and the last one does what its events do
+abbrev pub continuation_effect : Table → Answers → ℕ → Tracked → Message → ℕ → Effect
+continuation_effect C l most c m x =
+    line_effect (starts (with_payload m [])) (effects (message_reader C l) c (events_of_octet most c.still_open (with_octet m x)))
