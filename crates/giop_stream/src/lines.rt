@@ -24,6 +24,7 @@ fn stream_word(fault: StreamFault) -> &'static str
 
 /// The start line of a message.
 #[tactic(auto, unfolding(crate::specs::Text::start_line))]
+#[inline(always)]
 pub fn start_line<O: Out>(out: &mut O, number: u64, header: &[u8]) -> Result<(), OutFault>
     requires { length header.now ≡ 12 }
     ensures { Writes result (O.log out.old) (O.log out.new) (start_line number header.now) }
