@@ -1,14 +1,15 @@
 -- What the conversations of a capture have followed and told stays where nothing happens in a flow.
-use Rattle.std.proofs.Common.{◌≡◌, ℕ, List, [], ◌∷◌, ◌++◌, Option, Some, None, refl, ap, subst, sym}
+use Rattle.std.proofs.Common.{◌≡◌, ℕ, List, [], ◌∷◌, ◌++◌, Option, Some, None, refl, ◌∙◌, ap, subst, sym}
 use Rattle.std.specs.Prelude.{Result, Ok, Err, OnOk}
 use Rattle.std.specs.Io.KnownBytes.{Keeps}
 use Rattle.tcp_flow.specs.Flow.{Event, CaptureEvent, OfCapture}
 use Rattle.giop_conversation.specs.declared.conversation.Conversation.{Conversation}
 use Rattle.giop_conversation.specs.declared.conversations.Conversations.{Conversations}
-use Rattle.giop_conversation.specs.Captured.{Setup}
+use Rattle.giop_conversation.specs.Captured.{Setup, finished_text}
 use Rattle.giop_conversation.specs.DumpTold.{Told}
 use Rattle.giop_conversation.specs.Follows.{Follows}
 use Rattle.giop_conversation.specs.Followed.{octets_behind, octets_from, HaveFollowed}
+use Rattle.giop_capture_program.specs.Text.{HasText}
 
 same_octets : (flow : ℕ) (p : List ℕ) (events : List Event) (event : CaptureEvent)
     → octets_from flow p (events ++ OfCapture event ∷ []) ≡ octets_from flow p events
@@ -68,3 +69,13 @@ kept_on begins c d events (Ok v) same kept h = (
   subst (λ x. Follows x events) (sym same) h.0,
   λ S written b. subst (λ x. Told S written events x) (sym same) (told_on c d.out.whole S written events kept (h.1 S written b)),
 )
+
+-- a text that was put stays
+abbrev pub text_kept : (S : Setup) (written : List ℕ) (events : List Event) (packets octets : ℕ)
+    (before put after : Option (List ℕ)) → put ≡ before → Keeps put after
+    → HasText S written events packets octets before → HasText S written events packets octets after
+text_kept S written events packets octets before put after same kept h = record {
+  dump = h.dump;
+  leads = h.leads;
+  text = still_known put after (finished_text h.dump packets octets) kept (same ∙ h.text);
+}

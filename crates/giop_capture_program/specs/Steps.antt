@@ -20,7 +20,7 @@ use Rattle.giop_capture_run.specs.declared.ending.Ending.{Ending}
 use Rattle.giop_capture_run.specs.declared.ending.Ending.TheVariants as endings
 use Rattle.giop_capture_run.specs.Arrivals.{capture_ended}
 use Rattle.giop_capture_run.specs.CaptureRun.{ReadWhole, ending_of}
-use Rattle.giop_capture_program.specs.Text.{HasText}
+use Rattle.giop_capture_program.specs.Text.{HasText, HasStreams}
 
 -- the program's status: whether a fault was counted or a stream was cut, or what failed
 abbrev pub capture_status : Result Ending ProgramFault → ℕ
@@ -45,7 +45,8 @@ BeginsAs begins asked table before =
 
 -- A source, of which this is known, was read to the end of a capture or to its fault. What the packets, the fault and the end do to
 -- the connections that are asked for has happened, and the conversations have followed it; link types that aren't read were told.
--- What was put is the text of just that, with the capture's last line, behind what was written before.
+-- What was put is the text of just that, with the capture's last line, behind what was written before; the lines of each stream in
+-- it are giopdump's.
 pub record CaptureDumped {N : Type 0} (ending : Ending) (told : N → List ℕ → Type 0)
     (begins : Setup → List ℕ → Type 0) (asked : Arguments) (source put : Option (List ℕ)) : Type 0 where
   pub before : SourceLog
@@ -66,6 +67,9 @@ pub record CaptureDumped {N : Type 0} (ending : Ending) (told : N → List ℕ �
       → HasText S written
       (capture_ended reader_faulted (none_known asked.ports.items asked.pool asked.connections []) whole.read).events
       (length (packets whole.read)) (length whole.read) put
+  pub streams : (S : Setup) (written : List ℕ) (known : begins S written) → HasStreams S written
+      (capture_ended reader_faulted (none_known asked.ports.items asked.pool asked.connections []) whole.read).events
+      (length (packets whole.read)) (length whole.read) (text S written known)
 
 -- the reading of a capture, or the writing of its lines, failed
 abbrev pub RunFailed : ProgramFault → Type 0

@@ -2,6 +2,7 @@
 //! the status.
 
 ghost use Rattle.std.specs.Prelude.{◌≡◌, ◌⊎◌, List, ℕ, [], Some, IfOk, IfErr};
+ghost use Rattle.std.specs.Io.KnownBytes.{Keeps};
 ghost use Rattle.giop_stream.specs.EngineHolds.{AreOf};
 ghost use Rattle.tcp_connections.specs.Connections.{none_known};
 ghost use Rattle.giop_sig.specs.Table.{Table};
@@ -9,16 +10,19 @@ ghost use Rattle.giop_conversation.specs.Captured.{Setup};
 ghost use Rattle.giop_conversation.specs.DumpTold.{Told};
 ghost use Rattle.giop_conversation.specs.Follows.{Follows};
 ghost use Rattle.giop_conversation.specs.Followed.{reader_faulted};
-ghost use Rattle.giop_run.specs.Buffered.{lines_log};
+ghost use Rattle.giop_run.specs.Buffered.{lines_log, lines_kept};
 ghost use Rattle.giop_run.specs.Files.{CatalogueOf, NoStream, stream_of};
 ghost use Rattle.giop_capture_run.specs.PacketState.{HasRead};
 ghost use Rattle.giop_capture_program.specs.Steps.{BeginsAs, CaptureDumped, NotDumped, RunFailed, capture_of, signatures_of};
 
+use crate::laws::each_stream_of_a_capture_is_dumped;
 use crate::teller::{Beginning, Teller};
 use capture_file::Capture;
 use giop_capture_run::{Arguments, Ending, Notices, PacketReader, dump_capture, packet_reader};
 use giop_conversation::{Conversations, Limits};
-use giop_run::{Inputs, Lines, ProgramFault, Reading, catalogue, requests, unreadable};
+use giop_run::{
+    Flush, Inputs, Lines, ProgramFault, Reading, RunFault, catalogue, requests, unreadable,
+};
 use giop_sig::{Catalogue, Requests};
 use std::alloc::{AllocError, Global};
 use std::io::{Read, Write};
@@ -42,6 +46,7 @@ pub fn perform_capture<
     ensures dumped { IfOk result (λ ended. CaptureDumped ended.0 N.told B.begins asked.entry
         (stream_of (R.held rt.now) (R.given rt.now) (capture_of asked.entry))
         (lines_log W.contents ended.1).written) }
+    ensures flushed { IfOk result (λ ended. lines_kept ended.1 ≡ []) }
     ensures refused { IfErr result (NotDumped (R.held rt.now) asked.entry) }
 {
     let catalogue = catalogue(rt, asked.signatures)?;
@@ -61,6 +66,7 @@ fn open_and_dump<'a, R: Inputs + AllocGlobal, W: Write + Drop, N: Notices + Drop
     ensures dumped { IfOk result (λ ended. CaptureDumped ended.0 N.told B.begins asked.entry
         (stream_of (R.held rt.now) (R.given rt.now) (capture_of asked.entry))
         (lines_log W.contents ended.1).written) }
+    ensures flushed { IfOk result (λ ended. lines_kept ended.1 ≡ []) }
     ensures refused { IfErr result (λ fault.
         NoStream (capture_of asked.entry) fault ⊎ RunFailed fault) }
 {
@@ -104,9 +110,11 @@ fn dump<
     requires begins { BeginsAs B.begins asked catalogue.now (W.contents writer) }
     ensures dumped { IfOk result (λ ended. CaptureDumped ended.0 N.told B.begins asked.entry
         (F.remaining file) (lines_log W.contents ended.1).written) }
+    ensures flushed { IfOk result (λ ended. lines_kept ended.1 ≡ []) }
     ensures refused { IfErr result (λ fault.
         NoStream (capture_of asked.entry) fault ⊎ RunFailed fault) }
 {
+    each_stream_of_a_capture_is_dumped();
     let requests = requests(rt, None, catalogue)?;
     let Ok(mut capture) = Capture::new(rt.alloc()) else {
         return Err(ProgramFault::OutOfMemory);
@@ -116,8 +124,21 @@ fn dump<
         return Err(ProgramFault::OutOfMemory);
     };
     match dump_capture(&mut Reading::new(file), &mut capture, &mut reader) {
-        Ok(ending) => Ok((ending, reader.into_listener().into_out())),
+        Ok(ending) => Ok((ending, flushed(reader.into_listener().into_out())?)),
         Err(fault) => Err(ProgramFault::Run(fault)),
+    }
+}
+
+/// Nothing is left in the buffer of the lines.
+fn flushed<'a, W: Write + Drop>(mut lines: Lines<W>) -> Result<Lines<W>, ProgramFault<'a>>
+    ensures put { IfOk result (λ after. Keeps (lines_log W.contents lines).written
+        (lines_log W.contents after).written) }
+    ensures none { IfOk result (λ after. lines_kept after ≡ []) }
+    ensures refused { IfErr result RunFailed }
+{
+    match lines.flush() {
+        Ok(()) => Ok(lines),
+        Err(_) => Err(ProgramFault::Run(RunFault::Out)),
     }
 }
 

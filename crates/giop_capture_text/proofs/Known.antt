@@ -1,6 +1,6 @@
--- What is known of a reader at its end, of a writer that was flushed, and of a dump at every port.
+-- What is known of a reader at its end, of a writer whose buffer is empty, and of a dump at every port.
 use Rattle.std.proofs.Common.{◌≡◌, ℕ, List, [], ◌++◌, length, Option, Some, None, ◌⊎◌, inl, inr, append_assoc, append-nil, sym, ap, subst, ◌∙◌}
-use Rattle.std.specs.Io.KnownBytes.{Keeps, Consumes, IsAtEnd, append_known}
+use Rattle.std.specs.Io.KnownBytes.{Consumes, IsAtEnd, append_known}
 use Rattle.capture_file.specs.Reading.{packets}
 use Rattle.tcp_connections.specs.Connections.{none_known}
 use Rattle.giop_conversation.specs.Followed.{reader_faulted}
@@ -33,16 +33,11 @@ pub front : {X : Type 0} (before after : Option (List ℕ)) (all given read rest
 front before after all given read rest known consumed parts over =
     front_by after all given read rest (subst (λ b. Consumes b after given) known consumed) parts over
 
-some_known : (after : Option (List ℕ)) (w : List ℕ) → Keeps (Some w) after → after ≡ Some w
-some_known None w kept = absurd kept
-some_known (Some xs) w kept = ap Some kept
-
--- octets that are known stay over a flush, and then all of them are in the writer
-pub held : (before after : Option (List ℕ)) (items kept text : List ℕ) → before ≡ Some text → Keeps before after
-    → append_known (Some items) kept ≡ after → kept ≡ [] → Some items ≡ Some text
-held before after items kept text known keeps seen none =
-    let all = some_known after text (subst (λ b. Keeps b after) known keeps) in
-    ap Some (sym (append-nil items)) ∙ subst (λ k. append_known (Some items) k ≡ after) none seen ∙ all
+-- of octets that are known, all are in a writer whose buffer is empty
+pub held : (put : Option (List ℕ)) (items kept text : List ℕ) → put ≡ Some text
+    → append_known (Some items) kept ≡ put → kept ≡ [] → Some items ≡ Some text
+held put items kept text known seen none =
+    ap Some (sym (append-nil items)) ∙ subst (λ k. append_known (Some items) k ≡ put) none seen ∙ known
 
 -- the text of a capture where streams begin at these ports
 abbrev pub TextAt : (ports read : List ℕ) (put : Option (List ℕ)) → Type 0

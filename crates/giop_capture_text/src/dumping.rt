@@ -7,7 +7,6 @@ use crate::memory::{Memory, Nobody};
 use arrayvec::ArrayVec;
 use giop_capture_program::{Beginning, perform_capture};
 use giop_capture_run::Arguments;
-use giop_run::Flush;
 use std::alloc::Global;
 
 /// A dump by the built-in types and without words begins where nothing was written.
@@ -38,10 +37,7 @@ pub fn text_of(alloc: Global, capture: &[u8]) -> Option<Vec<u8>>
         octets: capture,
     };
     let out = Vec::new(alloc);
-    let Ok((_, mut lines)) = perform_capture::<_, _, _, Empty>(&memory, asked, out, Nobody) else {
-        return None;
-    };
-    let Ok(()) = lines.flush() else {
+    let Ok((_, lines)) = perform_capture::<_, _, _, Empty>(&memory, asked, out, Nobody) else {
         return None;
     };
     match Vec::from_slice(alloc, lines.writer().as_slice()) {

@@ -1,4 +1,4 @@
--- Nothing was written before, so what was put is the text, and behind the flush all of it is in the writer.
+-- Nothing was written before, so what was put is the text, and all of it is in the writer.
 use Rattle.std.proofs.Common.{[], Some, refl, ap, ◌∙◌}
 use Rattle.giop_capture_text.specs.Dumps.{plain_setup}
 use Rattle.giop_capture_text.proofs.Known.{at_every_port, front, held}
@@ -10,8 +10,7 @@ returns-in-Ok-from_slice c =
     let h = at_every_port c.new.result.items d.whole.read _ c.new.ensures (d.text plain_setup [] (refl, refl)) in
     let w = d.whole in
     let f = front d.before.left d.after.left c.args.capture.now d.octets w.read w.rest d.reader w.given w.parts w.over in
-    let flushed = c.in-Ok-flush.ensures in
-    let all = held _ _ _ _ _ h.text flushed.written c.writer.ensures flushed.none in
+    let all = held _ _ _ _ h.text c.writer.ensures c.in-Ok.ensures.flushed in
     record {
       read = d.whole.read;
       rest = f.rest;

@@ -1,0 +1,27 @@
+//! What is so of the text of a capture.
+
+ghost use Rattle.std.specs.Prelude.{ℕ, ◌≤◌, [], List};
+ghost use Rattle.tcp_connections.specs.Connections.{none_known};
+ghost use Rattle.giop_conversation.specs.Captured.{Setup, Dump, Leads, start};
+ghost use Rattle.giop_conversation.specs.StreamTexts.{no_history, history};
+ghost use Rattle.giop_conversation.specs.Followed.{reader_faulted};
+ghost use Rattle.giop_capture_run.specs.Arrivals.{capture_ended};
+ghost use Rattle.giop_capture_program.specs.Streams.{ShowsEachStream};
+
+use giop_capture_run::no_stream_of_a_capture_has_a_gap;
+use giop_conversation::each_stream_is_dumped;
+
+/// Whatever a capture is, the lines of each of its streams in the text to which it leads, without the tag and without the lines
+/// `stream`, `time`, `answers`, `raises` and `closed`, are those that `giopdump` writes of the octets that were delivered of the
+/// stream, and of its end where it closes: none goes on behind its close, since streams are without a gap.
+pub fn each_stream_of_a_capture_is_dumped()
+    ensures { (S : Setup) (written : List ℕ) (ports : List ℕ) (blocks most : ℕ) (octets : List ℕ) (d : Dump)
+        → 1 ≤ most → most ≤ 65536
+        → (leads : Leads S (start S written)
+        (capture_ended reader_faulted (none_known ports blocks most []) octets).events d)
+        → ShowsEachStream S written (history S no_history (start S written)
+        (capture_ended reader_faulted (none_known ports blocks most []) octets).events d leads) d.text }
+{
+    each_stream_is_dumped();
+    no_stream_of_a_capture_has_a_gap();
+}
