@@ -1,5 +1,6 @@
 #!/bin/sh
-# Octets a second and peak memory of the dumper, beside xxd, over eight streams: bench/run.sh [OCTETS [DUMPER]].
+# Octets a second and peak memory of the dumper, beside xxd and a limit, over eight streams:
+# bench/run.sh [OCTETS [DUMPER]]
 #   mixed      messages of every type, without a signature file
 #   typed      calls of about 380 octets whose parameters are typed
 #   fragments  calls with octet sequences of 262,144 octets, in Fragments
@@ -9,9 +10,13 @@
 #   doubles    calls with sequences of 8,192 doubles
 #   captured   real calls to a naming service, again and again
 # It proves and builds the dumper first, unless one is named, and needs python3, xxd and GNU time. Fragments and large,
-# over which both programs are quickest, have four times as many octets. The two programs run by turns, five times each,
-# and each figure is the best of these runs: by the clock, and by the processor time that the program took, which says
-# more on a machine that does other work too.
+# over which the programs are quickest, have four times as many octets. The programs run by turns, five times each, and
+# each figure is the best of these runs: by the clock, and by the processor time that the program took, which says more
+# on a machine that does other work too.
+#
+# The limit is bench/limit.c, a plain C program that writes the same lines over all of these streams but mixed, and
+# knows nothing else. It is compiled where a C compiler for x86-64 is there; where none is, that is said and its rows
+# are left out. Over a short stream of each sort its lines are compared with the dumper's.
 set -eu
 
 octets=${1:-100000000}
@@ -26,9 +31,21 @@ for tool in python3 xxd /usr/bin/time; do
 done
 [ $# -gt 1 ] || (cd "$top/crates/giopdump" && rt run <stdin >"$work/build" 2>&1) || { cat "$work/build" >&2; exit 1; }
 
+# The limit runs where it could be compiled.
+limit=$work/limit
+cc -O3 -march=x86-64-v2 -o "$limit" "$top/bench/limit.c" 2>"$work/compiled" ||
+    { printf 'no limit, since cc did not compile bench/limit.c: %s\n\n' "$(head -n 1 "$work/compiled")"; limit=; }
+
 # Runs a program over the stream once, and notes its figures. Faults that the dumper counts are no failure.
 run() {
     /usr/bin/time -a -o "$work/$(basename "$1").runs" -f 'run %e %U %S %M' "$@" <"$work/stream" >/dev/null || [ $? -eq 1 ]
+}
+
+# Whether the limit writes the lines of the dumper, which has these words: over a stream of 200,000 octets.
+compared() {
+    python3 "$top/bench/$name.py" 200000 >"$work/short"
+    "$dumper" "$@" <"$work/short" >"$work/lines"
+    "$limit" "$open" <"$work/short" | cmp - "$work/lines" >&2
 }
 
 # Prints the figures of a program's runs over so many octets.
@@ -56,17 +73,29 @@ for name in mixed typed fragments openers many large doubles captured; do
     esac
     python3 "$top/bench/$name.py" "$many" >"$work/stream"
     size=$(wc -c <"$work/stream")
+    open=16
+    [ "$name" != many ] || open=4096
+    beside=$limit
+    [ "$name" != mixed ] || beside=
+    [ -z "$beside" ] || compared "$@" || { echo "$name: the limit has other lines than the dumper" >&2; exit 1; }
     rm -f "$work"/*.runs
     for _ in 1 2 3 4 5; do
         run "$dumper" "$@"
         run xxd
+        [ -z "$beside" ] || run "$beside" "$open"
     done
     printf '%s: %s octets\n%-10s %12s %12s %9s\n' \
         "$name" "$size" program 'by clock' 'by processor' 'peak KiB'
-    { figures "$(basename "$dumper")" "$size" && figures xxd "$size"; } >"$work/figures"
+    for program in "$(basename "$dumper")" xxd ${beside:+limit}; do
+        figures "$program" "$size"
+    done >"$work/figures"
     cat "$work/figures"
     awk '
-        { clock[NR] = $2; cpu[NR] = $3 }
-        END { printf "%-10s %12.2f %12.2f\n\n", "ratio", clock[1] / clock[2], cpu[1] / cpu[2] }
+        { name[NR] = $1; clock[NR] = $2; cpu[NR] = $3 }
+        END {
+            for (i = 2; i <= NR; i++)
+                printf "%-10s %12.2f %12.2f\n", "of " name[i], clock[1] / clock[i], cpu[1] / cpu[i]
+            print ""
+        }
     ' "$work/figures"
 done
