@@ -30,12 +30,11 @@ use Rattle.giop_stream.specs.Stream.{text, start_count, fault_count, tally, is_i
 use Rattle.giop_checkpoint.specs.declared.fault.StreamFault.TheVariants.{Magic}
 use Rattle.giop_checkpoint.specs.declared.layout.Layout.TheVariants.{Second, Third}
 use Rattle.giop_stream.specs.declared.slots.Slots.{Slots}
-use Rattle.giop_stream.specs.declared.slots.Payload.{Payload}
-use Rattle.giop_stream.specs.declared.slots.Payload.TheVariants as payload
+use Rattle.giop_stream.specs.declared.slots.PayloadOwner.TheVariants as owners
 use Rattle.giop_stream.specs.OpenSlots.{octets_of, slots_of, is_open}
 use Rattle.giop_stream.specs.EngineView.{FramingView}
 use Rattle.giop_stream.specs.EngineState.{state_of, own_for, owner_for}
-use Rattle.giop_stream.specs.ViewOfState.{payload_count_in, comes_itself}
+use Rattle.giop_stream.specs.ViewOfState.{payload_count_in}
 use Rattle.giop_stream.specs.Checkpoint.{counts_of, fixed_of, checkpoint_octets}
 use Rattle.giop_stream_rows.specs.Worked.{digit, octets, stream, written, read_by, called, table_of, builtin, puts, bigs, late, asks, kept}
 use Rattle.giop_stream_rows.specs.Streams.{CloseConnection, LittleRequest, Interleaved, OpenTwice, OneOpen, Cancelled, Replied, Raised, CodeSets, CodeSetsCutShort, Profile}
@@ -104,7 +103,7 @@ profile = record { text = refl; closing = refl }
 
 -- those that give the octets of a checkpoint
 unfoldable pub a_checkpoint : ℕ
-unfolding four eight magic counts_octets state_octets fixed_octets counts_of fixed_of checkpoint_octets octets_of slots_of state_of own_for owner_for is_open payload_count_in comes_itself five_octets one_in_payload bad_magic
+unfolding four eight magic counts_octets state_octets fixed_octets counts_of fixed_of checkpoint_octets octets_of slots_of state_of own_for owner_for is_open payload_count_in five_octets one_in_payload bad_magic
 a_checkpoint = 0
 
 -- numbers that are each below 256
@@ -115,11 +114,10 @@ are_octets (x ∷ xs) h (suc k) d below =
     are_octets xs (and_parts (nat_lt x 256) (list_all (λ y. nat_lt y 256) xs) h).1 k d (omega (arith, below))
 
 -- slots without a message, where so many may be open
-no_messages : ℕ → Payload → Slots
-no_messages most payload = record {
+no_messages : ℕ → Slots
+no_messages most = record {
   slots = record { most = most; entries = [] };
-  own = None;
-  payload = payload;
+  owner = owners.Current None;
 }
 
 -- the fields of the engine after each stream
@@ -129,7 +127,7 @@ in_header = record {
   stopped = None;
   header = 71 ∷ 73 ∷ 79 ∷ 80 ∷ 1 ∷ [];
   payload_count = 0;
-  slots = no_messages 16 payload.Nobody;
+  slots = no_messages 16;
 }
 
 in_payload : FramingView
@@ -138,7 +136,7 @@ in_payload = record {
   stopped = None;
   header = 71 ∷ 73 ∷ 79 ∷ 80 ∷ 1 ∷ 0 ∷ 0 ∷ 7 ∷ 0 ∷ 0 ∷ 0 ∷ 4 ∷ [];
   payload_count = 1;
-  slots = no_messages 1 payload.Own;
+  slots = no_messages 1;
 }
 
 behind_fault : FramingView
@@ -147,7 +145,7 @@ behind_fault = record {
   stopped = Some Magic;
   header = [];
   payload_count = 0;
-  slots = no_messages 4096 payload.Nobody;
+  slots = no_messages 4096;
 }
 
 pub in_a_header : InAHeader
@@ -167,11 +165,9 @@ in_a_header = record {
     header = refl;
     payload_count = refl;
     slots = tt;
-    own = tt;
-    owner = refl;
-    turn = λ _. refl;
+    owner = (tt, refl);
   };
-  ready = record { own_ready = tt; each_ready = tt };
+  ready = record { current_ready = tt; each_ready = tt };
 }
 
 pub in_an_old_header : InAnOldHeader
@@ -191,11 +187,9 @@ in_an_old_header = record {
     header = refl;
     payload_count = refl;
     slots = tt;
-    own = tt;
-    owner = refl;
-    turn = λ _. refl;
+    owner = (tt, refl);
   };
-  ready = record { own_ready = tt; each_ready = tt };
+  ready = record { current_ready = tt; each_ready = tt };
 }
 
 pub in_a_payload : InAPayload
@@ -215,11 +209,9 @@ in_a_payload = record {
     header = refl;
     payload_count = refl;
     slots = tt;
-    own = tt;
-    owner = refl;
-    turn = λ _. refl;
+    owner = (tt, refl);
   };
-  ready = record { own_ready = tt; each_ready = tt };
+  ready = record { current_ready = tt; each_ready = tt };
 }
 
 pub behind_a_fault : BehindAFault
@@ -239,9 +231,7 @@ behind_a_fault = record {
     header = refl;
     payload_count = refl;
     slots = tt;
-    own = tt;
-    owner = refl;
-    turn = λ _. refl;
+    owner = (tt, refl);
   };
-  ready = record { own_ready = tt; each_ready = tt };
+  ready = record { current_ready = tt; each_ready = tt };
 }

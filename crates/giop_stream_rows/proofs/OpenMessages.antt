@@ -34,7 +34,7 @@ use Rattle.giop_checkpoint.specs.Records as records
 use Rattle.giop_checkpoint.specs.Records.{Entry, EntryHasRange}
 use Rattle.giop_checkpoint.specs.declared.record.RecordKind.TheVariants as record_kinds
 use Rattle.giop_checkpoint.specs.declared.layout.Layout.TheVariants.{Third}
-use Rattle.giop_stream.specs.declared.slots.Payload.TheVariants as payload
+use Rattle.giop_stream.specs.declared.slots.PayloadOwner.TheVariants as owners
 use Rattle.giop_stream.specs.EngineView.{FramingView}
 use Rattle.giop_stream.specs.Checkpoint.{IsHeld}
 use Rattle.giop_stream_rows.specs.Worked.{bigs}
@@ -130,8 +130,7 @@ between = record {
       entries = record { key = 5; value = record { number = 1; header = header 40; message = Some first } }
           ∷ record { key = 6; value = record { number = 2; header = header 36; message = Some second } } ∷ [];
     };
-    own = None;
-    payload = payload.Nobody;
+    owner = owners.Current None;
   };
 }
 
@@ -395,12 +394,10 @@ two_open = record {
       record { number = refl; header = refl; id = refl; message = first_follows },
       (record { number = refl; header = refl; id = refl; message = second_follows }, tt),
     );
-    own = tt;
-    owner = refl;
-    turn = λ _. refl;
+    owner = (tt, refl);
   };
   ready = record {
-    own_ready = tt;
+    current_ready = tt;
     each_ready = ((first_fits, omega arith), ((omega arith, omega arith), tt));
   };
 }
