@@ -1,4 +1,5 @@
--- A part for which there is room, and which adds few interfaces, adds no more where more may be added.
+-- A part for which there is room, and which adds few interfaces, adds no more where more may be
+-- added.
 use Rattle.std.proofs.Common.{ℕ, ◌≤◌, arith}
 use Rattle.capture_file.specs.declared.part.Outcome.{Outcome}
 use Rattle.capture_file.specs.declared.part.Outcome.TheVariants.{Continues, EndsPacket, Fails}

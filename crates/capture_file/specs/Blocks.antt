@@ -1,4 +1,5 @@
--- What comes behind each part of a pcapng file (the PCAP Next Generation capture file format; meaning).
+-- What comes behind each part of a pcapng file (the PCAP Next Generation capture file format;
+-- meaning).
 use Rattle.std.specs.Prelude.{ℕ, ◌+◌, ◌-◌, ◌*◌, ◌/◌, ◌%◌, ◌^◌, min, nat_lt, nat_le, ◌==◌, ◌&&◌, ◌||◌, List, length, slice_get, slice_index, Option, Some, None, if◌then◌else◌}
 use Rattle.capture_file.specs.declared.fault.FaultKind.TheVariants as faults
 use Rattle.capture_file.specs.declared.part.ByteOrder.{ByteOrder}
@@ -100,7 +101,8 @@ options block interface skip =
     (parts.OptionHeader (record block { left = block.left - (skip + 4) }) interface skip)
     else Continues (parts.InterfaceEnd block interface)
 
--- the link type, two octets without a use, the snapshot length; a unit is a microsecond unless an option says another
+-- the link type, two octets without a use, the snapshot length; a unit is a microsecond unless an
+-- option says another
 unfoldable pub interface_header : Block → List ℕ → Outcome
 interface_header block octets =
     options block (record {
@@ -113,7 +115,8 @@ interface_header block octets =
 abbrev pub padded : ℕ → ℕ
 padded count = (count + 3) / 4 * 4
 
--- the code and the length of an option: the options end with code 0, or where there is no room for the value; code 9 of one
+-- the code and the length of an option: the options end with code 0, or where there is no room for
+-- the value; code 9 of one
 -- octet is the unit of times (`if_tsresol`)
 unfoldable pub option_header : Block → Interface → List ℕ → Outcome
 option_header block interface octets =
@@ -125,11 +128,13 @@ option_header block interface octets =
     then Continues (parts.TimeUnit (record block { left = block.left - 1 }) interface) else
     options block interface (padded count))
 
--- how many units make a second: 10 to the number, or 2 to the number without its upper bit where that is set
+-- how many units make a second: 10 to the number, or 2 to the number without its upper bit where
+-- that is set
 abbrev pub ticks_of : ℕ → ℕ
 ticks_of unit = if nat_lt unit 128 then 10 ^ unit else 2 ^ (unit - 128)
 
--- the unit of times, and three octets of padding; units below 10^-19 and 2^-63 seconds are out of range
+-- the unit of times, and three octets of padding; units below 10^-19 and 2^-63 seconds are out of
+-- range
 unfoldable pub time_unit : Block → Interface → List ℕ → Outcome
 time_unit block interface octets =
     let unit = slice_index octets 0 in
@@ -157,7 +162,8 @@ packet_of block body =
 abbrev pub nanoseconds_of : ℕ → ℕ → ℕ
 nanoseconds_of units ticks = units * 1000000000 / ticks
 
--- nanoseconds since 1970 of so many units; none from the year 10000 on (nor by a unit that no second has, which no interface
+-- nanoseconds since 1970 of so many units; none from the year 10000 on (nor by a unit that no
+-- second has, which no interface
 -- can say)
 unfoldable pub time_of : ℕ → ℕ → Option ℕ
 time_of units ticks =

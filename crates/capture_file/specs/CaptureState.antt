@@ -1,4 +1,5 @@
--- What a capture holds of the octets that were taken: each of its fields is determined by all of them (state).
+-- What a capture holds of the octets that were taken: each of its fields is determined by all of
+-- them (state).
 use Rattle.std.specs.Prelude.{◌≡◌, ℕ, ◌+◌, ◌≤◌, Bool, true, false, List, [], ◌∷◌, ◌++◌, length, slice_range, Some, None, if◌then◌else◌}
 use Rattle.capture_file.specs.declared.capture.Capture.{Capture}
 use Rattle.capture_file.specs.declared.part.Head.{Head}
@@ -8,7 +9,8 @@ use Rattle.capture_file.specs.Parts.{front, passed, back}
 use Rattle.capture_file.specs.Window.{IsHeld}
 use Rattle.capture_file.specs.Reading.{ParserState, Ending, Within, Faulted, reading, packets, fault}
 
--- a part has begun, and these octets of it have come: of those at its front and at its end the capture holds what has come
+-- a part has begun, and these octets of it have come: of those at its front and at its end the
+-- capture holds what has come
 pub record HoldsPart (c : Capture) (state : ParserState) (had : List ℕ) : Type 0 where
   pub running : c.fault ≡ None
   pub part : c.part ≡ state.part
@@ -50,7 +52,8 @@ abbrev pub octets_in : Capture → List ℕ → List ℕ
 octets_in c octets =
     slice_range (octets_around c octets) c.packet_range.start c.packet_range.end
 
--- The answer to octets that were taken behind p, the first of those given: with the last of them comes what the reading has
+-- The answer to octets that were taken behind p, the first of those given: with the last of them
+-- comes what the reading has
 -- there, and with none before it. More octets were taken, a packet is complete, or a fault shows.
 abbrev pub Answers : Progress → List ℕ → List ℕ → Capture → List ℕ → Type 0
 Answers progress.More p taken c octets =

@@ -10,7 +10,8 @@ use Rattle.capture_file.specs.Parts.{front, passed, back, packet_offset}
 use Rattle.capture_file.specs.Window.{IsHeld}
 use Rattle.capture_file.specs.Format.{interfaces_behind}
 
--- of a piece of the part that has begun what is looked at or given when it is complete is held behind what was
+-- of a piece of the part that has begun what is looked at or given when it is complete is held
+-- behind what was
 pub record HoldsPiece (old new : Capture) (piece : List ℕ) : Type 0 where
   pub part : new.part ≡ old.part
   pub interfaces : new.interfaces.items ≡ old.interfaces.items

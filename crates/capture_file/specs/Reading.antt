@@ -1,4 +1,5 @@
--- What a capture has: its packets, and the fault that ends its reading (meaning). A capture is parts, one behind another; each
+-- What a capture has: its packets, and the fault that ends its reading (meaning). A capture is
+-- parts, one behind another; each
 -- says by its octets what comes next.
 use Rattle.std.specs.Prelude.{ℕ, zero, suc, ◌+◌, nat_lt, List, [], ◌∷◌, length, take, drop, Option, Some, None, if◌then◌else◌}
 use Rattle.capture_file.specs.declared.fault.FaultKind.TheVariants.{Truncated}
@@ -12,7 +13,8 @@ use Rattle.capture_file.specs.declared.part.Outcome.TheVariants.{Continues, Ends
 use Rattle.capture_file.specs.Parts.{front, passed, back, packet_offset, size, may_end_before}
 use Rattle.capture_file.specs.Format.{next, interfaces_behind}
 
--- a packet: its link type, its time, its octets, and how many octets the capture has up to and with the last one of the
+-- a packet: its link type, its time, its octets, and how many octets the capture has up to and with
+-- the last one of the
 -- packet's record or block
 pub record PacketRecord : Type 0 where
   pub place : ℕ
@@ -24,7 +26,8 @@ pub record ParserState : Type 0 where
   pub part : Part
   pub interfaces : List Interface
 
--- how a reading ends: within a part, behind so many octets of the capture, of which these have come; or with a fault
+-- how a reading ends: within a part, behind so many octets of the capture, of which these have
+-- come; or with a fault
 pub data Ending : Type 0 where
   Within : ParserState → ℕ → List ℕ → Ending
   Faulted : CaptureFault → Ending
@@ -42,7 +45,8 @@ end_of part octets = take (back part) (drop (front part + passed part) octets)
 abbrev pub packet_in : Part → List ℕ → List ℕ
 packet_in part octets = drop (packet_offset part) (take (front part) octets)
 
--- a reading that goes on behind a part, at this place; these octets are the packet's, if the part ends one
+-- a reading that goes on behind a part, at this place; these octets are the packet's, if the part
+-- ends one
 abbrev pub behind : ParserState → List ℕ → ℕ → Outcome → (ParserState → Reading) → Reading
 behind state packet place (Continues part) rest =
     rest (record { part = part; interfaces = interfaces_behind state.part state.interfaces })
@@ -53,7 +57,8 @@ behind state packet place (EndsPacket head part) rest =
 behind state packet place (Fails kind) rest =
     record { packets = []; ending = Faulted (record { kind = kind; place = place }) }
 
--- The reading of octets, where this is due behind so many others. The first number bounds how many parts are read; each has
+-- The reading of octets, where this is due behind so many others. The first number bounds how many
+-- parts are read; each has
 -- an octet, so there are no more parts than octets.
 unfoldable pub reading_from : ℕ → ParserState → ℕ → List ℕ → Reading
 reading_from zero state at octets = record { packets = []; ending = Within state at octets }

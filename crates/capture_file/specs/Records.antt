@@ -14,7 +14,8 @@ use Rattle.capture_file.specs.Numbers.{two_at, four_at}
 abbrev pub most_captured : ℕ
 most_captured = 262144
 
--- the magic says the order of the file's own numbers, and whether its times are in microseconds or nanoseconds; a pcapng file
+-- the magic says the order of the file's own numbers, and whether its times are in microseconds or
+-- nanoseconds; a pcapng file
 -- begins with the type of a section header block, which is the same in either order
 unfoldable pub beginning : List ℕ → Outcome
 beginning octets =
@@ -35,7 +36,8 @@ file_version magic octets =
     if two_at magic.order 0 octets == 2 then Continues (parts.FileRest magic)
     else Fails faults.Version
 
--- eight octets without a use, the snapshot length, and the link type, whose upper bits say something else
+-- eight octets without a use, the snapshot length, and the link type, whose upper bits say
+-- something else
 unfoldable pub file_rest : Magic → List ℕ → Outcome
 file_rest magic octets =
     Continues (parts.RecordHeader (record {

@@ -13,10 +13,12 @@ octets (a ∷ []) = []
 octets (a ∷ (b ∷ more)) =
     if a == 32 then octets (b ∷ more) else (16 * digit a + digit b) ∷ octets more
 
--- pcap, the least significant octet first, nanoseconds: 1 second and 2,000,000,007 nanoseconds, and two octets of five
+-- pcap, the least significant octet first, nanoseconds: 1 second and 2,000,000,007 nanoseconds, and
+-- two octets of five
 abbrev pub records : List ℕ
 records = octets
-    (codes "4d3cb2a1 0200 0400 00000000 00000000 00000400 65000000 01000000 07943577 02000000 05000000 abcd")
+    (codes
+    "4d3cb2a1 0200 0400 00000000 00000000 00000400 65000000 01000000 07943577 02000000 05000000 abcd")
 
 abbrev pub OfRecords : Type 0
 OfRecords = packets records
@@ -29,7 +31,8 @@ OfRecords = packets records
 -- a section, and an interface whose times are in units of 2^-10 seconds
 abbrev pub section : List ℕ
 section = octets
-    (codes "0a0d0d0a 0000001c 1a2b3c4d 0001 0000 ffffffffffffffff 0000001c 00000001 00000020 0065 0000 00000000 0009 0001 8a 000000 0000 0000 00000020")
+    (codes
+    "0a0d0d0a 0000001c 1a2b3c4d 0001 0000 ffffffffffffffff 0000001c 00000001 00000020 0065 0000 00000000 0009 0001 8a 000000 0000 0000 00000020")
 
 -- an enhanced packet of one octet, 1536 units after 1970, but for its second length
 abbrev pub packet : List ℕ

@@ -78,7 +78,8 @@ module _ {V : Type 0} where
   removed id (e ∷ es) from apart = by (e.key == id) refl (removed id es (from + 1) apart.1)
     where
       later : (o : Option ℕ) →
-          IfSome o (λ place. (from + 1 ≤ place) × (remove es (place - (from + 1)) ≡ without id es)) →
+          IfSome o (λ place. (from + 1 ≤ place)
+          × (remove es (place - (from + 1)) ≡ without id es)) →
           IfSome o (λ place. (from ≤ place) × (remove (e ∷ es) (place - from) ≡ e ∷ without id es))
       later None rest = tt
       later (Some place) rest =

@@ -8,7 +8,8 @@ use Rattle.tcp_connections.specs.Connections.{State}
 use Rattle.giop_run.specs.SourceLog.{SourceLog}
 use Rattle.giop_capture_run.specs.CaptureRun.{ReadWhole}
 
-abbrev pub observed_less : (O O' : List Event → Type 0) (Told : List ℕ → Type 0) (F : Reader) (connections : Connections)
+abbrev pub observed_less : (O O' : List Event → Type 0) (Told : List ℕ → Type 0) (F : Reader)
+    (connections : Connections)
     (live : List ℕ) (c : Capture) (start : State) (s : List ℕ) (before after : SourceLog)
     (found : Option CaptureFault) → ((events : List Event) → O events → O' events)
     → ReadWhole O Told F connections live c start s before after found
@@ -22,6 +23,11 @@ observed_less O O' Told F connections live c start s before after found less h =
       over = h.over;
       reads = h.reads;
       fault = h.fault;
-      ended = record { observed = less _ h.ended.observed; live = h.ended.live; same = h.ended.same };
+      ended = record {
+        observed = less _ h.ended.observed;
+        live = h.ended.live;
+        same =
+            h.ended.same;
+      };
       told = h.told;
     }

@@ -27,7 +27,8 @@ some_known : (after : Option (List ℕ)) (w : List ℕ) → Keeps (Some w) after
 some_known None w kept = absurd kept
 some_known (Some xs) w kept = ap Some kept
 
-pub still_known : (before after : Option (List ℕ)) (w : List ℕ) → Keeps before after → before ≡ Some w
+pub still_known : (before after : Option (List ℕ)) (w : List ℕ) → Keeps before after →
+    before ≡ Some w
     → after ≡ Some w
 still_known before after w kept known = some_known after w (subst (λ x. Keeps x after) known kept)
 
@@ -62,12 +63,15 @@ told_on c put S written events kept told =
 pub kept_on : {O : Type 0} {A E : Type 0} (begins : Setup → List ℕ → Type 0) (c d : Conversations O)
     (events : List Event) (r : Result A E)
     → d ≡ record c { out = record c.out { whole = d.out.whole } } → Keeps c.out.whole d.out.whole
-    → Follows c events × ((S : Setup) (written : List ℕ) → begins S written → Told S written events c)
-    → OnOk r (Follows d events × ((S : Setup) (written : List ℕ) → begins S written → Told S written events d))
+    → Follows c events × ((S : Setup) (written : List ℕ) → begins S written →
+    Told S written events c)
+    → OnOk r (Follows d events × ((S : Setup) (written : List ℕ) → begins S written →
+    Told S written events d))
 kept_on begins c d events (Err e) same kept h = tt
 kept_on begins c d events (Ok v) same kept h = (
   subst (λ x. Follows x events) (sym same) h.0,
-  λ S written b. subst (λ x. Told S written events x) (sym same) (told_on c d.out.whole S written events kept (h.1 S written b)),
+  λ S written b. subst (λ x. Told S written events x) (sym same)
+      (told_on c d.out.whole S written events kept (h.1 S written b)),
 )
 
 -- a text that was put stays

@@ -36,40 +36,48 @@ signatures_of asked = option_map (λ name. name.now) asked.signatures
 abbrev pub capture_of : Arguments → Option (List ℕ)
 capture_of asked = option_map (λ name. name.now) asked.capture
 
--- What is known of a dump before it begins is true: its setup is that which is asked for, by these types, and this was written
+-- What is known of a dump before it begins is true: its setup is that which is asked for, by these
+-- types, and this was written
 -- before.
 abbrev pub BeginsAs : (Setup → List ℕ → Type 0) → Arguments → Table → Option (List ℕ) → Type 0
 BeginsAs begins asked table before =
     (S : Setup) (written : List ℕ) → begins S written
     → (S ≡ setup table asked.messages asked.calls asked.connections) × (before ≡ Some written)
 
--- A source, of which this is known, was read to the end of a capture or to its fault. What the packets, the fault and the end do to
--- the connections that are asked for has happened, and the conversations have followed it; link types that aren't read were told.
--- What was put is the text of just that, with the capture's last line, behind what was written before; the lines of each stream in
+-- A source, of which this is known, was read to the end of a capture or to its fault. What the
+-- packets, the fault and the end do to
+-- the connections that are asked for has happened, and the conversations have followed it; link
+-- types that aren't read were told.
+-- What was put is the text of just that, with the capture's last line, behind what was written
+-- before; the lines of each stream in
 -- it are giopdump's.
 pub record CaptureDumped {N : Type 0} (ending : Ending) (told : N → List ℕ → Type 0)
-    (begins : Setup → List ℕ → Type 0) (asked : Arguments) (source put : Option (List ℕ)) : Type 0 where
-  pub before : SourceLog
-  pub after : SourceLog
-  pub reader : before.left ≡ source
-  pub capture : Capture
-  pub octets : List ℕ
-  pub found : Option CaptureFault
-  pub notices : N
-  pub connections : Connections
-  pub live : List ℕ
-  pub rooms : List Conversation
-  pub faulty : Bool
-  pub whole : ReadWhole (HaveFollowed rooms) (told notices) reader_faulted connections live capture
-      (none_known asked.ports.items asked.pool asked.connections []) octets before after found
-  pub ends : ending ≡ ending_of found faulty
-  pub text : (S : Setup) (written : List ℕ) → begins S written
-      → HasText S written
-      (capture_ended reader_faulted (none_known asked.ports.items asked.pool asked.connections []) whole.read).events
-      (length (packets whole.read)) (length whole.read) put
-  pub streams : (S : Setup) (written : List ℕ) (known : begins S written) → HasStreams S written
-      (capture_ended reader_faulted (none_known asked.ports.items asked.pool asked.connections []) whole.read).events
-      (length (packets whole.read)) (length whole.read) (text S written known)
+    (begins : Setup → List ℕ → Type 0) (asked : Arguments) (source put : Option (List ℕ)) : Type 0
+  where
+    pub before : SourceLog
+    pub after : SourceLog
+    pub reader : before.left ≡ source
+    pub capture : Capture
+    pub octets : List ℕ
+    pub found : Option CaptureFault
+    pub notices : N
+    pub connections : Connections
+    pub live : List ℕ
+    pub rooms : List Conversation
+    pub faulty : Bool
+    pub whole : ReadWhole (HaveFollowed rooms) (told notices) reader_faulted connections live
+        capture
+        (none_known asked.ports.items asked.pool asked.connections []) octets before after found
+    pub ends : ending ≡ ending_of found faulty
+    pub text : (S : Setup) (written : List ℕ) → begins S written
+        → HasText S written
+        (capture_ended reader_faulted (none_known asked.ports.items asked.pool asked.connections [])
+        whole.read).events
+        (length (packets whole.read)) (length whole.read) put
+    pub streams : (S : Setup) (written : List ℕ) (known : begins S written) → HasStreams S written
+        (capture_ended reader_faulted (none_known asked.ports.items asked.pool asked.connections [])
+        whole.read).events
+        (length (packets whole.read)) (length whole.read) (text S written known)
 
 -- the reading of a capture, or the writing of its lines, failed
 abbrev pub RunFailed : ProgramFault → Type 0

@@ -1,4 +1,5 @@
--- That the lines of each stream of a capture are giopdump's, but for those of five kinds (docs/FORMATS.md, Captures; meaning).
+-- That the lines of each stream of a capture are giopdump's, but for those of five kinds
+-- (docs/FORMATS.md, Captures; meaning).
 use Rattle.std.specs.Prelude.{◌≡◌, ℕ, List, ◌++◌}
 use Rattle.std.specs.List.{AllByRecursion as Each}
 use Rattle.giop_stream.specs.Stream.{text}
@@ -6,16 +7,19 @@ use Rattle.giop_conversation.specs.Captured.{Setup, rules_in}
 use Rattle.giop_conversation.specs.CaptureParts.{Part, text_of, IsWhole, read_of, own_of}
 use Rattle.giop_conversation.specs.StreamTexts.{StreamHistory, History, dumped, IsUnique}
 
--- The lines that a stream has by itself are giopdump's: those where its octets are read are its text, and all of them with those at
+-- The lines that a stream has by itself are giopdump's: those where its octets are read are its
+-- text, and all of them with those at
 -- its end are what giopdump writes.
 pub record IsWholeDump (S : Setup) (s : StreamHistory) (reads own : List ℕ) : Type 0 where
   pub reads_are : reads ≡ text (rules_in S s.answers) s.octets
   pub own_are : own ≡ dumped (rules_in S s.answers) s
 
--- Behind what was written before, the text is parts, each of whole lines. Those that a stream has by itself are giopdump's.
-pub record ShowsEachStream (S : Setup) (written : List ℕ) (h : History) (all : List ℕ) : Type 0 where
-  pub parts : List Part
-  pub whole : Each IsWhole parts
-  pub shows : all ≡ written ++ text_of parts
-  pub streams : (number : ℕ) → IsUnique number →
-      IsWholeDump S (h.stream number) (read_of number parts) (own_of number parts)
+-- Behind what was written before, the text is parts, each of whole lines. Those that a stream has
+-- by itself are giopdump's.
+pub record ShowsEachStream (S : Setup) (written : List ℕ) (h : History) (all : List ℕ) : Type 0
+  where
+    pub parts : List Part
+    pub whole : Each IsWhole parts
+    pub shows : all ≡ written ++ text_of parts
+    pub streams : (number : ℕ) → IsUnique number →
+        IsWholeDump S (h.stream number) (read_of number parts) (own_of number parts)

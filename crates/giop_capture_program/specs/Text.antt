@@ -5,7 +5,8 @@ use Rattle.giop_conversation.specs.Captured.{Setup, Dump, Leads, start, finished
 use Rattle.giop_conversation.specs.StreamTexts.{no_history, history}
 use Rattle.giop_capture_program.specs.Streams.{ShowsEachStream}
 
--- These events lead to a dump, of a capture of so many packets and octets: what was put is what was written before it began,
+-- These events lead to a dump, of a capture of so many packets and octets: what was put is what was
+-- written before it began,
 -- then its text and its last line, and no more.
 pub record HasText (S : Setup) (written : List ℕ) (events : List Event) (packets octets : ℕ)
     (put : Option (List ℕ)) : Type 0 where
@@ -14,7 +15,9 @@ pub record HasText (S : Setup) (written : List ℕ) (events : List Event) (packe
   pub text : put ≡ Some (finished_text dump packets octets)
 
 -- In this text the lines of each stream are giopdump's.
-abbrev pub HasStreams : {put : Option (List ℕ)} → (S : Setup) (written : List ℕ) (events : List Event) (packets octets : ℕ) →
+abbrev pub HasStreams : {put : Option (List ℕ)} →
+    (S : Setup) (written : List ℕ) (events : List Event) (packets octets : ℕ) →
     HasText S written events packets octets put → Type 0
 HasStreams S written events packets octets h =
-    ShowsEachStream S written (history S no_history (start S written) events h.dump h.leads) h.dump.text
+    ShowsEachStream S written (history S no_history (start S written) events h.dump h.leads)
+    h.dump.text

@@ -124,7 +124,8 @@ impl<'a, O: Flush + Drop, B: Beginning> CaptureListener for Teller<'a, O, B> {
     ghost faulty = { λ t. t.conversations.cut || nat_lt 0 t.conversations.totals.faults };
 
     // Below stands the text of the events and the last line, and no more.
-    ghost finished = { λ t events packets octets. (S : Setup) (written : List ℕ) → B.begins S written
+    ghost finished = { λ t events packets octets. (S : Setup) (written : List ℕ) →
+        B.begins S written
         → HasText S written events packets octets t.conversations.out.whole };
 
     fn arrives(&mut self, time: Option<u128>) {

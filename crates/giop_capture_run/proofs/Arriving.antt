@@ -19,7 +19,8 @@ use Rattle.giop_capture_run.proofs.ShortSegments.{short}
 
 -- what follows where a listener didn't fail
 pub answered : {A B : Type 0} (a : Result (Unit {0}) ListenerFault) (r : Result (Unit {0}) OutFault)
-    → r ≡ (elim a [ Ok value ↦ Ok value | Err fault ↦ Err (record {}) ]) → OnOk a A → (A → B) → OnOk r B
+    → r ≡ (elim a [ Ok value ↦ Ok value | Err fault ↦ Err (record {}) ]) → OnOk a A → (A → B) →
+    OnOk r B
 answered (Ok value) r e h f = rw e (f h)
 answered (Err fault) r e h f = rw e tt
 
@@ -42,10 +43,12 @@ pub told_of : (O O' : List Event → Type 0) (live : List ℕ) (c : Connections)
 told_of O O' live c w p h o = told_capture O O' live c w (PacketArrives p.head.time) h o
 
 -- its segment came, or it has none
-pub segment_came : (O : List Event → Type 0) (live : List ℕ) (c : Connections) (F : Reader) (start : State)
+pub segment_came : (O : List Event → Type 0) (live : List ℕ) (c : Connections) (F : Reader)
+    (start : State)
     (ps : List Taken) (p : Taken) (found : Option Segment) → segment p.head.link p.octets ≡ found
     → IsState O live c
-    (with_segment F (with_capture_event (after_packets F start ps) (PacketArrives p.head.time)) found)
+    (with_segment F (with_capture_event (after_packets F start ps) (PacketArrives p.head.time))
+    found)
     → IsState O live c (after_packets F start (ps ++ p ∷ []))
 unfolding packet_arrived
 segment_came O live c F start ps p found same h =
@@ -67,7 +70,8 @@ both A B (Ok value) a b = (a, b)
 both A B (Err fault) a b = tt
 
 -- one packet more was read, of which the connections have what it makes of them
-pub read_more : (O O' : List Event → Type 0) (T T' : List ℕ → Type 0) (F : Reader) (c c' : Connections)
+pub read_more : (O O' : List Event → Type 0) (T T' : List ℕ → Type 0) (F : Reader)
+    (c c' : Connections)
     (live live' links links' : List ℕ) (start : State) (ps : List Taken) (p : Taken)
     → HasRead O T F c live links start ps
     → IsState O' live' c' (after_packets F start (ps ++ p ∷ [])) → c'.segments ≤ c.segments + 1

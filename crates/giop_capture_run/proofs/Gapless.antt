@@ -20,7 +20,8 @@ packet_at : (before : List Segment) (F : Reader) (w : State) (p : Taken) → At 
     → At (before ++ segment_in (segment p.head.link p.octets)) (packet_arrived F w p)
 unfolding packet_arrived
 packet_at before F w p h =
-    segment_at before F (with_capture_event w (PacketArrives p.head.time)) (segment p.head.link p.octets)
+    segment_at before F (with_capture_event w (PacketArrives p.head.time))
+    (segment p.head.link p.octets)
     (told_at before w (PacketArrives p.head.time) h)
 
 packets_at : (before : List Segment) (F : Reader) (w : State) (ps : List Taken) → At before w
@@ -29,24 +30,32 @@ unfolding after_packets
 packets_at before F w [] h = subst (λ (ss : List Segment). At ss w) (sym (append-nil before)) h
 packets_at before F w (p ∷ ps) h =
     let own : List Segment = segment_in (segment p.head.link p.octets) in
-    subst (λ (ss : List Segment). At ss (after_packets F (packet_arrived F w p) ps)) (append_assoc before own (segments_of ps))
+    subst (λ (ss : List Segment). At ss (after_packets F (packet_arrived F w p) ps))
+    (append_assoc before own (segments_of ps))
     (packets_at (before ++ own) F (packet_arrived F w p) ps (packet_at before F w p h))
 
-fault_at : (before : List Segment) (w : State) (fault : Option CaptureFault) → At before w → At before (with_fault w fault)
+fault_at : (before : List Segment) (w : State) (fault : Option CaptureFault) → At before w →
+    At before (with_fault w fault)
 fault_at before w None h = h
 fault_at before w (Some fault) h = told_at before w (HasFault (fault_word fault.kind) fault.place) h
 
-pub packets_gapless : (F : Reader) (ports : List ℕ) (blocks most : ℕ) (packets : List Taken) → 1 ≤ most → most ≤ 65536
-    → AreGapless (segments_of packets) (after_packets F (none_known ports blocks most []) packets).events
+pub packets_gapless : (F : Reader) (ports : List ℕ) (blocks most : ℕ) (packets : List Taken) →
+    1 ≤ most → most ≤ 65536
+    → AreGapless (segments_of packets) (after_packets F (none_known ports blocks most [])
+    packets).events
 packets_gapless F ports blocks most packets some few =
     gapless_of (segments_of packets) (after_packets F (none_known ports blocks most []) packets)
-    (packets_at [] F (none_known ports blocks most []) packets (start_at ports blocks most some few))
+    (packets_at [] F (none_known ports blocks most []) packets
+    (start_at ports blocks most some few))
 
-pub capture_gapless : (F : Reader) (ports : List ℕ) (blocks most : ℕ) (octets : List ℕ) → 1 ≤ most → most ≤ 65536
-    → AreGapless (segments_of (taken_of octets)) (capture_ended F (none_known ports blocks most []) octets).events
+pub capture_gapless : (F : Reader) (ports : List ℕ) (blocks most : ℕ) (octets : List ℕ) → 1 ≤ most →
+    most ≤ 65536
+    → AreGapless (segments_of (taken_of octets))
+    (capture_ended F (none_known ports blocks most []) octets).events
 unfolding capture_ended
 capture_gapless F ports blocks most octets some few =
     let all : State = after_packets F (none_known ports blocks most []) (taken_of octets) in
     ended_gapless (segments_of (taken_of octets)) F (with_fault all (final_fault octets))
     (fault_at (segments_of (taken_of octets)) all (final_fault octets)
-    (packets_at [] F (none_known ports blocks most []) (taken_of octets) (start_at ports blocks most some few)))
+    (packets_at [] F (none_known ports blocks most []) (taken_of octets)
+    (start_at ports blocks most some few)))

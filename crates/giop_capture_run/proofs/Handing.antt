@@ -18,19 +18,26 @@ seam octets read rest n whole =
     ∙ sym (append_assoc read (take n rest) (drop n rest)))
 
 -- what a call took is read too
-pub handed_more : (HasTaken : List Taken → Type 0) (d : Capture) (p octets read rest : List ℕ) (n : ℕ)
+pub handed_more : (HasTaken : List Taken → Type 0) (d : Capture) (p octets read rest : List ℕ)
+    (n : ℕ)
     → octets ≡ read ++ rest → Reads d ((p ++ read) ++ take n rest)
     → HasTaken (taken_of ((p ++ read) ++ take n rest))
     → HandedOn HasTaken d p octets (read ++ take n rest) (drop n rest)
 handed_more HasTaken d p octets read rest n whole reads taken =
     let same = append_assoc p read (take n rest) in
-    record { parts = seam octets read rest n whole; reads = rw same at reads; taken = rw same at taken }
+    record {
+      parts = seam octets read rest n whole;
+      reads = rw same at reads;
+      taken =
+          rw same at taken;
+    }
 
 -- a fault that shows behind it is one of what was read
 pub fault_shows : (p read more : List ℕ) (f : CaptureFault) → fault ((p ++ read) ++ more) ≡ Some f
     → IsSome (fault (p ++ (read ++ more)))
 fault_shows p read more f shows =
-    let e : fault (p ++ (read ++ more)) ≡ Some f = rw (append_assoc p read more) at shows in rw e refl
+    let e : fault (p ++ (read ++ more)) ≡ Some f = rw (append_assoc p read more) at shows in
+    rw e refl
 
 -- the listener was handed the packet that the longer list has more
 pub one_more : (c : Capture) (p more octets : List ℕ) (packet : Packet)
@@ -39,10 +46,16 @@ pub one_more : (c : Capture) (p more octets : List ℕ) (packet : Packet)
       head = head_in c;
       octets = octets_in c octets;
     } ∷ []
-    → packet.link ≡ (head_in c).link → packet.time ≡ (head_in c).time → packet.octets.now ≡ octets_in c octets
+    → packet.link ≡ (head_in c).link → packet.time ≡ (head_in c).time →
+    packet.octets.now ≡ octets_in c octets
     → taken_of (p ++ more) ≡ taken_of p ++ packet_view packet ∷ []
 one_more c p more octets packet e link time same =
-    let r : PacketRecord = record { place = length (p ++ more); head = head_in c; octets = octets_in c octets } in
+    let r : PacketRecord = record {
+      place = length (p ++ more);
+      head = head_in c;
+      octets =
+          octets_in c octets;
+    } in
     let view : taken r ≡ packet_view packet = rw (link, time, same) refl in
     ap (map taken) e ∙ (map-append taken (packets p) (r ∷ []) ∙ ap (λ v. taken_of p ++ v ∷ []) view)
 
@@ -55,7 +68,8 @@ pub packet_short : (c : Capture) (p more octets : List ℕ) (packet : Packet)
     } ∷ []
     → packet.octets.now ≡ octets_in c octets → length packet.octets.now ≤ 262144
 packet_short c p more octets packet e same =
-    rw same (short (p ++ more) (packets p) (record { place = length (p ++ more); head = head_in c; octets = octets_in c octets }) e)
+    rw same (short (p ++ more) (packets p)
+    (record { place = length (p ++ more); head = head_in c; octets = octets_in c octets }) e)
 
 -- the rest of a slice, as the code takes it
 pub rest_of : (n : ℕ) (xs : List ℕ) → take (length xs - n) (drop n xs) ≡ drop n xs

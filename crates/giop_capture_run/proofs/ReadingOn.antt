@@ -13,7 +13,8 @@ consumes_append : (x y z : Option (List ℕ)) (s t : List ℕ) → Consumes x y 
 consumes_append None y z s t p q = tt
 consumes_append (Some xs) None z s t p q = absurd p
 consumes_append (Some xs) (Some ys) None s t p q = absurd q
-consumes_append (Some xs) (Some ys) (Some zs) s t p q = p ∙ (ap (λ v. s ++ v) q ∙ sym (append_assoc s t zs))
+consumes_append (Some xs) (Some ys) (Some zs) s t p q =
+    p ∙ (ap (λ v. s ++ v) q ∙ sym (append_assoc s t zs))
 
 -- one read more, in a count that allows for it
 pub one_more_read : (before so_far turns after most : ℕ) → so_far ≤ before + turns
@@ -35,7 +36,8 @@ pub some_given : (into : List ℕ) (n : ℕ) → n ≤ length into → 0 < n →
 some_given into n within some = let l = length-take n into in omega arith
 
 -- one octet more at least, for each read
-pub longer : (s t : List ℕ) (turns : ℕ) → turns ≤ length s → 0 < length t → turns + 1 ≤ length (s ++ t)
+pub longer : (s t : List ℕ) (turns : ℕ) → turns ≤ length s → 0 < length t →
+    turns + 1 ≤ length (s ++ t)
 longer s t turns so_far some = let l = length-append s t in omega arith
 
 -- what was handed on of more octets is so of all of them
@@ -71,7 +73,8 @@ end_after Before HasTaken c d s t before between after so_far more =
 
 pub failed_after : (fault : RunFault) (Before HasTaken : List Taken → Type 0) (c d : Capture)
     (s t : List ℕ) (before between after : SourceLog) → ReadAll Before c [] s before between
-    → HasReadOnce (Err fault) HasTaken d s t between after → Ran (Err fault) HasTaken d (s ++ t) before after
+    → HasReadOnce (Err fault) HasTaken d s t between after →
+    Ran (Err fault) HasTaken d (s ++ t) before after
 failed_after faults.Read Before HasTaken c d s t before between after so_far more =
     all_after Before HasTaken c d s t before between after so_far more
 failed_after faults.Turns Before HasTaken c d s t before between after so_far more = absurd more

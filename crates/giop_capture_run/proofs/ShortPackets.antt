@@ -72,7 +72,10 @@ short_section order n = either _ _ _ (on _ (omega arith)) (over _)
 
 short_magic : (n : LengthByOrder) (octets : List ℕ) → AreShort (byte_order_magic n octets)
 unfolding byte_order_magic
-short_magic n octets = either (four_at ByteOrder.Big 0 octets == 439041101) (section ByteOrder.Big n.big) _ (short_section ByteOrder.Big n.big) (either (four_at ByteOrder.Little 0 octets == 439041101) (section ByteOrder.Little n.little) (Fails FaultKind.Format) (short_section ByteOrder.Little n.little) (over _))
+short_magic n octets = either (four_at ByteOrder.Big 0 octets == 439041101)
+    (section ByteOrder.Big n.big) _ (short_section ByteOrder.Big n.big)
+    (either (four_at ByteOrder.Little 0 octets == 439041101) (section ByteOrder.Little n.little)
+    (Fails FaultKind.Format) (short_section ByteOrder.Little n.little) (over _))
 
 short_section_version : (block : Block) (octets : List ℕ) → AreShort (section_version block octets)
 unfolding section_version
@@ -82,30 +85,37 @@ short_block : (order : ByteOrder) (kind n count : ℕ) → AreShort (block_of or
 unfolding block_of
 short_block order kind n count = record { short = grind arith }
 
-short_block_header : (order : ByteOrder) (count : ℕ) (octets : List ℕ) → AreShort (block_header order count octets)
+short_block_header : (order : ByteOrder) (count : ℕ) (octets : List ℕ) →
+    AreShort (block_header order count octets)
 unfolding block_header
-short_block_header order count octets = either _ _ _ (on _ (omega arith)) (either _ _ _ (short_block _ _ _ _) (over _))
+short_block_header order count octets = either _ _ _ (on _ (omega arith))
+    (either _ _ _ (short_block _ _ _ _) (over _))
 
-short_options : (block : Block) (interface : Interface) (skip : ℕ) → AreShort (options block interface skip)
+short_options : (block : Block) (interface : Interface) (skip : ℕ) →
+    AreShort (options block interface skip)
 unfolding options
 short_options block interface skip = either _ _ _ (on _ (omega arith)) (on _ (omega arith))
 
-short_options' : (block : Block) (interface : Interface) (skip : ℕ) → LeadsShort (options block interface skip)
+short_options' : (block : Block) (interface : Interface) (skip : ℕ) →
+    LeadsShort (options block interface skip)
 short_options' block interface skip = (short_options block interface skip).short
 
 short_interface : (block : Block) (octets : List ℕ) → AreShort (interface_header block octets)
 unfolding interface_header
 short_interface block octets = short_options _ _ _
 
-short_option : (block : Block) (interface : Interface) (octets : List ℕ) → AreShort (option_header block interface octets)
+short_option : (block : Block) (interface : Interface) (octets : List ℕ) →
+    AreShort (option_header block interface octets)
 unfolding option_header
 short_option block interface octets = record { short = grind (short_options', arith) }
 
-short_unit : (block : Block) (interface : Interface) (octets : List ℕ) → AreShort (time_unit block interface octets)
+short_unit : (block : Block) (interface : Interface) (octets : List ℕ) →
+    AreShort (time_unit block interface octets)
 unfolding time_unit
 short_unit block interface octets = either _ _ _ (short_options _ _ _) (over _)
 
-short_end : (block : Block) (octets : List ℕ) (o : Outcome) → AreShort o → AreShort (block_end block octets o)
+short_end : (block : Block) (octets : List ℕ) (o : Outcome) → AreShort o →
+    AreShort (block_end block octets o)
 unfolding block_end
 short_end block octets o short = either _ _ _ short (over _)
 
@@ -127,7 +137,8 @@ short_enhanced_header : (block : Block) (interface : Interface) (octets : List �
 unfolding enhanced_header
 short_enhanced_header block interface octets = short_packet _ _
 
-short_first : (block : Block) (original : ℕ) (found : Option Interface) → AreShort (of_first_interface block original found)
+short_first : (block : Block) (original : ℕ) (found : Option Interface) →
+    AreShort (of_first_interface block original found)
 short_first block original None = (over _)
 short_first block original (Some interface) = short_packet _ _
 
@@ -136,7 +147,8 @@ short_simple : (block : Block) (interfaces : List Interface) (octets : List ℕ)
 unfolding simple_header
 short_simple block interfaces octets = short_first _ _ _
 
-short_next : (part : Part) (interfaces : List Interface) (octets : List ℕ) → AreShort (next part interfaces octets)
+short_next : (part : Part) (interfaces : List Interface) (octets : List ℕ) →
+    AreShort (next part interfaces octets)
 short_next parts.Beginning interfaces octets = short_beginning octets
 short_next (parts.FileVersion magic) interfaces octets = short_version magic octets
 short_next (parts.FileRest magic) interfaces octets = short_rest magic octets
@@ -147,13 +159,18 @@ short_next (parts.ByteOrderMagic n) interfaces octets = short_magic n octets
 short_next (parts.SectionVersion block) interfaces octets = short_section_version block octets
 short_next (parts.BlockHeader order) interfaces octets = short_block_header order _ octets
 short_next (parts.InterfaceHeader block) interfaces octets = short_interface block octets
-short_next (parts.OptionHeader block interface skip) interfaces octets = short_option block interface octets
+short_next (parts.OptionHeader block interface skip) interfaces octets =
+    short_option block interface octets
 short_next (parts.TimeUnit block interface) interfaces octets = short_unit block interface octets
-short_next (parts.InterfaceEnd block interface) interfaces octets = short_end block octets _ (on _ (omega arith))
-short_next (parts.EnhancedInterface block) interfaces octets = short_enhanced block interfaces octets
-short_next (parts.EnhancedHeader block interface) interfaces octets = short_enhanced_header block interface octets
+short_next (parts.InterfaceEnd block interface) interfaces octets =
+    short_end block octets _ (on _ (omega arith))
+short_next (parts.EnhancedInterface block) interfaces octets =
+    short_enhanced block interfaces octets
+short_next (parts.EnhancedHeader block interface) interfaces octets =
+    short_enhanced_header block interface octets
 short_next (parts.SimpleHeader block) interfaces octets = short_simple block interfaces octets
-short_next (parts.Packet block body) interfaces octets = short_end block octets _ (record { short = omega arith })
+short_next (parts.Packet block body) interfaces octets =
+    short_end block octets _ (record { short = omega arith })
 short_next (parts.BlockEnd block) interfaces octets = short_end block octets _ (on _ (omega arith))
 
 -- ---- A whole reading.
@@ -162,8 +179,10 @@ abbrev AllShort : List PacketRecord → Type 0
 AllShort [] = Unit {0}
 AllShort (r ∷ rs) = (length r.octets ≤ 262144) × AllShort rs
 
-short_behind : (state : ParserState) (packet : List ℕ) (place : ℕ) (o : Outcome) (rest : ParserState → Reading)
-    → LeadsShort o → length packet ≤ 262144 → ((d : ParserState) → IsShort d.part → AllShort (rest d).packets)
+short_behind : (state : ParserState) (packet : List ℕ) (place : ℕ) (o : Outcome)
+    (rest : ParserState → Reading)
+    → LeadsShort o → length packet ≤ 262144 →
+    ((d : ParserState) → IsShort d.part → AllShort (rest d).packets)
     → AllShort (behind state packet place o rest).packets
 short_behind state packet place (Continues part) rest o p r = r _ o
 short_behind state packet place (EndsPacket head part) rest o p r = (p, r _ o)
@@ -174,7 +193,8 @@ short_if : (c : Bool) (a b : Reading) → AllShort a.packets → AllShort b.pack
 short_if true a b p q = p
 short_if false a b p q = q
 
-short_octets : (part : Part) (octets : List ℕ) → IsShort part → length (packet_in part octets) ≤ 262144
+short_octets : (part : Part) (octets : List ℕ) → IsShort part →
+    length (packet_in part octets) ≤ 262144
 short_octets part octets h =
     simp (length-drop, length-take) (omega arith)
 
@@ -183,8 +203,10 @@ short_from : (most : ℕ) (state : ParserState) (at : ℕ) (octets : List ℕ) �
 unfolding reading_from
 short_from zero state at octets h = tt
 short_from (suc most) state at octets h =
-    short_if (nat_lt (length octets) (size state.part)) (record { packets = []; ending = Within state at octets }) _ tt
-    (short_behind state _ _ _ _ (short_next state.part state.interfaces (end_of state.part octets)).short
+    short_if (nat_lt (length octets) (size state.part))
+    (record { packets = []; ending = Within state at octets }) _ tt
+    (short_behind state _ _ _ _ (short_next state.part state.interfaces
+    (end_of state.part octets)).short
     (short_octets state.part octets h)
     (λ d k. short_from most d (at + size state.part) (drop (size state.part) octets) k))
 
@@ -192,7 +214,8 @@ all_short : (p : List ℕ) → AllShort (packets p)
 unfolding reading
 all_short p = short_from (length p) start 0 p (omega arith)
 
-last_short : (rs : List PacketRecord) (r : PacketRecord) → AllShort (rs ++ r ∷ []) → length r.octets ≤ 262144
+last_short : (rs : List PacketRecord) (r : PacketRecord) → AllShort (rs ++ r ∷ []) →
+    length r.octets ≤ 262144
 last_short [] r h = h.0
 last_short (x ∷ xs) r h = last_short xs r h.1
 

@@ -20,7 +20,8 @@ record Within {A : Type 0} (size : A → ℕ) (most : ℕ) (o : Option A) : Type
 nothing : {A : Type 0} {size : A → ℕ} {most : ℕ} → Within size most None
 nothing = record { within = tt }
 
-something : {A : Type 0} {size : A → ℕ} {most : ℕ} (a : A) → size a ≤ most → Within size most (Some a)
+something : {A : Type 0} {size : A → ℕ} {most : ℕ} (a : A) → size a ≤ most →
+    Within size most (Some a)
 something a h = record { within = h }
 
 if_within : {A : Type 0} {size : A → ℕ} {most : ℕ} (c : Bool) (o p : Option A) → Within size most o
@@ -28,13 +29,16 @@ if_within : {A : Type 0} {size : A → ℕ} {most : ℕ} (c : Bool) (o p : Optio
 if_within true o p h k = h
 if_within false o p h k = k
 
-provided_within : {A : Type 0} {size : A → ℕ} {most : ℕ} (c : Bool) (o : Option A) → Within size most o
+provided_within : {A : Type 0} {size : A → ℕ} {most : ℕ} (c : Bool) (o : Option A) →
+    Within size most o
     → Within size most (provided c o)
 provided_within true o h = h
 provided_within false o h = nothing
 
-then_within : {A B : Type 0} (size : A → ℕ) (size' : B → ℕ) (most : ℕ) (o : Option A) (f : A → Option B)
-    → Within size most o → ((a : A) → size a ≤ most → Within size' most (f a)) → Within size' most (o >>= f)
+then_within : {A B : Type 0} (size : A → ℕ) (size' : B → ℕ) (most : ℕ) (o : Option A)
+    (f : A → Option B)
+    → Within size most o → ((a : A) → size a ≤ most → Within size' most (f a)) →
+    Within size' most (o >>= f)
 then_within size size' most None f h k = nothing
 then_within size size' most (Some a) f h k = k a h.within
 
@@ -64,7 +68,8 @@ dropped n most octets h = simp length-drop (omega arith)
 taken : (n most : ℕ) (octets : List ℕ) → length octets ≤ most → length (take n octets) ≤ most
 taken n most octets h = simp length-take (omega arith)
 
-tag : (octets : List ℕ) (most : ℕ) → length octets ≤ most → Within tail_size most (behind_tag octets)
+tag : (octets : List ℕ) (most : ℕ) → length octets ≤ most →
+    Within tail_size most (behind_tag octets)
 unfolding behind_tag
 tag octets most h = provided_within _ _ (something _ (dropped 4 most octets h))
 
@@ -74,7 +79,8 @@ unfolding behind_tags
 tags zero kind octets most h = something _ h
 tags (suc more) kind octets most h =
     if_within (is_tag kind) _ _
-    (then_within tail_size tail_size most (behind_tag octets) _ (tag octets most h) (λ next k. tags more next.0 next.1 most k))
+    (then_within tail_size tail_size most (behind_tag octets) _ (tag octets most h)
+    (λ next k. tags more next.0 next.1 most k))
     (something (kind, octets) h)
 
 typed_within : (kind : ℕ) (octets : List ℕ) (most : ℕ) → length octets ≤ most
@@ -88,16 +94,23 @@ framed : (link : ℕ) (octets : List ℕ) (most : ℕ) → length octets ≤ mos
     → Within packet_size most (packet_of link octets)
 unfolding packet_of
 framed link octets most h =
-    if_within _ (ethernet octets) _ (provided_within _ _ (typed_within _ _ most (dropped 14 most octets h)))
-    (if_within _ (cooked octets) _ (provided_within _ _ (typed_within _ _ most (dropped 16 most octets h)))
-    (if_within _ (cooked_2 octets) _ (provided_within _ _ (typed_within _ _ most (dropped 20 most octets h)))
-    (if_within _ (loopback octets) _ (provided_within _ _ (any_then packet_size most _ _ (λ version. something _ (dropped 4 most octets h))))
+    if_within _ (ethernet octets) _ (provided_within _ _
+    (typed_within _ _ most (dropped 14 most octets h)))
+    (if_within _ (cooked octets) _ (provided_within _ _
+    (typed_within _ _ most (dropped 16 most octets h)))
+    (if_within _ (cooked_2 octets) _ (provided_within _ _
+    (typed_within _ _ most (dropped 20 most octets h)))
+    (if_within _ (loopback octets) _ (provided_within _ _
+    (any_then packet_size most _ _ (λ version. something _ (dropped 4 most octets h))))
     (if_within _ (raw octets) _ (any_then packet_size most _ _ (λ version. something _ h))
-    (if_within (link == 228) _ _ (something (record { version = V4; octets = octets }) h) (if_within (link == 229) _ _ (something (record { version = V6; octets = octets }) h) nothing))))))
+    (if_within (link == 228) _ _ (something (record { version = V4; octets = octets }) h)
+    (if_within (link == 229) _ _ (something (record { version = V6; octets = octets }) h)
+    nothing))))))
 
 -- ---- Datagrams.
 
-limit : (n : ℕ) (octets : List ℕ) (most : ℕ) → length octets ≤ most → length (limited n octets) ≤ most
+limit : (n : ℕ) (octets : List ℕ) (most : ℕ) → length octets ≤ most →
+    length (limited n octets) ≤ most
 unfolding limited
 limit n octets most h = grind (arith, taken, h)
 
@@ -120,10 +133,12 @@ unfolding behind_extensions
 extensions zero kind octets most h = something _ h
 extensions (suc more) kind octets most h =
     if_within _ _ _
-    (then_within tail_size tail_size most (behind_extension kind octets) _ (extension kind octets most h) (λ next k. extensions more next.0 next.1 most k))
+    (then_within tail_size tail_size most (behind_extension kind octets) _
+    (extension kind octets most h) (λ next k. extensions more next.0 next.1 most k))
     (something (kind, octets) h)
 
-headers : (octets : List ℕ) (most : ℕ) → length octets ≤ most → Within length most (behind_headers octets)
+headers : (octets : List ℕ) (most : ℕ) → length octets ≤ most →
+    Within length most (behind_headers octets)
 unfolding behind_headers payload_of
 headers octets most h =
     then_within tail_size length most (behind_extensions 8 _ (payload_of octets)) _
@@ -137,7 +152,8 @@ hosts octets most (Some upper) h = something _ h.within
 
 six : (octets : List ℕ) (most : ℕ) → length octets ≤ most → Within datagram_size most (ipv6 octets)
 unfolding ipv6
-six octets most h = provided_within _ _ (hosts octets most (behind_headers octets) (headers octets most h))
+six octets most h = provided_within _ _ (hosts octets most (behind_headers octets)
+    (headers octets most h))
 
 either : (version : Version) (octets : List ℕ) (most : ℕ) → length octets ≤ most
     → Within datagram_size most (datagram_by version octets)
@@ -146,7 +162,8 @@ either V6 octets most h = six octets most h
 
 -- ---- Segments.
 
-carried : (d : Datagram) (most : ℕ) → datagram_size d ≤ most → Within segment_size most (segment_in d)
+carried : (d : Datagram) (most : ℕ) → datagram_size d ≤ most →
+    Within segment_size most (segment_in d)
 unfolding segment_in
 carried d most h =
     any_then segment_size most (header_size d.octets) _
@@ -155,13 +172,16 @@ carried d most h =
 within : (link : ℕ) (octets : List ℕ) → Within segment_size (length octets) (segment link octets)
 unfolding segment
 within link octets =
-    then_within packet_size segment_size (length octets) (packet_of link octets) _ (framed link octets (length octets) (omega arith))
-    (λ p k. then_within datagram_size segment_size (length octets) (datagram_of p) _ (either p.version p.octets (length octets) k)
+    then_within packet_size segment_size (length octets) (packet_of link octets) _
+    (framed link octets (length octets) (omega arith))
+    (λ p k. then_within datagram_size segment_size (length octets) (datagram_of p) _
+    (either p.version p.octets (length octets) k)
     (λ d l. carried d (length octets) l))
 
 -- the payload of a packet's segment
 pub short : (link : ℕ) (octets : List ℕ) (s : Segment) → segment link octets ≡ Some s
     → length s.payload ≤ length octets
 short link octets s e =
-    let w : IsWithin segment_size (length octets) (segment link octets) = (within link octets).within in
+    let w : IsWithin segment_size (length octets) (segment link octets) =
+    (within link octets).within in
     rw e at w

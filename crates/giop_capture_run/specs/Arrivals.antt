@@ -1,4 +1,5 @@
--- What the packets of a capture do to its connections, and which link types are told of them (meaning).
+-- What the packets of a capture do to its connections, and which link types are told of them
+-- (meaning).
 use Rattle.std.specs.Prelude.{ℕ, List, [], ◌∷◌, flat_map, Option, Some, None, if◌then◌else◌}
 use Rattle.capture_file.specs.declared.fault.CaptureFault.{CaptureFault}
 use Rattle.capture_file.specs.FaultWords.{fault_word}
@@ -39,7 +40,8 @@ abbrev pub with_fault : State → Option CaptureFault → State
 with_fault w None = w
 with_fault w (Some fault) = with_capture_event w (HasFault (fault_word fault.kind) fault.place)
 
--- a capture with these octets, up to its end: its packets, its fault, and then the end of its connections
+-- a capture with these octets, up to its end: its packets, its fault, and then the end of its
+-- connections
 unfoldable pub capture_ended : Reader → State → List ℕ → State
 capture_ended F w p = ended F (with_fault (after_packets F w (taken_of p)) (final_fault p))
 
@@ -49,7 +51,8 @@ capture_ended F w p = ended F (with_fault (after_packets F w (taken_of p)) (fina
 abbrev pub most_links : ℕ
 most_links = 16
 
--- those that were told, behind one packet more of this link type: it is told where it isn't read, with its first packet
+-- those that were told, behind one packet more of this link type: it is told where it isn't read,
+-- with its first packet
 abbrev pub links_noted : List ℕ → ℕ → List ℕ
 links_noted told link = if is_link_read link then told else told_after most_links told link
 

@@ -18,10 +18,14 @@ use Rattle.giop_capture_run.specs.declared.ending.Ending.TheVariants as endings
 use Rattle.giop_capture_run.specs.Packets.{Taken, taken_of, Ran}
 use Rattle.giop_capture_run.specs.Arrivals.{capture_ended, links_told}
 
--- A capture was read to its end, or to its fault, behind which nothing was read; the source gave the octets s. All that its
--- packets, its fault and its end do to the connections was told, and the link types of those that aren't read.
-pub record ReadWhole (O : List Event → Type 0) (Told : List ℕ → Type 0) (F : Reader) (connections : Connections) (live : List ℕ)
-    (c : Capture) (start : State) (s : List ℕ) (before after : SourceLog) (found : Option CaptureFault) : Type 0 where
+-- A capture was read to its end, or to its fault, behind which nothing was read; the source gave
+-- the octets s. All that its
+-- packets, its fault and its end do to the connections was told, and the link types of those that
+-- aren't read.
+pub record ReadWhole (O : List Event → Type 0) (Told : List ℕ → Type 0) (F : Reader)
+    (connections : Connections) (live : List ℕ)
+    (c : Capture) (start : State) (s : List ℕ) (before after : SourceLog)
+    (found : Option CaptureFault) : Type 0 where
   pub given : Consumes before.left after.left s
   pub read : List ℕ
   pub rest : List ℕ
@@ -32,10 +36,12 @@ pub record ReadWhole (O : List Event → Type 0) (Told : List ℕ → Type 0) (F
   pub ended : IsAt O live connections (capture_ended F start read)
   pub told : Told (links_told (taken_of read))
 
--- What a run did, by its result. Where it failed its source or the reads were used up, packets came as always, and the capture has not
+-- What a run did, by its result. Where it failed its source or the reads were used up, packets came
+-- as always, and the capture has not
 -- ended.
 abbrev pub CaptureRan : Result (Option CaptureFault) RunFault → (List Taken → Type 0)
-    → (List Event → Type 0) → (List ℕ → Type 0) → Reader → Connections → List ℕ → Capture → State → List ℕ → SourceLog → SourceLog
+    → (List Event → Type 0) → (List ℕ → Type 0) → Reader → Connections → List ℕ → Capture → State →
+    List ℕ → SourceLog → SourceLog
     → Type 0
 CaptureRan (Ok found) HasTaken O Told F connections live c start s before after =
     ReadWhole O Told F connections live c start s before after found
@@ -50,20 +56,25 @@ is_magic _ = false
 -- how a dump ended, by the fault of the capture and whether its listener was told of one
 abbrev pub ending_of : Option CaptureFault → Bool → Ending
 ending_of (Some fault) faulty =
-    if is_magic fault.kind then endings.NoCapture else (if faulty then endings.Faulty else endings.Whole)
+    if is_magic fault.kind then endings.NoCapture else
+    (if faulty then endings.Faulty else endings.Whole)
 ending_of None faulty = if faulty then endings.Faulty else endings.Whole
 
--- A capture was read whole, and all that is due of it was written: its listener was told of all before the last lines, which
+-- A capture was read whole, and all that is due of it was written: its listener was told of all
+-- before the last lines, which
 -- say whether it was told of a fault. It has finished behind all of that.
 pub record Dumped {L N : Type 0} (ending : Ending) (observed : L → List Event → Type 0)
     (finished : L → List Event → ℕ → ℕ → Type 0) (faulty : L → Bool) (F : Reader)
-    (told : N → List ℕ → Type 0) (c : Capture) (start : State) (before after : SourceLog) (behind : L) : Type 0 where
+    (told : N → List ℕ → Type 0) (c : Capture) (start : State) (before after : SourceLog)
+    (behind : L) : Type 0 where
   pub listener : L
   pub notices : N
   pub connections : Connections
   pub live : List ℕ
   pub octets : List ℕ
   pub found : Option CaptureFault
-  pub whole : ReadWhole (observed listener) (told notices) F connections live c start octets before after found
+  pub whole : ReadWhole (observed listener) (told notices) F connections live c start octets before
+      after found
   pub ends : ending ≡ ending_of found (faulty listener)
-  pub last : finished behind (capture_ended F start whole.read).events (length (packets whole.read)) (length whole.read)
+  pub last : finished behind (capture_ended F start whole.read).events (length (packets whole.read))
+      (length whole.read)

@@ -7,8 +7,10 @@ use Rattle.tcp_connections.specs.State.{IsState}
 use Rattle.giop_capture_run.specs.Packets.{Taken}
 use Rattle.giop_capture_run.specs.Arrivals.{after_packets, links_told}
 
--- The connections have the state that these packets make of one, and the link types of those that aren't read were told.
-pub record HasRead (O : List Event → Type 0) (Told : List ℕ → Type 0) (F : Reader) (c : Connections) (live links : List ℕ)
+-- The connections have the state that these packets make of one, and the link types of those that
+-- aren't read were told.
+pub record HasRead (O : List Event → Type 0) (Told : List ℕ → Type 0) (F : Reader) (c : Connections)
+    (live links : List ℕ)
     (start : State) (packets : List Taken) : Type 0 where
   pub state : IsState O live c (after_packets F start packets)
   pub few : c.segments ≤ length packets

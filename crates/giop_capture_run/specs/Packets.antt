@@ -26,12 +26,15 @@ abbrev pub taken_of : List ℕ → List Taken
 taken_of p = map taken (packets p)
 
 -- a listener has taken the packets of what a capture has read, from some start on
-abbrev pub KeepsUp : {Self Start : Type 0} → (Self → Start → List Taken → Type 0) → Self → Capture → Type 0
+abbrev pub KeepsUp : {Self Start : Type 0} → (Self → Start → List Taken → Type 0) → Self → Capture →
+    Type 0
 KeepsUp {Start = Start} taken to c =
     (start : Start) × (p : List ℕ) × Reads c p × taken to start (taken_of p)
 
--- Of octets that came behind p, these were read and the packets that they complete handed on; the rest wasn't looked at.
-pub record HandedOn (HasTaken : List Taken → Type 0) (c : Capture) (p octets read rest : List ℕ) : Type 0 where
+-- Of octets that came behind p, these were read and the packets that they complete handed on; the
+-- rest wasn't looked at.
+pub record HandedOn (HasTaken : List Taken → Type 0) (c : Capture) (p octets read rest : List ℕ) :
+    Type 0 where
   pub parts : octets ≡ read ++ rest
   pub reads : Reads c (p ++ read)
   pub taken : HasTaken (taken_of (p ++ read))
@@ -45,21 +48,25 @@ HandedWhole false HasTaken c p octets =
 -- ---- What a run over a source did, which gave the octets s.
 
 -- all that the source gave was read, behind p, and its packets were handed on
-pub record ReadAll (HasTaken : List Taken → Type 0) (c : Capture) (p s : List ℕ) (before after : SourceLog) : Type 0 where
+pub record ReadAll (HasTaken : List Taken → Type 0) (c : Capture) (p s : List ℕ)
+    (before after : SourceLog) : Type 0 where
   pub given : Consumes before.left after.left s
   pub handed : HandedOn HasTaken c p s s []
 
 -- The source came to its end, or the capture to a fault, behind which nothing was read.
-pub record ReadToEnd (HasTaken : List Taken → Type 0) (c : Capture) (p s : List ℕ) (before after : SourceLog) : Type 0 where
+pub record ReadToEnd (HasTaken : List Taken → Type 0) (c : Capture) (p s : List ℕ)
+    (before after : SourceLog) : Type 0 where
   pub given : Consumes before.left after.left s
   pub read : List ℕ
   pub rest : List ℕ
   pub handed : HandedOn HasTaken c p s read rest
   pub over : (IsAtEnd after.left × (rest ≡ [])) ⊎ IsSome (fault (p ++ read))
 
--- What a run did, by its result: where the listener failed, it alone knows what it has taken. Where the reads were used up, each
+-- What a run did, by its result: where the listener failed, it alone knows what it has taken. Where
+-- the reads were used up, each
 -- gave an octet.
-abbrev pub Ran : Result (Unit {0}) RunFault → (List Taken → Type 0) → Capture → List ℕ → SourceLog → SourceLog → Type 0
+abbrev pub Ran : Result (Unit {0}) RunFault → (List Taken → Type 0) → Capture → List ℕ → SourceLog →
+    SourceLog → Type 0
 Ran (Ok _) HasTaken c s before after = ReadToEnd HasTaken c [] s before after
 Ran (Err faults.Read) HasTaken c s before after = ReadAll HasTaken c [] s before after
 Ran (Err faults.Turns) HasTaken c s before after =
@@ -70,8 +77,10 @@ Ran (Err faults.Failed) HasTaken c s before after = ⊥
 -- ---- One read of it (steps).
 
 -- what a read and its packets came to, behind p: true where the reading goes on
-abbrev pub HasReadOnce : Result Bool RunFault → (List Taken → Type 0) → Capture → List ℕ → List ℕ → SourceLog → SourceLog → Type 0
-HasReadOnce (Ok true) HasTaken c p s before after = ReadAll HasTaken c p s before after × (0 < length s)
+abbrev pub HasReadOnce : Result Bool RunFault → (List Taken → Type 0) → Capture → List ℕ → List ℕ →
+    SourceLog → SourceLog → Type 0
+HasReadOnce (Ok true) HasTaken c p s before after =
+    ReadAll HasTaken c p s before after × (0 < length s)
 HasReadOnce (Ok false) HasTaken c p s before after = ReadToEnd HasTaken c p s before after
 HasReadOnce (Err faults.Read) HasTaken c p s before after = ReadAll HasTaken c p s before after
 HasReadOnce (Err faults.Turns) HasTaken c p s before after = ⊥

@@ -55,7 +55,8 @@ fn note_link<N: Notices>(unread: &mut UnreadLinks, notices: &mut N, link: u16)
 impl<L: CaptureListener + Drop, N: Notices + Drop> PacketReader<L, N> {
     /// No packet was read, and no link type told.
     pub fn new(connections: Connections, streams: Streams<L>, notices: N) -> PacketReader<L, N>
-        ensures { (w : State) → IsState (L.observed streams.listener) streams.live.items connections w
+        ensures { (w : State) → IsState (L.observed streams.listener) streams.live.items connections
+            w
             → w.segments ≡ 0 → N.told notices []
             → HasRead (L.observed result.streams.listener) (N.told result.notices) L.faulted
             result.connections result.streams.live.items result.unread.told.items w [] }

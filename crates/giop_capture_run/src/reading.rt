@@ -101,7 +101,8 @@ pub fn read_packets<S: Source, L: PacketListener>(
         → (s : List ℕ) × Ran result (L.taken to.new start) capture.new s
         (S.log source.old) (S.log source.new) }
     ensures cause { result ≡ Err RunFault.Out → L.failed to.new }
-    ensures flushed { (result ≡ Err RunFault.Read) ⊎ (result ≡ Err RunFault.Turns) → L.flushed to.new }
+    ensures flushed { (result ≡ Err RunFault.Read) ⊎ (result ≡ Err RunFault.Turns) →
+        L.flushed to.new }
     ensures reads { (S.log source.new).reads ≤ (S.log source.old).reads + 2 ^ 40 }
 {
     let mut buffer = [0; ROOM];

@@ -1,4 +1,5 @@
--- What is known of a reader at its end, of a writer whose buffer is empty, and of a dump at every port.
+-- What is known of a reader at its end, of a writer whose buffer is empty, and of a dump at every
+-- port.
 use Rattle.std.proofs.Common.{◌≡◌, ℕ, List, [], ◌++◌, length, Option, Some, None, ◌⊎◌, inl, inr, append_assoc, append-nil, sym, ap, subst, ◌∙◌}
 use Rattle.std.specs.Io.KnownBytes.{Consumes, IsAtEnd, append_known}
 use Rattle.capture_file.specs.Reading.{packets}
@@ -8,13 +9,15 @@ use Rattle.giop_capture_run.specs.Arrivals.{capture_ended}
 use Rattle.giop_capture_program.specs.Text.{HasText}
 use Rattle.giop_capture_text.specs.Dumps.{plain_setup}
 
--- what was given of known octets, and what was read of it: either nothing was left, or there is another reason to stop
+-- what was given of known octets, and what was read of it: either nothing was left, or there is
+-- another reason to stop
 pub record Front (X : Type 0) (all read : List ℕ) : Type 0 where
   pub rest : List ℕ
   pub parts : all ≡ read ++ rest
   pub over : (rest ≡ []) ⊎ X
 
-front_by : {X : Type 0} (after : Option (List ℕ)) (all given read rest : List ℕ) → Consumes (Some all) after given
+front_by : {X : Type 0} (after : Option (List ℕ)) (all given read rest : List ℕ) →
+    Consumes (Some all) after given
     → given ≡ read ++ rest → (IsAtEnd after × (rest ≡ [])) ⊎ X → Front X all read
 front_by None all given read rest consumed parts over = absurd consumed
 front_by (Some left) all given read rest consumed parts (inl over) = record {
@@ -28,23 +31,29 @@ front_by (Some left) all given read rest consumed parts (inr x) = record {
   over = inr x;
 }
 
-pub front : {X : Type 0} (before after : Option (List ℕ)) (all given read rest : List ℕ) → before ≡ Some all
-    → Consumes before after given → given ≡ read ++ rest → (IsAtEnd after × (rest ≡ [])) ⊎ X → Front X all read
+pub front : {X : Type 0} (before after : Option (List ℕ)) (all given read rest : List ℕ) →
+    before ≡ Some all
+    → Consumes before after given → given ≡ read ++ rest → (IsAtEnd after × (rest ≡ [])) ⊎ X →
+    Front X all read
 front before after all given read rest known consumed parts over =
-    front_by after all given read rest (subst (λ b. Consumes b after given) known consumed) parts over
+    front_by after all given read rest (subst (λ b. Consumes b after given) known consumed) parts
+    over
 
 -- of octets that are known, all are in a writer whose buffer is empty
 pub held : (put : Option (List ℕ)) (items kept text : List ℕ) → put ≡ Some text
     → append_known (Some items) kept ≡ put → kept ≡ [] → Some items ≡ Some text
 held put items kept text known seen none =
-    ap Some (sym (append-nil items)) ∙ subst (λ k. append_known (Some items) k ≡ put) none seen ∙ known
+    ap Some (sym (append-nil items)) ∙ subst (λ k. append_known (Some items) k ≡ put) none seen
+    ∙ known
 
 -- the text of a capture where streams begin at these ports
 abbrev pub TextAt : (ports read : List ℕ) (put : Option (List ℕ)) → Type 0
 TextAt ports read put =
-    HasText plain_setup [] (capture_ended reader_faulted (none_known ports 16384 256 []) read).events
+    HasText plain_setup [] (capture_ended reader_faulted (none_known ports 16384 256 [])
+    read).events
     (length (packets read)) (length read) put
 
-pub at_every_port : (ports read : List ℕ) (put : Option (List ℕ)) → ports ≡ [] → TextAt ports read put
+pub at_every_port : (ports read : List ℕ) (put : Option (List ℕ)) → ports ≡ [] →
+    TextAt ports read put
     → TextAt [] read put
 at_every_port ports read put none h = subst (λ it. TextAt it read put) none h

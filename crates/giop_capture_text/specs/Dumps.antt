@@ -1,4 +1,5 @@
--- What a dump of a capture in memory is, by the built-in types and the limits without words (meaning).
+-- What a dump of a capture in memory is, by the built-in types and the limits without words
+-- (meaning).
 use Rattle.std.specs.Prelude.{◌≡◌, ℕ, List, [], ◌++◌, length, Some, IsSome, ◌⊎◌}
 use Rattle.capture_file.specs.Reading.{packets, fault}
 use Rattle.giop_sig.specs.Builtin.{builtin_table}
@@ -12,7 +13,8 @@ use Rattle.giop_capture_program.specs.Text.{HasText}
 abbrev pub plain_setup : Setup
 plain_setup = setup builtin_table 16 128 256
 
--- A text is that of what a capture's packets, its fault and its end do to no known connections, with its last line, and no more;
+-- A text is that of what a capture's packets, its fault and its end do to no known connections,
+-- with its last line, and no more;
 -- behind its fault nothing of it was read, and without one it was read to its end.
 pub record IsDumpOf (capture text : List ℕ) : Type 0 where
   pub read : List ℕ

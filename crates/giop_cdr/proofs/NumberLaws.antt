@@ -45,9 +45,14 @@ below_power x n power octet below = omega (arith, mul-le-mul_left power (le_pred
 pub num_bound : (order : Order) (xs : List ℕ) → AreOctets xs → num order xs < 256 ^ length xs
 num_bound Big [] h = rw num-nil (omega arith)
 num_bound Little [] h = rw num-nil (omega arith)
-num_bound Big (x ∷ xs) h = rw (num_big-cons, pow-suc) (below_power x (num Big xs) (256 ^ length xs) (first_octet x xs h) (num_bound Big xs (octets_after x xs h)))
-num_bound Little (x ∷ xs) h = rw (num_little-cons, pow-suc) (omega (arith, num_bound Little xs (octets_after x xs h), first_octet x xs h))
+num_bound Big (x ∷ xs) h = rw (num_big-cons, pow-suc)
+    (below_power x (num Big xs) (256 ^ length xs) (first_octet x xs h)
+    (num_bound Big xs (octets_after x xs h)))
+num_bound Little (x ∷ xs) h = rw (num_little-cons, pow-suc)
+    (omega (arith, num_bound Little xs (octets_after x xs h), first_octet x xs h))
 
 -- four octets spell a number of 32 bits
-pub num_bound-4 : (order : Order) (xs : List ℕ) → AreOctets xs → length xs ≡ 4 → num order xs < 2 ^ 32
-num_bound-4 order xs h e = let b : num order xs < 256 ^ 4 = rw e at (num_bound order xs h) in omega arith
+pub num_bound-4 : (order : Order) (xs : List ℕ) → AreOctets xs → length xs ≡ 4 →
+    num order xs < 2 ^ 32
+num_bound-4 order xs h e = let b : num order xs < 256 ^ 4 = rw e at (num_bound order xs h) in
+    omega arith

@@ -1,19 +1,23 @@
--- The code's loop over the octets of a number: at each octet 256 times the number so far, plus the octet.
+-- The code's loop over the octets of a number: at each octet 256 times the number so far, plus the
+-- octet.
 use Rattle.std.proofs.Common.{◌≡◌, ℕ, zero, suc, ◌+◌, ◌-◌, ◌*◌, ◌^◌, ◌<◌, ◌≤◌, List, length, take, drop, get_or, reverse, ◌∙◌, ap, arith, add-zero, add-one, pow-suc, add-suc, le_refl}
 use Rattle.std.proofs.lemmas.List.{take_more, take_all, drop_more, reverse-append}
 use Rattle.giop_cdr.specs.declared.order.Order.TheVariants.{Big, Little}
 use Rattle.giop_cdr.specs.Numbers.{little, num}
 
 -- from the front, the most significant first
-pub big_more : (xs : List ℕ) (i n x : ℕ) → i < length xs → n ≡ little (reverse (take i xs)) → x ≡ get_or xs i 0 → n * 256 + x ≡ little (reverse (take (i + 1) xs))
+pub big_more : (xs : List ℕ) (i n x : ℕ) → i < length xs → n ≡ little (reverse (take i xs)) →
+    x ≡ get_or xs i 0 → n * 256 + x ≡ little (reverse (take (i + 1) xs))
 big_more xs i n x h e is = rw (take_more xs i 0 h, ← is, reverse-append, e) (omega arith)
 
-pub big_all : (xs : List ℕ) (i n : ℕ) → length xs ≤ i → n ≡ little (reverse (take i xs)) → n ≡ num Big xs
+pub big_all : (xs : List ℕ) (i n : ℕ) → length xs ≤ i → n ≡ little (reverse (take i xs)) →
+    n ≡ num Big xs
 unfolding num
 big_all xs i n h e = e ∙ ap (λ ys. little (reverse ys)) (take_all i xs h)
 
 -- from the back, the least significant first
-pub little_more : (xs : List ℕ) (i n x : ℕ) → i < length xs → n ≡ little (drop (i + 1) xs) → x ≡ get_or xs i 0 → n * 256 + x ≡ little (drop i xs)
+pub little_more : (xs : List ℕ) (i n x : ℕ) → i < length xs → n ≡ little (drop (i + 1) xs) →
+    x ≡ get_or xs i 0 → n * 256 + x ≡ little (drop i xs)
 little_more xs i n x h e is = rw (drop_more xs i 0 h, ← is, e) (omega arith)
 
 pub little_all : (xs : List ℕ) (n : ℕ) → n ≡ little (drop 0 xs) → n ≡ num Little xs
@@ -35,4 +39,11 @@ spelled_small k n h below =
     let p : 256 ^ k ≤ 256 ^ 7 = rw e at (pow_le (7 - k) k) in
     omega arith
 
-pub ruleset spelling_steps = (big_more, big_all, little_more, little_all, spelled_bound, spelled_small)
+pub ruleset spelling_steps = (
+  big_more,
+  big_all,
+  little_more,
+  little_all,
+  spelled_bound,
+  spelled_small,
+)

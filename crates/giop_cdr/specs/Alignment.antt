@@ -1,4 +1,5 @@
--- Where an aligned value begins (CDR Transfer Syntax, Alignment; meaning). Offsets count from the first octet of the message.
+-- Where an aligned value begins (CDR Transfer Syntax, Alignment; meaning). Offsets count from the
+-- first octet of the message.
 use Rattle.std.specs.Prelude.{◌≡◌, ℕ, ◌+◌, ◌-◌, ◌%◌, ◌≤◌, ◌⊎◌}
 
 -- a primitive is aligned to its own size

@@ -1,4 +1,5 @@
--- The number that octets spell, and its value as a primitive (CDR Transfer Syntax, Primitive Types; meaning).
+-- The number that octets spell, and its value as a primitive (CDR Transfer Syntax, Primitive Types;
+-- meaning).
 use Rattle.std.specs.Prelude.{ℕ, ◌+◌, ◌-◌, ◌*◌, ◌^◌, ◌<◌, ◌==◌, ℤ, pos, ◌-ℤ◌, true, false, if◌then◌else◌, nat_lt, List, [], ◌∷◌, reverse, All, Option, Some, None}
 use Rattle.giop_cdr.specs.declared.order.Order.{Order}
 use Rattle.giop_cdr.specs.declared.order.Order.TheVariants.{Big, Little}
@@ -16,18 +17,22 @@ abbrev pub little : List ℕ → ℕ
 little [] = 0
 little (x ∷ xs) = x + 256 * little xs
 
--- the whole number that octets spell in base 256, the most significant first for Big and last for Little
+-- the whole number that octets spell in base 256, the most significant first for Big and last for
+-- Little
 unfoldable pub num : Order → List ℕ → ℕ
 num Big octets = little (reverse octets)
 num Little octets = little octets
 
--- the signed number that a number of so many octets is in two's complement: less 2 to its bits where the most significant bit is set
+-- the signed number that a number of so many octets is in two's complement: less 2 to its bits
+-- where the most significant bit is set
 unfoldable pub twos_complement : ℕ → ℕ → ℤ
-twos_complement size n = if nat_lt n (2 ^ (8 * size - 1)) then pos n else (pos n -ℤ pos (2 ^ (8 * size)))
+twos_complement size n = if nat_lt n (2 ^ (8 * size - 1)) then pos n else
+    (pos n -ℤ pos (2 ^ (8 * size)))
 
 -- a boolean is 0 or 1
 abbrev pub truth_of : ℕ → Option Number
-truth_of n = if n == 0 then Some (numbers.Truth false) else (if n == 1 then Some (numbers.Truth true) else None)
+truth_of n = if n == 0 then Some (numbers.Truth false) else
+    (if n == 1 then Some (numbers.Truth true) else None)
 
 -- what a whole number is as a primitive: none for a boolean above 1
 abbrev pub interpreted_as : Primitive → ℕ → Option Number

@@ -30,16 +30,35 @@ magic_long = refl
 counts_long : (c : Counts) → length (counts_octets c) ≡ 16
 unfolding counts_octets
 counts_long c =
-    omega (arith, length-append (four c.types ++ four c.operations ++ four c.exceptions) (four c.ids), length-append (four c.types ++ four c.operations) (four c.exceptions), length-append (four c.types) (four c.operations), four_long c.types, four_long c.operations, four_long c.exceptions, four_long c.ids)
+    omega (
+      arith,
+      length-append (four c.types ++ four c.operations ++ four c.exceptions)
+          (four c.ids),
+      length-append (four c.types ++ four c.operations) (four c.exceptions),
+      length-append (four c.types) (four c.operations),
+      four_long c.types,
+      four_long c.operations,
+      four_long c.exceptions,
+      four_long c.ids,
+    )
 
-limits_long : (layout : Layout) (n : ℕ) (owner : Option ℕ) → length (limit_octets layout n owner) ≡ 16
+limits_long : (layout : Layout) (n : ℕ) (owner : Option ℕ) →
+    length (limit_octets layout n owner) ≡ 16
 limits_long Second n owner = refl
 limits_long Third n owner =
     let zeros : List ℕ = replicate 8 0 in
     let zeros_long : length zeros ≡ 8 = refl in
-    omega (arith, length-append (four n ++ four (number_or 4294967295 owner)) zeros, length-append (four n) (four (number_or 4294967295 owner)), four_long n, four_long (number_or 4294967295 owner), zeros_long)
+    omega (
+      arith,
+      length-append (four n ++ four (number_or 4294967295 owner)) zeros,
+      length-append (four n) (four (number_or 4294967295 owner)),
+      four_long n,
+      four_long (number_or 4294967295 owner),
+      zeros_long,
+    )
 
-pub state_long : (layout : Layout) (f : Fixed) → HasRange layout f → length (state_octets layout f) ≡ 68
+pub state_long : (layout : Layout) (f : Fixed) → HasRange layout f →
+    length (state_octets layout f) ≡ 68
 unfolding state_octets
 state_long layout f h =
     let a = four f.records in
@@ -49,22 +68,39 @@ state_long layout f h =
     let owner = owner_octet layout f.owner in
     let p = place_octets f.place owner in
     let l = limit_octets layout f.most_open f.owner in
-    omega (arith, length-append (a ++ b ++ d ++ e ++ p) l, length-append (a ++ b ++ d ++ e) p, length-append (a ++ b ++ d) e, length-append (a ++ b) d, length-append a b, four_long f.records, eight_long f.octets, eight_long f.messages, eight_long f.faults, place_long f.place owner h.place, limits_long layout f.most_open f.owner)
+    omega (
+      arith,
+      length-append (a ++ b ++ d ++ e ++ p) l,
+      length-append (a ++ b ++ d ++ e) p,
+      length-append (a ++ b ++ d) e,
+      length-append (a ++ b) d,
+      length-append a b,
+      four_long f.records,
+      eight_long f.octets,
+      eight_long f.messages,
+      eight_long f.faults,
+      place_long f.place owner h.place,
+      limits_long layout f.most_open f.owner,
+    )
 
 five : (a b c d e : List ℕ) → a ++ b ++ c ++ d ++ e ≡ a ++ (b ++ (c ++ (d ++ e)))
-five a b c d e = append_assoc (a ++ b ++ c) d e ∙ append_assoc (a ++ b) c (d ++ e) ∙ append_assoc a b (c ++ (d ++ e))
+five a b c d e = append_assoc (a ++ b ++ c) d e ∙ append_assoc (a ++ b) c (d ++ e)
+    ∙ append_assoc a b (c ++ (d ++ e))
 
-front_is : (at size : ℕ) (s field rest : List ℕ) → drop at s ≡ field ++ rest → length field ≡ size → take size (drop at s) ≡ field
+front_is : (at size : ℕ) (s field rest : List ℕ) → drop at s ≡ field ++ rest → length field ≡ size →
+    take size (drop at s) ≡ field
 front_is at size s field rest e long = ap (take size) e ∙ take_at field rest size long
 
-pub front_of : (layout : Layout) (c : Counts) (f : Fixed) (s records : List ℕ) → f.counts ≡ c → HasRange layout f → s ≡ fixed_octets layout f ++ records
+pub front_of : (layout : Layout) (c : Counts) (f : Fixed) (s records : List ℕ) → f.counts ≡ c →
+    HasRange layout f → s ≡ fixed_octets layout f ++ records
     → Front layout c f s records
 unfolding fixed_octets
 front_of layout c f s records own h e =
     let version = four (version_of layout) in
     let counts = counts_octets f.counts in
     let state = state_octets layout f in
-    let whole : drop 0 s ≡ magic ++ (version ++ (counts ++ (state ++ records))) = e ∙ five magic version counts state records in
+    let whole : drop 0 s ≡ magic ++ (version ++ (counts ++ (state ++ records))) =
+    e ∙ five magic version counts state records in
     let at_8 = behind 0 8 s magic _ whole magic_long in
     let at_12 = behind 8 4 s version _ at_8 (four_long (version_of layout)) in
     let at_28 = behind 12 16 s counts _ at_12 (counts_long f.counts) in
@@ -73,28 +109,50 @@ front_of layout c f s records own h e =
     let stated = front_is 28 68 s state _ at_28 (state_long layout f h) in
     record {
       ours = (
-        omega (arith, ap length whole, length-append magic (version ++ (counts ++ (state ++ records))), length-append version (counts ++ (state ++ records)), length-append counts (state ++ records), length-append state records, magic_long, four_long (version_of layout), counts_long f.counts, state_long layout f h),
+        omega (
+          arith,
+          ap length whole,
+          length-append magic
+              (version ++ (counts ++ (state ++ records))),
+          length-append version (counts ++ (state ++ records)),
+          length-append counts (state ++ records),
+          length-append state records,
+          magic_long,
+          four_long (version_of layout),
+          counts_long f.counts,
+          state_long layout f h,
+        ),
         front_is 0 8 s magic _ whole magic_long,
         (layout, laid_out),
         front_is 12 16 s counts _ at_12 (counts_long f.counts) ∙ ap counts_octets own,
       );
       laid_out = laid_out;
       octets = stated;
-      state = record { layout = layout; laid_out = laid_out; counts = own; octets = stated; range = h };
+      state = record {
+        layout = layout;
+        laid_out = laid_out;
+        counts = own;
+        octets = stated;
+        range =
+            h;
+      };
       rest = at_96;
     }
 
 -- ---- octets have one layout
 
-pub one_layout_of : (s : List ℕ) (layout other : Layout) → IsLaidOut s layout → IsLaidOut s other → layout ≡ other
+pub one_layout_of : (s : List ℕ) (layout other : Layout) → IsLaidOut s layout → IsLaidOut s other →
+    layout ≡ other
 one_layout_of s layout other h k = one_layout (take 4 (drop 8 s)) layout other h k
 
-pub stated_by : (s octets : List ℕ) (layout other : Layout) (f : Fixed) → octets ≡ take 68 (drop 28 s) → IsLaidOut s layout → IsLaidOut s other
+pub stated_by : (s octets : List ℕ) (layout other : Layout) (f : Fixed) →
+    octets ≡ take 68 (drop 28 s) → IsLaidOut s layout → IsLaidOut s other
     → take 68 (drop 28 s) ≡ state_octets other f → octets ≡ state_octets layout f
 stated_by s octets layout other f front h k e =
     front ∙ (e ∙ ap (λ (l : Layout). state_octets l f) (one_layout_of s other layout k h))
 
-pub range_by : (s : List ℕ) (layout other : Layout) (f : Fixed) → IsLaidOut s layout → IsLaidOut s other → HasRange other f → HasRange layout f
+pub range_by : (s : List ℕ) (layout other : Layout) (f : Fixed) → IsLaidOut s layout →
+    IsLaidOut s other → HasRange other f → HasRange layout f
 range_by s layout other f h k r = rw (one_layout_of s layout other h k) r
 
 pub ours_not : (c : Counts) (s : List ℕ) (why : LoadFault) → IsOurs c s → IsNotOurs c s why → ⊥

@@ -2,5 +2,7 @@
 use Rattle.std.proofs.Common.{◌≡◌, ℕ, List, ◌++◌, ap, ◌∙◌, append_assoc}
 
 -- one part after others
-pub then : (before between after a b : List ℕ) → between ≡ before ++ a → after ≡ between ++ b → after ≡ before ++ (a ++ b)
-then before between after a b first next = next ∙ ap (λ (xs : List ℕ). xs ++ b) first ∙ append_assoc before a b
+pub then : (before between after a b : List ℕ) → between ≡ before ++ a → after ≡ between ++ b →
+    after ≡ before ++ (a ++ b)
+then before between after a b first next =
+    next ∙ ap (λ (xs : List ℕ). xs ++ b) first ∙ append_assoc before a b

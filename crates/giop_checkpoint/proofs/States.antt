@@ -1,4 +1,5 @@
--- At which offsets the fields after the counts are in their octets, and that they determine the fixed part.
+-- At which offsets the fields after the counts are in their octets, and that they determine the
+-- fixed part.
 use Rattle.std.proofs.Common.{◌≡◌, ℕ, ◌^◌, ◌<◌, ◌≤◌, List, ◌∷◌, ◌++◌, drop, replicate, Option, Some, None, refl, sym, ap, ◌∙◌, append_assoc, arith}
 use Rattle.std.proofs.lemmas.List.{drop-drop}
 use Rattle.giop_octets.specs.Fields.{four, eight}
@@ -14,7 +15,8 @@ use Rattle.giop_checkpoint.proofs.Places.{parts_of, place_long}
 
 six : (a b c d e f : List ℕ) → a ++ b ++ c ++ d ++ e ++ f ≡ a ++ (b ++ (c ++ (d ++ (e ++ f))))
 six a b c d e f =
-    append_assoc (a ++ b ++ c ++ d) e f ∙ append_assoc (a ++ b ++ c) d (e ++ f) ∙ append_assoc (a ++ b) c (d ++ (e ++ f)) ∙ append_assoc a b (c ++ (d ++ (e ++ f)))
+    append_assoc (a ++ b ++ c ++ d) e f ∙ append_assoc (a ++ b ++ c) d (e ++ f)
+    ∙ append_assoc (a ++ b) c (d ++ (e ++ f)) ∙ append_assoc a b (c ++ (d ++ (e ++ f)))
 
 pub record Fields (layout : Layout) (f : Fixed) (octets : List ℕ) : Type 0 where
   pub records : drop 0 octets ≡ four f.records ++ drop 4 octets
@@ -25,25 +27,30 @@ pub record Fields (layout : Layout) (f : Fixed) (octets : List ℕ) : Type 0 whe
   pub owner_is : drop 31 octets ≡ owner_octet layout f.owner ∷ drop 4 (drop 28 octets)
   pub limits : drop 52 octets ≡ limit_octets layout f.most_open f.owner
 
-pub fields_of : (layout : Layout) (f : Fixed) (octets : List ℕ) → HasRange layout f → octets ≡ state_octets layout f → Fields layout f octets
+pub fields_of : (layout : Layout) (f : Fixed) (octets : List ℕ) → HasRange layout f →
+    octets ≡ state_octets layout f → Fields layout f octets
 unfolding state_octets
 fields_of layout f octets h e =
     let place = place_octets f.place (owner_octet layout f.owner) in
     let limits = limit_octets layout f.most_open f.owner in
-    let whole : drop 0 octets ≡ four f.records ++ (eight f.octets ++ (eight f.messages ++ (eight f.faults ++ (place ++ limits)))) =
+    let whole : drop 0 octets ≡ four f.records
+    ++ (eight f.octets ++ (eight f.messages ++ (eight f.faults ++ (place ++ limits)))) =
     e ∙ six (four f.records) (eight f.octets) (eight f.messages) (eight f.faults) place limits in
     let at_4 = behind 0 4 octets _ _ whole (four_long f.records) in
     let at_12 = behind 4 8 octets _ _ at_4 (eight_long f.octets) in
     let at_20 = behind 12 8 octets _ _ at_12 (eight_long f.messages) in
     let at_28 = behind 20 8 octets _ _ at_20 (eight_long f.faults) in
-    let at_52 = behind 28 24 octets _ _ at_28 (place_long f.place (owner_octet layout f.owner) h.place) in
+    let at_52 = behind 28 24 octets _ _ at_28
+    (place_long f.place (owner_octet layout f.owner) h.place) in
     record {
       records = whole ∙ ap (λ (xs : List ℕ). four f.records ++ xs) (sym at_4);
       read = at_4 ∙ ap (λ (xs : List ℕ). eight f.octets ++ xs) (sym at_12);
       messages = at_12 ∙ ap (λ (xs : List ℕ). eight f.messages ++ xs) (sym at_20);
       faults = at_20 ∙ ap (λ (xs : List ℕ). eight f.faults ++ xs) (sym at_28);
       place = at_28 ∙ ap (λ (xs : List ℕ). place ++ xs) (sym at_52);
-      owner_is = sym (drop-drop 3 28 octets) ∙ (parts_of f.place (owner_octet layout f.owner) (drop 28 octets) limits h.place at_28).owner_is;
+      owner_is = sym (drop-drop 3 28 octets)
+          ∙ (parts_of f.place (owner_octet layout f.owner) (drop 28 octets) limits h.place
+          at_28).owner_is;
       limits = at_52;
     }
 
@@ -53,24 +60,31 @@ pub open_few : (layout : Layout) (n : ℕ) → OpenHasRange layout n → n ≤ 4
 open_few Second n h = omega (arith, h)
 open_few Third n h = h.1
 
-pub among_more : (records most : ℕ) (owner : Option ℕ) → records ≤ most → IsAmong records owner → IsAmong most owner
+pub among_more : (records most : ℕ) (owner : Option ℕ) → records ≤ most → IsAmong records owner →
+    IsAmong most owner
 among_more records most None few h = h
 among_more records most (Some k) few h = omega (arith, few, h)
 
 -- ---- after the place, in layout 3
 
-pub number_is : (n : ℕ) (owner : Option ℕ) (s : List ℕ) → s ≡ limit_octets Third n owner → drop 4 s ≡ four (number_or 4294967295 owner) ++ replicate 8 0
+pub number_is : (n : ℕ) (owner : Option ℕ) (s : List ℕ) → s ≡ limit_octets Third n owner →
+    drop 4 s ≡ four (number_or 4294967295 owner) ++ replicate 8 0
 number_is n owner s e =
-    behind 0 4 s (four n) (four (number_or 4294967295 owner) ++ replicate 8 0) (e ∙ append_assoc (four n) (four (number_or 4294967295 owner)) (replicate 8 0)) (four_long n)
+    behind 0 4 s (four n) (four (number_or 4294967295 owner) ++ replicate 8 0)
+    (e ∙ append_assoc (four n) (four (number_or 4294967295 owner)) (replicate 8 0))
+    (four_long n)
 
-pub number_small : (most : ℕ) (owner : Option ℕ) → most ≤ 4097 → IsAmong most owner → number_or 4294967295 owner < 2 ^ 32
+pub number_small : (most : ℕ) (owner : Option ℕ) → most ≤ 4097 → IsAmong most owner →
+    number_or 4294967295 owner < 2 ^ 32
 number_small most None few h = omega arith
 number_small most (Some k) few h = omega (arith, few, h)
 
 -- ---- the whole
 
-pub fixed_is : (f : Fixed) (counts : Counts) (most_open records octets messages faults : ℕ) (place : Place) (owner : Option ℕ)
-    → counts ≡ f.counts → most_open ≡ f.most_open → records ≡ f.records → octets ≡ f.octets → messages ≡ f.messages → faults ≡ f.faults → place ≡ f.place
+pub fixed_is : (f : Fixed) (counts : Counts) (most_open records octets messages faults : ℕ)
+    (place : Place) (owner : Option ℕ)
+    → counts ≡ f.counts → most_open ≡ f.most_open → records ≡ f.records → octets ≡ f.octets →
+    messages ≡ f.messages → faults ≡ f.faults → place ≡ f.place
     → owner ≡ f.owner
     → record {
       counts = counts;
@@ -82,7 +96,8 @@ pub fixed_is : (f : Fixed) (counts : Counts) (most_open records octets messages 
       place = place;
       owner = owner;
     } ≡ f
-fixed_is f counts most_open records octets messages faults place owner a m b c d e g h = rw a (rw m (rw b (rw c (rw d (rw e (rw g (rw h refl)))))))
+fixed_is f counts most_open records octets messages faults place owner a m b c d e g h =
+    rw a (rw m (rw b (rw c (rw d (rw e (rw g (rw h refl)))))))
 
 pub value_of : {A : Type 0} (r : Option A) (x y : A) → r ≡ Some y → r ≡ Some x → x ≡ y
 value_of r x y p q = cc

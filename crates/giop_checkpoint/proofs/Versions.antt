@@ -9,7 +9,8 @@ versions_differ : four 2 ≡ four 3 → ⊥
 unfolding four
 versions_differ e = cc
 
-pub one_layout : (octets : List ℕ) (layout other : Layout) → octets ≡ four (version_of layout) → octets ≡ four (version_of other) → layout ≡ other
+pub one_layout : (octets : List ℕ) (layout other : Layout) → octets ≡ four (version_of layout) →
+    octets ≡ four (version_of other) → layout ≡ other
 one_layout octets Second Second h k = refl
 one_layout octets Second Third h k = absurd (versions_differ (sym h ∙ k))
 one_layout octets Third Second h k = absurd (versions_differ (sym k ∙ h))

@@ -41,7 +41,8 @@ kind_octets r = r.frames ∷ record_kind_octet r.record_kind ∷ []
 
 -- a record's own octets
 unfoldable pub own_octets : Record → List ℕ
-own_octets r = kind_octets r ++ eight r.number ++ r.header ++ four (id_of r.record_kind) ++ replicate 6 0
+own_octets r = kind_octets r ++ eight r.number ++ r.header ++ four (id_of r.record_kind)
+    ++ replicate 6 0
 
 -- A record with what is stored of its message: some octets, and its frames.
 pub record Entry : Type 0 where

@@ -102,7 +102,8 @@ pub fn first_record<'a>(octets: &'a [u8]) -> Option<FirstRecord<'a>>
     ensures own { IfSome result (λ first. take 32 octets.now ≡ own_octets first.record) }
     ensures range { IfSome result (λ first. RecordHasRange first.record) }
     ensures message { IfSome result (λ first. first.message ≡ take 224 (drop 32 octets.now)) }
-    ensures frames { IfSome result (λ first. length first.frames.now ≡ FRAME_SIZE * first.record.frames) }
+    ensures frames { IfSome result (λ first.
+        length first.frames.now ≡ FRAME_SIZE * first.record.frames) }
     ensures rest { IfSome result (λ first. first.rest.now ≡ drop (used octets.now) octets.now) }
     // A record that was written is read.
     ensures again { (e : Entry) (rest : List ℕ) → EntryHasRange e →
@@ -177,7 +178,8 @@ fn parsed(octets: &[u8]) -> Option<Record>
 /// The kind of a record, by its octet and its request id.
 fn record_kind_of(octet: u8, id: u32) -> Option<RecordKind>
     ensures range { IfSome result (λ s. RecordKindHasRange s) }
-    ensures again { (s : StandingOf) → octet ≡ record_kind_octet s → id ≡ id_of s → result ≡ Some s }
+    ensures again { (s : StandingOf) → octet ≡ record_kind_octet s → id ≡ id_of s →
+        result ≡ Some s }
 {
     match octet {
         0 => Some(RecordKind::Current),

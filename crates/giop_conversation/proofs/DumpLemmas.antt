@@ -26,10 +26,13 @@ use Rattle.giop_conversation.specs.DumpHeld.{HoldsSide, HasCalls, HoldsConnectio
 
 -- ---- one event more
 
-pub leads_more : (S : Setup) (events : List Event) (d : Dump) (e : Event) (m behind : Dump) → Leads S d events m →
+pub leads_more : (S : Setup) (events : List Event) (d : Dump) (e : Event) (m behind : Dump) →
+    Leads S d events m →
     Step S m e behind → Leads S d (events ++ e ∷ []) behind
-leads_more S [] d e m behind leads step = (behind, subst (λ (x : Dump). Step S x e behind) leads step, refl)
-leads_more S (e' ∷ es) d e m behind leads step = (leads.0, leads.1, leads_more S es leads.0 e m behind leads.2 step)
+leads_more S [] d e m behind leads step =
+    (behind, subst (λ (x : Dump). Step S x e behind) leads step, refl)
+leads_more S (e' ∷ es) d e m behind leads step =
+    (leads.0, leads.1, leads_more S es leads.0 e m behind leads.2 step)
 
 -- ---- the connection at a place
 
@@ -38,14 +41,20 @@ pub record IsHeldAt (S : Setup) (cs : List Connection) (i : ℕ) (r : Conversati
   pub is : slice_get cs i ≡ Some connection
   pub holds : HoldsConnection S r connection
 
-pub held_at : (S : Setup) (rs : List Conversation) (cs : List Connection) (i : ℕ) (r : Conversation) →
+pub held_at : (S : Setup) (rs : List Conversation) (cs : List Connection) (i : ℕ)
+    (r : Conversation) →
     AreHeld S rs cs → slice_get rs i ≡ Some r → IsHeldAt S cs i r
 held_at S [] [] i r held is = absurd cc
 held_at S [] (c ∷ cs) i r held is = absurd held
 held_at S (r' ∷ rs) [] i r held is = absurd held
 held_at S (r' ∷ rs) (c ∷ cs) zero r held is =
     let same : r' ≡ r = cc in
-    record { connection = c; is = refl; holds = subst (λ (x : Conversation). HoldsConnection S x c) same held.0 }
+    record {
+      connection = c;
+      is = refl;
+      holds =
+          subst (λ (x : Conversation). HoldsConnection S x c) same held.0;
+    }
 held_at S (r' ∷ rs) (c ∷ cs) (suc i) r held is =
     let at = held_at S rs cs i r held.1 is in
     record { connection = at.connection; is = at.is; holds = at.holds }
@@ -58,7 +67,8 @@ none_at S (r' ∷ rs) [] i held is = absurd held
 none_at S (r' ∷ rs) (c ∷ cs) zero held is = absurd cc
 none_at S (r' ∷ rs) (c ∷ cs) (suc i) held is = none_at S rs cs i held.1 is
 
-pub held_set : (S : Setup) (rs : List Conversation) (cs : List Connection) (i : ℕ) (r : Conversation) (c : Connection) →
+pub held_set : (S : Setup) (rs : List Conversation) (cs : List Connection) (i : ℕ)
+    (r : Conversation) (c : Connection) →
     AreHeld S rs cs → HoldsConnection S r c → AreHeld S (set rs i r) (set cs i c)
 held_set S [] [] i r c held new = tt
 held_set S [] (c' ∷ cs) i r c held new = absurd held
@@ -67,7 +77,8 @@ held_set S (r' ∷ rs) (c' ∷ cs) zero r c held new = (new, held.1)
 held_set S (r' ∷ rs) (c' ∷ cs) (suc i) r c held new = (held.0, held_set S rs cs i r c held.1 new)
 
 pub held_push : (S : Setup) (rs : List Conversation) (n : ℕ) (r : Conversation) (c : Connection) →
-    AreHeld S rs (replicate n c) → HoldsConnection S r c → AreHeld S (rs ++ r ∷ []) (replicate (suc n) c)
+    AreHeld S rs (replicate n c) → HoldsConnection S r c →
+    AreHeld S (rs ++ r ∷ []) (replicate (suc n) c)
 held_push S [] zero r c held new = (new, tt)
 held_push S [] (suc n) r c held new = absurd held
 held_push S (r' ∷ rs) zero r c held new = absurd held
@@ -76,17 +87,29 @@ held_push S (r' ∷ rs) (suc n) r c held new = (held.0, held_push S rs n r c hel
 -- ---- the two flows of a connection
 
 -- by its two flows and its calls
-pub holds_by : (S : Setup) (parity : Parity) (r : Conversation) (c : Connection) → r.parity ≡ parity →
+pub holds_by : (S : Setup) (parity : Parity) (r : Conversation) (c : Connection) →
+    r.parity ≡ parity →
     HoldsSide S (direction parity r) (side parity c) →
     HoldsSide S (direction (other parity) r) (side (other parity) c) →
     HasCalls parity r.exchange c → HoldsConnection S r c
 holds_by S Even r c here own opposite calls =
-    record { even = own; odd = opposite; calls = subst (λ (p : Parity). HasCalls p r.exchange c) (sym here) calls }
+    record {
+      even = own;
+      odd = opposite;
+      calls =
+          subst (λ (p : Parity). HasCalls p r.exchange c) (sym here) calls;
+    }
 holds_by S Odd r c here own opposite calls =
-    record { even = opposite; odd = own; calls = subst (λ (p : Parity). HasCalls p r.exchange c) (sym here) calls }
+    record {
+      even = opposite;
+      odd = own;
+      calls =
+          subst (λ (p : Parity). HasCalls p r.exchange c) (sym here) calls;
+    }
 
 -- the calls as a stream of a flow is read
-pub reading_is : (S : Setup) (parity : Parity) (time : Option ℕ) (c : Connection) (d : DirectionView) (s : Exchanged) →
+pub reading_is : (S : Setup) (parity : Parity) (time : Option ℕ) (c : Connection)
+    (d : DirectionView) (s : Exchanged) →
     HoldsSide S d (side parity c) → HasCalls parity s c →
     reading_in d.engine d.stream time s ≡ calls_in S parity time c
 reading_is S parity time c d s h k = λ j. record {
@@ -113,22 +136,33 @@ no_tag_is text = untagged_is text true
 
 -- ---- a connection whose flow closes, or is read
 
-rules_are : (S : Setup) (d : DirectionView) (s : Side) (a : Answers) → HoldsSide S d s → rules_with d.engine a ≡ rules_in S a
+rules_are : (S : Setup) (d : DirectionView) (s : Side) (a : Answers) → HoldsSide S d s →
+    rules_with d.engine a ≡ rules_in S a
 rules_are S d s a h = λ j. rules_by (h.table j) a (h.most j)
 
-pub close_in : {A E : Type 0} (r : Result A E) (S : Setup) (d : DirectionView) (s : Side) (cause : CloseCause) (out : Tagging) (w : List ℕ) →
+pub close_in : {A E : Type 0} (r : Result A E) (S : Setup) (d : DirectionView) (s : Side)
+    (cause : CloseCause) (out : Tagging) (w : List ℕ) →
     HoldsSide S d s →
-    WritesTagged r out w (stream_tag d.stream) (closed_line cause ++ closing (rules_with d.engine s.answers) s.octets) →
-    WritesTagged r out w (stream_tag s.stream) (closed_line cause ++ closing (rules_in S s.answers) s.octets)
+    WritesTagged r out w (stream_tag d.stream)
+    (closed_line cause ++ closing (rules_with d.engine s.answers) s.octets) →
+    WritesTagged r out w (stream_tag s.stream)
+    (closed_line cause ++ closing (rules_in S s.answers) s.octets)
 close_in r S d s cause out w h writes =
-    subst (λ n. WritesTagged r out w (stream_tag n) (closed_line cause ++ closing (rules_in S s.answers) s.octets)) h.stream
-    (subst (λ (R : Rules). WritesTagged r out w (stream_tag d.stream) (closed_line cause ++ closing R s.octets)) (rules_are S d s s.answers h) writes)
+    subst (λ n. WritesTagged r out w (stream_tag n)
+    (closed_line cause ++ closing (rules_in S s.answers) s.octets)) h.stream
+    (subst (λ (R : Rules). WritesTagged r out w (stream_tag d.stream)
+    (closed_line cause ++ closing R s.octets)) (rules_are S d s s.answers h) writes)
 
-delivered_holds : (S : Setup) (parity : Parity) (k : Connection) (a : Answers) (octets : List ℕ) (time : Option ℕ) (new : Conversation) →
-    new.parity ≡ parity → HoldsBy (direction parity new).engine a ((side parity k).octets ++ octets) →
-    (direction parity new).engine.table ≡ S.table → (direction parity new).engine.most ≡ S.messages →
-    (direction parity new).stream ≡ (side parity k).stream → (direction parity new).flow ≡ (side parity k).flow →
-    HoldsSide S (direction (other parity) new) (side (other parity) k) → new.exchange ≡ calls_behind S a parity octets time k →
+delivered_holds : (S : Setup) (parity : Parity) (k : Connection) (a : Answers) (octets : List ℕ)
+    (time : Option ℕ) (new : Conversation) →
+    new.parity ≡ parity → HoldsBy (direction parity new).engine a
+    ((side parity k).octets ++ octets) →
+    (direction parity new).engine.table ≡ S.table →
+    (direction parity new).engine.most ≡ S.messages →
+    (direction parity new).stream ≡ (side parity k).stream →
+    (direction parity new).flow ≡ (side parity k).flow →
+    HoldsSide S (direction (other parity) new) (side (other parity) k) →
+    new.exchange ≡ calls_behind S a parity octets time k →
     HoldsConnection S new (delivered S a parity octets time k)
 delivered_holds S Even k a octets time new is holds table most stream flow opposite calls = record {
   even = record { holds = holds; table = table; most = most; stream = stream; flow = flow };
@@ -139,8 +173,13 @@ delivered_holds S Even k a octets time new is holds table most stream flow oppos
     stream = opposite.stream;
     flow = opposite.flow;
   };
-  calls = subst (λ (p : Parity). HasCalls p new.exchange (delivered S a Even octets time k)) (sym is)
-      (record { own = ap (λ (x : Exchanged). x.own) calls; opposite = ap (λ (x : Exchanged). x.opposite) calls });
+  calls = subst (λ (p : Parity). HasCalls p new.exchange (delivered S a Even octets time k))
+      (sym is)
+      (record {
+        own = ap (λ (x : Exchanged). x.own) calls;
+        opposite =
+            ap (λ (x : Exchanged). x.opposite) calls;
+      });
 }
 delivered_holds S Odd k a octets time new is holds table most stream flow opposite calls = record {
   even = record {
@@ -152,46 +191,68 @@ delivered_holds S Odd k a octets time new is holds table most stream flow opposi
   };
   odd = record { holds = holds; table = table; most = most; stream = stream; flow = flow };
   calls = subst (λ (p : Parity). HasCalls p new.exchange (delivered S a Odd octets time k)) (sym is)
-      (record { own = ap (λ (x : Exchanged). x.own) calls; opposite = ap (λ (x : Exchanged). x.opposite) calls });
+      (record {
+        own = ap (λ (x : Exchanged). x.own) calls;
+        opposite =
+            ap (λ (x : Exchanged). x.opposite) calls;
+      });
 }
 
 -- the answers of a stream, and what the reading of it asks of them
-pub record GoesOn (S : Setup) (k : Connection) (parity : Parity) (octets : List ℕ) (time : Option ℕ) (d : DirectionView)
+pub record GoesOn (S : Setup) (k : Connection) (parity : Parity) (octets : List ℕ) (time : Option ℕ)
+    (d : DirectionView)
     (t : Exchanged) (a : Answers) : Type 0 where
   pub answered : IsAnswered S a parity octets time k
   pub holds : HoldsBy d.engine a (side parity k).octets
-  pub agrees : AgreeWith d.engine a (reading_in d.engine d.stream time t) (side parity k).octets octets
+  pub agrees : AgreeWith d.engine a (reading_in d.engine d.stream time t) (side parity k).octets
+      octets
 
-pub goes_on_by : (S : Setup) (k : Connection) (parity : Parity) (octets : List ℕ) (time : Option ℕ) (d : DirectionView) (t : Exchanged)
+pub goes_on_by : (S : Setup) (k : Connection) (parity : Parity) (octets : List ℕ) (time : Option ℕ)
+    (d : DirectionView) (t : Exchanged)
     (a : Answers) → HoldsSide S d (side parity k) → HasCalls parity t k →
     (AnswersAgree d.engine.most (side parity k).octets (side parity k).answers a →
-    HoldsBy d.engine (side parity k).answers (side parity k).octets → HoldsBy d.engine a (side parity k).octets) →
+    HoldsBy d.engine (side parity k).answers (side parity k).octets →
+    HoldsBy d.engine a (side parity k).octets) →
     AnswersAgree S.messages (side parity k).octets (side parity k).answers a →
-    AgreesAtEnds answer_of notified S.table (calls_in S parity time k) a (header_ends_from (rules_in S a) (side parity k).octets octets) →
+    AgreesAtEnds answer_of notified S.table (calls_in S parity time k) a
+    (header_ends_from (rules_in S a) (side parity k).octets octets) →
     GoesOn S k parity octets time d t a
 goes_on_by S k parity octets time d t a h calls held before now =
     let p = (side parity k).octets in
     let starts = reading_is S parity time k d t h calls in
     record {
       answered = record { before = before; now = now };
-      holds = held (subst (λ n. AnswersAgree n p (side parity k).answers a) (sym h.most) before) h.holds;
+      holds = held (subst (λ n. AnswersAgree n p (side parity k).answers a) (sym h.most) before)
+          h.holds;
       agrees =
-          subst (λ (C : Table). AgreesAtEnds answer_of notified C (reading_in d.engine d.stream time t) a (header_ends_from (rules_with d.engine a) p octets)) (sym h.table)
-          (subst (λ (R : Rules). AgreesAtEnds answer_of notified S.table (reading_in d.engine d.stream time t) a (header_ends_from R p octets))
+          subst (λ (C : Table). AgreesAtEnds answer_of notified C
+          (reading_in d.engine d.stream time t) a
+          (header_ends_from (rules_with d.engine a) p octets)) (sym h.table)
+          (subst (λ (R : Rules). AgreesAtEnds answer_of notified S.table
+          (reading_in d.engine d.stream time t) a (header_ends_from R p octets))
           (sym (rules_are S d (side parity k) a h))
-          (subst (λ (x : Exchanged). AgreesAtEnds answer_of notified S.table x a (header_ends_from (rules_in S a) p octets)) (sym starts) now));
+          (subst (λ (x : Exchanged). AgreesAtEnds answer_of notified S.table x a
+          (header_ends_from (rules_in S a) p octets)) (sym starts) now));
     }
 
-pub reads_by : {A E : Type 0} (r : Result A E) (S : Setup) (k : Connection) (parity : Parity) (octets : List ℕ) (time : Option ℕ)
-    (w : List ℕ) (new : Conversation) (out : Tagging) (d : DirectionView) (t : Exchanged) (a : Answers) →
-    HoldsSide S d (side parity k) → HasCalls parity t k → GoesOn S k parity octets time d t a → new.parity ≡ parity →
-    IsSetAlike (direction parity new).engine d.engine → (direction parity new).stream ≡ d.stream → (direction parity new).flow ≡ d.flow →
+pub reads_by : {A E : Type 0} (r : Result A E) (S : Setup) (k : Connection) (parity : Parity)
+    (octets : List ℕ) (time : Option ℕ)
+    (w : List ℕ) (new : Conversation) (out : Tagging) (d : DirectionView) (t : Exchanged)
+    (a : Answers) →
+    HoldsSide S d (side parity k) → HasCalls parity t k → GoesOn S k parity octets time d t a →
+    new.parity ≡ parity →
+    IsSetAlike (direction parity new).engine d.engine → (direction parity new).stream ≡ d.stream →
+    (direction parity new).flow ≡ d.flow →
     HoldsSide S (direction (other parity) new) (side (other parity) k) →
     MatchResult r
     (λ _. HasStood (direction parity new).engine a ((side parity k).octets ++ octets) out
-    (w ++ with_tags (stream_tag d.stream) (stamped (rules_with d.engine a) (reading_in d.engine d.stream time t) (side parity k).octets octets))
-    new.exchange (exchanged (rules_with d.engine a) (reading_in d.engine d.stream time t) (side parity k).octets octets))
-    (λ _. WroteTaggedFront out w (stream_tag d.stream) (stamped (rules_with d.engine a) (reading_in d.engine d.stream time t) (side parity k).octets octets)) →
+    (w ++ with_tags (stream_tag d.stream) (stamped (rules_with d.engine a)
+    (reading_in d.engine d.stream time t) (side parity k).octets octets))
+    new.exchange (exchanged (rules_with d.engine a) (reading_in d.engine d.stream time t)
+    (side parity k).octets octets))
+    (λ _. WroteTaggedFront out w (stream_tag d.stream)
+    (stamped (rules_with d.engine a) (reading_in d.engine d.stream time t)
+    (side parity k).octets octets)) →
     ReadsBy S k parity octets time w r new out
 reads_by r S k parity octets time w new out d t a h calls on is alike stream flow opposite reads =
     record { answers = a; answered = on.answered; reads = by r reads }
@@ -202,12 +263,16 @@ reads_by r S k parity octets time w new out d t a h calls on is alike stream flo
     starts : reading_in d.engine d.stream time t ≡ calls_in S parity time k
     starts = reading_is S parity time k d t h calls
 
-    lines : stamped (rules_with d.engine a) (reading_in d.engine d.stream time t) (side parity k).octets octets ≡ delivered_lines S a parity octets time k
-    lines = ap (λ (Q : Rules). stamped Q (reading_in d.engine d.stream time t) (side parity k).octets octets) (rules_are S d (side parity k) a h)
+    lines : stamped (rules_with d.engine a) (reading_in d.engine d.stream time t)
+        (side parity k).octets octets ≡ delivered_lines S a parity octets time k
+    lines = ap (λ (Q : Rules). stamped Q (reading_in d.engine d.stream time t)
+        (side parity k).octets octets) (rules_are S d (side parity k) a h)
         ∙ ap (λ (x : Exchanged). stamped R x (side parity k).octets octets) starts
 
-    behind : exchanged (rules_with d.engine a) (reading_in d.engine d.stream time t) (side parity k).octets octets ≡ calls_behind S a parity octets time k
-    behind = ap (λ (Q : Rules). exchanged Q (reading_in d.engine d.stream time t) (side parity k).octets octets) (rules_are S d (side parity k) a h)
+    behind : exchanged (rules_with d.engine a) (reading_in d.engine d.stream time t)
+        (side parity k).octets octets ≡ calls_behind S a parity octets time k
+    behind = ap (λ (Q : Rules). exchanged Q (reading_in d.engine d.stream time t)
+        (side parity k).octets octets) (rules_are S d (side parity k) a h)
         ∙ ap (λ (x : Exchanged). exchanged R x (side parity k).octets octets) starts
 
     tag : stream_tag d.stream ≡ stream_tag (side parity k).stream
@@ -216,19 +281,30 @@ reads_by r S k parity octets time w new out d t a h calls on is alike stream flo
     by : {A E : Type 0} (r : Result A E) →
         MatchResult r
         (λ _. HasStood (direction parity new).engine a ((side parity k).octets ++ octets) out
-        (w ++ with_tags (stream_tag d.stream) (stamped (rules_with d.engine a) (reading_in d.engine d.stream time t) (side parity k).octets octets))
-        new.exchange (exchanged (rules_with d.engine a) (reading_in d.engine d.stream time t) (side parity k).octets octets))
-        (λ _. WroteTaggedFront out w (stream_tag d.stream) (stamped (rules_with d.engine a) (reading_in d.engine d.stream time t) (side parity k).octets octets)) →
+        (w ++ with_tags (stream_tag d.stream)
+        (stamped (rules_with d.engine a) (reading_in d.engine d.stream time t)
+        (side parity k).octets octets))
+        new.exchange (exchanged (rules_with d.engine a) (reading_in d.engine d.stream time t)
+        (side parity k).octets octets))
+        (λ _. WroteTaggedFront out w (stream_tag d.stream)
+        (stamped (rules_with d.engine a) (reading_in d.engine d.stream time t)
+        (side parity k).octets octets)) →
         MatchResult r
         (λ _. HoldsConnection S new (delivered S a parity octets time k)
-        × IsReady out (w ++ with_tags (stream_tag (side parity k).stream) (delivered_lines S a parity octets time k)))
-        (λ _. WroteTaggedFront out w (stream_tag (side parity k).stream) (delivered_lines S a parity octets time k))
+        × IsReady out (w ++ with_tags (stream_tag (side parity k).stream)
+        (delivered_lines S a parity octets time k)))
+        (λ _. WroteTaggedFront out w (stream_tag (side parity k).stream)
+        (delivered_lines S a parity octets time k))
     by (Ok v) stood = (
-      delivered_holds S parity k a octets time new is stood.holds (alike.table ∙ h.table) (alike.most ∙ h.most) (stream ∙ h.stream) (flow ∙ h.flow)
+      delivered_holds S parity k a octets time new is stood.holds (alike.table ∙ h.table)
+          (alike.most ∙ h.most) (stream ∙ h.stream) (flow ∙ h.flow)
           opposite (stood.told ∙ behind),
-      subst (λ (g : List ℕ). IsReady out (w ++ with_tags g (delivered_lines S a parity octets time k))) tag
-          (subst (λ (l : List ℕ). IsReady out (w ++ with_tags (stream_tag d.stream) l)) lines stood.ready),
+      subst (λ (g : List ℕ). IsReady out (w
+          ++ with_tags g (delivered_lines S a parity octets time k))) tag
+          (subst (λ (l : List ℕ). IsReady out (w ++ with_tags (stream_tag d.stream) l)) lines
+          stood.ready),
     )
     by (Err v) front =
-        subst (λ (g : List ℕ). WroteTaggedFront out w g (delivered_lines S a parity octets time k)) tag
+        subst (λ (g : List ℕ). WroteTaggedFront out w g (delivered_lines S a parity octets time k))
+        tag
         (subst (λ (l : List ℕ). WroteTaggedFront out w (stream_tag d.stream) l) lines front)

@@ -9,10 +9,13 @@ use Rattle.giop_stream.specs.Stream.{text, closing, is_truncated, is_inside, fir
 
 -- nothing is written of it,
 pub no_text : (R : Rules) → text R [] ≡ []
-unfolding text stream.lines_text lines lines_of_messages in_order up_to_last_line stop_line cut limited limit cut_from first_wrong_octet fronts first_wrong wrong
+unfolding text stream.lines_text lines lines_of_messages in_order up_to_last_line stop_line cut
+    limited limit cut_from first_wrong_octet fronts first_wrong wrong
 no_text R = refl
 
 -- and at its end the same whatever it is read by
 pub one_closing : (R Q : Rules) → closing R [] ≡ closing Q []
-unfolding closing is_truncated is_inside first_messages unfinished start_count fault_count tally final messages read_of lines lines_of_messages in_order up_to_last_line stop_line cut limited limit cut_from first_wrong_octet fronts first_wrong wrong
+unfolding closing is_truncated is_inside first_messages unfinished start_count fault_count tally
+    final messages read_of lines lines_of_messages in_order up_to_last_line stop_line cut limited
+    limit cut_from first_wrong_octet fronts first_wrong wrong
 one_closing R Q = refl

@@ -74,7 +74,8 @@ elsewhere xs i j y apart =
       | inl below ↦
           let l = length-set xs i y in
           let below' : j < length (set xs i y) = omega arith in
-          slice_get-get_or (set xs i y) j y below' ∙ (ap Some (get_or-set_other xs i j y y apart) ∙ sym (slice_get-get_or xs j y below))
+          slice_get-get_or (set xs i y) j y below'
+          ∙ (ap Some (get_or-set_other xs i j y y apart) ∙ sym (slice_get-get_or xs j y below))
       | inr past ↦
           let l = length-set xs i y in
           let past' : length (set xs i y) ≤ j = omega arith in
@@ -104,12 +105,18 @@ followed_on rooms events e flow old new follows here only reads stays g =
                 let is = same_flow g flow half same in
                 rw (is) (reads (rw (here) at (follows flow)))
             | inr differs ↦
-                let apart : (g ≡ flow → ⊥) = λ is. differ (parity_of flow) (sym (ap parity_of is) ∙ differs) in
-                rw (differs, stays, only g (octets_of g events) apart) (rw (half, here, differs) at (follows g))
+                let apart : (g ≡ flow → ⊥) = λ is.
+                differ (parity_of flow) (sym (ap parity_of is) ∙ differs) in
+                rw (differs, stays, only g (octets_of g events) apart)
+                (rw (half, here, differs) at (follows g))
           ])
       | inr apart ↦
           let differs : (g ≡ flow → ⊥) = λ is. apart (ap (λ n. n / 2) is) in
-          rw (elsewhere rooms (flow / 2) (g / 2) new apart, octets_more g [] events e, only g (octets_of g events) differs) (follows g)
+          rw (
+            elsewhere rooms (flow / 2) (g / 2) new apart,
+            octets_more g [] events e,
+            only g (octets_of g events) differs,
+          ) (follows g)
     ]
 
 -- what happens in no flow's stream
@@ -157,19 +164,24 @@ pub behind_delivers : (flow : ℕ) (octets p : List ℕ) →
 unfolding octets_behind
 behind_delivers flow octets p = rw (eq-eqb flow flow refl) refl
 
-pub none_of_opens : (flow : ℕ) (endpoints : Flow) (g : ℕ) (p : List ℕ) → octets_behind g p (Opens flow endpoints) ≡ p
+pub none_of_opens : (flow : ℕ) (endpoints : Flow) (g : ℕ) (p : List ℕ) →
+    octets_behind g p (Opens flow endpoints) ≡ p
 unfolding octets_behind
 none_of_opens flow endpoints g p = refl
 
-pub none_of_closes : (flow : ℕ) (cause : CloseCause) (g : ℕ) (p : List ℕ) → octets_behind g p (Closes flow cause) ≡ p
+pub none_of_closes : (flow : ℕ) (cause : CloseCause) (g : ℕ) (p : List ℕ) →
+    octets_behind g p (Closes flow cause) ≡ p
 unfolding octets_behind
 none_of_closes flow cause g p = refl
 
 pub fault_of_delivers : (flow : ℕ) (octets : List ℕ) (events : List Event) →
-    reader_faulted (events ++ Delivers flow octets ∷ []) ≡ is_some (cut (octets_of flow events ++ octets)).stop
+    reader_faulted (events ++ Delivers flow octets ∷ [])
+    ≡ is_some (cut (octets_of flow events ++ octets)).stop
 fault_of_delivers flow octets events =
     last_more (events ++ Delivers flow octets ∷ []) events (Delivers flow octets)
-    ∙ ap (λ (p : List ℕ). is_some (cut p).stop) (octets_more flow [] events (Delivers flow octets) ∙ behind_delivers flow octets (octets_of flow events))
+    ∙ ap (λ (p : List ℕ). is_some (cut p).stop)
+    (octets_more flow [] events (Delivers flow octets)
+    ∙ behind_delivers flow octets (octets_of flow events))
 
 -- ---- the start
 
@@ -186,7 +198,8 @@ pub followed_none : (rooms : List Conversation) → All IsNew rooms → HaveFoll
 unfolding octets_from
 followed_none rooms new flow = by (slice_get_cases rooms (flow / 2)).1
   where
-    by : ((c : Conversation) × (flow / 2 < length rooms) × (slice_get rooms (flow / 2) ≡ Some c) × (get_or rooms (flow / 2) c ≡ c))
+    by : ((c : Conversation) × (flow / 2 < length rooms) × (slice_get rooms (flow / 2) ≡ Some c)
+        × (get_or rooms (flow / 2) c ≡ c))
         ⊎ ((length rooms ≤ flow / 2) × (slice_get rooms (flow / 2) ≡ None)) →
         IfSome (direction_of rooms flow) (λ d. HasRead d.engine (octets_of flow []))
     by (inl (c, below, is, at)) =
@@ -222,8 +235,12 @@ pub opened : (rooms : List Conversation) (events : List Event) (flow : ℕ) (end
     new.even.engine ≡ old.even.engine → new.odd.engine ≡ old.odd.engine →
     HaveFollowed (set rooms (flow / 2) new) (events ++ Opens flow endpoints ∷ [])
 opened rooms events flow endpoints old new follows here even odd =
-    followed_on rooms events (Opens flow endpoints) flow old new follows here (none_opens flow endpoints)
-    (λ h. rw (none_of_opens flow endpoints flow (octets_of flow events), same_engine (parity_of flow) old new even odd) h)
+    followed_on rooms events (Opens flow endpoints) flow old new follows here
+    (none_opens flow endpoints)
+    (λ h. rw (
+      none_of_opens flow endpoints flow (octets_of flow events),
+      same_engine (parity_of flow) old new even odd,
+    ) h)
     (same_engine (other (parity_of flow)) old new even odd)
 
 pub stream_begun : (rooms : List Conversation) (events : List Event) (flow number : ℕ)
@@ -243,11 +260,14 @@ pub octets_read : (rooms : List Conversation) (events : List Event) (flow : ℕ)
     direction (other (parity_of flow)) new ≡ direction (other (parity_of flow)) old →
     HaveFollowed (set rooms (flow / 2) new) (events ++ Delivers flow octets ∷ [])
 octets_read rooms events flow octets old new follows here reads stays =
-    followed_on rooms events (Delivers flow octets) flow old new follows here (of_delivers flow octets)
-    (λ h. rw (behind_delivers flow octets (octets_of flow events)) (reads (octets_of flow events) h))
+    followed_on rooms events (Delivers flow octets) flow old new follows here
+    (of_delivers flow octets)
+    (λ h. rw (behind_delivers flow octets (octets_of flow events))
+    (reads (octets_of flow events) h))
     (ap (λ (d : DirectionView). d.engine) stays)
 
-stopped_is : (stop : Option (ℕ × StreamFault)) → is_stopped (status_of (fault_of stop)) ≡ is_some stop
+stopped_is : (stop : Option (ℕ × StreamFault)) →
+    is_stopped (status_of (fault_of stop)) ≡ is_some stop
 stopped_is None = refl
 stopped_is (Some found) = refl
 

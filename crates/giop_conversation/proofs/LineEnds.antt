@@ -31,7 +31,8 @@ ends_joined : (first : Bool) (parts : List (List ℕ)) →
     ends_line first (joined (parts ++ codes "\n" ∷ [])) ≡ true
 unfolding ends_line
 ends_joined first [] = refl
-ends_joined first (x ∷ xs) = ends_append first x (joined (xs ++ codes "\n" ∷ [])) ∙ ends_joined (ends_line first x) xs
+ends_joined first (x ∷ xs) = ends_append first x (joined (xs ++ codes "\n" ∷ []))
+    ∙ ends_joined (ends_line first x) xs
 
 -- some lines and then others
 pub ends_both : (xs ys : List ℕ) → is_due xs ≡ true → is_due ys ≡ true → is_due (xs ++ ys) ≡ true
@@ -49,25 +50,31 @@ numbered_ends number text = ends_joined true (codes "m" ∷ decimal number ∷ c
 
 fault_ends : (number : ℕ) (word : List ℕ) (place : ℕ) → is_due (fault_line number word place) ≡ true
 unfolding fault_line
-fault_ends number word place = ends_joined true (codes "m" ∷ decimal number ∷ codes " fault " ∷ word ∷ codes " at " ∷ decimal place ∷ [])
+fault_ends number word place = ends_joined true
+    (codes "m" ∷ decimal number ∷ codes " fault " ∷ word ∷ codes " at " ∷ decimal place ∷ [])
 
 stream_fault_ends : (word : List ℕ) (place : ℕ) → is_due (stream_fault_line word place) ≡ true
 unfolding stream_fault_line
-stream_fault_ends word place = ends_joined true (codes "stream fault " ∷ word ∷ codes " at " ∷ decimal place ∷ [])
+stream_fault_ends word place = ends_joined true
+    (codes "stream fault " ∷ word ∷ codes " at " ∷ decimal place ∷ [])
 
 start_ends : (number : ℕ) (header : List ℕ) → is_due (stream.start_line number header) ≡ true
 unfolding stream.start_line start_line
 start_ends number header =
-    ends_joined true (codes "m" ∷ decimal number ∷ codes " start 1." ∷ decimal (minor header) ∷ codes " "
-    ∷ order_word (order header) ∷ codes " " ∷ type_word (kind header) ∷ codes " size " ∷ decimal (size header) ∷ more_word (has_more header) ∷ [])
+    ends_joined true (codes "m" ∷ decimal number ∷ codes " start 1." ∷ decimal (minor header) ∷
+    codes " "
+    ∷ order_word (order header) ∷ codes " " ∷ type_word (kind header) ∷ codes " size " ∷ decimal
+    (size header) ∷ more_word (has_more header) ∷ [])
 
 continues_ends : (number opener : ℕ) → is_due (continues_line number opener) ≡ true
 unfolding continues_line
-continues_ends number opener = ends_joined true (codes "m" ∷ decimal number ∷ codes " continues m" ∷ decimal opener ∷ [])
+continues_ends number opener = ends_joined true
+    (codes "m" ∷ decimal number ∷ codes " continues m" ∷ decimal opener ∷ [])
 
 cancelled_ends : (number by : ℕ) → is_due (cancelled_line number by) ≡ true
 unfolding cancelled_line
-cancelled_ends number by = ends_joined true (codes "m" ∷ decimal number ∷ codes " cancelled by m" ∷ decimal by ∷ [])
+cancelled_ends number by = ends_joined true
+    (codes "m" ∷ decimal number ∷ codes " cancelled by m" ∷ decimal by ∷ [])
 
 class_ends : (place number : ℕ) (line_class : LineClass) (text : List ℕ) →
     is_due (line_class_text place number line_class text) ≡ true
@@ -77,24 +84,28 @@ class_ends place number Rest text = numbered_ends number text
 class_ends place number Fault text = fault_ends number text place
 class_ends place number End text = numbered_ends number text
 
-content_ends : (place number : ℕ) (content : Content) → is_due (stream.content_line place number content) ≡ true
+content_ends : (place number : ℕ) (content : Content) →
+    is_due (stream.content_line place number content) ≡ true
 content_ends place number (Started header) = start_ends number header
 content_ends place number (Said line_class text) = class_ends place number line_class text
 content_ends place number (ContinuesMessage i) = continues_ends number i
 content_ends place number (CancelledBy j) = cancelled_ends number j
-content_ends place number (Faulted fault) = fault_ends number (stream.framing_fault_word fault) place
+content_ends place number (Faulted fault) =
+    fault_ends number (stream.framing_fault_word fault) place
 content_ends place number (Stopped fault) = stream_fault_ends (stream.stream_word fault) place
 
 all_end : (ls : List Line) → is_due (flat_map stream.line_text ls) ≡ true
 all_end [] = none_ends
-all_end (l ∷ ls) = ends_both (stream.line_text l) (flat_map stream.line_text ls) (content_ends l.place l.number l.content) (all_end ls)
+all_end (l ∷ ls) = ends_both (stream.line_text l) (flat_map stream.line_text ls)
+    (content_ends l.place l.number l.content) (all_end ls)
 
 text_ends : (R : Rules) (p : List ℕ) → is_due (text R p) ≡ true
 unfolding text stream.lines_text
 text_ends R p = all_end (lines R p)
 
 no_text : (R : Rules) → text R [] ≡ []
-unfolding text stream.lines_text lines lines_of_messages in_order up_to_last_line stop_line cut limited limit cut_from first_wrong_octet fronts first_wrong wrong
+unfolding text stream.lines_text lines lines_of_messages in_order up_to_last_line stop_line cut
+    limited limit cut_from first_wrong_octet fronts first_wrong wrong
 no_text R = refl
 
 -- what more octets add
@@ -106,16 +117,20 @@ added_ends C a most p q =
     let of : (xs : List ℕ) → drop (length (text R [])) (text R xs) ≡ text R xs =
     λ xs. ap (λ (t : List ℕ). drop (length t) (text R xs)) (no_text R) in
     let both : text R (p ++ q) ≡ text R p ++ added R p q =
-    sym (of (p ++ q)) ∙ (added_both_by C a most [] p q ∙ ap (λ (t : List ℕ). t ++ added R p q) (of p)) in
+    sym (of (p ++ q)) ∙ (added_both_by C a most [] p q
+    ∙ ap (λ (t : List ℕ). t ++ added R p q) (of p)) in
     ap (λ b. ends_line b (added R p q)) (sym (text_ends R p))
-    ∙ (sym (ends_append true (text R p) (added R p q)) ∙ (ap is_due (sym both) ∙ text_ends R (p ++ q)))
+    ∙ (sym (ends_append true (text R p) (added R p q))
+    ∙ (ap is_due (sym both) ∙ text_ends R (p ++ q)))
 
 -- ---- the closing
 
-total_ends : (first : Bool) (messages faults octets : ℕ) → ends_line first (total_line messages faults octets) ≡ true
+total_ends : (first : Bool) (messages faults octets : ℕ) →
+    ends_line first (total_line messages faults octets) ≡ true
 unfolding total_line
 total_ends first messages faults octets =
-    ends_joined first (codes "total messages " ∷ decimal messages ∷ codes " faults " ∷ decimal faults
+    ends_joined first (codes "total messages " ∷ decimal messages ∷ codes " faults " ∷ decimal
+    faults
     ∷ codes " octets " ∷ decimal octets ∷ [])
 
 pub closing_ends : (R : Rules) (p : List ℕ) → is_due (closing R p) ≡ true
@@ -126,28 +141,35 @@ closing_ends R p =
     let total = total_line (final R p).messages (final R p).faults (final R p).octets in
     ends_append true truncated (open_ones ++ total)
     ∙ (ends_append (ends_line true truncated) open_ones total
-    ∙ total_ends (ends_line (ends_line true truncated) open_ones) (final R p).messages (final R p).faults (final R p).octets)
+    ∙ total_ends (ends_line (ends_line true truncated) open_ones) (final R p).messages
+    (final R p).faults (final R p).octets)
 
 -- ---- the lines of a capture
 
 pub stream_line_ends : (flow : Flow) (time : Option ℕ) → is_due (stream_line flow time) ≡ true
 unfolding stream_line
 stream_line_ends flow time =
-    ends_joined true (codes "stream " ∷ endpoint_text flow.from ∷ codes " > " ∷ endpoint_text flow.to ∷ codes " at " ∷ time_text time ∷ [])
+    ends_joined true (codes "stream " ∷ endpoint_text flow.from ∷ codes " > " ∷ endpoint_text
+    flow.to ∷ codes " at " ∷ time_text time ∷ [])
 
 pub time_line_ends : (message : ℕ) (time : Option ℕ) → is_due (time_line message time) ≡ true
 unfolding time_line
-time_line_ends message time = ends_joined true (codes "m" ∷ decimal message ∷ codes " time " ∷ time_text time ∷ [])
+time_line_ends message time = ends_joined true
+    (codes "m" ∷ decimal message ∷ codes " time " ∷ time_text time ∷ [])
 
-pub answers_line_ends : (message : ℕ) (call : OutstandingCall) (time : Option ℕ) → is_due (answers_line message call time) ≡ true
+pub answers_line_ends : (message : ℕ) (call : OutstandingCall) (time : Option ℕ) →
+    is_due (answers_line message call time) ≡ true
 unfolding answers_line
 answers_line_ends message call time =
-    ends_joined true (codes "m" ∷ decimal message ∷ codes " answers s" ∷ decimal call.stream ∷ codes " m" ∷ decimal call.message
+    ends_joined true (codes "m" ∷ decimal message ∷ codes " answers s" ∷ decimal call.stream ∷ codes
+    " m" ∷ decimal call.message
     ∷ codes " " ∷ call.name.items ∷ codes " after " ∷ span_text call.time time ∷ [])
 
-pub raises_line_ends : (message : ℕ) (repository : List ℕ) → is_due (raises_line message repository) ≡ true
+pub raises_line_ends : (message : ℕ) (repository : List ℕ) →
+    is_due (raises_line message repository) ≡ true
 unfolding raises_line
-raises_line_ends message repository = ends_joined true (codes "m" ∷ decimal message ∷ codes " raises " ∷ repository ∷ [])
+raises_line_ends message repository = ends_joined true
+    (codes "m" ∷ decimal message ∷ codes " raises " ∷ repository ∷ [])
 
 pub closed_line_ends : (cause : CloseCause) → is_due (closed_line cause) ≡ true
 unfolding closed_line
@@ -155,17 +177,21 @@ closed_line_ends cause = ends_joined true (codes "closed " ∷ cause_word cause 
 
 pub capture_fault_ends : (word : List ℕ) (at : ℕ) → is_due (capture_fault_line word at) ≡ true
 unfolding capture_fault_line
-capture_fault_ends word at = ends_joined true (codes "capture fault " ∷ word ∷ codes " at " ∷ decimal at ∷ [])
+capture_fault_ends word at = ends_joined true
+    (codes "capture fault " ∷ word ∷ codes " at " ∷ decimal at ∷ [])
 
 pub capture_total_ends : (streams messages faults packets octets : ℕ) →
     is_due (capture_total_line streams messages faults packets octets) ≡ true
 unfolding capture_total_line
 capture_total_ends streams messages faults packets octets =
-    ends_joined true (codes "total streams " ∷ decimal streams ∷ codes " messages " ∷ decimal messages ∷ codes " faults "
+    ends_joined true (codes "total streams " ∷ decimal streams ∷ codes " messages " ∷ decimal
+    messages ∷ codes " faults "
     ∷ decimal faults ∷ codes " packets " ∷ decimal packets ∷ codes " octets " ∷ decimal octets ∷ [])
 
-pub closing_lines_end : (R : Rules) (p : List ℕ) (cause : CloseCause) → is_due (closed_line cause ++ closing R p) ≡ true
-closing_lines_end R p cause = ends_both (closed_line cause) (closing R p) (closed_line_ends cause) (closing_ends R p)
+pub closing_lines_end : (R : Rules) (p : List ℕ) (cause : CloseCause) →
+    is_due (closed_line cause ++ closing R p) ≡ true
+closing_lines_end R p cause = ends_both (closed_line cause) (closing R p) (closed_line_ends cause)
+    (closing_ends R p)
 
 -- ---- the lines that are due behind octets
 
@@ -176,7 +202,8 @@ time_due_ends p octets time = by (nat_lt (begun p) (begun (p ++ octets)))
     by true = time_line_ends (begun (p ++ octets)) time
     by false = none_ends
 
-answers_due_ends : (answered : Option Answering) (time : Option ℕ) → is_due (answers_due answered time) ≡ true
+answers_due_ends : (answered : Option Answering) (time : Option ℕ) →
+    is_due (answers_due answered time) ≡ true
 answers_due_ends None time = none_ends
 answers_due_ends (Some a) time = answers_line_ends a.message a.call time
 
@@ -184,12 +211,15 @@ raises_due_ends : (raised : Option Raising) → is_due (raises_due raised) ≡ t
 raises_due_ends None = none_ends
 raises_due_ends (Some r) = raises_line_ends r.message r.name
 
-pub lines_due_end : (R : Rules) (s : Exchanged) (p octets : List ℕ) → is_due (lines_due R s p octets) ≡ true
+pub lines_due_end : (R : Rules) (s : Exchanged) (p octets : List ℕ) →
+    is_due (lines_due R s p octets) ≡ true
 unfolding lines_due
 lines_due_end R s p octets =
     let behind = told R s p octets in
-    ends_both (time_due p octets s.time) (answers_due behind.answered s.time ++ raises_due behind.raised)
-    (time_due_ends p octets s.time) (ends_both (answers_due behind.answered s.time) (raises_due behind.raised)
+    ends_both (time_due p octets s.time) (answers_due behind.answered s.time
+    ++ raises_due behind.raised)
+    (time_due_ends p octets s.time) (ends_both (answers_due behind.answered s.time)
+    (raises_due behind.raised)
     (answers_due_ends behind.answered s.time) (raises_due_ends behind.raised))
 
 -- all that is written of octets
@@ -200,5 +230,6 @@ stamped_ends C a most [] p s = none_ends
 stamped_ends C a most (x ∷ xs) p s =
     let R = rules_by C a most in
     ends_both (added R p (x ∷ []) ++ lines_due R s p (x ∷ [])) _
-    (ends_both (added R p (x ∷ [])) (lines_due R s p (x ∷ [])) (added_ends C a most p (x ∷ [])) (lines_due_end R s p (x ∷ [])))
+    (ends_both (added R p (x ∷ [])) (lines_due R s p (x ∷ [])) (added_ends C a most p (x ∷ []))
+    (lines_due_end R s p (x ∷ [])))
     (stamped_ends C a most xs (p ++ x ∷ []) _)

@@ -34,7 +34,8 @@ pub record AreParts (lines reads own : List ℕ) : Type 0 where
 pub none : AreParts [] [] []
 none = record { parts = []; whole = tt; lines_are = refl; reads_are = refl; own_are = refl }
 
-pub one : (part : StreamPart) → is_due (lines_of part) ≡ true → AreParts (lines_of part) (read_lines part) (own_lines part)
+pub one : (part : StreamPart) → is_due (lines_of part) ≡ true →
+    AreParts (lines_of part) (read_lines part) (own_lines part)
 one part ends = record {
   parts = part ∷ [];
   whole = (ends, tt);
@@ -43,15 +44,18 @@ one part ends = record {
   own_are = append-nil (own_lines part);
 }
 
-each_both : {X : Type 0} (P : X → Type 0) (xs ys : List X) → Each P xs → Each P ys → Each P (xs ++ ys)
+each_both : {X : Type 0} (P : X → Type 0) (xs ys : List X) → Each P xs → Each P ys →
+    Each P (xs ++ ys)
 each_both P [] ys first second = second
 each_both P (x ∷ xs) ys first second = (first.0, each_both P xs ys first.1 second)
 
-flat_both : {X : Type 0} (f : X → List ℕ) (xs ys : List X) (a b : List ℕ) → flat_map f xs ≡ a → flat_map f ys ≡ b →
+flat_both : {X : Type 0} (f : X → List ℕ) (xs ys : List X) (a b : List ℕ) → flat_map f xs ≡ a →
+    flat_map f ys ≡ b →
     flat_map f (xs ++ ys) ≡ a ++ b
 flat_both f xs ys a b first second = rw (flat_map-append f xs ys, first, second) refl
 
-pub both : (l r o l' r' o' : List ℕ) → AreParts l r o → AreParts l' r' o' → AreParts (l ++ l') (r ++ r') (o ++ o')
+pub both : (l r o l' r' o' : List ℕ) → AreParts l r o → AreParts l' r' o' →
+    AreParts (l ++ l') (r ++ r') (o ++ o')
 both l r o l' r' o' a b = record {
   parts = a.parts ++ b.parts;
   whole = each_both (λ part. is_due (lines_of part) ≡ true) a.parts b.parts a.whole b.whole;
@@ -65,7 +69,8 @@ both l r o l' r' o' a b = record {
 pub whole_both : (xs ys : List Part) → Each IsWhole xs → Each IsWhole ys → Each IsWhole (xs ++ ys)
 whole_both xs ys first second = each_both IsWhole xs ys first second
 
-pub are_whole : (number : ℕ) (parts : List StreamPart) → Each (λ part. is_due (lines_of part) ≡ true) parts →
+pub are_whole : (number : ℕ) (parts : List StreamPart) →
+    Each (λ part. is_due (lines_of part) ≡ true) parts →
     Each IsWhole (map (OfStream number) parts)
 are_whole number [] whole = tt
 are_whole number (x ∷ xs) whole = (whole.0, are_whole number xs whole.1)
@@ -74,7 +79,8 @@ no_tags : (tag : List ℕ) → with_tags tag [] ≡ []
 unfolding tagged
 no_tags tag = refl
 
-pub text_is : (number : ℕ) (parts : List StreamPart) → Each (λ part. is_due (lines_of part) ≡ true) parts →
+pub text_is : (number : ℕ) (parts : List StreamPart) →
+    Each (λ part. is_due (lines_of part) ≡ true) parts →
     text_of (map (OfStream number) parts) ≡ with_tags (stream_tag number) (flat_map lines_of parts)
 text_is number [] whole = sym (no_tags (stream_tag number))
 text_is number (x ∷ xs) whole =
@@ -89,7 +95,8 @@ of_it f number [] = refl
 of_it f number (x ∷ xs) =
     rw (eq-eqb number number refl) (ap (λ (t : List ℕ). f x ++ t) (of_it f number xs))
 
-pub of_another : (f : StreamPart → List ℕ) (number other : ℕ) (parts : List StreamPart) → (number == other) ≡ false →
+pub of_another : (f : StreamPart → List ℕ) (number other : ℕ) (parts : List StreamPart) →
+    (number == other) ≡ false →
     flat_map (of_stream f other) (map (OfStream number) parts) ≡ []
 of_another f number other [] apart = refl
 of_another f number other (x ∷ xs) apart = rw apart (of_another f number other xs apart)
@@ -104,7 +111,8 @@ pub closed_parts : (R : Rules) (p : List ℕ) (cause : CloseCause) →
     AreParts (closed_line cause ++ closing R p) [] (closing R p)
 closed_parts R p cause =
     both (closed_line cause) [] [] (closing R p) [] (closing R p)
-    (one (ClosedLine cause) (closed_line_ends cause)) (one (Closing (closing R p)) (closing_ends R p))
+    (one (ClosedLine cause) (closed_line_ends cause))
+    (one (Closing (closing R p)) (closing_ends R p))
 
 time_parts : (p octets : List ℕ) (time : Option ℕ) → AreParts (time_due p octets time) [] []
 time_parts p octets time = by (nat_lt (begun p) (begun (p ++ octets)))
@@ -113,19 +121,23 @@ time_parts p octets time = by (nat_lt (begun p) (begun (p ++ octets)))
     by true = one (TimeLine (begun (p ++ octets)) time) (time_line_ends (begun (p ++ octets)) time)
     by false = none
 
-answers_parts : (answered : Option Answering) (time : Option ℕ) → AreParts (answers_due answered time) [] []
+answers_parts : (answered : Option Answering) (time : Option ℕ) →
+    AreParts (answers_due answered time) [] []
 answers_parts None time = none
-answers_parts (Some a) time = one (AnswersLine a.message a.call time) (answers_line_ends a.message a.call time)
+answers_parts (Some a) time = one (AnswersLine a.message a.call time)
+    (answers_line_ends a.message a.call time)
 
 raises_parts : (raised : Option Raising) → AreParts (raises_due raised) [] []
 raises_parts None = none
 raises_parts (Some r) = one (RaisesLine r.message r.name) (raises_line_ends r.message r.name)
 
-due_parts : (R : Rules) (s : Exchanged) (p octets : List ℕ) → AreParts (lines_due R s p octets) [] []
+due_parts : (R : Rules) (s : Exchanged) (p octets : List ℕ) →
+    AreParts (lines_due R s p octets) [] []
 unfolding lines_due
 due_parts R s p octets =
     let behind = told R s p octets in
-    both (time_due p octets s.time) [] [] (answers_due behind.answered s.time ++ raises_due behind.raised) [] []
+    both (time_due p octets s.time) [] [] (answers_due behind.answered s.time
+    ++ raises_due behind.raised) [] []
     (time_parts p octets s.time)
     (both (answers_due behind.answered s.time) [] [] (raises_due behind.raised) [] []
     (answers_parts behind.answered s.time) (raises_parts behind.raised))
@@ -136,17 +148,21 @@ module _ (C : Table) (a : Answers) (most : ℕ) where
 
   none_added : (p : List ℕ) → added R p [] ≡ []
   unfolding added
-  none_added p = ap (λ (q : List ℕ). drop (length (text R p)) (text R q)) (append-nil p) ∙ drop-length (text R p)
+  none_added p = ap (λ (q : List ℕ). drop (length (text R p)) (text R q)) (append-nil p)
+      ∙ drop-length (text R p)
 
   octet_parts : (s : Exchanged) (p : List ℕ) (x : ℕ) →
-      AreParts (added R p (x ∷ []) ++ lines_due R s p (x ∷ [])) (added R p (x ∷ [])) (added R p (x ∷ []))
+      AreParts (added R p (x ∷ []) ++ lines_due R s p (x ∷ [])) (added R p (x ∷ []))
+      (added R p (x ∷ []))
   octet_parts s p x =
       let first = added R p (x ∷ []) in
       subst (λ (t : List ℕ). AreParts (first ++ lines_due R s p (x ∷ [])) t t) (append-nil first)
-      (both first first first (lines_due R s p (x ∷ [])) [] [] (one (Reads first) (added_ends C a most p (x ∷ []))) (due_parts R s p (x ∷ [])))
+      (both first first first (lines_due R s p (x ∷ [])) [] []
+      (one (Reads first) (added_ends C a most p (x ∷ []))) (due_parts R s p (x ∷ [])))
 
   -- of octets behind others
-  pub stamped_parts : (octets p : List ℕ) (s : Exchanged) → AreParts (stamped R s p octets) (added R p octets) (added R p octets)
+  pub stamped_parts : (octets p : List ℕ) (s : Exchanged) →
+      AreParts (stamped R s p octets) (added R p octets) (added R p octets)
   unfolding stamped
   stamped_parts [] p s = rw (none_added p) none
   stamped_parts (x ∷ xs) p s =
@@ -154,5 +170,6 @@ module _ (C : Table) (a : Answers) (most : ℕ) where
       let first = added R p (x ∷ []) in
       let rest = added R (p ++ x ∷ []) xs in
       rw (added_both_by C a most p (x ∷ []) xs)
-      (both (first ++ lines_due R s p (x ∷ [])) first first (stamped R s' (p ++ x ∷ []) xs) rest rest
+      (both (first ++ lines_due R s p (x ∷ [])) first first (stamped R s' (p ++ x ∷ []) xs) rest
+      rest
       (octet_parts s p x) (stamped_parts xs (p ++ x ∷ []) s'))

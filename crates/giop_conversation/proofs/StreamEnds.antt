@@ -16,7 +16,8 @@ use Rattle.giop_conversation.proofs.StreamTextLemmas.{AreShown, on_event, at_sta
 
 -- ---- one event of a flow, by the number that is due before and behind it
 
-opens_none : (payloads : _) (f g : ℕ) (e : Flow) (before behind : Option ℕ) → OwnMayFollow payloads f before (Opens g e) behind →
+opens_none : (payloads : _) (f g : ℕ) (e : Flow) (before behind : Option ℕ) →
+    OwnMayFollow payloads f before (Opens g e) behind →
     is_some behind ≡ true → ⊥
 unfolding OwnMayFollow
 opens_none payloads f g e None None own lives = cc
@@ -33,20 +34,23 @@ delivers_live payloads f g octets (Some m) None own = absurd own
 delivers_live payloads f g octets (Some m) (Some n) own = refl
 
 closes_live : (payloads : _) (f g : ℕ) (cause : CloseCause) (before behind : Option ℕ) →
-    OwnMayFollow payloads f before (Closes g cause) behind → (is_some before ≡ true) × (is_some behind ≡ true → ⊥)
+    OwnMayFollow payloads f before (Closes g cause) behind → (is_some before ≡ true)
+    × (is_some behind ≡ true → ⊥)
 unfolding OwnMayFollow
 closes_live payloads f g cause None None own = absurd own
 closes_live payloads f g cause None (Some n) own = absurd own
 closes_live payloads f g cause (Some m) None own = (refl, λ lives. cc)
 closes_live payloads f g cause (Some m) (Some n) own = absurd own
 
-own_event : (payloads : _) (f : ℕ) (e : Event) (before behind : Option ℕ) → flow_of e ≡ Some f → MayFollow payloads f before e behind →
+own_event : (payloads : _) (f : ℕ) (e : Event) (before behind : Option ℕ) → flow_of e ≡ Some f →
+    MayFollow payloads f before e behind →
     OwnMayFollow payloads f before e behind
 own_event payloads f e before behind is (inl own) = own.1
 own_event payloads f e before behind is (inr past) = absurd (past.0 is)
 
 -- another flow lives as before
-lives_still : (payloads : _) (f : ℕ) (e : Event) (before behind : Option ℕ) → (flow_of e ≡ Some f → ⊥) →
+lives_still : (payloads : _) (f : ℕ) (e : Event) (before behind : Option ℕ) →
+    (flow_of e ≡ Some f → ⊥) →
     MayFollow payloads f before e behind → is_some behind ≡ true → is_some before ≡ true
 lives_still payloads f e before behind past (inl own) lives = absurd (past own.0)
 lives_still payloads f e before behind past (inr same) lives = ap is_some same.1 ∙ lives
@@ -58,52 +62,77 @@ other_flow f id apart is = apart (let same : f ≡ id = cc in same)
 
 record EndOnce (h : History) (due : ℕ → Option ℕ) : Type 0 where
   ends : (m : ℕ) → IsUnique m → (h.stream m).goes_on ≡ false
-  live : (f : ℕ) → is_some (due f) ≡ true → IsUnique (h.stream_of f) → (h.stream (h.stream_of f)).is_closed ≡ false
+  live : (f : ℕ) → is_some (due f) ≡ true → IsUnique (h.stream_of f) →
+      (h.stream (h.stream_of f)).is_closed ≡ false
 
-module _ (S : Setup) (h : History) (due behind : ℕ → Option ℕ) (k : AreNumbered S h) (t : EndOnce h due) where
+module _ (S : Setup) (h : History) (due behind : ℕ → Option ℕ) (k : AreNumbered S h)
+    (t : EndOnce h due) where
   abbrev FollowsBy : Event → Type 0
   FollowsBy e = (f : ℕ) → (payloads : _) × MayFollow payloads f (due f) e (behind f)
 
   opened_ends : (id : ℕ) (flow : Flow) → FollowsBy (Opens id flow) → EndOnce h behind
-  opened_ends id flow follows = record { ends = t.ends; live = λ f lives number. by f lives number (cases_eq f id) }
+  opened_ends id flow follows = record {
+    ends = t.ends;
+    live =
+        λ f lives number. by f lives number (cases_eq f id);
+  }
     where
-      by : (f : ℕ) → is_some (behind f) ≡ true → IsUnique (h.stream_of f) → (f ≡ id) ⊎ (f ≡ id → ⊥) →
+      by : (f : ℕ) → is_some (behind f) ≡ true → IsUnique (h.stream_of f) → (f ≡ id)
+          ⊎ (f ≡ id → ⊥) →
           (h.stream (h.stream_of f)).is_closed ≡ false
       by f lives number (inl is) =
           let x = follows f in
-          absurd (opens_none x.0 f id flow (due f) (behind f) (own_event x.0 f (Opens id flow) (due f) (behind f) (ap Some (sym is)) x.1) lives)
+          absurd (opens_none x.0 f id flow (due f) (behind f)
+          (own_event x.0 f (Opens id flow) (due f) (behind f) (ap Some (sym is)) x.1) lives)
       by f lives number (inr apart) =
           let x = follows f in
-          t.live f (lives_still x.0 f (Opens id flow) (due f) (behind f) (other_flow f id apart) x.1 lives) number
+          t.live f (lives_still x.0 f (Opens id flow) (due f) (behind f) (other_flow f id apart) x.1
+          lives) number
 
-  begun_ends : (id n : ℕ) (b : Bool) → (b ≡ false → h.stream_of id ≡ 0) → FollowsBy (Begins id n) → EndOnce (with_begun h id b) behind
-  begun_ends id n true room follows = record { ends = t.ends; live = λ f lives number. by f lives (f == id) refl number }
+  begun_ends : (id n : ℕ) (b : Bool) → (b ≡ false → h.stream_of id ≡ 0) → FollowsBy (Begins id n) →
+      EndOnce (with_begun h id b) behind
+  begun_ends id n true room follows = record {
+    ends = t.ends;
+    live =
+        λ f lives number. by f lives (f == id) refl number;
+  }
     where
-      by : (f : ℕ) → is_some (behind f) ≡ true → (b : Bool) → (f == id) ≡ b → IsUnique (if f == id then counted h.begun else h.stream_of f) →
+      by : (f : ℕ) → is_some (behind f) ≡ true → (b : Bool) → (f == id) ≡ b →
+          IsUnique (if f == id then counted h.begun else h.stream_of f) →
           (h.stream (if f == id then counted h.begun else h.stream_of f)).is_closed ≡ false
       by f lives true is number =
           let one : IsUnique (counted h.begun) = rw is at number in
-          rw is (ap (λ (s : StreamHistory). s.is_closed) (k.fresh (counted h.begun) (counted_new h.begun one.1)))
+          rw is (ap (λ (s : StreamHistory). s.is_closed)
+          (k.fresh (counted h.begun) (counted_new h.begun one.1)))
       by f lives false is number =
           let x = follows f in
-          rw is (t.live f (lives_still x.0 f (Begins id n) (due f) (behind f) (other_flow f id (eqb-false f id is)) x.1 lives) (rw is at number))
-  begun_ends id n false room follows = record { ends = t.ends; live = λ f lives number. by f lives number (cases_eq f id) }
+          rw is (t.live f (lives_still x.0 f (Begins id n) (due f) (behind f)
+          (other_flow f id (eqb-false f id is)) x.1 lives) (rw is at number))
+  begun_ends id n false room follows = record {
+    ends = t.ends;
+    live =
+        λ f lives number. by f lives number (cases_eq f id);
+  }
     where
-      by : (f : ℕ) → is_some (behind f) ≡ true → IsUnique (h.stream_of f) → (f ≡ id) ⊎ (f ≡ id → ⊥) →
+      by : (f : ℕ) → is_some (behind f) ≡ true → IsUnique (h.stream_of f) → (f ≡ id)
+          ⊎ (f ≡ id → ⊥) →
           (h.stream (h.stream_of f)).is_closed ≡ false
       by f lives number (inl is) =
           let none : h.stream_of f ≡ 0 = ap h.stream_of is ∙ room refl in
           absurd (omega (arith, none, number.0))
       by f lives number (inr apart) =
           let x = follows f in
-          t.live f (lives_still x.0 f (Begins id n) (due f) (behind f) (other_flow f id apart) x.1 lives) number
+          t.live f (lives_still x.0 f (Begins id n) (due f) (behind f) (other_flow f id apart) x.1
+          lives) number
 
   -- a stream changes whose flow lived
-  changed_ends : (id : ℕ) (s : StreamHistory) → (IsUnique (h.stream_of id) → s.goes_on ≡ false) → (m : ℕ) → IsUnique m →
+  changed_ends : (id : ℕ) (s : StreamHistory) → (IsUnique (h.stream_of id) → s.goes_on ≡ false) →
+      (m : ℕ) → IsUnique m →
       ((with_stream h (h.stream_of id) s).stream m).goes_on ≡ false
   changed_ends id s here m number = by (h.stream_of id == m) refl
     where
-      by : (b : Bool) → (h.stream_of id == m) ≡ b → ((with_stream h (h.stream_of id) s).stream m).goes_on ≡ false
+      by : (b : Bool) → (h.stream_of id == m) ≡ b →
+          ((with_stream h (h.stream_of id) s).stream m).goes_on ≡ false
       by true same = rw same (here (subst IsUnique (sym (eqb-true _ _ same)) number))
       by false apart = rw apart (t.ends m number)
 
@@ -124,21 +153,26 @@ module _ (S : Setup) (h : History) (due behind : ℕ → Option ℕ) (k : AreNum
       lived : is_some (due id) ≡ true
       lived =
           let x = follows id in
-          delivers_live x.0 id id octets (due id) (behind id) (own_event x.0 id (Delivers id octets) (due id) (behind id) refl x.1)
+          delivers_live x.0 id id octets (due id) (behind id)
+          (own_event x.0 id (Delivers id octets) (due id) (behind id) refl x.1)
 
-      stays : (m : ℕ) → ((with_stream h (h.stream_of id) next).stream m).is_closed ≡ (h.stream m).is_closed
+      stays : (m : ℕ) → ((with_stream h (h.stream_of id) next).stream m).is_closed
+          ≡ (h.stream m).is_closed
       stays m = at (h.stream_of id == m) refl
         where
-          at : (b : Bool) → (h.stream_of id == m) ≡ b → ((with_stream h (h.stream_of id) next).stream m).is_closed ≡ (h.stream m).is_closed
+          at : (b : Bool) → (h.stream_of id == m) ≡ b →
+              ((with_stream h (h.stream_of id) next).stream m).is_closed ≡ (h.stream m).is_closed
           at true same = rw same (ap (λ n. (h.stream n).is_closed) (eqb-true _ _ same))
           at false apart = rw apart refl
 
-      by : (f : ℕ) → is_some (behind f) ≡ true → IsUnique (h.stream_of f) → (f ≡ id) ⊎ (f ≡ id → ⊥) →
+      by : (f : ℕ) → is_some (behind f) ≡ true → IsUnique (h.stream_of f) → (f ≡ id)
+          ⊎ (f ≡ id → ⊥) →
           (h.stream (h.stream_of f)).is_closed ≡ false
       by f lives number (inl is) = t.live f (ap (λ g. is_some (due g)) is ∙ lived) number
       by f lives number (inr apart) =
           let x = follows f in
-          t.live f (lives_still x.0 f (Delivers id octets) (due f) (behind f) (other_flow f id apart) x.1 lives) number
+          t.live f (lives_still x.0 f (Delivers id octets) (due f) (behind f)
+          (other_flow f id apart) x.1 lives) number
 
   closed_ends : (id : ℕ) (cause : CloseCause) → FollowsBy (Closes id cause) →
       EndOnce (with_stream h (h.stream_of id) (closed (h.stream (h.stream_of id)))) behind
@@ -153,24 +187,29 @@ module _ (S : Setup) (h : History) (due behind : ℕ → Option ℕ) (k : AreNum
       did : (is_some (due id) ≡ true) × (is_some (behind id) ≡ true → ⊥)
       did =
           let x = follows id in
-          closes_live x.0 id id cause (due id) (behind id) (own_event x.0 id (Closes id cause) (due id) (behind id) refl x.1)
+          closes_live x.0 id id cause (due id) (behind id)
+          (own_event x.0 id (Closes id cause) (due id) (behind id) refl x.1)
 
-      by : (f : ℕ) → is_some (behind f) ≡ true → IsUnique (h.stream_of f) → (f ≡ id) ⊎ (f ≡ id → ⊥) →
+      by : (f : ℕ) → is_some (behind f) ≡ true → IsUnique (h.stream_of f) → (f ≡ id)
+          ⊎ (f ≡ id → ⊥) →
           ((with_stream h (h.stream_of id) next).stream (h.stream_of f)).is_closed ≡ false
       by f lives number (inl is) = absurd (did.1 (ap (λ g. is_some (behind g)) (sym is) ∙ lives))
       by f lives number (inr apart) =
           let x = follows f in
           ap (λ (s : StreamHistory). s.is_closed)
           (stream_else h (h.stream_of id) next (h.stream_of f)
-          (unequal (h.stream_of id) (h.stream_of f) (λ same. apart (k.apart f id number (sym same)))))
-          ∙ t.live f (lives_still x.0 f (Closes id cause) (due f) (behind f) (other_flow f id apart) x.1 lives) number
+          (unequal (h.stream_of id) (h.stream_of f)
+          (λ same. apart (k.apart f id number (sym same)))))
+          ∙ t.live f (lives_still x.0 f (Closes id cause) (due f) (behind f) (other_flow f id apart)
+          x.1 lives) number
 
   event_ends : (a : Answers) (e : Event) → FollowsBy e → EndOnce (happened S a h e) behind
   event_ends a (Opens id flow) follows = opened_ends id flow follows
   event_ends a (Begins id n) follows = begun_ends id n (nat_lt (id / 2) S.connections)
       (λ none. k.beyond id (by none (cases_lt (id / 2) S.connections))) follows
     where
-      by : nat_lt (id / 2) S.connections ≡ false → (id / 2 < S.connections) ⊎ (S.connections ≤ id / 2) → S.connections ≤ id / 2
+      by : nat_lt (id / 2) S.connections ≡ false → (id / 2 < S.connections)
+          ⊎ (S.connections ≤ id / 2) → S.connections ≤ id / 2
       by none (inl low) = absurd (false≢true (sym none ∙ lt-ltb _ _ low))
       by none (inr past) = past
   event_ends a (Delivers id octets) follows = delivered_ends a id octets follows
@@ -179,15 +218,20 @@ module _ (S : Setup) (h : History) (due behind : ℕ → Option ℕ) (k : AreNum
     ends = t.ends;
     live = λ f lives number.
         let x = follows f in
-        t.live f (lives_still x.0 f (OfCapture event) (due f) (behind f) (λ is. cc) x.1 lives) number;
+        t.live f (lives_still x.0 f (OfCapture event) (due f) (behind f) (λ is. cc) x.1 lives)
+        number;
   }
 
 -- ---- all events
 
 module _ (S : Setup) (written : List ℕ)
-    (agree : (a b : Answers) (p : List ℕ) → AnswersAgree S.messages p a b → text (rules_in S a) p ≡ text (rules_in S b) p) where
-  ends_on : (events : List Event) (h : History) (due : ℕ → Option ℕ) (d behind : Dump) (leads : Leads S d events behind) →
-      AreShown S written h d → EndOnce h due → ((f : ℕ) → (payloads : _) × (last : Option ℕ) × AllFollow payloads f (due f) events last) →
+    (agree : (a b : Answers) (p : List ℕ) → AnswersAgree S.messages p a b →
+    text (rules_in S a) p ≡ text (rules_in S b) p) where
+  ends_on : (events : List Event) (h : History) (due : ℕ → Option ℕ) (d behind : Dump)
+      (leads : Leads S d events behind) →
+      AreShown S written h d → EndOnce h due →
+      ((f : ℕ) → (payloads : _) × (last : Option ℕ)
+      × AllFollow payloads f (due f) events last) →
       (m : ℕ) → IsUnique m → ((history S h d events behind leads).stream m).goes_on ≡ false
   unfolding AllFollow
   ends_on [] h due d behind leads b t turn m number = t.ends m number
@@ -195,12 +239,15 @@ module _ (S : Setup) (written : List ℕ)
       let a = leads.1.answers in
       let next : ℕ → Option ℕ = λ f. (turn f).2.0 in
       ends_on es (happened S a h e) next leads.0 behind leads.2
-      (subst (AreShown S written (happened S a h e)) (sym leads.1.is) (on_event S written agree a h d e leads.1.answered b))
+      (subst (AreShown S written (happened S a h e)) (sym leads.1.is)
+      (on_event S written agree a h d e leads.1.answered b))
       (event_ends S h due next b.numbers t a e (λ f. ((turn f).0, (turn f).2.1.0)))
       (λ f. ((turn f).0, (turn f).1, (turn f).2.1.1)) m number
 
-  pub all_end : (events : List Event) (d : Dump) (leads : Leads S (start S written) events d) → AreGapless events →
-      (m : ℕ) → IsUnique m → ((history S no_history (start S written) events d leads).stream m).goes_on ≡ false
+  pub all_end : (events : List Event) (d : Dump) (leads : Leads S (start S written) events d) →
+      AreGapless events →
+      (m : ℕ) → IsUnique m → ((history S no_history (start S written) events d leads).stream
+      m).goes_on ≡ false
   all_end events d leads turn m number =
       ends_on events no_history (λ f. None) (start S written) d leads (at_start S written agree)
       (record { ends = λ m number. refl; live = λ f lives number. refl }) turn m number

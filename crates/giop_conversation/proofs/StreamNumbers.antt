@@ -42,21 +42,27 @@ place_is i j Odd Even same = absurd (omega (arith, same))
 place_is i j Odd Odd same = omega (arith, same)
 
 set_each : {X : Type 0} (P : ℕ → X → Type 0) (xs : List X) (i : ℕ) (x : X) →
-    ((j : ℕ) → (j ≡ i → ⊥) → IfSome (slice_get xs j) (P j)) → P i x → (j : ℕ) → IfSome (slice_get (set xs i x) j) (P j)
+    ((j : ℕ) → (j ≡ i → ⊥) → IfSome (slice_get xs j) (P j)) → P i x → (j : ℕ) →
+    IfSome (slice_get (set xs i x) j) (P j)
 set_each P [] i x others here j = tt
 set_each P (y ∷ ys) zero x others here zero = here
 set_each P (y ∷ ys) zero x others here (suc j) = others (suc j) (λ is. omega (arith, is))
 set_each P (y ∷ ys) (suc i) x others here zero = others 0 (λ is. omega (arith, is))
 set_each P (y ∷ ys) (suc i) x others here (suc j) =
-    set_each (λ k. P (suc k)) ys i x (λ k apart. others (suc k) (λ is. apart (omega (arith, is)))) here j
+    set_each (λ k. P (suc k)) ys i x (λ k apart. others (suc k) (λ is. apart (omega (arith, is))))
+    here j
 
--- A flow has the stream that the history says: where no other has its number, its octets are those of the history, and its
+-- A flow has the stream that the history says: where no other has its number, its octets are those
+-- of the history, and its
 -- answers give the same text and closing.
-pub record IsSide (S : Setup) (h : History) (id stream : ℕ) (octets : List ℕ) (answers : Answers) : Type 0 where
+pub record IsSide (S : Setup) (h : History) (id stream : ℕ) (octets : List ℕ) (answers : Answers) :
+    Type 0 where
   pub stream_is : stream ≡ h.stream_of id
   pub octets_are : IsUnique stream → octets ≡ (h.stream stream).octets
-  pub text_is : IsUnique stream → text (rules_in S answers) octets ≡ text (rules_in S (h.stream stream).answers) octets
-  pub closing_is : IsUnique stream → closing (rules_in S answers) octets ≡ closing (rules_in S (h.stream stream).answers) octets
+  pub text_is : IsUnique stream → text (rules_in S answers) octets
+      ≡ text (rules_in S (h.stream stream).answers) octets
+  pub closing_is : IsUnique stream → closing (rules_in S answers) octets
+      ≡ closing (rules_in S (h.stream stream).answers) octets
 
 abbrev pub HasSide : Setup → History → ℕ → Side → Type 0
 HasSide S h id s = IsSide S h id s.stream s.octets s.answers
@@ -91,11 +97,17 @@ pub counted_new : (n : ℕ) → counted n < 2 ^ 64 - 1 → n < counted n
 unfolding counted
 counted_new n few =
     elim (cases_lt (2 ^ 64 - 1) (n + 1)) [
-      | inl past ↦ absurd (omega (arith, min-eq_right {n = n + 1} {m = 2 ^ 64 - 1} (omega (arith, past)), few))
+      | inl past ↦ absurd (omega (
+        arith,
+        min-eq_right {n = n + 1} {m = 2 ^ 64 - 1}
+            (omega (arith, past)),
+        few,
+      ))
       | inr within ↦ omega (arith, min-eq_left {n = n + 1} {m = 2 ^ 64 - 1} within)
     ]
 
-pub numbers_begun : (S : Setup) (h : History) (id : ℕ) (b : Bool) → (b ≡ true → id / 2 < S.connections) → AreNumbered S h →
+pub numbers_begun : (S : Setup) (h : History) (id : ℕ) (b : Bool) →
+    (b ≡ true → id / 2 < S.connections) → AreNumbered S h →
     AreNumbered S (with_begun h id b)
 numbers_begun S h id false room k =
     let up = counted_up h.begun k.most in
@@ -117,13 +129,15 @@ numbers_begun S h id true room k = record {
     up : h.begun ≤ counted h.begun
     up = counted_up h.begun k.most
 
-    within : (f : ℕ) (b : Bool) → (f == id) ≡ b → (if f == id then counted h.begun else h.stream_of f) ≤ counted h.begun
+    within : (f : ℕ) (b : Bool) → (f == id) ≡ b →
+        (if f == id then counted h.begun else h.stream_of f) ≤ counted h.begun
     within f true is = rw is (omega arith)
     within f false is = let before = k.within f in rw is (omega (arith, before, up))
 
     apart : (f g : ℕ) (b : Bool) → (f == id) ≡ b → (c : Bool) → (g == id) ≡ c →
         IsUnique (if f == id then counted h.begun else h.stream_of f) →
-        (if f == id then counted h.begun else h.stream_of f) ≡ (if g == id then counted h.begun else h.stream_of g) → f ≡ g
+        (if f == id then counted h.begun else h.stream_of f)
+        ≡ (if g == id then counted h.begun else h.stream_of g) → f ≡ g
     apart f g true is true is' number same = eqb-true _ _ is ∙ sym (eqb-true _ _ is')
     apart f g true is false is' number same =
         let one : IsUnique (counted h.begun) = rw is at number in
@@ -151,24 +165,28 @@ numbers_begun S h id true room k = record {
 pub stream_at : (h : History) (n : ℕ) (s : StreamHistory) → (with_stream h n s).stream n ≡ s
 stream_at h n s = rw (eq-eqb n n refl) refl
 
-pub stream_else : (h : History) (n : ℕ) (s : StreamHistory) (m : ℕ) → (n == m) ≡ false → (with_stream h n s).stream m ≡ h.stream m
+pub stream_else : (h : History) (n : ℕ) (s : StreamHistory) (m : ℕ) → (n == m) ≡ false →
+    (with_stream h n s).stream m ≡ h.stream m
 stream_else h n s m apart = rw apart refl
 
 pub unequal : (n m : ℕ) → (n ≡ m → ⊥) → (n == m) ≡ false
 unequal n m apart = false_from_ne_true (n == m) (λ is. apart (eqb-true _ _ is))
 
-pub numbers_with : (S : Setup) (h : History) (n : ℕ) (s : StreamHistory) → n ≤ h.begun → AreNumbered S h → AreNumbered S (with_stream h n s)
+pub numbers_with : (S : Setup) (h : History) (n : ℕ) (s : StreamHistory) → n ≤ h.begun →
+    AreNumbered S h → AreNumbered S (with_stream h n s)
 numbers_with S h n s within k = record {
   most = k.most;
   within = k.within;
   apart = k.apart;
-  fresh = λ m new. stream_else h n s m (unequal n m (λ is. omega (arith, is, new, within))) ∙ k.fresh m new;
+  fresh = λ m new. stream_else h n s m (unequal n m (λ is. omega (arith, is, new, within)))
+      ∙ k.fresh m new;
   beyond = k.beyond;
 }
 
 -- ---- a connection in which a flow changes
 
-with_both : (P : Parity → Side → Type 0) (parity : Parity) (c : Connection) (s opposite : Side) → P parity s → P (other parity) opposite →
+with_both : (P : Parity → Side → Type 0) (parity : Parity) (c : Connection) (s opposite : Side) →
+    P parity s → P (other parity) opposite →
     (p : Parity) → P p (side p (with_side (other parity) (with_side parity c s) opposite))
 with_both P Even c s opposite own rest Even = own
 with_both P Even c s opposite own rest Odd = rest
@@ -182,38 +200,50 @@ alone Odd c s = refl
 
 module _ (S : Setup) (h behind : History) (cs : List Connection) (id : ℕ) (c : Connection) where
   -- the flow itself, and the other one of its connection
-  pub own_side : slice_get cs (id / 2) ≡ Some c → AreSides S h cs → HasSide S h id (side (parity_of id) c)
+  pub own_side : slice_get cs (id / 2) ≡ Some c → AreSides S h cs →
+      HasSide S h id (side (parity_of id) c)
   own_side is k =
-      let here = subst (λ (o : Option Connection). IfSome o (HasSides S h (id / 2))) is (k.sides (id / 2)) in
+      let here = subst (λ (o : Option Connection). IfSome o (HasSides S h (id / 2))) is
+      (k.sides (id / 2)) in
       subst (λ f. HasSide S h f (side (parity_of id) c)) (id_is id) (here (parity_of id))
 
   pub sides_on : (s opposite : Side) → slice_get cs (id / 2) ≡ Some c → AreSides S h cs →
-      ((g n : ℕ) (p : List ℕ) (a : Answers) → (g ≡ id → ⊥) → IsSide S h g n p a → IsSide S behind g n p a) →
+      ((g n : ℕ) (p : List ℕ) (a : Answers) → (g ≡ id → ⊥) → IsSide S h g n p a →
+      IsSide S behind g n p a) →
       HasSide S behind id s →
       ((g : ℕ) → HasSide S behind g (side (other (parity_of id)) c) → HasSide S behind g opposite) →
-      AreSides S behind (set cs (id / 2) (with_side (other (parity_of id)) (with_side (parity_of id) c s) opposite))
+      AreSides S behind (set cs (id / 2) (with_side (other (parity_of id))
+      (with_side (parity_of id) c s) opposite))
   sides_on s opposite is k others own alike = record {
-    rooms = length-set cs (id / 2) (with_side (other (parity_of id)) (with_side (parity_of id) c s) opposite) ∙ k.rooms;
-    sides = set_each (HasSides S behind) cs (id / 2) (with_side (other (parity_of id)) (with_side (parity_of id) c s) opposite)
+    rooms = length-set cs (id / 2) (with_side (other (parity_of id)) (with_side (parity_of id) c s)
+        opposite) ∙ k.rooms;
+    sides = set_each (HasSides S behind) cs (id / 2)
+        (with_side (other (parity_of id)) (with_side (parity_of id) c s) opposite)
         (λ j apart. by j apart (slice_get cs j) (k.sides j))
         (with_both (λ p. HasSide S behind (flow_id (id / 2) p)) (parity_of id) c s opposite
         (subst (λ f. HasSide S behind f s) (sym (id_is id)) own)
-        (alike across (others across (side (other (parity_of id)) c).stream (side (other (parity_of id)) c).octets
-        (side (other (parity_of id)) c).answers (λ same. other_id (id / 2) (parity_of id) (same ∙ sym (id_is id)))
-        (subst (λ (o : Option Connection). IfSome o (HasSides S h (id / 2))) is (k.sides (id / 2)) (other (parity_of id))))));
+        (alike across (others across (side (other (parity_of id)) c).stream
+        (side (other (parity_of id)) c).octets
+        (side (other (parity_of id)) c).answers
+        (λ same. other_id (id / 2) (parity_of id) (same ∙ sym (id_is id)))
+        (subst (λ (o : Option Connection). IfSome o (HasSides S h (id / 2))) is (k.sides (id / 2))
+        (other (parity_of id))))));
   }
     where
       across : ℕ
       across = flow_id (id / 2) (other (parity_of id))
 
-      by : (j : ℕ) → (j ≡ id / 2 → ⊥) → (o : Option Connection) → IfSome o (HasSides S h j) → IfSome o (HasSides S behind j)
+      by : (j : ℕ) → (j ≡ id / 2 → ⊥) → (o : Option Connection) → IfSome o (HasSides S h j) →
+          IfSome o (HasSides S behind j)
       by j apart None has = tt
-      by j apart (Some d) has = λ q. others (flow_id j q) (side q d).stream (side q d).octets (side q d).answers
+      by j apart (Some d) has = λ q. others (flow_id j q) (side q d).stream (side q d).octets
+          (side q d).answers
           (λ same. apart (place_is (id / 2) j (parity_of id) q (same ∙ sym (id_is id)))) (has q)
 
   -- where the other one stays
   pub side_on : (s : Side) → slice_get cs (id / 2) ≡ Some c → AreSides S h cs →
-      ((g n : ℕ) (p : List ℕ) (a : Answers) → (g ≡ id → ⊥) → IsSide S h g n p a → IsSide S behind g n p a) →
+      ((g n : ℕ) (p : List ℕ) (a : Answers) → (g ≡ id → ⊥) → IsSide S h g n p a →
+      IsSide S behind g n p a) →
       HasSide S behind id s → AreSides S behind (set cs (id / 2) (with_side (parity_of id) c s))
   side_on s is k others own =
       subst (λ (x : Connection). AreSides S behind (set cs (id / 2) x)) (alone (parity_of id) c s)

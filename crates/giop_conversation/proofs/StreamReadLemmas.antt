@@ -30,28 +30,37 @@ use Rattle.giop_conversation.proofs.StampedLemmas.{IsTaken, AreQuiet, exchanged_
 use Rattle.giop_conversation.proofs.LineEnds.{none_ends, stream_line_ends, stamped_ends}
 
 -- an engine that had not failed writes a front where a put fails
-pub stop_front : (A : Type 0) (why : Stop) (before after : OutLog) (due : List ℕ) (e e' : EngineView) →
-    e.failed ≡ false → Leaves {A = A} (Err why) e e' → StopWrites {A = A} (Err why) before after due →
+pub stop_front : (A : Type 0) (why : Stop) (before after : OutLog) (due : List ℕ)
+    (e e' : EngineView) →
+    e.failed ≡ false → Leaves {A = A} (Err why) e e' →
+    StopWrites {A = A} (Err why) before after due →
     WroteFront before after due
 stop_front A (stop.Out f) before after due e e' sound leaves writes = writes
-stop_front A stop.Failed before after due e e' sound leaves writes = absurd (false≢true (sym sound ∙ leaves.0))
+stop_front A stop.Failed before after due e e' sound leaves writes =
+    absurd (false≢true (sym sound ∙ leaves.0))
 
 -- and so does one of which the closing is written
-pub closing_front : (A : Type 0) (why : Stop) (before after : OutLog) (due : List ℕ) (e : EngineView) →
-    e.failed ≡ false → ((let failed : Result A Stop = Err stop.Failed in Err why ≡ failed) → e.failed ≡ true) →
+pub closing_front : (A : Type 0) (why : Stop) (before after : OutLog) (due : List ℕ)
+    (e : EngineView) →
+    e.failed ≡ false → ((let failed : Result A Stop = Err stop.Failed in Err why ≡ failed) →
+    e.failed ≡ true) →
     StopWrites {A = A} (Err why) before after due → WroteFront before after due
 closing_front A (stop.Out f) before after due e sound only writes = writes
-closing_front A stop.Failed before after due e sound only writes = absurd (false≢true (sym sound ∙ only refl))
+closing_front A stop.Failed before after due e sound only writes =
+    absurd (false≢true (sym sound ∙ only refl))
 
 -- lines written by one call and then by another
-pub writes_both : {A E : Type 0} (r : Result A E) (a b c : OutLog) (x y : List ℕ) → Wrote a b x → Writes r b c y → Writes r a c (x ++ y)
+pub writes_both : {A E : Type 0} (r : Result A E) (a b c : OutLog) (x y : List ℕ) → Wrote a b x →
+    Writes r b c y → Writes r a c (x ++ y)
 writes_both (Ok v) a b c x y first second = wrote-append a b c x y first second
 writes_both (Err e) a b c x y first second = wrote-front a b c x y first second
 
 -- whole lines stand below
-pub writes_below : {A E : Type 0} (r : Result A E) (t after : Tagging) (w lines : List ℕ) → IsReady t w → is_due lines ≡ true →
+pub writes_below : {A E : Type 0} (r : Result A E) (t after : Tagging) (w lines : List ℕ) →
+    IsReady t w → is_due lines ≡ true →
     Writes r (tagging_log t) (tagging_log after) lines → WritesTagged r after w t.tag lines
-writes_below (Ok v) t after w lines ready ends wrote = (ready_wrote t after w lines ready wrote ends).0
+writes_below (Ok v) t after w lines ready ends wrote =
+    (ready_wrote t after w lines ready wrote ends).0
 writes_below (Err e) t after w lines ready ends wrote = ready_front t after w lines ready wrote
 
 pub begin_lines_end : (flow : Option Flow) (time : Option ℕ) → is_due (begin_lines flow time) ≡ true
@@ -59,7 +68,8 @@ begin_lines_end None time = none_ends
 begin_lines_end (Some flow) time = stream_line_ends flow time
 
 -- the same once a tag is set
-pub below_tag : {A E : Type 0} (r : Result A E) (t set after : Tagging) (w lines tag due : List ℕ) → IsReady t w →
+pub below_tag : {A E : Type 0} (r : Result A E) (t set after : Tagging) (w lines tag due : List ℕ) →
+    IsReady t w →
     set ≡ record t { tag = tag; due = length tag; since = 0 } → tag ≡ due → is_due lines ≡ true →
     Writes r (tagging_log set) (tagging_log after) lines → WritesTagged r after w due lines
 below_tag r t set after w lines tag due ready is same ends writes =
@@ -69,9 +79,11 @@ below_tag r t set after w lines tag due ready is same ends writes =
     (subst (λ (s : Tagging). Writes r (tagging_log s) (tagging_log after) lines) is writes))
 
 -- a front of some lines is one of those and others
-pub front_of : {A E : Type 0} (r : Result A E) (a b : OutLog) (x y : List ℕ) (e : E) → r ≡ Err e → WroteFront a b x →
+pub front_of : {A E : Type 0} (r : Result A E) (a b : OutLog) (x y : List ℕ) (e : E) → r ≡ Err e →
+    WroteFront a b x →
     Writes r a b (x ++ y)
-front_of r a b x y e is front = subst (λ (q : Result _ _). Writes q a b (x ++ y)) (sym is) (front-append a b x y front)
+front_of r a b x y e is front = subst (λ (q : Result _ _). Writes q a b (x ++ y)) (sym is)
+    (front-append a b x y front)
 
 -- ---- a piece
 
@@ -81,47 +93,68 @@ pub front_lines : (R : Rules) (s : Exchanged) (p octets : List ℕ) (n : ℕ) (a
 front_lines R s p octets n a b front =
     let rest = stamped R (exchanged R s p (take n octets)) (p ++ take n octets) (drop n octets) in
     let both : stamped R s p octets ≡ stamped R s p (take n octets) ++ rest =
-    ap (stamped R s p) (sym (take-append-drop n octets)) ∙ stamped_both R (take n octets) s p (drop n octets) in
+    ap (stamped R s p) (sym (take-append-drop n octets))
+    ∙ stamped_both R (take n octets) s p (drop n octets) in
     subst (WroteFront a b) (sym both) (front-append a b (stamped R s p (take n octets)) rest front)
 
-pub piece_size : (octets : List ℕ) (limit n : ℕ) → n ≡ min limit (length octets) → length (take n octets) ≤ limit
+pub piece_size : (octets : List ℕ) (limit n : ℕ) → n ≡ min limit (length octets) →
+    length (take n octets) ≤ limit
 piece_size octets limit n is = (let l = length-take n octets in omega (arith, l, is))
 
 module _ (C : Table) (a : Answers) (most : ℕ) where
   abbrev R : Rules
   R = rules_by C a most
 
-  due_is : (s s' : Exchanged) (p piece : List ℕ) (before behind : ℕ) (time : Option ℕ) → s.table ≡ C → s.time ≡ time →
-      s' ≡ after_ends notified C s (header_ends_from R p piece) → before ≡ begun p → behind ≡ begun (p ++ piece) →
-      (if nat_lt before behind then time_line behind time else []) ++ (answers_due s'.answered time ++ raises_due s'.raised) ≡ lines_due R s p piece
+  due_is : (s s' : Exchanged) (p piece : List ℕ) (before behind : ℕ) (time : Option ℕ) →
+      s.table ≡ C → s.time ≡ time →
+      s' ≡ after_ends notified C s (header_ends_from R p piece) → before ≡ begun p →
+      behind ≡ begun (p ++ piece) →
+      (if nat_lt before behind then time_line behind time else [])
+      ++ (answers_due s'.answered time ++ raises_due s'.raised) ≡ lines_due R s p piece
   unfolding lines_due
   due_is s s' p piece before behind time table now is first second =
-      let tells : s' ≡ told R s p piece = is ∙ ap (λ (D : Table). after_ends notified D s (header_ends_from R p piece)) (sym table) in
-      ap (λ n. (if nat_lt n behind then time_line behind time else []) ++ (answers_due s'.answered time ++ raises_due s'.raised)) first
-      ∙ (ap (λ n. (if nat_lt (begun p) n then time_line n time else []) ++ (answers_due s'.answered time ++ raises_due s'.raised)) second
-      ∙ (ap (λ (t : Exchanged). time_due p piece time ++ (answers_due t.answered time ++ raises_due t.raised)) tells
-      ∙ ap (λ (t : Option ℕ). time_due p piece t ++ (answers_due (told R s p piece).answered t ++ raises_due (told R s p piece).raised)) (sym now)))
+      let tells : s' ≡ told R s p piece = is
+      ∙ ap (λ (D : Table). after_ends notified D s (header_ends_from R p piece)) (sym table) in
+      ap (λ n. (if nat_lt n behind then time_line behind time else [])
+      ++ (answers_due s'.answered time ++ raises_due s'.raised)) first
+      ∙ (ap (λ n. (if nat_lt (begun p) n then time_line n time else [])
+      ++ (answers_due s'.answered time ++ raises_due s'.raised)) second
+      ∙ (ap (λ (t : Exchanged). time_due p piece time
+      ++ (answers_due t.answered time ++ raises_due t.raised)) tells
+      ∙ ap (λ (t : Option ℕ). time_due p piece t
+      ++ (answers_due (told R s p piece).answered t ++ raises_due (told R s p piece).raised))
+      (sym now)))
 
-  pub piece_written : {A E : Type 0} (r : Result A E) (s s' : Exchanged) (p piece : List ℕ) (n before behind : ℕ)
-      (time : Option ℕ) (old fed new : OutLog) → IsTaken s → s.table ≡ C → s.time ≡ time → AreQuiet R n p →
-      length piece ≤ n → Wrote old fed (added R p piece) → s' ≡ after_ends notified C s (header_ends_from R p piece) →
+  pub piece_written : {A E : Type 0} (r : Result A E) (s s' : Exchanged) (p piece : List ℕ)
+      (n before behind : ℕ)
+      (time : Option ℕ) (old fed new : OutLog) → IsTaken s → s.table ≡ C → s.time ≡ time →
+      AreQuiet R n p →
+      length piece ≤ n → Wrote old fed (added R p piece) →
+      s' ≡ after_ends notified C s (header_ends_from R p piece) →
       before ≡ begun p → behind ≡ begun (p ++ piece) →
-      Writes r fed new ((if nat_lt before behind then time_line behind time else []) ++ (answers_due s'.answered time ++ raises_due s'.raised)) →
+      Writes r fed new ((if nat_lt before behind then time_line behind time else [])
+      ++ (answers_due s'.answered time ++ raises_due s'.raised)) →
       Writes r old new (stamped R s p piece)
-  piece_written r s s' p piece n before behind time old fed new none table now quiet within wrote is first second writes =
+  piece_written r s s' p piece n before behind time old fed new none table now quiet within wrote is
+      first second writes =
       let due = due_is s s' p piece before behind time table now is first second in
-      subst (λ (t : List ℕ). Writes r old new t) (sym (piece_text C a most piece n s p none quiet within))
-      (writes_both r old fed new (added R p piece) (lines_due R s p piece) wrote (subst (λ (t : List ℕ). Writes r fed new t) due writes))
+      subst (λ (t : List ℕ). Writes r old new t)
+      (sym (piece_text C a most piece n s p none quiet within))
+      (writes_both r old fed new (added R p piece) (lines_due R s p piece) wrote
+      (subst (λ (t : List ℕ). Writes r fed new t) due writes))
 
-  pub piece_calls : (s s' s'' : Exchanged) (p piece : List ℕ) (n : ℕ) → IsTaken s → s.table ≡ C → AreQuiet R n p → length piece ≤ n →
+  pub piece_calls : (s s' s'' : Exchanged) (p piece : List ℕ) (n : ℕ) → IsTaken s → s.table ≡ C →
+      AreQuiet R n p → length piece ≤ n →
       s' ≡ after_ends notified C s (header_ends_from R p piece) → s'' ≡ taken s' →
       s'' ≡ exchanged R s p piece
   piece_calls s s' s'' p piece n none table quiet within is behind =
-      behind ∙ (ap taken (is ∙ ap (λ (D : Table). after_ends notified D s (header_ends_from R p piece)) (sym table))
+      behind ∙ (ap taken (is ∙ ap (λ (D : Table).
+      after_ends notified D s (header_ends_from R p piece)) (sym table))
       ∙ sym (piece_told C a most piece n s p none quiet within))
 
   -- where the feeding of the piece failed
-  pub piece_front : (s : Exchanged) (p piece : List ℕ) (n : ℕ) (old new : OutLog) → IsTaken s → AreQuiet R n p → length piece ≤ n →
+  pub piece_front : (s : Exchanged) (p piece : List ℕ) (n : ℕ) (old new : OutLog) → IsTaken s →
+      AreQuiet R n p → length piece ≤ n →
       WroteFront old new (added R p piece) → WroteFront old new (stamped R s p piece)
   piece_front s p piece n old new none quiet within front =
       subst (WroteFront old new) (sym (piece_text C a most piece n s p none quiet within))
@@ -133,33 +166,48 @@ same_rules : (e e' : EngineView) (a : Answers) → IsSetAlike e' e → rules_wit
 same_rules e e' a same = λ j. rules_by (same.table j) a (same.most j)
 
 -- how far the octets have been read
-abbrev pub HasReadTo : EngineView → EngineView → Answers → List ℕ → List ℕ → ℕ → Exchanged → Exchanged → Tagging → Tagging → Type 0
+abbrev pub HasReadTo : EngineView → EngineView → Answers → List ℕ → List ℕ → ℕ → Exchanged →
+    Exchanged → Tagging → Tagging → Type 0
 HasReadTo e e' a p octets at s s' before after =
-    HasCome e' a (p ++ take at octets) before after (stamped (rules_with e a) s p (take at octets)) s'
+    HasCome e' a (p ++ take at octets) before after (stamped (rules_with e a) s p (take at octets))
+    s'
     (exchanged (rules_with e a) s p (take at octets))
 
-pub read_none : (e : EngineView) (a : Answers) (p octets : List ℕ) (s : Exchanged) (t : Tagging) → HoldsBy e a p →
+pub read_none : (e : EngineView) (a : Answers) (p octets : List ℕ) (s : Exchanged) (t : Tagging) →
+    HoldsBy e a p →
     HasReadTo e e a p octets 0 s s t t
 unfolding stamped exchanged
 read_none e a p octets s t holds =
-    record { holds = subst (HoldsBy e a) (sym (append-nil p)) holds; wrote = wrote-nil (tagging_log t); told = refl }
+    record {
+      holds = subst (HoldsBy e a) (sym (append-nil p)) holds;
+      wrote =
+          wrote-nil (tagging_log t);
+      told = refl;
+    }
 
-pub agree_on : (e e' : EngineView) (a : Answers) (p octets : List ℕ) (at : ℕ) (s s' : Exchanged) → IsSetAlike e' e →
-    s.table ≡ e.table → s' ≡ exchanged (rules_with e a) s p (take at octets) → AgreeWith e a s p octets →
+pub agree_on : (e e' : EngineView) (a : Answers) (p octets : List ℕ) (at : ℕ) (s s' : Exchanged) →
+    IsSetAlike e' e →
+    s.table ≡ e.table → s' ≡ exchanged (rules_with e a) s p (take at octets) →
+    AgreeWith e a s p octets →
     AgreeWith e' a s' (p ++ take at octets) (drop at octets)
 agree_on e e' a p octets at s s' same table told agrees =
     let parts : AgreeWith e a s p (take at octets ++ drop at octets) =
     subst (λ (os : List ℕ). AgreeWith e a s p os) (sym (take-append-drop at octets)) agrees in
-    let behind = agrees_behind (rules_with e a) e.table a (take at octets) s p (drop at octets) table parts in
-    let now = subst (λ (x : Exchanged). AgreesAtEnds answer_of notified e.table x a (header_ends_from (rules_with e a) (p ++ take at octets) (drop at octets)))
+    let behind = agrees_behind (rules_with e a) e.table a (take at octets) s p (drop at octets)
+    table parts in
+    let now = subst (λ (x : Exchanged). AgreesAtEnds answer_of notified e.table x a
+    (header_ends_from (rules_with e a) (p ++ take at octets) (drop at octets)))
     (sym told) behind in
-    subst (λ (R : Rules). AgreesAtEnds answer_of notified e'.table s' a (header_ends_from R (p ++ take at octets) (drop at octets)))
+    subst (λ (R : Rules). AgreesAtEnds answer_of notified e'.table s' a
+    (header_ends_from R (p ++ take at octets) (drop at octets)))
     (sym (same_rules e e' a same))
-    (subst (λ (C : Table). AgreesAtEnds answer_of notified C s' a (header_ends_from (rules_with e a) (p ++ take at octets) (drop at octets)))
+    (subst (λ (C : Table). AgreesAtEnds answer_of notified C s' a
+    (header_ends_from (rules_with e a) (p ++ take at octets) (drop at octets)))
     (sym same.table) now)
 
 -- the calls as they are read on
-pub table_on : (e e' : EngineView) (a : Answers) (p octets : List ℕ) (at : ℕ) (s s' : Exchanged) → IsSetAlike e' e →
+pub table_on : (e e' : EngineView) (a : Answers) (p octets : List ℕ) (at : ℕ) (s s' : Exchanged) →
+    IsSetAlike e' e →
     s.table ≡ e.table → s' ≡ exchanged (rules_with e a) s p (take at octets) → s'.table ≡ e'.table
 table_on e e' a p octets at s s' same table told =
     ap (λ (x : Exchanged). x.table) told
@@ -167,9 +215,11 @@ table_on e e' a p octets at s s' same table told =
 
 pub time_on : (R : Rules) (p octets : List ℕ) (s s' : Exchanged) (time : Option ℕ) → s.time ≡ time →
     s' ≡ exchanged R s p octets → s'.time ≡ time
-time_on R p octets s s' time now told = ap (λ (x : Exchanged). x.time) told ∙ (exchanged_time R octets s p ∙ now)
+time_on R p octets s s' time now told = ap (λ (x : Exchanged). x.time) told
+    ∙ (exchanged_time R octets s p ∙ now)
 
-pub taken_on : (R : Rules) (p octets : List ℕ) (s s' : Exchanged) → IsTaken s → s' ≡ exchanged R s p octets → IsTaken s'
+pub taken_on : (R : Rules) (p octets : List ℕ) (s s' : Exchanged) → IsTaken s →
+    s' ≡ exchanged R s p octets → IsTaken s'
 taken_on R p octets s s' none told =
     let taken = exchanged_taken R octets s p none in
     record {
@@ -178,24 +228,30 @@ taken_on R p octets s s' none told =
     }
 
 -- the lines of some octets and then those of others
-lines_on : (e e' : EngineView) (a : Answers) (p front more : List ℕ) (s s' : Exchanged) → IsSetAlike e' e →
+lines_on : (e e' : EngineView) (a : Answers) (p front more : List ℕ) (s s' : Exchanged) →
+    IsSetAlike e' e →
     s' ≡ exchanged (rules_with e a) s p front →
     stamped (rules_with e a) s p front ++ stamped (rules_with e' a) s' (p ++ front) more
     ≡ stamped (rules_with e a) s p (front ++ more)
 lines_on e e' a p front more s s' same told =
-    ap (λ (R : Rules). stamped (rules_with e a) s p front ++ stamped R s' (p ++ front) more) (same_rules e e' a same)
-    ∙ (ap (λ (x : Exchanged). stamped (rules_with e a) s p front ++ stamped (rules_with e a) x (p ++ front) more) told
+    ap (λ (R : Rules). stamped (rules_with e a) s p front ++ stamped R s' (p ++ front) more)
+    (same_rules e e' a same)
+    ∙ (ap (λ (x : Exchanged). stamped (rules_with e a) s p front
+    ++ stamped (rules_with e a) x (p ++ front) more) told
     ∙ sym (stamped_both (rules_with e a) front s p more))
 
-calls_on : (e e' : EngineView) (a : Answers) (p front more : List ℕ) (s s' : Exchanged) → IsSetAlike e' e →
+calls_on : (e e' : EngineView) (a : Answers) (p front more : List ℕ) (s s' : Exchanged) →
+    IsSetAlike e' e →
     s' ≡ exchanged (rules_with e a) s p front →
-    exchanged (rules_with e' a) s' (p ++ front) more ≡ exchanged (rules_with e a) s p (front ++ more)
+    exchanged (rules_with e' a) s' (p ++ front) more
+    ≡ exchanged (rules_with e a) s p (front ++ more)
 calls_on e e' a p front more s s' same told =
     ap (λ (R : Rules). exchanged R s' (p ++ front) more) (same_rules e e' a same)
     ∙ (ap (λ (x : Exchanged). exchanged (rules_with e a) x (p ++ front) more) told
     ∙ sym (exchanged_both (rules_with e a) front s p more))
 
-come_on : (e e' e'' : EngineView) (a : Answers) (p octets : List ℕ) (at n : ℕ) (s s' s'' : Exchanged) (t t' t'' : Tagging) →
+come_on : (e e' e'' : EngineView) (a : Answers) (p octets : List ℕ) (at n : ℕ)
+    (s s' s'' : Exchanged) (t t' t'' : Tagging) →
     IsSetAlike e' e → HasReadTo e e' a p octets at s s' t t' →
     HasCome e'' a ((p ++ take at octets) ++ take n (drop at octets)) t' t''
     (stamped (rules_with e' a) s' (p ++ take at octets) (take n (drop at octets))) s''
@@ -205,19 +261,26 @@ come_on e e' e'' a p octets at n s s' s'' t t' t'' same so_far more =
     let front = take at octets in
     let piece = take n (drop at octets) in
     let both : front ++ piece ≡ take (at + n) octets = sym (take-add at n octets) in
-    let lines = lines_on e e' a p front piece s s' same so_far.told ∙ ap (stamped (rules_with e a) s p) both in
+    let lines = lines_on e e' a p front piece s s' same so_far.told
+    ∙ ap (stamped (rules_with e a) s p) both in
     record {
-      holds = subst (HoldsBy e'' a) (append_assoc p front piece ∙ ap (λ (f : List ℕ). p ++ f) both) more.holds;
+      holds = subst (HoldsBy e'' a) (append_assoc p front piece ∙ ap (λ (f : List ℕ). p ++ f) both)
+          more.holds;
       wrote = subst (λ (l : List ℕ). Wrote (tagging_log t) (tagging_log t'') l) lines
-          (wrote-append (tagging_log t) (tagging_log t') (tagging_log t'') (stamped (rules_with e a) s p front)
+          (wrote-append (tagging_log t) (tagging_log t') (tagging_log t'')
+          (stamped (rules_with e a) s p front)
           (stamped (rules_with e' a) s' (p ++ front) piece) so_far.wrote more.wrote);
-      told = more.told ∙ (calls_on e e' a p front piece s s' same so_far.told ∙ ap (exchanged (rules_with e a) s p) both);
+      told = more.told ∙ (calls_on e e' a p front piece s s' same so_far.told
+          ∙ ap (exchanged (rules_with e a) s p) both);
     }
 
 -- once the next n octets are read by calls that agree
-pub read_on : (e e' e'' : EngineView) (a : Answers) (p octets : List ℕ) (at n : ℕ) (s s' s'' : Exchanged) (t t' t'' : Tagging) (time : Option ℕ) →
-    IsSetAlike e' e → HasReadTo e e' a p octets at s s' t t' → AgreeWith e a s p octets → s.table ≡ e.table → s.time ≡ time → IsTaken s →
-    (HoldsBy e' a (p ++ take at octets) → AgreeWith e' a s' (p ++ take at octets) (drop at octets) → s'.table ≡ e'.table → s'.time ≡ time →
+pub read_on : (e e' e'' : EngineView) (a : Answers) (p octets : List ℕ) (at n : ℕ)
+    (s s' s'' : Exchanged) (t t' t'' : Tagging) (time : Option ℕ) →
+    IsSetAlike e' e → HasReadTo e e' a p octets at s s' t t' → AgreeWith e a s p octets →
+    s.table ≡ e.table → s.time ≡ time → IsTaken s →
+    (HoldsBy e' a (p ++ take at octets) → AgreeWith e' a s' (p ++ take at octets) (drop at octets) →
+    s'.table ≡ e'.table → s'.time ≡ time →
     s'.answered ≡ None → s'.raised ≡ None →
     HasCome e'' a ((p ++ take at octets) ++ take n (drop at octets)) t' t''
     (stamped (rules_with e' a) s' (p ++ take at octets) (take n (drop at octets))) s''
@@ -226,35 +289,45 @@ pub read_on : (e e' e'' : EngineView) (a : Answers) (p octets : List ℕ) (at n 
 read_on e e' e'' a p octets at n s s' s'' t t' t'' time same so_far agrees table now none comes =
     let none_now = taken_on (rules_with e a) p (take at octets) s s' none so_far.told in
     come_on e e' e'' a p octets at n s s' s'' t t' t'' same so_far
-    (comes so_far.holds (agree_on e e' a p octets at s s' same table so_far.told agrees) (table_on e e' a p octets at s s' same table so_far.told)
-    (time_on (rules_with e a) p (take at octets) s s' time now so_far.told) none_now.answered none_now.raised)
+    (comes so_far.holds (agree_on e e' a p octets at s s' same table so_far.told agrees)
+    (table_on e e' a p octets at s s' same table so_far.told)
+    (time_on (rules_with e a) p (take at octets) s s' time now so_far.told) none_now.answered
+    none_now.raised)
 
-pub front_on : (e e' : EngineView) (a : Answers) (p octets : List ℕ) (at : ℕ) (s s' : Exchanged) (t t' t'' : Tagging) →
+pub front_on : (e e' : EngineView) (a : Answers) (p octets : List ℕ) (at : ℕ) (s s' : Exchanged)
+    (t t' t'' : Tagging) →
     IsSetAlike e' e → HasReadTo e e' a p octets at s s' t t' →
-    WroteFront (tagging_log t') (tagging_log t'') (stamped (rules_with e' a) s' (p ++ take at octets) (drop at octets)) →
+    WroteFront (tagging_log t') (tagging_log t'')
+    (stamped (rules_with e' a) s' (p ++ take at octets) (drop at octets)) →
     WroteFront (tagging_log t) (tagging_log t'') (stamped (rules_with e a) s p octets)
 front_on e e' a p octets at s s' t t' t'' same so_far front =
     let first = take at octets in
     let rest = drop at octets in
-    let lines = lines_on e e' a p first rest s s' same so_far.told ∙ ap (stamped (rules_with e a) s p) (take-append-drop at octets) in
+    let lines = lines_on e e' a p first rest s s' same so_far.told
+    ∙ ap (stamped (rules_with e a) s p) (take-append-drop at octets) in
     subst (WroteFront (tagging_log t) (tagging_log t'')) lines
-    (wrote-front (tagging_log t) (tagging_log t') (tagging_log t'') (stamped (rules_with e a) s p first)
+    (wrote-front (tagging_log t) (tagging_log t') (tagging_log t'')
+    (stamped (rules_with e a) s p first)
     (stamped (rules_with e' a) s' (p ++ first) rest) so_far.wrote front)
 
 -- all octets: below stand their lines
-pub stands_at_end : (e e' : EngineView) (a : Answers) (p octets w tag due : List ℕ) (at : ℕ) (s s' : Exchanged) (old t t' : Tagging) →
+pub stands_at_end : (e e' : EngineView) (a : Answers) (p octets w tag due : List ℕ) (at : ℕ)
+    (s s' : Exchanged) (old t t' : Tagging) →
     length octets ≤ at → HasReadTo e e' a p octets at s s' t t' → IsReady old w →
     t ≡ record old { tag = tag; due = length tag; since = 0 } → tag ≡ due →
-    HasStood e' a (p ++ octets) t' (w ++ with_tags due (stamped (rules_with e a) s p octets)) s' (exchanged (rules_with e a) s p octets)
+    HasStood e' a (p ++ octets) t' (w ++ with_tags due (stamped (rules_with e a) s p octets)) s'
+    (exchanged (rules_with e a) s p octets)
 stands_at_end e e' a p octets w tag due at s s' old t t' past so_far ready set same =
     let all : take at octets ≡ octets = take_all at octets past in
     let R = rules_with e a in
     let wrote : Wrote (tagging_log t) (tagging_log t') (stamped R s p octets) =
-    subst (λ (f : List ℕ). Wrote (tagging_log t) (tagging_log t') (stamped R s p f)) all so_far.wrote in
+    subst (λ (f : List ℕ). Wrote (tagging_log t) (tagging_log t') (stamped R s p f)) all
+    so_far.wrote in
     let done : Result ℕ ℕ = Ok 0 in
     record {
       holds = subst (λ (f : List ℕ). HoldsBy e' a (p ++ f)) all so_far.holds;
-      ready = below_tag done old t t' w (stamped R s p octets) tag due ready set same (stamped_ends e.table a e.most octets p s) wrote;
+      ready = below_tag done old t t' w (stamped R s p octets) tag due ready set same
+          (stamped_ends e.table a e.most octets p s) wrote;
       told = so_far.told ∙ ap (exchanged R s p) all;
     }
 
@@ -270,13 +343,35 @@ nothing_stopped w = append-nil w
 -- ---- the start
 
 pub agree_start : (most : ℕ) (a b : Answers) → AnswersAgree most [] a b
-unfolding events events_from messages cut limited limit cut_from first_wrong_octet fronts first_wrong wrong
+unfolding events events_from messages cut limited limit cut_from first_wrong_octet fronts
+    first_wrong wrong
 agree_start most a b = tt
 
-pub reading_starts : (e : EngineView) (stream : ℕ) (time : Option ℕ) (s0 s1 s2 : Exchanged) (C : Table) (number : ℕ) →
-    s1 ≡ record s0 { table = C } → s2 ≡ record s1 { stream = number; time = time; replied = 0; answered = None; raised = None } →
+pub reading_starts : (e : EngineView) (stream : ℕ) (time : Option ℕ) (s0 s1 s2 : Exchanged)
+    (C : Table) (number : ℕ) →
+    s1 ≡ record s0 { table = C } → s2 ≡ record s1 {
+      stream = number;
+      time = time;
+      replied = 0;
+      answered = None;
+      raised = None;
+    } →
     e.table ≡ C → number ≡ stream → s2 ≡ reading_in e stream time s0
 reading_starts e stream time s0 s1 s2 C number first second same numbered =
     second
-    ∙ (ap (λ (x : Exchanged). record x { stream = number; time = time; replied = 0; answered = None; raised = None }) first
-    ∙ λ j. record s0 { table = sym same j; stream = numbered j; time = time; replied = 0; answered = None; raised = None })
+    ∙ (ap (λ (x : Exchanged). record x {
+      stream = number;
+      time = time;
+      replied = 0;
+      answered = None;
+      raised = None;
+    }) first
+    ∙ λ j. record s0 {
+      table = sym same j;
+      stream = numbered j;
+      time = time;
+      replied = 0;
+      answered =
+          None;
+      raised = None;
+    })

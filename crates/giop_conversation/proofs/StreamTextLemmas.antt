@@ -39,10 +39,12 @@ pub record AreShown (S : Setup) (written : List ℕ) (h : History) (d : Dump) : 
 -- ---- a text goes on
 
 -- by lines of a stream
-more_lines : (S : Setup) (written : List ℕ) (h behind : History) (all : List ℕ) (n : ℕ) (lines reads own : List ℕ) →
+more_lines : (S : Setup) (written : List ℕ) (h behind : History) (all : List ℕ) (n : ℕ)
+    (lines reads own : List ℕ) →
     ShowsStreams S written h all → AreParts lines reads own →
     ((m : ℕ) → IsUnique m → (n == m) ≡ false → behind.stream m ≡ h.stream m) →
-    (IsUnique n → (r o : List ℕ) → IsDumped S (h.stream n) r o → IsDumped S (behind.stream n) (r ++ reads) (o ++ own)) →
+    (IsUnique n → (r o : List ℕ) → IsDumped S (h.stream n) r o →
+    IsDumped S (behind.stream n) (r ++ reads) (o ++ own)) →
     ShowsStreams S written behind (all ++ with_tags (stream_tag n) lines)
 more_lines S written h behind all n lines reads own t more others here = record {
   parts = t.parts ++ new;
@@ -71,9 +73,14 @@ more_lines S written h behind all n lines reads own t more others here = record 
         IsDumped S (behind.stream m) (read_of m (t.parts ++ new)) (own_of m (t.parts ++ new))
     by m is true same =
         let it : n ≡ m = eqb-true _ _ same in
-        subst (λ k. IsDumped S (behind.stream k) (read_of k (t.parts ++ new)) (own_of k (t.parts ++ new))) it
-        (rw (of n read_lines reads (of_it read_lines n more.parts ∙ more.reads_are), of n own_lines own (of_it own_lines n more.parts ∙ more.own_are))
-        (here (subst IsUnique (sym it) is) (read_of n t.parts) (own_of n t.parts) (t.streams n (subst IsUnique (sym it) is))))
+        subst (λ k. IsDumped S (behind.stream k) (read_of k (t.parts ++ new))
+        (own_of k (t.parts ++ new))) it
+        (rw (
+          of n read_lines reads (of_it read_lines n more.parts ∙ more.reads_are),
+          of n own_lines own (of_it own_lines n more.parts ∙ more.own_are),
+        )
+        (here (subst IsUnique (sym it) is) (read_of n t.parts) (own_of n t.parts)
+        (t.streams n (subst IsUnique (sym it) is))))
     by m is false apart =
         rw (
           of m read_lines [] (of_another read_lines n m more.parts apart),
@@ -85,7 +92,8 @@ more_lines S written h behind all n lines reads own t more others here = record 
         (t.streams m is)
 
 -- by the fault of the capture
-more_fault : (S : Setup) (written : List ℕ) (h : History) (all word : List ℕ) (at : ℕ) → ShowsStreams S written h all →
+more_fault : (S : Setup) (written : List ℕ) (h : History) (all word : List ℕ) (at : ℕ) →
+    ShowsStreams S written h all →
     ShowsStreams S written h (all ++ capture_fault_line word at)
 more_fault S written h all word at t = record {
   parts = t.parts ++ new;
@@ -93,7 +101,8 @@ more_fault S written h all word at t = record {
   shows = ap (λ (x : List ℕ). x ++ line) t.shows
       ∙ (append_assoc written (text_of t.parts) line
       ∙ ap (λ (x : List ℕ). written ++ x)
-      (sym (flat_map-append part_text t.parts new ∙ ap (λ (x : List ℕ). text_of t.parts ++ x) (append-nil line))));
+      (sym (flat_map-append part_text t.parts new
+      ∙ ap (λ (x : List ℕ). text_of t.parts ++ x) (append-nil line))));
   streams = λ m is. rw (of m read_lines, of m own_lines) (t.streams m is);
 }
   where
@@ -103,8 +112,10 @@ more_fault S written h all word at t = record {
     new : List Part
     new = FaultLine word at ∷ []
 
-    of : (m : ℕ) (f : StreamPart → List ℕ) → flat_map (of_stream f m) (t.parts ++ new) ≡ flat_map (of_stream f m) t.parts
-    of m f = flat_map-append (of_stream f m) t.parts new ∙ append-nil (flat_map (of_stream f m) t.parts)
+    of : (m : ℕ) (f : StreamPart → List ℕ) →
+        flat_map (of_stream f m) (t.parts ++ new) ≡ flat_map (of_stream f m) t.parts
+    of m f = flat_map-append (of_stream f m) t.parts new
+        ∙ append-nil (flat_map (of_stream f m) t.parts)
 
 -- ---- events
 
@@ -119,11 +130,14 @@ text_more C a most p q =
     let R = rules_by C a most in
     let of : (xs : List ℕ) → drop (length (text R [])) (text R xs) ≡ text R xs =
     λ xs. ap (λ (t : List ℕ). drop (length t) (text R xs)) (no_text R) in
-    ap (λ (t : List ℕ). t ++ added R p q) (sym (of p)) ∙ (sym (added_both_by C a most [] p q) ∙ of (p ++ q))
+    ap (λ (t : List ℕ). t ++ added R p q) (sym (of p))
+    ∙ (sym (added_both_by C a most [] p q) ∙ of (p ++ q))
 
 module _ (S : Setup) (written : List ℕ)
-    (agree : (a b : Answers) (p : List ℕ) → AnswersAgree S.messages p a b → text (rules_in S a) p ≡ text (rules_in S b) p) where
-  on_opened : (h : History) (d : Dump) (id : ℕ) (flow : Flow) (o : Option Connection) → slice_get d.connections (id / 2) ≡ o →
+    (agree : (a b : Answers) (p : List ℕ) → AnswersAgree S.messages p a b →
+    text (rules_in S a) p ≡ text (rules_in S b) p) where
+  on_opened : (h : History) (d : Dump) (id : ℕ) (flow : Flow) (o : Option Connection) →
+      slice_get d.connections (id / 2) ≡ o →
       AreShown S written h d → AreShown S written h (opened_in d id flow o)
   on_opened h d id flow None is b = b
   on_opened h d id flow (Some c) is b =
@@ -131,30 +145,52 @@ module _ (S : Setup) (written : List ℕ)
       record {
         count = b.count;
         sides = side_on S h h d.connections id c
-            (record (side (parity_of id) c) { flow = Some flow; calls = record (side (parity_of id) c).calls { entries = [] } }) is b.sides
+            (record (side (parity_of id) c) {
+              flow = Some flow;
+              calls =
+                  record (side (parity_of id) c).calls { entries = [] };
+            }) is b.sides
             (λ g n p a apart has. has) own;
         numbers = b.numbers;
         shows = b.shows;
       }
 
-  on_begun : (h : History) (d : Dump) (id : ℕ) (o : Option Connection) → slice_get d.connections (id / 2) ≡ o →
-      AreShown S written h d → AreShown S written (with_begun h id (nat_lt (id / 2) S.connections)) (begun_in d id o)
+  on_begun : (h : History) (d : Dump) (id : ℕ) (o : Option Connection) →
+      slice_get d.connections (id / 2) ≡ o →
+      AreShown S written h d → AreShown S written (with_begun h id (nat_lt (id / 2) S.connections))
+      (begun_in d id o)
   on_begun h d id None is b =
       let past = no_room d.connections (id / 2) is in
       let none : nat_lt (id / 2) S.connections ≡ false =
-      false_from_ne_true _ (λ some. let low = ltb-true _ _ some in let rooms = b.sides.rooms in omega (arith, past, low, rooms)) in
+      false_from_ne_true _ (λ some. let low = ltb-true _ _ some in let rooms = b.sides.rooms in
+      omega (arith, past, low, rooms)) in
       rw none (record {
         count = ap counted b.count;
-        sides = record { rooms = b.sides.rooms; sides = λ i. by i (slice_get d.connections i) (b.sides.sides i) };
+        sides = record {
+          rooms = b.sides.rooms;
+          sides =
+              λ i. by i (slice_get d.connections i) (b.sides.sides i);
+        };
         numbers = numbers_begun S h id false (λ is. absurd cc) b.numbers;
-        shows = record { parts = b.shows.parts; whole = b.shows.whole; shows = b.shows.shows; streams = b.shows.streams };
+        shows = record {
+          parts = b.shows.parts;
+          whole = b.shows.whole;
+          shows = b.shows.shows;
+          streams = b.shows.streams;
+        };
       })
     where
-      by : (i : ℕ) (o : Option Connection) → IfSome o (HasSides S h i) → IfSome o (HasSides S (with_begun h id false) i)
+      by : (i : ℕ) (o : Option Connection) → IfSome o (HasSides S h i) →
+          IfSome o (HasSides S (with_begun h id false) i)
       by i None has = tt
       by i (Some c) has = λ p.
           let k = has p in
-          record { stream_is = k.stream_is; octets_are = k.octets_are; text_is = k.text_is; closing_is = k.closing_is }
+          record {
+            stream_is = k.stream_is;
+            octets_are = k.octets_are;
+            text_is = k.text_is;
+            closing_is = k.closing_is;
+          }
   on_begun h d id (Some c) is b =
       let low = slice_get_within d.connections (id / 2) c is in
       let rooms = b.sides.rooms in
@@ -167,7 +203,8 @@ module _ (S : Setup) (written : List ℕ)
       λ number. b.numbers.fresh n (rw b.count (counted_new h.begun (rw b.count at number.1))) in
       rw some (record {
         count = ap counted b.count;
-        sides = side_on S h (with_begun h id true) d.connections id c (record s { stream = n; octets = [] }) is b.sides
+        sides = side_on S h (with_begun h id true) d.connections id c
+            (record s { stream = n; octets = [] }) is b.sides
             (λ g m p a apart k. record {
               stream_is = k.stream_is ∙ sym (rw (unequal g id apart) refl);
               octets_are = k.octets_are;
@@ -177,39 +214,50 @@ module _ (S : Setup) (written : List ℕ)
             (record {
               stream_is = ap counted b.count ∙ sym (rw (eq-eqb id id refl) refl);
               octets_are = λ number. ap (λ (t : StreamHistory). t.octets) (sym (new number));
-              text_is = λ number. no_text (rules_in S s.answers) ∙ sym (no_text (rules_in S (h.stream n).answers));
-              closing_is = λ number. one_closing (rules_in S s.answers) (rules_in S (h.stream n).answers);
+              text_is = λ number. no_text (rules_in S s.answers)
+                  ∙ sym (no_text (rules_in S (h.stream n).answers));
+              closing_is = λ number. one_closing (rules_in S s.answers)
+                  (rules_in S (h.stream n).answers);
             });
         numbers = numbers_begun S h id true (λ is. room) b.numbers;
-        shows = more_lines S written h (with_begun h id true) d.text n (begin_lines s.flow d.time) [] [] b.shows lines
+        shows = more_lines S written h (with_begun h id true) d.text n (begin_lines s.flow d.time)
+            [] [] b.shows lines
             (λ m number apart. refl) (λ number r o t. rw (append-nil r, append-nil o) t);
       })
 
   -- a stream changes that is not the flow's
   side_stays : (h : History) (m : ℕ) (s : StreamHistory) (g n : ℕ) (p : List ℕ) (a : Answers) →
-      (IsUnique n → (with_stream h m s).stream n ≡ h.stream n) → IsSide S h g n p a → IsSide S (with_stream h m s) g n p a
+      (IsUnique n → (with_stream h m s).stream n ≡ h.stream n) → IsSide S h g n p a →
+      IsSide S (with_stream h m s) g n p a
   side_stays h m s g n p a stays it = record {
     stream_is = it.stream_is;
-    octets_are = λ number. it.octets_are number ∙ ap (λ (t : StreamHistory). t.octets) (sym (stays number));
-    text_is = λ number. it.text_is number ∙ ap (λ (t : StreamHistory). text (rules_in S t.answers) p) (sym (stays number));
-    closing_is = λ number. it.closing_is number ∙ ap (λ (t : StreamHistory). closing (rules_in S t.answers) p) (sym (stays number));
+    octets_are = λ number. it.octets_are number
+        ∙ ap (λ (t : StreamHistory). t.octets) (sym (stays number));
+    text_is = λ number. it.text_is number ∙
+        ap (λ (t : StreamHistory). text (rules_in S t.answers) p) (sym (stays number));
+    closing_is = λ number. it.closing_is number
+        ∙ ap (λ (t : StreamHistory). closing (rules_in S t.answers) p) (sym (stays number));
   }
 
   -- that of another flow
-  side_with : (h : History) (s : StreamHistory) (id g n : ℕ) (p : List ℕ) (a : Answers) → AreNumbered S h → (g ≡ id → ⊥) →
+  side_with : (h : History) (s : StreamHistory) (id g n : ℕ) (p : List ℕ) (a : Answers) →
+      AreNumbered S h → (g ≡ id → ⊥) →
       IsSide S h g n p a → IsSide S (with_stream h (h.stream_of id) s) g n p a
   side_with h s id g n p a k apart it =
       side_stays h (h.stream_of id) s g n p a
       (λ number. stream_else h (h.stream_of id) s n
-      (unequal (h.stream_of id) n (λ same. apart (k.apart g id (subst IsUnique it.stream_is number) (sym it.stream_is ∙ sym same))))) it
+      (unequal (h.stream_of id) n (λ same. apart
+      (k.apart g id (subst IsUnique it.stream_is number) (sym it.stream_is ∙ sym same))))) it
 
   -- that of a flow without a room has no number
   beyond_is : (h : History) (s : StreamHistory) (id m : ℕ) → h.stream_of id ≡ 0 → IsUnique m →
       (with_stream h (h.stream_of id) s).stream m ≡ h.stream m
   beyond_is h s id m none number =
-      stream_else h (h.stream_of id) s m (unequal (h.stream_of id) m (λ same. omega (arith, same, none, number.0)))
+      stream_else h (h.stream_of id) s m (unequal (h.stream_of id) m
+      (λ same. omega (arith, same, none, number.0)))
 
-  on_nothing : (h : History) (s : StreamHistory) (d : Dump) (id : ℕ) → slice_get d.connections (id / 2) ≡ None →
+  on_nothing : (h : History) (s : StreamHistory) (d : Dump) (id : ℕ) →
+      slice_get d.connections (id / 2) ≡ None →
       AreShown S written h d → AreShown S written (with_stream h (h.stream_of id) s) d
   on_nothing h s d id is b =
       let past = no_room d.connections (id / 2) is in
@@ -217,7 +265,11 @@ module _ (S : Setup) (written : List ℕ)
       let none = b.numbers.beyond id (omega (arith, past, rooms)) in
       record {
         count = b.count;
-        sides = record { rooms = rooms; sides = λ i. by none i (slice_get d.connections i) (b.sides.sides i) };
+        sides = record {
+          rooms = rooms;
+          sides =
+              λ i. by none i (slice_get d.connections i) (b.sides.sides i);
+        };
         numbers = numbers_with S h (h.stream_of id) s (b.numbers.within id) b.numbers;
         shows = record {
           parts = b.shows.parts;
@@ -231,12 +283,16 @@ module _ (S : Setup) (written : List ℕ)
           IfSome o (HasSides S (with_stream h (h.stream_of id) s) i)
       by none i None has = tt
       by none i (Some c) has = λ p.
-          side_stays h (h.stream_of id) s (flow_id i p) (side p c).stream (side p c).octets (side p c).answers
+          side_stays h (h.stream_of id) s (flow_id i p) (side p c).stream (side p c).octets
+          (side p c).answers
           (beyond_is h s id (side p c).stream none) (has p)
 
-  on_delivered : (a : Answers) (h : History) (d : Dump) (id : ℕ) (octets : List ℕ) (o : Option Connection) →
-      slice_get d.connections (id / 2) ≡ o → IfSome o (λ c. IsAnswered S a (parity_of id) octets d.time c) → AreShown S written h d →
-      AreShown S written (with_stream h (h.stream_of id) (read_on a octets (h.stream (h.stream_of id)))) (delivered_in S a d id octets o)
+  on_delivered : (a : Answers) (h : History) (d : Dump) (id : ℕ) (octets : List ℕ)
+      (o : Option Connection) →
+      slice_get d.connections (id / 2) ≡ o →
+      IfSome o (λ c. IsAnswered S a (parity_of id) octets d.time c) → AreShown S written h d →
+      AreShown S written (with_stream h (h.stream_of id)
+      (read_on a octets (h.stream (h.stream_of id)))) (delivered_in S a d id octets o)
   on_delivered a h d id octets None is answered b =
       on_nothing h (read_on a octets (h.stream (h.stream_of id))) d id is b
   on_delivered a h d id octets (Some c) is answered b = record {
@@ -246,8 +302,10 @@ module _ (S : Setup) (written : List ℕ)
         (record (side (other (parity_of id)) c) { calls = calls.opposite }) is b.sides
         (λ g m p x apart it. side_with h next id g m p x b.numbers apart it) own (λ g has. has);
     numbers = numbers_with S h n next (b.numbers.within id) b.numbers;
-    shows = subst (λ m. ShowsStreams S written behind (d.text ++ with_tags (stream_tag m) lines)) (sym k.stream_is)
-        (more_lines S written h behind d.text n lines (added R s.octets octets) (added R s.octets octets) b.shows
+    shows = subst (λ m. ShowsStreams S written behind (d.text ++ with_tags (stream_tag m) lines))
+        (sym k.stream_is)
+        (more_lines S written h behind d.text n lines (added R s.octets octets)
+        (added R s.octets octets) b.shows
         (stamped_parts S.table a S.messages octets s.octets (calls_in S (parity_of id) d.time c))
         (λ m number apart. stream_else h n next m apart) here);
   }
@@ -283,45 +341,65 @@ module _ (S : Setup) (written : List ℕ)
       own = record {
         stream_is = k.stream_is;
         octets_are = λ number.
-            ap (λ (x : List ℕ). x ++ octets) (k.octets_are number ∙ ap (λ m. (h.stream m).octets) k.stream_is)
+            ap (λ (x : List ℕ). x ++ octets) (k.octets_are number
+            ∙ ap (λ m. (h.stream m).octets) k.stream_is)
             ∙ ap (λ (t : StreamHistory). t.octets) (sym at);
-        text_is = λ number. ap (λ (t : StreamHistory). text (rules_in S t.answers) (s.octets ++ octets)) (sym at);
-        closing_is = λ number. ap (λ (t : StreamHistory). closing (rules_in S t.answers) (s.octets ++ octets)) (sym at);
+        text_is = λ number. ap (λ (t : StreamHistory).
+            text (rules_in S t.answers) (s.octets ++ octets)) (sym at);
+        closing_is = λ number. ap (λ (t : StreamHistory).
+            closing (rules_in S t.answers) (s.octets ++ octets)) (sym at);
       }
 
       here : IsUnique n → (r o : List ℕ) → IsDumped S (h.stream n) r o →
           IsDumped S (behind.stream n) (r ++ added R s.octets octets) (o ++ added R s.octets octets)
       here number r o t =
           let number' = subst IsUnique (sym k.stream_is) number in
-          let before : s.octets ≡ (h.stream n).octets = k.octets_are number' ∙ ap (λ m. (h.stream m).octets) k.stream_is in
+          let before : s.octets ≡ (h.stream n).octets =
+          k.octets_are number' ∙ ap (λ m. (h.stream m).octets) k.stream_is in
           let first : text (rules_in S (h.stream n).answers) (h.stream n).octets ≡ text R s.octets =
           ap (text (rules_in S (h.stream n).answers)) (sym before)
           ∙ (ap (λ m. text (rules_in S (h.stream m).answers) s.octets) (sym k.stream_is)
           ∙ (sym (k.text_is number') ∙ agree s.answers a s.octets answered.before)) in
-          let longer : text R s.octets ++ added R s.octets octets ≡ text R ((h.stream n).octets ++ octets) =
-          text_more S.table a S.messages s.octets octets ∙ ap (λ (x : List ℕ). text R (x ++ octets)) before in
+          let longer : text R s.octets ++ added R s.octets octets
+          ≡ text R ((h.stream n).octets ++ octets) =
+          text_more S.table a S.messages s.octets octets
+          ∙ ap (λ (x : List ℕ). text R (x ++ octets)) before in
           rw (stream_at h n next) (record {
-            reads_are = ap (λ (x : List ℕ). x ++ added R s.octets octets) (t.reads_are ∙ first) ∙ longer;
+            reads_are = ap (λ (x : List ℕ). x ++ added R s.octets octets) (t.reads_are ∙ first)
+                ∙ longer;
             own_are = λ goes.
                 let still = never (h.stream n).goes_on (h.stream n).is_closed goes in
                 let was : o ≡ text R s.octets =
                 t.own_are still.0
                 ∙ (ap (λ (x : Bool). text (rules_in S (h.stream n).answers) (h.stream n).octets
-                ++ (if x then closing (rules_in S (h.stream n).answers) (h.stream n).octets else [])) still.1
-                ∙ (append-nil (text (rules_in S (h.stream n).answers) (h.stream n).octets) ∙ first)) in
+                ++ (if x then closing (rules_in S (h.stream n).answers) (h.stream n).octets else
+                [])) still.1
+                ∙ (append-nil (text (rules_in S (h.stream n).answers) (h.stream n).octets) ∙ first))
+                in
                 rw still.1
-                (ap (λ (x : List ℕ). x ++ added R s.octets octets) was ∙ (longer ∙ sym (append-nil (text R ((h.stream n).octets ++ octets)))));
+                (ap (λ (x : List ℕ). x ++ added R s.octets octets) was
+                ∙ (longer ∙ sym (append-nil (text R ((h.stream n).octets ++ octets)))));
           })
 
-  on_closed : (h : History) (d : Dump) (id : ℕ) (cause : CloseCause) (o : Option Connection) → slice_get d.connections (id / 2) ≡ o →
-      AreShown S written h d → AreShown S written (with_stream h (h.stream_of id) (closed (h.stream (h.stream_of id)))) (closed_in S d id cause o)
+  on_closed : (h : History) (d : Dump) (id : ℕ) (cause : CloseCause) (o : Option Connection) →
+      slice_get d.connections (id / 2) ≡ o →
+      AreShown S written h d → AreShown S written
+      (with_stream h (h.stream_of id) (closed (h.stream (h.stream_of id))))
+      (closed_in S d id cause o)
   on_closed h d id cause None is b = on_nothing h (closed (h.stream (h.stream_of id))) d id is b
   on_closed h d id cause (Some c) is b = record {
     count = b.count;
-    sides = record { rooms = b.sides.rooms; sides = λ i. by i (slice_get d.connections i) (b.sides.sides i) };
+    sides = record {
+      rooms = b.sides.rooms;
+      sides =
+          λ i. by i (slice_get d.connections i) (b.sides.sides i);
+    };
     numbers = numbers_with S h n next (b.numbers.within id) b.numbers;
-    shows = subst (λ m. ShowsStreams S written behind (d.text ++ with_tags (stream_tag m) (closed_lines S (parity_of id) cause c))) (sym k.stream_is)
-        (more_lines S written h behind d.text n (closed_lines S (parity_of id) cause c) [] (closing R s.octets) b.shows
+    shows = subst (λ m. ShowsStreams S written behind
+        (d.text ++ with_tags (stream_tag m) (closed_lines S (parity_of id) cause c)))
+        (sym k.stream_is)
+        (more_lines S written h behind d.text n (closed_lines S (parity_of id) cause c) []
+        (closing R s.octets) b.shows
         (closed_parts R s.octets cause) (λ m number apart. stream_else h n next m apart) here);
   }
     where
@@ -345,63 +423,87 @@ module _ (S : Setup) (written : List ℕ)
 
       -- the octets and the answers of a stream stay
       stays : {X : Type 0} (f : List ℕ → Answers → X) (m : ℕ) →
-          f (behind.stream m).octets (behind.stream m).answers ≡ f (h.stream m).octets (h.stream m).answers
+          f (behind.stream m).octets (behind.stream m).answers
+          ≡ f (h.stream m).octets (h.stream m).answers
       stays f m = at (n == m) refl
         where
-          at : (b : Bool) → (n == m) ≡ b → f (behind.stream m).octets (behind.stream m).answers ≡ f (h.stream m).octets (h.stream m).answers
-          at true same = rw same (ap (λ m. f (h.stream m).octets (h.stream m).answers) (eqb-true _ _ same))
+          at : (b : Bool) → (n == m) ≡ b → f (behind.stream m).octets (behind.stream m).answers
+              ≡ f (h.stream m).octets (h.stream m).answers
+          at true same = rw same (ap (λ m. f (h.stream m).octets (h.stream m).answers)
+              (eqb-true _ _ same))
           at false apart = rw apart refl
 
-      by : (i : ℕ) (o : Option Connection) → IfSome o (HasSides S h i) → IfSome o (HasSides S behind i)
+      by : (i : ℕ) (o : Option Connection) → IfSome o (HasSides S h i) →
+          IfSome o (HasSides S behind i)
       by i None has = tt
       by i (Some c) has = λ p.
           let it = has p in
           let x = side p c in
           record {
             stream_is = it.stream_is;
-            octets_are = λ number. it.octets_are number ∙ sym (stays (λ octets answers. octets) x.stream);
-            text_is = λ number. it.text_is number ∙ sym (stays (λ octets answers. text (rules_in S answers) x.octets) x.stream);
-            closing_is = λ number. it.closing_is number ∙ sym (stays (λ octets answers. closing (rules_in S answers) x.octets) x.stream);
+            octets_are = λ number. it.octets_are number
+                ∙ sym (stays (λ octets answers. octets) x.stream);
+            text_is = λ number. it.text_is number
+                ∙ sym (stays (λ octets answers. text (rules_in S answers) x.octets) x.stream);
+            closing_is = λ number. it.closing_is number
+                ∙ sym (stays (λ octets answers. closing (rules_in S answers) x.octets) x.stream);
           }
 
-      here : IsUnique n → (r o : List ℕ) → IsDumped S (h.stream n) r o → IsDumped S (behind.stream n) (r ++ []) (o ++ closing R s.octets)
+      here : IsUnique n → (r o : List ℕ) → IsDumped S (h.stream n) r o →
+          IsDumped S (behind.stream n) (r ++ []) (o ++ closing R s.octets)
       here number r o t =
           let number' = subst IsUnique (sym k.stream_is) number in
           let Q = rules_in S (h.stream n).answers in
           let p = (h.stream n).octets in
           let last : closing R s.octets ≡ closing Q p =
-          k.closing_is number' ∙ (ap (λ m. closing (rules_in S (h.stream m).answers) s.octets) k.stream_is
+          k.closing_is number' ∙ (ap (λ m. closing (rules_in S (h.stream m).answers) s.octets)
+          k.stream_is
           ∙ ap (closing Q) (k.octets_are number' ∙ ap (λ m. (h.stream m).octets) k.stream_is)) in
           rw (stream_at h n next) (record {
             reads_are = append-nil r ∙ t.reads_are;
             own_are = λ goes.
                 let still = never (h.stream n).goes_on (h.stream n).is_closed goes in
                 let was : o ≡ text Q p =
-                t.own_are still.0 ∙ (ap (λ (x : Bool). text Q p ++ (if x then closing Q p else [])) still.1 ∙ append-nil (text Q p)) in
+                t.own_are still.0 ∙ (ap (λ (x : Bool). text Q p ++ (if x then closing Q p else []))
+                still.1 ∙ append-nil (text Q p)) in
                 rw (was, last) refl;
           })
 
-  pub on_event : (a : Answers) (h : History) (d : Dump) (e : Event) → Answered S a d e → AreShown S written h d →
+  pub on_event : (a : Answers) (h : History) (d : Dump) (e : Event) → Answered S a d e →
+      AreShown S written h d →
       AreShown S written (happened S a h e) (stepped S a d e)
-  on_event a h d (Opens id flow) answered b = on_opened h d id flow (slice_get d.connections (id / 2)) refl b
-  on_event a h d (Begins id number) answered b = on_begun h d id (slice_get d.connections (id / 2)) refl b
-  on_event a h d (Delivers id octets) answered b = on_delivered a h d id octets (slice_get d.connections (id / 2)) refl answered b
-  on_event a h d (Closes id cause) answered b = on_closed h d id cause (slice_get d.connections (id / 2)) refl b
+  on_event a h d (Opens id flow) answered b =
+      on_opened h d id flow (slice_get d.connections (id / 2)) refl b
+  on_event a h d (Begins id number) answered b =
+      on_begun h d id (slice_get d.connections (id / 2)) refl b
+  on_event a h d (Delivers id octets) answered b =
+      on_delivered a h d id octets (slice_get d.connections (id / 2)) refl answered b
+  on_event a h d (Closes id cause) answered b =
+      on_closed h d id cause (slice_get d.connections (id / 2)) refl b
   on_event a h d (OfCapture (PacketArrives time)) answered b =
       record { count = b.count; sides = b.sides; numbers = b.numbers; shows = b.shows }
   on_event a h d (OfCapture (HasFault word at)) answered b =
-      record { count = b.count; sides = b.sides; numbers = b.numbers; shows = more_fault S written h d.text word at b.shows }
+      record {
+        count = b.count;
+        sides = b.sides;
+        numbers = b.numbers;
+        shows =
+            more_fault S written h d.text word at b.shows;
+      }
 
-  on_events : (events : List Event) (h : History) (d behind : Dump) (leads : Leads S d events behind) → AreShown S written h d →
+  on_events : (events : List Event) (h : History) (d behind : Dump)
+      (leads : Leads S d events behind) → AreShown S written h d →
       AreShown S written (history S h d events behind leads) behind
   on_events [] h d behind leads b = subst (AreShown S written h) (sym leads) b
   on_events (e ∷ es) h d behind leads b =
       on_events es (happened S leads.1.answers h e) leads.0 behind leads.2
-      (subst (AreShown S written (happened S leads.1.answers h e)) (sym leads.1.is) (on_event leads.1.answers h d e leads.1.answered b))
+      (subst (AreShown S written (happened S leads.1.answers h e)) (sym leads.1.is)
+      (on_event leads.1.answers h d e leads.1.answered b))
 
   -- ---- before a capture is read
 
-  each_alike : {X : Type 0} (P : ℕ → X → Type 0) (x : X) (n : ℕ) → ((i : ℕ) → P i x) → (i : ℕ) → IfSome (slice_get (replicate n x) i) (P i)
+  each_alike : {X : Type 0} (P : ℕ → X → Type 0) (x : X) (n : ℕ) → ((i : ℕ) → P i x) → (i : ℕ) →
+      IfSome (slice_get (replicate n x) i) (P i)
   each_alike P x zero all i = tt
   each_alike P x (suc n) all zero = all 0
   each_alike P x (suc n) all (suc i) = each_alike (λ k. P (suc k)) x n (λ k. all (suc k)) i
@@ -424,7 +526,11 @@ module _ (S : Setup) (written : List ℕ)
       parts = [];
       whole = tt;
       shows = sym (append-nil written);
-      streams = λ m number. record { reads_are = sym (no_text R); own_are = λ goes. sym (append-nil (text R []) ∙ no_text R) };
+      streams = λ m number. record {
+        reads_are = sym (no_text R);
+        own_are =
+            λ goes. sym (append-nil (text R []) ∙ no_text R);
+      };
     };
   }
     where
@@ -432,8 +538,20 @@ module _ (S : Setup) (written : List ℕ)
       R = rules_in S new_stream.answers
 
       sides : (i : ℕ) → HasSides S no_history i (new_connection S)
-      sides i Even = record { stream_is = refl; octets_are = λ number. refl; text_is = λ number. refl; closing_is = λ number. refl }
-      sides i Odd = record { stream_is = refl; octets_are = λ number. refl; text_is = λ number. refl; closing_is = λ number. refl }
+      sides i Even = record {
+        stream_is = refl;
+        octets_are = λ number. refl;
+        text_is =
+            λ number. refl;
+        closing_is = λ number. refl;
+      }
+      sides i Odd = record {
+        stream_is = refl;
+        octets_are = λ number. refl;
+        text_is =
+            λ number. refl;
+        closing_is = λ number. refl;
+      }
 
   pub all_shown : (events : List Event) (d : Dump) (leads : Leads S (start S written) events d) →
       ShowsStreams S written (history S no_history (start S written) events d leads) d.text

@@ -74,7 +74,8 @@ tag_step w w' before tag since text due n stands some few is = by (is_due text) 
         let c : since ≡ length (with_tags tag text ++ take (length tag - due) tag) =
         rw ends at stands.counted in
         record {
-          whole = rw ends (tag_behind w w' before tag text due n stands.within few (rw ends at stands.whole) is);
+          whole = rw ends (tag_behind w w' before tag text due n stands.within few
+              (rw ends at stands.whole) is);
           counted = rw ends (omega (arith, stands.within, few, c, l, l', t, t'));
           within = omega (arith, stands.within);
           inside = λ isnt. absurd (cc (ends, isnt));
@@ -186,7 +187,8 @@ put_line_ok a b tag octets since since' due due' n none some within line put is 
       within = fits;
       next = is;
       stands = λ before text stands.
-          rw (is, put.counted) (line_step_in a b before tag since text octets n (rw none at stands) first few fits appends);
+          rw (is, put.counted) (line_step_in a b before tag since text octets n (rw none at stands)
+          first few fits appends);
     }
 
 pub put_line_err : (a b : Option (List ℕ)) (tag : List ℕ) (since since' due : ℕ) → due ≡ 0 →
@@ -194,7 +196,8 @@ pub put_line_err : (a b : Option (List ℕ)) (tag : List ℕ) (since since' due 
 put_line_err a b tag since since' due none put =
     record {
       within = rw none (omega arith);
-      stands = λ before text stands. rw put.counted (kept_in a b before tag since text due stands put.written);
+      stands = λ before text stands. rw put.counted
+          (kept_in a b before tag since text due stands put.written);
     }
 
 pub put_after_tag : (a b d : Option (List ℕ)) (tag octets : List ℕ)

@@ -35,7 +35,8 @@ shown_in (Some w) before tag since text due failures stands clean =
     shown_is w before tag since text due failures stands clean
 
 -- the text grows by octets, or stays
-pub grows : (a b : Option (List ℕ)) (tag more : List ℕ) (since since' due due' failures failures' : ℕ) →
+pub grows : (a b : Option (List ℕ)) (tag more : List ℕ)
+    (since since' due due' failures failures' : ℕ) →
     ((before text : List ℕ) → StandsIn a before tag since text due →
     StandsIn b before tag since' (text ++ more) due') →
     ((text : List ℕ) → is_clean tag due' failures' (text ++ more) ≡ true) →
@@ -115,7 +116,8 @@ pub failed : (a b : Option (List ℕ)) (tag : List ℕ)
     }))
 failed a b tag since since' due due' puts puts' failures failures' put more one =
     record {
-      written = keeps_if _ _ (rw one (grows a b tag [] since since' due due' failures (counted failures)
+      written = keeps_if _ _ (rw one (grows a b tag [] since since' due due' failures
+          (counted failures)
           (λ before text stands. rw (append-nil text) (put.stands before text stands))
           (λ text. clean_failed tag (text ++ []) due' failures)));
       puts = more;

@@ -54,7 +54,8 @@ ready_grown : (t t' : Tagging) (w more : List ℕ) (r : IsReady t w) →
     Appends (tagging_log t).written (tagging_log t').written more →
     HasGrown t t' r.before r.text more
 ready_grown t t' w more r appends =
-    let is = shown_is w r.before t.tag t.since r.text t.due t.failures r.stands (ready_is_clean t w r) in
+    let is = shown_is w r.before t.tag t.since r.text t.due t.failures r.stands
+    (ready_is_clean t w r) in
     grown t t' r.before r.text more t'.whole refl (rw (r.known, is) at appends)
 
 -- below there is more: the text that it grew by, with tags

@@ -32,28 +32,41 @@ pub still_sound : (n : ℕ) → n ≡ 0 → 0 < n → ⊥
 still_sound n none some = omega (arith, none, some)
 
 pub new_ready : (t : Tagging) (whole : Option (List ℕ)) (written : List ℕ) →
-    t ≡ record { whole = whole; tag = []; due = 0; since = 0; puts = 0; failures = 0 } → whole ≡ Some written → IsReady t written
+    t ≡ record { whole = whole; tag = []; due = 0; since = 0; puts = 0; failures = 0 } →
+    whole ≡ Some written → IsReady t written
 new_ready t whole written is known =
     subst (λ (x : Tagging). IsReady x written)
-    (ap (λ (o : Option (List ℕ)). record { whole = o; tag = []; due = 0; since = 0; puts = 0; failures = 0 }) (sym known) ∙ sym is)
+    (ap (λ (o : Option (List ℕ)). record {
+      whole = o;
+      tag = [];
+      due = 0;
+      since = 0;
+      puts = 0;
+      failures = 0;
+    }) (sym known) ∙ sym is)
     (ready_new written)
 
 module _ (S : Setup) (written : List ℕ) (events : List Event) where
   -- an event that leads on, whose lines were written or a front of them
-  told_or_front : {A E : Type 0} (r : Result A E) (d behind : Dump) (e : Event) (rooms : List Conversation) (out : Tagging)
+  told_or_front : {A E : Type 0} (r : Result A E) (d behind : Dump) (e : Event)
+      (rooms : List Conversation) (out : Tagging)
       (time : Option ℕ) (streams messages faults : ℕ) (cut : Bool) (tag lines : List ℕ) →
-      Leads S (start S written) events d → Step S d e behind → behind.text ≡ d.text ++ with_tags tag lines →
+      Leads S (start S written) events d → Step S d e behind → behind.text ≡ d.text
+      ++ with_tags tag lines →
       (IsReady out behind.text → HoldsDump S rooms out time streams messages faults cut behind) →
       WritesTagged r out d.text tag lines →
-      MatchResult r (λ _. HasTold S written (events ++ e ∷ []) rooms out time streams messages faults cut)
+      MatchResult r (λ _. HasTold S written (events ++ e ∷ []) rooms out time streams messages
+      faults cut)
       (λ _. HasToldFront S written (events ++ e ∷ []) out)
-  told_or_front (Ok v) d behind e rooms out time streams messages faults cut tag lines leads step text holds writes =
+  told_or_front (Ok v) d behind e rooms out time streams messages faults cut tag lines leads step
+      text holds writes =
       record {
         dump = behind;
         leads = leads_more S events (start S written) e d behind leads step;
         holds = holds (subst (IsReady out) (sym text) writes);
       }
-  told_or_front (Err v) d behind e rooms out time streams messages faults cut tag lines leads step text holds writes =
+  told_or_front (Err v) d behind e rooms out time streams messages faults cut tag lines leads step
+      text holds writes =
       record {
         dump = behind;
         leads = leads_more S events (start S written) e d behind leads step;
@@ -64,15 +77,19 @@ module _ (S : Setup) (written : List ℕ) (events : List Event) where
         front = writes;
       }
 
-  module _ (rooms : List Conversation) (out : Tagging) (time : Option ℕ) (streams messages faults : ℕ) (cut : Bool) where
+  module _ (rooms : List Conversation) (out : Tagging) (time : Option ℕ)
+      (streams messages faults : ℕ) (cut : Bool) where
     abbrev Before : Type 0
     Before = HasTold S written events rooms out time streams messages faults cut
 
     -- ---- an id stands for a flow
 
-    pub opened_told : (flow : ℕ) (endpoints : Flow) (old new : Conversation) → Before → slice_get rooms (flow / 2) ≡ Some old →
-        ((c : Connection) → HoldsConnection S old c → HoldsConnection S new (opened (parity_of flow) endpoints c)) →
-        HasTold S written (events ++ Opens flow endpoints ∷ []) (set rooms (flow / 2) new) out time streams messages faults cut
+    pub opened_told : (flow : ℕ) (endpoints : Flow) (old new : Conversation) → Before →
+        slice_get rooms (flow / 2) ≡ Some old →
+        ((c : Connection) → HoldsConnection S old c →
+        HoldsConnection S new (opened (parity_of flow) endpoints c)) →
+        HasTold S written (events ++ Opens flow endpoints ∷ []) (set rooms (flow / 2) new) out time
+        streams messages faults cut
     opened_told flow endpoints old new b here opens =
         let d = b.dump in
         let h = b.holds in
@@ -81,9 +98,15 @@ module _ (S : Setup) (written : List ℕ) (events : List Event) where
         record {
           dump = behind;
           leads = leads_more S events (start S written) (Opens flow endpoints) d behind b.leads
-              (record { answers = no_answers; answered = tt; is = ap (opened_in d flow endpoints) (sym at.is) });
+              (record {
+                answers = no_answers;
+                answered = tt;
+                is =
+                    ap (opened_in d flow endpoints) (sym at.is);
+              });
           holds = record {
-            connections = held_set S rooms d.connections (flow / 2) new (opened (parity_of flow) endpoints at.connection) h.connections
+            connections = held_set S rooms d.connections (flow / 2) new
+                (opened (parity_of flow) endpoints at.connection) h.connections
                 (opens at.connection at.holds);
             ready = h.ready;
             time_is = h.time_is;
@@ -95,43 +118,58 @@ module _ (S : Setup) (written : List ℕ) (events : List Event) where
         }
 
     pub opened_beyond : (flow : ℕ) (endpoints : Flow) → Before → slice_get rooms (flow / 2) ≡ None →
-        HasTold S written (events ++ Opens flow endpoints ∷ []) rooms out time streams messages faults cut
+        HasTold S written (events ++ Opens flow endpoints ∷ []) rooms out time streams messages
+        faults cut
     opened_beyond flow endpoints b beyond =
         let d = b.dump in
         let none = none_at S rooms d.connections (flow / 2) b.holds.connections beyond in
         record {
           dump = d;
           leads = leads_more S events (start S written) (Opens flow endpoints) d d b.leads
-              (record { answers = no_answers; answered = tt; is = ap (opened_in d flow endpoints) (sym none) });
+              (record {
+                answers = no_answers;
+                answered = tt;
+                is =
+                    ap (opened_in d flow endpoints) (sym none);
+              });
           holds = b.holds;
         }
 
     -- ---- a stream begins
 
-    pub begun_told : {A E : Type 0} (r : Result A E) (flow number next : ℕ) (old new : Conversation) (out' : Tagging) → next ≡ sum_within streams 1 → Before →
+    pub begun_told : {A E : Type 0} (r : Result A E) (flow number next : ℕ) (old new : Conversation)
+        (out' : Tagging) → next ≡ sum_within streams 1 → Before →
         slice_get rooms (flow / 2) ≡ Some old →
-        ((c : Connection) → HoldsConnection S old c → HoldsConnection S new (begun (parity_of flow) next c)) →
+        ((c : Connection) → HoldsConnection S old c →
+        HoldsConnection S new (begun (parity_of flow) next c)) →
         ((c : Connection) (w : List ℕ) → HoldsConnection S old c → IsReady out w →
         WritesTagged r out' w (stream_tag next) (begin_lines (side (parity_of flow) c).flow time)) →
         MatchResult r
-        (λ _. HasTold S written (events ++ Begins flow number ∷ []) (set rooms (flow / 2) new) out' time next messages faults cut)
+        (λ _. HasTold S written (events ++ Begins flow number ∷ []) (set rooms (flow / 2) new) out'
+        time next messages faults cut)
         (λ _. HasToldFront S written (events ++ Begins flow number ∷ []) out')
     begun_told r flow number next old new out' is b here begins writes =
         let d = b.dump in
         let h = b.holds in
-        let first : next ≡ counted d.streams = is ∙ (ap (λ n. sum_within n 1) h.streams_are ∙ counted_is d.streams) in
+        let first : next ≡ counted d.streams =
+        is ∙ (ap (λ n. sum_within n 1) h.streams_are ∙ counted_is d.streams) in
         let at = held_at S rooms d.connections (flow / 2) old h.connections here in
         let endpoints = (side (parity_of flow) at.connection).flow in
         let step : Step S d (Begins flow number) (begun_in d flow (Some at.connection)) =
         record { answers = no_answers; answered = tt; is = ap (begun_in d flow) (sym at.is) } in
-        let holds = subst (λ n. HoldsConnection S new (begun (parity_of flow) n at.connection)) first (begins at.connection at.holds) in
-        let lines = subst (λ n. WritesTagged r out' d.text (stream_tag n) (begin_lines endpoints d.time)) first
-        (subst (λ (t : Option ℕ). WritesTagged r out' d.text (stream_tag next) (begin_lines endpoints t)) h.time_is
+        let holds = subst (λ n. HoldsConnection S new (begun (parity_of flow) n at.connection))
+        first (begins at.connection at.holds) in
+        let lines = subst (λ n. WritesTagged r out' d.text (stream_tag n)
+        (begin_lines endpoints d.time)) first
+        (subst (λ (t : Option ℕ). WritesTagged r out' d.text (stream_tag next)
+        (begin_lines endpoints t)) h.time_is
         (writes at.connection d.text at.holds h.ready)) in
-        told_or_front r d (begun_in d flow (Some at.connection)) (Begins flow number) (set rooms (flow / 2) new) out' time next messages faults cut
+        told_or_front r d (begun_in d flow (Some at.connection)) (Begins flow number)
+        (set rooms (flow / 2) new) out' time next messages faults cut
         (stream_tag (counted d.streams)) (begin_lines endpoints d.time) b.leads step refl
         (λ ready. record {
-          connections = held_set S rooms d.connections (flow / 2) new (begun (parity_of flow) (counted d.streams) at.connection) h.connections holds;
+          connections = held_set S rooms d.connections (flow / 2) new
+              (begun (parity_of flow) (counted d.streams) at.connection) h.connections holds;
           ready = ready;
           time_is = h.time_is;
           streams_are = first;
@@ -140,17 +178,26 @@ module _ (S : Setup) (written : List ℕ) (events : List Event) where
           cut_is = h.cut_is;
         }) lines
 
-    pub begun_beyond : (flow number next : ℕ) → next ≡ sum_within streams 1 → Before → slice_get rooms (flow / 2) ≡ None →
-        HasTold S written (events ++ Begins flow number ∷ []) rooms out time next messages faults cut
+    pub begun_beyond : (flow number next : ℕ) → next ≡ sum_within streams 1 → Before →
+        slice_get rooms (flow / 2) ≡ None →
+        HasTold S written (events ++ Begins flow number ∷ []) rooms out time next messages faults
+        cut
     begun_beyond flow number next is b beyond =
         let d = b.dump in
         let h = b.holds in
-        let first : next ≡ counted d.streams = is ∙ (ap (λ n. sum_within n 1) h.streams_are ∙ counted_is d.streams) in
+        let first : next ≡ counted d.streams =
+        is ∙ (ap (λ n. sum_within n 1) h.streams_are ∙ counted_is d.streams) in
         let none = none_at S rooms d.connections (flow / 2) h.connections beyond in
         record {
           dump = begun_in d flow None;
-          leads = leads_more S events (start S written) (Begins flow number) d (begun_in d flow None) b.leads
-              (record { answers = no_answers; answered = tt; is = ap (begun_in d flow) (sym none) });
+          leads = leads_more S events (start S written) (Begins flow number) d
+              (begun_in d flow None) b.leads
+              (record {
+                answers = no_answers;
+                answered = tt;
+                is =
+                    ap (begun_in d flow) (sym none);
+              });
           holds = record {
             connections = h.connections;
             ready = h.ready;
@@ -164,31 +211,38 @@ module _ (S : Setup) (written : List ℕ) (events : List Event) where
 
     -- ---- octets are delivered
 
-    pub delivered_told : {A E : Type 0} (r : Result A E) (flow : ℕ) (octets : List ℕ) (old new : Conversation) (out' : Tagging) → Before →
+    pub delivered_told : {A E : Type 0} (r : Result A E) (flow : ℕ) (octets : List ℕ)
+        (old new : Conversation) (out' : Tagging) → Before →
         slice_get rooms (flow / 2) ≡ Some old →
         ((c : Connection) (w : List ℕ) → HoldsConnection S old c → IsReady out w →
         ReadsBy S c (parity_of flow) octets time w r new out') →
         MatchResult r
-        (λ _. HasTold S written (events ++ Delivers flow octets ∷ []) (set rooms (flow / 2) new) out' time streams messages faults cut)
+        (λ _. HasTold S written (events ++ Delivers flow octets ∷ []) (set rooms (flow / 2) new)
+        out' time streams messages faults cut)
         (λ _. HasToldFront S written (events ++ Delivers flow octets ∷ []) out')
     delivered_told r flow octets old new out' b here reads =
         let d = b.dump in
         let h = b.holds in
         let at = held_at S rooms d.connections (flow / 2) old h.connections here in
         let parity = parity_of flow in
-        let read = subst (λ (t : Option ℕ). ReadsBy S at.connection parity octets t d.text r new out') h.time_is
+        let read = subst (λ (t : Option ℕ). ReadsBy S at.connection parity octets t d.text r new
+        out') h.time_is
         (reads at.connection d.text at.holds h.ready) in
         let a = read.answers in
         let behind = delivered_in S a d flow octets (Some at.connection) in
         let step : Step S d (Delivers flow octets) behind = record {
           answers = a;
-          answered = subst (λ (o : Option Connection). IfSome o (λ c. IsAnswered S a parity octets d.time c)) (sym at.is) read.answered;
+          answered = subst (λ (o : Option Connection).
+              IfSome o (λ c. IsAnswered S a parity octets d.time c)) (sym at.is) read.answered;
           is = ap (delivered_in S a d flow octets) (sym at.is);
         } in
-        by r d behind (side parity at.connection).stream (delivered_lines S a parity octets d.time at.connection)
-        (HoldsConnection S new (delivered S a parity octets d.time at.connection)) b.leads step refl read.reads
+        by r d behind (side parity at.connection).stream
+        (delivered_lines S a parity octets d.time at.connection)
+        (HoldsConnection S new (delivered S a parity octets d.time at.connection)) b.leads step refl
+        read.reads
         (λ holds ready. record {
-          connections = held_set S rooms d.connections (flow / 2) new (delivered S a parity octets d.time at.connection) h.connections holds;
+          connections = held_set S rooms d.connections (flow / 2) new
+              (delivered S a parity octets d.time at.connection) h.connections holds;
           ready = ready;
           time_is = h.time_is;
           streams_are = h.streams_are;
@@ -197,25 +251,30 @@ module _ (S : Setup) (written : List ℕ) (events : List Event) where
           cut_is = h.cut_is;
         })
       where
-        by : {A E : Type 0} (r : Result A E) (d behind : Dump) (stream : ℕ) (lines : List ℕ) (Held : Type 0) →
+        by : {A E : Type 0} (r : Result A E) (d behind : Dump) (stream : ℕ) (lines : List ℕ)
+            (Held : Type 0) →
             Leads S (start S written) events d → Step S d (Delivers flow octets) behind →
             behind.text ≡ d.text ++ with_tags (stream_tag stream) lines →
             MatchResult r (λ _. Held × IsReady out' (d.text ++ with_tags (stream_tag stream) lines))
             (λ _. WroteTaggedFront out' d.text (stream_tag stream) lines) →
-            (Held → IsReady out' behind.text → HoldsDump S (set rooms (flow / 2) new) out' time streams messages faults cut behind) →
+            (Held → IsReady out' behind.text → HoldsDump S (set rooms (flow / 2) new) out' time
+            streams messages faults cut behind) →
             MatchResult r
-            (λ _. HasTold S written (events ++ Delivers flow octets ∷ []) (set rooms (flow / 2) new) out' time streams messages faults cut)
+            (λ _. HasTold S written (events ++ Delivers flow octets ∷ []) (set rooms (flow / 2) new)
+            out' time streams messages faults cut)
             (λ _. HasToldFront S written (events ++ Delivers flow octets ∷ []) out')
         by (Ok v) d behind stream lines Held leads step text read holds =
             record {
               dump = behind;
-              leads = leads_more S events (start S written) (Delivers flow octets) d behind leads step;
+              leads = leads_more S events (start S written) (Delivers flow octets) d behind leads
+                  step;
               holds = holds read.0 (subst (IsReady out') (sym text) read.1);
             }
         by (Err v) d behind stream lines Held leads step text read holds =
             record {
               dump = behind;
-              leads = leads_more S events (start S written) (Delivers flow octets) d behind leads step;
+              leads = leads_more S events (start S written) (Delivers flow octets) d behind leads
+                  step;
               before = d.text;
               tag = stream_tag stream;
               lines = lines;
@@ -224,7 +283,8 @@ module _ (S : Setup) (written : List ℕ) (events : List Event) where
             }
 
     -- nothing was written of a flow whose connection has no room
-    pub delivered_beyond : (flow : ℕ) (octets : List ℕ) (out' : Tagging) → Before → slice_get rooms (flow / 2) ≡ None →
+    pub delivered_beyond : (flow : ℕ) (octets : List ℕ) (out' : Tagging) → Before →
+        slice_get rooms (flow / 2) ≡ None →
         out'.whole ≡ out.whole → HasToldFront S written (events ++ Delivers flow octets ∷ []) out'
     delivered_beyond flow octets out' b beyond same =
         let d = b.dump in
@@ -234,29 +294,43 @@ module _ (S : Setup) (written : List ℕ) (events : List Event) where
           leads = leads_more S events (start S written) (Delivers flow octets) d d b.leads
               (record {
                 answers = no_answers;
-                answered = subst (λ (o : Option Connection). IfSome o (λ c. IsAnswered S no_answers (parity_of flow) octets d.time c)) (sym none) tt;
+                answered = subst (λ (o : Option Connection).
+                    IfSome o (λ c. IsAnswered S no_answers (parity_of flow) octets d.time c))
+                    (sym none) tt;
                 is = ap (delivered_in S no_answers d flow octets) (sym none);
               });
           before = d.text;
           tag = [];
           lines = [];
           text = sym (nothing d.text);
-          front = record { size = 0; due = 0; whole = same ∙ (b.holds.ready.known ∙ ap Some (sym (nothing_stopped d.text))) };
+          front = record {
+            size = 0;
+            due = 0;
+            whole =
+                same ∙ (b.holds.ready.known ∙ ap Some (sym (nothing_stopped d.text)));
+          };
         }
 
     -- ---- a stream closes
 
-    pub closed_told : {A E : Type 0} (r : Result A E) (flow : ℕ) (cause : CloseCause) (old : Conversation) (out' : Tagging)
-        (messages' faults' : ℕ) (cut' : Bool) (totals : Totals) → Before → slice_get rooms (flow / 2) ≡ Some old →
+    pub closed_told : {A E : Type 0} (r : Result A E) (flow : ℕ) (cause : CloseCause)
+        (old : Conversation) (out' : Tagging)
+        (messages' faults' : ℕ) (cut' : Bool) (totals : Totals) → Before →
+        slice_get rooms (flow / 2) ≡ Some old →
         ((c : Connection) (w : List ℕ) → HoldsConnection S old c → IsReady out w →
-        WritesTagged r out' w (stream_tag (side (parity_of flow) c).stream) (closed_lines S (parity_of flow) cause c)) →
+        WritesTagged r out' w (stream_tag (side (parity_of flow) c).stream)
+        (closed_lines S (parity_of flow) cause c)) →
         ((c : Connection) → HoldsConnection S old c →
-        totals ≡ final (rules_in S (side (parity_of flow) c).answers) (side (parity_of flow) c).octets) →
-        messages' ≡ sum_within messages totals.messages → faults' ≡ sum_within faults totals.faults → cut' ≡ (cut || cuts cause) →
+        totals ≡ final (rules_in S (side (parity_of flow) c).answers)
+        (side (parity_of flow) c).octets) →
+        messages' ≡ sum_within messages totals.messages →
+        faults' ≡ sum_within faults totals.faults → cut' ≡ (cut || cuts cause) →
         MatchResult r
-        (λ _. HasTold S written (events ++ Closes flow cause ∷ []) rooms out' time streams messages' faults' cut')
+        (λ _. HasTold S written (events ++ Closes flow cause ∷ []) rooms out' time streams messages'
+        faults' cut')
         (λ _. HasToldFront S written (events ++ Closes flow cause ∷ []) out')
-    closed_told r flow cause old out' messages' faults' cut' totals b here writes ends first second third =
+    closed_told r flow cause old out' messages' faults' cut' totals b here writes ends first second
+        third =
         let d = b.dump in
         let h = b.holds in
         let at = held_at S rooms d.connections (flow / 2) old h.connections here in
@@ -264,23 +338,33 @@ module _ (S : Setup) (written : List ℕ) (events : List Event) where
         let total = ends at.connection at.holds in
         let behind = closed_in S d flow cause (Some at.connection) in
         let step : Step S d (Closes flow cause) behind =
-        record { answers = no_answers; answered = tt; is = ap (closed_in S d flow cause) (sym at.is) } in
+        record {
+          answers = no_answers;
+          answered = tt;
+          is =
+              ap (closed_in S d flow cause) (sym at.is);
+        } in
         told_or_front r d behind (Closes flow cause) rooms out' time streams messages' faults' cut'
-        (stream_tag (side parity at.connection).stream) (closed_lines S parity cause at.connection) b.leads step refl
+        (stream_tag (side parity at.connection).stream) (closed_lines S parity cause at.connection)
+        b.leads step refl
         (λ ready. record {
           connections = h.connections;
           ready = ready;
           time_is = h.time_is;
           streams_are = h.streams_are;
-          messages_are = first ∙ (ap (λ n. sum_within n totals.messages) h.messages_are ∙ ap (λ (t : Totals). sum_within d.messages t.messages) total);
-          faults_are = second ∙ (ap (λ n. sum_within n totals.faults) h.faults_are ∙ ap (λ (t : Totals). sum_within d.faults t.faults) total);
+          messages_are = first ∙ (ap (λ n. sum_within n totals.messages) h.messages_are
+              ∙ ap (λ (t : Totals). sum_within d.messages t.messages) total);
+          faults_are = second ∙ (ap (λ n. sum_within n totals.faults) h.faults_are
+              ∙ ap (λ (t : Totals). sum_within d.faults t.faults) total);
           cut_is = third ∙ ap (λ b. b || cuts cause) h.cut_is;
         }) (writes at.connection d.text at.holds h.ready)
 
-    pub closed_front : (flow : ℕ) (cause : CloseCause) (old : Conversation) (out' : Tagging) → Before →
+    pub closed_front : (flow : ℕ) (cause : CloseCause) (old : Conversation) (out' : Tagging) →
+        Before →
         slice_get rooms (flow / 2) ≡ Some old →
         ((c : Connection) (w : List ℕ) → HoldsConnection S old c → IsReady out w →
-        WroteTaggedFront out' w (stream_tag (side (parity_of flow) c).stream) (closed_lines S (parity_of flow) cause c)) →
+        WroteTaggedFront out' w (stream_tag (side (parity_of flow) c).stream)
+        (closed_lines S (parity_of flow) cause c)) →
         HasToldFront S written (events ++ Closes flow cause ∷ []) out'
     closed_front flow cause old out' b here writes =
         let d = b.dump in
@@ -288,8 +372,14 @@ module _ (S : Setup) (written : List ℕ) (events : List Event) where
         let at = held_at S rooms d.connections (flow / 2) old h.connections here in
         record {
           dump = closed_in S d flow cause (Some at.connection);
-          leads = leads_more S events (start S written) (Closes flow cause) d (closed_in S d flow cause (Some at.connection)) b.leads
-              (record { answers = no_answers; answered = tt; is = ap (closed_in S d flow cause) (sym at.is) });
+          leads = leads_more S events (start S written) (Closes flow cause) d
+              (closed_in S d flow cause (Some at.connection)) b.leads
+              (record {
+                answers = no_answers;
+                answered = tt;
+                is =
+                    ap (closed_in S d flow cause) (sym at.is);
+              });
           before = d.text;
           tag = stream_tag (side (parity_of flow) at.connection).stream;
           lines = closed_lines S (parity_of flow) cause at.connection;
@@ -297,28 +387,37 @@ module _ (S : Setup) (written : List ℕ) (events : List Event) where
           front = writes at.connection d.text at.holds h.ready;
         }
 
-    pub closed_beyond : (flow : ℕ) (cause : CloseCause) → Before → slice_get rooms (flow / 2) ≡ None →
-        HasTold S written (events ++ Closes flow cause ∷ []) rooms out time streams messages faults cut
+    pub closed_beyond : (flow : ℕ) (cause : CloseCause) → Before →
+        slice_get rooms (flow / 2) ≡ None →
+        HasTold S written (events ++ Closes flow cause ∷ []) rooms out time streams messages faults
+        cut
     closed_beyond flow cause b beyond =
         let d = b.dump in
         let none = none_at S rooms d.connections (flow / 2) b.holds.connections beyond in
         record {
           dump = d;
           leads = leads_more S events (start S written) (Closes flow cause) d d b.leads
-              (record { answers = no_answers; answered = tt; is = ap (closed_in S d flow cause) (sym none) });
+              (record {
+                answers = no_answers;
+                answered = tt;
+                is =
+                    ap (closed_in S d flow cause) (sym none);
+              });
           holds = b.holds;
         }
 
     -- ---- what happens in the capture
 
     pub packet_told : (now : Option ℕ) → Before →
-        HasTold S written (events ++ OfCapture (PacketArrives now) ∷ []) rooms out now streams messages faults cut
+        HasTold S written (events ++ OfCapture (PacketArrives now) ∷ []) rooms out now streams
+        messages faults cut
     packet_told now b =
         let d = b.dump in
         let h = b.holds in
         record {
           dump = record d { time = now };
-          leads = leads_more S events (start S written) (OfCapture (PacketArrives now)) d (record d { time = now }) b.leads
+          leads = leads_more S events (start S written) (OfCapture (PacketArrives now)) d
+              (record d { time = now }) b.leads
               (record { answers = no_answers; answered = tt; is = refl });
           holds = record {
             connections = h.connections;
@@ -331,19 +430,23 @@ module _ (S : Setup) (written : List ℕ) (events : List Event) where
           };
         }
 
-    pub fault_told : {A E : Type 0} (r : Result A E) (word : List ℕ) (place : ℕ) (tag : List ℕ) (set_out out' : Tagging) → Before →
+    pub fault_told : {A E : Type 0} (r : Result A E) (word : List ℕ) (place : ℕ) (tag : List ℕ)
+        (set_out out' : Tagging) → Before →
         set_out ≡ record out { tag = tag; due = length tag; since = 0 } → tag ≡ [] →
         Writes r (tagging_log set_out) (tagging_log out') (capture_fault_line word place) →
         MatchResult r
-        (λ _. HasTold S written (events ++ OfCapture (HasFault word place) ∷ []) rooms out' time streams messages faults true)
+        (λ _. HasTold S written (events ++ OfCapture (HasFault word place) ∷ []) rooms out' time
+        streams messages faults true)
         (λ _. HasToldFront S written (events ++ OfCapture (HasFault word place) ∷ []) out')
     fault_told r word place tag set_out out' b sets none writes =
         let d = b.dump in
         let h = b.holds in
         let line = capture_fault_line word place in
         let behind = record d { is_cut = true; text = d.text ++ line } in
-        told_or_front r d behind (OfCapture (HasFault word place)) rooms out' time streams messages faults true [] line b.leads
-        (record { answers = no_answers; answered = tt; is = refl }) (ap (λ (t : List ℕ). d.text ++ t) (sym (no_tag_is line)))
+        told_or_front r d behind (OfCapture (HasFault word place)) rooms out' time streams messages
+        faults true [] line b.leads
+        (record { answers = no_answers; answered = tt; is = refl })
+        (ap (λ (t : List ℕ). d.text ++ t) (sym (no_tag_is line)))
         (λ ready. record {
           connections = h.connections;
           ready = ready;
@@ -353,14 +456,18 @@ module _ (S : Setup) (written : List ℕ) (events : List Event) where
           faults_are = h.faults_are;
           cut_is = refl;
         })
-        (below_tag r out set_out out' d.text line tag [] h.ready sets none (capture_fault_ends word place) writes)
+        (below_tag r out set_out out' d.text line tag [] h.ready sets none
+        (capture_fault_ends word place) writes)
 
     -- ---- the end
 
-    pub finished : {A E : Type 0} (r : Result A E) (packets octets : ℕ) (tag : List ℕ) (set_out out' : Tagging) → Before →
+    pub finished : {A E : Type 0} (r : Result A E) (packets octets : ℕ) (tag : List ℕ)
+        (set_out out' : Tagging) → Before →
         set_out ≡ record out { tag = tag; due = length tag; since = 0 } → tag ≡ [] →
-        Writes r (tagging_log set_out) (tagging_log out') (capture_total_line streams messages faults packets octets) →
-        MatchResult r (λ _. HasFinished S written events packets octets out' (cut || nat_lt 0 faults))
+        Writes r (tagging_log set_out) (tagging_log out')
+        (capture_total_line streams messages faults packets octets) →
+        MatchResult r (λ _. HasFinished S written events packets octets out'
+        (cut || nat_lt 0 faults))
         (λ _. HasFinishedFront S written events packets octets out')
     finished r packets octets tag set_out out' b sets none writes =
         let d = b.dump in
@@ -370,19 +477,38 @@ module _ (S : Setup) (written : List ℕ) (events : List Event) where
         ap (λ n. capture_total_line n messages faults packets octets) h.streams_are
         ∙ (ap (λ n. capture_total_line d.streams n faults packets octets) h.messages_are
         ∙ ap (λ n. capture_total_line d.streams d.messages n packets octets) h.faults_are) in
-        let text : finished_text d packets octets ≡ d.text ++ with_tags [] line = ap (λ (t : List ℕ). d.text ++ t) (sym (no_tag_is line)) in
+        let text : finished_text d packets octets ≡ d.text ++ with_tags [] line =
+        ap (λ (t : List ℕ). d.text ++ t) (sym (no_tag_is line)) in
         let faulted : (cut || nat_lt 0 faults) ≡ (d.is_cut || nat_lt 0 d.faults) =
         ap (λ c. c || nat_lt 0 faults) h.cut_is ∙ ap (λ n. d.is_cut || nat_lt 0 n) h.faults_are in
         by r d line b.leads text faulted
-        (below_tag r out set_out out' d.text line tag [] h.ready sets none (capture_total_ends d.streams d.messages d.faults packets octets)
-        (subst (λ (l : List ℕ). Writes r (tagging_log set_out) (tagging_log out') l) line_is writes))
+        (below_tag r out set_out out' d.text line tag [] h.ready sets none
+        (capture_total_ends d.streams d.messages d.faults packets octets)
+        (subst (λ (l : List ℕ). Writes r (tagging_log set_out) (tagging_log out') l) line_is
+        writes))
       where
-        by : {A E : Type 0} (r : Result A E) (d : Dump) (line : List ℕ) → Leads S (start S written) events d →
+        by : {A E : Type 0} (r : Result A E) (d : Dump) (line : List ℕ) →
+            Leads S (start S written) events d →
             finished_text d packets octets ≡ d.text ++ with_tags [] line →
-            (cut || nat_lt 0 faults) ≡ (d.is_cut || nat_lt 0 d.faults) → WritesTagged r out' d.text [] line →
-            MatchResult r (λ _. HasFinished S written events packets octets out' (cut || nat_lt 0 faults))
+            (cut || nat_lt 0 faults) ≡ (d.is_cut || nat_lt 0 d.faults) →
+            WritesTagged r out' d.text [] line →
+            MatchResult r (λ _. HasFinished S written events packets octets out'
+            (cut || nat_lt 0 faults))
             (λ _. HasFinishedFront S written events packets octets out')
         by (Ok v) d line leads text faulted writes =
-            record { dump = d; leads = leads; ready = subst (IsReady out') (sym text) writes; faulted = faulted }
+            record {
+              dump = d;
+              leads = leads;
+              ready = subst (IsReady out') (sym text) writes;
+              faulted = faulted;
+            }
         by (Err v) d line leads text faulted writes =
-            record { dump = d; leads = leads; before = d.text; tag = []; lines = line; text = text; front = writes }
+            record {
+              dump = d;
+              leads = leads;
+              before = d.text;
+              tag = [];
+              lines = line;
+              text = text;
+              front = writes;
+            }

@@ -53,10 +53,12 @@ past_tag (Some w) (Some w') before tag since text line k is some first fits stan
     let none : length tag - length tag ≡ 0 = omega arith in
     let whole : w ++ tag ≡ w ++ take (length tag) (drop (length tag - length tag) tag) =
     rw none (ap (λ t. w ++ t) (sym (take_all (length tag) tag (omega arith)))) in
-    let behind = rw none at (tag_step_in (Some w) (Some (w ++ tag)) before tag since text (length tag)
+    let behind = rw none at (tag_step_in (Some w) (Some (w ++ tag)) before tag since text
+    (length tag)
     (length tag) stands some (omega arith) whole) in
     let sum : since + (length tag + k) ≡ since + length tag + k = omega arith in
-    rw sum (line_step_in (Some (w ++ tag)) (Some w') before tag (since + length tag) text line k behind
+    rw sum (line_step_in (Some (w ++ tag)) (Some w') before tag (since + length tag) text line k
+    behind
     first (rw (line_is_whole line is) fits) fits
     (appends ∙ sym (append_assoc w tag (take k line))))
 
@@ -68,11 +70,13 @@ whole_stands : (a b : Option (List ℕ)) (before tag : List ℕ) (since : ℕ) (
 whole_stands a b before tag since text line is some stands appends =
     let all = take_all (length line) line (omega arith) in
     let due : due_at tag line (length line) ≡ length tag = rw is.ended refl in
-    rw (all, due) at (past_tag a b before tag since text line (length line) is some is.some (omega arith)
+    rw (all, due) at (past_tag a b before tag since text line (length line) is some is.some
+    (omega arith)
     stands (rw all appends))
 
 -- not all of it was put
-front_stands : (a b : Option (List ℕ)) (before tag : List ℕ) (since : ℕ) (text line : List ℕ) (n : ℕ) →
+front_stands : (a b : Option (List ℕ)) (before tag : List ℕ) (since : ℕ) (text line : List ℕ)
+    (n : ℕ) →
     IsLine line → 0 < length tag → n < length tag + length line →
     StandsIn a before tag since text (length tag) → Appends a b (take n (tag ++ line)) →
     StandsIn b before tag (since + n) (text ++ take (n - length tag) line) (length tag - n)
@@ -85,12 +89,14 @@ front_stands a b before tag since text line n is some few stands appends =
           rw (is.only (k - 1) (omega (arith, past, few))) (omega (arith, past)) in
           let parts : take n (tag ++ line) ≡ tag ++ take k line =
           ap (λ m. take m (tag ++ line)) split ∙ take-append-add tag line k in
-          rw (← split, due) at (past_tag a b before tag since text line k is some (omega (arith, past))
+          rw (← split, due) at (past_tag a b before tag since text line k is some
+          (omega (arith, past))
           (omega (arith, past, few)) stands (rw parts at appends))
       | inr within ↦
           let none : n - length tag ≡ 0 = omega (arith, within) in
           let start : length tag - length tag ≡ 0 = omega arith in
-          rw (none, append-nil text) (tag_step_in a b before tag since text (length tag) n stands some within
+          rw (none, append-nil text) (tag_step_in a b before tag since text (length tag) n stands
+          some within
           (rw start (rw (take-append-le n tag line within) at appends)))
     ]
 
@@ -145,7 +151,8 @@ pub wrote_front : (a b : Option (List ℕ)) (tag line : List ℕ)
       puts = puts;
       failures = failures';
     })) line
-wrote_front a b tag line since since' due due' n puts failures failures' is some all left few appends more failed =
+wrote_front a b tag line since since' due due' n puts failures failures' is some all left few
+    appends more failed =
     let less : n < length tag + length line = omega (arith, few, length-append tag line) in
     let rest = take (n - length tag) line in
     record {

@@ -1,5 +1,7 @@
--- The text of a capture by its parts, one behind another (docs/FORMATS.md, Captures; meaning): lines of a stream, each with its
--- tag in front, and the fault of the capture. The lines that a stream has by itself are told from those beside them, which are of
+-- The text of a capture by its parts, one behind another (docs/FORMATS.md, Captures; meaning):
+-- lines of a stream, each with its
+-- tag in front, and the fault of the capture. The lines that a stream has by itself are told from
+-- those beside them, which are of
 -- five kinds.
 use Rattle.std.specs.Prelude.{◌≡◌, ℕ, ◌==◌, true, List, [], flat_map, Option, if◌then◌else◌}
 use Rattle.giop_calls.specs.declared.calls.Call.{Call}
@@ -49,7 +51,8 @@ own_lines (AnswersLine message call time) = []
 own_lines (RaisesLine message name) = []
 own_lines (ClosedLine cause) = []
 
--- lines of the stream of this number, or the fault of the capture, of this word, at the octet of this number
+-- lines of the stream of this number, or the fault of the capture, of this word, at the octet of
+-- this number
 pub data Part : Type 0 where
   OfStream : ℕ → StreamPart → Part
   FaultLine : List ℕ → ℕ → Part
@@ -72,7 +75,8 @@ abbrev pub of_stream : (StreamPart → List ℕ) → ℕ → Part → List ℕ
 of_stream lines number (OfStream n part) = if n == number then lines part else []
 of_stream lines number (FaultLine word at) = []
 
--- the lines that the stream of this number has by itself, without the tag: where octets of it are read,
+-- the lines that the stream of this number has by itself, without the tag: where octets of it are
+-- read,
 abbrev pub read_of : ℕ → List Part → List ℕ
 read_of number parts = flat_map (of_stream read_lines number) parts
 

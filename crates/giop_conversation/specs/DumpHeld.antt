@@ -1,4 +1,5 @@
--- Which dump the connections of a capture hold: what is written of them, and what they know of their streams and calls (state).
+-- Which dump the connections of a capture hold: what is written of them, and what they know of
+-- their streams and calls (state).
 use Rattle.std.specs.Prelude.{◌≡◌, ℕ, List, [], ◌∷◌, ◌++◌, Bool, ◌||◌, nat_lt, Option, Result, MatchResult}
 use Rattle.tcp_flow.specs.Flow.{Event}
 use Rattle.giop_message.specs.Signatures.{Answers}
@@ -31,18 +32,20 @@ pub record HoldsConnection (S : Setup) (r : Conversation) (c : Connection) : Typ
   pub odd : HoldsSide S r.odd c.odd
   pub calls : HasCalls r.parity r.exchange c
 
--- The octets of a flow were read by answers that are those of the calls: it holds the connection behind them, and below stand
+-- The octets of a flow were read by answers that are those of the calls: it holds the connection
+-- behind them, and below stand
 -- their lines, each with the tag of the stream; or a front of them, where a put failed.
 pub record ReadsBy {A E : Type 0} (S : Setup) (c : Connection) (parity : Parity) (octets : List ℕ)
-    (time : Option ℕ) (w : List ℕ) (result : Result A E) (r : Conversation) (out : Tagging) : Type 0 where
-  pub answers : Answers
-  pub answered : IsAnswered S answers parity octets time c
-  pub reads : MatchResult result
-      (λ _. HoldsConnection S r (delivered S answers parity octets time c)
-      × IsReady out (w ++ with_tags (stream_tag (side parity c).stream)
-      (delivered_lines S answers parity octets time c)))
-      (λ _. WroteTaggedFront out w (stream_tag (side parity c).stream)
-      (delivered_lines S answers parity octets time c))
+    (time : Option ℕ) (w : List ℕ) (result : Result A E) (r : Conversation) (out : Tagging) : Type 0
+  where
+    pub answers : Answers
+    pub answered : IsAnswered S answers parity octets time c
+    pub reads : MatchResult result
+        (λ _. HoldsConnection S r (delivered S answers parity octets time c)
+        × IsReady out (w ++ with_tags (stream_tag (side parity c).stream)
+        (delivered_lines S answers parity octets time c)))
+        (λ _. WroteTaggedFront out w (stream_tag (side parity c).stream)
+        (delivered_lines S answers parity octets time c))
 
 -- each does
 abbrev pub AreHeld : Setup → List Conversation → List Connection → Type 0
@@ -51,7 +54,8 @@ AreHeld S [] (c ∷ cs) = ⊥
 AreHeld S (r ∷ rs) [] = ⊥
 AreHeld S (r ∷ rs) (c ∷ cs) = HoldsConnection S r c × AreHeld S rs cs
 
--- Connections, what they wrote through an out with tags, the time of the packet that is read, and the sums over the streams are
+-- Connections, what they wrote through an out with tags, the time of the packet that is read, and
+-- the sums over the streams are
 -- those of a dump.
 pub record HoldsDump (S : Setup) (rooms : List Conversation) (out : Tagging) (time : Option ℕ)
     (streams messages faults : ℕ) (cut : Bool) (d : Dump) : Type 0 where
@@ -63,15 +67,19 @@ pub record HoldsDump (S : Setup) (rooms : List Conversation) (out : Tagging) (ti
   pub faults_are : faults ≡ d.faults
   pub cut_is : cut ≡ d.is_cut
 
--- The events lead from the start, where this was written below, to such a dump: all of its text was written, and no more.
-pub record HasTold (S : Setup) (written : List ℕ) (events : List Event) (rooms : List Conversation) (out : Tagging)
+-- The events lead from the start, where this was written below, to such a dump: all of its text was
+-- written, and no more.
+pub record HasTold (S : Setup) (written : List ℕ) (events : List Event) (rooms : List Conversation)
+    (out : Tagging)
     (time : Option ℕ) (streams messages faults : ℕ) (cut : Bool) : Type 0 where
   pub dump : Dump
   pub leads : Leads S (start S written) events dump
   pub holds : HoldsDump S rooms out time streams messages faults cut dump
 
--- A put failed: of the text that the events lead to a front was written, and maybe the beginning of a tag.
-pub record HasToldFront (S : Setup) (written : List ℕ) (events : List Event) (out : Tagging) : Type 0 where
+-- A put failed: of the text that the events lead to a front was written, and maybe the beginning of
+-- a tag.
+pub record HasToldFront (S : Setup) (written : List ℕ) (events : List Event) (out : Tagging) : Type
+    0 where
   pub dump : Dump
   pub leads : Leads S (start S written) events dump
   pub before : List ℕ
@@ -80,8 +88,10 @@ pub record HasToldFront (S : Setup) (written : List ℕ) (events : List Event) (
   pub text : dump.text ≡ before ++ with_tags tag lines
   pub front : WroteTaggedFront out before tag lines
 
--- The text of the events was written, and the last line of the capture. Whether anything is to be told of it at the end.
-pub record HasFinished (S : Setup) (written : List ℕ) (events : List Event) (packets octets : ℕ) (out : Tagging)
+-- The text of the events was written, and the last line of the capture. Whether anything is to be
+-- told of it at the end.
+pub record HasFinished (S : Setup) (written : List ℕ) (events : List Event) (packets octets : ℕ)
+    (out : Tagging)
     (is_faulted : Bool) : Type 0 where
   pub dump : Dump
   pub leads : Leads S (start S written) events dump
@@ -89,7 +99,8 @@ pub record HasFinished (S : Setup) (written : List ℕ) (events : List Event) (p
   pub faulted : is_faulted ≡ (dump.is_cut || nat_lt 0 dump.faults)
 
 -- a front of that, where a put failed
-pub record HasFinishedFront (S : Setup) (written : List ℕ) (events : List Event) (packets octets : ℕ)
+pub record HasFinishedFront (S : Setup) (written : List ℕ) (events : List Event)
+    (packets octets : ℕ)
     (out : Tagging) : Type 0 where
   pub dump : Dump
   pub leads : Leads S (start S written) events dump

@@ -40,14 +40,17 @@ others_found id other (e ∷ es) apart =
 
 -- a call with another in its place
 fits_still : (C table : Table) (id other : ℕ) (es : List (Entry Call)) →
-    IfSome (option_and_then (λ call. operation_in table call.name.items) (option_map (λ e. e.value) (find (λ e. e.key == other) es)))
+    IfSome (option_and_then (λ call. operation_in table call.name.items)
+    (option_map (λ e. e.value) (find (λ e. e.key == other) es)))
     (λ o. o.0 < length C.operations) →
-    IfSome (option_and_then (λ call. operation_in table call.name.items) (option_map (λ e. e.value) (find (λ e. e.key == other) (without id es))))
+    IfSome (option_and_then (λ call. operation_in table call.name.items)
+    (option_map (λ e. e.value) (find (λ e. e.key == other) (without id es))))
     (λ o. o.0 < length C.operations)
 fits_still C table id other es fits = by (other == id) refl
   where
     by : (b : Bool) → (other == id) ≡ b →
-        IfSome (option_and_then (λ call. operation_in table call.name.items) (option_map (λ e. e.value) (find (λ e. e.key == other) (without id es))))
+        IfSome (option_and_then (λ call. operation_in table call.name.items)
+        (option_map (λ e. e.value) (find (λ e. e.key == other) (without id es))))
         (λ o. o.0 < length C.operations)
     by true is =
         let same : other ≡ id = eqb-true _ _ is in
@@ -57,19 +60,23 @@ fits_still C table id other es fits = by (other == id) refl
 pub known_still : (C : Table) (s : Exchanged) (event : CallEvent) → AreKnown C (answer_of s) →
     HasKnownOperation C event → AreKnown C (answer_of (notified s event))
 known_still C s (Requested number id name operation expects) known fits = known
-known_still C s (Replied number id) known fits = λ other. fits_still C s.table id other s.opposite.entries (known other)
+known_still C s (Replied number id) known fits =
+    λ other. fits_still C s.table id other s.opposite.entries (known other)
 known_still C s (Raised number name) known fits = known
 
 -- an operation of a name is one of the table
-in_table : (C : Table) (name : List ℕ) → IfSome (operation_in C name) (λ o. o.0 < length C.operations)
+in_table : (C : Table) (name : List ℕ) →
+    IfSome (operation_in C name) (λ o. o.0 < length C.operations)
 in_table C name = by (operation_number C name) refl
   where
-    by : (o : Option ℕ) → operation_number C name ≡ o → IfSome (option_map op_id o) (λ o. o.0 < length C.operations)
+    by : (o : Option ℕ) → operation_number C name ≡ o →
+        IfSome (option_map op_id o) (λ o. o.0 < length C.operations)
     by None is = tt
     by (Some i) is = (position-Some _ _ i no_operation is).0
 
 by_call : (C : Table) (o : Option Call) →
-    IfSome (option_and_then (λ call. operation_in C call.name.items) o) (λ o. o.0 < length C.operations)
+    IfSome (option_and_then (λ call. operation_in C call.name.items) o)
+    (λ o. o.0 < length C.operations)
 by_call C None = tt
 by_call C (Some call) = in_table C call.name.items
 

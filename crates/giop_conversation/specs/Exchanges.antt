@@ -1,5 +1,7 @@
--- The calls of a connection, as the correspondent of a stream of it knows them (meaning). Of both directions the calls are kept
--- that have no reply yet: those of the stream that is read, and those of the opposite one, which its Replies answer.
+-- The calls of a connection, as the correspondent of a stream of it knows them (meaning). Of both
+-- directions the calls are kept
+-- that have no reply yet: those of the stream that is read, and those of the opposite one, which
+-- its Replies answer.
 use Rattle.std.specs.Prelude.{ℕ, ◌&&◌, ◌==◌, Bool, List, [], ◌∷◌, ◌++◌, length, Option, Some, None, nat_le, option_and_then, if◌then◌else◌}
 use Rattle.std.specs.List.{find}
 use Rattle.std.specs.Option.{option_map}
@@ -40,7 +42,8 @@ call_of calls id = option_map (λ e. e.value) (find (λ e. e.key == id) calls.en
 
 -- a Reply of an id has results of the operation of the call that it answers
 abbrev pub answer_of : Exchanged → Answer
-answer_of s id = option_and_then (λ call. operation_in s.table call.name.items) (call_of s.opposite id)
+answer_of s id = option_and_then (λ call. operation_in s.table call.name.items)
+    (call_of s.opposite id)
 
 -- the name by which a call is kept: one that a call line shows, where a reply is expected
 abbrev pub kept_name : Option (List ℕ) → Bool → Option (List ℕ)
@@ -48,7 +51,13 @@ kept_name None expects = None
 kept_name (Some name) expects = if expects && nat_le (length name) 128 then Some name else None
 
 abbrev pub call_named : Exchanged → ℕ → List ℕ → Call
-call_named s number name = record { name = record { items = name }; stream = s.stream; message = number; time = s.time }
+call_named s number name = record {
+  name = record { items = name };
+  stream = s.stream;
+  message =
+      number;
+  time = s.time;
+}
 
 -- the calls of the stream behind a Request of this number and id: an older one of its id goes
 abbrev pub requested : Exchanged → ℕ → ℕ → Option (List ℕ) → Entries Call

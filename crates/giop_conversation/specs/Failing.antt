@@ -1,4 +1,5 @@
--- When a call that writes to an out with tags fails: where a put of that does, and only there (meaning).
+-- When a call that writes to an out with tags fails: where a put of that does, and only there
+-- (meaning).
 use Rattle.std.specs.Prelude.{◌≡◌, ◌<◌, Result, MatchResult}
 use Rattle.giop_print.specs.Output.{counted}
 use Rattle.giop_conversation.specs.TaggedState.{Tagging}

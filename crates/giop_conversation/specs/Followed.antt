@@ -1,5 +1,7 @@
--- The streams of a capture by what has happened in its flows (meaning), and which connections have read them (state). A
--- connection has two flows, and its directions are those of the one with an even id and of the other.
+-- The streams of a capture by what has happened in its flows (meaning), and which connections have
+-- read them (state). A
+-- connection has two flows, and its directions are those of the one with an even id and of the
+-- other.
 use Rattle.std.specs.Prelude.{ℕ, ◌/◌, ◌%◌, ◌==◌, Bool, true, false, List, [], ◌∷◌, ◌++◌, Option, IfSome, is_some, slice_get, if◌then◌else◌}
 use Rattle.std.specs.Option.{option_map}
 use Rattle.tcp_flow.specs.Flow.{Event, Begins, Delivers}
@@ -33,7 +35,8 @@ abbrev pub is_stopped : Status → Bool
 is_stopped Running = false
 is_stopped (Stopped fault) = true
 
--- whether octets were delivered in an event, and the stream that they are of has a stream fault behind all of these events
+-- whether octets were delivered in an event, and the stream that they are of has a stream fault
+-- behind all of these events
 abbrev pub is_at_fault : List Event → Event → Bool
 is_at_fault events (Delivers id octets) = is_some (cut (octets_of id events)).stop
 is_at_fault events _ = false

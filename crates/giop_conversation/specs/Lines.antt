@@ -1,4 +1,5 @@
--- The lines of a capture beside those of its streams (docs/FORMATS.md; meaning). Those of a stream have its tag in front (Tags).
+-- The lines of a capture beside those of its streams (docs/FORMATS.md; meaning). Those of a stream
+-- have its tag in front (Tags).
 use Rattle.std.specs.Prelude.{ℕ, List, [], ◌∷◌, Option, codes, decimal}
 use Rattle.giop_print.specs.Text.{joined}
 use Rattle.giop_calls.specs.declared.calls.Call.{Call}

@@ -1,6 +1,9 @@
--- The lines of a stream in a capture, without its tag (docs/FORMATS.md, Captures; meaning): those that the stream has by itself,
--- and behind the lines of an octet those that are due there: when a message began, where that octet is the 12th of its header,
--- which call a Reply answers, where the Reply's header ends, and which exception it raises, where the exception's name ends.
+-- The lines of a stream in a capture, without its tag (docs/FORMATS.md, Captures; meaning): those
+-- that the stream has by itself,
+-- and behind the lines of an octet those that are due there: when a message began, where that octet
+-- is the 12th of its header,
+-- which call a Reply answers, where the Reply's header ends, and which exception it raises, where
+-- the exception's name ends.
 use Rattle.std.specs.Prelude.{ℕ, List, [], ◌∷◌, ◌++◌, length, Option, Some, None, nat_lt, if◌then◌else◌}
 use Rattle.giop_message.specs.HeaderEnds.{after_ends}
 use Rattle.giop_stream.specs.Rules.{Rules}
@@ -43,7 +46,8 @@ told R s p octets = after_ends notified s.table s (header_ends_from R p octets)
 abbrev pub taken : Exchanged → Exchanged
 taken s = record s { answered = None; raised = None }
 
--- the lines that are due behind these octets after the stream p, which came in a packet of the time that the exchange has
+-- the lines that are due behind these octets after the stream p, which came in a packet of the time
+-- that the exchange has
 unfoldable pub lines_due : Rules → Exchanged → List ℕ → List ℕ → List ℕ
 lines_due R s p octets =
     time_due p octets s.time
@@ -54,7 +58,8 @@ unfoldable pub exchanged : Rules → Exchanged → List ℕ → List ℕ → Exc
 exchanged R s p [] = s
 exchanged R s p (x ∷ xs) = exchanged R (taken (told R s p (x ∷ []))) (p ++ x ∷ []) xs
 
--- what is written of these octets after the stream p: behind the lines of each octet those that are due there
+-- what is written of these octets after the stream p: behind the lines of each octet those that are
+-- due there
 unfoldable pub stamped : Rules → Exchanged → List ℕ → List ℕ → List ℕ
 stamped R s p [] = []
 stamped R s p (x ∷ xs) =

@@ -10,7 +10,8 @@ use Rattle.giop_conversation.specs.Tags.{with_tags}
 use Rattle.giop_conversation.specs.TaggedState.{Tagging, tagging_log, IsReady, WroteTaggedFront}
 use Rattle.giop_conversation.specs.Exchanges.{Exchanged, answer_of, notified}
 
--- These answers agree with the calls of the connection at each header that ends in these octets after the stream p: each Reply
+-- These answers agree with the calls of the connection at each header that ends in these octets
+-- after the stream p: each Reply
 -- has results of the operation of the call that it answers.
 abbrev pub AgreeWith : EngineView → Answers → Exchanged → List ℕ → List ℕ → Type 0
 AgreeWith e a s p octets =
@@ -24,9 +25,18 @@ pub record IsSetAlike (e before : EngineView) : Type 0 where
 -- the calls of the connection, as a stream of this number is read in a packet of this time
 abbrev pub reading_in : EngineView → ℕ → Option ℕ → Exchanged → Exchanged
 reading_in e stream time s =
-    record s { table = e.table; stream = stream; time = time; replied = 0; answered = None; raised = None }
+    record s {
+      table = e.table;
+      stream = stream;
+      time = time;
+      replied = 0;
+      answered = None;
+      raised =
+          None;
+    }
 
--- The engine holds the stream p, these lines were written through the out with tags, and the calls are these.
+-- The engine holds the stream p, these lines were written through the out with tags, and the calls
+-- are these.
 pub record HasCome (e : EngineView) (a : Answers) (p : List ℕ) (before after : Tagging)
     (lines : List ℕ) (calls due : Exchanged) : Type 0 where
   pub holds : HoldsBy e a p
@@ -40,8 +50,10 @@ pub record HasStood (e : EngineView) (a : Answers) (p : List ℕ) (after : Taggi
   pub ready : IsReady after below
   pub told : calls ≡ due
 
--- Behind what was written to the out below there stand these lines, each with the tag in front; or a front of them, and maybe the
+-- Behind what was written to the out below there stand these lines, each with the tag in front; or
+-- a front of them, and maybe the
 -- beginning of a tag, where a put failed.
 abbrev pub WritesTagged : {A E : Type 0} → Result A E → Tagging → List ℕ → List ℕ → List ℕ → Type 0
 WritesTagged result after w tag lines =
-    MatchResult result (λ _. IsReady after (w ++ with_tags tag lines)) (λ _. WroteTaggedFront after w tag lines)
+    MatchResult result (λ _. IsReady after (w ++ with_tags tag lines))
+    (λ _. WroteTaggedFront after w tag lines)

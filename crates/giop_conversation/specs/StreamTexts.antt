@@ -1,4 +1,5 @@
--- What has happened in each stream of a capture, by all events, and that its lines in the capture's text are giopdump's but for
+-- What has happened in each stream of a capture, by all events, and that its lines in the capture's
+-- text are giopdump's but for
 -- those of five kinds (docs/FORMATS.md, Captures; meaning). A stream is named by its number.
 use Rattle.std.specs.Prelude.{◌≡◌, ℕ, ◌<◌, ◌^◌, ◌-◌, ◌/◌, ◌==◌, Bool, true, false, ◌||◌, nat_lt, List, [], ◌∷◌, ◌++◌, Option, None, if◌then◌else◌}
 use Rattle.std.specs.List.{AllByRecursion as Each}
@@ -64,20 +65,23 @@ happened S a h (Closes id cause) =
     with_stream h (h.stream_of id) (closed (h.stream (h.stream_of id)))
 happened S a h (OfCapture event) = h
 
--- behind all events, which lead from one dump to another: in each of them octets are read by its answers
+-- behind all events, which lead from one dump to another: in each of them octets are read by its
+-- answers
 abbrev pub history : (S : Setup) → History → (d : Dump) → (events : List Event) → (behind : Dump) →
     Leads S d events behind → History
 history S h d [] behind leads = h
 history S h d (e ∷ es) behind leads =
     history S (happened S leads.1.answers h e) leads.0 es behind leads.2
 
--- The lines that a stream has by itself are giopdump's: those where its octets are read are its text, and all of them with those
+-- The lines that a stream has by itself are giopdump's: those where its octets are read are its
+-- text, and all of them with those
 -- at its end are what giopdump writes, unless it goes on behind its close.
 pub record IsDumped (S : Setup) (s : StreamHistory) (reads own : List ℕ) : Type 0 where
   pub reads_are : reads ≡ text (rules_in S s.answers) s.octets
   pub own_are : s.goes_on ≡ false → own ≡ dumped (rules_in S s.answers) s
 
--- Octets come in each flow, and a stream of it closes, only while one lives there, as in a flow without a gap (tcp_flow, Laws).
+-- Octets come in each flow, and a stream of it closes, only while one lives there, as in a flow
+-- without a gap (tcp_flow, Laws).
 abbrev pub AreGapless : List Event → Type 0
 AreGapless events =
     (flow : ℕ) → (payloads : _) × (due : Option ℕ) × AllFollow payloads flow None events due
@@ -86,7 +90,8 @@ AreGapless events =
 abbrev pub IsUnique : ℕ → Type 0
 IsUnique number = (0 < number) × (number < 2 ^ 64 - 1)
 
--- Behind what was written before, the text is parts, each of whole lines. Those that a stream has by itself are giopdump's.
+-- Behind what was written before, the text is parts, each of whole lines. Those that a stream has
+-- by itself are giopdump's.
 pub record ShowsStreams (S : Setup) (written : List ℕ) (h : History) (all : List ℕ) : Type 0 where
   pub parts : List Part
   pub whole : Each IsWhole parts

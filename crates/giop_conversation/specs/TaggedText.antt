@@ -22,7 +22,8 @@ pub record IsLine (octets : List ℕ) : Type 0 where
   pub ended : (slice_index octets (length octets - 1) == 10) ≡ true
   pub only : (k : ℕ) → k + 1 < length octets → (slice_index octets k == 10) ≡ false
 
--- the text with tags, and all but `due` octets of the tag of the line behind it, where one begins there
+-- the text with tags, and all but `due` octets of the tag of the line behind it, where one begins
+-- there
 unfoldable pub stopped_at : List ℕ → List ℕ → ℕ → List ℕ
 stopped_at tag text due = with_tags tag text ++ take (length tag - due) (lead (is_due text) tag)
 

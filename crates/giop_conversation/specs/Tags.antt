@@ -1,4 +1,5 @@
--- Lines with a tag in front of each, as those of a stream in a capture (docs/FORMATS.md; meaning). A line ends in LF.
+-- Lines with a tag in front of each, as those of a stream in a capture (docs/FORMATS.md; meaning).
+-- A line ends in LF.
 use Rattle.std.specs.Prelude.{ℕ, zero, suc, Bool, true, false, ◌==◌, List, [], ◌∷◌, ◌++◌, if◌then◌else◌, codes, decimal}
 
 -- the tag of a stream, by its number
@@ -10,7 +11,8 @@ abbrev pub lead : Bool → List ℕ → List ℕ
 lead true tag = tag
 lead false tag = []
 
--- the text with the tag in front of each line that begins in it, where its first octet is the first of a line or isn't
+-- the text with the tag in front of each line that begins in it, where its first octet is the first
+-- of a line or isn't
 unfoldable pub tagged : Bool → List ℕ → List ℕ → List ℕ
 tagged first tag [] = []
 tagged first tag (x ∷ xs) = lead first tag ++ x ∷ tagged (x == 10) tag xs
@@ -19,7 +21,8 @@ tagged first tag (x ∷ xs) = lead first tag ++ x ∷ tagged (x == 10) tag xs
 abbrev pub with_tags : List ℕ → List ℕ → List ℕ
 with_tags tag text = tagged true tag text
 
--- the text without its first `skip` octets and without the first `size` octets of each line that begins in it
+-- the text without its first `skip` octets and without the first `size` octets of each line that
+-- begins in it
 unfoldable pub untagged : ℕ → ℕ → List ℕ → List ℕ
 untagged skip size [] = []
 untagged zero size (x ∷ xs) = x ∷ untagged (if x == 10 then size else 0) size xs

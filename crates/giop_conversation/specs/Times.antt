@@ -1,4 +1,5 @@
--- Times and spans of time as text (RFC 3339, Internet Date/Time Format; docs/FORMATS.md; meaning). A time is nanoseconds since
+-- Times and spans of time as text (RFC 3339, Internet Date/Time Format; docs/FORMATS.md; meaning).
+-- A time is nanoseconds since
 -- 1970-01-01 UTC, without leap seconds.
 use Rattle.std.specs.Prelude.{ℕ, zero, suc, ◌+◌, ◌-◌, ◌*◌, ◌/◌, ◌%◌, ◌^◌, List, [], ◌∷◌, ◌++◌, Option, Some, None, nat_le, nat_lt, if◌then◌else◌, codes, decimal}
 use Rattle.httpdate.specs.Calendar.{days_of_years, days_of_months}
@@ -29,7 +30,8 @@ month_and_day year days =
     two_digits (months_of year days + 1) ++ (codes "-"
     ++ two_digits (days - days_of_months year (months_of year days) + 1))
 
--- a day of the Gregorian calendar, by the whole years from 1970 on and the days of the year before it: `2026-11-23`
+-- a day of the Gregorian calendar, by the whole years from 1970 on and the days of the year before
+-- it: `2026-11-23`
 unfoldable pub day_text : ℕ → ℕ → List ℕ
 day_text passed days =
     four_digits (1970 + passed) ++ (codes "-" ++ month_and_day (1970 + passed) days)

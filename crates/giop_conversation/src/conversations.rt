@@ -121,7 +121,8 @@ impl<'a, O: Out + Drop> Conversations<'a, O> {
     /// The time of the packet that is read, in nanoseconds since 1970-01-01 UTC.
     pub fn set_time(&mut self, time: Option<u128>)
         ensures value { self.new ≡ record self.old { time = time } }
-        ensures told { (S : Setup) (written : List ℕ) (events : List Event) → Told S written events self.old →
+        ensures told { (S : Setup) (written : List ℕ) (events : List Event) →
+            Told S written events self.old →
             Told S written (events ++ OfCapture (PacketArrives time) ∷ []) self.new }
     {
         self.time = time;
@@ -132,7 +133,8 @@ impl<'a, O: Out + Drop> Conversations<'a, O> {
         ensures follows { (events : List Event) → Follows self.old events →
             Follows self.new (events ++ Opens flow endpoints ∷ []) }
         ensures out { self.new.out ≡ self.old.out }
-        ensures told { (S : Setup) (written : List ℕ) (events : List Event) → Told S written events self.old →
+        ensures told { (S : Setup) (written : List ℕ) (events : List Event) →
+            Told S written events self.old →
             Told S written (events ++ Opens flow endpoints ∷ []) self.new }
     {
         match self.rooms.get_mut(flow as usize / 2) {
@@ -175,8 +177,10 @@ impl<'a, O: Out + Drop> Conversations<'a, O> {
             Follows self.new (events ++ Delivers flow octets.now ∷ [])
             × (at_fault ≡ reader_faulted (events ++ Delivers flow octets.now ∷ []))) }
         // Below stands the text of all events, or a front of it.
-        ensures told { (S : Setup) (written : List ℕ) (events : List Event) → Told S written events self.old →
-            MatchResult result (λ _. Told S written (events ++ Delivers flow octets.now ∷ []) self.new)
+        ensures told { (S : Setup) (written : List ℕ) (events : List Event) →
+            Told S written events self.old →
+            MatchResult result (λ _. Told S written (events ++ Delivers flow octets.now ∷ [])
+            self.new)
             (λ _. HasToldFront S written (events ++ Delivers flow octets.now ∷ []) self.new.out) }
         ensures fails { FailsOnce result self.new.out }
         // Once a put has failed nothing is written.
@@ -200,7 +204,8 @@ impl<'a, O: Out + Drop> Conversations<'a, O> {
         ensures follows { (events : List Event) → Follows self.old events →
             OnOk result (Follows self.new (events ++ Closes flow cause ∷ [])) }
         // Below stands the text of all events, or a front of it.
-        ensures told { (S : Setup) (written : List ℕ) (events : List Event) → Told S written events self.old →
+        ensures told { (S : Setup) (written : List ℕ) (events : List Event) →
+            Told S written events self.old →
             MatchResult result (λ _. Told S written (events ++ Closes flow cause ∷ []) self.new)
             (λ _. HasToldFront S written (events ++ Closes flow cause ∷ []) self.new.out) }
         ensures fails { FailsOnce result self.new.out }
@@ -229,9 +234,12 @@ impl<'a, O: Out + Drop> Conversations<'a, O> {
         ensures follows { (events : List Event) → Follows self.old events →
             OnOk result (Follows self.new events) }
         // Below stands the text of all events, or a front of it.
-        ensures told { (S : Setup) (written : List ℕ) (events : List Event) → Told S written events self.old →
-            MatchResult result (λ _. Told S written (events ++ OfCapture (HasFault word.now at) ∷ []) self.new)
-            (λ _. HasToldFront S written (events ++ OfCapture (HasFault word.now at) ∷ []) self.new.out) }
+        ensures told { (S : Setup) (written : List ℕ) (events : List Event) →
+            Told S written events self.old →
+            MatchResult result (λ _. Told S written
+            (events ++ OfCapture (HasFault word.now at) ∷ []) self.new)
+            (λ _. HasToldFront S written (events ++ OfCapture (HasFault word.now at) ∷ [])
+            self.new.out) }
         ensures fails { FailsOnce result self.new.out }
         // Once a put has failed nothing is written.
         ensures still { 0 < self.old.out.failures → self.new.out ≡ self.old.out }
@@ -253,7 +261,8 @@ impl<'a, O: Out + Drop> Conversations<'a, O> {
         ensures value { IfOk result (λ is_faulted.
             is_faulted ≡ (self.old.cut || nat_lt 0 self.old.totals.faults)) }
         // Below stands the text of all events, and then the last line; or a front of them.
-        ensures told { (S : Setup) (written : List ℕ) (events : List Event) → Told S written events self.old →
+        ensures told { (S : Setup) (written : List ℕ) (events : List Event) →
+            Told S written events self.old →
             MatchResult result
             (λ is_faulted. HasFinished S written events packets octets self.new.out is_faulted)
             (λ _. HasFinishedFront S written events packets octets self.new.out) }

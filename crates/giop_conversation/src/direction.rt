@@ -213,7 +213,8 @@ impl<'a> Direction<'a> {
             IfOk result (λ s. s ≡ status_of (fault_of (cut (p ++ octets.now)).stop)) }
         // By answers that agree with the calls of the connection, below stand the lines of the octets, each with the tag of the
         // stream, or a front of them; and the calls are those behind the octets.
-        ensures text { (a : Answers) (p w : List ℕ) → HoldsBy self.old.engine a p → IsReady out.old w →
+        ensures text { (a : Answers) (p w : List ℕ) → HoldsBy self.old.engine a p →
+            IsReady out.old w →
             (let calls = reading_in self.old.engine self.old.stream time exchange.old in
             let lines = stamped (rules_with self.old.engine a) calls p octets.now in
             let tag = spec_stream_tag self.old.stream in
@@ -246,7 +247,8 @@ impl<'a> Direction<'a> {
     pub fn close<O: Out>(&self, cause: CloseCause, out: &mut Tagged<O>) -> Result<Totals, OutFault>
         ensures fails { FailsByPut result out.old out.new }
         // Below stand why, and then the closing, each line with the tag of the stream; or a front of them.
-        ensures text { (a : Answers) (p w : List ℕ) → HoldsBy self.now.engine a p → IsReady out.old w →
+        ensures text { (a : Answers) (p w : List ℕ) → HoldsBy self.now.engine a p →
+            IsReady out.old w →
             WritesTagged result out.new w (spec_stream_tag self.now.stream)
             (spec_closed_line cause ++ closing (rules_with self.now.engine a) p) }
         ensures totals { (a : Answers) (p : List ℕ) → HoldsBy self.now.engine a p →
@@ -295,7 +297,8 @@ fn write_answered<O: Out>(
     out: &mut O,
 ) -> Result<(), OutFault>
     ensures { Writes result (O.log out.old) (O.log out.new)
-        (answers_due (option_map (λ a. record { message = a.message; call = a.call }) answered) time) }
+        (answers_due (option_map (λ a. record { message = a.message; call = a.call }) answered)
+        time) }
 {
     match answered {
         Some(answered) => answers_line(out, answered.message, &answered.call, time),
@@ -323,7 +326,8 @@ fn write_reply<O: Out>(
 ) -> Result<(), OutFault>
     ensures { Writes result (O.log out.old) (O.log out.new)
         (answers_due (option_map (λ a. record { message = a.message; call = a.call }) answered) time
-        ++ raises_due (option_map (λ r. record { message = r.message; name = r.name.items }) raised)) }
+        ++ raises_due (option_map (λ r. record { message = r.message; name = r.name.items })
+        raised)) }
 {
     match write_answered(answered, time, out) {
         Ok(()) => write_raised(raised, out),

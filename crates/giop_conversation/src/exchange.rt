@@ -135,7 +135,8 @@ impl<'a> Exchange<'a> {
 
     /// What the last Reply answers; it is handed out once.
     pub fn take_answered(&mut self) -> Option<Answering>
-        ensures value { option_map (λ a. record { message = a.message; call = a.call }) result ≡ self.old.answered }
+        ensures value { option_map (λ a. record { message = a.message; call = a.call }) result
+            ≡ self.old.answered }
         ensures taken { self.new ≡ record self.old { answered = None } }
     {
         self.answered.take()
@@ -143,7 +144,8 @@ impl<'a> Exchange<'a> {
 
     /// The last exception that a Reply raises; it is handed out once.
     pub fn take_raised(&mut self) -> Option<Raising>
-        ensures value { option_map (λ r. record { message = r.message; name = r.name.items }) result ≡ self.old.raised }
+        ensures value { option_map (λ r. record { message = r.message; name = r.name.items }) result
+            ≡ self.old.raised }
         ensures taken { self.new ≡ record self.old { raised = None } }
     {
         self.raised.take()

@@ -223,7 +223,8 @@ fn one_more(count: u64) -> u64
 #[tactic(auto, using(crate::proofs::TaggedLemmas::keeps_same))]
 fn put_counted<O: Out>(out: &mut O, since: &mut u64, octets: &[u8]) -> Result<usize, OutFault>
     ensures { MatchResult result
-        (λ n. PutSome (O.log out.old).written (O.log out.new).written octets.now since.old since.new n)
+        (λ n. PutSome (O.log out.old).written (O.log out.new).written octets.now since.old since.new
+        n)
         (λ _. PutNothing (O.log out.old).written (O.log out.new).written since.old since.new) }
 {
     if octets.len() as u64 > u64::MAX - *since {

@@ -54,8 +54,10 @@ fn days_of_years(passed: u16) -> u32
 /// The whole years from 1970 on that so many days make, and the days that are left; none from the year 10000 on.
 fn years_of(days: u128) -> Option<(u16, u16)>
     ensures { MatchOption result (calendar.days_of_years years ≤ days)
-        (λ found. (days < calendar.days_of_years years) × (found.0 ≡ years_of days) × (found.0 < years)
-        × (found.1 ≡ days - calendar.days_of_years found.0) × (found.1 < calendar.days_in_year (1970 + found.0))) }
+        (λ found. (days < calendar.days_of_years years) × (found.0 ≡ years_of days)
+        × (found.0 < years)
+        × (found.1 ≡ days - calendar.days_of_years found.0)
+        × (found.1 < calendar.days_in_year (1970 + found.0))) }
 {
     let Ok(whole) = u32::try_from(days) else {
         return None;

@@ -53,10 +53,12 @@ stays_known C s (Replied number gone) known id = by (id == gone) refl
     by false is = rw (other_found id gone s.theirs.entries is) (known id)
 
 -- an operation of a name is one of the table
-in_table : (C : Table) (name : List ℕ) → IfSome (operation_in C name) (λ o. o.0 < length C.operations)
+in_table : (C : Table) (name : List ℕ) →
+    IfSome (operation_in C name) (λ o. o.0 < length C.operations)
 in_table C name = by (operation_number C name) refl
   where
-    by : (o : Option ℕ) → operation_number C name ≡ o → IfSome (option_map op_id o) (λ o. o.0 < length C.operations)
+    by : (o : Option ℕ) → operation_number C name ≡ o →
+        IfSome (option_map op_id o) (λ o. o.0 < length C.operations)
     by None is = tt
     by (Some i) is = (position-Some _ _ i no_operation is).0
 

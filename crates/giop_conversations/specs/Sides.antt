@@ -8,7 +8,8 @@ use Rattle.giop_calls.specs.declared.calls.Call.{Call}
 use Rattle.giop_calls.specs.Outstanding.{without, newest}
 use Rattle.giop_message.specs.HeaderEnds.{CallEvent, Requested, Replied, Raised}
 
--- the types of the operations, the calls of this direction, and those of the other, which its replies answer
+-- the types of the operations, the calls of this direction, and those of the other, which its
+-- replies answer
 pub record SideState : Type 0 where
   pub table : Table
   pub own : Entries Call
@@ -17,7 +18,8 @@ pub record SideState : Type 0 where
 -- the operation of the call of the other direction with this id
 abbrev pub answered_operation : SideState → ℕ → Option OpId
 answered_operation s id =
-    option_and_then (λ e. operation_in s.table e.value.name.items) (find (λ e. e.key == id) s.theirs.entries)
+    option_and_then (λ e. operation_in s.table e.value.name.items)
+    (find (λ e. e.key == id) s.theirs.entries)
 
 -- the octets of a name, if there is room for them
 abbrev pub kept_name : List ℕ → List ℕ
@@ -28,13 +30,15 @@ abbrev pub call_of : ℕ → List ℕ → Call
 call_of number name =
     record { name = record { items = kept_name name }; stream = 1; message = number; time = None }
 
--- the calls after a Request with this id: where its call line can be shown and it expects a reply, it is the newest
+-- the calls after a Request with this id: where its call line can be shown and it expects a reply,
+-- it is the newest
 abbrev pub requested : ℕ → ℕ → Option (List ℕ) → Bool → Entries Call → Entries Call
 requested number id None expects calls = record calls { entries = without id calls.entries }
 requested number id (Some name) false calls = record calls { entries = without id calls.entries }
 requested number id (Some name) true calls =
     record calls {
-      entries = newest calls.most (without id calls.entries ++ record { key = id; value = call_of number name } ∷ []);
+      entries = newest calls.most (without id calls.entries
+          ++ record { key = id; value = call_of number name } ∷ []);
     }
 
 -- what is known after an event

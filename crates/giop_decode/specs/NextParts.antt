@@ -24,9 +24,11 @@ frames_above frames = take (length frames - 1) frames
 
 -- what the lines of the innermost frame's parts begin with, up to its own segment
 abbrev pub front_text : Table → Decoder → List ℕ
-front_text C d = headed d.message (root_word d.root ++ frames_text C (frames_above d.outer.items)) []
+front_text C d = headed d.message (root_word d.root ++ frames_text C (frames_above d.outer.items))
+    []
 
--- the number that stands whole at the head of octets is a primitive's, and a part of the innermost frame
+-- the number that stands whole at the head of octets is a primitive's, and a part of the innermost
+-- frame
 pub record IsPartAhead (C : Table) (d : Decoder) (octets : List ℕ) (part : PartAhead) : Type 0 where
   pub leaf : d.leaf ≡ Some (innermost.Number part.of)
   pub known : part.of.0 < length C.types

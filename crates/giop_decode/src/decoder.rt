@@ -181,7 +181,8 @@ impl Decoder {
             ≡ transition_in_string (tree catalogue.now of.0) transition }
         ensures stand { (at : ℕ) → 0 < at → StandAt at self.old.outer.items →
             StandAt at self.new.outer.items }
-        ensures advances { (coding : Coding) (path : List PathSegment) (at : ℕ) (lines : List Line) →
+        ensures advances { (coding : Coding) (path : List PathSegment) (at : ℕ)
+            (lines : List Line) →
             around coding path (open_parts catalogue.now at self.old.outer.items)
             (after_transition catalogue.now (tree catalogue.now of.0) transition
             self.old.carry self.old.piece.items lines at)
@@ -257,7 +258,8 @@ impl Decoder {
             (lines_of (decoder_step catalogue.now self.old here octet))) }
         ensures steps { IfOk result (λ p. (here : ℕ) → CanStandAt self.old here →
             Comes catalogue.now self.new p (here + 1) (decoder_step catalogue.now self.old here octet)) }
-        ensures keeps_noted { OnOk result ((here : ℕ) (front : List Line) → CanStandAt self.old here →
+        ensures keeps_noted { OnOk result ((here : ℕ) (front : List Line) →
+            CanStandAt self.old here →
             KeepsNoted self.old.root self.old (read_by_fields catalogue.now self.old front here) →
             KeepsNoted self.old.root self.new
             (with_front front (decoder_step catalogue.now self.old here octet))) }
@@ -304,7 +306,8 @@ impl Decoder {
         ensures message { OnOk result (self.new.message ≡ self.old.message) }
         ensures here { OnOk result ((here : ℕ) → CanStandAt self.old here →
             CanStandAt self.new (here + 1)) }
-        ensures next { IfOk result (λ p. GoesOn p → IsNext catalogue.now self.old self.new of.0 step.transition) }
+        ensures next { IfOk result (λ p. GoesOn p →
+            IsNext catalogue.now self.old self.new of.0 step.transition) }
         ensures writes { (here at : ℕ) (lines : List Line) →
             IsOutput (tree catalogue.now of.0)
             (path_in [] (open_parts catalogue.now here self.old.outer.items))
@@ -322,7 +325,8 @@ impl Decoder {
             ≡ transition_in_string (tree catalogue.now of.0) step.transition) }
         ensures id { OnOk result (is_header_root self.old.root ≡ false →
             self.new.notes.request_id ≡ self.old.notes.request_id) }
-        ensures notes { OnOk result ((h : Noted) (here at : ℕ) (lines : List Line) → HoldsNoted self.old.notes h →
+        ensures notes { OnOk result ((h : Noted) (here at : ℕ) (lines : List Line) →
+            HoldsNoted self.old.notes h →
             IsOutput (tree catalogue.now of.0)
             (path_in [] (open_parts catalogue.now here self.old.outer.items))
             at step.output (self.old.piece.items ++ rest.now) lines →
@@ -375,7 +379,8 @@ impl Decoder {
             ≡ transition_in_string (tree catalogue.now of.0) step.transition }
         ensures id { is_header_root self.old.root ≡ false →
             self.new.notes.request_id ≡ self.old.notes.request_id }
-        ensures notes { (h : Noted) (here at : ℕ) (lines : List Line) → HoldsNoted self.old.notes h →
+        ensures notes { (h : Noted) (here at : ℕ) (lines : List Line) →
+            HoldsNoted self.old.notes h →
             IsOutput (tree catalogue.now of.0)
             (path_in [] (open_parts catalogue.now here self.old.outer.items))
             at step.output (self.old.piece.items ++ rest.now) lines →

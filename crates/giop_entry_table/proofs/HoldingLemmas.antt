@@ -1,4 +1,5 @@
--- The entries of a table, made of its ids, slab numbers and values: their number, the entry at a place, and what they become
+-- The entries of a table, made of its ids, slab numbers and values: their number, the entry at a
+-- place, and what they become
 -- when one is added, removed or changed.
 use Rattle.std.proofs.Common.{◌≡◌, ◌≢◌, ◌<◌, ◌==◌, ◌+◌, ◌≤◌, ℕ, zero, suc, false, eqb, cond, List, [], ◌∷◌, ◌++◌, length, get_or, Option, Some, None, IsSome, slice_get, refl, sym, ap, ◌∙◌, arith, length-append, inl, inr, map, set, is_some, count_by}
 use Rattle.std.specs.List.{AllByRecursion as Each, IsDistinct, remove, position_from}
@@ -48,7 +49,8 @@ module _ {V : Type 0} where
   entry_at values (k ∷ ks) (n ∷ ns) zero v same held within found = rw found refl
   entry_at values (k ∷ ks) (n ∷ ns) (suc place) v same held within found =
       let first = there (get values n) held.0 in
-      let rest = entry_at values ks ns place v (omega (arith, same)) held.1 (omega (arith, within)) found in
+      let rest = entry_at values ks ns place v (omega (arith, same)) held.1 (omega (arith, within))
+      found in
       rw first.1 rest
 
   pub entries-same : (old new : Slab V) (keys numbers : List ℕ) → SameAt old new numbers →
@@ -74,7 +76,8 @@ module _ {V : Type 0} where
       length keys ≡ length numbers → AllHeld values numbers →
       entries_of values (remove keys place) (remove numbers place)
       ≡ remove (entries_of values keys numbers) place
-  entries-remove values [] [] place same held = rw (remove-nil {X = ℕ} place, remove-nil {X = Entry V} place) refl
+  entries-remove values [] [] place same held =
+      rw (remove-nil {X = ℕ} place, remove-nil {X = Entry V} place) refl
   entries-remove values [] (n ∷ ns) place same held = absurd (omega (arith, same))
   entries-remove values (k ∷ ks) [] place same held = absurd (omega (arith, same))
   entries-remove values (k ∷ ks) (n ∷ ns) zero same held =
@@ -91,8 +94,10 @@ module _ {V : Type 0} where
       Updates old new (get_or numbers place 0) (Some v) →
       entries_of new keys numbers ≡ revalued (entries_of old keys numbers) place v
   unfolding IsDistinct
-  entries-revalued old new keys [] place v same held distinct within updates = absurd (omega (arith, within))
-  entries-revalued old new [] (n ∷ ns) place v same held distinct within updates = absurd (omega (arith, same))
+  entries-revalued old new keys [] place v same held distinct within updates =
+      absurd (omega (arith, within))
+  entries-revalued old new [] (n ∷ ns) place v same held distinct within updates =
+      absurd (omega (arith, same))
   entries-revalued old new (k ∷ ks) (n ∷ ns) zero v same held distinct within updates =
       let first = there (get old n) held.0 in
       let kept : SameAt old new ns = each-map (λ m. eqb n m ≡ false) (λ m. get new m ≡ get old m)
@@ -103,7 +108,8 @@ module _ {V : Type 0} where
       let short : place < length ns = omega (arith, within) in
       let apart = each-at (λ m. eqb n m ≡ false) ns place distinct.0 short in
       let kept = updates.others n (eqb-false n _ apart) in
-      let rest = entries-revalued old new ks ns place v (omega (arith, same)) held.1 distinct.1 short updates in
+      let rest = entries-revalued old new ks ns place v (omega (arith, same)) held.1 distinct.1
+      short updates in
       rw (kept, first.1, rest) refl
 
   pub position-entries : (values : Slab V) (keys numbers : List ℕ) (key from : ℕ) →
@@ -142,17 +148,20 @@ module _ {V : Type 0} where
 
   same-beside : (old new : Slab V) (number : ℕ) (slot : Option V) (numbers : List ℕ) →
       Updates old new number slot → Each (λ m. m ≢ number) numbers → SameAt old new numbers
-  same-beside old new number slot numbers updates apart = each-map (λ m. m ≢ number) (λ m. get new m ≡ get old m) (λ m. updates.others m) numbers apart
+  same-beside old new number slot numbers updates apart =
+      each-map (λ m. m ≢ number) (λ m. get new m ≡ get old m) (λ m. updates.others m) numbers apart
 
   held-beside : (old new : Slab V) (numbers : List ℕ) → SameAt old new numbers →
       AllHeld old numbers → AllHeld new numbers
   held-beside old new numbers same held =
-      each-both (λ m. get new m ≡ get old m) (λ m. IsSome (get old m)) (λ m. IsSome (get new m)) (λ m e p. rw e p) numbers same held
+      each-both (λ m. get new m ≡ get old m) (λ m. IsSome (get old m)) (λ m. IsSome (get new m))
+      (λ m e p. rw e p) numbers same held
 
   vacant-apart : (values : Slab V) (number : ℕ) (numbers : List ℕ) → get values number ≡ None →
       AllHeld values numbers → Each (λ m. m ≢ number) numbers
   vacant-apart values number numbers vacant held =
-      each-map (λ m. IsSome (get values m)) (λ m. m ≢ number) (λ m p e. absurd (cc (vacant, p, ap (get values) e))) numbers held
+      each-map (λ m. IsSome (get values m)) (λ m. m ≢ number)
+      (λ m p e. absurd (cc (vacant, p, ap (get values) e))) numbers held
 
   pub IsTied-push : (keys numbers : List ℕ) (old new : Slab V) (key number : ℕ) (v : V) →
       IsTied keys numbers old → get old number ≡ None →
@@ -160,9 +169,15 @@ module _ {V : Type 0} where
       IsTied (keys ++ key ∷ []) (numbers ++ number ∷ []) new
   IsTied-push keys numbers old new key number v tied vacant updates len =
       let apart = vacant-apart old number numbers vacant tied.held in
-      let kept = held-beside old new numbers (same-beside old new number _ numbers updates apart) tied.held in
+      let kept = held-beside old new numbers (same-beside old new number _ numbers updates apart)
+      tied.held in
       record {
-        as_many = omega (arith, tied.as_many, length-append keys (key ∷ []), length-append numbers (number ∷ []));
+        as_many = omega (
+          arith,
+          tied.as_many,
+          length-append keys (key ∷ []),
+          length-append numbers (number ∷ []),
+        );
         distinct = distinct-push numbers number tied.distinct apart;
         held = each-push (λ m. IsSome (get new m)) numbers number kept (rw updates.changed refl);
         counted = omega (arith, len, tied.counted, length-append numbers (number ∷ []));
@@ -174,10 +189,12 @@ module _ {V : Type 0} where
       entries_of new (keys ++ key ∷ []) (numbers ++ number ∷ [])
       ≡ entries_of old keys numbers ++ record { key = key; value = v } ∷ []
   entries-added keys numbers old new key number v tied vacant updates =
-      let same = same-beside old new number _ numbers updates (vacant-apart old number numbers vacant tied.held) in
+      let same = same-beside old new number _ numbers updates
+      (vacant-apart old number numbers vacant tied.held) in
       let kept = held-beside old new numbers same tied.held in
       entries-push new keys numbers key number v tied.as_many kept updates.changed
-      ∙ ap (λ es. es ++ record { key = key; value = v } ∷ []) (entries-same old new keys numbers same)
+      ∙ ap (λ es. es ++ record { key = key; value = v } ∷ [])
+      (entries-same old new keys numbers same)
 
   pub IsTied-remove : (keys numbers : List ℕ) (old new : Slab V) (place : ℕ) →
       IsTied keys numbers old → place < length numbers →
@@ -188,7 +205,13 @@ module _ {V : Type 0} where
       let same = same-beside old new _ _ (remove numbers place) updates apart in
       let fewer = each-remove (λ n. IsSome (get old n)) numbers place tied.held in
       record {
-        as_many = omega (arith, tied.as_many, within, length-remove keys place, length-remove numbers place);
+        as_many = omega (
+          arith,
+          tied.as_many,
+          within,
+          length-remove keys place,
+          length-remove numbers place,
+        );
         distinct = distinct-remove numbers place tied.distinct;
         held = held-beside old new (remove numbers place) same fewer;
         counted = omega (arith, len, tied.counted, within, length-remove numbers place);
@@ -202,7 +225,8 @@ module _ {V : Type 0} where
   entries-taken keys numbers old new place tied within updates =
       let apart = others-remove numbers place tied.distinct within in
       let same = same-beside old new _ _ (remove numbers place) updates apart in
-      entries-same old new (remove keys place) (remove numbers place) same ∙ entries-remove old keys numbers place tied.as_many tied.held
+      entries-same old new (remove keys place) (remove numbers place) same
+      ∙ entries-remove old keys numbers place tied.as_many tied.held
 
   pub IsTied-revalued : (keys numbers : List ℕ) (old new : Slab V) (place : ℕ) (v : V) →
       IsTied keys numbers old →
@@ -222,7 +246,13 @@ module _ {V : Type 0} where
 
   pub IsTied-none : (values : Slab V) → values.slots ≡ [] → IsTied [] [] values
   unfolding IsDistinct
-  IsTied-none values empty = record { as_many = refl; distinct = tt; held = tt; counted = rw empty refl }
+  IsTied-none values empty = record {
+    as_many = refl;
+    distinct = tt;
+    held = tt;
+    counted =
+        rw empty refl;
+  }
 
   -- the ids are those of the entries
   pub keys-held : (keys numbers : List ℕ) (values : Slab V) (place : ℕ) →
@@ -230,7 +260,8 @@ module _ {V : Type 0} where
       option_map (λ e. e.key) (slice_get (entries_of values keys numbers) place)
       ≡ slice_get keys place
   keys-held keys numbers values place tied =
-      rw (← slice_get-map) (ap (λ ks. slice_get ks place) (keys-of values keys numbers tied.as_many tied.held))
+      rw (← slice_get-map) (ap (λ ks. slice_get ks place)
+      (keys-of values keys numbers tied.as_many tied.held))
 
   -- the value of an entry is the one under its number
   pub value-at : (keys numbers : List ℕ) (values : Slab V) (place number : ℕ) →
@@ -245,7 +276,8 @@ module _ {V : Type 0} where
   pub none-at : (keys numbers : List ℕ) (values : Slab V) (place : ℕ) →
       IsTied keys numbers values → length numbers ≤ place →
       slice_get (entries_of values keys numbers) place ≡ None
-  none-at keys numbers values place tied past = slice_get_past _ place (rw (length-held keys numbers values tied) past)
+  none-at keys numbers values place tied past =
+      slice_get_past _ place (rw (length-held keys numbers values tied) past)
 
   -- the number at a place has a value
   pub held-number : (keys numbers : List ℕ) (values : Slab V) (place number : ℕ) →
@@ -271,7 +303,8 @@ module _ {V : Type 0} where
       rw here.1 (sum_by-cons one (Some v) rest ∙ sym (sum_by-cons one (Some here.0) rest))
   count-kept (slot ∷ rest) (suc number) v held =
       let one = λ (o : Option V). cond (is_some o) 1 0 in
-      sum_by-cons one slot (set rest number (Some v)) ∙ ap (λ n. one slot + n) (count-kept rest number v held) ∙ sym (sum_by-cons one slot rest)
+      sum_by-cons one slot (set rest number (Some v))
+      ∙ ap (λ n. one slot + n) (count-kept rest number v held) ∙ sym (sum_by-cons one slot rest)
 
   -- a write of one value leaves as many values
   pub length-with_value : (values : Slab V) (number : ℕ) (v : V) → IsSome (get values number) →

@@ -49,7 +49,9 @@ pub others-remove : (numbers : List ℕ) (place : ℕ) → IsDistinct eqb number
     Each (λ m. m ≢ get_or numbers place 0) (remove numbers place)
 unfolding IsDistinct
 others-remove [] place distinct within = absurd (omega (arith, within))
-others-remove (n ∷ ns) zero distinct within = each-map (λ m. eqb n m ≡ false) (λ m. m ≢ n) (λ m e same. eqb-false n m e (sym same)) ns distinct.0
+others-remove (n ∷ ns) zero distinct within =
+    each-map (λ m. eqb n m ≡ false) (λ m. m ≢ n) (λ m e same. eqb-false n m e (sym same)) ns
+    distinct.0
 others-remove (n ∷ ns) (suc place) distinct within =
     let apart = each-at (λ m. eqb n m ≡ false) ns place distinct.0 (omega (arith, within)) in
     (eqb-false _ _ apart, others-remove ns place distinct.1 (omega (arith, within)))
@@ -59,8 +61,10 @@ pub distinct-push : (numbers : List ℕ) (number : ℕ) → IsDistinct eqb numbe
     IsDistinct eqb (numbers ++ number ∷ [])
 unfolding IsDistinct
 distinct-push [] number distinct apart = (tt, tt)
-distinct-push (n ∷ ns) number distinct apart =
-    (each-push (λ m. eqb n m ≡ false) ns number distinct.0 (ne_eqb n number apart.0), distinct-push ns number distinct.1 apart.1)
+distinct-push (n ∷ ns) number distinct apart = (
+  each-push (λ m. eqb n m ≡ false) ns number distinct.0 (ne_eqb n number apart.0),
+  distinct-push ns number distinct.1 apart.1,
+)
 
 -- an element within a list is the same for any default
 pub read-at : (xs : List ℕ) (place x : ℕ) → place < length xs → x ≡ get_or xs place x →

@@ -1,4 +1,5 @@
--- How a table keeps its entries: the ids and the slab numbers in order, and each value in the slab under its number (state).
+-- How a table keeps its entries: the ids and the slab numbers in order, and each value in the slab
+-- under its number (state).
 use Rattle.std.specs.Prelude.{◌≡◌, ℕ, ◌≤◌, eqb, List, [], ◌∷◌, length, Option, Some, None, IsSome}
 use Rattle.std.specs.List.{AllByRecursion as Each, IsDistinct}
 use Rattle.slab.specs.Slab.{Slab, get, slab_len}
@@ -17,7 +18,8 @@ module _ {V : Type 0} where
   entries_of values (key ∷ keys) (number ∷ numbers) =
       entry_before key (get values number) (entries_of values keys numbers)
 
-  -- each id has a number of its own, under which the slab has a value, and the slab has no other value
+  -- each id has a number of its own, under which the slab has a value, and the slab has no other
+  -- value
   pub record IsTied (keys numbers : List ℕ) (values : Slab V) : Type 0 where
     pub as_many : length keys ≡ length numbers
     pub distinct : IsDistinct eqb numbers

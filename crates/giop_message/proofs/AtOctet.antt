@@ -21,14 +21,16 @@ use Rattle.std.proofs.lemmas.List.{drop-map, length-map}
 none_before : (n : ℕ) (emitted : List LineAt) → Each (λ t. t.at ≤ 12 + n) emitted →
     filter (λ r. r.at == suc n) (map timed_line_of emitted) ≡ []
 none_before n [] h = refl
-none_before n (t ∷ ts) h = rw (ne_eqb (t.at - 12) (suc n) (λ e. omega (arith, h.0))) (none_before n ts h.1)
+none_before n (t ∷ ts) h = rw (ne_eqb (t.at - 12) (suc n) (λ e. omega (arith, h.0)))
+    (none_before n ts h.1)
 
 all_here : (n : ℕ) (emitted : List LineAt) → ToldAt ((12 + n) + 1) emitted →
     filter (λ r. r.at == suc n) (map timed_line_of emitted) ≡ map timed_line_of emitted
 all_here n [] h = refl
 all_here n (t ∷ ts) h =
     let e : t.at - 12 ≡ suc n = omega (arith, h.0) in
-    rw (eq-eqb (t.at - 12) (suc n) e) (ap (λ (rs : List TimedLine). timed_line_of t ∷ rs) (all_here n ts h.1))
+    rw (eq-eqb (t.at - 12) (suc n) e) (ap (λ (rs : List TimedLine). timed_line_of t ∷ rs)
+    (all_here n ts h.1))
 
 -- the lines of one octet more: they are at that octet, and the reading has them
 record One (S : Signatures) (header xs : List ℕ) (x : ℕ) : Type 0 where
@@ -42,14 +44,18 @@ unfolding due remarks_by
 one_octet S header xs x =
     let one = one_more S header (12 + length xs) (message S header xs) x (stands S header xs) in
     let old = message_lines (message S header xs) in
-    let emitted : message_lines (message S header (xs ++ x ∷ [])) ≡ old ++ one.0 = ap message_lines (message_goes S header xs x) ∙ one.1 in
-    let due_is : drop (length old) (message_lines (message S header (xs ++ x ∷ []))) ≡ one.0 = ap (drop (length old)) emitted ∙ drop-append_seam old one.0 in
+    let emitted : message_lines (message S header (xs ++ x ∷ [])) ≡ old ++ one.0 =
+    ap message_lines (message_goes S header xs x) ∙ one.1 in
+    let due_is : drop (length old) (message_lines (message S header (xs ++ x ∷ []))) ≡ one.0 =
+    ap (drop (length old)) emitted ∙ drop-append_seam old one.0 in
     let here : TimedLine → Bool = λ r. r.at == suc (length xs) in
-    let said_is : filter here (map timed_line_of (message_lines (message S header (xs ++ x ∷ [])))) ≡ map timed_line_of one.0 =
+    let said_is : filter here (map timed_line_of (message_lines (message S header (xs ++ x ∷ []))))
+    ≡ map timed_line_of one.0 =
     ap (λ ts. filter here (map timed_line_of ts)) emitted
     ∙ (ap (filter here) (map_both timed_line_of old one.0)
     ∙ (filter-append here (map timed_line_of old) (map timed_line_of one.0)
-    ∙ (ap (λ rs. rs ++ filter here (map timed_line_of one.0)) (none_before (length xs) old (ordered 0 S header xs).0)
+    ∙ (ap (λ rs. rs ++ filter here (map timed_line_of one.0))
+    (none_before (length xs) old (ordered 0 S header xs).0)
     ∙ all_here (length xs) one.0 one.2.0))) in
     record {
       emitted = emitted ∙ ap (λ ts. old ++ ts) (sym due_is);
@@ -63,12 +69,14 @@ pub due_said_is : (S : Signatures) (header xs : List ℕ) (x : ℕ) →
 due_said_is S header xs x = (one_octet S header xs x).said
 
 told_here : (number place offset : ℕ) (emitted : List LineAt) → ToldAt (offset + 1) emitted →
-    message_lines_text number place offset emitted ≡ numbered_lines (suc place) number (map timed_line_of emitted)
+    message_lines_text number place offset emitted
+    ≡ numbered_lines (suc place) number (map timed_line_of emitted)
 unfolding message_lines_text numbered_lines message_line_text
 told_here number place offset [] h = refl
 told_here number place offset (t ∷ ts) h =
     let e : place + (t.at - offset) ≡ suc place = omega (arith, h.0) in
-    rw e (ap (λ (z : List ℕ). line_class_text (suc place) number (line_class_of t.message_line) (text_of t.message_line) ++ z) (told_here number place offset ts h.1))
+    rw e (ap (λ (z : List ℕ). line_class_text (suc place) number (line_class_of t.message_line)
+    (text_of t.message_line) ++ z) (told_here number place offset ts h.1))
 
 -- The text of an octet is that of its lines in the reading.
 pub octet_text : (S : Signatures) (number place : ℕ) (header xs : List ℕ) (x : ℕ) →
@@ -77,7 +85,8 @@ pub octet_text : (S : Signatures) (number place : ℕ) (header xs : List ℕ) (x
 unfolding due_text
 octet_text S number place header xs x =
     let one = one_octet S header xs x in
-    told_here number place (12 + length xs) (due S header xs (x ∷ [])) one.here ∙ ap (numbered_lines (suc place) number) (sym one.said)
+    told_here number place (12 + length xs) (due S header xs (x ∷ [])) one.here
+    ∙ ap (numbered_lines (suc place) number) (sym one.said)
 
 -- ---- faults
 
@@ -85,7 +94,8 @@ wrong_is : (t : LineAt) → is_wrong t ≡ is_fault (line_class_of t.message_lin
 unfolding is_wrong line_class_of
 wrong_is t = go t.message_line
   where
-    go : (s : MessageLine) → is_wrong (record { at = t.at; message_line = s }) ≡ is_fault (line_class_of s)
+    go : (s : MessageLine) → is_wrong (record { at = t.at; message_line = s })
+        ≡ is_fault (line_class_of s)
     go (ValueLine root path v) = refl
     go (CallLine id operation) = refl
     go (RestLine offset octets) = refl
@@ -104,7 +114,8 @@ or_of a b c e = ap (λ (d : Bool). a || d) e
 any_both : (xs ys : List LineAt) → list_any is_wrong (xs ++ ys)
     ≡ (list_any is_wrong xs || list_any is_wrong ys)
 any_both [] ys = refl
-any_both (x ∷ xs) ys = or_of (is_wrong x) (list_any is_wrong (xs ++ ys)) (list_any is_wrong xs || list_any is_wrong ys) (any_both xs ys)
+any_both (x ∷ xs) ys = or_of (is_wrong x) (list_any is_wrong (xs ++ ys))
+    (list_any is_wrong xs || list_any is_wrong ys) (any_both xs ys)
     ∙ or_more (is_wrong x) (list_any is_wrong xs) (list_any is_wrong ys)
   where
     or_more : (a b c : Bool) → (a || (b || c)) ≡ ((a || b) || c)
@@ -160,24 +171,30 @@ unfolding message_line_text timed_lines_text
 each_timed_line number place n [] = refl
 each_timed_line number place n (t ∷ ts) =
     let e : t.at - (12 + n) ≡ (t.at - 12) - n = omega arith in
-    rw e (ap (λ z. line_class_text (place + ((t.at - 12) - n)) number (line_class_of t.message_line) (text_of t.message_line) ++ z) (each_timed_line number place n ts))
+    rw e (ap (λ z. line_class_text (place + ((t.at - 12) - n)) number (line_class_of t.message_line)
+    (text_of t.message_line) ++ z) (each_timed_line number place n ts))
 
 pub text_is : (S : Signatures) (number place : ℕ) (header s more : List ℕ) →
     due_text S number place header s more ≡ timed_lines_text number place (length s)
     (drop (length (remarks_by S header s)) (remarks_by S header (s ++ more)))
 unfolding due_text message_lines_text due remarks_by
 text_is S number place header s more =
-    each_timed_line number place (length s) (drop (length (message_lines (message S header s))) (message_lines (message S header (s ++ more))))
+    each_timed_line number place (length s)
+    (drop (length (message_lines (message S header s)))
+    (message_lines (message S header (s ++ more))))
     ∙ ap (timed_lines_text number place (length s))
-    (sym (ap (λ n. drop n (map timed_line_of (message_lines (message S header (s ++ more))))) (length-map (message_lines (message S header s)) timed_line_of)
-    ∙ drop-map timed_line_of (length (message_lines (message S header s))) (message_lines (message S header (s ++ more)))))
+    (sym (ap (λ n. drop n (map timed_line_of (message_lines (message S header (s ++ more)))))
+    (length-map (message_lines (message S header s)) timed_line_of)
+    ∙ drop-map timed_line_of (length (message_lines (message S header s)))
+    (message_lines (message S header (s ++ more)))))
 
 each_close : (number place : ℕ) (speeches : List MessageLine) →
     flat_map (message_line_text number place) speeches
     ≡ closes_text number place (map closing_of speeches)
 unfolding message_line_text closes_text
 each_close number place [] = refl
-each_close number place (s ∷ ss) = ap (λ z. line_class_text place number (line_class_of s) (text_of s) ++ z) (each_close number place ss)
+each_close number place (s ∷ ss) = ap (λ z.
+    line_class_text place number (line_class_of s) (text_of s) ++ z) (each_close number place ss)
 
 pub close_is : (S : Signatures) (number place : ℕ) (header s : List ℕ) →
     closing_text number place (close (stage_of (message S header s)))

@@ -1,4 +1,5 @@
--- The lines of a message with more octets begin with its lines so far, and the others come after its octets; and the
+-- The lines of a message with more octets begin with its lines so far, and the others come after
+-- its octets; and the
 -- order of the lines of one octet.
 use Rattle.std.proofs.Common.{◌≡◌, ◌≢◌, ℕ, ◌+◌, ◌-◌, ◌<◌, ◌≤◌, Bool, true, false, List, [], ◌∷◌, ◌++◌, length, map, drop, Option, Some, None, refl, sym, ap, subst, ◌∙◌, append_assoc, append-nil, arith, add_assoc, add-zero, ◌⊎◌, inl, inr}
 use Rattle.std.specs.Prelude.{◌==◌, nat_lt, if◌then◌else◌}
@@ -51,7 +52,8 @@ prompt_front n front (ReadTo emitted at stage) h k = rw (k.0, append-nil front) 
 
 -- one call line, or none
 abbrev pub MayCall : ℕ → List LineAt → Type 0
-MayCall n emitted = (emitted ≡ []) ⊎ ((id : ℕ) × (operation : List ℕ) × (emitted ≡ line_at n (CallLine id operation) ∷ []))
+MayCall n emitted = (emitted ≡ []) ⊎ ((id : ℕ) × (operation : List ℕ)
+    × (emitted ≡ line_at n (CallLine id operation) ∷ []))
 
 call_is : (n : ℕ) (id : Option ℕ) (name : Option (List ℕ)) → MayCall n (call_of n id name)
 unfolding call_of
@@ -70,7 +72,8 @@ call_by n false ts h = inl refl
 
 pub calls_is : (is : Bool) (l : Line) (h : Noted) → MayCall l.at (calls is l h)
 unfolding calls
-calls_is is l h = call_by l.at (ends_operation is l) (call_of l.at h.request_id h.name) (call_is l.at h.request_id h.name)
+calls_is is l h = call_by l.at (ends_operation is l) (call_of l.at h.request_id h.name)
+    (call_is l.at h.request_id h.name)
 
 value_turn : (n : ℕ) (root : Root) (path : List PathSegment) (v : Valued) (more : List LineAt) →
     MayCall n more → Turn n ((line_at n (ValueLine root path v) ∷ more) ++ [])
@@ -78,7 +81,8 @@ unfolding line_at line_class_of
 value_turn n root path v more (inl e) = rw e ((refl, tt), inr (inl refl))
 value_turn n root path v more (inr f) = rw f.2 ((refl, (refl, tt)), inr (inr (inl refl)))
 
-section_lines_turn : (root : Root) (is : Bool) (n : ℕ) (h : Noted) (lines : List Line) → OneAt n lines →
+section_lines_turn : (root : Root) (is : Bool) (n : ℕ) (h : Noted) (lines : List Line) →
+    OneAt n lines →
     Turn n (section_lines root is h lines)
 unfolding section_lines
 section_lines_turn root is n h [] e = (tt, inl refl)
@@ -93,7 +97,8 @@ module _ (section : Section) (is : Bool) (next : Noted → ℕ → List ℕ → 
   abbrev R : Root
   R = root_of section
 
-  pub passes_silent : (k : Noted) (r : Read) → IsEmptyResult n r → Silent n (section_then section is next k r)
+  pub passes_silent : (k : Noted) (r : Read) → IsEmptyResult n r →
+      Silent n (section_then section is next k r)
   unfolding section_then section_lines
   passes_silent k (Done lines at s) h = rw (h.0, h.1, h.2, front_none (next k n [])) (silent k)
   passes_silent k (Short lines at outer leaf) h = rw (h.0, h.1) (refl, refl)
@@ -105,7 +110,8 @@ module _ (section : Section) (is : Bool) (next : Noted → ℕ → List ℕ → 
       Turn n (section_lines R is k lines ++ line_at at (FaultLine why) ∷ [])
   unfolding line_at section_lines calls line_class_of
   faulted_turn k [] at why e one none = ((e, tt), inr (inr (inr (inr (inl refl)))))
-  faulted_turn k (l ∷ []) at why e one none = rw none.0 ((one, (e, tt)), inr (inr (inr (inr (inr refl)))))
+  faulted_turn k (l ∷ []) at why e one none =
+      rw none.0 ((one, (e, tt)), inr (inr (inr (inr (inr refl)))))
   faulted_turn k (l ∷ l' ∷ ls) at why e one none = absurd one
 
   passes_prompt : (k : Noted) (r : Read) → IsOctetResult n r → CallsNone is r →
@@ -113,9 +119,12 @@ module _ (section : Section) (is : Bool) (next : Noted → ℕ → List ℕ → 
   unfolding section_then line_at section_lines line_class_of
   passes_prompt k (Done lines at s) h none =
       let now = noted (is_header_root R) k lines in
-      rw (h.1, h.2) (prompt_front n (section_lines R is k lines) (next now n []) (section_lines_turn R is n k lines h.0) (silent now))
-  passes_prompt k (Short lines at outer leaf) h none = (section_lines_turn R is n k lines h.0, inl h.1)
-  passes_prompt k (Fault lines at why T) h none = (faulted_turn k lines at why h.1 (one_faulted n why lines h.0) none, inr refl)
+      rw (h.1, h.2) (prompt_front n (section_lines R is k lines) (next now n [])
+      (section_lines_turn R is n k lines h.0) (silent now))
+  passes_prompt k (Short lines at outer leaf) h none =
+      (section_lines_turn R is n k lines h.0, inl h.1)
+  passes_prompt k (Fault lines at why T) h none =
+      (faulted_turn k lines at why h.1 (one_faulted n why lines h.0) none, inr refl)
 
 pub rest_silent : (n : ℕ) → Silent n (rest n [])
 unfolding rest rest_in
@@ -128,9 +137,11 @@ IsSilent reader = (n : ℕ) → Silent n (reader n [])
 module _ (S : Signatures) (header : List ℕ) where
   reads_silent : (section : Section) (T : Ty) →
       ((h : Noted) → IsSilent (after S header section h)) →
-      IsSilent (λ at s. section_and_rest S header section nothing_noted (read (plain (order header)) [] T at s))
+      IsSilent (λ at s. section_and_rest S header section nothing_noted
+      (read (plain (order header)) [] T at s))
   reads_silent section T silent n =
-      passes_silent section (may_call header section) (after S header section) n (λ k. silent k n) nothing_noted (read (plain (order header)) [] T n [])
+      passes_silent section (may_call header section) (after S header section) n (λ k. silent k n)
+      nothing_noted (read (plain (order header)) [] T n [])
       (read_quiet (plain (order header)) [] T n)
 
   padded_silent : (t : BodyType) → IsSilent (body S header t) → IsSilent (padded S header t)
@@ -148,14 +159,16 @@ module _ (S : Signatures) (header : List ℕ) where
 
   pub after_silent : (section : Section) (k : Noted) (n : ℕ) →
       Silent n (after S header section k n [])
-  after_silent section k = after_has S header IsSilent rest_silent reads_silent padded_silent section k
+  after_silent section k = after_has S header IsSilent rest_silent reads_silent padded_silent
+      section k
 
   pub message_silent : Silent 12 (message S header [])
   unfolding message
   message_silent = message_has S header IsSilent rest_silent reads_silent padded_silent 12
 
 rest_by : (offset : ℕ) (held : List ℕ) (n : ℕ) (test : Bool) →
-    Prompt n (if test then ReadTo (line_at n (RestLine offset held) ∷ []) n (In_rest (offset + 32) [])
+    Prompt n (if test then ReadTo (line_at n (RestLine offset held) ∷ []) n
+    (In_rest (offset + 32) [])
     else ReadTo [] n (In_rest offset held))
 unfolding line_at line_class_of
 rest_by offset held n true = (((refl, tt), inr (inr (inr (inl refl)))), inl refl)
@@ -165,16 +178,20 @@ pub step_prompt : (S : Signatures) (header : List ℕ) (at : ℕ) (stage : Stage
     Prompt (at + 1) (message_step S header at stage b)
 unfolding message_step rest_step
 step_prompt S header at (In_typed section k outer leaf) b =
-    passes_prompt section (may_call header section) (after S header section) (at + 1) (λ k. after_silent S header section k (at + 1)) k
-    (decoder.step (plain (order header)) [] outer leaf at b) (step_now (plain (order header)) [] outer leaf at b)
+    passes_prompt section (may_call header section) (after S header section) (at + 1)
+    (λ k. after_silent S header section k (at + 1)) k
+    (decoder.step (plain (order header)) [] outer leaf at b)
+    (step_now (plain (order header)) [] outer leaf at b)
     (step_none (may_call header section) (plain (order header)) [] outer leaf at b)
 step_prompt S header at (In_padding t) b = go (nat_lt 1 (padding at 8))
   where
     go : (test : Bool) → Prompt (at + 1)
         (if test then ReadTo [] (at + 1) (In_padding t) else body S header t (at + 1) [])
     go true = ((tt, inl refl), inl refl)
-    go false = silent_prompt (at + 1) (body S header t (at + 1) []) (body_silent S header t (at + 1))
-step_prompt S header at (In_rest offset held) b = rest_by offset (held ++ b ∷ []) (at + 1) (length (held ++ b ∷ []) == 32)
+    go false = silent_prompt (at + 1) (body S header t (at + 1) [])
+        (body_silent S header t (at + 1))
+step_prompt S header at (In_rest offset held) b =
+    rest_by offset (held ++ b ∷ []) (at + 1) (length (held ++ b ∷ []) == 32)
 step_prompt S header at Over b = ((tt, inl refl), inr refl)
 
 -- a message after so many octets is at that offset, unless it is over
@@ -184,7 +201,8 @@ Stands n (ReadTo emitted at stage) = (at ≡ n) ⊎ (stage ≡ Over)
 stands_more : (S : Signatures) (header : List ℕ) (n : ℕ) (m : Message) (b : ℕ) → Stands n m →
     Stands (n + 1) (advance S header m b)
 unfolding advance with_front message_step
-stands_more S header n (ReadTo emitted at stage) b (inl h) = go (message_step S header at stage b) (step_prompt S header at stage b)
+stands_more S header n (ReadTo emitted at stage) b (inl h) =
+    go (message_step S header at stage b) (step_prompt S header at stage b)
   where
     go : (m : Message) → Prompt (at + 1) m → Stands (n + 1) (with_front emitted m)
     go (ReadTo more at' stage') k = rw (← h) k.1
@@ -194,17 +212,20 @@ stands_more S header n (ReadTo emitted at stage) b (inr h) = rw h (inr refl)
 grown : {A : Type 0} (P : List A → Type 0) → ((xs : List A) (x : A) → P xs → P (xs ++ x ∷ [])) →
     (done more : List A) → P done → P (done ++ more)
 grown P more_of done [] h = rw append-nil h
-grown P more_of done (x ∷ xs) h = subst P (append_assoc done (x ∷ []) xs) (grown P more_of (done ++ x ∷ []) xs (more_of done x h))
+grown P more_of done (x ∷ xs) h = subst P (append_assoc done (x ∷ []) xs)
+    (grown P more_of (done ++ x ∷ []) xs (more_of done x h))
 
 pub stands : (S : Signatures) (header xs : List ℕ) → Stands (12 + length xs) (message S header xs)
-stands S header xs = grown (λ xs. Stands (12 + length xs) (message S header xs)) more [] xs (none (message S header []) (message_silent S header))
+stands S header xs = grown (λ xs. Stands (12 + length xs) (message S header xs)) more [] xs
+    (none (message S header []) (message_silent S header))
   where
     none : (m : Message) → Silent 12 m → Stands 12 m
     none (ReadTo emitted at stage) h = inl h.1
 
     more : (xs : List ℕ) (b : ℕ) → Stands (12 + length xs) (message S header xs) →
         Stands (12 + length (xs ++ b ∷ [])) (message S header (xs ++ b ∷ []))
-    more xs b h = rw (message_goes S header xs b, length_one_more xs b, ← add_assoc) (stands_more S header (12 + length xs) (message S header xs) b h)
+    more xs b h = rw (message_goes S header xs b, length_one_more xs b, ← add_assoc)
+        (stands_more S header (12 + length xs) (message S header xs) b h)
 
 -- lines after so many octets
 abbrev pub Behind : ℕ → List LineAt → Type 0
@@ -219,27 +240,38 @@ behind_less n m [] h k = tt
 behind_less n m (t ∷ ts) h k = (omega (arith, k.0), behind_less n m ts h k.1)
 
 pub one_more : (S : Signatures) (header : List ℕ) (n : ℕ) (m : Message) (b : ℕ) → Stands n m →
-    (more : List LineAt) × (message_lines (advance S header m b) ≡ message_lines m ++ more) × Turn (n + 1) more
+    (more : List LineAt) × (message_lines (advance S header m b) ≡ message_lines m ++ more)
+    × Turn (n + 1) more
 unfolding advance with_front message_step message_lines
-one_more S header n (ReadTo emitted at stage) b (inl h) = go (message_step S header at stage b) (step_prompt S header at stage b)
+one_more S header n (ReadTo emitted at stage) b (inl h) =
+    go (message_step S header at stage b) (step_prompt S header at stage b)
   where
     go : (m : Message) → Prompt (at + 1) m →
-        (more : List LineAt) × (message_lines (with_front emitted m) ≡ emitted ++ more) × Turn (n + 1) more
+        (more : List LineAt) × (message_lines (with_front emitted m) ≡ emitted ++ more)
+        × Turn (n + 1) more
     go (ReadTo more at' stage') k = (more, refl, rw (← h) k.0)
 one_more S header n (ReadTo emitted at stage) b (inr h) = ([], rw h refl, (tt, inl refl))
 
 pub told_begins : (S : Signatures) (header xs more : List ℕ) → (later : List LineAt)
     × (message_lines (message S header (xs ++ more)) ≡ message_lines (message S header xs) ++ later)
     × Behind (12 + length xs) later
-told_begins S header xs [] = ([], ap (λ s. message_lines (message S header s)) (append-nil xs) ∙ sym (append-nil (message_lines (message S header xs))), tt)
+told_begins S header xs [] = (
+  [],
+  ap (λ s. message_lines (message S header s)) (append-nil xs)
+      ∙ sym (append-nil (message_lines (message S header xs))),
+  tt,
+)
 told_begins S header xs (b ∷ more) =
     let one = one_more S header (12 + length xs) (message S header xs) b (stands S header xs) in
     let all = told_begins S header (xs ++ b ∷ []) more in (
       one.0 ++ all.0,
       ap (λ s. message_lines (message S header s)) (sym (append_assoc xs (b ∷ []) more))
-          ∙ (all.1 ∙ (ap (λ ts. ts ++ all.0) (ap message_lines (message_goes S header xs b) ∙ one.1) ∙ append_assoc (message_lines (message S header xs)) one.0 all.0)),
-      each_append (λ t. 12 + length xs < t.at) one.0 all.0 (behind_at (12 + length xs) one.0 one.2.0)
-          (behind_less (12 + length xs) (12 + length (xs ++ b ∷ [])) all.0 (omega (arith, length_one_more xs b)) all.2),
+          ∙ (all.1 ∙ (ap (λ ts. ts ++ all.0) (ap message_lines (message_goes S header xs b) ∙ one.1)
+          ∙ append_assoc (message_lines (message S header xs)) one.0 all.0)),
+      each_append (λ t. 12 + length xs < t.at) one.0 all.0
+          (behind_at (12 + length xs) one.0 one.2.0)
+          (behind_less (12 + length xs) (12 + length (xs ++ b ∷ [])) all.0
+          (omega (arith, length_one_more xs b)) all.2),
     )
 
 pub map_both : {A B : Type 0} (f : A → B) (xs ys : List A) → map f (xs ++ ys) ≡ map f xs ++ map f ys
@@ -249,7 +281,8 @@ map_both {A} {B} f (x ∷ xs) ys = ap (λ (zs : List B). f x ∷ zs) (map_both f
 later_none : (n k : ℕ) (emitted : List LineAt) → Behind (12 + n) emitted → k ≤ n →
     filter (λ r. r.at == k) (map timed_line_of emitted) ≡ []
 later_none n k [] h below = refl
-later_none n k (t ∷ ts) h below = rw (ne_eqb (t.at - 12) k (λ e. omega (arith, h.0))) (later_none n k ts h.1 below)
+later_none n k (t ∷ ts) h below = rw (ne_eqb (t.at - 12) k (λ e. omega (arith, h.0)))
+    (later_none n k ts h.1 below)
 
 -- More octets change no lines of those before them.
 pub is_causal : (S : ℕ → Signatures) → IsCausal (reader_by S)
@@ -259,10 +292,14 @@ is_causal S = record {
       let all = told_begins (S number) header xs more in
       let at_k : TimedLine → Bool = λ r. r.at == k in
       ap (λ ts. filter at_k (map timed_line_of ts)) all.1
-      ∙ (ap (filter at_k) (map_both timed_line_of (message_lines (message (S number) header xs)) all.0)
-      ∙ (filter-append at_k (map timed_line_of (message_lines (message (S number) header xs))) (map timed_line_of all.0)
-      ∙ (ap (λ ls. filter at_k (map timed_line_of (message_lines (message (S number) header xs))) ++ ls) (later_none (length xs) k all.0 all.2 below)
-      ∙ append-nil (filter at_k (map timed_line_of (message_lines (message (S number) header xs)))))));
+      ∙ (ap (filter at_k) (map_both timed_line_of (message_lines (message (S number) header xs))
+      all.0)
+      ∙ (filter-append at_k (map timed_line_of (message_lines (message (S number) header xs)))
+      (map timed_line_of all.0)
+      ∙ (ap (λ ls. filter at_k (map timed_line_of (message_lines (message (S number) header xs)))
+      ++ ls) (later_none (length xs) k all.0 all.2 below)
+      ∙ append-nil (filter at_k (map timed_line_of
+      (message_lines (message (S number) header xs)))))));
 }
 
 -- ---- the lines of one octet
@@ -274,24 +311,32 @@ module _ (k : ℕ) where
   abbrev LineClasses : List LineAt → List LineClass
   LineClasses ts = map (λ r. r.line_class) (filter At_k (map timed_line_of ts))
 
-  line_classes_append : (xs ys : List LineAt) → LineClasses (xs ++ ys) ≡ LineClasses xs ++ LineClasses ys
+  line_classes_append : (xs ys : List LineAt) → LineClasses (xs ++ ys) ≡ LineClasses xs
+      ++ LineClasses ys
   line_classes_append xs ys =
       ap (λ ls. map (λ r. r.line_class) (filter At_k ls)) (map_both timed_line_of xs ys)
-      ∙ (ap (map (λ r. r.line_class)) (filter-append At_k (map timed_line_of xs) (map timed_line_of ys))
-      ∙ map_both (λ r. r.line_class) (filter At_k (map timed_line_of xs)) (filter At_k (map timed_line_of ys)))
+      ∙ (ap (map (λ r. r.line_class)) (filter-append At_k (map timed_line_of xs)
+      (map timed_line_of ys))
+      ∙ map_both (λ r. r.line_class) (filter At_k (map timed_line_of xs))
+      (filter At_k (map timed_line_of ys)))
 
   line_classes_here : (n : ℕ) (ts : List LineAt) → ToldAt n ts → n - 12 ≡ k →
       LineClasses ts ≡ map (λ t. line_class_of t.message_line) ts
   line_classes_here n [] h e = refl
-  line_classes_here n (t ∷ ts) h e = rw (h.0, eq-eqb (n - 12) k e) (ap (λ cs. line_class_of t.message_line ∷ cs) (line_classes_here n ts h.1 e))
+  line_classes_here n (t ∷ ts) h e = rw (h.0, eq-eqb (n - 12) k e)
+      (ap (λ cs. line_class_of t.message_line ∷ cs) (line_classes_here n ts h.1 e))
 
-  line_classes_elsewhere : (n : ℕ) (ts : List LineAt) → ToldAt n ts → n - 12 ≢ k → LineClasses ts ≡ []
+  line_classes_elsewhere : (n : ℕ) (ts : List LineAt) → ToldAt n ts → n - 12 ≢ k →
+      LineClasses ts ≡ []
   line_classes_elsewhere n [] h e = refl
-  line_classes_elsewhere n (t ∷ ts) h e = rw (h.0, ne_eqb (n - 12) k e) (line_classes_elsewhere n ts h.1 e)
+  line_classes_elsewhere n (t ∷ ts) h e =
+      rw (h.0, ne_eqb (n - 12) k e) (line_classes_elsewhere n ts h.1 e)
 
-  line_classes_before : (n : ℕ) (ts : List LineAt) → Each (λ t. t.at ≤ n) ts → n - 12 < k → LineClasses ts ≡ []
+  line_classes_before : (n : ℕ) (ts : List LineAt) → Each (λ t. t.at ≤ n) ts → n - 12 < k →
+      LineClasses ts ≡ []
   line_classes_before n [] h e = refl
-  line_classes_before n (t ∷ ts) h e = rw (ne_eqb (t.at - 12) k (λ f. omega (arith, h.0))) (line_classes_before n ts h.1 e)
+  line_classes_before n (t ∷ ts) h e = rw (ne_eqb (t.at - 12) k (λ f. omega (arith, h.0)))
+      (line_classes_before n ts h.1 e)
 
   up_to : (n m : ℕ) (ts : List LineAt) → n ≤ m → Each (λ t. t.at ≤ n) ts → Each (λ t. t.at ≤ m) ts
   up_to n m [] h j = tt
@@ -301,24 +346,35 @@ module _ (k : ℕ) where
   here_up_to n [] h = tt
   here_up_to n (t ∷ ts) h = (omega (arith, h.0), here_up_to n ts h.1)
 
-  turn_of : (n : ℕ) (old more : List LineAt) → Each (λ t. t.at ≤ 12 + n) old → AreInLineOrder (LineClasses old) →
+  turn_of : (n : ℕ) (old more : List LineAt) → Each (λ t. t.at ≤ 12 + n) old →
+      AreInLineOrder (LineClasses old) →
       Turn ((12 + n) + 1) more → AreInLineOrder (LineClasses (old ++ more))
   turn_of n old more bound old_turn turn = same (cases_lt (n + 1) k) (cases_lt k (n + 1))
     where
       go : (n + 1 ≡ k) ⊎ (n + 1 ≢ k) → AreInLineOrder (LineClasses (old ++ more))
-      go (inl e) = rw (line_classes_append old more, line_classes_before (12 + n) old bound (omega arith), line_classes_here ((12 + n) + 1) more turn.0 (omega arith)) turn.1
+      go (inl e) = rw (
+        line_classes_append old more,
+        line_classes_before (12 + n) old bound (omega arith),
+        line_classes_here ((12 + n) + 1) more turn.0 (omega arith),
+      ) turn.1
       go (inr e) =
           let far : ((12 + n) + 1) - 12 ≢ k = λ f. e (omega (arith, f)) in
-          rw (line_classes_append old more, line_classes_elsewhere ((12 + n) + 1) more turn.0 far, append-nil (LineClasses old)) old_turn
+          rw (
+            line_classes_append old more,
+            line_classes_elsewhere ((12 + n) + 1) more turn.0 far,
+            append-nil (LineClasses old),
+          ) old_turn
 
-      same : (n + 1 < k) ⊎ (k ≤ n + 1) → (k < n + 1) ⊎ (n + 1 ≤ k) → AreInLineOrder (LineClasses (old ++ more))
+      same : (n + 1 < k) ⊎ (k ≤ n + 1) → (k < n + 1) ⊎ (n + 1 ≤ k) →
+          AreInLineOrder (LineClasses (old ++ more))
       same (inl h) j = go (inr (λ e. omega arith))
       same (inr h) (inl j) = go (inr (λ e. omega arith))
       same (inr h) (inr j) = go (inl (omega arith))
 
   module _ (S : Signatures) (header : List ℕ) where
     abbrev Ordered : List ℕ → Type 0
-    Ordered xs = Each (λ t. t.at ≤ 12 + length xs) (message_lines (message S header xs)) × AreInLineOrder (LineClasses (message_lines (message S header xs)))
+    Ordered xs = Each (λ t. t.at ≤ 12 + length xs) (message_lines (message S header xs))
+        × AreInLineOrder (LineClasses (message_lines (message S header xs)))
 
     ordered_none : (m : Message) → Silent 12 m →
         Each (λ t. t.at ≤ 12) (message_lines m) × AreInLineOrder (LineClasses (message_lines m))
@@ -329,15 +385,18 @@ module _ (k : ℕ) where
     ordered_more xs b h =
         let one = one_more S header (12 + length xs) (message S header xs) b (stands S header xs) in
         let old = message_lines (message S header xs) in
-        let e : message_lines (message S header (xs ++ b ∷ [])) ≡ old ++ one.0 = ap message_lines (message_goes S header xs b) ∙ one.1 in
+        let e : message_lines (message S header (xs ++ b ∷ [])) ≡ old ++ one.0 =
+        ap message_lines (message_goes S header xs b) ∙ one.1 in
         rw (e, length_one_more xs b, ← add_assoc) (
-          each_append (λ t. t.at ≤ (12 + length xs) + 1) old one.0 (up_to (12 + length xs) ((12 + length xs) + 1) old (omega arith) h.0)
+          each_append (λ t. t.at ≤ (12 + length xs) + 1) old one.0
+              (up_to (12 + length xs) ((12 + length xs) + 1) old (omega arith) h.0)
               (here_up_to ((12 + length xs) + 1) one.0 one.2.0),
           turn_of (length xs) old one.0 h.0 h.1 one.2,
         )
 
     pub ordered : (xs : List ℕ) → Ordered xs
-    ordered xs = grown Ordered ordered_more [] xs (ordered_none (message S header []) (message_silent S header))
+    ordered xs = grown Ordered ordered_more [] xs
+        (ordered_none (message S header []) (message_silent S header))
 
 -- The lines of one octet come in their order, and no two are of one class.
 pub is_ordered : (S : ℕ → Signatures) → IsOrdered (reader_by S)

@@ -1,4 +1,5 @@
--- The lines of a close: it ends the message, and none of its lines is of a class that the last octet has, since a
+-- The lines of a close: it ends the message, and none of its lines is of a class that the last
+-- octet has, since a
 -- message that is faulted there, or ends a part of its rest there, has no rest left.
 use Rattle.std.proofs.Common.{◌≡◌, Bool, true, false, List, [], ◌∷◌, ◌++◌, map, inl, inr, refl, ap, ◌≢◌, ℕ, suc, length, ◌⊎◌}
 use Rattle.std.specs.Prelude.{if◌then◌else◌}
@@ -36,13 +37,17 @@ pub is_closing : (S : ℕ → Signatures) → IsClosing (reader_by S)
 unfolding closes_by line_class_of close
 is_closing S = record {
   closed = λ number header xs. closes_say (stage_of (message (S number) header xs));
-  over = λ number header xs x faulted. ap (λ stage. LineClasses (close stage)) ((octet_leaves (S number) header xs x).1 faulted);
+  over = λ number header xs x faulted. ap (λ stage. LineClasses (close stage))
+      ((octet_leaves (S number) header xs x).1 faulted);
   one_rest = λ number header xs x rested.
-      ends_only (stage_of (message (S number) header (xs ++ x ∷ []))) (ap (λ stage. LineClasses (close stage)) ((octet_leaves (S number) header xs x).0 rested).1);
+      ends_only (stage_of (message (S number) header (xs ++ x ∷ [])))
+      (ap (λ stage. LineClasses (close stage))
+      ((octet_leaves (S number) header xs x).0 rested).1);
 }
 
 leaves_end : (line_classes : List LineClass) (stage : Stage) → Leaves line_classes stage →
-    (line_classes ≡ Rest ∷ []) ⊎ (list_any is_fault line_classes ≡ true) → LineClasses (close stage) ≡ End ∷ []
+    (line_classes ≡ Rest ∷ []) ⊎ (list_any is_fault line_classes ≡ true) →
+    LineClasses (close stage) ≡ End ∷ []
 unfolding close line_class_of
 leaves_end line_classes stage h (inl e) = let left = h.0 e in rw left.1 refl
 leaves_end line_classes stage h (inr e) = rw (h.1 e) refl
@@ -51,7 +56,8 @@ other : (a b : LineClass) → a ≢ b → AreApart (a ∷ b ∷ [])
 other a b h = ((h, tt), (tt, tt))
 
 -- one line and those of a close, which are of other classes
-one_apart : (a : LineClass) (line_classes : List LineClass) → AtClose line_classes → a ≢ Fault → a ≢ End →
+one_apart : (a : LineClass) (line_classes : List LineClass) → AtClose line_classes → a ≢ Fault →
+    a ≢ End →
     a ≢ Rest → AreApart (a ∷ line_classes)
 one_apart a line_classes (inl e) f g h = rw e (other a Fault f)
 one_apart a line_classes (inr (inl e)) f g h = rw e (other a End g)
@@ -62,32 +68,44 @@ close_apart line_classes (inl e) = rw e (tt, tt)
 close_apart line_classes (inr (inl e)) = rw e (tt, tt)
 close_apart line_classes (inr (inr e)) = rw e (((λ k. cc), tt), (tt, tt))
 
-call_apart : (line_classes : List LineClass) → AtClose line_classes → AreApart (Value ∷ Call ∷ line_classes)
+call_apart : (line_classes : List LineClass) → AtClose line_classes →
+    AreApart (Value ∷ Call ∷ line_classes)
 call_apart line_classes (inl e) = rw e (((λ k. cc), ((λ k. cc), tt)), other Call Fault (λ k. cc))
-call_apart line_classes (inr (inl e)) = rw e (((λ k. cc), ((λ k. cc), tt)), other Call End (λ k. cc))
+call_apart line_classes (inr (inl e)) = rw e
+    (((λ k. cc), ((λ k. cc), tt)), other Call End (λ k. cc))
 call_apart line_classes (inr (inr e)) =
-    rw e (((λ k. cc), ((λ k. cc), ((λ k. cc), tt))), one_apart Call (Rest ∷ End ∷ []) (inr (inr refl)) (λ k. cc) (λ k. cc) (λ k. cc))
+    rw e (
+      ((λ k. cc), ((λ k. cc), ((λ k. cc), tt))),
+      one_apart Call (Rest ∷ End ∷ []) (inr (inr refl)) (λ k. cc) (λ k. cc) (λ k. cc),
+    )
 
-turn_apart : (line_classes : List LineClass) (stage : Stage) → AreInLineOrder line_classes → Leaves line_classes stage →
+turn_apart : (line_classes : List LineClass) (stage : Stage) → AreInLineOrder line_classes →
+    Leaves line_classes stage →
     AtClose (LineClasses (close stage)) → AreApart (line_classes ++ LineClasses (close stage))
-turn_apart line_classes stage (inl e) h closed = rw e (close_apart (LineClasses (close stage)) closed)
+turn_apart line_classes stage (inl e) h closed =
+    rw e (close_apart (LineClasses (close stage)) closed)
 turn_apart line_classes stage (inr (inl e)) h closed =
     rw e (one_apart Value (LineClasses (close stage)) closed (λ k. cc) (λ k. cc) (λ k. cc))
-turn_apart line_classes stage (inr (inr (inl e))) h closed = rw e (call_apart (LineClasses (close stage)) closed)
+turn_apart line_classes stage (inr (inr (inl e))) h closed =
+    rw e (call_apart (LineClasses (close stage)) closed)
 turn_apart line_classes stage (inr (inr (inr (inl e)))) h closed =
     rw (leaves_end line_classes stage h (inl e), e) (other Rest End (λ k. cc))
 turn_apart line_classes stage (inr (inr (inr (inr (inl e))))) h closed =
-    rw (leaves_end line_classes stage h (inr (ap (list_any is_fault) e)), e) (other Fault End (λ k. cc))
+    rw (leaves_end line_classes stage h (inr (ap (list_any is_fault) e)), e)
+    (other Fault End (λ k. cc))
 turn_apart line_classes stage (inr (inr (inr (inr (inr e))))) h closed =
-    rw (leaves_end line_classes stage h (inr (ap (list_any is_fault) e)), e) (((λ k. cc), ((λ k. cc), tt)), other Fault End (λ k. cc))
+    rw (leaves_end line_classes stage h (inr (ap (list_any is_fault) e)), e)
+    (((λ k. cc), ((λ k. cc), tt)), other Fault End (λ k. cc))
 
 octet_apart : (S : ℕ → Signatures) (number : ℕ) (header xs : List ℕ) (x : ℕ) → AreApart
     (map (λ r. r.line_class) (said.due (reader_by S) number header xs x)
     ++ map (λ l. l.0) ((reader_by S).closes number header (xs ++ x ∷ [])))
 unfolding closes_by
 octet_apart S number header xs x =
-    turn_apart (map (λ r. r.line_class) (said.due (reader_by S) number header xs x)) (stage_of (message (S number) header (xs ++ x ∷ [])))
-    ((is_ordered S).ordered number header (xs ++ x ∷ []) (suc (length xs))) (octet_leaves (S number) header xs x)
+    turn_apart (map (λ r. r.line_class) (said.due (reader_by S) number header xs x))
+    (stage_of (message (S number) header (xs ++ x ∷ [])))
+    ((is_ordered S).ordered number header (xs ++ x ∷ []) (suc (length xs)))
+    (octet_leaves (S number) header xs x)
     ((is_closing S).closed number header (xs ++ x ∷ []))
 
 -- No octet has two lines of one class, with those of a close at it.

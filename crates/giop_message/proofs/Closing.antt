@@ -45,7 +45,8 @@ pub lacks_members : (T : Ty) (count : ℕ) → shape_in T ≡ shapes.Members cou
     (count == 0) ≡ body_may_be_missing (Typed T)
 unfolding body_may_be_missing
 lacks_members (Struct zero names parts) count e = ap (λ k. k == 0) (sym (members_of e))
-lacks_members (Struct (suc n) names parts) count e = ne_eqb count 0 (λ none. absurd (suc_none n (members_of e ∙ none)))
+lacks_members (Struct (suc n) names parts) count e =
+    ne_eqb count 0 (λ none. absurd (suc_none n (members_of e ∙ none)))
 lacks_members (Single (Plain p)) count e = absurd cc
 lacks_members (Union (Cases n) scalar select names cases) count e = absurd cc
 lacks_members T count e = absurd cc
@@ -60,7 +61,8 @@ lacks_none T other = refl
 
 short_stage : (S : Signatures) (header : List ℕ) (section : Section) (h : Noted) (lines : List Line)
     (at : ℕ) (outer : List OpenPart) (leaf : Leaf) →
-    close (stage_of (section_and_rest S header section h (Short lines at outer leaf))) ≡ ShortLine ∷ []
+    close (stage_of (section_and_rest S header section h (Short lines at outer leaf)))
+    ≡ ShortLine ∷ []
 unfolding section_then stage_of close
 short_stage S header section h lines at outer leaf = refl
 
@@ -77,9 +79,13 @@ module _ {C : Table} {answers : Answers} {number : ℕ} {header : List ℕ} {m :
       let e = subst (Stands C answers number header s) is f.stands in
       let fit = subst (FitsPart C m.at) is fits in
       let r = read (plain (order header)) [] e.T (12 + length e.front) e.octets in
-      let stage : At ≡ stage_of (section_and_rest S header section nothing_noted r) = ap stage_of e.is ∙ stage_front e.before (section_and_rest S header section nothing_noted r) in
-      let stands = ap (λ leaf. decoders.read_by_leaf C d leaf e.reads.lines ((12 + length e.front) + length e.octets)) fit.goes_on in
-      ap close (stage ∙ ap (λ r. stage_of (section_and_rest S header section nothing_noted r)) (e.reads.is ∙ stands))
+      let stage : At ≡ stage_of (section_and_rest S header section nothing_noted r) =
+      ap stage_of e.is ∙ stage_front e.before
+      (section_and_rest S header section nothing_noted r) in
+      let stands = ap (λ leaf. decoders.read_by_leaf C d leaf e.reads.lines
+      ((12 + length e.front) + length e.octets)) fit.goes_on in
+      ap close (stage ∙ ap (λ r. stage_of (section_and_rest S header section nothing_noted r))
+      (e.reads.is ∙ stands))
       ∙ short_stage S header section nothing_noted e.reads.lines _ _ _
 
   pub padding_stage : {body_type_id : BodyTypeId} → m.part ≡ parts.Padding body_type_id →
@@ -141,7 +147,8 @@ last_then : (number place offset : ℕ) (held : List ℕ) →
     ≡ rest_line number offset held ++ end_line number
 unfolding closing_text message_line_text line_class_of text_of
 last_then number place offset held =
-    rw (rest_said number offset held) (ap (λ z. rest_line number offset held ++ z) (append-nil (numbered_line number (codes "end")) ∙ end_said number))
+    rw (rest_said number offset held) (ap (λ z. rest_line number offset held ++ z)
+    (append-nil (numbered_line number (codes "end")) ∙ end_said number))
 
 rest_ends : (number place offset : ℕ) (held : List ℕ) →
     closing_text number place (close (In_rest offset held))
@@ -158,12 +165,15 @@ module _ {C : Table} {answers : Answers} {number : ℕ} {header : List ℕ} {m :
   ended_by : (p : Part) → m.part ≡ p → is_short Close ≡ false →
       closing_text number place Close ≡ last_rest_text number p ++ end_line number
   unfolding close is_short
-  ended_by (parts.Typed section d) is e = absurd (false≢true (sym (rw (section_short f fits is) at e)))
+  ended_by (parts.Typed section d) is e =
+      absurd (false≢true (sym (rw (section_short f fits is) at e)))
   ended_by (parts.Padding body_type_id) is e =
       let stage = padding_stage f fits is in
       ap (λ stage. closing_text number place (close stage)) stage
-      ∙ (ap (closing_text number place) (if_ends (body_may_be_missing (body_type C body_type_id)) (rw stage at e)) ∙ ends_text_is number place)
-  ended_by (parts.Rest r) is e = ap (λ stage. closing_text number place (close stage)) (rest_stage f fits is) ∙ rest_ends number place r.offset r.held.items
+      ∙ (ap (closing_text number place) (if_ends (body_may_be_missing (body_type C body_type_id))
+      (rw stage at e)) ∙ ends_text_is number place)
+  ended_by (parts.Rest r) is e = ap (λ stage. closing_text number place (close stage))
+      (rest_stage f fits is) ∙ rest_ends number place r.offset r.held.items
 
   pub ended_text : is_short Close ≡ false →
       closing_text number place Close ≡ last_rest_text m.number m.part ++ end_line m.number

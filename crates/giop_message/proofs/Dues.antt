@@ -17,26 +17,34 @@ due_both : (S : Signatures) (header s xs ys : List ℕ) →
 unfolding due
 due_both S header s xs ys =
     let front = message_lines (message S header s) in
-    let e : message_lines (message S header (s ++ (xs ++ ys))) ≡ front ++ (due S header s xs ++ due S header (s ++ xs) ys) =
-    ap (λ z. message_lines (message S header z)) (sym (append_assoc s xs ys)) ∙ (told_more S header (s ++ xs) ys
-    ∙ (ap (λ emitted. emitted ++ due S header (s ++ xs) ys) (told_more S header s xs) ∙ append_assoc front (due S header s xs) (due S header (s ++ xs) ys))) in
-    ap (drop (length front)) e ∙ drop-append_seam front (due S header s xs ++ due S header (s ++ xs) ys)
+    let e : message_lines (message S header (s ++ (xs ++ ys))) ≡ front
+    ++ (due S header s xs ++ due S header (s ++ xs) ys) =
+    ap (λ z. message_lines (message S header z)) (sym (append_assoc s xs ys))
+    ∙ (told_more S header (s ++ xs) ys
+    ∙ (ap (λ emitted. emitted ++ due S header (s ++ xs) ys) (told_more S header s xs)
+    ∙ append_assoc front (due S header s xs) (due S header (s ++ xs) ys))) in
+    ap (drop (length front)) e ∙ drop-append_seam front
+    (due S header s xs ++ due S header (s ++ xs) ys)
 
 -- lines after an offset have the same places, counted from a later one
 moved : (number place offset more : ℕ) (emitted : List LineAt) → Behind (offset + more) emitted →
-    message_lines_text number place offset emitted ≡ message_lines_text number (place + more) (offset + more) emitted
+    message_lines_text number place offset emitted
+    ≡ message_lines_text number (place + more) (offset + more) emitted
 unfolding message_lines_text
 moved number place offset more [] behind = refl
 moved number place offset more (t ∷ ts) behind =
-    let e : place + (t.at - offset) ≡ (place + more) + (t.at - (offset + more)) = omega (arith, behind.0) in
-    rw e (ap (λ z. message_line_text number ((place + more) + (t.at - (offset + more))) t.message_line ++ z) (moved number place offset more ts behind.1))
+    let e : place + (t.at - offset) ≡ (place + more) + (t.at - (offset + more)) =
+    omega (arith, behind.0) in
+    rw e (ap (λ z. message_line_text number ((place + more) + (t.at - (offset + more)))
+    t.message_line ++ z) (moved number place offset more ts behind.1))
 
 due_behind : (S : Signatures) (header s more : List ℕ) →
     Behind (12 + length s) (due S header s more)
 unfolding due
 due_behind S header s more =
     let g = told_begins S header s more in
-    subst (Behind (12 + length s)) (sym (ap (drop (length (message_lines (message S header s)))) g.1 ∙ drop-append_seam (message_lines (message S header s)) g.0)) g.2
+    subst (Behind (12 + length s)) (sym (ap (drop (length (message_lines (message S header s)))) g.1
+    ∙ drop-append_seam (message_lines (message S header s)) g.0)) g.2
 
 pub text_both : (S : Signatures) (number place : ℕ) (header s xs ys : List ℕ) →
     due_text S number place header s (xs ++ ys) ≡ due_text S number place header s xs
@@ -46,25 +54,32 @@ text_both S number place header s xs ys =
     let n = 12 + length s in
     let e : 12 + length (s ++ xs) ≡ n + length xs = omega (arith, length-append s xs) in
     ap (message_lines_text number place n) (due_both S header s xs ys)
-    ∙ (flat_map-append (λ t. message_line_text number (place + (t.at - n)) t.message_line) (due S header s xs) (due S header (s ++ xs) ys)
+    ∙ (flat_map-append (λ t. message_line_text number (place + (t.at - n)) t.message_line)
+    (due S header s xs) (due S header (s ++ xs) ys)
     ∙ ap (λ z. message_lines_text number place n (due S header s xs) ++ z)
-    (moved number place n (length xs) (due S header (s ++ xs) ys) (subst (λ k. Behind k (due S header (s ++ xs) ys)) e (due_behind S header (s ++ xs) ys))
-    ∙ ap (λ k. message_lines_text number (place + length xs) k (due S header (s ++ xs) ys)) (sym e)))
+    (moved number place n (length xs) (due S header (s ++ xs) ys)
+    (subst (λ k. Behind k (due S header (s ++ xs) ys)) e (due_behind S header (s ++ xs) ys))
+    ∙ ap (λ k. message_lines_text number (place + length xs) k (due S header (s ++ xs) ys))
+    (sym e)))
 
 pub text_none : (S : Signatures) (number place : ℕ) (header s : List ℕ) →
     due_text S number place header s [] ≡ []
 unfolding due_text message_lines_text due
 text_none S number place header s =
-    rw (append-nil s) (ap (flat_map (λ t. message_line_text number (place + (t.at - (12 + length s))) t.message_line)) (drop_all_of (message_lines (message S header s))))
+    rw (append-nil s) (ap (flat_map (λ t. message_line_text number
+    (place + (t.at - (12 + length s))) t.message_line))
+    (drop_all_of (message_lines (message S header s))))
   where
     drop_all_of : (emitted : List LineAt) → drop (length emitted) emitted ≡ []
-    drop_all_of emitted = ap (drop (length emitted)) (sym (append-nil emitted)) ∙ drop-append_seam emitted []
+    drop_all_of emitted = ap (drop (length emitted)) (sym (append-nil emitted))
+        ∙ drop-append_seam emitted []
 
 -- after a fault there are no lines
 over_goes : (S : Signatures) (header : List ℕ) (emitted : List LineAt) (at : ℕ) (t : List ℕ) →
     goes_on S header (ReadTo emitted at Over) t ≡ ReadTo emitted at Over
 over_goes S header emitted at [] = refl
-over_goes S header emitted at (b ∷ t) = ap (λ m. goes_on S header m t) (sym (stays S header emitted at b)) ∙ over_goes S header emitted at t
+over_goes S header emitted at (b ∷ t) = ap (λ m. goes_on S header m t)
+    (sym (stays S header emitted at b)) ∙ over_goes S header emitted at t
 
 over_same : (S : Signatures) (header t : List ℕ) (m : Message) → is_over (stage_of m) ≡ true →
     message_lines (goes_on S header m t) ≡ message_lines m
@@ -76,8 +91,11 @@ pub text_over : (S : Signatures) (number place : ℕ) (header s more : List ℕ)
     is_over (stage_of (message S header s)) ≡ true → due_text S number place header s more ≡ []
 unfolding due_text message_lines_text due
 text_over S number place header s more e =
-    let same : message_lines (message S header (s ++ more)) ≡ message_lines (message S header s) ++ [] =
-    ap message_lines (message_resumes S header s more) ∙ (over_same S header more (message S header s) e ∙ sym (append-nil (message_lines (message S header s)))) in
+    let same : message_lines (message S header (s ++ more)) ≡ message_lines (message S header s)
+    ++ [] =
+    ap message_lines (message_resumes S header s more)
+    ∙ (over_same S header more (message S header s) e
+    ∙ sym (append-nil (message_lines (message S header s)))) in
     rw (same, drop-append_seam (message_lines (message S header s)) []) refl
 
 -- ---- the octets so far, and more of them
@@ -88,28 +106,35 @@ pub text_so_far : (S : Signatures) (number place : ℕ) (header s octets : List 
     ++ due_text S number (place + i) header (s ++ take i octets) more
 text_so_far S number place header s octets i more h =
     text_both S number place header s (take i octets) more
-    ∙ ap (λ k. due_text S number place header s (take i octets) ++ due_text S number (place + k) header (s ++ take i octets) more) (length-take-le i octets h)
+    ∙ ap (λ k. due_text S number place header s (take i octets)
+    ++ due_text S number (place + k) header (s ++ take i octets) more)
+    (length-take-le i octets h)
 
 -- all of it, where the message is over
 pub text_ended : (S : Signatures) (number place : ℕ) (header s octets : List ℕ) (n : ℕ) →
     is_over (stage_of (message S header (s ++ take n octets))) ≡ true →
     due_text S number place header s octets ≡ due_text S number place header s (take n octets)
 text_ended S number place header s octets n e =
-    ap (due_text S number place header s) (sym (take-append-drop n octets)) ∙ (text_both S number place header s (take n octets) (drop n octets)
+    ap (due_text S number place header s) (sym (take-append-drop n octets))
+    ∙ (text_both S number place header s (take n octets) (drop n octets)
     ∙ (ap (λ z. due_text S number place header s (take n octets) ++ z)
-    (text_over S number (place + length (take n octets)) header (s ++ take n octets) (drop n octets) e) ∙ append-nil _))
+    (text_over S number (place + length (take n octets)) header (s ++ take n octets) (drop n octets)
+    e) ∙ append-nil _))
 
 -- ---- a fault after octets that have none
 
 pub faulted_behind : (S : Signatures) (header s octets : List ℕ) (i n : ℕ) → i ≤ length octets →
     FaultedAt S header (s ++ take i octets) (drop i octets) n → FaultedAt S header s octets (i + n)
 faulted_behind S header s octets i n h f =
-    let further : (k : ℕ) → (s ++ take i octets) ++ take k (drop i octets) ≡ s ++ take (i + k) octets =
-    λ k. append_assoc s (take i octets) (take k (drop i octets)) ∙ ap (λ xs. s ++ xs) (sym (take-add i k octets)) in
+    let further : (k : ℕ) → (s ++ take i octets) ++ take k (drop i octets) ≡ s
+    ++ take (i + k) octets =
+    λ k. append_assoc s (take i octets) (take k (drop i octets))
+    ∙ ap (λ xs. s ++ xs) (sym (take-add i k octets)) in
     let e : (i + n) - 1 ≡ i + (n - 1) = omega (arith, f.some) in
     record {
       some = omega (arith, f.some);
       within = omega (arith, f.within, length-drop i octets, h);
       here = subst (λ xs. is_over (stage_of (message S header xs)) ≡ true) (further n) f.here;
-      not_before = rw e (subst (λ xs. is_over (stage_of (message S header xs)) ≡ false) (further (n - 1)) f.not_before);
+      not_before = rw e (subst (λ xs. is_over (stage_of (message S header xs)) ≡ false)
+          (further (n - 1)) f.not_before);
     }

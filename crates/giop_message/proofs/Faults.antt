@@ -26,7 +26,8 @@ step_by false b c d h f = f h
 any_append : (xs ys : List LineAt) → list_any is_wrong xs ≡ false →
     list_any is_wrong (xs ++ ys) ≡ list_any is_wrong ys
 any_append [] ys h = refl
-any_append (x ∷ xs) ys h = step_by (is_wrong x) (list_any is_wrong xs) (list_any is_wrong (xs ++ ys)) (list_any is_wrong ys) h (any_append xs ys)
+any_append (x ∷ xs) ys h = step_by (is_wrong x) (list_any is_wrong xs)
+    (list_any is_wrong (xs ++ ys)) (list_any is_wrong ys) h (any_append xs ys)
 
 none_call : (n : ℕ) (emitted : List LineAt) → MayCall n emitted → list_any is_wrong emitted ≡ false
 unfolding is_wrong line_class_of line_at
@@ -39,7 +40,8 @@ unfolding section_lines is_wrong line_class_of line_at
 none_told root is h [] = refl
 none_told root is h (l ∷ ls) =
     let now = note (is_header_root root) h l in
-    any_append (calls is l now) (section_lines root is now ls) (none_call l.at (calls is l now) (calls_is is l now)) ∙ none_told root is now ls
+    any_append (calls is l now) (section_lines root is now ls)
+    (none_call l.at (calls is l now) (calls_is is l now)) ∙ none_told root is now ls
 
 front_tallies : (front : List LineAt) (m : Message) → list_any is_wrong front ≡ false → Tallies m →
     Tallies (with_front front m)
@@ -55,16 +57,19 @@ module _ (section : Section) (is : Bool) (next : Noted → ℕ → List ℕ → 
   unfolding section_then is_over is_wrong line_class_of line_at
   passes_tallies k (Done lines at s) =
       let now = noted (is_header_root R) k lines in
-      front_tallies (section_lines R is k lines) (next now at s) (none_told R is k lines) (tallies now at s)
+      front_tallies (section_lines R is k lines) (next now at s) (none_told R is k lines)
+      (tallies now at s)
   passes_tallies k (Short lines at outer leaf) = sym (none_told R is k lines)
   passes_tallies k (Fault lines at why T) =
-      sym (any_append (section_lines R is k lines) (line_at at (FaultLine why) ∷ []) (none_told R is k lines))
+      sym (any_append (section_lines R is k lines) (line_at at (FaultLine why) ∷ [])
+      (none_told R is k lines))
 
 rest_tallies : (full offset at : ℕ) (s : List ℕ) → Tallies (rest_in full offset at s)
 unfolding rest_in is_over is_wrong line_class_of line_at
 rest_tallies zero offset at s = refl
 rest_tallies (suc full) offset at s =
-    front_tallies (line_at (at + 32) (RestLine offset (take 32 s)) ∷ []) (rest_in full (offset + 32) (at + 32) (drop 32 s)) refl
+    front_tallies (line_at (at + 32) (RestLine offset (take 32 s)) ∷ [])
+    (rest_in full (offset + 32) (at + 32) (drop 32 s)) refl
     (rest_tallies full (offset + 32) (at + 32) (drop 32 s))
 
 -- a reader's messages are all so
@@ -77,9 +82,11 @@ all_rest at s = rest_tallies _ 0 at s
 
 module _ (S : Signatures) (header : List ℕ) where
   reads_tally : (section : Section) (T : Ty) → ((h : Noted) → AllTally (after S header section h)) →
-      AllTally (λ at s. section_and_rest S header section nothing_noted (read (plain (order header)) [] T at s))
+      AllTally (λ at s. section_and_rest S header section nothing_noted
+      (read (plain (order header)) [] T at s))
   reads_tally section T tallies at s =
-      passes_tallies section (may_call header section) (after S header section) tallies nothing_noted (read (plain (order header)) [] T at s)
+      passes_tallies section (may_call header section) (after S header section) tallies
+      nothing_noted (read (plain (order header)) [] T at s)
 
   padded_tallies : (t : BodyType) → AllTally (body S header t) → AllTally (padded S header t)
   unfolding padded is_over
@@ -91,7 +98,8 @@ module _ (S : Signatures) (header : List ℕ) where
       go false = tallies (at + padding at 8) (drop (padding at 8) s)
 
   pub after_tallies : (section : Section) (k : Noted) → AllTally (after S header section k)
-  after_tallies section k = after_has S header AllTally all_rest reads_tally padded_tallies section k
+  after_tallies section k = after_has S header AllTally all_rest reads_tally padded_tallies section
+      k
 
   message_tallies : AllTally (of_header S header (S.header (minor header) (kind header)))
   message_tallies = message_has S header AllTally all_rest reads_tally padded_tallies

@@ -38,7 +38,8 @@ module _ (S : Signatures) (header : List ℕ) (section : Section) (C : Table) (d
     (lines : List Line) (at : ℕ) where
   -- a section whose decoder goes on isn't over, and the message has its lines
   standing_over : (leaf : Option Innermost) →
-      is_over (stage_of (section_and_rest S header section nothing_noted (decoders.read_by_leaf C d leaf lines at)))
+      is_over (stage_of (section_and_rest S header section nothing_noted
+      (decoders.read_by_leaf C d leaf lines at)))
       ≡ false
   unfolding section_then stage_of is_over
   standing_over None =
@@ -46,11 +47,13 @@ module _ (S : Signatures) (header : List ℕ) (section : Section) (C : Table) (d
       let h = noted (is_header_root R) nothing_noted lines in
       let next = after S header section h at [] in
       ap is_over (stage_front (section_lines R (may_call header section) nothing_noted lines) next)
-      ∙ none_over at next (after_silent S header section h at) (after_tallies S header section h at [])
+      ∙ none_over at next (after_silent S header section h at)
+      (after_tallies S header section h at [])
   standing_over (Some leaf) = refl
 
   standing_told : (leaf : Option Innermost) →
-      message_lines (section_and_rest S header section nothing_noted (decoders.read_by_leaf C d leaf lines at))
+      message_lines (section_and_rest S header section nothing_noted
+      (decoders.read_by_leaf C d leaf lines at))
       ≡ section_lines (root_of section) (may_call header section) nothing_noted lines
   unfolding section_then message_lines
   standing_told None =
@@ -58,7 +61,8 @@ module _ (S : Signatures) (header : List ℕ) (section : Section) (C : Table) (d
       let h = noted (is_header_root R) nothing_noted lines in
       let emitted = section_lines R (may_call header section) nothing_noted lines in
       let next = after S header section h at [] in
-      told_front emitted next ∙ (ap (λ ts. emitted ++ ts) (told_silent at next (after_silent S header section h at)) ∙ append-nil emitted)
+      told_front emitted next ∙ (ap (λ ts. emitted ++ ts)
+      (told_silent at next (after_silent S header section h at)) ∙ append-nil emitted)
   standing_told (Some leaf) = refl
 
   lines_standing : (leaf : Option Innermost) →
@@ -71,7 +75,8 @@ section_over : {C : Table} {S : Signatures} {number : ℕ} {header s : List ℕ}
     Decodes C S number header s section d → is_over (stage_of (message S header s)) ≡ false
 section_over {C} {S} {number} {header} {s} {section} {d} e =
     let r = read (plain (order header)) [] e.T (12 + length e.front) e.octets in
-    ap (λ m. is_over (stage_of m)) e.is ∙ (ap is_over (stage_front e.before (section_and_rest S header section nothing_noted r))
+    ap (λ m. is_over (stage_of m)) e.is ∙ (ap is_over
+    (stage_front e.before (section_and_rest S header section nothing_noted r))
     ∙ (ap (λ r. is_over (stage_of (section_and_rest S header section nothing_noted r))) e.reads.is
     ∙ standing_over S header section C d e.reads.lines _ d.leaf))
 
@@ -90,22 +95,26 @@ follows_goes {C} {answers} {number} {header} {m} {s} f = go m.part f.stands
 -- ---- the request id
 
 pub told_more : (S : Signatures) (header s more : List ℕ) →
-    message_lines (message S header (s ++ more)) ≡ message_lines (message S header s) ++ due S header s more
+    message_lines (message S header (s ++ more)) ≡ message_lines (message S header s)
+    ++ due S header s more
 unfolding due
 told_more S header s more =
     let g = told_begins S header s more in
     g.1 ∙ ap (λ ts. message_lines (message S header s) ++ ts)
-    (sym (ap (drop (length (message_lines (message S header s)))) g.1 ∙ drop-append_seam (message_lines (message S header s)) g.0))
+    (sym (ap (drop (length (message_lines (message S header s)))) g.1
+    ∙ drop-append_seam (message_lines (message S header s)) g.0))
 
 first_all : (a b c : Option ℕ) → first_id a (first_id b c) ≡ first_id (first_id a b) c
 unfolding first_id
 first_all (Some a) b c = refl
 first_all None b c = refl
 
-pub id_both : (xs ys : List LineAt) → first_request_id (xs ++ ys) ≡ first_id (first_request_id xs) (first_request_id ys)
+pub id_both : (xs ys : List LineAt) → first_request_id (xs ++ ys)
+    ≡ first_id (first_request_id xs) (first_request_id ys)
 unfolding first_request_id first_id
 id_both [] ys = refl
-id_both (x ∷ xs) ys = ap (first_id (id_in x.message_line)) (id_both xs ys) ∙ first_all (id_in x.message_line) (first_request_id xs) (first_request_id ys)
+id_both (x ∷ xs) ys = ap (first_id (id_in x.message_line)) (id_both xs ys)
+    ∙ first_all (id_in x.message_line) (first_request_id xs) (first_request_id ys)
 
 pub first_none : (a : Option ℕ) → first_id a None ≡ a
 unfolding first_id
@@ -113,11 +122,15 @@ first_none (Some a) = refl
 first_none None = refl
 
 -- it stays where more lines have no request id
-pub id_stays : (S : Signatures) (header s more : List ℕ) → first_request_id (due S header s more) ≡ None →
-    first_request_id (message_lines (message S header (s ++ more))) ≡ first_request_id (message_lines (message S header s))
+pub id_stays : (S : Signatures) (header s more : List ℕ) →
+    first_request_id (due S header s more) ≡ None →
+    first_request_id (message_lines (message S header (s ++ more)))
+    ≡ first_request_id (message_lines (message S header s))
 id_stays S header s more e =
-    ap first_request_id (told_more S header s more) ∙ (id_both (message_lines (message S header s)) (due S header s more)
-    ∙ (ap (first_id (first_request_id (message_lines (message S header s)))) e ∙ first_none (first_request_id (message_lines (message S header s)))))
+    ap first_request_id (told_more S header s more)
+    ∙ (id_both (message_lines (message S header s)) (due S header s more)
+    ∙ (ap (first_id (first_request_id (message_lines (message S header s)))) e
+    ∙ first_none (first_request_id (message_lines (message S header s)))))
 
 call_no_id : (n : ℕ) (emitted : List LineAt) → MayCall n emitted → first_request_id emitted ≡ None
 unfolding first_request_id id_in line_at first_id
@@ -133,7 +146,8 @@ wrongs_no_id r = refl
 line_id : (section : Section) (is : Bool) (h : Noted) (l : Line) (ls : List Line) →
     first_request_id (section_lines (root_of section) is h (l ∷ ls))
     ≡ first_id (id_in (ValueLine (root_of section) l.path l.value))
-    (first_request_id (section_lines (root_of section) is (note (is_header_root (root_of section)) h l) ls))
+    (first_request_id (section_lines (root_of section) is
+    (note (is_header_root (root_of section)) h l) ls))
 unfolding section_lines first_request_id line_at
 line_id section is h l ls =
     let R = root_of section in
@@ -143,7 +157,8 @@ line_id section is h l ls =
     (rw (call_no_id l.at (calls is l now) (calls_is is l now), first_none) refl)
 
 -- outside of the header no line has one
-others_none : (section : Section) → is_header section ≡ false → (path : List PathSegment) (v : Value) →
+others_none : (section : Section) → is_header section ≡ false →
+    (path : List PathSegment) (v : Value) →
     id_in (ValueLine (root_of section) path v) ≡ None
 unfolding id_in
 others_none sections.Header e path v = absurd (false≢true (sym e))
@@ -155,14 +170,16 @@ no_id : (section : Section) → is_header section ≡ false →
 unfolding section_lines first_request_id first_id
 no_id section other is h [] = refl
 no_id section other is h (l ∷ ls) =
-    line_id section is h l ls ∙ rw (others_none section other l.path l.value) (no_id section other is (note (is_header_root (root_of section)) h l) ls)
+    line_id section is h l ls ∙ rw (others_none section other l.path l.value)
+    (no_id section other is (note (is_header_root (root_of section)) h l) ls)
 
 pub section_no_id : (section : Section) → is_header section ≡ false →
     (is : Bool) (h : Noted) (r : Read) →
     first_request_id (section_lines (root_of section) is h (lines_of r) ++ wrongs r) ≡ None
 unfolding first_id
 section_no_id section other is h r =
-    id_both (section_lines (root_of section) is h (lines_of r)) (wrongs r) ∙ rw (no_id section other is h (lines_of r), wrongs_no_id r) refl
+    id_both (section_lines (root_of section) is h (lines_of r)) (wrongs r)
+    ∙ rw (no_id section other is h (lines_of r), wrongs_no_id r) refl
 
 first_same : (a b : Option ℕ) → first_of a b ≡ first_id a b
 unfolding first_id
@@ -188,7 +205,8 @@ lines_noted is h (l ∷ ls) =
     let id = id_in (ValueLine roots.Header l.path l.value) in
     let later = first_request_id (section_lines roots.Header is now ls) in
     lines_noted is now ls ∙ (ap (λ id. first_id id later) (note_id h l.at l.path l.value)
-    ∙ (sym (first_all h.request_id id later) ∙ ap (first_id h.request_id) (sym (line_id sections.Header is h l ls))))
+    ∙ (sym (first_all h.request_id id later)
+    ∙ ap (first_id h.request_id) (sym (line_id sections.Header is h l ls))))
 
 without_name_id : (quiet : Bool) (h : Noted) → (without_name_if quiet h).request_id ≡ h.request_id
 without_name_id true h = refl
@@ -210,19 +228,28 @@ module _ {C : Table} {S : Signatures} {number : ℕ} {header s : List ℕ} {sect
       ≡ section_lines (root_of section) (may_call header section) nothing_noted e.reads.lines
   header_told in_it =
       let first = subst (λ x. IsFirst header x e.T e.before e.front) in_it e.first in
-      ap message_lines e.is ∙ (told_front e.before (section_and_rest S header section nothing_noted noted_reading)
-      ∙ (ap (λ ts. ts ++ message_lines (section_and_rest S header section nothing_noted noted_reading)) first.1
-      ∙ (ap (λ r. message_lines (section_and_rest S header section nothing_noted r)) e.reads.is ∙ standing_told S header section C d e.reads.lines _ d.leaf)))
+      ap message_lines e.is ∙ (told_front e.before
+      (section_and_rest S header section nothing_noted noted_reading)
+      ∙ (ap (λ ts. ts ++ message_lines (section_and_rest S header section nothing_noted
+      noted_reading)) first.1
+      ∙ (ap (λ r. message_lines (section_and_rest S header section nothing_noted r)) e.reads.is
+      ∙ standing_told S header section C d e.reads.lines _ d.leaf)))
 
   pub id_noted : section ≡ sections.Header →
-      (noted_of true noted_reading).request_id ≡ first_request_id (message_lines (message S header s))
+      (noted_of true noted_reading).request_id
+      ≡ first_request_id (message_lines (message S header s))
   unfolding first_id
   id_noted in_it =
-      let lines : lines_of noted_reading ≡ e.reads.lines = ap lines_of e.reads.is ∙ lines_standing S header section C d e.reads.lines _ d.leaf in
-      let emitted = subst (λ x. message_lines (message S header s) ≡ section_lines (root_of x) (may_call header x) nothing_noted e.reads.lines) in_it (header_told in_it) in
-      without_name_id (ends_in_string noted_reading) (noted true nothing_noted (lines_of noted_reading))
+      let lines : lines_of noted_reading ≡ e.reads.lines =
+      ap lines_of e.reads.is ∙ lines_standing S header section C d e.reads.lines _ d.leaf in
+      let emitted = subst (λ x. message_lines (message S header s)
+      ≡ section_lines (root_of x) (may_call header x) nothing_noted e.reads.lines) in_it
+      (header_told in_it) in
+      without_name_id (ends_in_string noted_reading)
+      (noted true nothing_noted (lines_of noted_reading))
       ∙ (ap (λ ls. (noted true nothing_noted ls).request_id) lines
-      ∙ (lines_noted (may_call header sections.Header) nothing_noted e.reads.lines ∙ ap first_request_id (sym emitted)))
+      ∙ (lines_noted (may_call header sections.Header) nothing_noted e.reads.lines
+      ∙ ap first_request_id (sym emitted)))
 
 -- the request id that a message answers inside a section
 pub id_read : {C : Table} {answers : Answers} {number : ℕ} {header : List ℕ} {m : Struct_of}
@@ -231,7 +258,8 @@ pub id_read : {C : Table} {answers : Answers} {number : ℕ} {header : List ℕ}
     (r : Read) × decoders.KeepsNoted (root_of section) d r
     × (cond (is_header section) (noted_of true r).request_id m.id
     ≡ first_request_id (message_lines (message (signatures_of C (answers number)) header s)))
-id_read {C} {answers} {number} {header} {m} {s} {section} {d} f is = (noted_reading stands, stands.reads.keeps_noted, go (is_header section) refl)
+id_read {C} {answers} {number} {header} {m} {s} {section} {d} f is =
+    (noted_reading stands, stands.reads.keeps_noted, go (is_header section) refl)
   where
     stands : Decodes C (signatures_of C (answers number)) number header s section d
     stands = subst (Stands C answers number header s) is f.stands
@@ -261,20 +289,35 @@ at_more {s = s} more is move = record {
 module _ {C : Table} {answers : Answers} {number : ℕ} {header : List ℕ} {m : Struct_of} {s : List ℕ}
     (f : Follows C answers number header m s) (more : List ℕ) where
   pub is_at : {n : Struct_of} → Moved m n (length more) → IsAt number header n (s ++ more)
-  is_at move = at_more more (record { same_number = f.same_number; same_header = f.same_header; at = f.at }) move
+  is_at move = at_more more (record {
+    same_number = f.same_number;
+    same_header = f.same_header;
+    at =
+        f.at;
+  }) move
 
   pub follows_on : {n : Struct_of} → Moved m n (length more) → n.id ≡ cond (in_header n.part) None
-      (first_request_id (message_lines (message (signatures_of C (answers number)) header (s ++ more)))) →
+      (first_request_id (message_lines (message (signatures_of C (answers number)) header
+      (s ++ more)))) →
       Stands C answers number header (s ++ more) n.part →
       Follows C answers number header n (s ++ more)
   follows_on move id stands =
       let is = is_at move in
-      record { same_number = is.same_number; same_header = is.same_header; id = id; at = is.at; stands = stands }
+      record {
+        same_number = is.same_number;
+        same_header = is.same_header;
+        id = id;
+        at = is.at;
+        stands = stands;
+      }
 
   -- where no line has a request id the message keeps the one that it has
-  pub id_kept : first_request_id (due (signatures_of C (answers number)) header s more) ≡ None → in_header m.part ≡ false →
-      m.id ≡ first_request_id (message_lines (message (signatures_of C (answers number)) header (s ++ more)))
-  id_kept none past = f.id ∙ rw past (sym (id_stays (signatures_of C (answers number)) header s more none))
+  pub id_kept : first_request_id (due (signatures_of C (answers number)) header s more) ≡ None →
+      in_header m.part ≡ false →
+      m.id ≡ first_request_id (message_lines
+      (message (signatures_of C (answers number)) header (s ++ more)))
+  id_kept none past = f.id ∙ rw past (sym (id_stays (signatures_of C (answers number)) header s more
+      none))
 
 -- a message of the same fields follows what it does
 pub same_fields : {C : Table} {answers : Answers} {number : ℕ} {header : List ℕ} {m n : Struct_of}

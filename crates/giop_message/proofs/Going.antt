@@ -22,12 +22,14 @@ use Rattle.giop_message.specs.StageSteps.{rest_step, message_step, advance, goes
 
 -- a reader for which one octet more is one step
 abbrev pub Goes : Signatures → List ℕ → (ℕ → List ℕ → Message) → Type 0
-Goes S header reader = (at : ℕ) (s : List ℕ) (b : ℕ) → reader at (s ++ b ∷ []) ≡ advance S header (reader at s) b
+Goes S header reader = (at : ℕ) (s : List ℕ) (b : ℕ) →
+    reader at (s ++ b ∷ []) ≡ advance S header (reader at s) b
 
 pub front_twice : (front mid : List LineAt) (m : Message) →
     with_front front (with_front mid m) ≡ with_front (front ++ mid) m
 unfolding with_front
-front_twice front mid (ReadTo emitted at stage) = ap (λ ls. ReadTo ls at stage) (sym (append_assoc front mid emitted))
+front_twice front mid (ReadTo emitted at stage) =
+    ap (λ ls. ReadTo ls at stage) (sym (append_assoc front mid emitted))
 
 pub front_none : (m : Message) → with_front [] m ≡ m
 unfolding with_front
@@ -36,7 +38,8 @@ front_none (ReadTo emitted at stage) = refl
 pub front_advance : (S : Signatures) (header : List ℕ) (front : List LineAt) (m : Message) (b : ℕ) →
     with_front front (advance S header m b) ≡ advance S header (with_front front m) b
 unfolding with_front advance
-front_advance S header front (ReadTo emitted at stage) b = front_twice front emitted (message_step S header at stage b)
+front_advance S header front (ReadTo emitted at stage) b =
+    front_twice front emitted (message_step S header at stage b)
 
 pub stays : (S : Signatures) (header : List ℕ) (emitted : List LineAt) (at b : ℕ) →
     ReadTo emitted at Over ≡ advance S header (ReadTo emitted at Over) b
@@ -54,26 +57,32 @@ section_lines_append root is h (x ∷ xs) ys =
     let now = note (is_header_root root) h x in
     let first = line_at x.at (ValueLine root x.path x.value) ∷ calls is x now in
     ap (λ ls. first ++ ls) (section_lines_append root is now xs ys)
-    ∙ sym (append_assoc first (section_lines root is now xs) (section_lines root is (noted (is_header_root root) now xs) ys))
+    ∙ sym (append_assoc first (section_lines root is now xs)
+    (section_lines root is (noted (is_header_root root) now xs) ys))
 
 module _ (section : Section) (is : Bool) (next : Noted → ℕ → List ℕ → Message) where
   abbrev R : Root
   R = root_of section
 
   pub passes_front : (h : Noted) (front : List Line) (r : Read) →
-      section_then section is next h (ReadResult.with_front front r) ≡ with_front (section_lines R is h front)
+      section_then section is next h (ReadResult.with_front front r)
+      ≡ with_front (section_lines R is h front)
       (section_then section is next (noted (is_header_root R) h front) r)
   unfolding section_then with_front
   passes_front h front (Done lines at s) =
       let now = noted (is_header_root R) h front in
       rw (section_lines_append R is h front lines, noted-append (is_header_root R) h front lines)
-      (sym (front_twice (section_lines R is h front) (section_lines R is now lines) (next (noted (is_header_root R) now lines) at s)))
+      (sym (front_twice (section_lines R is h front) (section_lines R is now lines)
+      (next (noted (is_header_root R) now lines) at s)))
   passes_front h front (Short lines at outer leaf) =
-      rw (section_lines_append R is h front lines, noted-append (is_header_root R) h front lines) refl
+      rw (section_lines_append R is h front lines, noted-append (is_header_root R) h front lines)
+      refl
   passes_front h front (Fault lines at why T) =
       rw (section_lines_append R is h front lines)
       (ap (λ ls. ReadTo ls at Over)
-      (append_assoc (section_lines R is h front) (section_lines R is (noted (is_header_root R) h front) lines) (line_at at (FaultLine why) ∷ [])))
+      (append_assoc (section_lines R is h front)
+      (section_lines R is (noted (is_header_root R) h front) lines)
+      (line_at at (FaultLine why) ∷ [])))
 
 -- a section goes on as its reading does, where what follows it goes on
 pub through_goes : (S : Signatures) (header : List ℕ) (section : Section) →
@@ -85,16 +94,20 @@ through_goes S header section goes h (Done lines at s) b =
     let R = root_of section in
     let now = noted (is_header_root R) h lines in
     ap (with_front (section_lines R (may_call header section) h lines)) (goes now at s b)
-    ∙ front_advance S header (section_lines R (may_call header section) h lines) (after S header section now at s) b
+    ∙ front_advance S header (section_lines R (may_call header section) h lines)
+    (after S header section now at s) b
 through_goes S header section goes h (Short lines at outer leaf) b =
-    passes_front section (may_call header section) (after S header section) h lines (decoder.step (plain (order header)) [] outer leaf at b)
+    passes_front section (may_call header section) (after S header section) h lines
+    (decoder.step (plain (order header)) [] outer leaf at b)
 through_goes S header section goes h (Fault lines at why T) b =
-    stays S header (section_lines (root_of section) (may_call header section) h lines ++ line_at at (FaultLine why) ∷ []) at b
+    stays S header (section_lines (root_of section) (may_call header section) h lines
+    ++ line_at at (FaultLine why) ∷ []) at b
 
 -- ---- the rest
 
 pub rest_step_full : (offset : ℕ) (held : List ℕ) (at : ℕ) → length held ≡ 32 →
-    rest_step offset held at ≡ ReadTo (line_at at (RestLine offset held) ∷ []) at (In_rest (offset + 32) [])
+    rest_step offset held at ≡ ReadTo (line_at at (RestLine offset held) ∷ []) at
+    (In_rest (offset + 32) [])
 unfolding rest_step
 rest_step_full offset held at e = rw eq-eqb refl
 
@@ -109,11 +122,17 @@ rest_in_goes : (S : Signatures) (header : List ℕ) (full more offset at : ℕ) 
 unfolding rest_in advance message_step with_front
 rest_in_goes S header zero zero offset at s b e f =
     let l : length (s ++ b ∷ []) < 32 = omega (arith, length_one_more s b) in
-    rw (rest_step_more offset (s ++ b ∷ []) ((at + length s) + 1) l, front_none, length_one_more, add_assoc) refl
+    rw (
+      rest_step_more offset (s ++ b ∷ []) ((at + length s) + 1) l,
+      front_none,
+      length_one_more,
+      add_assoc,
+    ) refl
 rest_in_goes S header zero (suc zero) offset at s b e f =
     let l : length (s ++ b ∷ []) ≡ 32 = omega (arith, length_one_more s b) in
     let n : at + 32 ≡ (at + length s) + 1 = omega (arith, length_one_more s b) in
-    rw (rest_step_full offset (s ++ b ∷ []) ((at + length s) + 1) l, ← l, take-length, drop-length) (rw (l, n, add-zero) refl)
+    rw (rest_step_full offset (s ++ b ∷ []) ((at + length s) + 1) l, ← l, take-length, drop-length)
+    (rw (l, n, add-zero) refl)
 rest_in_goes S header zero (suc (suc more)) offset at s b e f = absurd (omega arith)
 rest_in_goes S header (suc full) zero offset at s b e f = absurd (omega arith)
 rest_in_goes S header (suc full) (suc more) offset at s b e f =
@@ -121,12 +140,14 @@ rest_in_goes S header (suc full) (suc more) offset at s b e f =
     let front = line_at (at + 32) (RestLine offset (take 32 s)) ∷ [] in
     rw (take-append-le 32 s (b ∷ []) l, drop-append-le 32 s (b ∷ []) l)
     (ap (with_front front)
-    (rest_in_goes S header full more (offset + 32) (at + 32) (drop 32 s) b (omega (arith, length-drop 32 s)) (omega (arith, length-drop 32 s)))
+    (rest_in_goes S header full more (offset + 32) (at + 32) (drop 32 s) b
+    (omega (arith, length-drop 32 s)) (omega (arith, length-drop 32 s)))
     ∙ front_advance S header front (rest_in full (offset + 32) (at + 32) (drop 32 s)) b)
 
 pub rest_goes : (S : Signatures) (header : List ℕ) → Goes S header rest
 unfolding rest
-rest_goes S header at s b = rest_in_goes S header (length s / 32) (length (s ++ b ∷ []) / 32) 0 at s b refl (ap (λ n. n / 32) (length_one_more s b))
+rest_goes S header at s b = rest_in_goes S header (length s / 32) (length (s ++ b ∷ []) / 32) 0 at s
+    b refl (ap (λ n. n / 32) (length_one_more s b))
 
 -- ---- the padding
 
@@ -151,7 +172,12 @@ module _ (S : Signatures) (header : List ℕ) (t : BodyType) (at b : ℕ) (s : L
       ReadTo [] (at + length (s ++ b ∷ [])) (In_padding t)
       ≡ advance S header (ReadTo [] (at + length s) (In_padding t)) b
   unfolding advance message_step
-  padding_waits m = rw (lt-ltb 1 (padding (at + length s) 8) m, front_none, length_one_more, add_assoc) refl
+  padding_waits m = rw (
+    lt-ltb 1 (padding (at + length s) 8) m,
+    front_none,
+    length_one_more,
+    add_assoc,
+  ) refl
 
   padding_begins : padding at 8 ≡ length (s ++ b ∷ []) → padding (at + length s) 8 ≤ 1 →
       body S header t (at + padding at 8) (drop (padding at 8) (s ++ b ∷ []))
@@ -159,11 +185,17 @@ module _ (S : Signatures) (header : List ℕ) (t : BodyType) (at b : ℕ) (s : L
   unfolding advance message_step
   padding_begins l m =
       let n : at + padding at 8 ≡ (at + length s) + 1 = omega (arith, length_one_more s b) in
-      rw (le-ltb 1 (padding (at + length s) 8) m, front_none, drop_all (padding at 8) (s ++ b ∷ []) (le_of_eq (sym l)), n) refl
+      rw (
+        le-ltb 1 (padding (at + length s) 8) m,
+        front_none,
+        drop_all (padding at 8) (s ++ b ∷ []) (le_of_eq (sym l)),
+        n,
+      ) refl
 
 padded_goes : (S : Signatures) (header : List ℕ) (t : BodyType) → Goes S header (body S header t) →
     Goes S header (padded S header t)
-padded_goes S header t goes at s b = go (cases_lt (length s) (padding at 8)) (cases_lt (length s + 1) (padding at 8))
+padded_goes S header t goes at s b = go (cases_lt (length s) (padding at 8))
+    (cases_lt (length s + 1) (padding at 8))
   where
     go : (length s < padding at 8) ⊎ (padding at 8 ≤ length s) →
         (length s + 1 < padding at 8) ⊎ (padding at 8 ≤ length s + 1) →
@@ -171,23 +203,31 @@ padded_goes S header t goes at s b = go (cases_lt (length s) (padding at 8)) (ca
     go (inl h) (inl k) =
         let l : length (s ++ b ∷ []) < padding at 8 = rw length_one_more k in
         let m : 1 < padding (at + length s) 8 = omega (arith, pad_less at (length s) h) in
-        rw (padded_waits S header t at (s ++ b ∷ []) l, padded_waits S header t at s h) (padding_waits S header t at b s m)
+        rw (padded_waits S header t at (s ++ b ∷ []) l, padded_waits S header t at s h)
+        (padding_waits S header t at b s m)
     go (inl h) (inr k) =
         let l : padding at 8 ≡ length (s ++ b ∷ []) = omega (arith, length_one_more s b) in
         let m : padding (at + length s) 8 ≤ 1 = omega (arith, pad_less at (length s) h) in
-        rw (padded_begins S header t at (s ++ b ∷ []) (le_of_eq l), padded_waits S header t at s h) (padding_begins S header t at b s l m)
+        rw (padded_begins S header t at (s ++ b ∷ []) (le_of_eq l), padded_waits S header t at s h)
+        (padding_begins S header t at b s l m)
     go (inr h) _ =
         let l : padding at 8 ≤ length (s ++ b ∷ []) = omega (arith, length_one_more s b) in
-        rw (padded_begins S header t at (s ++ b ∷ []) l, padded_begins S header t at s h, drop-append-le (padding at 8) s (b ∷ []) h)
+        rw (
+          padded_begins S header t at (s ++ b ∷ []) l,
+          padded_begins S header t at s h,
+          drop-append-le (padding at 8) s (b ∷ []) h,
+        )
         (goes (at + padding at 8) (drop (padding at 8) s) b)
 
 -- ---- a message
 
--- What holds of each part of a message and of what follows it: of the rest, of a section where it holds after that, and
+-- What holds of each part of a message and of what follows it: of the rest, of a section where it
+-- holds after that, and
 -- of a body after padding where it holds of the body.
 module _ (S : Signatures) (header : List ℕ) (P : (ℕ → List ℕ → Message) → Type 0) (rests : P rest)
     (reads : (section : Section) (T : Ty) → ((h : Noted) → P (after S header section h)) →
-    P (λ at s. section_and_rest S header section nothing_noted (read (plain (order header)) [] T at s)))
+    P (λ at s. section_and_rest S header section nothing_noted
+    (read (plain (order header)) [] T at s)))
     (pads : (t : BodyType) → P (body S header t) → P (padded S header t)) where
   typed_has : (T : Ty) → P (typed (order header) T)
   unfolding typed
@@ -236,21 +276,25 @@ module _ (S : Signatures) (header : List ℕ) (P : (ℕ → List ℕ → Message
 
 reads_go : (S : Signatures) (header : List ℕ) (section : Section) (T : Ty) →
     ((h : Noted) → Goes S header (after S header section h)) →
-    Goes S header (λ at s. section_and_rest S header section nothing_noted (read (plain (order header)) [] T at s))
+    Goes S header (λ at s. section_and_rest S header section nothing_noted
+    (read (plain (order header)) [] T at s))
 reads_go S header section T goes at s b =
-    ap (section_and_rest S header section nothing_noted) (read_goes (plain (order header)) [] T at s b)
+    ap (section_and_rest S header section nothing_noted)
+    (read_goes (plain (order header)) [] T at s b)
     ∙ through_goes S header section goes nothing_noted (read (plain (order header)) [] T at s) b
 
 pub after_goes : (S : Signatures) (header : List ℕ) (section : Section) (h : Noted) →
     Goes S header (after S header section h)
-after_goes S header = after_has S header (Goes S header) (rest_goes S header) (reads_go S header) (padded_goes S header)
+after_goes S header = after_has S header (Goes S header) (rest_goes S header) (reads_go S header)
+    (padded_goes S header)
 
 -- One octet more is one step.
 pub message_goes : (S : Signatures) (header s : List ℕ) (b : ℕ) →
     message S header (s ++ b ∷ []) ≡ advance S header (message S header s) b
 unfolding message
 message_goes S header s b =
-    message_has S header (Goes S header) (rest_goes S header) (reads_go S header) (padded_goes S header) 12 s b
+    message_has S header (Goes S header) (rest_goes S header) (reads_go S header)
+    (padded_goes S header) 12 s b
 
 -- and so are many
 pub message_resumes : (S : Signatures) (header s t : List ℕ) →
@@ -258,4 +302,5 @@ pub message_resumes : (S : Signatures) (header s t : List ℕ) →
 message_resumes S header s [] = ap (message S header) (append-nil s)
 message_resumes S header s (b ∷ t) =
     ap (message S header) (sym (append_assoc s (b ∷ []) t))
-    ∙ (message_resumes S header (s ++ b ∷ []) t ∙ ap (λ m. goes_on S header m t) (message_goes S header s b))
+    ∙ (message_resumes S header (s ++ b ∷ []) t
+    ∙ ap (λ m. goes_on S header m t) (message_goes S header s b))

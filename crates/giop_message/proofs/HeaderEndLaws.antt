@@ -1,4 +1,5 @@
--- The headers and the names of exceptions that end in octets of a message, and the state of a correspondent after them.
+-- The headers and the names of exceptions that end in octets of a message, and the state of a
+-- correspondent after them.
 use Rattle.std.proofs.Common.{◌≡◌, ℕ, ◌+◌, Bool, true, false, List, [], ◌∷◌, ◌++◌, Option, Some, None, refl, sym, ap, subst, ◌∙◌, append-nil, append_assoc, take, drop, take-add, map, ◌⊎◌, inl, inr}
 use Rattle.std.proofs.lemmas.List.{take-append-drop}
 use Rattle.std.proofs.lemmas.Bool.{false≢true}
@@ -30,28 +31,35 @@ module _ (header : List ℕ) (T : Ty) where
   faulted (Short lines at outer leaf) = false
   faulted (Fault lines at why U) = true
 
-  whole_on : (r : Read) (b : ℕ) (h : Noted) → noted_if_whole r ≡ Some h → noted_if_whole (advance (plain (order header)) [] r b) ≡ Some h
+  whole_on : (r : Read) (b : ℕ) (h : Noted) → noted_if_whole r ≡ Some h →
+      noted_if_whole (advance (plain (order header)) [] r b) ≡ Some h
   whole_on (Done lines at s) b h e = e
   whole_on (Short lines at outer leaf) b h e = absurd cc
   whole_on (Fault lines at why U) b h e = absurd cc
 
-  fault_on : (r : Read) (b : ℕ) → faulted r ≡ true → faulted (advance (plain (order header)) [] r b) ≡ true
+  fault_on : (r : Read) (b : ℕ) → faulted r ≡ true →
+      faulted (advance (plain (order header)) [] r b) ≡ true
   unfolding faulted
   fault_on (Done lines at s) b e = absurd (false≢true e)
   fault_on (Short lines at outer leaf) b e = absurd (false≢true e)
   fault_on (Fault lines at why U) b e = refl
 
-  whole_stays : (more s : List ℕ) (h : Noted) → noted_if_whole (Reads s) ≡ Some h → noted_if_whole (Reads (s ++ more)) ≡ Some h
+  whole_stays : (more s : List ℕ) (h : Noted) → noted_if_whole (Reads s) ≡ Some h →
+      noted_if_whole (Reads (s ++ more)) ≡ Some h
   whole_stays [] s h e = ap (λ z. noted_if_whole (Reads z)) (append-nil s) ∙ e
   whole_stays (b ∷ more) s h e =
-      let one = ap noted_if_whole (read_goes (plain (order header)) [] T 12 s b) ∙ whole_on (Reads s) b h e in
-      ap (λ z. noted_if_whole (Reads z)) (sym (append_assoc s (b ∷ []) more)) ∙ whole_stays more (s ++ b ∷ []) h one
+      let one = ap noted_if_whole (read_goes (plain (order header)) [] T 12 s b)
+      ∙ whole_on (Reads s) b h e in
+      ap (λ z. noted_if_whole (Reads z)) (sym (append_assoc s (b ∷ []) more))
+      ∙ whole_stays more (s ++ b ∷ []) h one
 
   fault_stays : (more s : List ℕ) → faulted (Reads s) ≡ true → faulted (Reads (s ++ more)) ≡ true
   fault_stays [] s e = ap (λ z. faulted (Reads z)) (append-nil s) ∙ e
   fault_stays (b ∷ more) s e =
-      let one = ap faulted (read_goes (plain (order header)) [] T 12 s b) ∙ fault_on (Reads s) b e in
-      ap (λ z. faulted (Reads z)) (sym (append_assoc s (b ∷ []) more)) ∙ fault_stays more (s ++ b ∷ []) one
+      let one = ap faulted (read_goes (plain (order header)) [] T 12 s b)
+      ∙ fault_on (Reads s) b e in
+      ap (λ z. faulted (Reads z)) (sym (append_assoc s (b ∷ []) more))
+      ∙ fault_stays more (s ++ b ∷ []) one
 
   fault_none : (r : Read) → faulted r ≡ true → noted_if_whole r ≡ None
   unfolding faulted
@@ -67,13 +75,15 @@ stays_by header (Some T) s more h e = whole_stays header T more s h e
 header_noted_stays : (header s more : List ℕ) (h : Noted) → header_noted header s ≡ Some h →
     header_noted header (s ++ more) ≡ Some h
 unfolding header_noted
-header_noted_stays header s more h e = stays_by header (header_type (minor header) (kind header)) s more h e
+header_noted_stays header s more h e = stays_by header (header_type (minor header) (kind header)) s
+    more h e
 
 -- ---- the headers that end in octets of two parts
 
 both_between : (number : ℕ) (header : List ℕ) (a b c : Option Noted) →
     ((h : Noted) → a ≡ Some h → b ≡ Some h) → ((h : Noted) → b ≡ Some h → c ≡ Some h) →
-    ends_between number header a c ≡ ends_between number header a b ++ ends_between number header b c
+    ends_between number header a c ≡ ends_between number header a b
+    ++ ends_between number header b c
 both_between number header (Some h) (Some k) c f g = refl
 both_between number header (Some h) None c f g = absurd (let no = f h refl in cc)
 both_between number header None None c f g = refl
@@ -88,20 +98,26 @@ raises_both number None None c f g = refl
 raises_both number None (Some m) c f g = ap (raises_between number None) (g m refl)
 
 -- Where a name is complete no header ends.
-crossed : (number : ℕ) (header : List ℕ) (a b : Option (List ℕ)) (k l : Option Noted) → (k ≡ None → b ≡ None) →
-    ends_between number header k l ++ raises_between number a b ≡ raises_between number a b ++ ends_between number header k l
+crossed : (number : ℕ) (header : List ℕ) (a b : Option (List ℕ)) (k l : Option Noted) →
+    (k ≡ None → b ≡ None) →
+    ends_between number header k l ++ raises_between number a b ≡ raises_between number a b
+    ++ ends_between number header k l
 crossed number header a b (Some h) l f = sym (append-nil (raises_between number a b))
 crossed number header (Some n) b None l f = append-nil (ends_between number header None l)
 crossed number header None b None l f = rw (f refl) (append-nil (ends_between number header None l))
 
-exchanged : (us bs cs ds : List HeaderEnd) → bs ++ cs ≡ cs ++ bs → (us ++ bs) ++ (cs ++ ds) ≡ (us ++ cs) ++ (bs ++ ds)
+exchanged : (us bs cs ds : List HeaderEnd) → bs ++ cs ≡ cs ++ bs → (us ++ bs)
+    ++ (cs ++ ds) ≡ (us ++ cs) ++ (bs ++ ds)
 exchanged us bs cs ds e =
     append_assoc us bs (cs ++ ds)
-    ∙ (ap (λ (z : List HeaderEnd). us ++ z) (sym (append_assoc bs cs ds) ∙ (ap (λ (z : List HeaderEnd). z ++ ds) e ∙ append_assoc cs bs ds))
+    ∙ (ap (λ (z : List HeaderEnd). us ++ z)
+    (sym (append_assoc bs cs ds) ∙ (ap (λ (z : List HeaderEnd). z ++ ds) e
+    ∙ append_assoc cs bs ds))
     ∙ sym (append_assoc us cs (bs ++ ds)))
 
 pub header_ends_both : (number : ℕ) (header s xs ys : List ℕ) →
-    header_ends number header s (xs ++ ys) ≡ header_ends number header s xs ++ header_ends number header (s ++ xs) ys
+    header_ends number header s (xs ++ ys) ≡ header_ends number header s xs
+    ++ header_ends number header (s ++ xs) ys
 unfolding header_ends
 header_ends_both number header s xs ys =
     let one = header_noted header s in
@@ -110,13 +126,19 @@ header_ends_both number header s xs ys =
     let uno = raised header s in
     let due = raised header (s ++ xs) in
     let tre = raised header ((s ++ xs) ++ ys) in
-    ap (λ z. ends_between number header one (header_noted header z) ++ raises_between number uno (raised header z)) (sym (append_assoc s xs ys))
+    ap (λ z. ends_between number header one (header_noted header z)
+    ++ raises_between number uno (raised header z)) (sym (append_assoc s xs ys))
     ∙ (ap (λ (z : List HeaderEnd). z ++ raises_between number uno tre)
-    (both_between number header one two three (λ h e. header_noted_stays header s xs h e) (λ h e. header_noted_stays header (s ++ xs) ys h e))
-    ∙ (ap (λ (z : List HeaderEnd). (ends_between number header one two ++ ends_between number header two three) ++ z)
-    (raises_both number uno due tre (λ n e. raised_stays header s xs n e) (λ n e. raised_stays header (s ++ xs) ys n e))
-    ∙ exchanged (ends_between number header one two) (ends_between number header two three) (raises_between number uno due)
-    (raises_between number due tre) (crossed number header uno due two three (raised_before header (s ++ xs)))))
+    (both_between number header one two three (λ h e. header_noted_stays header s xs h e)
+    (λ h e. header_noted_stays header (s ++ xs) ys h e))
+    ∙ (ap (λ (z : List HeaderEnd). (ends_between number header one two
+    ++ ends_between number header two three) ++ z)
+    (raises_both number uno due tre (λ n e. raised_stays header s xs n e)
+    (λ n e. raised_stays header (s ++ xs) ys n e))
+    ∙ exchanged (ends_between number header one two) (ends_between number header two three)
+    (raises_between number uno due)
+    (raises_between number due tre) (crossed number header uno due two three
+    (raised_before header (s ++ xs)))))
 
 raises_same : (number : ℕ) (a : Option (List ℕ)) → raises_between number a a ≡ []
 raises_same number None = refl
@@ -124,7 +146,8 @@ raises_same number (Some n) = refl
 
 pub header_ends_none : (number : ℕ) (header s : List ℕ) → header_ends number header s [] ≡ []
 unfolding header_ends
-header_ends_none number header s = rw (append-nil s, raises_same number (raised header s)) (go (header_noted header s))
+header_ends_none number header s = rw (append-nil s, raises_same number (raised header s))
+    (go (header_noted header s))
   where
     go : (o : Option Noted) → ends_between number header o o ++ [] ≡ []
     go None = refl
@@ -133,7 +156,8 @@ header_ends_none number header s = rw (append-nil s, raises_same number (raised 
 -- ---- one octet ends a header, or a name, or neither
 
 name_or_none : (number : ℕ) (a b : Option (List ℕ)) →
-    (raises_between number a b ≡ []) ⊎ ((name : List ℕ) × (raises_between number a b ≡ Exception_end number name ∷ []))
+    (raises_between number a b ≡ []) ⊎ ((name : List ℕ)
+    × (raises_between number a b ≡ Exception_end number name ∷ []))
 name_or_none number (Some n) b = inl refl
 name_or_none number None None = inl refl
 name_or_none number None (Some n) = inr (n, refl)
@@ -144,7 +168,8 @@ pub one_octet : (number : ℕ) (header s : List ℕ) (x : ℕ) →
     × (header_ends number header s (x ∷ []) ≡ Header_end number header n ∷ []))
     ⊎ ((name : List ℕ) × (header_ends number header s (x ∷ []) ≡ Exception_end number name ∷ [])))
 unfolding header_ends
-one_octet number header s x = go (header_noted header s) (header_noted header (s ++ x ∷ [])) refl refl
+one_octet number header s x = go (header_noted header s) (header_noted header (s ++ x ∷ [])) refl
+    refl
   where
     Before : Option (List ℕ)
     Before = raised header s
@@ -155,14 +180,22 @@ one_octet number header s x = go (header_noted header s) (header_noted header (s
     go : (o q : Option Noted) → header_noted header s ≡ o → header_noted header (s ++ x ∷ []) ≡ q →
         (ends_between number header o q ++ raises_between number Before Now ≡ [])
         ⊎ (((n : Noted) × (o ≡ None) × (q ≡ Some n)
-        × (ends_between number header o q ++ raises_between number Before Now ≡ Header_end number header n ∷ []))
-        ⊎ ((name : List ℕ) × (ends_between number header o q ++ raises_between number Before Now ≡ Exception_end number name ∷ [])))
+        × (ends_between number header o q ++ raises_between number Before Now
+        ≡ Header_end number header n ∷ []))
+        ⊎ ((name : List ℕ) × (ends_between number header o q
+        ++ raises_between number Before Now ≡ Exception_end number name ∷ [])))
     go (Some h) q e f = elim (name_or_none number Before Now) [
       | inl none ↦ inl none
       | inr one ↦ inr (inr one)
     ]
-    go None None e f = inl (rw (raised_before header s e, raised_before header (s ++ x ∷ []) f) refl)
-    go None (Some n) e f = inr (inl (n, refl, refl, rw (raised_before header s e, raised_apart header s x e) refl))
+    go None None e f = inl (rw (raised_before header s e, raised_before header (s ++ x ∷ []) f)
+        refl)
+    go None (Some n) e f = inr (inl (
+      n,
+      refl,
+      refl,
+      rw (raised_before header s e, raised_apart header s x e) refl,
+    ))
 
 -- ---- none where a message is past its header
 
@@ -173,15 +206,19 @@ waits (In_padding b) = false
 waits (In_rest offset held) = false
 waits Over = true
 
-past_by : (C : Table) (answer : Answer) (number : ℕ) (header : List ℕ) (found : Option Ty) (s more : List ℕ) →
+past_by : (C : Table) (answer : Answer) (number : ℕ) (header : List ℕ) (found : Option Ty)
+    (s more : List ℕ) →
     waits (stage_of (of_header (signatures_of C answer) header found 12 s)) ≡ false →
-    ends_between number header (noted_by_type header found s) (noted_by_type header found (s ++ more)) ≡ []
+    ends_between number header (noted_by_type header found s)
+    (noted_by_type header found (s ++ more)) ≡ []
 unfolding waits section_then stage_of of_header
 past_by C answer number header None s more e = refl
 past_by C answer number header (Some T) s more e = go (read (plain (order header)) [] T 12 s) e
   where
-    go : (r : Read) → waits (stage_of (section_then sections.Header (is_request header) (after_header (signatures_of C answer) header) nothing_noted r)) ≡ false →
-        ends_between number header (noted_if_whole r) (noted_if_whole (read (plain (order header)) [] T 12 (s ++ more))) ≡ []
+    go : (r : Read) → waits (stage_of (section_then sections.Header (is_request header)
+        (after_header (signatures_of C answer) header) nothing_noted r)) ≡ false →
+        ends_between number header (noted_if_whole r)
+        (noted_if_whole (read (plain (order header)) [] T 12 (s ++ more))) ≡ []
     go (Done lines at rest) e = refl
     go (Short lines at outer leaf) e = absurd (false≢true (sym e))
     go (Fault lines at why U) e = absurd (false≢true (sym e))
@@ -197,11 +234,14 @@ past_none C answer number header s more e =
 pub settled_none : (C : Table) (answer : Answer) (number : ℕ) (header s more : List ℕ) →
     is_settled (stage_of (message (signatures_of C answer) header s)) ≡ true →
     raises_between number (raised header s) (raised header (s ++ more)) ≡ []
-settled_none C answer number header s more e = rw (raised_settled C answer header s more e) (raises_same number (raised header s))
+settled_none C answer number header s more e =
+    rw (raised_settled C answer header s more e) (raises_same number (raised header s))
 
-over_by : (C : Table) (answer : Answer) (number : ℕ) (header : List ℕ) (found : Option Ty) (s more : List ℕ) →
+over_by : (C : Table) (answer : Answer) (number : ℕ) (header : List ℕ) (found : Option Ty)
+    (s more : List ℕ) →
     is_over (stage_of (of_header (signatures_of C answer) header found 12 s)) ≡ true →
-    ends_between number header (noted_by_type header found s) (noted_by_type header found (s ++ more)) ≡ []
+    ends_between number header (noted_by_type header found s)
+    (noted_by_type header found (s ++ more)) ≡ []
 unfolding is_over section_then stage_of of_header faulted
 over_by C answer number header None s more e = refl
 over_by C answer number header (Some T) s more e = go (read (plain (order header)) [] T 12 s) refl e
@@ -210,12 +250,15 @@ over_by C answer number header (Some T) s more e = go (read (plain (order header
     Later = noted_if_whole (read (plain (order header)) [] T 12 (s ++ more))
 
     go : (r : Read) → read (plain (order header)) [] T 12 s ≡ r →
-        is_over (stage_of (section_then sections.Header (is_request header) (after_header (signatures_of C answer) header) nothing_noted r)) ≡ true →
-        ends_between number header (noted_if_whole r) (noted_if_whole (read (plain (order header)) [] T 12 (s ++ more))) ≡ []
+        is_over (stage_of (section_then sections.Header (is_request header)
+        (after_header (signatures_of C answer) header) nothing_noted r)) ≡ true →
+        ends_between number header (noted_if_whole r)
+        (noted_if_whole (read (plain (order header)) [] T 12 (s ++ more))) ≡ []
     go (Done lines at rest) is e = refl
     go (Short lines at outer leaf) is e = absurd (false≢true e)
     go (Fault lines at why U) is e =
-        let late = fault_none header T (read (plain (order header)) [] T 12 (s ++ more)) (fault_stays header T more s (ap (faulted header T) is)) in
+        let late = fault_none header T (read (plain (order header)) [] T 12 (s ++ more))
+        (fault_stays header T more s (ap (faulted header T) is)) in
         rw late refl
 
 over_header : (C : Table) (answer : Answer) (number : ℕ) (header s more : List ℕ) →
@@ -234,29 +277,35 @@ over_settled (In_rest offset held) e = refl
 
 -- none ends after a fault
 pub over_none : (C : Table) (answer : Answer) (number : ℕ) (header s more : List ℕ) →
-    is_over (stage_of (message (signatures_of C answer) header s)) ≡ true → header_ends number header s more ≡ []
+    is_over (stage_of (message (signatures_of C answer) header s)) ≡ true →
+    header_ends number header s more ≡ []
 unfolding header_ends
 over_none C answer number header s more e =
     rw (over_header C answer number header s more e)
-    (settled_none C answer number header s more (over_settled (stage_of (message (signatures_of C answer) header s)) e))
+    (settled_none C answer number header s more
+    (over_settled (stage_of (message (signatures_of C answer) header s)) e))
 
 -- Where no more is told none ends.
 pub nothing_told : (C : Table) (answer : Answer) (number : ℕ) (header s more : List ℕ) →
     told_after (signatures_of C answer) header s ≡ None → header_ends number header s more ≡ []
 unfolding header_ends told_after stage_told_after waits is_settled is_over
-nothing_told C answer number header s more e = go (stage_of (message (signatures_of C answer) header s)) refl e
+nothing_told C answer number header s more e =
+    go (stage_of (message (signatures_of C answer) header s)) refl e
   where
-    go : (g : Stage) → stage_of (message (signatures_of C answer) header s) ≡ g → stage_told_after g ≡ None →
+    go : (g : Stage) → stage_of (message (signatures_of C answer) header s) ≡ g →
+        stage_told_after g ≡ None →
         ends_between number header (header_noted header s) (header_noted header (s ++ more))
         ++ raises_between number (raised header s) (raised header (s ++ more)) ≡ []
     go (In_typed sections.Header h outer leaf) is e = absurd cc
     go (In_typed sections.Exception h outer leaf) is e = absurd cc
     go (In_typed sections.SystemException h outer leaf) is e = absurd cc
     go (In_typed sections.Body h outer leaf) is e =
-        rw (past_none C answer number header s more (ap waits is)) (settled_none C answer number header s more (ap is_settled is))
+        rw (past_none C answer number header s more (ap waits is))
+        (settled_none C answer number header s more (ap is_settled is))
     go (In_padding b) is e = absurd cc
     go (In_rest offset held) is e =
-        rw (past_none C answer number header s more (ap waits is)) (settled_none C answer number header s more (ap is_settled is))
+        rw (past_none C answer number header s more (ap waits is))
+        (settled_none C answer number header s more (ap is_settled is))
     go Over is e = over_none C answer number header s more (ap is_over is)
 
 -- ---- events, and then others
@@ -270,19 +319,26 @@ module _ {St : Type 0} (answer : St → Answer) (notified : St → CallEvent →
   pub answers_first : (st : St) (a : Answers) (es fs : List HeaderEnd) →
       AgreesAtEnds answer notified C st a (es ++ fs) → AgreesAtEnds answer notified C st a es
   answers_first st a [] fs h = tt
-  answers_first st a (e ∷ es) fs h = (h.0, answers_first (after_event notified st (call_event C e)) a es fs h.1)
+  answers_first st a (e ∷ es) fs h = (
+    h.0,
+    answers_first (after_event notified st (call_event C e)) a es fs h.1,
+  )
 
   pub answers_then : (st : St) (a : Answers) (es fs : List HeaderEnd) →
-      AgreesAtEnds answer notified C st a (es ++ fs) → AgreesAtEnds answer notified C (after_ends notified C st es) a fs
+      AgreesAtEnds answer notified C st a (es ++ fs) →
+      AgreesAtEnds answer notified C (after_ends notified C st es) a fs
   answers_then st a [] fs h = h
-  answers_then st a (e ∷ es) fs h = answers_then (after_event notified st (call_event C e)) a es fs h.1
+  answers_then st a (e ∷ es) fs h = answers_then (after_event notified st (call_event C e)) a es fs
+      h.1
 
 -- ---- octets that were taken, and the others
 
 module _ (number : ℕ) (header s octets : List ℕ) (t : ℕ) where
   ends_split : header_ends number header s octets
-      ≡ header_ends number header s (take t octets) ++ header_ends number header (s ++ take t octets) (drop t octets)
-  ends_split = ap (header_ends number header s) (sym (take-append-drop t octets)) ∙ header_ends_both number header s (take t octets) (drop t octets)
+      ≡ header_ends number header s (take t octets)
+      ++ header_ends number header (s ++ take t octets) (drop t octets)
+  ends_split = ap (header_ends number header s) (sym (take-append-drop t octets))
+      ∙ header_ends_both number header s (take t octets) (drop t octets)
 
   pub ends_over : (C : Table) (answer : Answer) →
       is_over (stage_of (message (signatures_of C answer) header (s ++ take t octets))) ≡ true →
@@ -292,18 +348,23 @@ module _ (number : ℕ) (header s octets : List ℕ) (t : ℕ) where
       (over_none C answer number header (s ++ take t octets) (drop t octets) over)
       ∙ append-nil (header_ends number header s (take t octets)))
 
-  module _ {St : Type 0} (answer : St → Answer) (notified : St → CallEvent → St) (C : Table) (st now : St) where
-    pub agrees_now : (a : Answers) → now ≡ after_ends notified C st (header_ends number header s (take t octets)) →
+  module _ {St : Type 0} (answer : St → Answer) (notified : St → CallEvent → St) (C : Table)
+      (st now : St) where
+    pub agrees_now : (a : Answers) → now ≡ after_ends notified C st
+        (header_ends number header s (take t octets)) →
         AgreesAtEnds answer notified C st a (header_ends number header s octets) →
-        AgreesAtEnds answer notified C now a (header_ends number header (s ++ take t octets) (drop t octets))
+        AgreesAtEnds answer notified C now a
+        (header_ends number header (s ++ take t octets) (drop t octets))
     agrees_now a told h =
         let rest = header_ends number header (s ++ take t octets) (drop t octets) in
         subst (λ x. AgreesAtEnds answer notified C x a rest) (sym told)
         (answers_then answer notified C st a (header_ends number header s (take t octets)) rest
         (subst (AgreesAtEnds answer notified C st a) ends_split h))
 
-    pub told_more : (n : ℕ) (later : St) → now ≡ after_ends notified C st (header_ends number header s (take t octets)) →
-        later ≡ after_ends notified C now (header_ends number header (s ++ take t octets) (take n (drop t octets))) →
+    pub told_more : (n : ℕ) (later : St) →
+        now ≡ after_ends notified C st (header_ends number header s (take t octets)) →
+        later ≡ after_ends notified C now (header_ends number header (s ++ take t octets)
+        (take n (drop t octets))) →
         later ≡ after_ends notified C st (header_ends number header s (take (t + n) octets))
     told_more n later told more =
         let mid = header_ends number header (s ++ take t octets) (take n (drop t octets)) in
@@ -314,15 +375,19 @@ module _ (number : ℕ) (header s octets : List ℕ) (t : ℕ) where
 
 -- ---- a message whose header has not ended is read alike, whatever the ids answer
 
-unended_by : (C : Table) (x y : Answer) (header : List ℕ) (found : Option Ty) (s : List ℕ) → noted_by_type header found s ≡ None →
-    of_header (signatures_of C x) header found 12 s ≡ of_header (signatures_of C y) header found 12 s
+unended_by : (C : Table) (x y : Answer) (header : List ℕ) (found : Option Ty) (s : List ℕ) →
+    noted_by_type header found s ≡ None →
+    of_header (signatures_of C x) header found 12 s
+    ≡ of_header (signatures_of C y) header found 12 s
 unfolding of_header section_then
 unended_by C x y header None s e = refl
 unended_by C x y header (Some T) s e = go (read (plain (order header)) [] T 12 s) e
   where
     go : (r : Read) → noted_if_whole r ≡ None →
-        section_then sections.Header (is_request header) (after_header (signatures_of C x) header) nothing_noted r
-        ≡ section_then sections.Header (is_request header) (after_header (signatures_of C y) header) nothing_noted r
+        section_then sections.Header (is_request header) (after_header (signatures_of C x) header)
+        nothing_noted r
+        ≡ section_then sections.Header (is_request header) (after_header (signatures_of C y) header)
+        nothing_noted r
     go (Done lines at rest) e = absurd cc
     go (Short lines at outer leaf) e = refl
     go (Fault lines at why U) e = refl
@@ -330,24 +395,32 @@ unended_by C x y header (Some T) s e = go (read (plain (order header)) [] T 12 s
 pub unended_agree : (C : Table) (x y : Answer) (header s : List ℕ) → header_noted header s ≡ None →
     message (signatures_of C x) header s ≡ message (signatures_of C y) header s
 unfolding header_noted message signatures_of
-unended_agree C x y header s e = unended_by C x y header (header_type (minor header) (kind header)) s e
+unended_agree C x y header s e = unended_by C x y header (header_type (minor header) (kind header))
+    s e
 
-pub header_noted_before : (header s more : List ℕ) → header_noted header (s ++ more) ≡ None → header_noted header s ≡ None
+pub header_noted_before : (header s more : List ℕ) → header_noted header (s ++ more) ≡ None →
+    header_noted header s ≡ None
 header_noted_before header s more e = go (header_noted header s) refl
   where
     go : (o : Option Noted) → header_noted header s ≡ o → o ≡ None
     go None is = refl
-    go (Some h) is = absurd (let no : None ≡ Some h = sym e ∙ header_noted_stays header s more h is in cc)
+    go (Some h) is = absurd (let no : None ≡ Some h =
+        sym e ∙ header_noted_stays header s more h is in cc)
 
 -- by answers that agree, or before the header ends, a message has the same lines
-pub alike_remarks : (C : Table) (x y : Answer) (header s : List ℕ) → (x ≡ y) ⊎ (header_noted header s ≡ None) →
+pub alike_remarks : (C : Table) (x y : Answer) (header s : List ℕ) → (x ≡ y)
+    ⊎ (header_noted header s ≡ None) →
     remarks_by (signatures_of C x) header s ≡ remarks_by (signatures_of C y) header s
 unfolding remarks_by
-alike_remarks C x y header s (inl e) = ap (λ (z : Answer). remarks_by (signatures_of C z) header s) e
-alike_remarks C x y header s (inr e) = ap (λ m. map timed_line_of (message_lines m)) (unended_agree C x y header s e)
+alike_remarks C x y header s (inl e) = ap (λ (z : Answer). remarks_by (signatures_of C z) header s)
+    e
+alike_remarks C x y header s (inr e) = ap (λ m. map timed_line_of (message_lines m))
+    (unended_agree C x y header s e)
 
-pub alike_closes : (C : Table) (x y : Answer) (header s : List ℕ) → (x ≡ y) ⊎ (header_noted header s ≡ None) →
+pub alike_closes : (C : Table) (x y : Answer) (header s : List ℕ) → (x ≡ y)
+    ⊎ (header_noted header s ≡ None) →
     closes_by (signatures_of C x) header s ≡ closes_by (signatures_of C y) header s
 unfolding closes_by
 alike_closes C x y header s (inl e) = ap (λ (z : Answer). closes_by (signatures_of C z) header s) e
-alike_closes C x y header s (inr e) = ap (λ m. map closing_of (close (stage_of m))) (unended_agree C x y header s e)
+alike_closes C x y header s (inr e) = ap (λ m. map closing_of (close (stage_of m)))
+    (unended_agree C x y header s e)

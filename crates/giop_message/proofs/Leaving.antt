@@ -1,4 +1,5 @@
--- A message after an octet: after a part of the rest no octet is held, and after a fault the message is over.
+-- A message after an octet: after a part of the rest no octet is held, and after a fault the
+-- message is over.
 use Rattle.std.proofs.Common.{◌≡◌, ℕ, ◌+◌, Bool, true, false, List, [], ◌∷◌, ◌++◌, length, map, drop, refl, sym, ap, ◌∙◌, append-nil, inl, inr}
 use Rattle.std.specs.List.{list_any}
 use Rattle.std.proofs.lemmas.Bool.{false≢true}
@@ -26,9 +27,11 @@ use Rattle.giop_message.proofs.Going.{message_goes}
 abbrev pub LineClasses : List LineAt → List LineClass
 LineClasses emitted = map (λ t. line_class_of t.message_line) emitted
 
--- after lines of these classes: no octet is held after a part of the rest, and the message is over after a fault
+-- after lines of these classes: no octet is held after a part of the rest, and the message is over
+-- after a fault
 abbrev pub Leaves : List LineClass → Stage → Type 0
-Leaves line_classes stage = (line_classes ≡ Rest ∷ [] → (offset : ℕ) × (stage ≡ In_rest offset [])) × (list_any is_fault line_classes ≡ true → stage ≡ Over)
+Leaves line_classes stage = (line_classes ≡ Rest ∷ [] → (offset : ℕ) × (stage ≡ In_rest offset []))
+    × (list_any is_fault line_classes ≡ true → stage ≡ Over)
 
 abbrev Settles : Message → Type 0
 Settles (ReadTo emitted at stage) = Leaves (LineClasses emitted) stage
@@ -43,7 +46,8 @@ unfolding section_lines line_at line_class_of
 section_lines_faultless root is h [] = refl
 section_lines_faultless root is h (l ∷ ls) =
     let now = note (is_header_root root) h l in
-    behind (calls is l now) (section_lines root is now ls) (calls_is is l now) (section_lines_faultless root is now ls)
+    behind (calls is l now) (section_lines root is now ls) (calls_is is l now)
+    (section_lines_faultless root is now ls)
   where
     behind : (called emitted : List LineAt) → MayCall l.at called →
         list_any is_fault (LineClasses emitted) ≡ false →
@@ -56,7 +60,11 @@ section_lines_leave : (root : Root) (is : Bool) (h : Noted) (lines : List Line) 
     Leaves (LineClasses (section_lines root is h lines)) stage
 unfolding section_lines line_at line_class_of
 section_lines_leave root is h [] stage = (λ e. absurd cc, λ e. absurd (false≢true e))
-section_lines_leave root is h (l ∷ ls) stage = (λ e. absurd cc, λ e. absurd (false≢true (sym (section_lines_faultless root is h (l ∷ ls)) ∙ e)))
+section_lines_leave root is h (l ∷ ls) stage = (
+  λ e. absurd cc,
+  λ e. absurd (false≢true
+      (sym (section_lines_faultless root is h (l ∷ ls)) ∙ e)),
+)
 
 front_settles : (n : ℕ) (front : List LineAt) (m : Message) →
     ((stage : Stage) → Leaves (LineClasses front) stage) → Silent n m → Settles (with_front front m)
@@ -68,17 +76,22 @@ module _ (section : Section) (is : Bool) (next : Noted → ℕ → List ℕ → 
   abbrev R : Root
   R = root_of section
 
-  passes_settles : (k : Noted) (r : Read) → IsOctetResult n r → Settles (section_then section is next k r)
+  passes_settles : (k : Noted) (r : Read) → IsOctetResult n r →
+      Settles (section_then section is next k r)
   unfolding section_then line_at line_class_of section_lines
   passes_settles k (Done lines at s) h =
       let now = noted (is_header_root R) k lines in
-      rw (h.1, h.2) (front_settles n (section_lines R is k lines) (next now n []) (section_lines_leave R is k lines) (silent now))
-  passes_settles k (Short lines at outer leaf) h = section_lines_leave R is k lines (In_typed section (noted (is_header_root R) k lines) outer leaf)
+      rw (h.1, h.2) (front_settles n (section_lines R is k lines) (next now n [])
+      (section_lines_leave R is k lines) (silent now))
+  passes_settles k (Short lines at outer leaf) h =
+      section_lines_leave R is k lines (In_typed section (noted (is_header_root R) k lines) outer
+      leaf)
   passes_settles k (Faulted [] at why T) h = (λ e. absurd cc, λ e. refl)
   passes_settles k (Faulted (l ∷ ls) at why T) h = (λ e. absurd cc, λ e. refl)
 
 rest_settles : (offset : ℕ) (held : List ℕ) (n : ℕ) (test : Bool) →
-    Settles (if test then ReadTo (line_at n (RestLine offset held) ∷ []) n (In_rest (offset + 32) [])
+    Settles (if test then ReadTo (line_at n (RestLine offset held) ∷ []) n
+    (In_rest (offset + 32) [])
     else ReadTo [] n (In_rest offset held))
 unfolding line_at line_class_of
 rest_settles offset held n true = (λ e. (offset + 32, refl), λ e. absurd (false≢true e))
@@ -88,15 +101,19 @@ step_settles : (S : Signatures) (header : List ℕ) (at : ℕ) (stage : Stage) (
     Settles (message_step S header at stage b)
 unfolding message_step rest_step
 step_settles S header at (In_typed section k outer leaf) b =
-    passes_settles section (may_call header section) (after S header section) (at + 1) (λ k. after_silent S header section k (at + 1)) k
-    (decoder.step (plain (order header)) [] outer leaf at b) (step_now (plain (order header)) [] outer leaf at b)
+    passes_settles section (may_call header section) (after S header section) (at + 1)
+    (λ k. after_silent S header section k (at + 1)) k
+    (decoder.step (plain (order header)) [] outer leaf at b)
+    (step_now (plain (order header)) [] outer leaf at b)
 step_settles S header at (In_padding t) b = go (nat_lt 1 (padding at 8))
   where
     go : (test : Bool) →
         Settles (if test then ReadTo [] (at + 1) (In_padding t) else body S header t (at + 1) [])
     go true = (λ e. absurd cc, λ e. absurd (false≢true e))
-    go false = silent_settles (at + 1) (body S header t (at + 1) []) (body_silent S header t (at + 1))
-step_settles S header at (In_rest offset held) b = rest_settles offset (held ++ b ∷ []) (at + 1) (length (held ++ b ∷ []) == 32)
+    go false = silent_settles (at + 1) (body S header t (at + 1) [])
+        (body_silent S header t (at + 1))
+step_settles S header at (In_rest offset held) b =
+    rest_settles offset (held ++ b ∷ []) (at + 1) (length (held ++ b ∷ []) == 32)
 step_settles S header at Over b = (λ e. absurd cc, λ e. absurd (false≢true e))
 
 -- the lines of an octet, and where the message is after it
@@ -104,14 +121,16 @@ advance_settles : (S : Signatures) (header : List ℕ) (m : Message) (b : ℕ) �
     Leaves (LineClasses (drop (length (message_lines m)) (message_lines (advance S header m b))))
     (stage_of (advance S header m b))
 unfolding advance with_front message_lines stage_of
-advance_settles S header (ReadTo emitted at stage) b = go (message_step S header at stage b) (step_settles S header at stage b)
+advance_settles S header (ReadTo emitted at stage) b =
+    go (message_step S header at stage b) (step_settles S header at stage b)
   where
     go : (m : Message) → Settles m →
         Leaves (LineClasses (drop (length emitted) (message_lines (with_front emitted m))))
         (stage_of (with_front emitted m))
     go (ReadTo more at' stage') h = rw (drop-append_seam emitted more) h
 
-classes_of_lines : (emitted : List LineAt) → map (λ r. r.line_class) (map timed_line_of emitted) ≡ LineClasses emitted
+classes_of_lines : (emitted : List LineAt) →
+    map (λ r. r.line_class) (map timed_line_of emitted) ≡ LineClasses emitted
 classes_of_lines [] = refl
 classes_of_lines (t ∷ ts) = ap (λ ss. line_class_of t.message_line ∷ ss) (classes_of_lines ts)
 
@@ -120,4 +139,8 @@ pub octet_leaves : (S : Signatures) (header xs : List ℕ) (x : ℕ) →
     (stage_of (message S header (xs ++ x ∷ [])))
 unfolding due
 octet_leaves S header xs x =
-    rw (due_said_is S header xs x, classes_of_lines (due S header xs (x ∷ [])), message_goes S header xs x) (advance_settles S header (message S header xs) x)
+    rw (
+      due_said_is S header xs x,
+      classes_of_lines (due S header xs (x ∷ [])),
+      message_goes S header xs x,
+    ) (advance_settles S header (message S header xs) x)

@@ -1,4 +1,5 @@
--- What the crate above may use of the reading of a message, beside its contracts: lemmas on the public definitions. No other
+-- What the crate above may use of the reading of a message, beside its contracts: lemmas on the
+-- public definitions. No other
 -- file of this crate's proofs can be cited from outside.
 use Rattle.std.proofs.Common.{false, ◌≡◌, ℕ, List}
 use Rattle.giop_sig.specs.Table.{Table}
@@ -14,7 +15,8 @@ use Rattle.giop_message.proofs.Followings as followings
 pub use Rattle.giop_message.proofs.Causal.{is_causal, is_ordered}
 pub use Rattle.giop_message.proofs.Closes.{is_closing}
 pub use Rattle.giop_message.proofs.Named.{is_ending}
--- the header of a message that the stream finds by its request id begins with it, which is the number of the first four
+-- the header of a message that the stream finds by its request id begins with it, which is the
+-- number of the first four
 -- octets
 pub use Rattle.giop_message.proofs.Named.{begins_with_id, id_is_said}
 -- and which is all that is said of them
@@ -36,7 +38,8 @@ pub use Rattle.giop_message.proofs.MessageAgreement.{follows_agree}
 -- and by a catalogue's table and the operations that the ids of each message answer
 
 pub is_named : (C : Table) (answers : Answers) → HasOnlyValuesInId (message_reader C answers)
-is_named C answers = named.is_named (λ number. signatures_of C (answers number)) (λ number. named.has_ids C (answers number))
+is_named C answers = named.is_named (λ number. signatures_of C (answers number))
+    (λ number. named.has_ids C (answers number))
 
 pub follows_goes : (C : Table) (answers : Answers) (number : ℕ) (header : List ℕ) (m : MessageValue)
     (s : List ℕ) → Follows C answers number header m s →

@@ -1,4 +1,5 @@
--- The close ends a message, and in a message that begins with its request id the first four octets have no line but
+-- The close ends a message, and in a message that begins with its request id the first four octets
+-- have no line but
 -- that of the id.
 use Rattle.std.proofs.Common.{◌≡◌, ℕ, suc, ◌<◌, ◌≤◌, ◌⊎◌, inl, inr, Bool, true, false, List, [], ◌∷◌, ◌++◌, length, map, Option, Some, None, refl, ap, ◌∙◌, append-nil, arith}
 use Rattle.std.specs.Prelude.{◌&&◌, ◌||◌, ◌==◌, if◌then◌else◌, IfSome, codes}
@@ -84,7 +85,8 @@ module _ (o : Order) (n : ℕ) (of : ℕ → List ℕ) (parts : ℕ → Ty)
       (within (Part (Struct (suc n) of parts) 0 (suc n))
       (read (plain o) (Name (of 0) ∷ []) (Single (Plain prims.ULong)) 12 xs)) next
   unfolding next
-  first_part xs = ap (λ P. followed (within (Part (Struct (suc n) of parts) 0 (suc n)) (read (plain o) (Name (of 0) ∷ []) P 12 xs)) next) is
+  first_part xs = ap (λ P. followed (within (Part (Struct (suc n) of parts) 0 (suc n))
+      (read (plain o) (Name (of 0) ∷ []) P 12 xs)) next) is
 
   id_line : List ℕ → Line
   id_line xs = line 16 (Name (of 0) ∷ []) (Number (Plain prims.ULong) (num o xs))
@@ -93,57 +95,79 @@ module _ (o : Order) (n : ℕ) (of : ℕ → List ℕ) (parts : ℕ → Ty)
       ≡ spine.with_front (id_line (a ∷ b ∷ c ∷ d ∷ []) ∷ []) (next 16 [])
   unfolding id_line
   first_four a b c d =
-      first_part (a ∷ b ∷ c ∷ d ∷ []) ∙ ap (λ r. followed (within (Part (Struct (suc n) of parts) 0 (suc n)) r) next) (read_four o (Name (of 0) ∷ []) a b c d)
+      first_part (a ∷ b ∷ c ∷ d ∷ []) ∙ ap (λ r.
+      followed (within (Part (Struct (suc n) of parts) 0 (suc n)) r) next)
+      (read_four o (Name (of 0) ∷ []) a b c d)
 
   next_quiet : IsEmptyResult 16 (next 16 [])
   unfolding next
-  next_quiet = quiet_parts 16 (part_at (plain o) [] (Struct (suc n) of parts) (suc n)) (part_quiet (plain o) [] (Struct (suc n) of parts) (suc n) 16) n 1
+  next_quiet = quiet_parts 16 (part_at (plain o) [] (Struct (suc n) of parts) (suc n))
+      (part_quiet (plain o) [] (Struct (suc n) of parts) (suc n) 16) n 1
 
   module _ (is_req : Bool) (onward : Noted → ℕ → List ℕ → Message)
       (silent : (h : Noted) → Silent 16 (onward h 16 [])) where
-    told_few : (xs : List ℕ) → length xs < 4 → message_lines (section_then sections.Header is_req onward nothing_noted
+    told_few : (xs : List ℕ) → length xs < 4 →
+        message_lines (section_then sections.Header is_req onward nothing_noted
         (read (plain o) [] (Struct (suc n) of parts) 12 xs)) ≡ []
     unfolding number block padding section_then section_lines message_lines
-    told_few [] h = ap (λ r. message_lines (section_then sections.Header is_req onward nothing_noted r)) (first_part [])
-    told_few (a ∷ []) h = ap (λ r. message_lines (section_then sections.Header is_req onward nothing_noted r)) (first_part (a ∷ []))
-    told_few (a ∷ b ∷ []) h = ap (λ r. message_lines (section_then sections.Header is_req onward nothing_noted r)) (first_part (a ∷ b ∷ []))
-    told_few (a ∷ b ∷ c ∷ []) h = ap (λ r. message_lines (section_then sections.Header is_req onward nothing_noted r)) (first_part (a ∷ b ∷ c ∷ []))
+    told_few [] h = ap (λ r. message_lines
+        (section_then sections.Header is_req onward nothing_noted r)) (first_part [])
+    told_few (a ∷ []) h = ap (λ r. message_lines
+        (section_then sections.Header is_req onward nothing_noted r)) (first_part (a ∷ []))
+    told_few (a ∷ b ∷ []) h = ap (λ r. message_lines
+        (section_then sections.Header is_req onward nothing_noted r)) (first_part (a ∷ b ∷ []))
+    told_few (a ∷ b ∷ c ∷ []) h = ap (λ r.
+        message_lines (section_then sections.Header is_req onward nothing_noted r))
+        (first_part (a ∷ b ∷ c ∷ []))
     told_few (a ∷ b ∷ c ∷ d ∷ xs) h = absurd (omega arith)
 
-    told_four : (a b c d : ℕ) → message_lines (section_then sections.Header is_req onward nothing_noted
+    told_four : (a b c d : ℕ) → message_lines
+        (section_then sections.Header is_req onward nothing_noted
         (read (plain o) [] (Struct (suc n) of parts) 12 (a ∷ b ∷ c ∷ d ∷ []))) ≡ line_at 16
         (ValueLine roots.Header (Name (of 0) ∷ [])
         (Number (Plain prims.ULong) (num o (a ∷ b ∷ c ∷ d ∷ [])))) ∷ []
     unfolding id_line
     told_four a b c d =
         let l = id_line (a ∷ b ∷ c ∷ d ∷ []) in
-        ap (λ r. message_lines (section_then sections.Header is_req onward nothing_noted r)) (first_four a b c d)
-        ∙ (ap message_lines (passes_front sections.Header is_req onward nothing_noted (l ∷ []) (next 16 []))
-        ∙ (told_front (section_lines roots.Header is_req nothing_noted (l ∷ [])) (section_then sections.Header is_req onward (noted true nothing_noted (l ∷ [])) (next 16 []))
+        ap (λ r. message_lines (section_then sections.Header is_req onward nothing_noted r))
+        (first_four a b c d)
+        ∙ (ap message_lines (passes_front sections.Header is_req onward nothing_noted (l ∷ [])
+        (next 16 []))
+        ∙ (told_front (section_lines roots.Header is_req nothing_noted (l ∷ []))
+        (section_then sections.Header is_req onward (noted true nothing_noted (l ∷ []))
+        (next 16 []))
         ∙ (ap (λ ts. section_lines roots.Header is_req nothing_noted (l ∷ []) ++ ts)
-        (told_silent 16 (section_then sections.Header is_req onward (noted true nothing_noted (l ∷ [])) (next 16 []))
-        (passes_silent sections.Header is_req onward 16 silent (noted true nothing_noted (l ∷ [])) (next 16 []) next_quiet))
-        ∙ (append-nil (section_lines roots.Header is_req nothing_noted (l ∷ [])) ∙ section_lines_id is_req (Name (of 0) ∷ []) (num o (a ∷ b ∷ c ∷ d ∷ []))))))
+        (told_silent 16 (section_then sections.Header is_req onward
+        (noted true nothing_noted (l ∷ [])) (next 16 []))
+        (passes_silent sections.Header is_req onward 16 silent (noted true nothing_noted (l ∷ []))
+        (next 16 []) next_quiet))
+        ∙ (append-nil (section_lines roots.Header is_req nothing_noted (l ∷ []))
+        ∙ section_lines_id is_req (Name (of 0) ∷ []) (num o (a ∷ b ∷ c ∷ d ∷ []))))))
 
 -- of a header that begins with its request id
 module _ (S : Signatures) (header : List ℕ) where
   unfoldable pub id_told : List ℕ → List LineAt
-  id_told xs = line_at 16 (ValueLine roots.Header (Name (codes "request_id") ∷ []) (Number (Plain prims.ULong) (num (order header) xs))) ∷ []
+  id_told xs = line_at 16 (ValueLine roots.Header (Name (codes "request_id") ∷ [])
+      (Number (Plain prims.ULong) (num (order header) xs))) ∷ []
 
   pub few_by : (T : Ty) → BeginsWithId T → (xs : List ℕ) → length xs < 4 →
       message_lines (of_header S header (Some T) 12 xs) ≡ []
   unfolding of_header
   few_by T (n, of, parts, is, name_is, long) xs h =
       ap (λ U. message_lines (of_header S header (Some U) 12 xs)) is
-      ∙ told_few (order header) n of parts long (is_request header) (after_header S header) (λ h. after_silent S header sections.Header h 16) xs h
+      ∙ told_few (order header) n of parts long (is_request header) (after_header S header)
+      (λ h. after_silent S header sections.Header h 16) xs h
 
   pub four_by : (T : Ty) → BeginsWithId T → (a b c d : ℕ) →
-      message_lines (of_header S header (Some T) 12 (a ∷ b ∷ c ∷ d ∷ [])) ≡ id_told (a ∷ b ∷ c ∷ d ∷ [])
+      message_lines (of_header S header (Some T) 12 (a ∷ b ∷ c ∷ d ∷ []))
+      ≡ id_told (a ∷ b ∷ c ∷ d ∷ [])
   unfolding of_header id_told
   four_by T (n, of, parts, is, name_is, long) a b c d =
       ap (λ U. message_lines (of_header S header (Some U) 12 (a ∷ b ∷ c ∷ d ∷ []))) is
-      ∙ (told_four (order header) n of parts long (is_request header) (after_header S header) (λ h. after_silent S header sections.Header h 16) a b c d
-      ∙ ap (λ name. line_at 16 (ValueLine roots.Header (Name name ∷ []) (Number (Plain prims.ULong) (num (order header) (a ∷ b ∷ c ∷ d ∷ [])))) ∷ []) name_is)
+      ∙ (told_four (order header) n of parts long (is_request header) (after_header S header)
+      (λ h. after_silent S header sections.Header h 16) a b c d
+      ∙ ap (λ name. line_at 16 (ValueLine roots.Header (Name name ∷ [])
+      (Number (Plain prims.ULong) (num (order header) (a ∷ b ∷ c ∷ d ∷ [])))) ∷ []) name_is)
 
   -- without a header type the first octets are of the rest
   rest_few : (xs : List ℕ) → length xs ≤ 4 → message_lines (of_header S header None 12 xs) ≡ []
@@ -161,19 +185,26 @@ module _ (S : Signatures) (header : List ℕ) where
   named_by (Some T) begins [] h = rw (few_by T begins [] (omega arith)) tt
   named_by (Some T) begins (a ∷ []) h = rw (few_by T begins (a ∷ []) (omega arith)) tt
   named_by (Some T) begins (a ∷ b ∷ []) h = rw (few_by T begins (a ∷ b ∷ []) (omega arith)) tt
-  named_by (Some T) begins (a ∷ b ∷ c ∷ []) h = rw (few_by T begins (a ∷ b ∷ c ∷ []) (omega arith)) tt
+  named_by (Some T) begins (a ∷ b ∷ c ∷ []) h =
+      rw (few_by T begins (a ∷ b ∷ c ∷ []) (omega arith)) tt
   named_by (Some T) begins (a ∷ b ∷ c ∷ d ∷ []) h = rw (four_by T begins a b c d) (refl, tt)
   named_by (Some T) begins (a ∷ b ∷ c ∷ d ∷ e ∷ xs) h = absurd (omega arith)
 
   id_four : (T : Ty) → BeginsWithId T → (a b c d : ℕ) (later : List LineAt) →
-      first_request_id (message_lines (of_header S header (Some T) 12 (a ∷ b ∷ c ∷ d ∷ [])) ++ later)
+      first_request_id (message_lines (of_header S header (Some T) 12 (a ∷ b ∷ c ∷ d ∷ []))
+      ++ later)
       ≡ Some (num (order header) (a ∷ b ∷ c ∷ d ∷ []))
   unfolding first_request_id id_in first_id line_at id_told
   id_four T begins a b c d later = rw (four_by T begins a b c d) refl
 
-pub is_named : (S : ℕ → Signatures) → ((number : ℕ) → HasIds (S number)) → HasOnlyValuesInId (reader_by S)
+pub is_named : (S : ℕ → Signatures) → ((number : ℕ) → HasIds (S number)) →
+    HasOnlyValuesInId (reader_by S)
 unfolding remarks_by message are_values
-is_named S ids = record { named = λ number header xs by few. named_by (S number) header ((S number).header (minor header) (kind header)) ((ids number).begins header by) xs few }
+is_named S ids = record {
+  named = λ number header xs by few.
+      named_by (S number) header ((S number).header (minor header) (kind header))
+      ((ids number).begins header by) xs few;
+}
 
 -- The request id of the header is the number of the first four octets.
 pub id_is_said : (S : Signatures) (header : List ℕ) (T : Ty) →
@@ -195,7 +226,8 @@ first_by false more fragmented seven cancel e = inr e
 
 goes_first : (header : List ℕ) → has_name header ≡ true → IdStandsFirst (minor header) (kind header)
 unfolding is_opener is_fragment is_cancel
-goes_first header by = go (first_by (minor header == 2) (has_more header) (may_be_fragmented header) (kind header == 7) (kind header == 2) by)
+goes_first header by = go (first_by (minor header == 2) (has_more header) (may_be_fragmented header)
+    (kind header == 7) (kind header == 2) by)
   where
     go : ((minor header == 2) ≡ true) ⊎ ((kind header == 2) ≡ true) →
         IdStandsFirst (minor header) (kind header)

@@ -47,10 +47,12 @@ wrongs _ = []
 
 -- ---- the text
 
-text_both : (number place offset : ℕ) (xs ys : List LineAt) → message_lines_text number place offset (xs ++ ys)
+text_both : (number place offset : ℕ) (xs ys : List LineAt) →
+    message_lines_text number place offset (xs ++ ys)
     ≡ message_lines_text number place offset xs ++ message_lines_text number place offset ys
 unfolding message_lines_text
-text_both number place offset xs ys = flat_map-append (λ t. message_line_text number (place + (t.at - offset)) t.message_line) xs ys
+text_both number place offset xs ys = flat_map-append
+    (λ t. message_line_text number (place + (t.at - offset)) t.message_line) xs ys
 
 -- the call of a first line
 abbrev pub first_call : Root → Bool → Noted → List Line → List LineAt
@@ -61,18 +63,24 @@ numbered_lines : (number place offset at : ℕ) (root : Root) (l : Line) →
     message_lines_text number place offset (line_at at (ValueLine root l.path l.value) ∷ [])
     ≡ line_text number root l
 unfolding message_lines_text message_line_text line_class_of line_at
-numbered_lines number place offset at root l = append-nil _ ∙ said_is_line number l.at root l.path l.value
+numbered_lines number place offset at root l =
+    append-nil _ ∙ said_is_line number l.at root l.path l.value
 
-section_lines_text : (number place offset n : ℕ) (root : Root) (is : Bool) (h : Noted) (lines : List Line) →
+section_lines_text : (number place offset n : ℕ) (root : Root) (is : Bool) (h : Noted)
+    (lines : List Line) →
     OneAt n lines → message_lines_text number place offset (section_lines root is h lines)
-    ≡ lines_text number root lines ++ message_lines_text number place offset (first_call root is h lines)
+    ≡ lines_text number root lines ++ message_lines_text number place offset
+    (first_call root is h lines)
 unfolding section_lines lines_text
 section_lines_text number place offset n root is h [] one = refl
 section_lines_text number place offset n root is h (l ∷ []) one =
     let called = calls is l (note (is_header_root root) h l) in
-    ap (message_lines_text number place offset) (append-nil (line_at l.at (ValueLine root l.path l.value) ∷ called))
+    ap (message_lines_text number place offset)
+    (append-nil (line_at l.at (ValueLine root l.path l.value) ∷ called))
     ∙ (text_both number place offset (line_at l.at (ValueLine root l.path l.value) ∷ []) called
-    ∙ ap (λ z. z ++ message_lines_text number place offset called) (numbered_lines number place offset l.at root l ∙ sym (append-nil (line_text number root l))))
+    ∙ ap (λ z. z ++ message_lines_text number place offset called)
+    (numbered_lines number place offset l.at root l
+    ∙ sym (append-nil (line_text number root l))))
 section_lines_text number place offset n root is h (l ∷ l' ∷ ls) one = absurd one
 
 wrongs_text : (number place n : ℕ) (st : Read) → IsOctetResult (n + 1) st →
@@ -91,7 +99,8 @@ no_first root is h [] each = refl
 no_first root is h (l ∷ ls) each = rw each.0 refl
 
 -- A fault has no call, so its text may come before that of a call.
-swapped : (number place n : ℕ) (root : Root) (is : Bool) (h : Noted) (st : Read) → IsOctetResult (n + 1) st →
+swapped : (number place n : ℕ) (root : Root) (is : Bool) (h : Noted) (st : Read) →
+    IsOctetResult (n + 1) st →
     CallsNone is st → lines_text number root (lines_of st)
     ++ (message_lines_text number place n (first_call root is h (lines_of st))
     ++ fault_text number (place + 1) st)
@@ -99,10 +108,17 @@ swapped : (number place n : ℕ) (root : Root) (is : Bool) (h : Noted) (st : Rea
     ++ message_lines_text number place n (first_call root is h (lines_of st))
 unfolding lines_text message_lines_text
 swapped number place n root is h (Done lines at rest) now none =
-    rw (append-nil (message_lines_text number place n (first_call root is h lines)), append-nil (lines_text number root lines)) refl
+    rw (
+      append-nil (message_lines_text number place n (first_call root is h lines)),
+      append-nil (lines_text number root lines),
+    ) refl
 swapped number place n root is h (Short lines at outer leaf) now none =
-    rw (append-nil (message_lines_text number place n (first_call root is h lines)), append-nil (lines_text number root lines)) refl
-swapped number place n root is h (Fault lines at why T) now none = rw (no_first root is h lines none) (sym (append-nil _))
+    rw (
+      append-nil (message_lines_text number place n (first_call root is h lines)),
+      append-nil (lines_text number root lines),
+    ) refl
+swapped number place n root is h (Fault lines at why T) now none =
+    rw (no_first root is h lines none) (sym (append-nil _))
 
 pub step_text : (number place n : ℕ) (root : Root) (is : Bool) (h : Noted) (st : Read) →
     IsOctetResult (n + 1) st → CallsNone is st →
@@ -111,6 +127,11 @@ pub step_text : (number place n : ℕ) (root : Root) (is : Bool) (h : Noted) (st
     ++ message_lines_text number place n (first_call root is h (lines_of st))
 step_text number place n root is h st now none =
     text_both number place n (section_lines root is h (lines_of st)) (wrongs st)
-    ∙ (rw (wrongs_text number place n st now, section_lines_text number place n (n + 1) root is h (lines_of st) (one_of (n + 1) st now))
-    (append_assoc (lines_text number root (lines_of st)) (message_lines_text number place n (first_call root is h (lines_of st))) (fault_text number (place + 1) st)
+    ∙ (rw (
+      wrongs_text number place n st now,
+      section_lines_text number place n (n + 1) root is h (lines_of st) (one_of (n + 1) st now),
+    )
+    (append_assoc (lines_text number root (lines_of st))
+    (message_lines_text number place n (first_call root is h (lines_of st)))
+    (fault_text number (place + 1) st)
     ∙ swapped number place n root is h st now none))

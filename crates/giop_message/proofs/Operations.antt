@@ -19,34 +19,45 @@ mute_within : (place : OpenPart) (r : Read) → ends_in_string (within place r) 
 mute_within place (Done lines at rest) = refl
 mute_within place r = refl
 
-mute_followed : (n : ℕ) (r : Read) (next : ℕ → List ℕ → Read) → IsEmptyResult n r → ends_in_string r ≡ false →
+mute_followed : (n : ℕ) (r : Read) (next : ℕ → List ℕ → Read) → IsEmptyResult n r →
+    ends_in_string r ≡ false →
     ends_in_string (next n []) ≡ false → ends_in_string (followed r next) ≡ false
-mute_followed n (Done lines at rest) next quiet h k = rw (quiet.1, quiet.2) (front_inside lines (next n []) ∙ k)
+mute_followed n (Done lines at rest) next quiet h k =
+    rw (quiet.1, quiet.2) (front_inside lines (next n []) ∙ k)
 mute_followed n r next quiet h k = h
 
 mute_parts : (n : ℕ) (part : ℕ → ℕ → List ℕ → Read) → ((i : ℕ) → IsEmptyResult n (part i n [])) →
     ((i : ℕ) → ends_in_string (part i n []) ≡ false) → (more i : ℕ) →
     ends_in_string (parts_from part more i n []) ≡ false
 mute_parts n part quiet h zero i = refl
-mute_parts n part quiet h (suc more) i = mute_followed n (part i n []) (parts_from part more (suc i)) (quiet i) (h i) (mute_parts n part quiet h more (suc i))
+mute_parts n part quiet h (suc more) i =
+    mute_followed n (part i n []) (parts_from part more (suc i)) (quiet i) (h i)
+    (mute_parts n part quiet h more (suc i))
 
 pub read_mute : (coding : Coding) (path : List PathSegment) (T : Ty) (n : ℕ) →
     ends_in_string (read coding path T n []) ≡ false
-read_mute coding path (Single scalar) n = rw (number_none coding.origin (width scalar) n (width_pos scalar)) refl
+read_mute coding path (Single scalar) n =
+    rw (number_none coding.origin (width scalar) n (width_pos scalar)) refl
 read_mute coding path (Struct count names parts) n =
-    mute_parts n (part_at coding path (Struct count names parts) count) (part_quiet coding path (Struct count names parts) count n)
-    (λ i. mute_within (Part (Struct count names parts) i count) (read coding (path ++ Name (names i) ∷ []) (parts i) n [])
+    mute_parts n (part_at coding path (Struct count names parts) count)
+    (part_quiet coding path (Struct count names parts) count n)
+    (λ i. mute_within (Part (Struct count names parts) i count)
+    (read coding (path ++ Name (names i) ∷ []) (parts i) n [])
     ∙ read_mute coding (path ++ Name (names i) ∷ []) (parts i) n) count 0
 read_mute coding path (Array count T) n =
-    mute_parts n (part_at coding path (Array count T) count) (part_quiet coding path (Array count T) count n)
-    (λ i. mute_within (Part (Array count T) i count) (read coding (path ++ Index i ∷ []) T n []) ∙ read_mute coding (path ++ Index i ∷ []) T n) count 0
-read_mute coding path (Union choice scalar select names cases) n = rw (number_none coding.origin (width scalar) n (width_pos scalar)) refl
+    mute_parts n (part_at coding path (Array count T) count)
+    (part_quiet coding path (Array count T) count n)
+    (λ i. mute_within (Part (Array count T) i count) (read coding (path ++ Index i ∷ []) T n [])
+    ∙ read_mute coding (path ++ Index i ∷ []) T n) count 0
+read_mute coding path (Union choice scalar select names cases) n =
+    rw (number_none coding.origin (width scalar) n (width_pos scalar)) refl
 read_mute coding path _ n = rw (number_none coding.origin 4 n (lit< tt)) refl
 
 part_mute : (coding : Coding) (path : List PathSegment) (T : Ty) (count n i : ℕ) →
     ends_in_string (part_at coding path T count i n []) ≡ false
 part_mute coding path T count n i =
-    mute_within (Part T i count) (read coding (inner_path path T i) (part_of T i) n []) ∙ read_mute coding (inner_path path T i) (part_of T i) n
+    mute_within (Part T i count) (read coding (inner_path path T i) (part_of T i) n [])
+    ∙ read_mute coding (inner_path path T i) (part_of T i) n
 
 -- ---- no line ends a string, or none has begun
 
@@ -65,7 +76,8 @@ closed_within place r h = h
 
 closed_followed : (n : ℕ) (r : Read) (next : ℕ → List ℕ → Read) → IsOctetResult n r →
     ends_in_string (next n []) ≡ false → Closed r → Closed (followed r next)
-closed_followed n (Done lines at rest) next now mute h = rw (now.1, now.2) (inr (front_inside lines (next n []) ∙ mute))
+closed_followed n (Done lines at rest) next now mute h =
+    rw (now.1, now.2) (inr (front_inside lines (next n []) ∙ mute))
 closed_followed n r next now mute h = h
 
 -- an encapsulation of its type
@@ -80,7 +92,8 @@ pub fits_hold : (outer : List OpenPart) (T : Ty) (leaf : Leaf) → FitsIn T oute
 fits_hold [] T leaf fits = tt
 fits_hold (Part U i count ∷ outer) T leaf fits = (tt, fits_hold outer (part_of T i) leaf fits.1)
 fits_hold (Member U i ∷ outer) T leaf fits = (tt, fits_hold outer (part_of T i) leaf fits.1)
-fits_hold (Inside U inner end ∷ outer) T leaf fits = (subst IsEncapsulation (sym fits.0.same) fits.0.kind, fits_hold outer (part_of T 0) leaf fits.1)
+fits_hold (Inside U inner end ∷ outer) T leaf fits =
+    (subst IsEncapsulation (sym fits.0.same) fits.0.kind, fits_hold outer (part_of T 0) leaf fits.1)
 
 -- what is left of it is no string
 rest_mute : (path : List PathSegment) (T : Ty) (k n : ℕ) → IsEncapsulation T →
@@ -96,7 +109,8 @@ rest_mute path T k n is = absurd is
 closed_enclosed : (n : ℕ) (path : List PathSegment) (T : Ty) (inner : Coding) (end : ℕ) (r : Read) →
     IsEncapsulation T → IsOctetResult n r → Closed r → Closed (enclosed path T inner end r [])
 closed_enclosed n path T inner end (Done lines at rest) is now h =
-    rw (now.1, now.2) (inr (front_inside lines (rest_of path T (end - n) n []) ∙ rest_mute path T (end - n) n is))
+    rw (now.1, now.2) (inr (front_inside lines (rest_of path T (end - n) n [])
+    ∙ rest_mute path T (end - n) n is))
 closed_enclosed n path T inner end (Short lines at outer leaf) is now h = go (ltb at end) h
   where
     go : (test : Bool) → Closed (Short lines at outer leaf) →
@@ -111,17 +125,24 @@ closed_enclosed n path T inner end (Fault lines at why S) is now h = h
 -- Where a line ends a string no other has begun.
 pub step_closed : (coding : Coding) (path : List PathSegment) (outer : List OpenPart) (leaf : Leaf)
     (at b : ℕ) → AllHold outer → Closed (step coding path outer leaf at b)
-step_closed coding path [] leaf at b hold = closed_firm (leaf_step coding path leaf at b) (leaf_says coding path leaf at b).firm
+step_closed coding path [] leaf at b hold =
+    closed_firm (leaf_step coding path leaf at b) (leaf_says coding path leaf at b).firm
 step_closed coding path (Inside T inner end ∷ outer) leaf at b hold =
     let r = step inner (path ++ Held ∷ []) outer leaf at b in
-    closed_enclosed (at + 1) path T inner end r hold.0 (step_now inner (path ++ Held ∷ []) outer leaf at b)
+    closed_enclosed (at + 1) path T inner end r hold.0
+    (step_now inner (path ++ Held ∷ []) outer leaf at b)
     (step_closed inner (path ++ Held ∷ []) outer leaf at b hold.1)
 step_closed coding path (Part T i count ∷ outer) leaf at b hold =
     let inner = step coding (path ++ segment_of T i ∷ []) outer leaf at b in
-    closed_followed (at + 1) (within (Part T i count) inner) (parts_from (part_at coding path T count) (count - suc i) (suc i))
-    (now_within (at + 1) (Part T i count) inner (step_now coding (path ++ segment_of T i ∷ []) outer leaf at b))
-    (mute_parts (at + 1) (part_at coding path T count) (part_quiet coding path T count (at + 1)) (part_mute coding path T count (at + 1)) (count - suc i)
+    closed_followed (at + 1) (within (Part T i count) inner)
+    (parts_from (part_at coding path T count) (count - suc i) (suc i))
+    (now_within (at + 1) (Part T i count) inner
+    (step_now coding (path ++ segment_of T i ∷ []) outer leaf at b))
+    (mute_parts (at + 1) (part_at coding path T count) (part_quiet coding path T count (at + 1))
+    (part_mute coding path T count (at + 1)) (count - suc i)
     (suc i))
-    (closed_within (Part T i count) inner (step_closed coding (path ++ segment_of T i ∷ []) outer leaf at b hold.1))
+    (closed_within (Part T i count) inner (step_closed coding (path ++ segment_of T i ∷ []) outer
+    leaf at b hold.1))
 step_closed coding path (Member T i ∷ outer) leaf at b hold =
-    closed_within (Member T i) (step coding (path ++ segment_of T i ∷ []) outer leaf at b) (step_closed coding (path ++ segment_of T i ∷ []) outer leaf at b hold.1)
+    closed_within (Member T i) (step coding (path ++ segment_of T i ∷ []) outer leaf at b)
+    (step_closed coding (path ++ segment_of T i ∷ []) outer leaf at b hold.1)

@@ -26,7 +26,8 @@ use Rattle.giop_message.proofs.Causal.{after_silent}
 use Rattle.giop_message.proofs.LastParts.{CallsNone, step_none}
 use Rattle.giop_message.proofs.Octets.{told_front, told_silent, due_is, wrongs, first_call, step_text}
 
--- A section that a message has begun: the message's number and header, the section and its type, and the lines and the
+-- A section that a message has begun: the message's number and header, the section and its type,
+-- and the lines and the
 -- octets in front of it.
 pub record Begun : Type 0 where
   pub S : Signatures
@@ -50,13 +51,15 @@ module _ (w : Begun) where
 
   -- whether an octet after these ends an operation
   abbrev pub is_named : List ℕ → ℕ → Bool
-  is_named octets b = names_operation (is_header_root (root_of section)) (decoders.added_lines (order header) T start octets b)
+  is_named octets b = names_operation (is_header_root (root_of section))
+      (decoders.added_lines (order header) T start octets b)
 
   -- the message, by that reading
   abbrev pub comes : Read → Message
   comes r = with_front before (section_and_rest S header section nothing_noted r)
 
-  -- A message that is in the section after these octets of it: what their reading has begun and not ended.
+  -- A message that is in the section after these octets of it: what their reading has begun and not
+  -- ended.
   pub record Inside (s octets : List ℕ) : Type 0 where
     pub since : s ≡ front ++ octets
     pub is : message S header s ≡ comes (reading octets)
@@ -78,7 +81,8 @@ now_all n (Done lines at rest) now = now.2
 now_all n r now = tt
 
 -- the lines of a section are all, since what follows it has none without an octet
-pub passed_section_lines : (S : Signatures) (header : List ℕ) (section : Section) (h : Noted) (r : Read) →
+pub passed_section_lines : (S : Signatures) (header : List ℕ) (section : Section) (h : Noted)
+    (r : Read) →
     ReadsAll r → message_lines (section_and_rest S header section h r)
     ≡ section_lines (root_of section) (may_call header section) h (lines_of r) ++ wrongs r
 unfolding section_then message_lines
@@ -87,13 +91,17 @@ passed_section_lines S header section h (Done lines at rest) all =
     let emitted = section_lines R (may_call header section) h lines in
     let next = after S header section (noted (is_header_root R) h lines) in
     rw (all)
-    (told_front emitted (next at []) ∙ ap (λ ts. emitted ++ ts) (told_silent at (next at []) (after_silent S header section (noted (is_header_root R) h lines) at)))
-passed_section_lines S header section h (Short lines at outer leaf) all = sym (append-nil (section_lines (root_of section) (may_call header section) h lines))
+    (told_front emitted (next at []) ∙ ap (λ ts. emitted ++ ts)
+    (told_silent at (next at []) (after_silent S header section
+    (noted (is_header_root R) h lines) at)))
+passed_section_lines S header section h (Short lines at outer leaf) all =
+    sym (append-nil (section_lines (root_of section) (may_call header section) h lines))
 passed_section_lines S header section h (Fault lines at why T) all = refl
 
 short_told : (S : Signatures) (header : List ℕ) (section : Section) (before : List LineAt)
     (lines : List Line) (at : ℕ) (outer : List OpenPart) (leaf : Leaf) →
-    message_lines (with_front before (section_and_rest S header section nothing_noted (Short lines at outer leaf)))
+    message_lines (with_front before (section_and_rest S header section nothing_noted
+    (Short lines at outer leaf)))
     ≡ before ++ section_lines (root_of section) (may_call header section) nothing_noted lines
 unfolding section_then with_front message_lines
 short_told S header section before lines at outer leaf = refl
@@ -108,18 +116,21 @@ abbrev pub EndsAt : ℕ → Read → Type 0
 EndsAt n (Done lines at rest) = at ≡ n
 EndsAt n r = Unit {0}
 
-offset_is : (n : ℕ) (r st : Read) (lines : List Line) → r ≡ ReadResult.with_front lines st → IsOctetResult n st →
+offset_is : (n : ℕ) (r st : Read) (lines : List Line) → r ≡ ReadResult.with_front lines st →
+    IsOctetResult n st →
     EndsAt n r
 offset_is n r (Done ls at rest) lines e now = subst (EndsAt n) (sym e) now.1
 offset_is n r q lines e now = subst (EndsAt n) (sym e) tt
 
 -- what a reading that goes on has begun and not ended, at this offset
 short_by : (n end : ℕ) (named : Bool) (r st : Read) (lines : List Line) →
-    r ≡ ReadResult.with_front lines st → IsOctetResult n st → decoders.IsAnswer end named progress.More r →
+    r ≡ ReadResult.with_front lines st → IsOctetResult n st →
+    decoders.IsAnswer end named progress.More r →
     (ls : List Line) × (outer : List OpenPart) × (leaf : Leaf) × (r ≡ Short ls n outer leaf)
 short_by n end named r (Short ls at outer leaf) lines e now answer =
     (lines ++ ls, outer, leaf, e ∙ ap (λ k. Short (lines ++ ls) k outer leaf) now.1)
-short_by n end named r _ lines e now answer = absurd (subst (decoders.IsAnswer end named progress.More) e answer)
+short_by n end named r _ lines e now answer =
+    absurd (subst (decoders.IsAnswer end named progress.More) e answer)
 
 -- ---- an octet of it
 
@@ -130,8 +141,10 @@ goes_one w s octets is b =
     let r = reading w octets in
     message_goes S header s b ∙ (ap (λ m. advance S header m b) is
     ∙ (sym (front_advance S header w.before (section_and_rest S header section nothing_noted r) b)
-    ∙ ap (with_front w.before) (sym (through_goes S header section (after_goes S header section) nothing_noted r b)
-    ∙ ap (section_and_rest S header section nothing_noted) (sym (read_goes (plain (order header)) [] w.T (start w) octets b)))))
+    ∙ ap (with_front w.before) (sym (through_goes S header section (after_goes S header section)
+    nothing_noted r b)
+    ∙ ap (section_and_rest S header section nothing_noted)
+    (sym (read_goes (plain (order header)) [] w.T (start w) octets b)))))
   where
     open w use {S, header, section}
 
@@ -161,7 +174,8 @@ module _ (w : Begun) (s octets : List ℕ) (i : Inside w s octets) (b : ℕ) whe
   noted_before = noted (is_header_root R) nothing_noted i.lines
 
   pub next_is : Next ≡ ReadResult.with_front i.lines Added
-  next_is = read_goes coding [] T (start w) octets b ∙ ap (λ r. decoder.advance coding [] r b) i.was_short
+  next_is = read_goes coding [] T (start w) octets b
+      ∙ ap (λ r. decoder.advance coding [] r b) i.was_short
 
   pub added_now : IsOctetResult (Here + 1) Added
   added_now = step_now coding [] i.outer i.leaf Here b
@@ -170,21 +184,26 @@ module _ (w : Begun) (s octets : List ℕ) (i : Inside w s octets) (b : ℕ) whe
   added_none = step_none Is coding [] i.outer i.leaf Here b
 
   pub lines_due : decoders.added_lines (order header) T (start w) octets b ≡ lines_of Added
-  lines_due = rw (i.was_short, next_is, lines_front i.lines Added) (drop-append_seam i.lines (lines_of Added))
+  lines_due = rw (i.was_short, next_is, lines_front i.lines Added)
+      (drop-append_seam i.lines (lines_of Added))
 
   pub goes_more : message S header (s ++ b ∷ []) ≡ comes w Next
   goes_more = goes_one w s octets i.is b
 
-  due_here : due S header s (b ∷ []) ≡ section_lines R Is noted_before (lines_of Added) ++ wrongs Added
+  due_here : due S header s (b ∷ []) ≡ section_lines R Is noted_before (lines_of Added)
+      ++ wrongs Added
   due_here =
       let emitted = section_lines R Is nothing_noted i.lines in
       let more = section_and_rest S header section noted_before Added in
-      due_is S header s (b ∷ []) (before ++ emitted) (comes w (Short i.lines Here i.outer i.leaf)) more
+      due_is S header s (b ∷ []) (before ++ emitted) (comes w (Short i.lines Here i.outer i.leaf))
+      more
       (i.is ∙ ap (comes w) i.was_short)
       (goes_more ∙ (ap (comes w) next_is
-      ∙ (ap (with_front before) (passes_front section Is (after S header section) nothing_noted i.lines Added) ∙ front_twice before emitted more)))
+      ∙ (ap (with_front before) (passes_front section Is (after S header section) nothing_noted
+      i.lines Added) ∙ front_twice before emitted more)))
       (short_told S header section before i.lines Here i.outer i.leaf)
-      ∙ passed_section_lines S header section noted_before Added (now_all (Here + 1) Added added_now)
+      ∙ passed_section_lines S header section noted_before Added
+      (now_all (Here + 1) Added added_now)
 
   here_is : Here ≡ 12 + length s
   here_is = omega (arith, ap length i.since, length-append front octets)
@@ -193,7 +212,8 @@ module _ (w : Begun) (s octets : List ℕ) (i : Inside w s octets) (b : ℕ) whe
   pub text_here : (place : ℕ) → due_text S number place header s (b ∷ []) ≡
       (lines_text number R (decoders.added_lines (order header) T (start w) octets b)
       ++ fault_text number (place + 1) Next)
-      ++ message_lines_text number place (12 + length s) (first_call R Is noted_before (lines_of Added))
+      ++ message_lines_text number place (12 + length s)
+      (first_call R Is noted_before (lines_of Added))
   unfolding due_text
   text_here place =
       let now = subst (λ n. IsOctetResult (n + 1) Added) here_is added_now in
@@ -205,8 +225,10 @@ module _ (w : Begun) (s octets : List ℕ) (i : Inside w s octets) (b : ℕ) whe
   pub inside_on : Answers (order header) T (start w) R octets b progress.More →
       Inside w (s ++ b ∷ []) (octets ++ b ∷ [])
   inside_on answer =
-      let g = short_by (Here + 1) (start w + length (octets ++ b ∷ [])) (is_named w octets b) Next Added i.lines next_is added_now answer in
-      let n : Here + 1 ≡ start w + length (octets ++ b ∷ []) = omega (arith, length_one_more octets b) in
+      let g = short_by (Here + 1) (start w + length (octets ++ b ∷ [])) (is_named w octets b) Next
+      Added i.lines next_is added_now answer in
+      let n : Here + 1 ≡ start w + length (octets ++ b ∷ []) =
+      omega (arith, length_one_more octets b) in
       record {
         since = ap (λ xs. xs ++ b ∷ []) i.since ∙ append_assoc front octets (b ∷ []);
         is = goes_more;

@@ -30,7 +30,8 @@ module _ (header : List ℕ) where
   abbrev P : Coding
   P = plain (order header)
 
-  read_resumes : (T : Ty) (at : ℕ) (s t : List ℕ) → read P [] T at (s ++ t) ≡ resumes P [] (read P [] T at s) t
+  read_resumes : (T : Ty) (at : ℕ) (s t : List ℕ) →
+      read P [] T at (s ++ t) ≡ resumes P [] (read P [] T at s) t
   read_resumes T at s [] = ap (read P [] T at) (append-nil s)
   read_resumes T at s (b ∷ t) =
       ap (read P [] T at) (sym (append_assoc s (b ∷ []) t))
@@ -39,24 +40,31 @@ module _ (header : List ℕ) where
   front_both : (ls ms : List Line) (r : Read) →
       ReadResult.with_front ls (ReadResult.with_front ms r) ≡ ReadResult.with_front (ls ++ ms) r
   front_both ls ms (Done lines at s) = ap (λ k. Done k at s) (sym (append_assoc ls ms lines))
-  front_both ls ms (Short lines at outer leaf) = ap (λ k. Short k at outer leaf) (sym (append_assoc ls ms lines))
-  front_both ls ms (Fault lines at why T) = ap (λ k. Fault k at why T) (sym (append_assoc ls ms lines))
+  front_both ls ms (Short lines at outer leaf) =
+      ap (λ k. Short k at outer leaf) (sym (append_assoc ls ms lines))
+  front_both ls ms (Fault lines at why T) =
+      ap (λ k. Fault k at why T) (sym (append_assoc ls ms lines))
 
   front_advance : (ls : List Line) (r : Read) (b : ℕ) →
-      decoder.advance P [] (ReadResult.with_front ls r) b ≡ ReadResult.with_front ls (decoder.advance P [] r b)
+      decoder.advance P [] (ReadResult.with_front ls r) b
+      ≡ ReadResult.with_front ls (decoder.advance P [] r b)
   front_advance ls (Done lines at s) b = refl
-  front_advance ls (Short lines at outer leaf) b = sym (front_both ls lines (decoder.step P [] outer leaf at b))
+  front_advance ls (Short lines at outer leaf) b =
+      sym (front_both ls lines (decoder.step P [] outer leaf at b))
   front_advance ls (Fault lines at why T) b = refl
 
   front_resumes : (ls : List Line) (t : List ℕ) (r : Read) →
       resumes P [] (ReadResult.with_front ls r) t ≡ ReadResult.with_front ls (resumes P [] r t)
   front_resumes ls [] r = refl
   front_resumes ls (b ∷ t) r =
-      ap (λ z. resumes P [] z t) (front_advance ls r b) ∙ front_resumes ls t (decoder.advance P [] r b)
+      ap (λ z. resumes P [] z t) (front_advance ls r b)
+      ∙ front_resumes ls t (decoder.advance P [] r b)
 
-  done_resumes : (lines : List Line) (at : ℕ) (t z : List ℕ) → resumes P [] (Done lines at z) t ≡ Done lines at (z ++ t)
+  done_resumes : (lines : List Line) (at : ℕ) (t z : List ℕ) →
+      resumes P [] (Done lines at z) t ≡ Done lines at (z ++ t)
   done_resumes lines at [] z = ap (Done lines at) (sym (append-nil z))
-  done_resumes lines at (b ∷ t) z = done_resumes lines at t (z ++ b ∷ []) ∙ ap (Done lines at) (append_assoc z (b ∷ []) t)
+  done_resumes lines at (b ∷ t) z = done_resumes lines at t (z ++ b ∷ [])
+      ∙ ap (Done lines at) (append_assoc z (b ∷ []) t)
 
   fault_resumes : (lines : List Line) (at : ℕ) (why : Kind) (T : Ty) (t : List ℕ) →
       resumes P [] (Fault lines at why T) t ≡ Fault lines at why T
@@ -80,14 +88,16 @@ module _ (header : List ℕ) where
   named_front h ls (Fault lines at why T) = refl
 
   -- the name that a value has after more octets, by what it has begun and not ended
-  pub named_on : (h : Noted) (T : Ty) (at : ℕ) (s t : List ℕ) (lines : List Line) (n : ℕ) (outer : List OpenPart) (leaf : Leaf) →
+  pub named_on : (h : Noted) (T : Ty) (at : ℕ) (s t : List ℕ) (lines : List Line) (n : ℕ)
+      (outer : List OpenPart) (leaf : Leaf) →
       read P [] T at s ≡ Short lines n outer leaf →
       named_if_whole h (read P [] T at (s ++ t))
       ≡ named_if_whole (noted false h lines) (resumes P [] (Short [] n outer leaf) t)
   named_on h T at s t lines n outer leaf e =
       let short = e ∙ ap (λ k. Short k n outer leaf) (sym (append-nil lines)) in
       ap (named_if_whole h)
-      (read_resumes T at s t ∙ (ap (λ r. resumes P [] r t) short ∙ front_resumes lines t (Short [] n outer leaf)))
+      (read_resumes T at s t ∙ (ap (λ r. resumes P [] r t) short
+      ∙ front_resumes lines t (Short [] n outer leaf)))
       ∙ named_front h lines (resumes P [] (Short [] n outer leaf) t)
 
 -- ---- where a message is
@@ -127,7 +137,8 @@ is_settled Over = true
 unfoldable pub offset_of : Message → ℕ
 offset_of (ReadTo emitted at stage) = at
 
-pub offset_front : (front : List LineAt) (m : Message) → offset_of (with_front front m) ≡ offset_of m
+pub offset_front : (front : List LineAt) (m : Message) →
+    offset_of (with_front front m) ≡ offset_of m
 unfolding offset_of with_front
 offset_front front (ReadTo emitted at stage) = refl
 
@@ -148,7 +159,8 @@ settled_bare (In_padding b) e = absurd (false≢true e)
 settled_bare (In_rest offset held) e = refl
 settled_bare Over e = refl
 
-rest_in_settled : (full offset at : ℕ) (s : List ℕ) → is_settled (stage_of (rest_in full offset at s)) ≡ true
+rest_in_settled : (full offset at : ℕ) (s : List ℕ) →
+    is_settled (stage_of (rest_in full offset at s)) ≡ true
 unfolding rest_in is_settled stage_of
 rest_in_settled zero offset at s = refl
 rest_in_settled (suc full) offset at s =
@@ -167,7 +179,8 @@ through_body h (Short lines at outer leaf) = refl
 through_body h (Fault lines at why T) = refl
 
 module _ (header : List ℕ) where
-  pub typed_settled : (T : Ty) (at : ℕ) (s : List ℕ) → is_settled (stage_of (typed (order header) T at s)) ≡ true
+  pub typed_settled : (T : Ty) (at : ℕ) (s : List ℕ) →
+      is_settled (stage_of (typed (order header) T at s)) ≡ true
   unfolding typed
   typed_settled T at s = through_body nothing_noted (read (P header) [] T at s)
 
@@ -176,26 +189,30 @@ module _ (header : List ℕ) where
   unfolding after_exception option_typed
   members_settled S h at s = go (members_of S h.name)
     where
-      go : (found : Option Ty) → is_settled (stage_of (option_typed (order header) found at s)) ≡ true
+      go : (found : Option Ty) → is_settled (stage_of (option_typed (order header) found at s))
+          ≡ true
       go None = rest_settled at s
       go (Some T) = typed_settled T at s
 
   -- the name after more octets, where a message is at this offset and at this stage
   unfoldable pub tail_name : ℕ → List ℕ → Stage → Option (List ℕ)
-  tail_name n t (In_typed section h outer leaf) = named_if_whole h (resumes (P header) [] (Short [] n outer leaf) t)
+  tail_name n t (In_typed section h outer leaf) =
+      named_if_whole h (resumes (P header) [] (Short [] n outer leaf) t)
   tail_name n t stage = None
 
   -- The names are those of a part of a message, and of what follows it.
   record Tells (reader : List ℕ → Message) (names : List ℕ → Option (List ℕ)) : Type 0 where
     pub none : names [] ≡ None
     pub stays : (s t name : List ℕ) → names s ≡ Some name → names (s ++ t) ≡ Some name
-    pub settled : (s t : List ℕ) → is_settled (stage_of (reader s)) ≡ true → names (s ++ t) ≡ names s
+    pub settled : (s t : List ℕ) → is_settled (stage_of (reader s)) ≡ true →
+        names (s ++ t) ≡ names s
     pub inside : (s t : List ℕ) → raises_here (stage_of (reader s)) ≡ true →
         names (s ++ t) ≡ tail_name (offset_of (reader s)) t (stage_of (reader s))
     pub pads : (s : List ℕ) (x : ℕ) → pads_here (stage_of (reader s)) ≡ true →
         (names s ≡ None) × (names (s ++ x ∷ []) ≡ None)
 
-  tells_none : (reader : List ℕ → Message) → ((s : List ℕ) → raises_here (stage_of (reader s)) ≡ false) →
+  tells_none : (reader : List ℕ → Message) →
+      ((s : List ℕ) → raises_here (stage_of (reader s)) ≡ false) →
       Tells reader (λ s. None)
   tells_none reader quiet = record {
     none = refl;
@@ -206,9 +223,11 @@ module _ (header : List ℕ) where
   }
 
   -- a section that has the name
-  module _ (section : Section) (raises : is_raising section ≡ true) (other : is_header_root (root_of section) ≡ false)
+  module _ (section : Section) (raises : is_raising section ≡ true)
+      (other : is_header_root (root_of section) ≡ false)
       (over : is_body section ≡ false) (T : Ty) (next : Noted → ℕ → List ℕ → Message)
-      (behind : (h : Noted) (at : ℕ) (s : List ℕ) → is_settled (stage_of (next h at s)) ≡ true) (at : ℕ) where
+      (behind : (h : Noted) (at : ℕ) (s : List ℕ) → is_settled (stage_of (next h at s)) ≡ true)
+      (at : ℕ) where
     abbrev Within : Read → Message
     Within r = section_then section false next nothing_noted r
 
@@ -217,25 +236,34 @@ module _ (header : List ℕ) where
     name_none (Short lines n outer leaf) h = refl
     name_none (Fault lines n why U) h = refl
 
-    name_stays : (s t name : List ℕ) (r : Read) → read (P header) [] T at s ≡ r → named_if_whole nothing_noted r ≡ Some name →
+    name_stays : (s t name : List ℕ) (r : Read) → read (P header) [] T at s ≡ r →
+        named_if_whole nothing_noted r ≡ Some name →
         named_if_whole nothing_noted (read (P header) [] T at (s ++ t)) ≡ Some name
-    name_stays s t name (Done lines n rest) e k = ap (named_if_whole nothing_noted) (done_on header T at s t lines n rest e) ∙ k
+    name_stays s t name (Done lines n rest) e k =
+        ap (named_if_whole nothing_noted) (done_on header T at s t lines n rest e) ∙ k
     name_stays s t name (Short lines n outer leaf) e k = absurd cc
     name_stays s t name (Fault lines n why U) e k = absurd cc
 
-    name_settled : (s t : List ℕ) (r : Read) → read (P header) [] T at s ≡ r → is_settled (stage_of (Within r)) ≡ true →
-        named_if_whole nothing_noted (read (P header) [] T at (s ++ t)) ≡ named_if_whole nothing_noted r
+    name_settled : (s t : List ℕ) (r : Read) → read (P header) [] T at s ≡ r →
+        is_settled (stage_of (Within r)) ≡ true →
+        named_if_whole nothing_noted (read (P header) [] T at (s ++ t))
+        ≡ named_if_whole nothing_noted r
     unfolding section_then stage_of is_settled
-    name_settled s t (Done lines n rest) e k = ap (named_if_whole nothing_noted) (done_on header T at s t lines n rest e)
+    name_settled s t (Done lines n rest) e k =
+        ap (named_if_whole nothing_noted) (done_on header T at s t lines n rest e)
     name_settled s t (Short lines n outer leaf) e k = absurd (false≢true (sym over ∙ k))
-    name_settled s t (Fault lines n why U) e k = ap (named_if_whole nothing_noted) (fault_on header T at s t lines n why U e)
+    name_settled s t (Fault lines n why U) e k =
+        ap (named_if_whole nothing_noted) (fault_on header T at s t lines n why U e)
 
-    name_inside : (s t : List ℕ) (r : Read) → read (P header) [] T at s ≡ r → raises_here (stage_of (Within r)) ≡ true →
-        named_if_whole nothing_noted (read (P header) [] T at (s ++ t)) ≡ tail_name (offset_of (Within r)) t (stage_of (Within r))
+    name_inside : (s t : List ℕ) (r : Read) → read (P header) [] T at s ≡ r →
+        raises_here (stage_of (Within r)) ≡ true →
+        named_if_whole nothing_noted (read (P header) [] T at (s ++ t))
+        ≡ tail_name (offset_of (Within r)) t (stage_of (Within r))
     unfolding section_then stage_of raises_here offset_of tail_name
     name_inside s t (Done lines n rest) e k =
         let m = next (noted (is_header_root (root_of section)) nothing_noted lines) n rest in
-        absurd (false≢true (sym (ap raises_here (stage_front _ m) ∙ settled_quiet (stage_of m) (behind _ n rest)) ∙ k))
+        absurd (false≢true (sym (ap raises_here (stage_front _ m)
+        ∙ settled_quiet (stage_of m) (behind _ n rest)) ∙ k))
     name_inside s t (Short lines n outer leaf) e k =
         rw other (named_on header nothing_noted T at s t lines n outer leaf e)
     name_inside s t (Fault lines n why U) e k = absurd (false≢true k)
@@ -244,11 +272,13 @@ module _ (header : List ℕ) where
     unfolding section_then stage_of pads_here
     name_pads s x (Done lines n rest) k =
         let m = next (noted (is_header_root (root_of section)) nothing_noted lines) n rest in
-        false≢true (sym (ap pads_here (stage_front _ m) ∙ settled_bare (stage_of m) (behind _ n rest)) ∙ k)
+        false≢true (sym (ap pads_here (stage_front _ m)
+        ∙ settled_bare (stage_of m) (behind _ n rest)) ∙ k)
     name_pads s x (Short lines n outer leaf) k = false≢true k
     name_pads s x (Fault lines n why U) k = false≢true k
 
-    tells_section : Tells (λ s. Within (read (P header) [] T at s)) (λ s. named_if_whole nothing_noted (read (P header) [] T at s))
+    tells_section : Tells (λ s. Within (read (P header) [] T at s))
+        (λ s. named_if_whole nothing_noted (read (P header) [] T at s))
     tells_section = record {
       none = name_none (read (P header) [] T at []) (read_quiet (P header) [] T at);
       stays = λ s t name e. name_stays s t name (read (P header) [] T at s) refl e;
@@ -264,25 +294,33 @@ module _ (header : List ℕ) where
   name_type S UserException = Some S.exception_id
   name_type S SystemException = Some S.system_exception
 
-  tells_body : (S : Signatures) (b : BodyType) (at : ℕ) → Tells (body S header b at) (named_by_type header (name_type S b) at)
+  tells_body : (S : Signatures) (b : BodyType) (at : ℕ) →
+      Tells (body S header b at) (named_by_type header (name_type S b) at)
   unfolding body
-  tells_body S Untyped at = tells_none (rest at) (λ s. settled_quiet (stage_of (rest at s)) (rest_settled at s))
+  tells_body S Untyped at = tells_none (rest at)
+      (λ s. settled_quiet (stage_of (rest at s)) (rest_settled at s))
   tells_body S (Typed T) at =
-      tells_none (typed (order header) T at) (λ s. settled_quiet (stage_of (typed (order header) T at s)) (typed_settled T at s))
+      tells_none (typed (order header) T at)
+      (λ s. settled_quiet (stage_of (typed (order header) T at s)) (typed_settled T at s))
   tells_body S UserException at =
-      tells_section sections.Exception refl refl refl S.exception_id (after_exception S header) (members_settled S) at
+      tells_section sections.Exception refl refl refl S.exception_id (after_exception S header)
+      (members_settled S) at
   tells_body S SystemException at =
-      tells_section sections.SystemException refl refl refl S.system_exception (λ h. rest) (λ h. rest_settled) at
+      tells_section sections.SystemException refl refl refl S.system_exception (λ h. rest)
+      (λ h. rest_settled) at
 
   -- ---- padding in front of a body
 
   abbrev Padded : (ℕ → List ℕ → Option (List ℕ)) → ℕ → List ℕ → Option (List ℕ)
-  Padded names at s = if nat_lt (length s) (padding at 8) then None else names (at + padding at 8) (drop (padding at 8) s)
+  Padded names at s = if nat_lt (length s) (padding at 8) then None else names (at + padding at 8)
+      (drop (padding at 8) s)
 
-  names_wait : (names : ℕ → List ℕ → Option (List ℕ)) (at : ℕ) (s : List ℕ) → length s < padding at 8 → Padded names at s ≡ None
+  names_wait : (names : ℕ → List ℕ → Option (List ℕ)) (at : ℕ) (s : List ℕ) →
+      length s < padding at 8 → Padded names at s ≡ None
   names_wait names at s h = rw lt-ltb refl
 
-  names_begin : (names : ℕ → List ℕ → Option (List ℕ)) (at : ℕ) (s : List ℕ) → padding at 8 ≤ length s →
+  names_begin : (names : ℕ → List ℕ → Option (List ℕ)) (at : ℕ) (s : List ℕ) →
+      padding at 8 ≤ length s →
       Padded names at s ≡ names (at + padding at 8) (drop (padding at 8) s)
   names_begin names at s h = rw le-ltb refl
 
@@ -294,48 +332,64 @@ module _ (header : List ℕ) where
     abbrev Cases : List ℕ → Type 0
     Cases s = (length s < n) ⊎ (n ≤ length s)
 
-    drops : (s t : List ℕ) → n ≤ length s → Padded names at (s ++ t) ≡ names (at + n) (drop n s ++ t)
+    drops : (s t : List ℕ) → n ≤ length s →
+        Padded names at (s ++ t) ≡ names (at + n) (drop n s ++ t)
     drops s t h =
-        names_begin names at (s ++ t) (omega (arith, h, length-append s t)) ∙ ap (names (at + n)) (drop-append-le n s t h)
+        names_begin names at (s ++ t) (omega (arith, h, length-append s t))
+        ∙ ap (names (at + n)) (drop-append-le n s t h)
 
     padded_none : Cases [] → Padded names at [] ≡ None
     padded_none (inl h) = names_wait names at [] h
     padded_none (inr h) =
-        names_begin names at [] h ∙ (ap (names (at + n)) (drop_all n [] (omega arith)) ∙ (tells (at + n)).none)
+        names_begin names at [] h ∙ (ap (names (at + n)) (drop_all n [] (omega arith))
+        ∙ (tells (at + n)).none)
 
-    padded_stays : (s t name : List ℕ) → Padded names at s ≡ Some name → Cases s → Padded names at (s ++ t) ≡ Some name
+    padded_stays : (s t name : List ℕ) → Padded names at s ≡ Some name → Cases s →
+        Padded names at (s ++ t) ≡ Some name
     padded_stays s t name e (inl h) = absurd (let no = sym (names_wait names at s h) ∙ e in cc)
     padded_stays s t name e (inr h) =
         drops s t h ∙ (tells (at + n)).stays (drop n s) t name (sym (names_begin names at s h) ∙ e)
 
-    padded_settled : (s t : List ℕ) → is_settled (stage_of (padded S header b at s)) ≡ true → Cases s →
+    padded_settled : (s t : List ℕ) → is_settled (stage_of (padded S header b at s)) ≡ true →
+        Cases s →
         Padded names at (s ++ t) ≡ Padded names at s
     unfolding is_settled stage_of
     padded_settled s t e (inl h) =
-        absurd (false≢true (sym (ap (λ m. is_settled (stage_of m)) (padded_waits S header b at s h)) ∙ e))
+        absurd (false≢true (sym (ap (λ m. is_settled (stage_of m)) (padded_waits S header b at s h))
+        ∙ e))
     padded_settled s t e (inr h) =
         let here = sym (ap (λ m. is_settled (stage_of m)) (padded_begins S header b at s h)) ∙ e in
         drops s t h ∙ ((tells (at + n)).settled (drop n s) t here ∙ sym (names_begin names at s h))
 
-    padded_inside : (s t : List ℕ) → raises_here (stage_of (padded S header b at s)) ≡ true → Cases s →
-        Padded names at (s ++ t) ≡ tail_name (offset_of (padded S header b at s)) t (stage_of (padded S header b at s))
+    padded_inside : (s t : List ℕ) → raises_here (stage_of (padded S header b at s)) ≡ true →
+        Cases s →
+        Padded names at (s ++ t) ≡ tail_name (offset_of (padded S header b at s)) t
+        (stage_of (padded S header b at s))
     unfolding raises_here stage_of
     padded_inside s t e (inl h) =
-        absurd (false≢true (sym (ap (λ m. raises_here (stage_of m)) (padded_waits S header b at s h)) ∙ e))
+        absurd (false≢true (sym (ap (λ m. raises_here (stage_of m))
+        (padded_waits S header b at s h)) ∙ e))
     padded_inside s t e (inr h) =
         let is = padded_begins S header b at s h in
         let here = sym (ap (λ m. raises_here (stage_of m)) is) ∙ e in
-        drops s t h ∙ ((tells (at + n)).inside (drop n s) t here ∙ sym (ap (λ m. tail_name (offset_of m) t (stage_of m)) is))
+        drops s t h ∙ ((tells (at + n)).inside (drop n s) t here
+        ∙ sym (ap (λ m. tail_name (offset_of m) t (stage_of m)) is))
 
-    one_more : (s : List ℕ) (x : ℕ) → length s < n → Cases (s ++ x ∷ []) → Padded names at (s ++ x ∷ []) ≡ None
+    one_more : (s : List ℕ) (x : ℕ) → length s < n → Cases (s ++ x ∷ []) →
+        Padded names at (s ++ x ∷ []) ≡ None
     one_more s x h (inl k) = names_wait names at (s ++ x ∷ []) k
     one_more s x h (inr k) =
         names_begin names at (s ++ x ∷ []) k
-        ∙ (ap (names (at + n)) (drop_all n (s ++ x ∷ []) (omega (arith, h, length_one_more s x))) ∙ (tells (at + n)).none)
+        ∙ (ap (names (at + n)) (drop_all n (s ++ x ∷ []) (omega (arith, h, length_one_more s x)))
+        ∙ (tells (at + n)).none)
 
-    padded_pads : (s : List ℕ) (x : ℕ) → pads_here (stage_of (padded S header b at s)) ≡ true → Cases s →
+    padded_pads : (s : List ℕ) (x : ℕ) → pads_here (stage_of (padded S header b at s)) ≡ true →
+        Cases s →
         (Padded names at s ≡ None) × (Padded names at (s ++ x ∷ []) ≡ None)
-    padded_pads s x e (inl h) = (names_wait names at s h, one_more s x h (cases_lt (length (s ++ x ∷ [])) n))
+    padded_pads s x e (inl h) = (
+      names_wait names at s h,
+      one_more s x h (cases_lt (length (s ++ x ∷ [])) n),
+    )
     padded_pads s x e (inr h) =
         let here = sym (ap (λ m. pads_here (stage_of m)) (padded_begins S header b at s h)) ∙ e in
         let both = (tells (at + n)).pads (drop n s) x here in
@@ -356,7 +410,8 @@ module _ (header : List ℕ) where
       raises_here (stage_of (body S header b at s)) ≡ false
   unfolding body
   body_quiet S Untyped none at s = settled_quiet (stage_of (rest at s)) (rest_settled at s)
-  body_quiet S (Typed T) none at s = settled_quiet (stage_of (typed (order header) T at s)) (typed_settled T at s)
+  body_quiet S (Typed T) none at s = settled_quiet (stage_of (typed (order header) T at s))
+      (typed_settled T at s)
   body_quiet S UserException none at s = absurd cc
   body_quiet S SystemException none at s = absurd cc
 
@@ -375,7 +430,8 @@ module _ (header : List ℕ) where
   type_none S None = refl
   type_none S (Some T) = refl
 
-  request_none : (S : Signatures) (name : Option (List ℕ)) → name_type S (request_body S name) ≡ None
+  request_none : (S : Signatures) (name : Option (List ℕ)) →
+      name_type S (request_body S name) ≡ None
   unfolding request_body
   request_none S None = refl
   request_none S (Some name) = type_none S (S.request name)
@@ -392,20 +448,25 @@ module _ (header : List ℕ) where
   after_quiet S h other at s = rw other (go (kind header == 0) (minor header == 2))
     where
       go : (request two : Bool) → raises_here (stage_of (if request || false
-          then (if two then padded S header (if request then request_body S h.name else reply_body S h.request_id h.status) at s
-          else body S header (if request then request_body S h.name else reply_body S h.request_id h.status) at s)
+          then (if two then padded S header (if request then request_body S h.name else reply_body S
+          h.request_id h.status) at s
+          else body S header (if request then request_body S h.name else reply_body S h.request_id
+          h.status) at s)
           else rest at s)) ≡ false
       go true true = padded_quiet S (request_body S h.name) (request_none S h.name) at s
       go true false = body_quiet S (request_body S h.name) (request_none S h.name) at s
       go false two = settled_quiet (stage_of (rest at s)) (rest_settled at s)
 
-  message_quiet : (S : Signatures) → (kind header == 1) ≡ false → (found : Option Ty) (at : ℕ) (s : List ℕ) →
+  message_quiet : (S : Signatures) → (kind header == 1) ≡ false →
+      (found : Option Ty) (at : ℕ) (s : List ℕ) →
       raises_here (stage_of (of_header S header found at s)) ≡ false
   unfolding of_header section_then stage_of raises_here
   message_quiet S other None at s = settled_quiet (stage_of (rest at s)) (rest_settled at s)
   message_quiet S other (Some T) at s = go (read (P header) [] T at s)
     where
-      go : (r : Read) → raises_here (stage_of (section_then sections.Header (is_request header) (after_header S header) nothing_noted r)) ≡ false
+      go : (r : Read) → raises_here (stage_of
+          (section_then sections.Header (is_request header) (after_header S header) nothing_noted
+          r)) ≡ false
       go (Done lines n z) =
           let h = noted true nothing_noted lines in
           ap raises_here (stage_front _ (after_header S header h n z)) ∙ after_quiet S h other n z
@@ -415,7 +476,8 @@ module _ (header : List ℕ) where
   -- ---- a Reply
 
   status_raises : (C : Table) (answer : Answer) (id : Option ℕ) (status : ℕ) →
-      raising (Some status) ≡ name_type (signatures_of C answer) (reply_body (signatures_of C answer) id (Some status))
+      raising (Some status) ≡ name_type (signatures_of C answer)
+      (reply_body (signatures_of C answer) id (Some status))
   unfolding reply_body signatures_of
   status_raises C answer id status =
       go (status == 0) (status == 1) (status == 2) ((status == 3) || (status == 4)) (status == 5)
@@ -424,10 +486,13 @@ module _ (header : List ℕ) where
       S : Signatures
       S = signatures_of C answer
 
-      go : (none user system forward addressing : Bool) → (none ≡ true → user ≡ false) → (none ≡ true → system ≡ false) →
+      go : (none user system forward addressing : Bool) → (none ≡ true → user ≡ false) →
+          (none ≡ true → system ≡ false) →
           (if user then Some S.exception_id else (if system then Some S.system_exception else None))
-          ≡ name_type S (if none then result_body S id else (if user then UserException else (if system then SystemException
-          else (if forward then Typed S.forward else (if addressing then Typed S.addressing else Untyped)))))
+          ≡ name_type S (if none then result_body S id else
+          (if user then UserException else (if system then SystemException
+          else (if forward then Typed S.forward else
+          (if addressing then Typed S.addressing else Untyped)))))
       go true user system forward addressing f g = rw (f refl, g refl) (sym (result_none S id))
       go false true system forward addressing f g = refl
       go false false true forward addressing f g = refl
@@ -436,11 +501,13 @@ module _ (header : List ℕ) where
       go false false false false false f g = refl
 
   reply_raises : (C : Table) (answer : Answer) (h : Noted) → kind header ≡ 1 →
-      name_type (signatures_of C answer) (body_of (signatures_of C answer) header h) ≡ raising h.status
+      name_type (signatures_of C answer) (body_of (signatures_of C answer) header h)
+      ≡ raising h.status
   unfolding body_of is_request reply_body
   reply_raises C answer h reply = rw reply (go h.status)
     where
-      go : (status : Option ℕ) → name_type (signatures_of C answer) (reply_body (signatures_of C answer) h.request_id status) ≡ raising status
+      go : (status : Option ℕ) → name_type (signatures_of C answer)
+          (reply_body (signatures_of C answer) h.request_id status) ≡ raising status
       go None = refl
       go (Some status) = sym (status_raises C answer h.request_id status)
 
@@ -459,17 +526,21 @@ module _ (header : List ℕ) where
       names : ℕ → List ℕ → Option (List ℕ)
       names = named_by_type header (name_type S B)
 
-      go : (has two : Bool) → has ≡ true → Tells (λ s. if has then (if two then padded S header B at s else body S header B at s) else rest at s)
+      go : (has two : Bool) → has ≡ true → Tells
+          (λ s. if has then (if two then padded S header B at s else body S header B at s) else rest
+          at s)
           (λ s. if two then Padded names at s else names at s)
       go true true e = tells_padded S B names (tells_body S B) at
       go true false e = tells_body S B at
       go false two e = absurd (false≢true e)
 
   -- a header, and what follows it
-  module _ (S : Signatures) (tells : (h : Noted) (n : ℕ) → Tells (after_header S header h n) (named_behind header (raising h.status) n))
+  module _ (S : Signatures) (tells : (h : Noted) (n : ℕ) →
+      Tells (after_header S header h n) (named_behind header (raising h.status) n))
       (T : Ty) where
     abbrev Whole : Read → Message
-    Whole r = section_then sections.Header (is_request header) (after_header S header) nothing_noted r
+    Whole r = section_then sections.Header (is_request header) (after_header S header) nothing_noted
+        r
 
     abbrev Reading : List ℕ → Read
     Reading s = read (P header) [] T 12 s
@@ -482,24 +553,32 @@ module _ (header : List ℕ) where
     header_none (Short lines n outer leaf) h = refl
     header_none (Fault lines n why U) h = refl
 
-    header_stays : (s t name : List ℕ) (r : Read) → Reading s ≡ r → raised_after header r ≡ Some name →
+    header_stays : (s t name : List ℕ) (r : Read) → Reading s ≡ r →
+        raised_after header r ≡ Some name →
         raised_after header (Reading (s ++ t)) ≡ Some name
     header_stays s t name (Done lines n z) e k =
-        ap (raised_after header) (done_on header T 12 s t lines n z e) ∙ (tells (heard lines) n).stays z t name k
+        ap (raised_after header) (done_on header T 12 s t lines n z e)
+        ∙ (tells (heard lines) n).stays z t name k
     header_stays s t name (Short lines n outer leaf) e k = absurd cc
     header_stays s t name (Fault lines n why U) e k = absurd cc
 
-    header_settled : (s t : List ℕ) (r : Read) → Reading s ≡ r → is_settled (stage_of (Whole r)) ≡ true →
+    header_settled : (s t : List ℕ) (r : Read) → Reading s ≡ r →
+        is_settled (stage_of (Whole r)) ≡ true →
         raised_after header (Reading (s ++ t)) ≡ raised_after header r
     unfolding section_then stage_of is_settled
     header_settled s t (Done lines n z) e k =
-        let here = sym (ap is_settled (stage_front _ (after_header S header (heard lines) n z))) ∙ k in
-        ap (raised_after header) (done_on header T 12 s t lines n z e) ∙ (tells (heard lines) n).settled z t here
+        let here = sym (ap is_settled (stage_front _ (after_header S header (heard lines) n z)))
+        ∙ k in
+        ap (raised_after header) (done_on header T 12 s t lines n z e)
+        ∙ (tells (heard lines) n).settled z t here
     header_settled s t (Short lines n outer leaf) e k = absurd (false≢true k)
-    header_settled s t (Fault lines n why U) e k = ap (raised_after header) (fault_on header T 12 s t lines n why U e)
+    header_settled s t (Fault lines n why U) e k =
+        ap (raised_after header) (fault_on header T 12 s t lines n why U e)
 
-    header_inside : (s t : List ℕ) (r : Read) → Reading s ≡ r → raises_here (stage_of (Whole r)) ≡ true →
-        raised_after header (Reading (s ++ t)) ≡ tail_name (offset_of (Whole r)) t (stage_of (Whole r))
+    header_inside : (s t : List ℕ) (r : Read) → Reading s ≡ r →
+        raises_here (stage_of (Whole r)) ≡ true →
+        raised_after header (Reading (s ++ t))
+        ≡ tail_name (offset_of (Whole r)) t (stage_of (Whole r))
     unfolding section_then stage_of raises_here
     header_inside s t (Done lines n z) e k =
         let m = after_header S header (heard lines) n z in
@@ -511,11 +590,13 @@ module _ (header : List ℕ) where
     header_inside s t (Short lines n outer leaf) e k = absurd (false≢true k)
     header_inside s t (Fault lines n why U) e k = absurd (false≢true k)
 
-    header_pads : (s : List ℕ) (x : ℕ) (r : Read) → Reading s ≡ r → pads_here (stage_of (Whole r)) ≡ true →
+    header_pads : (s : List ℕ) (x : ℕ) (r : Read) → Reading s ≡ r →
+        pads_here (stage_of (Whole r)) ≡ true →
         (raised_after header r ≡ None) × (raised_after header (Reading (s ++ x ∷ [])) ≡ None)
     unfolding section_then stage_of pads_here
     header_pads s x (Done lines n z) e k =
-        let here = sym (ap pads_here (stage_front _ (after_header S header (heard lines) n z))) ∙ k in
+        let here = sym (ap pads_here (stage_front _ (after_header S header (heard lines) n z)))
+        ∙ k in
         let both = (tells (heard lines) n).pads z x here in
         (both.0, ap (raised_after header) (done_on header T 12 s (x ∷ []) lines n z e) ∙ both.1)
     header_pads s x (Short lines n outer leaf) e k = absurd (false≢true k)
@@ -535,18 +616,23 @@ module _ (header : List ℕ) where
 message_tells : (C : Table) (answer : Answer) (header : List ℕ) →
     Tells header (message (signatures_of C answer) header) (raised header)
 unfolding message raised signatures_of of_header
-message_tells C answer header = go (kind header == 1) refl (header_type (minor header) (kind header))
+message_tells C answer header = go (kind header == 1) refl
+    (header_type (minor header) (kind header))
   where
     S : Signatures
     S = signatures_of C answer
 
     go : (reply : Bool) → (kind header == 1) ≡ reply → (found : Option Ty) →
-        Tells header (of_header S header found 12) (λ s. if reply then raised_by_type header found s else None)
-    go false e found = tells_none header (of_header S header found 12) (message_quiet header S e found 12)
-    go true e None = tells_none header (rest 12) (λ s. settled_quiet (stage_of (rest 12 s)) (rest_settled 12 s))
+        Tells header (of_header S header found 12)
+        (λ s. if reply then raised_by_type header found s else None)
+    go false e found = tells_none header (of_header S header found 12)
+        (message_quiet header S e found 12)
+    go true e None = tells_none header (rest 12)
+        (λ s. settled_quiet (stage_of (rest 12 s)) (rest_settled 12 s))
     go true e (Some T) =
         let one = eqb-true (kind header) 1 e in
-        tells_header header S (λ h n. subst (λ o. Tells header (after_header S header h n) (named_behind header o n))
+        tells_header header S (λ h n. subst (λ o.
+        Tells header (after_header S header h n) (named_behind header o n))
         (reply_raises header C answer h one) (tells_after header S h n one)) T
 
 -- a catalogue without types
@@ -554,7 +640,8 @@ abbrev no_table : Table
 no_table = record { types = []; operations = []; exceptions = []; declared = 0 }
 
 -- a name that is complete stays so,
-pub raised_stays : (header s t name : List ℕ) → raised header s ≡ Some name → raised header (s ++ t) ≡ Some name
+pub raised_stays : (header s t name : List ℕ) → raised header s ≡ Some name →
+    raised header (s ++ t) ≡ Some name
 raised_stays header s t name e = (message_tells no_table (λ id. None) header).stays s t name e
 
 module _ (C : Table) (answer : Answer) (header : List ℕ) where
@@ -562,7 +649,8 @@ module _ (C : Table) (answer : Answer) (header : List ℕ) where
   At s = message (signatures_of C answer) header s
 
   -- none is to come in a body, in the rest or after a fault,
-  pub raised_settled : (s t : List ℕ) → is_settled (stage_of (At s)) ≡ true → raised header (s ++ t) ≡ raised header s
+  pub raised_settled : (s t : List ℕ) → is_settled (stage_of (At s)) ≡ true →
+      raised header (s ++ t) ≡ raised header s
   raised_settled s t e = (message_tells C answer header).settled s t e
 
   -- nor is there one at an octet of padding,
@@ -592,26 +680,32 @@ raised_before header s e = go (kind header == 1) (header_type (minor header) (ki
     go true None none = refl
     go true (Some T) none = before_by header (read (plain (order header)) [] T 12 s) none
 
-named_none : (header : List ℕ) (found : Option Ty) (at : ℕ) → named_by_type header found at [] ≡ None
+named_none : (header : List ℕ) (found : Option Ty) (at : ℕ) →
+    named_by_type header found at [] ≡ None
 named_none header None at = refl
-named_none header (Some T) at = go (read (plain (order header)) [] T at []) (read_quiet (plain (order header)) [] T at)
+named_none header (Some T) at = go (read (plain (order header)) [] T at [])
+    (read_quiet (plain (order header)) [] T at)
   where
     go : (r : Read) → IsEmptyResult at r → named_if_whole nothing_noted r ≡ None
     go (Done lines n z) h = rw h.0 refl
     go (Short lines n outer leaf) h = refl
     go (Fault lines n why U) h = refl
 
-behind_none : (header : List ℕ) (found : Option Ty) (at : ℕ) → named_behind header found at [] ≡ None
+behind_none : (header : List ℕ) (found : Option Ty) (at : ℕ) →
+    named_behind header found at [] ≡ None
 behind_none header found at = go (minor header == 2) (cases_lt 0 (padding at 8))
   where
     go : (two : Bool) → (0 < padding at 8) ⊎ (padding at 8 ≤ 0) →
-        (if two then (if nat_lt 0 (padding at 8) then None else named_by_type header found (at + padding at 8) (drop (padding at 8) []))
+        (if two then (if nat_lt 0 (padding at 8) then None else named_by_type header found
+        (at + padding at 8) (drop (padding at 8) []))
         else named_by_type header found at []) ≡ None
     go false c = named_none header found at
     go true (inl h) = rw lt-ltb refl
     go true (inr h) =
         rw le-ltb
-        (ap (named_by_type header found (at + padding at 8)) (drop_all (padding at 8) [] (omega arith)) ∙ named_none header found (at + padding at 8))
+        (ap (named_by_type header found (at + padding at 8))
+        (drop_all (padding at 8) [] (omega arith))
+        ∙ named_none header found (at + padding at 8))
 
 -- a reading that is done with no octet left
 abbrev pub EndsHere : Read → Type 0
@@ -620,32 +714,40 @@ EndsHere (Short lines n outer leaf) = Unit {0}
 EndsHere (Fault lines n why T) = Unit {0}
 
 ended_by : (header : List ℕ) (r : Read) → EndsHere r → raised_after header r ≡ None
-ended_by header (Done lines n z) e = rw e (behind_none header (raising (noted true nothing_noted lines).status) n)
+ended_by header (Done lines n z) e = rw e
+    (behind_none header (raising (noted true nothing_noted lines).status) n)
 ended_by header (Short lines n outer leaf) e = refl
 ended_by header (Fault lines n why U) e = refl
 
 -- at the last octet of a header there is none
-ended_found : (header s : List ℕ) (found : Option Ty) → header_type (minor header) (kind header) ≡ found →
-    ((T : Ty) → found ≡ Some T → EndsHere (read (plain (order header)) [] T 12 s)) → raised header s ≡ None
+ended_found : (header s : List ℕ) (found : Option Ty) →
+    header_type (minor header) (kind header) ≡ found →
+    ((T : Ty) → found ≡ Some T → EndsHere (read (plain (order header)) [] T 12 s)) →
+    raised header s ≡ None
 unfolding raised
 ended_found header s found e ends = rw e (go (kind header == 1) found ends)
   where
-    go : (reply : Bool) (o : Option Ty) → ((T : Ty) → o ≡ Some T → EndsHere (read (plain (order header)) [] T 12 s)) →
+    go : (reply : Bool) (o : Option Ty) → ((T : Ty) → o ≡ Some T →
+        EndsHere (read (plain (order header)) [] T 12 s)) →
         (if reply then raised_by_type header o s else None) ≡ None
     go false o k = refl
     go true None k = refl
     go true (Some T) k = ended_by header (read (plain (order header)) [] T 12 s) (k T refl)
 
-pub raised_ended : (header s : List ℕ) (T : Ty) → header_type (minor header) (kind header) ≡ Some T →
+pub raised_ended : (header s : List ℕ) (T : Ty) →
+    header_type (minor header) (kind header) ≡ Some T →
     EndsHere (read (plain (order header)) [] T 12 s) → raised header s ≡ None
 raised_ended header s T e h =
     ended_found header s (Some T) e
-    (λ U is. let same : T ≡ U = cc in subst (λ V. EndsHere (read (plain (order header)) [] V 12 s)) same h)
+    (λ U is. let same : T ≡ U = cc in subst (λ V. EndsHere (read (plain (order header)) [] V 12 s))
+    same h)
 
-octet_ends : (header : List ℕ) (r : Read) (x : ℕ) → noted_if_whole r ≡ None → EndsHere (decoder.advance (plain (order header)) [] r x)
+octet_ends : (header : List ℕ) (r : Read) (x : ℕ) → noted_if_whole r ≡ None →
+    EndsHere (decoder.advance (plain (order header)) [] r x)
 octet_ends header (Done lines n z) x e = absurd cc
 octet_ends header (Short lines n outer leaf) x e =
-    go (decoder.step (plain (order header)) [] outer leaf n x) (step_now (plain (order header)) [] outer leaf n x)
+    go (decoder.step (plain (order header)) [] outer leaf n x)
+    (step_now (plain (order header)) [] outer leaf n x)
   where
     go : (r : Read) → IsOctetResult (n + 1) r → EndsHere (ReadResult.with_front lines r)
     go (Done more m z) h = h.2
@@ -654,7 +756,8 @@ octet_ends header (Short lines n outer leaf) x e =
 octet_ends header (Fault lines n why U) x e = tt
 
 -- so a name never ends at the octet that ends the header
-pub raised_apart : (header s : List ℕ) (x : ℕ) → header_noted header s ≡ None → raised header (s ++ x ∷ []) ≡ None
+pub raised_apart : (header s : List ℕ) (x : ℕ) → header_noted header s ≡ None →
+    raised header (s ++ x ∷ []) ≡ None
 unfolding header_noted
 raised_apart header s x e =
     ended_found header (s ++ x ∷ []) (header_type (minor header) (kind header)) refl

@@ -1,4 +1,5 @@
--- What is said of the first four octets of a message whose header begins with its request id: the line of that, and no other.
+-- What is said of the first four octets of a message whose header begins with its request id: the
+-- line of that, and no other.
 use Rattle.std.proofs.Common.{◌≡◌, ℕ, ◌<◌, List, [], ◌∷◌, length, map, Option, Some, refl, ap, ◌∙◌}
 use Rattle.std.specs.Prelude.{codes}
 use Rattle.giop_cdr.specs.Numbers.{num}
@@ -20,26 +21,31 @@ use Rattle.giop_message.proofs.Named.{id_told, few_by, four_by}
 use Rattle.giop_message.proofs.Spelling.{said_is_line}
 
 module _ (S : ℕ → Signatures) (number : ℕ) (header : List ℕ) (T : Ty)
-    (found : (S number).header (minor header) (kind header) ≡ Some T) (begins : BeginsWithId T) where
-  reading_is : (xs : List ℕ) → (reader_by S).reads number header xs
-      ≡ map timed_line_of (message_lines (of_header (S number) header (Some T) 12 xs))
-  unfolding remarks_by message
-  reading_is xs = ap (λ (o : Option Ty). map timed_line_of (message_lines (of_header (S number) header o 12 xs))) found
+    (found : (S number).header (minor header) (kind header) ≡ Some T) (begins : BeginsWithId T)
+  where
+    reading_is : (xs : List ℕ) → (reader_by S).reads number header xs
+        ≡ map timed_line_of (message_lines (of_header (S number) header (Some T) 12 xs))
+    unfolding remarks_by message
+    reading_is xs = ap (λ (o : Option Ty). map timed_line_of
+        (message_lines (of_header (S number) header o 12 xs))) found
 
-  -- fewer than four octets say nothing,
-  pub few_said : (xs : List ℕ) → length xs < 4 → (reader_by S).reads number header xs ≡ []
-  few_said xs few = reading_is xs ∙ ap (map timed_line_of) (few_by (S number) header T begins xs few)
+    -- fewer than four octets say nothing,
+    pub few_said : (xs : List ℕ) → length xs < 4 → (reader_by S).reads number header xs ≡ []
+    few_said xs few = reading_is xs ∙ ap (map timed_line_of)
+        (few_by (S number) header T begins xs few)
 
-  -- and four the number that they spell
-  pub four_said : (a b c d : ℕ) → (reader_by S).reads number header (a ∷ b ∷ c ∷ d ∷ [])
-      ≡ request_id_said (num (order header) (a ∷ b ∷ c ∷ d ∷ [])) ∷ []
-  unfolding id_told line_at line_class_of text_of value_line_text request_id_path request_id_text
-  four_said a b c d =
-      reading_is (a ∷ b ∷ c ∷ d ∷ []) ∙ ap (map timed_line_of) (four_by (S number) header T begins a b c d)
+    -- and four the number that they spell
+    pub four_said : (a b c d : ℕ) → (reader_by S).reads number header (a ∷ b ∷ c ∷ d ∷ [])
+        ≡ request_id_said (num (order header) (a ∷ b ∷ c ∷ d ∷ [])) ∷ []
+    unfolding id_told line_at line_class_of text_of value_line_text request_id_path request_id_text
+    four_said a b c d =
+        reading_is (a ∷ b ∷ c ∷ d ∷ []) ∙ ap (map timed_line_of)
+        (four_by (S number) header T begins a b c d)
 
 -- The line is the one that is printed of an unsigned long at that path.
 pub id_line_is : (number id : ℕ) → numbered_line number (request_id_text id)
     ≡ value_line number request_id_path (values.Primitive prims.ULong (Unsigned id))
 unfolding request_id_path request_id_text text_of kind_line
 id_line_is number id =
-    said_is_line number 16 roots.Header (Name (codes "request_id") ∷ []) (Number (Plain prims.ULong) id)
+    said_is_line number 16 roots.Header (Name (codes "request_id") ∷ [])
+    (Number (Plain prims.ULong) id)

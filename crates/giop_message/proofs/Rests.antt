@@ -28,14 +28,16 @@ pub comes_more : (S : Signatures) (header s : List ℕ) (b : ℕ) (emitted : Lis
     (stage : Stage) → message S header s ≡ ReadTo emitted at stage →
     message S header (s ++ b ∷ []) ≡ with_front emitted (message_step S header at stage b)
 unfolding advance
-comes_more S header s b emitted at stage e = message_goes S header s b ∙ ap (λ m. advance S header m b) e
+comes_more S header s b emitted at stage e =
+    message_goes S header s b ∙ ap (λ m. advance S header m b) e
 
 pub comes_due : (S : Signatures) (header s : List ℕ) (b : ℕ) (emitted : List LineAt) (at : ℕ)
     (stage : Stage) (m : Message) → message S header s ≡ ReadTo emitted at stage →
     message_step S header at stage b ≡ m → due S header s (b ∷ []) ≡ message_lines m
 unfolding message_lines
 comes_due S header s b emitted at stage m e f =
-    due_is S header s (b ∷ []) emitted (ReadTo emitted at stage) m e (comes_more S header s b emitted at stage e ∙ ap (with_front emitted) f) refl
+    due_is S header s (b ∷ []) emitted (ReadTo emitted at stage) m e
+    (comes_more S header s b emitted at stage e ∙ ap (with_front emitted) f) refl
 
 comes_next : (before emitted : List LineAt) (n m : ℕ) (stage : Stage) → n ≡ m →
     with_front before (ReadTo emitted n stage) ≡ ReadTo (before ++ emitted) m stage
@@ -68,58 +70,66 @@ no_text S number place header s more e = rw e refl
 
 module _ {C : Table} {answers : Answers} {number : ℕ} {header : List ℕ} {m : Struct_of} {s : List ℕ}
     {body_type_id : BodyTypeId}
-    (f : Follows C answers number header m s) (is : m.part ≡ parts.Padding body_type_id) (b : ℕ) where
-  abbrev S : Signatures
-  S = signatures_of C (answers number)
+    (f : Follows C answers number header m s) (is : m.part ≡ parts.Padding body_type_id) (b : ℕ)
+  where
+    abbrev S : Signatures
+    S = signatures_of C (answers number)
 
-  abbrev T : BodyType
-  T = body_type C body_type_id
+    abbrev T : BodyType
+    T = body_type C body_type_id
 
-  abbrev Here : ℕ
-  Here = 12 + length s
+    abbrev Here : ℕ
+    Here = 12 + length s
 
-  abbrev further : List ℕ
-  further = s ++ b ∷ []
+    abbrev further : List ℕ
+    further = s ++ b ∷ []
 
-  padded : (emitted : List LineAt) × (message S header s ≡ ReadTo emitted Here (In_padding T))
-  padded = subst (Stands C answers number header s) is f.stands
+    padded : (emitted : List LineAt) × (message S header s ≡ ReadTo emitted Here (In_padding T))
+    padded = subst (Stands C answers number header s) is f.stands
 
-  one_due : (x : Message) → message_step S header Here (In_padding T) b ≡ x →
-      due S header s (b ∷ []) ≡ message_lines x
-  one_due x e = comes_due S header s b padded.0 Here (In_padding T) x padded.1 e
+    one_due : (x : Message) → message_step S header Here (In_padding T) b ≡ x →
+        due S header s (b ∷ []) ≡ message_lines x
+    one_due x e = comes_due S header s b padded.0 Here (In_padding T) x padded.1 e
 
-  one_comes : (x : Message) → message_step S header Here (In_padding T) b ≡ x →
-      message S header further ≡ with_front padded.0 x
-  one_comes x e = comes_more S header s b padded.0 Here (In_padding T) padded.1 ∙ ap (with_front padded.0) e
+    one_comes : (x : Message) → message_step S header Here (In_padding T) b ≡ x →
+        message S header further ≡ with_front padded.0 x
+    one_comes x e = comes_more S header s b padded.0 Here (In_padding T) padded.1
+        ∙ ap (with_front padded.0) e
 
-  pub padding_told : (1 < padding Here 8) → due S header s (b ∷ []) ≡ []
-  unfolding message_lines
-  padding_told h = one_due (ReadTo [] (Here + 1) (In_padding T)) (padding_on S header Here b T h)
+    pub padding_told : (1 < padding Here 8) → due S header s (b ∷ []) ≡ []
+    unfolding message_lines
+    padding_told h = one_due (ReadTo [] (Here + 1) (In_padding T)) (padding_on S header Here b T h)
 
-  pub last_told : padding Here 8 ≤ 1 → due S header s (b ∷ []) ≡ []
-  last_told h =
-      one_due (body S header T (Here + 1) []) (padding_last S header Here b T h)
-      ∙ told_silent (Here + 1) (body S header T (Here + 1) []) (body_silent S header T (Here + 1))
+    pub last_told : padding Here 8 ≤ 1 → due S header s (b ∷ []) ≡ []
+    last_told h =
+        one_due (body S header T (Here + 1) []) (padding_last S header Here b T h)
+        ∙ told_silent (Here + 1) (body S header T (Here + 1) []) (body_silent S header T (Here + 1))
 
-  same_id : due S header s (b ∷ []) ≡ [] → m.id ≡ first_request_id (message_lines (message S header further))
-  same_id none = id_kept f (b ∷ []) (none_said _ none) (rw is refl)
+    same_id : due S header s (b ∷ []) ≡ [] →
+        m.id ≡ first_request_id (message_lines (message S header further))
+    same_id none = id_kept f (b ∷ []) (none_said _ none) (rw is refl)
 
-  pub padding_follows : (1 < padding Here 8) → {n : Struct_of} → Moved m n 1 → n.id ≡ m.id →
-      n.part ≡ m.part → Follows C answers number header n further
-  padding_follows h move id part =
-      let comes = one_comes (ReadTo [] (Here + 1) (In_padding T)) (padding_on S header Here b T h) in
-      let at = comes_next padded.0 [] (Here + 1) (12 + length further) (In_padding T) (next_at s b) in
-      follows_on f (b ∷ []) move (id ∙ rw (part, is) (same_id (padding_told h)))
-      (subst (Stands C answers number header further) (sym (part ∙ is)) (padded.0 ++ [], comes ∙ at))
+    pub padding_follows : (1 < padding Here 8) → {n : Struct_of} → Moved m n 1 → n.id ≡ m.id →
+        n.part ≡ m.part → Follows C answers number header n further
+    padding_follows h move id part =
+        let comes = one_comes (ReadTo [] (Here + 1) (In_padding T)) (padding_on S header Here b T h)
+        in
+        let at = comes_next padded.0 [] (Here + 1) (12 + length further) (In_padding T)
+        (next_at s b)
+        in
+        follows_on f (b ∷ []) move (id ∙ rw (part, is) (same_id (padding_told h)))
+        (subst (Stands C answers number header further) (sym (part ∙ is))
+        (padded.0 ++ [], comes ∙ at))
 
-  pub last_follows : padding Here 8 ≤ 1 → {k n : Struct_of} → Moved m k 1 →
-      Arrives C answers number header k n further (body S header T (12 + length further) []) →
-      Moved m n 1 → n.id ≡ m.id → in_header n.part ≡ false →
-      Follows C answers number header n further
-  last_follows h move_k arrives move_n id past =
-      let comes = one_comes (body S header T (Here + 1) []) (padding_last S header Here b T h) in
-      follows_on f (b ∷ []) move_n (id ∙ rw past (same_id (last_told h)))
-      (arrives (is_at f (b ∷ []) move_k) padded.0 (comes ∙ ap (λ n. with_front padded.0 (body S header T n [])) (next_at s b)))
+    pub last_follows : padding Here 8 ≤ 1 → {k n : Struct_of} → Moved m k 1 →
+        Arrives C answers number header k n further (body S header T (12 + length further) []) →
+        Moved m n 1 → n.id ≡ m.id → in_header n.part ≡ false →
+        Follows C answers number header n further
+    last_follows h move_k arrives move_n id past =
+        let comes = one_comes (body S header T (Here + 1) []) (padding_last S header Here b T h) in
+        follows_on f (b ∷ []) move_n (id ∙ rw past (same_id (last_told h)))
+        (arrives (is_at f (b ∷ []) move_k) padded.0
+        (comes ∙ ap (λ n. with_front padded.0 (body S header T n [])) (next_at s b)))
 
 -- ---- in the rest
 
@@ -133,13 +143,15 @@ unfolding rest_step message_lines stage_of first_request_id id_in first_id line_
 rested offset held at = go (length held == 32)
   where
     go : (full : Bool) →
-        Rested (if full then ReadTo (line_at at (RestLine offset held) ∷ []) at (In_rest (offset + 32) [])
+        Rested (if full then ReadTo (line_at at (RestLine offset held) ∷ []) at
+        (In_rest (offset + 32) [])
         else ReadTo [] at (In_rest offset held)) at
     go true = record { comes = refl; no_id = refl }
     go false = record { comes = refl; no_id = refl }
 
 -- octets of one part are one step
-part_goes : (S : Signatures) (header : List ℕ) (emitted : List LineAt) (at offset : ℕ) (held : List ℕ)
+part_goes : (S : Signatures) (header : List ℕ) (emitted : List LineAt) (at offset : ℕ)
+    (held : List ℕ)
     (b : ℕ) (bs : List ℕ) → length held + length (b ∷ bs) ≤ 32 →
     goes_on S header (ReadTo emitted at (In_rest offset held)) (b ∷ bs)
     ≡ with_front emitted (rest_step offset (held ++ b ∷ bs) (at + length (b ∷ bs)))
@@ -148,10 +160,13 @@ part_goes S header emitted at offset held b [] h = refl
 part_goes S header emitted at offset held b (b' ∷ bs) h =
     let few : length (held ++ b ∷ []) < 32 = omega (arith, length_one_more held b, h) in
     let n : (at + 1) + length (b' ∷ bs) ≡ at + length (b ∷ b' ∷ bs) = omega arith in
-    ap (λ m. goes_on S header (with_front emitted m) (b' ∷ bs)) (rest_step_more offset (held ++ b ∷ []) (at + 1) few)
-    ∙ (ap (λ m. goes_on S header m (b' ∷ bs)) (comes_next emitted [] (at + 1) (at + 1) (In_rest offset (held ++ b ∷ [])) refl
+    ap (λ m. goes_on S header (with_front emitted m) (b' ∷ bs))
+    (rest_step_more offset (held ++ b ∷ []) (at + 1) few)
+    ∙ (ap (λ m. goes_on S header m (b' ∷ bs))
+    (comes_next emitted [] (at + 1) (at + 1) (In_rest offset (held ++ b ∷ [])) refl
     ∙ ap (λ ts. ReadTo ts (at + 1) (In_rest offset (held ++ b ∷ []))) (append-nil emitted))
-    ∙ (part_goes S header emitted (at + 1) offset (held ++ b ∷ []) b' bs (omega (arith, length_one_more held b, h))
+    ∙ (part_goes S header emitted (at + 1) offset (held ++ b ∷ []) b' bs
+    (omega (arith, length_one_more held b, h))
     ∙ rw (n, append_assoc held (b ∷ []) (b' ∷ bs)) refl))
 
 module _ {C : Table} {answers : Answers} {number : ℕ} {header : List ℕ} {m : Struct_of} {s : List ℕ}
@@ -175,28 +190,34 @@ module _ {C : Table} {answers : Answers} {number : ℕ} {header : List ℕ} {m :
   abbrev Stood : List LineAt → Message
   Stood emitted = ReadTo emitted At (In_rest r.offset r.held.items)
 
-  stood : (emitted : List LineAt) × (message (signatures_of C (answers number)) header s ≡ Stood emitted)
+  stood : (emitted : List LineAt) × (message (signatures_of C (answers number)) header s
+      ≡ Stood emitted)
   stood = subst (Stands C answers number header s) is f.stands
 
   rest_comes : message (signatures_of C (answers number)) header (s ++ xs) ≡ with_front stood.0 Step
   rest_comes =
-      message_resumes (signatures_of C (answers number)) header s xs ∙ (ap (λ m. goes_on (signatures_of C (answers number)) header m xs) stood.1
-      ∙ go xs (omega (arith, size, taken, left, r.room, some)) (omega (arith, size, taken, left, r.room)))
+      message_resumes (signatures_of C (answers number)) header s xs
+      ∙ (ap (λ m. goes_on (signatures_of C (answers number)) header m xs) stood.1
+      ∙ go xs (omega (arith, size, taken, left, r.room, some))
+      (omega (arith, size, taken, left, r.room)))
     where
       go : (xs : List ℕ) → 0 < length xs → length r.held.items + length xs ≤ 32 →
           goes_on (signatures_of C (answers number)) header (Stood stood.0) xs
           ≡ with_front stood.0 (rest_step r.offset (r.held.items ++ xs) (At + length xs))
       go [] some room = absurd (omega arith)
-      go (b ∷ bs) some room = part_goes (signatures_of C (answers number)) header stood.0 At r.offset r.held.items b bs room
+      go (b ∷ bs) some room = part_goes (signatures_of C (answers number)) header stood.0 At
+          r.offset r.held.items b bs room
 
   rest_due : due (signatures_of C (answers number)) header s xs ≡ message_lines Step
   unfolding message_lines
-  rest_due = due_is (signatures_of C (answers number)) header s xs stood.0 (Stood stood.0) Step stood.1 rest_comes refl
+  rest_due = due_is (signatures_of C (answers number)) header s xs stood.0 (Stood stood.0) Step
+      stood.1 rest_comes refl
 
   pub rest_text : (place : ℕ) → due_text (signatures_of C (answers number)) number place header s xs
       ≡ message_lines_text m.number place At (message_lines Step)
   unfolding due_text
-  rest_text place = ap (message_lines_text number place At) rest_due ∙ ap (λ n. message_lines_text n place At (message_lines Step)) (sym f.same_number)
+  rest_text place = ap (message_lines_text number place At) rest_due
+      ∙ ap (λ n. message_lines_text n place At (message_lines Step)) (sym f.same_number)
 
   pub rest_follows : {m' : Struct_of} {r' : Rest} → Moved m m' n → m'.id ≡ m.id →
       m'.part ≡ parts.Rest r' →
@@ -204,10 +225,14 @@ module _ {C : Table} {answers : Answers} {number : ℕ} {header : List ℕ} {m :
   rest_follows {r' = r'} move id part stage =
       let step = rested r.offset (r.held.items ++ xs) (At + length xs) in
       let e : At + length xs ≡ 12 + length (s ++ xs) = omega (arith, length-append s xs) in
-      let next = comes_next stood.0 (message_lines Step) (At + length xs) (12 + length (s ++ xs)) (In_rest r'.offset r'.held.items) e in
-      let comes = ap (with_front stood.0) (step.comes ∙ ap (ReadTo (message_lines Step) (At + length xs)) stage) in
-      follows_on f xs (rw size move) (id ∙ rw part (id_kept f xs (ap first_request_id rest_due ∙ step.no_id) (rw is refl)))
-      (subst (Stands C answers number header (s ++ xs)) (sym part) (stood.0 ++ message_lines Step, rest_comes ∙ (comes ∙ next)))
+      let next = comes_next stood.0 (message_lines Step) (At + length xs) (12 + length (s ++ xs))
+      (In_rest r'.offset r'.held.items) e in
+      let comes = ap (with_front stood.0) (step.comes
+      ∙ ap (ReadTo (message_lines Step) (At + length xs)) stage) in
+      follows_on f xs (rw size move) (id ∙ rw part
+      (id_kept f xs (ap first_request_id rest_due ∙ step.no_id) (rw is refl)))
+      (subst (Stands C answers number header (s ++ xs)) (sym part)
+      (stood.0 ++ message_lines Step, rest_comes ∙ (comes ∙ next)))
 
 -- the text of a step in the rest
 pub few_told : (number place offset at : ℕ) (from : ℕ) (held : List ℕ) → length held < 32 →
@@ -216,9 +241,11 @@ unfolding message_lines_text message_lines
 few_told number place offset at from held h = rw (rest_step_more from held at h) refl
 
 pub full_told : (number place offset at : ℕ) (from : ℕ) (held : List ℕ) → length held ≡ 32 →
-    message_lines_text number place offset (message_lines (rest_step from held at)) ≡ rest_line number from held
+    message_lines_text number place offset (message_lines (rest_step from held at))
+    ≡ rest_line number from held
 unfolding message_lines_text message_lines message_line_text line_class_of text_of line_at
-full_told number place offset at from held h = rw (rest_step_full from held at h) (append-nil _ ∙ rest_said number from held)
+full_told number place offset at from held h =
+    rw (rest_step_full from held at h) (append-nil _ ∙ rest_said number from held)
 
 pub few_stage : (at from : ℕ) (held : List ℕ) → length held < 32 →
     stage_of (rest_step from held at) ≡ In_rest from held

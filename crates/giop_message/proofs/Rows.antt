@@ -48,7 +48,8 @@ table = record {
       ∷ members (member (codes "v") 5 ∷ [])
       ∷ members (member (codes "d") 10 ∷ [])
       ∷ [];
-  operations = called (codes "ask") 1 2 ∷ called (codes "nop") 3 3 ∷ called (codes "say") 4 3 ∷ called (codes "raw") 5 3
+  operations = called (codes "ask") 1 2 ∷ called (codes "nop") 3 3 ∷ called (codes "say") 4 3 ∷
+      called (codes "raw") 5 3
       ∷ called (codes "set") 6 3 ∷ called (codes "put") 7 3 ∷ [];
   exceptions = late ∷ [];
   declared = 0;
@@ -67,7 +68,13 @@ says at text = record { at = at; line_class = Value; text = text }
 
 -- it names the definitions that the rows unfold
 rows : ℕ
-unfolding digits num twos_complement padding block number path_text hex hex_number escaped type_in trees_after builtin_types minor kind order value_line_text call_text rest_text signatures_of line_at is_shown call_of calls section_lines with_front section_then rest_in rest typed option_typed members_of after_exception body type_if request_body result_body reply_body is_request body_of has_body padded after_header of_header message body_may_be_missing close message_lines stage_of line_class_of text_of remarks_by closes_by called late table request_table r says
+unfolding digits num twos_complement padding block number path_text hex hex_number escaped type_in
+    trees_after builtin_types minor kind order value_line_text call_text rest_text signatures_of
+    line_at is_shown call_of calls section_lines with_front section_then rest_in rest typed
+    option_typed members_of after_exception body type_if request_body result_body reply_body
+    is_request body_of has_body padded after_header of_header message body_may_be_missing close
+    message_lines stage_of line_class_of text_of remarks_by closes_by called late table
+    request_table r says
 rows = 0
 
 -- minor version and type
@@ -76,7 +83,8 @@ head minor kind = 71 ∷ 73 ∷ 79 ∷ 80 ∷ 1 ∷ minor ∷ 0 ∷ kind ∷ 0 �
 
 -- the 32 octets of a Request's header with this operation of three letters
 h : List ℕ → List ℕ
-h operation = (0 ∷ 0 ∷ 0 ∷ 1 ∷ 3 ∷ 0 ∷ 0 ∷ 0 ∷ 0 ∷ 0 ∷ 0 ∷ 0 ∷ 0 ∷ 0 ∷ 0 ∷ 1 ∷ 65 ∷ 0 ∷ 0 ∷ 0 ∷ 0 ∷ 0 ∷ 0 ∷ 4 ∷ []) ++ (operation ++ (0 ∷ 0 ∷ 0 ∷ 0 ∷ 0 ∷ []))
+h operation = (0 ∷ 0 ∷ 0 ∷ 1 ∷ 3 ∷ 0 ∷ 0 ∷ 0 ∷ 0 ∷ 0 ∷ 0 ∷ 0 ∷ 0 ∷ 0 ∷ 0 ∷ 1 ∷ 65 ∷ 0 ∷ 0 ∷ 0 ∷ 0 ∷
+    0 ∷ 0 ∷ 4 ∷ []) ++ (operation ++ (0 ∷ 0 ∷ 0 ∷ 0 ∷ 0 ∷ []))
 
 -- and its ten lines
 t : List ℕ → List ℕ → List TimedLine
@@ -115,7 +123,8 @@ short = (Fault, codes "short") ∷ []
 abbrev Row : List ℕ → List ℕ → List TimedLine → List (LineClass × List ℕ) → Type 0
 Row header s reads closes = (r.reads 1 header s ≡ reads) × (r.closes 1 header s ≡ closes)
 
--- A Request without parameters: its message ends at the header's end, within the padding, and at its end; then a rest of two
+-- A Request without parameters: its message ends at the header's end, within the padding, and at
+-- its end; then a rest of two
 -- octets behind it.
 record NoBody (octets : List ℕ) : Type 0 where
   at_header : Row (head 2 0) octets t_nop ended
@@ -126,7 +135,13 @@ record NoBody (octets : List ℕ) : Type 0 where
 
 no_body : NoBody (h (codes "nop"))
 unfolding rows head h t_nop t_say t_raw ended short
-no_body = record { at_header = (refl, refl); within = (refl, refl); padded = (refl, refl); rest = (refl, refl) }
+no_body = record {
+  at_header = (refl, refl);
+  within = (refl, refl);
+  padded = (refl, refl);
+  rest =
+      (refl, refl);
+}
 
 -- A body that is missing is short: at the header's end, within the padding, and at its end.
 record MissingBody (octets : List ℕ) : Type 0 where
@@ -152,8 +167,12 @@ wrong_end = (refl, refl)
 
 -- a rest of 32 octets after an empty octet sequence
 rest_of_32 : Row (head 2 0) (h (codes "raw") ++ 0 ∷ 0 ∷ 0 ∷ 0 ∷ 0 ∷ 0 ∷ 0 ∷ 0 ∷ replicate 32 17)
-    (t_raw ++ says 40 (codes "body.o octets @0") ∷ record
-    { at = 72; line_class = Rest; text = codes "rest @0 1111111111111111111111111111111111111111111111111111111111111111" } ∷ []) ended
+    (t_raw ++ says 40 (codes "body.o octets @0") ∷ record {
+      at = 72;
+      line_class = Rest;
+      text = codes
+          "rest @0 1111111111111111111111111111111111111111111111111111111111111111";
+    } ∷ []) ended
 unfolding rows head h t_nop t_say t_raw ended short
 rest_of_32 = (refl, refl)
 
@@ -273,7 +292,8 @@ no_header : Row (head 0 5) [] [] ended
 unfolding rows head h t_nop t_say t_raw ended short
 no_header = (refl, refl)
 
--- ---- the operation is the last string of a Request's header, and the status the only enum of a Reply's
+-- ---- the operation is the last string of a Request's header, and the status the only enum of a
+-- Reply's
 
 any_below : ℕ → (ℕ → Bool) → Bool
 any_below zero test = false
@@ -283,7 +303,8 @@ any_below (suc n) test = any_below n test || test n
 has_type : (Ty → Bool) → Ty → Bool
 unfolding any_below
 has_type test (Struct count names parts) = any_below count (λ i. has_type test (parts i))
-has_type test (Union choice scalar select names cases) = test (Single scalar) || any_below (places_of choice) (λ i. has_type test (cases i))
+has_type test (Union choice scalar select names cases) =
+    test (Single scalar) || any_below (places_of choice) (λ i. has_type test (cases i))
 has_type test (Encapsulation T) = has_type test T
 has_type test (Sequence bound T) = has_type test T
 has_type test (Array count T) = has_type test T
@@ -296,7 +317,8 @@ is_enum T = false
 -- of a struct: whether such a type is in a part after that index
 behind : (Ty → Bool) → ℕ → Ty → Bool
 unfolding any_below has_type
-behind test k (Struct count names parts) = any_below count (λ i. nat_lt k i && has_type test (parts i))
+behind test k (Struct count names parts) =
+    any_below count (λ i. nat_lt k i && has_type test (parts i))
 behind test k T = true
 
 -- the part of this index has this name and is of such a type, and no part after it has one in it
@@ -309,12 +331,18 @@ last_strings : IfSome (header_type 0 0) (IsLast is_text (codes "operation") 4)
     × IfSome (header_type 1 0) (IsLast is_text (codes "operation") 5)
     × IfSome (header_type 2 0) (IsLast is_text (codes "operation") 4)
 unfolding rows behind any_below has_type
-last_strings =
-    (record { named = refl; such = refl; none = refl }, record { named = refl; such = refl; none = refl }, record { named = refl; such = refl; none = refl })
+last_strings = (
+  record { named = refl; such = refl; none = refl },
+  record { named = refl; such = refl; none = refl },
+  record { named = refl; such = refl; none = refl },
+)
 
 last_enums : IfSome (header_type 0 1) (IsLast is_enum (codes "reply_status") 2)
     × IfSome (header_type 1 1) (IsLast is_enum (codes "reply_status") 2)
     × IfSome (header_type 2 1) (IsLast is_enum (codes "reply_status") 1)
 unfolding rows behind any_below has_type is_enum
-last_enums =
-    (record { named = refl; such = refl; none = refl }, record { named = refl; such = refl; none = refl }, record { named = refl; such = refl; none = refl })
+last_enums = (
+  record { named = refl; such = refl; none = refl },
+  record { named = refl; such = refl; none = refl },
+  record { named = refl; such = refl; none = refl },
+)

@@ -56,7 +56,14 @@ pub last_one : (o : Order) (T : Ty) (at : ℕ) (root : Root) (s xs : List ℕ) (
     0 < length xs → AreAnswered o T at root s xs p → LastOne o T at root s xs p
 last_one o T at root s [] p some h = absurd (omega arith)
 last_one o T at root s (b ∷ []) p some h =
-    record { front = []; octet = b; all = refl; before = refl; answer = subst (λ z. Answers o T at root z b p) (sym (append-nil s)) h }
+    record {
+      front = [];
+      octet = b;
+      all = refl;
+      before = refl;
+      answer =
+          subst (λ z. Answers o T at root z b p) (sym (append-nil s)) h;
+    }
 last_one o T at root s (b ∷ b' ∷ xs) p some h =
     let l = last_one o T at root (s ++ b ∷ []) (b' ∷ xs) p (omega arith) h.1 in
     record {
@@ -64,7 +71,8 @@ last_one o T at root s (b ∷ b' ∷ xs) p some h =
       octet = l.octet;
       all = ap (λ z. b ∷ z) l.all;
       before = answered_more o T at root s b l.front h.0 l.before;
-      answer = subst (λ z. Answers o T at root z l.octet p) (append_assoc s (b ∷ []) l.front) l.answer;
+      answer = subst (λ z. Answers o T at root z l.octet p) (append_assoc s (b ∷ []) l.front)
+          l.answer;
     }
 
 -- ---- a section after them
@@ -107,12 +115,16 @@ module _ (w : Begun) where
   text_run : (s octets : List ℕ) → Inside w s octets → (xs : List ℕ) → Answered octets xs →
       (place : ℕ) → due_text S number place header s xs ≡ LinesOf octets xs
   text_run s octets i [] h place =
-      whole.text_none S number place header s ∙ sym (readings.text_none number R O T (start w) octets)
+      whole.text_none S number place header s
+      ∙ sym (readings.text_none number R O T (start w) octets)
   text_run s octets i (b ∷ []) h place = more_text w s octets i b h place
   text_run s octets i (b ∷ b' ∷ xs) h place =
       let on = inside_on w s octets i b h.0 in
       whole.text_both S number place header s (b ∷ []) (b' ∷ xs)
-      ∙ (rw (more_text w s octets i b h.0 place, text_run (s ++ b ∷ []) (octets ++ b ∷ []) on (b' ∷ xs) h.1 (place + length (b ∷ [])))
+      ∙ (rw (
+        more_text w s octets i b h.0 place,
+        text_run (s ++ b ∷ []) (octets ++ b ∷ []) on (b' ∷ xs) h.1 (place + length (b ∷ [])),
+      )
       (sym (readings.text_both number R O T (start w) octets (b ∷ []) (b' ∷ xs))))
 
 -- ---- lines outside of the header
@@ -122,8 +134,13 @@ told_before : (w : Begun) (s : List ℕ) (r : Read) → is_header w.section ≡ 
     first_request_id (message_lines (message w.S w.header s)) ≡ first_request_id w.before
 told_before w s r other is all =
     let more = section_and_rest S header section nothing_noted r in
-    ap (λ m. first_request_id (message_lines m)) is ∙ (ap first_request_id (told_front before more) ∙ (id_both before (message_lines more)
-    ∙ rw (passed_section_lines S header section nothing_noted r all, section_no_id section other (may_call header section) nothing_noted r) (first_none (first_request_id before))))
+    ap (λ m. first_request_id (message_lines m)) is
+    ∙ (ap first_request_id (told_front before more) ∙ (id_both before (message_lines more)
+    ∙ rw (
+      passed_section_lines S header section nothing_noted r all,
+      section_no_id section other (may_call header section) nothing_noted r,
+    )
+    (first_none (first_request_id before))))
   where
     open w use {S, header, section, before}
 
@@ -142,7 +159,10 @@ done_by : (S : Signatures) (header : List ℕ) (section : Section) (end : ℕ) (
     × (section_and_rest S header section nothing_noted r
     ≡ with_front more (after S header section (noted_of (is_header_root (root_of section)) r) n []))
 unfolding section_then
-done_by S header section end named n (Done lines at rest) answer e = (section_lines (root_of section) (may_call header section) nothing_noted lines, rw (answer, e) refl)
+done_by S header section end named n (Done lines at rest) answer e = (
+  section_lines (root_of section) (may_call header section) nothing_noted lines,
+  rw (answer, e) refl,
+)
 done_by S header section end named n r answer e = absurd answer
 
 fault_by : (S : Signatures) (header : List ℕ) (section : Section) (end : ℕ) (named : Bool)
@@ -157,17 +177,26 @@ inside_goes : (w : Begun) (s octets : List ℕ) → Inside w s octets →
 unfolding section_then stage_of is_over
 inside_goes w s octets i =
     ap (λ m. is_over (stage_of m)) i.is
-    ∙ (ap is_over (stage_front w.before (section_and_rest w.S w.header w.section nothing_noted (reading w octets)))
-    ∙ ap (λ r. is_over (stage_of (section_and_rest w.S w.header w.section nothing_noted r))) i.was_short)
+    ∙ (ap is_over (stage_front w.before (section_and_rest w.S w.header w.section nothing_noted
+    (reading w octets)))
+    ∙ ap (λ r. is_over (stage_of (section_and_rest w.S w.header w.section nothing_noted r)))
+    i.was_short)
 
 -- the octets before the last of those taken
 pub but_last : (octets front : List ℕ) (b n : ℕ) → n ≤ length octets →
     take n octets ≡ front ++ b ∷ [] → take (n - 1) octets ≡ front
 but_last octets front b n within e =
-    let l : length front ≡ n - 1 = omega (arith, ap length e, length-append front (b ∷ []), length-take-le n octets within) in
+    let l : length front ≡ n - 1 = omega (
+      arith,
+      ap length e,
+      length-append front (b ∷ []),
+      length-take-le n octets within,
+    ) in
     let both : octets ≡ front ++ (b ∷ [] ++ drop n octets) =
-    sym (take-append-drop n octets) ∙ (ap (λ z. z ++ drop n octets) e ∙ append_assoc front (b ∷ []) (drop n octets)) in
-    ap (take (n - 1)) both ∙ (ap (λ k. take k (front ++ (b ∷ [] ++ drop n octets))) (sym l) ∙ take-append_seam front (b ∷ [] ++ drop n octets))
+    sym (take-append-drop n octets) ∙ (ap (λ z. z ++ drop n octets) e
+    ∙ append_assoc front (b ∷ []) (drop n octets)) in
+    ap (take (n - 1)) both ∙ (ap (λ k. take k (front ++ (b ∷ [] ++ drop n octets))) (sym l)
+    ∙ take-append_seam front (b ∷ [] ++ drop n octets))
 
 -- ---- a run of octets of a message in a section
 
@@ -205,7 +234,8 @@ module _ (w : Begun) (s octets : List ℕ) (i : Inside w s octets) where
       ∙ (whole.text_both S number place header s fr (b ∷ [])
       ∙ (rw (text_run w s octets i fr h place, one)
       (sym (append_assoc (Lines fr) (DueAt fr b) more)
-      ∙ ap (λ z. z ++ more) (sym (ap Lines all ∙ readings.text_both number (R w) (O w) T (start w) octets fr (b ∷ []))))))
+      ∙ ap (λ z. z ++ more) (sym (ap Lines all
+      ∙ readings.text_both number (R w) (O w) T (start w) octets fr (b ∷ []))))))
 
   -- they go on
   pub run_more : (xs : List ℕ) (place : ℕ) → Answered w octets xs →
@@ -217,29 +247,35 @@ module _ (w : Begun) (s octets : List ℕ) (i : Inside w s octets) where
       due_text S number place header s xs ≡ Lines xs
   run_done xs place l =
       ends_in xs l.front l.octet place [] l.all l.before
-      (done_text w (s ++ l.front) (octets ++ l.front) (at_last l.front l.before) l.octet l.answer (place + length l.front))
+      (done_text w (s ++ l.front) (octets ++ l.front) (at_last l.front l.before) l.octet l.answer
+      (place + length l.front))
       ∙ append-nil (Lines xs)
 
   -- it ends an operation
   pub run_named_in : (xs : List ℕ) → Last w octets xs progress.Named → section ≡ sections.Header
-  run_named_in xs l = named_in w (s ++ l.front) (octets ++ l.front) (at_last l.front l.before) l.octet l.answer
+  run_named_in xs l = named_in w (s ++ l.front) (octets ++ l.front) (at_last l.front l.before)
+      l.octet l.answer
 
   pub run_named : (xs : List ℕ) (place : ℕ) → Last w octets xs progress.Named →
       due_text S number place header s xs
       ≡ Lines xs ++ request_call number header (noted_of true (With xs))
   run_named xs place l =
       ends_in xs l.front l.octet place _ l.all l.before
-      (named_text w (s ++ l.front) (octets ++ l.front) (at_last l.front l.before) l.octet l.answer (place + length l.front)
-      ∙ ap (λ z. DueAt l.front l.octet ++ request_call number header (noted_of true (reading w z))) (last_octets xs l.front l.octet l.all))
+      (named_text w (s ++ l.front) (octets ++ l.front) (at_last l.front l.before) l.octet l.answer
+      (place + length l.front)
+      ∙ ap (λ z. DueAt l.front l.octet ++ request_call number header (noted_of true (reading w z)))
+      (last_octets xs l.front l.octet l.all))
 
   -- it breaks a rule
   pub run_wrong : (xs : List ℕ) (place end : ℕ) (why : Kind) → end ≡ place + length xs →
       Last w octets xs (progress.Fault why) →
       due_text S number place header s xs ≡ Lines xs ++ fault_line number (fault_word why) end
   run_wrong xs place end why e l =
-      let n : (place + length l.front) + 1 ≡ end = omega (arith, e, ap length l.all, length-append l.front (l.octet ∷ [])) in
+      let n : (place + length l.front) + 1 ≡ end =
+      omega (arith, e, ap length l.all, length-append l.front (l.octet ∷ [])) in
       ends_in xs l.front l.octet place (fault_line number (fault_word why) end) l.all l.before
-      (wrong_text w (s ++ l.front) (octets ++ l.front) (at_last l.front l.before) l.octet why l.answer (place + length l.front)
+      (wrong_text w (s ++ l.front) (octets ++ l.front) (at_last l.front l.before) l.octet why
+      l.answer (place + length l.front)
       ∙ ap (λ k. DueAt l.front l.octet ++ fault_line number (fault_word why) k) n)
 
   -- a put failed at one of them
@@ -249,10 +285,16 @@ module _ (w : Begun) (s octets : List ℕ) (i : Inside w s octets) where
   run_broken xs place a b broke =
       let fr = broke.front ++ broke.octet ∷ [] in
       let at = at_last broke.front broke.answers in
-      let one = any_text w (s ++ broke.front) (octets ++ broke.front) at broke.octet (place + length broke.front) in
+      let one = any_text w (s ++ broke.front) (octets ++ broke.front) at broke.octet
+      (place + length broke.front) in
       let text = ends_in fr broke.front broke.octet place _ refl broke.answers one in
-      rw (broke.all, ← append_assoc broke.front (broke.octet ∷ []) broke.rest, whole.text_both S number place header s fr broke.rest)
-      (front-append a b (due_text S number place header s fr) (due_text S number (place + length fr) header (s ++ fr) broke.rest)
+      rw (
+        broke.all,
+        ← append_assoc broke.front (broke.octet ∷ []) broke.rest,
+        whole.text_both S number place header s fr broke.rest,
+      )
+      (front-append a b (due_text S number place header s fr)
+      (due_text S number (place + length fr) header (s ++ fr) broke.rest)
       (rw text (front-append a b (Lines fr) _ broke.wrote)))
 
   -- ---- where the message is after them
@@ -284,7 +326,8 @@ module _ (w : Begun) (s octets : List ℕ) (i : Inside w s octets) where
 
   -- outside of the header their lines have no request id
   pub same_id : (xs : List ℕ) (p : Progress) → Last w octets xs p → is_header section ≡ false →
-      first_request_id (message_lines (message S header (s ++ xs))) ≡ first_request_id (message_lines (message S header s))
+      first_request_id (message_lines (message S header (s ++ xs)))
+      ≡ first_request_id (message_lines (message S header s))
   same_id xs p l other =
       let a = last_answer xs p l in
       told_before w (s ++ xs) (With xs) other (behind xs) (answer_all a.0 a.1 p (With xs) a.2)
@@ -296,7 +339,8 @@ module _ (w : Begun) (s octets : List ℕ) (i : Inside w s octets) where
       (12 + length (s ++ xs)) []))
   done_comes xs l =
       let a = last_answer xs progress.Done l in
-      let last = ends_here w (s ++ l.front) (octets ++ l.front) (at_last l.front l.before) l.octet in
+      let last = ends_here w (s ++ l.front) (octets ++ l.front) (at_last l.front l.before) l.octet
+      in
       let ends : EndsAt (12 + length (s ++ xs)) (With xs) =
       rw (← last_so_far xs l.front l.octet l.all, ← last_octets xs l.front l.octet l.all) last in
       let g = done_by S header section a.0 a.1 (12 + length (s ++ xs)) (With xs) a.2 ends in
@@ -308,10 +352,16 @@ module _ (w : Begun) (s octets : List ℕ) (i : Inside w s octets) where
       let xs = take n ys in
       let a = last_answer xs (progress.Fault why) l in
       record {
-        some = omega (arith, ap length l.all, length-append l.front (l.octet ∷ []), length-take-le n ys within);
+        some = omega (
+          arith,
+          ap length l.all,
+          length-append l.front (l.octet ∷ []),
+          length-take-le n ys within,
+        );
         within = within;
         here = ap (λ m. is_over (stage_of m)) (behind xs)
-            ∙ (ap is_over (stage_front before (section_and_rest S header section nothing_noted (With xs)))
+            ∙ (ap is_over (stage_front before (section_and_rest S header section nothing_noted
+            (With xs)))
             ∙ fault_by S header section a.0 a.1 why (With xs) a.2);
         not_before = rw (but_last ys l.front l.octet n within l.all)
             (inside_goes w (s ++ l.front) (octets ++ l.front) (at_last l.front l.before));

@@ -1,4 +1,5 @@
--- A message that follows a list, in a section whose decoder took a run of octets: what it wrote, and where the message
+-- A message that follows a list, in a section whose decoder took a run of octets: what it wrote,
+-- and where the message
 -- is after them.
 use Rattle.std.proofs.Common.{◌≡◌, append-nil, Result, Ok, Err, IsErr, ℕ, ◌+◌, ◌<◌, ◌≤◌, Bool, true, false, List, [], ◌∷◌, ◌++◌, length, take, drop, get_or, Option, Some, None, refl, sym, ap, subst, ◌∙◌, arith}
 use Rattle.std.specs.Prelude.{cond, if◌then◌else◌}
@@ -88,11 +89,25 @@ pub record Standing : Type 0 where
 
 abbrev pub standing : {C : Table} {answers : Answers} {number : ℕ} {header : List ℕ} {m : Struct_of}
     {s : List ℕ} {section : Section}
-    {d : Decoder} → Follows C answers number header m s → m.part ≡ parts.Typed section d → Fits C m →
+    {d : Decoder} → Follows C answers number header m s → m.part ≡ parts.Typed section d →
+    Fits C m →
     Standing
 standing {C} {m = m} f is fits =
     let e = subst (FitsPart C m.at) is fits in
-    record { C = C; answers = _; number = _; header = _; m = m; s = _; follows = f; section = _; d = _; is = is; fits = e }
+    record {
+      C = C;
+      answers = _;
+      number = _;
+      header = _;
+      m = m;
+      s = _;
+      follows = f;
+      section = _;
+      d =
+          _;
+      is = is;
+      fits = e;
+    }
 
 module _ (t : Standing) where
   open t use {C, answers, number, header, m, s, follows, section, d, is}
@@ -108,11 +123,21 @@ module _ (t : Standing) where
 
   abbrev begun : Begun
   begun =
-      record { S = S; number = number; header = header; section = section; T = opened.T; before = opened.before; front = opened.front }
+      record {
+        S = S;
+        number = number;
+        header = header;
+        section = section;
+        T = opened.T;
+        before =
+            opened.before;
+        front = opened.front;
+      }
 
   inside : Inside begun s octets_of
   inside =
-      let goes_on = ap (λ leaf. decoders.read_by_leaf C d leaf opened.reads.lines (start begun + length octets_of)) t.fits.goes_on in
+      let goes_on = ap (λ leaf. decoders.read_by_leaf C d leaf opened.reads.lines
+      (start begun + length octets_of)) t.fits.goes_on in
       record {
         since = opened.since;
         is = opened.is;
@@ -127,7 +152,8 @@ module _ (t : Standing) where
   LastOf xs p = Last begun octets_of xs p
 
   abbrev ReadsWith : Decoder → List ℕ → Type 0
-  ReadsWith d' xs = decoders.Reads C opened.T (order header) (start begun) number (root_of section) d' (octets_of ++ xs)
+  ReadsWith d' xs = decoders.Reads C opened.T (order header) (start begun) number (root_of section)
+      d' (octets_of ++ xs)
 
   abbrev pub ReadWith : List ℕ → Read
   ReadWith xs = reading begun (octets_of ++ xs)
@@ -144,7 +170,8 @@ module _ (t : Standing) where
       Follows C answers number header n (s ++ xs)
   section_on xs p l n d' move id part reads =
       follows_on follows xs move (id ∙ rw part (kept_id xs p l (is_header section) refl))
-      (subst (Stands C answers number header (s ++ xs)) (sym part) (decodes begun s octets_of inside C xs d' reads))
+      (subst (Stands C answers number header (s ++ xs)) (sym part)
+      (decodes begun s octets_of inside C xs d' reads))
 
   ended_id : (xs : List ℕ) → LastOf xs progress.Done → (d' : Decoder) → ReadsWith d' xs →
       (id : Option ℕ) (inside : Bool) →
@@ -159,7 +186,8 @@ module _ (t : Standing) where
       ((T : Ty) (o : Order) (at number : ℕ) (root : Root) (xs : List ℕ) →
       decoders.Reads C T o at number root d xs → P T o at number root xs) →
       P opened.T (order header) (start begun) number (root_of section) octets_of
-  by_reads each = each opened.T (order header) (start begun) number (root_of section) octets_of opened.reads
+  by_reads each = each opened.T (order header) (start begun) number (root_of section) octets_of
+      opened.reads
 
   -- a put failed at one of the octets
   pub text_broken : (xs : List ℕ) (place : ℕ) (a b : OutLog) →
@@ -180,7 +208,8 @@ module _ (t : Standing) where
   took octets n within some takes e = record {
     within = within;
     some = some;
-    takes = subst (TakesRun C opened.T (order header) (start begun) number (root_of section) _ octets_of (take n octets)) e takes;
+    takes = subst (TakesRun C opened.T (order header) (start begun) number (root_of section) _
+        octets_of (take n octets)) e takes;
   }
 
 -- their text, and their lines
@@ -195,8 +224,10 @@ module _ {t : Standing} {octets : List ℕ} {n : ℕ} {d' : Decoder} where
 
   last : (p : Progress) → Took t octets n d' p → LastOf t (take n octets) p
   last p k =
-      let some : 0 < length (take n octets) = omega (arith, length-take-le n octets k.within, k.some) in
-      last_one (order header) (opened t).T (start (begun t)) (root_of section) (octets_of t) (take n octets) p some k.takes.answers
+      let some : 0 < length (take n octets) =
+      omega (arith, length-take-le n octets k.within, k.some) in
+      last_one (order header) (opened t).T (start (begun t)) (root_of section) (octets_of t)
+      (take n octets) p some k.takes.answers
 
   moved : (p : Progress) → Took t octets n d' p → (m' : Struct_of) → Moved m m' n →
       Moved m m' (length (take n octets))
@@ -206,11 +237,13 @@ module _ {t : Standing} {octets : List ℕ} {n : ℕ} {d' : Decoder} where
 
   pub text_more : Took t octets n d' progress.More → (place : ℕ) →
       Text t octets n place ≡ ValueLine t octets n
-  text_more k place = run_more (begun t) s (octets_of t) (inside t) (take n octets) place k.takes.answers
+  text_more k place = run_more (begun t) s (octets_of t) (inside t) (take n octets) place
+      k.takes.answers
 
   pub text_done : Took t octets n d' progress.Done → (place : ℕ) →
       Text t octets n place ≡ ValueLine t octets n
-  text_done k place = run_done (begun t) s (octets_of t) (inside t) (take n octets) place (last progress.Done k)
+  text_done k place = run_done (begun t) s (octets_of t) (inside t) (take n octets) place
+      (last progress.Done k)
 
   pub text_named : Took t octets n d' progress.Named → (place : ℕ) →
       Text t octets n place ≡ ValueLine t octets n
@@ -222,12 +255,15 @@ module _ {t : Standing} {octets : List ℕ} {n : ℕ} {d' : Decoder} where
       ∙ ap (λ x. ValueLine t octets n ++ request_call m.number x heard) (sym follows.same_header))
 
   pub text_wrong : (why : Kind) → Took t octets n d' (progress.Fault why) → (place : ℕ) →
-      Text t octets n place ≡ ValueLine t octets n ++ fault_line m.number (fault_word why) (place + n)
+      Text t octets n place ≡ ValueLine t octets n
+      ++ fault_line m.number (fault_word why) (place + n)
   text_wrong why k place =
       let xs = take n octets in
       let end : place + n ≡ place + length xs = omega (arith, length-take-le n octets k.within) in
-      run_wrong (begun t) s (octets_of t) (inside t) xs place (place + n) why end (last (progress.Fault why) k)
-      ∙ ap (λ x. ValueLine t octets n ++ fault_line x (fault_word why) (place + n)) (sym follows.same_number)
+      run_wrong (begun t) s (octets_of t) (inside t) xs place (place + n) why end
+      (last (progress.Fault why) k)
+      ∙ ap (λ x. ValueLine t octets n ++ fault_line x (fault_word why) (place + n))
+      (sym follows.same_number)
 
   -- a put failed after those lines
   pub failed_behind : {p : Progress} {E : Type 0} (r : Result (ℕ × Bool) E) (place : ℕ)
@@ -236,7 +272,8 @@ module _ {t : Standing} {octets : List ℕ} {n : ℕ} {d' : Decoder} where
       WritesRun r (S t) number place header s octets a c
   failed_behind {p} r place {a} {b} {c} {x} {y} failed k text wrote front =
       run_failed r (S t) number place header s octets a c failed
-      (run_front (S t) number place header s octets n a c (rw text (wrote-front a b c x y wrote front)))
+      (run_front (S t) number place header s octets n a c
+      (rw text (wrote-front a b c x y wrote front)))
 
   -- ---- where the message is after them
 
@@ -244,13 +281,16 @@ module _ {t : Standing} {octets : List ℕ} {n : ℕ} {d' : Decoder} where
   pub keeps_noted_header : Took t octets n d' progress.Named →
       decoders.KeepsNoted roots.Header d' (ReadWith t (take n octets))
   keeps_noted_header k =
-      let in_it = run_named_in (begun t) s (octets_of t) (inside t) (take n octets) (last progress.Named k) in
-      subst (λ x. decoders.KeepsNoted (root_of x) d' (ReadWith t (take n octets))) in_it k.takes.keeps_noted
+      let in_it = run_named_in (begun t) s (octets_of t) (inside t) (take n octets)
+      (last progress.Named k) in
+      subst (λ x. decoders.KeepsNoted (root_of x) d' (ReadWith t (take n octets))) in_it
+      k.takes.keeps_noted
 
   pub went_on : {p : Progress} → Took t octets n d' p → (decoders.IsFault p → ⊥) →
       (m' : Struct_of) → Moved m m' n → m'.id ≡ m.id →
       m'.part ≡ parts.Typed section d' → Follows C answers number header m' (s ++ (take n octets))
-  went_on {p} k going m' move id part = section_on t (take n octets) p (last p k) m' d' (moved p k m' move) id part (k.takes.reads going)
+  went_on {p} k going m' move id part = section_on t (take n octets) p (last p k) m' d'
+      (moved p k m' move) id part (k.takes.reads going)
 
   pub went_done : Took t octets n d' progress.Done → (m1 m2 : Struct_of) → Moved m m1 n →
       m1.id ≡ m.id → Arrives C answers number header m1 m2 (s ++ (take n octets))
@@ -262,31 +302,40 @@ module _ {t : Standing} {octets : List ℕ} {n : ℕ} {d' : Decoder} where
   went_done k m1 m2 move_1 id_1 arrives move_2 id_2 past =
       let l = last progress.Done k in
       let g = done_comes (begun t) s (octets_of t) (inside t) (take n octets) l in
-      let id_m = ap (cond (is_header section) (noted_of true (ReadWith t (take n octets))).request_id) id_1 in
-      let id = ended_id t (take n octets) l d' (k.takes.reads (λ fault. fault)) m2.id (is_header section) refl (id_2 ∙ id_m) in
+      let id_m = ap (cond (is_header section)
+      (noted_of true (ReadWith t (take n octets))).request_id) id_1 in
+      let id = ended_id t (take n octets) l d' (k.takes.reads (λ fault. fault)) m2.id
+      (is_header section) refl (id_2 ∙ id_m) in
       let at = is_at follows (take n octets) (moved progress.Done k m1 move_1) in
-      follows_on follows (take n octets) (moved progress.Done k m2 move_2) (rw past id) (arrives at g.0 g.1)
+      follows_on follows (take n octets) (moved progress.Done k m2 move_2) (rw past id)
+      (arrives at g.0 g.1)
 
   pub went_wrong : (why : Kind) → Took t octets n d' (progress.Fault why) →
       FaultedAt (S t) header s octets n
-  went_wrong why k = fault_comes (begun t) s (octets_of t) (inside t) octets n why k.within (last (progress.Fault why) k)
+  went_wrong why k = fault_comes (begun t) s (octets_of t) (inside t) octets n why k.within
+      (last (progress.Fault why) k)
 
 -- ---- where a header ends, or a name
 
 waits_short : (S : Signatures) (header : List ℕ) (section : Section) (h : Noted) (lines : List Line)
     (at : ℕ) (outer : List OpenPart) (leaf : Leaf) →
-    waits (stage_of (section_and_rest S header section h (Short lines at outer leaf))) ≡ is_header section
+    waits (stage_of (section_and_rest S header section h (Short lines at outer leaf)))
+    ≡ is_header section
 unfolding section_then stage_of waits
 waits_short S header section h lines at outer leaf = refl
 
-raises_short : (S : Signatures) (header : List ℕ) (section : Section) (h : Noted) (lines : List Line)
+raises_short : (S : Signatures) (header : List ℕ) (section : Section) (h : Noted)
+    (lines : List Line)
     (at : ℕ) (outer : List OpenPart) (leaf : Leaf) →
-    raises_here (stage_of (section_and_rest S header section h (Short lines at outer leaf))) ≡ is_raising section
+    raises_here (stage_of (section_and_rest S header section h (Short lines at outer leaf)))
+    ≡ is_raising section
 unfolding section_then stage_of raises_here
 raises_short S header section h lines at outer leaf = refl
 
-body_short : (S : Signatures) (header : List ℕ) (h : Noted) (lines : List Line) (at : ℕ) (outer : List OpenPart) (leaf : Leaf) →
-    is_settled (stage_of (section_and_rest S header sections.Body h (Short lines at outer leaf))) ≡ true
+body_short : (S : Signatures) (header : List ℕ) (h : Noted) (lines : List Line) (at : ℕ)
+    (outer : List OpenPart) (leaf : Leaf) →
+    is_settled (stage_of (section_and_rest S header sections.Body h (Short lines at outer leaf)))
+    ≡ true
 unfolding section_then stage_of is_settled
 body_short S header h lines at outer leaf = refl
 
@@ -297,16 +346,20 @@ told_short : (S : Signatures) (header : List ℕ) (section : Section) (h : Noted
 unfolding section_then stage_of stage_told_after
 told_short S header section h lines at outer leaf = refl
 
-short_tail : (S : Signatures) (header : List ℕ) (section : Section) (before : List LineAt) (lines : List Line)
+short_tail : (S : Signatures) (header : List ℕ) (section : Section) (before : List LineAt)
+    (lines : List Line)
     (at : ℕ) (outer : List OpenPart) (leaf : Leaf) (xs : List ℕ) →
-    tail_name header (offset_of (with_front before (section_and_rest S header section nothing_noted (Short lines at outer leaf)))) xs
-    (stage_of (with_front before (section_and_rest S header section nothing_noted (Short lines at outer leaf))))
+    tail_name header (offset_of (with_front before
+    (section_and_rest S header section nothing_noted (Short lines at outer leaf)))) xs
+    (stage_of (with_front before (section_and_rest S header section nothing_noted
+    (Short lines at outer leaf))))
     ≡ named_if_whole (noted (is_header_root (root_of section)) nothing_noted lines)
     (resumes (plain (order header)) [] (Short [] at outer leaf) xs)
 unfolding section_then with_front offset_of stage_of tail_name
 short_tail S header section before lines at outer leaf xs = refl
 
-raising_root : (section : Section) → is_raising section ≡ true → is_header_root (root_of section) ≡ false
+raising_root : (section : Section) → is_raising section ≡ true →
+    is_header_root (root_of section) ≡ false
 raising_root sections.Header e = absurd (false≢true e)
 raising_root sections.Exception e = refl
 raising_root sections.SystemException e = refl
@@ -323,12 +376,14 @@ module _ (t : Standing) where
       let first = subst (λ x. IsFirst header x o.T o.before o.front) in_it o.first in
       let P = plain (order header) in (
         first.0,
-        ap (λ (z : List ℕ). read P [] o.T 12 (z ++ xs)) (o.since ∙ ap (λ (f : List ℕ). f ++ o.octets) first.2)
+        ap (λ (z : List ℕ). read P [] o.T 12 (z ++ xs))
+            (o.since ∙ ap (λ (f : List ℕ). f ++ o.octets) first.2)
             ∙ ap (λ (f : List ℕ). read P [] o.T (12 + length f) (o.octets ++ xs)) (sym first.2),
       )
 
   -- what is noted of a header is what its decoder reads
-  header_is : section ≡ sections.Header → (xs : List ℕ) → header_noted header (s ++ xs) ≡ noted_if_whole (ReadWith t xs)
+  header_is : section ≡ sections.Header → (xs : List ℕ) →
+      header_noted header (s ++ xs) ≡ noted_if_whole (ReadWith t xs)
   unfolding header_noted
   header_is in_it xs =
       let both = header_reads in_it xs in
@@ -338,22 +393,27 @@ module _ (t : Standing) where
   header_short in_it =
       let i = inside t in
       ap (header_noted header) (sym (append-nil s))
-      ∙ (header_is in_it [] ∙ (ap (λ (z : List ℕ). noted_if_whole (reading (begun t) z)) (append-nil (octets_of t)) ∙ ap noted_if_whole i.was_short))
+      ∙ (header_is in_it [] ∙ (ap (λ (z : List ℕ). noted_if_whole (reading (begun t) z))
+      (append-nil (octets_of t)) ∙ ap noted_if_whole i.was_short))
 
   -- the message, by what its section has begun and not ended
   stands_short : message (S t) header s
       ≡ with_front (begun t).before (section_and_rest (S t) header section nothing_noted
-      (Short (inside t).lines (start (begun t) + length (octets_of t)) (inside t).outer (inside t).leaf))
+      (Short (inside t).lines (start (begun t) + length (octets_of t)) (inside t).outer
+      (inside t).leaf))
   stands_short =
       let i = inside t in
-      i.is ∙ ap (λ r. with_front (begun t).before (section_and_rest (S t) header section nothing_noted r)) i.was_short
+      i.is ∙ ap (λ r. with_front (begun t).before
+      (section_and_rest (S t) header section nothing_noted r)) i.was_short
 
   -- after how many octets the correspondent is told
-  section_told : told_after (S t) header s ≡ (if is_told section then Some (octets_left (inside t).leaf) else None)
+  section_told : told_after (S t) header s
+      ≡ (if is_told section then Some (octets_left (inside t).leaf) else None)
   unfolding told_after
   section_told =
       ap (λ z. stage_told_after (stage_of z)) stands_short
-      ∙ (ap stage_told_after (stage_front _ _) ∙ told_short (S t) header section nothing_noted _ _ _ _)
+      ∙ (ap stage_told_after (stage_front _ _)
+      ∙ told_short (S t) header section nothing_noted _ _ _ _)
 
   pub section_untold : is_told section ≡ false → None ≡ told_after (S t) header s
   section_untold e = sym (section_told ∙ rw e refl)
@@ -374,7 +434,8 @@ module _ (t : Standing) where
   section_none past more =
       past_none C (answers number) number header s more
       (ap (λ z. waits (stage_of z)) stands_short
-      ∙ (ap waits (stage_front _ _) ∙ (waits_short (S t) header section nothing_noted _ _ _ _ ∙ past)))
+      ∙ (ap waits (stage_front _ _) ∙ (waits_short (S t) header section nothing_noted _ _ _ _
+      ∙ past)))
 
   body_none : section ≡ sections.Body → (more : List ℕ) →
       raises_between number (raised header s) (raised header (s ++ more)) ≡ []
@@ -383,7 +444,8 @@ module _ (t : Standing) where
       (ap (λ z. is_settled (stage_of z)) stands_short
       ∙ (ap is_settled (stage_front _ _)
       ∙ (ap (λ x. is_settled (stage_of (section_and_rest (S t) header x nothing_noted
-      (Short (inside t).lines (start (begun t) + length (octets_of t)) (inside t).outer (inside t).leaf)))) in_it
+      (Short (inside t).lines (start (begun t) + length (octets_of t)) (inside t).outer
+      (inside t).leaf)))) in_it
       ∙ body_short (S t) header nothing_noted _ _ _ _)))
 
   -- the name of an exception is what its decoder reads
@@ -393,19 +455,23 @@ module _ (t : Standing) where
       let i = inside t in
       let n = start (begun t) + length (octets_of t) in
       let here = ap (λ z. raises_here (stage_of z)) stands_short
-      ∙ (ap raises_here (stage_front _ _) ∙ (raises_short (S t) header section nothing_noted _ _ _ _ ∙ raises)) in
+      ∙ (ap raises_here (stage_front _ _) ∙
+      (raises_short (S t) header section nothing_noted _ _ _ _ ∙ raises)) in
       raised_inside C (answers number) header s xs here
       ∙ (ap (λ z. tail_name header (offset_of z) xs (stage_of z)) stands_short
       ∙ (short_tail (S t) header section (begun t).before i.lines n i.outer i.leaf xs
-      ∙ (ap (λ b. named_if_whole (noted b nothing_noted i.lines) (resumes (plain (order header)) [] (Short [] n i.outer i.leaf) xs))
+      ∙ (ap (λ b. named_if_whole (noted b nothing_noted i.lines)
+      (resumes (plain (order header)) [] (Short [] n i.outer i.leaf) xs))
       (raising_root section raises)
-      ∙ sym (named_on header nothing_noted (opened t).T (start (begun t)) (octets_of t) xs i.lines n i.outer i.leaf i.was_short))))
+      ∙ sym (named_on header nothing_noted (opened t).T (start (begun t)) (octets_of t) xs i.lines n
+      i.outer i.leaf i.was_short))))
 
   name_short : is_raising section ≡ true → raised header s ≡ None
   name_short raises =
       let i = inside t in
       ap (raised header) (sym (append-nil s))
-      ∙ (name_is raises [] ∙ (ap (λ (z : List ℕ). named_if_whole nothing_noted (reading (begun t) z)) (append-nil (octets_of t))
+      ∙ (name_is raises [] ∙ (ap (λ (z : List ℕ).
+      named_if_whole nothing_noted (reading (begun t) z)) (append-nil (octets_of t))
       ∙ ap (named_if_whole nothing_noted) i.was_short))
 
 -- an answer other than the end
@@ -413,7 +479,8 @@ abbrev IsNoEnd : Progress → Type 0
 IsNoEnd progress.Done = ⊥
 IsNoEnd p = Unit {0}
 
-answer_none : (end : ℕ) (named : Bool) (p : Progress) (r : Read) → decoders.IsAnswer end named p r → IsNoEnd p →
+answer_none : (end : ℕ) (named : Bool) (p : Progress) (r : Read) → decoders.IsAnswer end named p r →
+    IsNoEnd p →
     (noted_if_whole r ≡ None) × (named_if_whole nothing_noted r ≡ None)
 answer_none end named p (Short lines at outer leaf) a other = (refl, refl)
 answer_none end named p (Fault lines at why T) a other = (refl, refl)
@@ -423,7 +490,8 @@ answer_none end named progress.Done (Done lines at rest) a other = absurd other
 answer_none end named (progress.Fault kind) (Done lines at rest) a other = absurd a
 
 answer_whole : (end : ℕ) (named : Bool) (r : Read) → decoders.IsAnswer end named progress.Done r →
-    (noted_if_whole r ≡ Some (noted_of true r)) × (named_if_whole nothing_noted r ≡ (noted_of false r).name) × EndsHere r
+    (noted_if_whole r ≡ Some (noted_of true r))
+    × (named_if_whole nothing_noted r ≡ (noted_of false r).name) × EndsHere r
 answer_whole end named (Done lines at rest) a = (refl, refl, a)
 answer_whole end named (Short lines at outer leaf) a = absurd a
 answer_whole end named (Fault lines at why T) a = absurd a
@@ -432,17 +500,21 @@ answer_whole end named (Fault lines at why T) a = absurd a
 abbrev section_ends : Section → ℕ → List ℕ → Read → List HeaderEnd
 section_ends sections.Header number header r = Header_end number header (noted_of true r) ∷ []
 section_ends sections.Exception number header r = raises_between number None (noted_of false r).name
-section_ends sections.SystemException number header r = raises_between number None (noted_of false r).name
+section_ends sections.SystemException number header r =
+    raises_between number None (noted_of false r).name
 section_ends sections.Body number header r = []
 
-module _ (C : Table) (number : ℕ) (header : List ℕ) {St : Type 0} (notified : St → CallEvent → St) (st : St) where
+module _ (C : Table) (number : ℕ) (header : List ℕ) {St : Type 0} (notified : St → CallEvent → St)
+    (st : St) where
   name_ends : (name : Option (List ℕ)) →
-      after_event notified st (raise_event number name) ≡ after_ends notified C st (raises_between number None name)
+      after_event notified st (raise_event number name)
+      ≡ after_ends notified C st (raises_between number None name)
   name_ends None = refl
   name_ends (Some name) = refl
 
   event_ends : (x : Section) (r : Read) →
-      after_event notified st (section_event x number header r (operation_of C header (noted_of true r)))
+      after_event notified st (section_event x number header r
+      (operation_of C header (noted_of true r)))
       ≡ after_ends notified C st (section_ends x number header r)
   event_ends sections.Header r = refl
   event_ends sections.Exception r = name_ends (noted_of false r).name
@@ -453,14 +525,16 @@ module _ {t : Standing} {octets : List ℕ} {n : ℕ} {d' : Decoder} where
   open t use {C, answers, number, header, m, s, follows, section}
 
   -- octets that end no section end no header and no name
-  pub none_ends : {p : Progress} → Took t octets n d' p → IsNoEnd p → header_ends number header s (take n octets) ≡ []
+  pub none_ends : {p : Progress} → Took t octets n d' p → IsNoEnd p →
+      header_ends number header s (take n octets) ≡ []
   unfolding header_ends
   none_ends {p} k other = go section refl
     where
       xs : List ℕ
       xs = take n octets
 
-      none : (noted_if_whole (ReadWith t xs) ≡ None) × (named_if_whole nothing_noted (ReadWith t xs) ≡ None)
+      none : (noted_if_whole (ReadWith t xs) ≡ None)
+          × (named_if_whole nothing_noted (ReadWith t xs) ≡ None)
       none =
           let a = last_answer (begun t) s (octets_of t) (inside t) xs p (last p k) in
           answer_none a.0 a.1 p (ReadWith t xs) a.2 other
@@ -468,7 +542,12 @@ module _ {t : Standing} {octets : List ℕ} {n : ℕ} {d' : Decoder} where
       raising : is_raising section ≡ true → is_header section ≡ false →
           ends_between number header (header_noted header s) (header_noted header (s ++ xs))
           ++ raises_between number (raised header s) (raised header (s ++ xs)) ≡ []
-      raising raises past = rw (section_none t past xs, name_short t raises, name_is t raises xs, none.1) refl
+      raising raises past = rw (
+        section_none t past xs,
+        name_short t raises,
+        name_is t raises xs,
+        none.1,
+      ) refl
 
       go : (x : Section) → section ≡ x →
           ends_between number header (header_noted header s) (header_noted header (s ++ xs))
@@ -482,7 +561,8 @@ module _ {t : Standing} {octets : List ℕ} {n : ℕ} {d' : Decoder} where
       go sections.Body e = rw (section_none t (ap is_header e) xs, body_none t e xs) refl
 
   done_ends : Took t octets n d' progress.Done →
-      header_ends number header s (take n octets) ≡ section_ends section number header (ReadWith t (take n octets))
+      header_ends number header s (take n octets)
+      ≡ section_ends section number header (ReadWith t (take n octets))
   unfolding header_ends
   done_ends k = go section refl ∙ ap (λ x. section_ends x number header (ReadWith t xs)) refl
     where
@@ -490,56 +570,76 @@ module _ {t : Standing} {octets : List ℕ} {n : ℕ} {d' : Decoder} where
       xs = take n octets
 
       whole : (noted_if_whole (ReadWith t xs) ≡ Some (noted_of true (ReadWith t xs)))
-          × (named_if_whole nothing_noted (ReadWith t xs) ≡ (noted_of false (ReadWith t xs)).name) × EndsHere (ReadWith t xs)
+          × (named_if_whole nothing_noted (ReadWith t xs) ≡ (noted_of false (ReadWith t xs)).name)
+          × EndsHere (ReadWith t xs)
       whole =
-          let a = last_answer (begun t) s (octets_of t) (inside t) xs progress.Done (last progress.Done k) in
+          let a = last_answer (begun t) s (octets_of t) (inside t) xs progress.Done
+          (last progress.Done k) in
           answer_whole a.0 a.1 (ReadWith t xs) a.2
 
       raising : is_raising section ≡ true → is_header section ≡ false →
           ends_between number header (header_noted header s) (header_noted header (s ++ xs))
           ++ raises_between number (raised header s) (raised header (s ++ xs))
           ≡ raises_between number None (noted_of false (ReadWith t xs)).name
-      raising raises past = rw (section_none t past xs, name_short t raises, name_is t raises xs, whole.1) refl
+      raising raises past = rw (
+        section_none t past xs,
+        name_short t raises,
+        name_is t raises xs,
+        whole.1,
+      ) refl
 
       go : (x : Section) → section ≡ x →
           ends_between number header (header_noted header s) (header_noted header (s ++ xs))
-          ++ raises_between number (raised header s) (raised header (s ++ xs)) ≡ section_ends x number header (ReadWith t xs)
+          ++ raises_between number (raised header s) (raised header (s ++ xs))
+          ≡ section_ends x number header (ReadWith t xs)
       go sections.Header e =
           let before = header_short t e in
           let now = header_is t e xs ∙ whole.0 in
           let reads = header_reads t e xs in
-          let none = raised_ended header (s ++ xs) (opened t).T reads.0 (subst EndsHere (sym reads.1) whole.2) in
+          let none = raised_ended header (s ++ xs) (opened t).T reads.0
+          (subst EndsHere (sym reads.1) whole.2) in
           rw (raised_before header s before, none, before, now) refl
       go sections.Exception e = raising (ap is_raising e) (ap is_header e)
       go sections.SystemException e = raising (ap is_raising e) (ap is_header e)
       go sections.Body e = rw (section_none t (ap is_header e) xs, body_none t e xs) refl
 
   one_ends : Took t octets n d' progress.Done → section ≡ sections.Header →
-      header_ends number header s (take n octets) ≡ Header_end number header (noted_of true (ReadWith t (take n octets))) ∷ []
-  one_ends k in_it = done_ends k ∙ ap (λ x. section_ends x number header (ReadWith t (take n octets))) in_it
+      header_ends number header s (take n octets)
+      ≡ Header_end number header (noted_of true (ReadWith t (take n octets))) ∷ []
+  one_ends k in_it = done_ends k ∙ ap (λ x.
+      section_ends x number header (ReadWith t (take n octets))) in_it
 
   module _ {St : Type 0} (answer : St → Answer) (notified : St → CallEvent → St) (st : St) where
     -- a header that ends is answered by the state before it,
     pub answered_here : (a : Answers) → Took t octets n d' progress.Done →
-        AgreesAtEnds answer notified C st a (header_ends number header s octets) → is_header section ≡ true → a number ≡ answer st
+        AgreesAtEnds answer notified C st a (header_ends number header s octets) →
+        is_header section ≡ true → a number ≡ answer st
     answered_here a k h e =
-        let split = ap (header_ends number header s) (sym (take-append-drop n octets)) ∙ header_ends_both number header s (take n octets) (drop n octets) in
+        let split = ap (header_ends number header s) (sym (take-append-drop n octets))
+        ∙ header_ends_both number header s (take n octets) (drop n octets) in
         let whole_list = subst (AgreesAtEnds answer notified C st a) split h in
-        let front = answers_first answer notified C st a (header_ends number header s (take n octets)) (header_ends number header (s ++ take n octets) (drop n octets)) whole_list in
-        let here = subst (AgreesAtEnds answer notified C st a) (one_ends k (header_only section e)) front in
+        let front = answers_first answer notified C st a
+        (header_ends number header s (take n octets))
+        (header_ends number header (s ++ take n octets) (drop n octets)) whole_list in
+        let here = subst (AgreesAtEnds answer notified C st a) (one_ends k (header_only section e))
+        front in
         here.0
 
     -- which is told of it, and of a name
     pub told_here : (now : St) → Took t octets n d' progress.Done →
-        now ≡ after_event notified st (section_event section m.number m.header (ReadWith t (take n octets))
+        now ≡ after_event notified st (section_event section m.number m.header
+        (ReadWith t (take n octets))
         (operation_of C m.header (noted_of true (ReadWith t (take n octets))))) →
         now ≡ after_ends notified C st (header_ends number header s (take n octets))
     told_here now k told =
         let r = ReadWith t (take n octets) in
         told
-        ∙ (ap (λ x. after_event notified st (section_event section x m.header r (operation_of C m.header (noted_of true r)))) follows.same_number
-        ∙ (ap (λ x. after_event notified st (section_event section number x r (operation_of C x (noted_of true r)))) follows.same_header
-        ∙ (event_ends C number header notified st section r ∙ sym (ap (after_ends notified C st) (done_ends k)))))
+        ∙ (ap (λ x. after_event notified st (section_event section x m.header r
+        (operation_of C m.header (noted_of true r)))) follows.same_number
+        ∙ (ap (λ x. after_event notified st (section_event section number x r
+        (operation_of C x (noted_of true r)))) follows.same_header
+        ∙ (event_ends C number header notified st section r
+        ∙ sym (ap (after_ends notified C st) (done_ends k)))))
 
 -- ---- padding, and a rest
 
@@ -550,15 +650,23 @@ module _ {C : Table} {answers : Answers} {number : ℕ} {header : List ℕ} {m :
   unfolding header_ends waits pads_here stage_of
   padding_none {body_type_id} is x =
       let stands = subst (Stands C answers number header s) is f.stands in
-      let names = raised_pads C (answers number) header s x (ap (λ z. pads_here (stage_of z)) stands.1) in
-      rw (past_none C (answers number) number header s (x ∷ []) (ap (λ z. waits (stage_of z)) stands.1), names.0, names.1) refl
+      let names = raised_pads C (answers number) header s x
+      (ap (λ z. pads_here (stage_of z)) stands.1) in
+      rw (
+        past_none C (answers number) number header s (x ∷ [])
+            (ap (λ z. waits (stage_of z)) stands.1),
+        names.0,
+        names.1,
+      ) refl
 
-  pub rest_none : {r : Rest} → m.part ≡ parts.Rest r → (more : List ℕ) → header_ends number header s more ≡ []
+  pub rest_none : {r : Rest} → m.part ≡ parts.Rest r → (more : List ℕ) →
+      header_ends number header s more ≡ []
   unfolding header_ends waits is_settled stage_of
   rest_none {r} is more =
       let stands = subst (Stands C answers number header s) is f.stands in
       rw (past_none C (answers number) number header s more (ap (λ z. waits (stage_of z)) stands.1))
-      (settled_none C (answers number) number header s more (ap (λ z. is_settled (stage_of z)) stands.1))
+      (settled_none C (answers number) number header s more
+      (ap (λ z. is_settled (stage_of z)) stands.1))
 
   -- after how many octets the correspondent is told
   pub padding_value : {body_type_id : BodyTypeId} → m.part ≡ parts.Padding body_type_id →
@@ -568,7 +676,8 @@ module _ {C : Table} {answers : Answers} {number : ℕ} {header : List ℕ} {m :
       let stands = subst (Stands C answers number header s) is f.stands in
       sym (ap (λ z. stage_told_after (stage_of z)) stands.1)
 
-  pub rest_value : {r : Rest} → m.part ≡ parts.Rest r → None ≡ told_after (signatures_of C (answers number)) header s
+  pub rest_value : {r : Rest} → m.part ≡ parts.Rest r →
+      None ≡ told_after (signatures_of C (answers number)) header s
   unfolding told_after stage_told_after stage_of
   rest_value {r} is =
       let stands = subst (Stands C answers number header s) is f.stands in

@@ -38,7 +38,8 @@ use Rattle.giop_decode.specs.DecoderState.{IsAnswer, IsFault}
 pub fault_is : (number place end : ℕ) (named : Bool) (kind : Kind) (r : Read) →
     IsAnswer end named (progress.Fault kind) r →
     fault_text number place r ≡ fault_line number (fault_word kind) place
-fault_is number place end named kind (Fault lines at why T) answer = ap (λ k. fault_line number (fault_word k) place) (sym answer.0)
+fault_is number place end named kind (Fault lines at why T) answer =
+    ap (λ k. fault_line number (fault_word k) place) (sym answer.0)
 fault_is number place end named kind r answer = absurd answer
 
 pub no_fault : (number place end : ℕ) (named : Bool) (p : Progress) (r : Read) →
@@ -48,7 +49,8 @@ no_fault number place end named p (Short lines at outer leaf) answer none = refl
 no_fault number place end named progress.More (Fault lines at why T) answer none = absurd answer
 no_fault number place end named progress.Named (Fault lines at why T) answer none = absurd answer
 no_fault number place end named progress.Done (Fault lines at why T) answer none = absurd answer
-no_fault number place end named (progress.Fault kind) (Fault lines at why T) answer none = absurd (none tt)
+no_fault number place end named (progress.Fault kind) (Fault lines at why T) answer none =
+    absurd (none tt)
 
 -- ---- calls
 
@@ -64,8 +66,10 @@ unnamed : (is : Bool) (lines : List Line) → names_operation true lines ≡ fal
     Each (λ l. ends_operation is l ≡ false) lines
 unnamed is [] e = tt
 unnamed is (l ∷ ls) e =
-    let b = or_both (ends_operation true l) (names_operation true ls) e in
-    (and_false is (is_member (codes "operation") l.path && ends_text l.value) b.0, unnamed is ls b.1)
+    let b = or_both (ends_operation true l) (names_operation true ls) e in (
+      and_false is (is_member (codes "operation") l.path && ends_text l.value) b.0,
+      unnamed is ls b.1,
+    )
 
 one_call : (number place offset at id : ℕ) (name : List ℕ) →
     message_line_text number (place + (at - offset)) (CallLine id name) ≡ call_line number id name
@@ -76,7 +80,8 @@ call_shown : (number place offset at id : ℕ) (name : List ℕ) (test : Bool) �
     message_lines_text number place offset (if test then line_at at (CallLine id name) ∷ [] else [])
     ≡ (if test then call_line number id name else [])
 unfolding message_lines_text line_at
-call_shown number place offset at id name true = append-nil _ ∙ one_call number place offset at id name
+call_shown number place offset at id name true =
+    append-nil _ ∙ one_call number place offset at id name
 call_shown number place offset at id name false = refl
 
 called_is : (number place offset at : ℕ) (id : Option ℕ) (name : Option (List ℕ)) →
@@ -84,14 +89,16 @@ called_is : (number place offset at : ℕ) (id : Option ℕ) (name : Option (Lis
 unfolding message_lines_text call_of called_text
 called_is number place offset at None name = refl
 called_is number place offset at (Some id) None = refl
-called_is number place offset at (Some id) (Some name) = call_shown number place offset at id name (is_shown name)
+called_is number place offset at (Some id) (Some name) =
+    call_shown number place offset at id name (is_shown name)
 
 -- the call of the line that ends an operation
 call_by : (is : Bool) (number place offset : ℕ) (l : Line) (h : Noted) →
     ends_operation true l ≡ true → message_lines_text number place offset (calls is l h)
     ≡ (if is then called_text number h.request_id h.name else [])
 unfolding calls message_lines_text
-call_by true number place offset l h e = rw e (called_is number place offset l.at h.request_id h.name)
+call_by true number place offset l h e =
+    rw e (called_is number place offset l.at h.request_id h.name)
 call_by false number place offset l h e = refl
 
 -- with one line that names it
@@ -114,9 +121,12 @@ muted : (lines : List Line) (st : Read) (l : Line) → NoEnds st ⊎ (ends_in_st
     lines_of st ≡ l ∷ [] → ends_operation true l ≡ true →
     noted_of true (ReadResult.with_front lines st) ≡ note true (noted true nothing_noted lines) l
 muted lines st l closed e ends =
-    let mute : ends_in_string (ReadResult.with_front lines st) ≡ false = front_inside lines st ∙ go closed in
-    ap (λ quiet. without_name_if quiet (noted true nothing_noted (lines_of (ReadResult.with_front lines st)))) mute
-    ∙ (ap (noted true nothing_noted) (lines_front lines st ∙ ap (λ ls. lines ++ ls) e) ∙ noted-append true nothing_noted lines (l ∷ []))
+    let mute : ends_in_string (ReadResult.with_front lines st) ≡ false =
+    front_inside lines st ∙ go closed in
+    ap (λ quiet. without_name_if quiet (noted true nothing_noted
+    (lines_of (ReadResult.with_front lines st)))) mute
+    ∙ (ap (noted true nothing_noted) (lines_front lines st ∙ ap (λ ls. lines ++ ls) e)
+    ∙ noted-append true nothing_noted lines (l ∷ []))
   where
     go : NoEnds st ⊎ (ends_in_string st ≡ false) → ends_in_string st ≡ false
     go (inr f) = f
@@ -159,10 +169,13 @@ unfolding request_call
 call_here number place offset header sections.Header before st n one closed named =
     let x = named_line n (lines_of st) one named in
     let now = note true (noted true nothing_noted before) x.0 in
-    ap (λ ls. message_lines_text number place offset (first_call roots.Header (is_request header) (noted true nothing_noted before) ls)) x.1
+    ap (λ ls. message_lines_text number place offset
+    (first_call roots.Header (is_request header) (noted true nothing_noted before) ls)) x.1
     ∙ (call_by (is_request header) number place offset x.0 now x.2
-    ∙ ap (λ h. if is_request header then called_text number h.request_id h.name else []) (sym (muted before st x.0 closed x.1 x.2)))
-call_here number place offset header section before st n one closed named = absurd (false≢true (sym (none_named (lines_of st)) ∙ named))
+    ∙ ap (λ h. if is_request header then called_text number h.request_id h.name else [])
+    (sym (muted before st x.0 closed x.1 x.2)))
+call_here number place offset header section before st n one closed named =
+    absurd (false≢true (sym (none_named (lines_of st)) ∙ named))
 
 done_is : (end : ℕ) (named : Bool) (st : Read) (lines : List Line) →
     decoders.IsAnswer end named progress.Done (ReadResult.with_front lines st) → done_test st ≡ true
@@ -189,13 +202,15 @@ named_is end named r answer = absurd answer
 sound_by : (w : Begun) (s octets : List ℕ) (i : Inside w s octets) →
     header_type (minor w.header) (kind w.header) ≡ Some w.T → FitsIn w.T i.outer i.leaf
 sound_by w s octets i found =
-    let reads = read_keeps 24 (plain (order w.header)) [] w.T (header_fit (minor w.header) (kind w.header) w.T found) (start w) octets in
+    let reads = read_keeps 24 (plain (order w.header)) [] w.T
+    (header_fit (minor w.header) (kind w.header) w.T found) (start w) octets in
     (subst (Sound w.T (start w + length octets)) i.was_short reads).1
 
 -- the encapsulations that are begun are of types of encapsulations
 holds_by : (w : Begun) (s octets : List ℕ) (i : Inside w s octets) → w.section ≡ sections.Header →
     AllHold i.outer
-holds_by w s octets i e = fits_hold i.outer w.T i.leaf (sound_by w s octets i (subst (λ x. IsFirst w.header x w.T w.before w.front) e i.first).0)
+holds_by w s octets i e = fits_hold i.outer w.T i.leaf
+    (sound_by w s octets i (subst (λ x. IsFirst w.header x w.T w.before w.front) e i.first).0)
 
 -- ---- an octet of a message
 
@@ -220,7 +235,8 @@ module _ (w : Begun) (s octets : List ℕ) (i : Inside w s octets) (b : ℕ) whe
 
   abbrev Call : ℕ → List ℕ
   Call place =
-      message_lines_text number place (12 + length s) (first_call R (may_call header section) (noted_before w s octets i b) (lines_of St))
+      message_lines_text number place (12 + length s)
+      (first_call R (may_call header section) (noted_before w s octets i b) (lines_of St))
 
   abbrev Due : ℕ → List ℕ
   Due place = due_text S number place header s (b ∷ [])
@@ -250,9 +266,11 @@ module _ (w : Begun) (s octets : List ℕ) (i : Inside w s octets) (b : ℕ) whe
               Each (λ l. ends_operation is l ≡ false) (lines_of St)
           of_header false r = never (lines_of St)
           of_header true r =
-              let found = subst (λ k. header_type (minor header) k ≡ Some T) (request_kind header r) first.0 in
+              let found = subst (λ k. header_type (minor header) k ≡ Some T) (request_kind header r)
+              first.0 in
               let ends = subst (λ o. IfSome o EndsOtherwise) found (request_ends (minor header)) in
-              last_no_call (plain (order header)) true T _ _ _ b ends (header_fit (minor header) (kind header) T first.0)
+              last_no_call (plain (order header)) true T _ _ _ b ends
+              (header_fit (minor header) (kind header) T first.0)
               (sound_by w s octets i first.0) done
       go section first = never (lines_of St)
 
@@ -260,12 +278,14 @@ module _ (w : Begun) (s octets : List ℕ) (i : Inside w s octets) (b : ℕ) whe
   joined_text : (place : ℕ) (fault call : List ℕ) → Wrongs place ≡ fault → Call place ≡ call →
       Due place ≡ Lines ++ (fault ++ call)
   joined_text place fault call is_fault is_call =
-      text_here w s octets i b place ∙ (append_assoc Lines (Wrongs place) (Call place) ∙ rw (is_fault, is_call) refl)
+      text_here w s octets i b place ∙ (append_assoc Lines (Wrongs place) (Call place)
+      ∙ rw (is_fault, is_call) refl)
 
   uncalled : (place : ℕ) → Silences → Call place ≡ []
   unfolding message_lines_text
   uncalled place each =
-      ap (message_lines_text number place (12 + length s)) (no_first R (may_call header section) (noted_before w s octets i b) (lines_of St) each)
+      ap (message_lines_text number place (12 + length s))
+      (no_first R (may_call header section) (noted_before w s octets i b) (lines_of St) each)
 
   -- any octet
   pub any_text : (place : ℕ) → Due place ≡ Lines ++ (Wrongs place ++ Call place)
@@ -274,8 +294,10 @@ module _ (w : Begun) (s octets : List ℕ) (i : Inside w s octets) (b : ℕ) whe
   -- one after which the section goes on
   pub more_text : Is progress.More → (place : ℕ) → Due place ≡ Lines
   more_text answer place =
-      let none = subst (λ ls. names_operation (is_header_root R) ls ≡ false) (lines_due w s octets i b) (more_unnamed End Names Behind answer) in
-      joined_text place [] [] (no_fault number (place + 1) End Names progress.More Behind answer (λ fault. fault))
+      let none = subst (λ ls. names_operation (is_header_root R) ls ≡ false)
+      (lines_due w s octets i b) (more_unnamed End Names Behind answer) in
+      joined_text place [] [] (no_fault number (place + 1) End Names progress.More Behind answer
+      (λ fault. fault))
       (uncalled place (unnamed_by header section (lines_of St) none))
       ∙ append-nil Lines
 
@@ -283,16 +305,20 @@ module _ (w : Begun) (s octets : List ℕ) (i : Inside w s octets) (b : ℕ) whe
   pub done_text : Is progress.Done → (place : ℕ) → Due place ≡ Lines ++ []
   done_text answer place =
       let is = subst (decoders.IsAnswer End Names progress.Done) (next_is w s octets i b) answer in
-      joined_text place [] [] (no_fault number (place + 1) End Names progress.Done Behind answer (λ fault. fault))
+      joined_text place [] [] (no_fault number (place + 1) End Names progress.Done Behind answer
+      (λ fault. fault))
       (uncalled place (ends_by (done_is End Names St i.lines is)))
 
   -- one that breaks a rule
   pub wrong_text : (why : Kind) → Is (progress.Fault why) → (place : ℕ) →
       Due place ≡ Lines ++ fault_line number (fault_word why) (place + 1)
   wrong_text why answer place =
-      let is = subst (decoders.IsAnswer End Names (progress.Fault why)) (next_is w s octets i b) answer in
-      let none = none_faulted (may_call header section) End Names why St i.lines is (added_none w s octets i b) in
-      joined_text place _ [] (fault_is number (place + 1) End Names why Behind answer) (uncalled place none)
+      let is = subst (decoders.IsAnswer End Names (progress.Fault why)) (next_is w s octets i b)
+      answer in
+      let none = none_faulted (may_call header section) End Names why St i.lines is
+      (added_none w s octets i b) in
+      joined_text place _ [] (fault_is number (place + 1) End Names why Behind answer)
+      (uncalled place none)
       ∙ ap (λ z. Lines ++ z) (append-nil _)
 
   -- one that ends an operation
@@ -303,8 +329,12 @@ module _ (w : Begun) (s octets : List ℕ) (i : Inside w s octets) (b : ℕ) whe
       Due place ≡ Lines ++ request_call number header (noted_of true Behind)
   named_text answer place =
       let now = added_now w s octets i b in
-      let named = subst (λ ls. names_operation (is_header_root R) ls ≡ true) (lines_due w s octets i b) (named_is End Names Behind answer) in
-      let closed = step_closed (plain (order header)) [] i.outer i.leaf _ b (holds_by w s octets i (named_in answer)) in
-      joined_text place [] _ (no_fault number (place + 1) End Names progress.Named Behind answer (λ fault. fault))
-      (call_here number place (12 + length s) header section i.lines St _ (one_of _ St now) closed named
+      let named = subst (λ ls. names_operation (is_header_root R) ls ≡ true)
+      (lines_due w s octets i b) (named_is End Names Behind answer) in
+      let closed = step_closed (plain (order header)) [] i.outer i.leaf _ b
+      (holds_by w s octets i (named_in answer)) in
+      joined_text place [] _ (no_fault number (place + 1) End Names progress.Named Behind answer
+      (λ fault. fault))
+      (call_here number place (12 + length s) header section i.lines St _ (one_of _ St now) closed
+      named
       ∙ ap (λ r. request_call number header (noted_of true r)) (sym (next_is w s octets i b)))

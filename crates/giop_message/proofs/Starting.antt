@@ -41,7 +41,8 @@ none_rests S header e = rw e refl
 -- or in the header
 pub header_first : (S : Signatures) (header : List ℕ) (T : Ty) →
     S.header (minor header) (kind header) ≡ Some T → message S header [] ≡ with_front []
-    (section_and_rest S header sections.Header nothing_noted (read (plain (order header)) [] T 12 []))
+    (section_and_rest S header sections.Header nothing_noted
+    (read (plain (order header)) [] T 12 []))
 unfolding message of_header
 header_first S header T e = rw (e, front_none) refl
 
@@ -64,7 +65,8 @@ pub front_pads : (before : List LineAt) (n : ℕ) (b : BodyType) →
     with_front before (ReadTo [] n (In_padding b)) ≡ ReadTo before n (In_padding b)
 front_pads before n b = front_comes before n (In_padding b)
 
--- a section that ends with no octet after it: in front of what follows there is padding, or there is none
+-- a section that ends with no octet after it: in front of what follows there is padding, or there
+-- is none
 by_tests : (S : Signatures) (header : List ℕ) (h : Noted) (n : ℕ) (has two some : Bool) →
     nat_lt 0 (padding n 8) ≡ some → (if has then
     (if two then padded S header (body_of S header h) n []
@@ -88,10 +90,12 @@ option_body S header (Some T) n = refl
 
 follows_by : (S : Signatures) (header : List ℕ) (section : Section) (h : Noted) (n : ℕ) →
     after S header section h n []
-    ≡ (if is_padded header section n then ReadTo [] n (In_padding (body_type_after S header section h))
+    ≡ (if is_padded header section n then ReadTo [] n
+    (In_padding (body_type_after S header section h))
     else body S header (body_type_after S header section h) n [])
 unfolding after_header after_exception body is_unaligned
-follows_by S header sections.Header h n = by_tests S header h n (has_body header) (minor header == 2) (nat_lt 0 (padding n 8)) refl
+follows_by S header sections.Header h n =
+    by_tests S header h n (has_body header) (minor header == 2) (nat_lt 0 (padding n 8)) refl
 follows_by S header sections.Exception h n = option_body S header (members_of S h.name) n
 follows_by S header sections.SystemException h n = refl
 follows_by S header sections.Body h n = refl
@@ -151,24 +155,29 @@ others_want S header h f g = rw (has_none header f g) refl
 
 -- the body of a Request, by the operation that it names
 pub named_body : (C : Table) (answer : Answer) (header : List ℕ) (n : Noted) → kind header ≡ 0 →
-    type_if (option_map (request_type C) (operation_of C header n)) ≡ request_body (signatures_of C answer) n.name
+    type_if (option_map (request_type C) (operation_of C header n))
+    ≡ request_body (signatures_of C answer) n.name
 unfolding operation_of signatures_of request_body type_if
 named_body C answer header n request = rw request (go n.name)
   where
-    go : (name : Option (List ℕ)) → type_if (option_map (request_type C) (option_and_then (operation_in C) name)) ≡ request_body (signatures_of C answer) name
+    go : (name : Option (List ℕ)) → type_if
+        (option_map (request_type C) (option_and_then (operation_in C) name))
+        ≡ request_body (signatures_of C answer) name
     go None = refl
     go (Some name) = refl
 
 -- What follows a section depends on what the ids answer after a header alone.
 pub wanted_agree : (C : Table) (a b : Answer) (header : List ℕ) (section : Section) (h : Noted) →
     (is_header section ≡ true → a ≡ b) →
-    body_type_after (signatures_of C a) header section h ≡ body_type_after (signatures_of C b) header section h
+    body_type_after (signatures_of C a) header section h
+    ≡ body_type_after (signatures_of C b) header section h
 unfolding signatures_of members_of
 wanted_agree C a b header sections.Header h same =
     ap (λ (x : Answer). body_type_after (signatures_of C x) header sections.Header h) (same refl)
 wanted_agree C a b header sections.Exception h same = go h.name
   where
-    go : (name : Option (List ℕ)) → type_if (members_of (signatures_of C a) name) ≡ type_if (members_of (signatures_of C b) name)
+    go : (name : Option (List ℕ)) → type_if (members_of (signatures_of C a) name)
+        ≡ type_if (members_of (signatures_of C b) name)
     go None = refl
     go (Some name) = refl
 wanted_agree C a b header sections.SystemException h same = refl

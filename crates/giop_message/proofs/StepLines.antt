@@ -74,7 +74,11 @@ module _ (n : ℕ) (path : List PathSegment) where
       OneSays (with_front (l ∷ []) r)
   front_says l r of no_end one =
       let alone = go (lines_of r) (rw lines_front at one) in
-      record { are = rw (lines_front, alone) (of, tt); firm = inl (rw (lines_front, alone) (no_end, tt)) }
+      record {
+        are = rw (lines_front, alone) (of, tt);
+        firm =
+            inl (rw (lines_front, alone) (no_end, tt));
+      }
     where
       go : (ls : List Line) → OneAt n (l ∷ ls) → ls ≡ []
       go [] h = refl
@@ -89,42 +93,53 @@ module _ (n : ℕ) (path : List PathSegment) where
   last_says T total offset (Partial piece at) = bare _ refl
   last_says T total offset (Complete xs at rest) =
       let v = Piece T offset (take (total - offset) xs) false in
-      unless_says T (ends T (total - offset) xs) at (Done (line at path v ∷ []) at rest) (done_says v at rest)
+      unless_says T (ends T (total - offset) xs) at (Done (line at path v ∷ []) at rest)
+      (done_says v at rest)
 
   full_says : (T : Ty) (total offset : ℕ) (next : ℕ → List ℕ → Read) (g : Block) →
       OneSays (full_piece T path total offset next g)
   full_says T total offset next (Partial piece at) = bare _ refl
   full_says T total offset next (Complete xs at rest) =
-      front_says (line at path (Piece T offset xs true)) (next at rest) (at_path path at _) (more_no_end T offset xs)
+      front_says (line at path (Piece T offset xs true)) (next at rest) (at_path path at _)
+      (more_no_end T offset xs)
 
   content_says : (T : Ty) (total full offset at : ℕ) (s : List ℕ) →
       OneSays (content T path total full offset at s)
-  content_says T total zero offset at s = last_says T total offset (block (total - offset + tail T) at s)
-  content_says T total (suc full) offset at s = full_says T total offset (content T path total full (offset + 32)) (block 32 at s)
+  content_says T total zero offset at s =
+      last_says T total offset (block (total - offset + tail T) at s)
+  content_says T total (suc full) offset at s =
+      full_says T total offset (content T path total full (offset + 32)) (block 32 at s)
 
   -- what follows a number
   after_says : (coding : Coding) (T : Ty) (k at : ℕ) (s : List ℕ) →
       OneSays (after coding path T k at s)
   after_says coding (Single scalar) k at s =
-      unless_says (Single scalar) (wrong scalar k) at (Done (line at path (ReadResult.Number scalar k) ∷ []) at s) (done_says _ at s)
+      unless_says (Single scalar) (wrong scalar k) at
+      (Done (line at path (ReadResult.Number scalar k) ∷ []) at s) (done_says _ at s)
   after_says coding (Text bound) zero at s = done_says (Piece (Text bound) 0 [] false) at s
   after_says coding (Text bound) (suc k) at s =
-      unless_says (Text bound) (over bound k) at _ (content_says (Text bound) k (full_pieces k) 0 at s)
+      unless_says (Text bound) (over bound k) at _
+      (content_says (Text bound) k (full_pieces k) 0 at s)
   after_says coding (Octets bound) k at s =
-      unless_says (Octets bound) (over bound k) at _ (content_says (Octets bound) k (full_pieces k) 0 at s)
+      unless_says (Octets bound) (over bound k) at _
+      (content_says (Octets bound) k (full_pieces k) 0 at s)
   after_says coding (Struct count names parts) k at s = bare _ refl
   after_says coding (Array count T) k at s = bare _ refl
   after_says coding (Sequence bound T) k at s =
-      unless_says (Sequence bound T) (over bound k) at _ (front_says (line at path (Count k)) _ (at_path path at (Count k)) refl)
+      unless_says (Sequence bound T) (over bound k) at _
+      (front_says (line at path (Count k)) _ (at_path path at (Count k)) refl)
   after_says coding (Union choice scalar select names cases) k at s =
       let T = Union choice scalar select names cases in
       let tag = tag_of choice names in
-      let says = front_says (line at (path ++ Switch tag ∷ []) (ReadResult.Number scalar k)) _ (record { stands = inr (tag, refl) }) refl in
+      let says = front_says (line at (path ++ Switch tag ∷ []) (ReadResult.Number scalar k)) _
+      (record { stands = inr (tag, refl) }) refl in
       unless_says T (wrong scalar k) at _ (unless_says T (refused (select k)) at _ says)
-  after_says coding (Encapsulation T) k at s = front_says (line at path (Size k)) _ (at_path path at (Size k)) refl
+  after_says coding (Encapsulation T) k at s =
+      front_says (line at path (Size k)) _ (at_path path at (Size k)) refl
 
   headed_says : (coding : Coding) (T : Ty) (g : Block) →
-      OneSays (after_leading_number T (λ xs at rest. after coding path T (num coding.order xs) at rest) g)
+      OneSays (after_leading_number T (λ xs at rest.
+      after coding path T (num coding.order xs) at rest) g)
   headed_says coding T (Partial carry at) = bare _ refl
   headed_says coding T (Complete xs at rest) = after_says coding T (num coding.order xs) at rest
 
@@ -136,10 +151,12 @@ module _ (n : ℕ) (path : List PathSegment) where
     where
       go : (order : Option Order) → OneSays (ordered path T (held path T) origin k order at rest)
       go None = bare _ refl
-      go (Some order) = front_says (line at path (Ordered order)) _ (at_path path at (Ordered order)) refl
+      go (Some order) = front_says (line at path (Ordered order)) _
+          (at_path path at (Ordered order)) refl
 
   leaf_one : (coding : Coding) (leaf : Leaf) (at b : ℕ) → OneSays (leaf_step coding path leaf at b)
-  leaf_one coding (LeadingNumber T carry) at b = headed_says coding T (number_step coding.origin (leading_width T) at carry b)
+  leaf_one coding (LeadingNumber T carry) at b =
+      headed_says coding T (number_step coding.origin (leading_width T) at carry b)
   leaf_one coding (Opening T k) at b = opening_says T at k (block_step 1 at [] b)
   leaf_one coding (Content T total offset piece) at b = go (ltb 32 (total - offset))
     where
@@ -155,7 +172,8 @@ module _ (n : ℕ) (path : List PathSegment) where
 pub leaf_says : (coding : Coding) (path : List PathSegment) (leaf : Leaf) (at b : ℕ) →
     Says path (leaf_step coding path leaf at b)
 leaf_says coding path leaf at b =
-    leaf_one (at + 1) path coding leaf at b (one_of (at + 1) (leaf_step coding path leaf at b) (step_now coding path [] leaf at b))
+    leaf_one (at + 1) path coding leaf at b
+    (one_of (at + 1) (leaf_step coding path leaf at b) (step_now coding path [] leaf at b))
 
 -- ---- the parts around it have no line
 
@@ -166,9 +184,11 @@ quiet_bare n _ k = k.0
 -- lines, and then a reading that has none
 lines_alone : (n : ℕ) (lines : List Line) (r : Read) → IsEmptyResult n r →
     lines_of (with_front lines r) ≡ lines
-lines_alone n lines r k = lines_front lines r ∙ (ap (λ ls. lines ++ ls) (quiet_bare n r k) ∙ append-nil lines)
+lines_alone n lines r k = lines_front lines r
+    ∙ (ap (λ ls. lines ++ ls) (quiet_bare n r k) ∙ append-nil lines)
 
-lines_followed : (n : ℕ) (r : Read) (next : ℕ → List ℕ → Read) → IsOctetResult n r → IsEmptyResult n (next n []) →
+lines_followed : (n : ℕ) (r : Read) (next : ℕ → List ℕ → Read) → IsOctetResult n r →
+    IsEmptyResult n (next n []) →
     lines_of (followed r next) ≡ lines_of r
 lines_followed n (Done lines at rest) next h k = rw (h.1, h.2) (lines_alone n lines (next n []) k)
 lines_followed n r next h k = refl
@@ -180,7 +200,8 @@ lines_within place r = refl
 lines_enclosed : (n : ℕ) (path : List PathSegment) (T : Ty) (inner : Coding) (end : ℕ) (r : Read) →
     IsOctetResult n r → lines_of (enclosed path T inner end r []) ≡ lines_of r
 lines_enclosed n path T inner end (Done lines at rest) h =
-    rw (h.1, h.2) (lines_alone n lines (rest_of path T (end - n) n []) (rest_quiet n path T (end - n)))
+    rw (h.1, h.2) (lines_alone n lines (rest_of path T (end - n) n [])
+    (rest_quiet n path T (end - n)))
 lines_enclosed n path T inner end (Short lines at outer leaf) h = go (ltb at end)
   where
     go : (test : Bool) → lines_of (cond test (Short lines at (Inside T inner end ∷ outer) leaf)
@@ -189,25 +210,31 @@ lines_enclosed n path T inner end (Short lines at outer leaf) h = go (ltb at end
     go false = refl
 lines_enclosed n path T inner end (Fault lines at why S) h = refl
 
-lines_step : (coding : Coding) (path : List PathSegment) (outer : List OpenPart) (leaf : Leaf) (at b : ℕ) →
+lines_step : (coding : Coding) (path : List PathSegment) (outer : List OpenPart) (leaf : Leaf)
+    (at b : ℕ) →
     lines_of (step coding path outer leaf at b)
     ≡ lines_of (leaf_step (coding_in coding outer) (path_in path outer) leaf at b)
 lines_step coding path [] leaf at b = refl
 lines_step coding path (Part T i count ∷ outer) leaf at b =
     let inner = step coding (path ++ segment_of T i ∷ []) outer leaf at b in
-    lines_followed (at + 1) (within (Part T i count) inner) (parts_from (part_at coding path T count) (count - suc i) (suc i))
-    (now_within (at + 1) (Part T i count) inner (step_now coding (path ++ segment_of T i ∷ []) outer leaf at b))
+    lines_followed (at + 1) (within (Part T i count) inner)
+    (parts_from (part_at coding path T count) (count - suc i) (suc i))
+    (now_within (at + 1) (Part T i count) inner
+    (step_now coding (path ++ segment_of T i ∷ []) outer leaf at b))
     (parts_quiet coding path T count (at + 1) (count - suc i) (suc i))
-    ∙ (lines_within (Part T i count) inner ∙ lines_step coding (path ++ segment_of T i ∷ []) outer leaf at b)
+    ∙ (lines_within (Part T i count) inner
+    ∙ lines_step coding (path ++ segment_of T i ∷ []) outer leaf at b)
 lines_step coding path (Member T i ∷ outer) leaf at b =
-    lines_within (Member T i) (step coding (path ++ segment_of T i ∷ []) outer leaf at b) ∙ lines_step coding (path ++ segment_of T i ∷ []) outer leaf at b
+    lines_within (Member T i) (step coding (path ++ segment_of T i ∷ []) outer leaf at b)
+    ∙ lines_step coding (path ++ segment_of T i ∷ []) outer leaf at b
 lines_step coding path (Inside T inner end ∷ outer) leaf at b =
     let r = step inner (path ++ Held ∷ []) outer leaf at b in
     lines_enclosed (at + 1) path T inner end r (step_now inner (path ++ Held ∷ []) outer leaf at b)
     ∙ lines_step inner (path ++ Held ∷ []) outer leaf at b
 
 -- The lines of a step are of its innermost part.
-pub step_of : (coding : Coding) (path : List PathSegment) (outer : List OpenPart) (leaf : Leaf) (at b : ℕ) →
+pub step_of : (coding : Coding) (path : List PathSegment) (outer : List OpenPart) (leaf : Leaf)
+    (at b : ℕ) →
     AreOf (path_in path outer) (step coding path outer leaf at b)
 step_of coding path outer leaf at b =
     subst (λ ls. Each (IsOf (path_in path outer)) ls) (sym (lines_step coding path outer leaf at b))

@@ -40,34 +40,48 @@ said _ octets e = ap (λ (xs : List ℕ). get_or xs 0 0) e.is
 pub nothing_again : (body_type_id : BodyTypeId) (octets : List ℕ) → IsPaddingOf octets body_type_id
     → get_or octets 0 0 ≡ 0 → body_type_ids.Nothing ≡ body_type_id
 nothing_again body_type_ids.Nothing octets e first = refl
-nothing_again (body_type_ids.Type of) octets e first = absurd (omega (arith, said (body_type_ids.Type of) octets e))
-nothing_again body_type_ids.Exception octets e first = absurd (omega (arith, said body_type_ids.Exception octets e))
-nothing_again body_type_ids.SystemException octets e first = absurd (omega (arith, said body_type_ids.SystemException octets e))
+nothing_again (body_type_ids.Type of) octets e first =
+    absurd (omega (arith, said (body_type_ids.Type of) octets e))
+nothing_again body_type_ids.Exception octets e first =
+    absurd (omega (arith, said body_type_ids.Exception octets e))
+nothing_again body_type_ids.SystemException octets e first =
+    absurd (omega (arith, said body_type_ids.SystemException octets e))
 
-pub type_again : (body_type_id : BodyTypeId) (octets : List ℕ) (n : ℕ) → IsPaddingOf octets body_type_id
+pub type_again : (body_type_id : BodyTypeId) (octets : List ℕ) (n : ℕ) →
+    IsPaddingOf octets body_type_id
     → get_or octets 0 0 ≡ 1
     → ((m : ℕ) (rest : List ℕ) → m < 2 ^ 32 → drop 1 octets ≡ four m ++ rest → n ≡ m)
     → body_type_ids.Type (record { 0 = n }) ≡ body_type_id
 unfolding padding_octets
-type_again body_type_ids.Nothing octets n e first number = absurd (omega (arith, said body_type_ids.Nothing octets e))
+type_again body_type_ids.Nothing octets n e first number =
+    absurd (omega (arith, said body_type_ids.Nothing octets e))
 type_again (body_type_ids.Type of) octets n e first number =
     rw (number of.0 (replicate 203 0) e.range (ap (drop 1) e.is)) refl
-type_again body_type_ids.Exception octets n e first number = absurd (omega (arith, said body_type_ids.Exception octets e))
-type_again body_type_ids.SystemException octets n e first number = absurd (omega (arith, said body_type_ids.SystemException octets e))
+type_again body_type_ids.Exception octets n e first number =
+    absurd (omega (arith, said body_type_ids.Exception octets e))
+type_again body_type_ids.SystemException octets n e first number =
+    absurd (omega (arith, said body_type_ids.SystemException octets e))
 
-pub exception_again : (body_type_id : BodyTypeId) (octets : List ℕ) → IsPaddingOf octets body_type_id
+pub exception_again : (body_type_id : BodyTypeId) (octets : List ℕ) →
+    IsPaddingOf octets body_type_id
     → get_or octets 0 0 ≡ 2 → body_type_ids.Exception ≡ body_type_id
-exception_again body_type_ids.Nothing octets e first = absurd (omega (arith, said body_type_ids.Nothing octets e))
-exception_again (body_type_ids.Type of) octets e first = absurd (omega (arith, said (body_type_ids.Type of) octets e))
+exception_again body_type_ids.Nothing octets e first =
+    absurd (omega (arith, said body_type_ids.Nothing octets e))
+exception_again (body_type_ids.Type of) octets e first =
+    absurd (omega (arith, said (body_type_ids.Type of) octets e))
 exception_again body_type_ids.Exception octets e first = refl
-exception_again body_type_ids.SystemException octets e first = absurd (omega (arith, said body_type_ids.SystemException octets e))
+exception_again body_type_ids.SystemException octets e first =
+    absurd (omega (arith, said body_type_ids.SystemException octets e))
 
 pub system_again : (body_type_id : BodyTypeId) (octets : List ℕ) → IsPaddingOf octets body_type_id
     → get_or octets 0 0 ≢ 0 → get_or octets 0 0 ≢ 1 → get_or octets 0 0 ≢ 2
     → body_type_ids.SystemException ≡ body_type_id
-system_again body_type_ids.Nothing octets e none type exception = absurd (none (said body_type_ids.Nothing octets e))
-system_again (body_type_ids.Type of) octets e none type exception = absurd (type (said (body_type_ids.Type of) octets e))
-system_again body_type_ids.Exception octets e none type exception = absurd (exception (said body_type_ids.Exception octets e))
+system_again body_type_ids.Nothing octets e none type exception =
+    absurd (none (said body_type_ids.Nothing octets e))
+system_again (body_type_ids.Type of) octets e none type exception =
+    absurd (type (said (body_type_ids.Type of) octets e))
+system_again body_type_ids.Exception octets e none type exception =
+    absurd (exception (said body_type_ids.Exception octets e))
 system_again body_type_ids.SystemException octets e none type exception = refl
 
 -- ---- a rest
@@ -75,11 +89,13 @@ system_again body_type_ids.SystemException octets e none type exception = refl
 pub rest_front : (octets : List ℕ) (r : Rest) → IsRestOf octets r
     → drop 0 octets ≡ eight r.offset ++ (held 32 r.held.items ++ replicate 167 0)
 unfolding rest_octets
-rest_front octets r e = e.is ∙ append_assoc (eight r.offset) (held 32 r.held.items) (replicate 167 0)
+rest_front octets r e = e.is ∙ append_assoc (eight r.offset) (held 32 r.held.items)
+    (replicate 167 0)
 
 pub rest_held : (octets : List ℕ) (r : Rest) → IsRestOf octets r
     → drop 8 octets ≡ held 32 r.held.items ++ replicate 167 0
-rest_held octets r e = behind 0 8 octets (eight r.offset) _ (rest_front octets r e) (eight_long r.offset)
+rest_held octets r e = behind 0 8 octets (eight r.offset) _ (rest_front octets r e)
+    (eight_long r.offset)
 
 pub same_octets : (q r : Rest) → IsSameRest q r → rest_octets q ≡ rest_octets r
 unfolding rest_octets
@@ -193,6 +209,8 @@ stands_on C answers number header s (parts.Typed section d) (parts.Typed other e
       first = is.first;
       reads = on.1.reads _ _ _ _ _ _ is.reads;
     }
-stands_on C answers number header s (parts.Padding body_type_id) (parts.Padding other) on is = rw on is
-stands_on C answers number header s (parts.Rest r) (parts.Rest other) on is = rw (on.offset, on.held) is
+stands_on C answers number header s (parts.Padding body_type_id) (parts.Padding other) on is =
+    rw on is
+stands_on C answers number header s (parts.Rest r) (parts.Rest other) on is =
+    rw (on.offset, on.held) is
 stands_on C answers number header s p q on is = absurd on

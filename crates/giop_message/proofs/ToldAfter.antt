@@ -34,7 +34,8 @@ named_none h (Done lines at s) e = absurd e
 named_none h (Short lines at outer leaf) e = refl
 named_none h (Fault lines at why T) e = refl
 
-ends_none : (number : ℕ) (header : List ℕ) (o : Option Noted) → ends_between number header o None ≡ []
+ends_none : (number : ℕ) (header : List ℕ) (o : Option Noted) →
+    ends_between number header o None ≡ []
 ends_none number header None = refl
 ends_none number header (Some h) = refl
 
@@ -61,8 +62,10 @@ settled_past (In_rest offset held) e = refl
 settled_past Over e = refl
 
 module _ (S : Signatures) (header : List ℕ) where
-  section_past : (section : Section) → is_header section ≡ false → (next : Noted → ℕ → List ℕ → Message) →
-      ((h : Noted) (at : ℕ) (s : List ℕ) → is_settled (stage_of (next h at s)) ≡ true) → (r : Read) →
+  section_past : (section : Section) → is_header section ≡ false →
+      (next : Noted → ℕ → List ℕ → Message) →
+      ((h : Noted) (at : ℕ) (s : List ℕ) → is_settled (stage_of (next h at s)) ≡ true) →
+      (r : Read) →
       heads_here (stage_of (section_then section false next nothing_noted r)) ≡ false
   unfolding section_then stage_of heads_here
   section_past section other next settled (Done lines at s) =
@@ -70,16 +73,20 @@ module _ (S : Signatures) (header : List ℕ) where
   section_past section other next settled (Short lines at outer leaf) = other
   section_past section other next settled (Fault lines at why T) = refl
 
-  body_past : (b : BodyType) (at : ℕ) (s : List ℕ) → heads_here (stage_of (body S header b at s)) ≡ false
+  body_past : (b : BodyType) (at : ℕ) (s : List ℕ) →
+      heads_here (stage_of (body S header b at s)) ≡ false
   unfolding body
   body_past Untyped at s = settled_past _ (rest_settled at s)
   body_past (Typed T) at s = settled_past _ (typed_settled header T at s)
   body_past UserException at s =
-      section_past sections.Exception refl (after_exception S header) (members_settled header S) (read (plain (order header)) [] S.exception_id at s)
+      section_past sections.Exception refl (after_exception S header) (members_settled header S)
+      (read (plain (order header)) [] S.exception_id at s)
   body_past SystemException at s =
-      section_past sections.SystemException refl (λ h. rest) (λ h. rest_settled) (read (plain (order header)) [] S.system_exception at s)
+      section_past sections.SystemException refl (λ h. rest) (λ h. rest_settled)
+      (read (plain (order header)) [] S.system_exception at s)
 
-  padded_past : (b : BodyType) (at : ℕ) (s : List ℕ) → heads_here (stage_of (padded S header b at s)) ≡ false
+  padded_past : (b : BodyType) (at : ℕ) (s : List ℕ) →
+      heads_here (stage_of (padded S header b at s)) ≡ false
   unfolding padded stage_of heads_here
   padded_past b at s = go (nat_lt (length s) (padding at 8))
     where
@@ -88,12 +95,14 @@ module _ (S : Signatures) (header : List ℕ) where
       go true = refl
       go false = body_past b (at + padding at 8) (drop (padding at 8) s)
 
-  header_past : (h : Noted) (at : ℕ) (s : List ℕ) → heads_here (stage_of (after_header S header h at s)) ≡ false
+  header_past : (h : Noted) (at : ℕ) (s : List ℕ) →
+      heads_here (stage_of (after_header S header h at s)) ≡ false
   unfolding after_header
   header_past h at s = go (has_body header) (minor header == 2)
     where
       go : (has two : Bool) → heads_here (stage_of (if has
-          then (if two then padded S header (body_of S header h) at s else body S header (body_of S header h) at s)
+          then (if two then padded S header (body_of S header h) at s else body S header
+          (body_of S header h) at s)
           else rest at s)) ≡ false
       go true true = padded_past (body_of S header h) at s
       go true false = body_past (body_of S header h) at s
@@ -101,46 +110,59 @@ module _ (S : Signatures) (header : List ℕ) where
 
 -- ---- in a header
 
-header_unended : (S : Signatures) (header : List ℕ) (T : Ty) (s more : List ℕ) (n : ℕ) → length more < n → (r : Read) →
+header_unended : (S : Signatures) (header : List ℕ) (T : Ty) (s more : List ℕ) (n : ℕ) →
+    length more < n → (r : Read) →
     read (plain (order header)) [] T 12 s ≡ r →
-    heads_here (stage_of (section_then sections.Header (is_request header) (after_header S header) nothing_noted r)) ≡ true →
-    stage_told_after (stage_of (section_then sections.Header (is_request header) (after_header S header) nothing_noted r)) ≡ Some n →
+    heads_here (stage_of (section_then sections.Header (is_request header) (after_header S header)
+    nothing_noted r)) ≡ true →
+    stage_told_after (stage_of (section_then sections.Header (is_request header)
+    (after_header S header) nothing_noted r)) ≡ Some n →
     noted_if_whole (read (plain (order header)) [] T 12 (s ++ more)) ≡ None
 unfolding section_then stage_of heads_here stage_told_after left_in
 header_unended S header T s more n few (Done lines at z) is here e =
-    absurd (false≢true (sym (ap heads_here (stage_front _ (after_header S header _ at z)) ∙ header_past S header _ at z) ∙ here))
+    absurd (false≢true (sym (ap heads_here (stage_front _ (after_header S header _ at z))
+    ∙ header_past S header _ at z) ∙ here))
 header_unended S header T s more n few (Short lines at outer leaf) is here e =
     let same : octets_left leaf ≡ n = cc in
-    whole_none _ (read_unended (plain (order header)) [] T 12 s more (subst (λ r. length more < left_in r) (sym is) (rw same few)))
+    whole_none _ (read_unended (plain (order header)) [] T 12 s more
+    (subst (λ r. length more < left_in r) (sym is) (rw same few)))
 header_unended S header T s more n few (Fault lines at why U) is here e = absurd (false≢true here)
 
-header_by : (S : Signatures) (header : List ℕ) (found : Option Ty) (s more : List ℕ) (n : ℕ) → length more < n →
-    heads_here (stage_of (of_header S header found 12 s)) ≡ true → stage_told_after (stage_of (of_header S header found 12 s)) ≡ Some n →
+header_by : (S : Signatures) (header : List ℕ) (found : Option Ty) (s more : List ℕ) (n : ℕ) →
+    length more < n →
+    heads_here (stage_of (of_header S header found 12 s)) ≡ true →
+    stage_told_after (stage_of (of_header S header found 12 s)) ≡ Some n →
     noted_by_type header found (s ++ more) ≡ None
 unfolding of_header
 header_by S header None s more n few here e = refl
-header_by S header (Some T) s more n few here e = header_unended S header T s more n few (read (plain (order header)) [] T 12 s) refl here e
+header_by S header (Some T) s more n few here e =
+    header_unended S header T s more n few (read (plain (order header)) [] T 12 s) refl here e
 
 header_comes : (C : Table) (answer : Answer) (header s more : List ℕ) (n : ℕ) → length more < n →
     heads_here (stage_of (message (signatures_of C answer) header s)) ≡ true →
-    stage_told_after (stage_of (message (signatures_of C answer) header s)) ≡ Some n → header_noted header (s ++ more) ≡ None
+    stage_told_after (stage_of (message (signatures_of C answer) header s)) ≡ Some n →
+    header_noted header (s ++ more) ≡ None
 unfolding header_noted message signatures_of
 header_comes C answer header s more n few here e =
-    header_by (signatures_of C answer) header (header_type (minor header) (kind header)) s more n few here e
+    header_by (signatures_of C answer) header (header_type (minor header) (kind header)) s more n
+    few here e
 
 -- ---- in what has the name of an exception
 
-tail_comes : (header : List ℕ) (at : ℕ) (more : List ℕ) (n : ℕ) → length more < n → (g : Stage) → raises_here g ≡ true →
+tail_comes : (header : List ℕ) (at : ℕ) (more : List ℕ) (n : ℕ) → length more < n → (g : Stage) →
+    raises_here g ≡ true →
     stage_told_after g ≡ Some n → tail_name header at more g ≡ None
 unfolding raises_here stage_told_after tail_name
-tail_comes header at more n few (In_typed sections.Header h outer leaf) here e = absurd (false≢true here)
+tail_comes header at more n few (In_typed sections.Header h outer leaf) here e =
+    absurd (false≢true here)
 tail_comes header at more n few (In_typed sections.Exception h outer leaf) here e =
     let same : octets_left leaf ≡ n = cc in
     named_none h _ (resumes_unended (plain (order header)) [] at outer leaf more (rw same few))
 tail_comes header at more n few (In_typed sections.SystemException h outer leaf) here e =
     let same : octets_left leaf ≡ n = cc in
     named_none h _ (resumes_unended (plain (order header)) [] at outer leaf more (rw same few))
-tail_comes header at more n few (In_typed sections.Body h outer leaf) here e = absurd (false≢true here)
+tail_comes header at more n few (In_typed sections.Body h outer leaf) here e =
+    absurd (false≢true here)
 tail_comes header at more n few (In_padding b) here e = absurd (false≢true here)
 tail_comes header at more n few (In_rest offset held) here e = absurd (false≢true here)
 tail_comes header at more n few Over here e = absurd (false≢true here)
@@ -155,28 +177,39 @@ module _ (C : Table) (answer : Answer) (number : ℕ) (header s more : List ℕ)
   abbrev g : Stage
   g = stage_of (message (signatures_of C answer) header s)
 
-  in_header : length more < n → heads_here g ≡ true → stage_told_after g ≡ Some n → header_ends number header s more ≡ []
+  in_header : length more < n → heads_here g ≡ true → stage_told_after g ≡ Some n →
+      header_ends number header s more ≡ []
   unfolding header_ends
   in_header few here e =
       let later = header_comes C answer header s more n few here e in
-      rw (later, raised_before header (s ++ more) later, ends_none number header (header_noted header s))
+      rw (
+        later,
+        raised_before header (s ++ more) later,
+        ends_none number header (header_noted header s),
+      )
       (raises_none number (raised header s))
 
-  in_name : length more < n → raises_here g ≡ true → waits g ≡ false → stage_told_after g ≡ Some n → header_ends number header s more ≡ []
+  in_name : length more < n → raises_here g ≡ true → waits g ≡ false → stage_told_after g ≡ Some n →
+      header_ends number header s more ≡ []
   unfolding header_ends
   in_name few here past e =
-      let later = raised_inside C answer header s more here ∙ tail_comes header _ more n few g here e in
-      rw (past_none C answer number header s more past, later) (raises_none number (raised header s))
+      let later = raised_inside C answer header s more here
+      ∙ tail_comes header _ more n few g here e in
+      rw (past_none C answer number header s more past, later)
+      (raises_none number (raised header s))
 
   -- Before then neither a header nor a name ends.
-  pub nothing_told_before : told_after (signatures_of C answer) header s ≡ Some n → length more < n → header_ends number header s more ≡ []
+  pub nothing_told_before : told_after (signatures_of C answer) header s ≡ Some n →
+      length more < n → header_ends number header s more ≡ []
   unfolding told_after stage_told_after heads_here raises_here waits
   nothing_told_before e few = go g refl e
     where
       go : (h : Stage) → g ≡ h → stage_told_after h ≡ Some n → header_ends number header s more ≡ []
       go (In_typed sections.Header h outer leaf) is k = in_header few (ap heads_here is) e
-      go (In_typed sections.Exception h outer leaf) is k = in_name few (ap raises_here is) (ap waits is) e
-      go (In_typed sections.SystemException h outer leaf) is k = in_name few (ap raises_here is) (ap waits is) e
+      go (In_typed sections.Exception h outer leaf) is k =
+          in_name few (ap raises_here is) (ap waits is) e
+      go (In_typed sections.SystemException h outer leaf) is k =
+          in_name few (ap raises_here is) (ap waits is) e
       go (In_typed sections.Body h outer leaf) is k = absurd cc
       go (In_padding b) is k =
           let one : 1 ≡ n = cc in
@@ -187,9 +220,11 @@ module _ (C : Table) (answer : Answer) (number : ℕ) (header s more : List ℕ)
 -- ---- a message that is no Reply
 
 -- the correspondent is told of no Reply
-pub others_silent : (number : ℕ) (header s more : List ℕ) → (kind header == 1) ≡ false → AreSilent (header_ends number header s more)
+pub others_silent : (number : ℕ) (header s more : List ℕ) → (kind header == 1) ≡ false →
+    AreSilent (header_ends number header s more)
 unfolding header_ends raised
-others_silent number header s more other = rw other (go (header_noted header s) (header_noted header (s ++ more)))
+others_silent number header s more other =
+    rw other (go (header_noted header s) (header_noted header (s ++ more)))
   where
     go : (o q : Option Noted) → AreSilent (ends_between number header o q ++ [])
     go (Some h) q = tt

@@ -1,4 +1,5 @@
--- Where the header of a message ends, where the name of an exception that a Reply raises does, and what the correspondent,
+-- Where the header of a message ends, where the name of an exception that a Reply raises does, and
+-- what the correspondent,
 -- the other side of the conversation, is told there (meaning).
 use Rattle.std.specs.Prelude.{◌≡◌, ◌<◌, ℕ, Bool, true, false, List, [], ◌∷◌, ◌++◌, length, Option, Some, None, IfSome, option_and_then, option_map, ◌==◌, ◌+◌, nat_lt, drop, if◌then◌else◌}
 use Rattle.giop_sig.specs.declared.types.OpId.{OpId}
@@ -36,7 +37,8 @@ abbrev pub noted_by_type : List ℕ → Option Ty → List ℕ → Option Noted
 noted_by_type header None s = None
 noted_by_type header (Some T) s = noted_if_whole (read (plain (order header)) [] T 12 s)
 
--- what is noted of a message's header once it is complete, by the octets `s` that follow the 12 of `header`
+-- what is noted of a message's header once it is complete, by the octets `s` that follow the 12 of
+-- `header`
 unfoldable pub header_noted : List ℕ → List ℕ → Option Noted
 header_noted header s = noted_by_type header (header_type (minor header) (kind header)) s
 
@@ -47,7 +49,8 @@ ends_between number header None (Some n) = Header_end number header n ∷ []
 
 -- ---- what a Reply raises
 
--- the name that a whole reading has, after what was noted before: the last string, where that has at most 128 octets
+-- the name that a whole reading has, after what was noted before: the last string, where that has
+-- at most 128 octets
 abbrev pub named_if_whole : Noted → Read → Option (List ℕ)
 named_if_whole h (Done lines at s) = (noted false h lines).name
 named_if_whole h (Short lines at outer leaf) = None
@@ -56,23 +59,28 @@ named_if_whole h (Fault lines at why T) = None
 -- by the type that has the name, where there is one
 abbrev pub named_by_type : List ℕ → Option Ty → ℕ → List ℕ → Option (List ℕ)
 named_by_type header None at s = None
-named_by_type header (Some T) at s = named_if_whole nothing_noted (read (plain (order header)) [] T at s)
+named_by_type header (Some T) at s = named_if_whole nothing_noted
+    (read (plain (order header)) [] T at s)
 
 -- after a header that ends at this offset: in 1.2 a body begins at the next multiple of 8
 abbrev pub named_behind : List ℕ → Option Ty → ℕ → List ℕ → Option (List ℕ)
 named_behind header found at s =
     if minor header == 2
-    then (if nat_lt (length s) (padding at 8) then None else named_by_type header found (at + padding at 8) (drop (padding at 8) s))
+    then (if nat_lt (length s) (padding at 8) then None else named_by_type header found
+    (at + padding at 8) (drop (padding at 8) s))
     else named_by_type header found at s
 
--- The type that has the name, by the status of a Reply: of USER_EXCEPTION the repository id, of SYSTEM_EXCEPTION its body.
+-- The type that has the name, by the status of a Reply: of USER_EXCEPTION the repository id, of
+-- SYSTEM_EXCEPTION its body.
 abbrev pub raising : Option ℕ → Option Ty
 raising None = None
 raising (Some status) =
-    if status == 1 then Some (fixed_type ExceptionId) else (if status == 2 then Some (fixed_type SystemException) else None)
+    if status == 1 then Some (fixed_type ExceptionId) else
+    (if status == 2 then Some (fixed_type SystemException) else None)
 
 abbrev pub raised_after : List ℕ → Read → Option (List ℕ)
-raised_after header (Done lines at s) = named_behind header (raising (noted true nothing_noted lines).status) at s
+raised_after header (Done lines at s) = named_behind header
+    (raising (noted true nothing_noted lines).status) at s
 raised_after header (Short lines at outer leaf) = None
 raised_after header (Fault lines at why T) = None
 
@@ -80,10 +88,12 @@ abbrev pub raised_by_type : List ℕ → Option Ty → List ℕ → Option (List
 raised_by_type header None s = None
 raised_by_type header (Some T) s = raised_after header (read (plain (order header)) [] T 12 s)
 
--- The name of the exception that a Reply raises, once the repository id or the body of the system exception is complete,
+-- The name of the exception that a Reply raises, once the repository id or the body of the system
+-- exception is complete,
 -- by the octets `s` that follow the 12 of its header (GIOP Message Formats, Reply Body).
 unfoldable pub raised : List ℕ → List ℕ → Option (List ℕ)
-raised header s = if kind header == 1 then raised_by_type header (header_type (minor header) (kind header)) s else None
+raised header s = if kind header == 1 then raised_by_type header
+    (header_type (minor header) (kind header)) s else None
 
 abbrev pub raises_between : ℕ → Option (List ℕ) → Option (List ℕ) → List HeaderEnd
 raises_between number (Some before) now = []
@@ -107,13 +117,16 @@ is_told sections.Body = false
 
 -- how many octets have to come at least until the correspondent is told
 unfoldable pub stage_told_after : Stage → Option ℕ
-stage_told_after (In_typed section h outer leaf) = if is_told section then Some (octets_left leaf) else None
+stage_told_after (In_typed section h outer leaf) =
+    if is_told section then Some (octets_left leaf) else None
 stage_told_after (In_padding b) = Some 1
 stage_told_after (In_rest offset held) = None
 stage_told_after Over = None
 
--- How many octets have to come at least until the header of a message, or the name of the exception that it raises, ends, by
--- these octets after the 12 of its header: at least 1 in its header, in the padding behind that, in the repository id of an
+-- How many octets have to come at least until the header of a message, or the name of the exception
+-- that it raises, ends, by
+-- these octets after the 12 of its header: at least 1 in its header, in the padding behind that, in
+-- the repository id of an
 -- exception, and in the body of a system exception. None where no header and no name ends any more.
 unfoldable pub told_after : Signatures → List ℕ → List ℕ → Option ℕ
 told_after S header s = stage_told_after (stage_of (message S header s))
@@ -126,27 +139,32 @@ AreSilent (Exception_end number name ∷ es) = ⊥
 
 -- ---- what is told there
 
--- what the header of a message, by its number, says of the calls of a conversation (GIOP Message Formats, Request Header,
+-- what the header of a message, by its number, says of the calls of a conversation (GIOP Message
+-- Formats, Request Header,
 -- Reply Header)
 pub data CallEvent : Type 0 where
-  -- a Request: its number, its id, the name of its operation where a call line can show it, the operation where the table
+  -- a Request: its number, its id, the name of its operation where a call line can show it, the
+  -- operation where the table
   -- has it, and whether it expects a reply
   Requested : ℕ → ℕ → Option (List ℕ) → Option OpId → Bool → CallEvent
   -- a Reply: its number, and the id of the request that it answers
   Replied : ℕ → ℕ → CallEvent
-  -- a Reply that raises an exception: its number, and the exception's name, where a call line could show it
+  -- a Reply that raises an exception: its number, and the exception's name, where a call line could
+  -- show it
   Raised : ℕ → List ℕ → CallEvent
 
 abbrev pub shown : Option (List ℕ) → Option (List ℕ)
 shown None = None
 shown (Some name) = if is_shown name then Some name else None
 
--- A Request of which it is not noted expects a reply: its header was read on from a checkpoint of before it was kept.
+-- A Request of which it is not noted expects a reply: its header was read on from a checkpoint of
+-- before it was kept.
 abbrev pub expects_reply : Option Bool → Bool
 expects_reply None = true
 expects_reply (Some expects) = expects
 
-abbrev pub request_event : ℕ → Option ℕ → Option (List ℕ) → Option OpId → Option Bool → Option CallEvent
+abbrev pub request_event : ℕ → Option ℕ → Option (List ℕ) → Option OpId → Option Bool →
+    Option CallEvent
 request_event number None name operation expects = None
 request_event number (Some id) name operation expects =
     Some (Requested number id (shown name) operation (expects_reply expects))
@@ -183,7 +201,8 @@ after_event notified st (Some event) = notified st event
 -- after these headers, one after the other
 abbrev pub after_ends : {St : Type 0} → (St → CallEvent → St) → Table → St → List HeaderEnd → St
 after_ends notified C st [] = st
-after_ends notified C st (e ∷ es) = after_ends notified C (after_event notified st (call_event C e)) es
+after_ends notified C st (e ∷ es) = after_ends notified C (after_event notified st (call_event C e))
+    es
 
 -- A message whose header ends is answered as the state before its event answers.
 abbrev pub IsAnswered : {St : Type 0} → (St → Answer) → St → Answers → HeaderEnd → Type 0
@@ -191,10 +210,12 @@ IsAnswered answer st a (Header_end number header n) = a number ≡ answer st
 IsAnswered answer st a (Exception_end number name) = Unit {0}
 
 -- each of them is
-abbrev pub AgreesAtEnds : {St : Type 0} → (St → Answer) → (St → CallEvent → St) → Table → St → Answers → List HeaderEnd → Type 0
+abbrev pub AgreesAtEnds : {St : Type 0} → (St → Answer) → (St → CallEvent → St) → Table → St →
+    Answers → List HeaderEnd → Type 0
 AgreesAtEnds answer notified C st a [] = Unit {0}
 AgreesAtEnds answer notified C st a (e ∷ es) =
-    IsAnswered answer st a e × AgreesAtEnds answer notified C (after_event notified st (call_event C e)) a es
+    IsAnswered answer st a e × AgreesAtEnds answer notified C
+    (after_event notified st (call_event C e)) a es
 
 -- the operation is one of the table
 abbrev pub IsKnownOperation : Table → Option OpId → Type 0

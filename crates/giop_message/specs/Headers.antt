@@ -1,4 +1,5 @@
--- The fields of a message header of 12 octets, and what kind of message it begins (GIOP Message Formats, GIOP Message Header; meaning).
+-- The fields of a message header of 12 octets, and what kind of message it begins (GIOP Message
+-- Formats, GIOP Message Header; meaning).
 use Rattle.std.specs.Prelude.{ℕ, ◌/◌, ◌%◌, Bool, ◌&&◌, ◌||◌, List, get_or, drop, nat_lt, ◌==◌, if◌then◌else◌}
 use Rattle.giop_cdr.specs.declared.order.Order.{Order}
 use Rattle.giop_cdr.specs.declared.order.Order.TheVariants.{Big, Little}
@@ -27,7 +28,8 @@ size header = num (order header) (drop 8 header)
 
 -- Request, Reply, LocateRequest, LocateReply
 unfoldable pub may_be_fragmented : List ℕ → Bool
-may_be_fragmented header = (kind header == 0) || (kind header == 1) || (kind header == 3) || (kind header == 4)
+may_be_fragmented header = (kind header == 0) || (kind header == 1) || (kind header == 3)
+    || (kind header == 4)
 
 -- A 1.2 message of these types that more fragments follow is an opener.
 unfoldable pub is_opener : List ℕ → Bool

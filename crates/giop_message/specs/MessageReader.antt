@@ -1,4 +1,5 @@
--- The reading of one message, as the stream takes it: the lines of its octets so far, and those of its close (meaning).
+-- The reading of one message, as the stream takes it: the lines of its octets so far, and those of
+-- its close (meaning).
 -- Octets of a message count from 1 after its header.
 use Rattle.std.specs.Prelude.{◌≡◌, ℕ, suc, ◌≤◌, ◌==◌, ◌⊎◌, Bool, true, false, List, [], ◌∷◌, ◌++◌, length, map}
 use Rattle.std.specs.List.{filter, list_any, AllByRecursion as Each}
@@ -30,23 +31,28 @@ is_last End = true
 -- More octets change no lines of those before them.
 pub record IsCausal (R : MessageReader) : Type 0 where
   pub earlier : (number : ℕ) (header xs more : List ℕ) (k : ℕ) → k ≤ length xs →
-      filter (λ r. r.at == k) (R.reads number header (xs ++ more)) ≡ filter (λ r. r.at == k) (R.reads number header xs)
+      filter (λ r. r.at == k) (R.reads number header (xs ++ more))
+      ≡ filter (λ r. r.at == k) (R.reads number header xs)
 
 -- A message that closes has ended, or is faulted.
 pub record IsEnding (R : MessageReader) : Type 0 where
-  pub ends : (number : ℕ) (header xs : List ℕ) → list_any (λ l. is_last l.0) (R.closes number header xs) ≡ true
+  pub ends : (number : ℕ) (header xs : List ℕ) →
+      list_any (λ l. is_last l.0) (R.closes number header xs) ≡ true
 
 -- ---- What else the stream needs of a reading, where it finds messages by their request ids.
 
--- The first four octets of a message that begins with its request id have no lines but those of values.
+-- The first four octets of a message that begins with its request id have no lines but those of
+-- values.
 pub record HasOnlyValuesInId (R : MessageReader) : Type 0 where
   pub named : (number : ℕ) (header xs : List ℕ) → has_name header ≡ true → length xs ≤ 4 →
       Each (λ r. r.line_class ≡ Value) (R.reads number header xs)
 
--- the lines of one octet: none, a value, a value and its call, a part of the rest, a fault, or a value and a fault
+-- the lines of one octet: none, a value, a value and its call, a part of the rest, a fault, or a
+-- value and a fault
 abbrev pub AreInLineOrder : List LineClass → Type 0
 AreInLineOrder line_classes =
-    (line_classes ≡ []) ⊎ (line_classes ≡ Value ∷ []) ⊎ (line_classes ≡ Value ∷ Call ∷ []) ⊎ (line_classes ≡ Rest ∷ [])
+    (line_classes ≡ []) ⊎ (line_classes ≡ Value ∷ []) ⊎ (line_classes ≡ Value ∷ Call ∷ [])
+    ⊎ (line_classes ≡ Rest ∷ [])
     ⊎ (line_classes ≡ Fault ∷ []) ⊎ (line_classes ≡ Value ∷ Fault ∷ [])
 
 pub record IsOrdered (R : MessageReader) : Type 0 where
@@ -55,7 +61,8 @@ pub record IsOrdered (R : MessageReader) : Type 0 where
 
 -- the lines of one octet more
 abbrev pub due : MessageReader → ℕ → List ℕ → List ℕ → ℕ → List TimedLine
-due R number header xs x = filter (λ r. r.at == suc (length xs)) (R.reads number header (xs ++ x ∷ []))
+due R number header xs x = filter (λ r. r.at == suc (length xs))
+    (R.reads number header (xs ++ x ∷ []))
 
 -- a fault
 abbrev pub is_fault : LineClass → Bool
@@ -67,16 +74,20 @@ is_fault End = false
 
 -- the lines of a close: a fault, the end, or the last part of the rest and the end
 abbrev pub AtClose : List LineClass → Type 0
-AtClose line_classes = (line_classes ≡ Fault ∷ []) ⊎ (line_classes ≡ End ∷ []) ⊎ (line_classes ≡ Rest ∷ End ∷ [])
+AtClose line_classes = (line_classes ≡ Fault ∷ []) ⊎ (line_classes ≡ End ∷ [])
+    ⊎ (line_classes ≡ Rest ∷ End ∷ [])
 
--- A close ends the message, once. After a fault at its last octet a message has only the line of its end, and if its
+-- A close ends the message, once. After a fault at its last octet a message has only the line of
+-- its end, and if its
 -- last octet ends a part of its rest, no rest is left.
 pub record IsClosing (R : MessageReader) : Type 0 where
-  pub closed : (number : ℕ) (header xs : List ℕ) → AtClose (map (λ l. l.0) (R.closes number header xs))
+  pub closed : (number : ℕ) (header xs : List ℕ) →
+      AtClose (map (λ l. l.0) (R.closes number header xs))
   pub over : (number : ℕ) (header xs : List ℕ) (x : ℕ) →
       list_any is_fault (map (λ r. r.line_class) (due R number header xs x)) ≡ true →
       map (λ l. l.0) (R.closes number header (xs ++ x ∷ [])) ≡ End ∷ []
-  pub one_rest : (number : ℕ) (header xs : List ℕ) (x : ℕ) → map (λ r. r.line_class) (due R number header xs x) ≡ Rest ∷ [] →
+  pub one_rest : (number : ℕ) (header xs : List ℕ) (x : ℕ) →
+      map (λ r. r.line_class) (due R number header xs x) ≡ Rest ∷ [] →
       map (λ l. l.0) (R.closes number header (xs ++ x ∷ [])) ≡ Rest ∷ End ∷ [] → ⊥
 
 -- what a reading needs so that its lines can be written as they come

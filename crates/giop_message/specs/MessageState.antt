@@ -1,4 +1,5 @@
--- What a message holds of the octets that it has taken after its header, one field a clause; and what its calls write
+-- What a message holds of the octets that it has taken after its header, one field a clause; and
+-- what its calls write
 -- (state).
 use Rattle.std.specs.Prelude.{◌≡◌, ℕ, ◌+◌, ◌-◌, ◌<◌, ◌≤◌, Bool, true, false, cond, List, [], ◌∷◌, ◌++◌, length, take, drop, flat_map, Option, Some, None, IfSome}
 use Rattle.giop_sig.specs.Types.{Ty}
@@ -31,28 +32,35 @@ use Rattle.giop_message.specs.ReaderOfTable.{line_class_of, text_of, first_reque
 unfoldable pub message_line_text : ℕ → ℕ → MessageLine → List ℕ
 message_line_text number place s = line_class_text place number (line_class_of s) (text_of s)
 
--- The text of lines after an offset of the message; up to that offset `place` octets of the stream came.
+-- The text of lines after an offset of the message; up to that offset `place` octets of the stream
+-- came.
 unfoldable pub message_lines_text : ℕ → ℕ → ℕ → List LineAt → List ℕ
-message_lines_text number place offset emitted = flat_map (λ t. message_line_text number (place + (t.at - offset)) t.message_line) emitted
+message_lines_text number place offset emitted =
+    flat_map (λ t. message_line_text number (place + (t.at - offset)) t.message_line) emitted
 
 -- the lines of more octets
 unfoldable pub due : Signatures → List ℕ → List ℕ → List ℕ → List LineAt
-due S header s more = drop (length (message_lines (message S header s))) (message_lines (message S header (s ++ more)))
+due S header s more = drop (length (message_lines (message S header s)))
+    (message_lines (message S header (s ++ more)))
 
 -- and their text, where the first of these octets comes after so many octets of the stream
 unfoldable pub due_text : Signatures → ℕ → ℕ → List ℕ → List ℕ → List ℕ → List ℕ
-due_text S number place header s more = message_lines_text number place (12 + length s) (due S header s more)
+due_text S number place header s more = message_lines_text number place (12 + length s)
+    (due S header s more)
 
 unfoldable pub closing_text : ℕ → ℕ → List MessageLine → List ℕ
 closing_text number place speeches = flat_map (message_line_text number place) speeches
 
--- the same of timed lines, whose octets count from 1 after the header: `before` octets of the message came before, and
+-- the same of timed lines, whose octets count from 1 after the header: `before` octets of the
+-- message came before, and
 -- `place` octets of the stream
 unfoldable pub timed_lines_text : ℕ → ℕ → ℕ → List TimedLine → List ℕ
-timed_lines_text number place before timed_lines = flat_map (λ r. line_class_text (place + (r.at - before)) number r.line_class r.text) timed_lines
+timed_lines_text number place before timed_lines =
+    flat_map (λ r. line_class_text (place + (r.at - before)) number r.line_class r.text) timed_lines
 
 unfoldable pub closes_text : ℕ → ℕ → List (LineClass × List ℕ) → List ℕ
-closes_text number place line_classes = flat_map (λ l. line_class_text place number l.0 l.1) line_classes
+closes_text number place line_classes = flat_map (λ l. line_class_text place number l.0 l.1)
+    line_classes
 
 unfoldable pub is_short : List MessageLine → Bool
 is_short (ShortLine ∷ more) = true
@@ -97,7 +105,8 @@ reach m = m.at
 
 -- ---- a message of a list
 
--- The header is the first section of a message: there is no line before it, no octet, and its type is the header's.
+-- The header is the first section of a message: there is no line before it, no octet, and its type
+-- is the header's.
 abbrev pub IsFirst : List ℕ → Section → Ty → List LineAt → List ℕ → Type 0
 IsFirst header sections.Header T before front =
     (header_type (minor header) (kind header) ≡ Some T) × (before ≡ []) × (front ≡ [])
@@ -105,8 +114,10 @@ IsFirst header sections.Exception T before front = Unit {0}
 IsFirst header sections.SystemException T before front = Unit {0}
 IsFirst header sections.Body T before front = Unit {0}
 
--- Lines, and then a section that begins after them: a decoder reads its octets as a value of a type.
-pub record Decodes (C : Table) (S : Signatures) (number : ℕ) (header s : List ℕ) (section : Section) (d : Decoder)
+-- Lines, and then a section that begins after them: a decoder reads its octets as a value of a
+-- type.
+pub record Decodes (C : Table) (S : Signatures) (number : ℕ) (header s : List ℕ) (section : Section)
+    (d : Decoder)
     : Type 0 where
   pub T : Ty
   pub before : List LineAt
@@ -114,18 +125,22 @@ pub record Decodes (C : Table) (S : Signatures) (number : ℕ) (header s : List 
   pub octets : List ℕ
   pub since : s ≡ front ++ octets
   pub is : message S header s ≡ with_front before
-      (section_and_rest S header section nothing_noted (read (plain (order header)) [] T (12 + length front) octets))
+      (section_and_rest S header section nothing_noted
+      (read (plain (order header)) [] T (12 + length front) octets))
   pub first : IsFirst header section T before front
   pub reads : decoder.Reads C T (order header) (12 + length front) number (root_of section) d octets
 
--- where a message of this number and header is after these octets, by the part that the next octet belongs to
+-- where a message of this number and header is after these octets, by the part that the next octet
+-- belongs to
 abbrev pub Stands : Table → Answers → ℕ → List ℕ → List ℕ → Part → Type 0
-Stands C answers number header s (parts.Typed section d) = Decodes C (signatures_of C (answers number)) number header s section d
+Stands C answers number header s (parts.Typed section d) =
+    Decodes C (signatures_of C (answers number)) number header s section d
 Stands C answers number header s (parts.Padding body_type_id) =
     (emitted : List LineAt) × (message (signatures_of C (answers number)) header s
     ≡ ReadTo emitted (12 + length s) (In_padding (body_type C body_type_id)))
 Stands C answers number header s (parts.Rest r) =
-    (emitted : List LineAt) × (message (signatures_of C (answers number)) header s ≡ ReadTo emitted (12 + length s) (In_rest r.offset r.held.items))
+    (emitted : List LineAt) × (message (signatures_of C (answers number)) header s
+    ≡ ReadTo emitted (12 + length s) (In_rest r.offset r.held.items))
 
 -- in the header
 abbrev pub is_header : Section → Bool
@@ -139,12 +154,15 @@ in_header (parts.Typed section d) = is_header section
 in_header (parts.Padding body_type_id) = false
 in_header (parts.Rest r) = false
 
--- The message's fields are those of a reading of its header and these octets after it. While the header is read its
+-- The message's fields are those of a reading of its header and these octets after it. While the
+-- header is read its
 -- decoder has the request id.
-pub record Follows (C : Table) (answers : Answers) (number : ℕ) (header : List ℕ) (m : Message) (s : List ℕ) : Type 0 where
+pub record Follows (C : Table) (answers : Answers) (number : ℕ) (header : List ℕ) (m : Message)
+    (s : List ℕ) : Type 0 where
   pub same_number : m.number ≡ number
   pub same_header : m.header ≡ header
-  pub id : m.id ≡ cond (in_header m.part) None (first_request_id (message_lines (message (signatures_of C (answers number)) header s)))
+  pub id : m.id ≡ cond (in_header m.part) None
+      (first_request_id (message_lines (message (signatures_of C (answers number)) header s)))
   pub at : m.at ≡ 12 + length s
   pub stands : Stands C answers number header s m.part
 
@@ -159,4 +177,5 @@ pub record FaultedAt (S : Signatures) (header s more : List ℕ) (n : ℕ) : Typ
 
 abbrev pub TookAll : Table → Answers → ℕ → List ℕ → Message → List ℕ → List ℕ → Option ℕ → Type 0
 TookAll C answers number header m s more None = Follows C answers number header m (s ++ more)
-TookAll C answers number header m s more (Some n) = FaultedAt (signatures_of C (answers number)) header s more n
+TookAll C answers number header m s more (Some n) =
+    FaultedAt (signatures_of C (answers number)) header s more n

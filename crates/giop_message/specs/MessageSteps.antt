@@ -1,4 +1,5 @@
--- What the parts of a message's code do: the text of an octet, and where a message is after a part that has ended
+-- What the parts of a message's code do: the text of an octet, and where a message is after a part
+-- that has ended
 -- (steps). Only private contracts cite it.
 use Rattle.std.specs.Prelude.{◌≡◌, ℕ, ◌+◌, Bool, true, false, List, [], ◌∷◌, ◌++◌, length, take, Option, Some, None, Result, MatchResult, ◌&&◌, ◌==◌, nat_lt, if◌then◌else◌}
 use Rattle.giop_cdr.specs.Alignment.{padding}
@@ -32,12 +33,14 @@ fault_text number place (Fault lines at why T) = fault_line number (fault_word w
 
 -- the line of a call, where it can be shown
 unfoldable pub called_text : ℕ → Option ℕ → Option (List ℕ) → List ℕ
-called_text number (Some id) (Some operation) = if is_shown operation then call_line number id operation else []
+called_text number (Some id) (Some operation) =
+    if is_shown operation then call_line number id operation else []
 called_text number id operation = []
 
 -- of a Request's header
 unfoldable pub request_call : ℕ → List ℕ → Noted → List ℕ
-request_call number header h = if is_request header then called_text number h.request_id h.name else []
+request_call number header h = if is_request header then called_text number h.request_id h.name else
+    []
 
 -- the type of what follows a section, by what is noted of it
 abbrev pub body_type_after : Signatures → List ℕ → Section → Noted → BodyType
@@ -64,18 +67,23 @@ pub record IsAt (number : ℕ) (header : List ℕ) (m : Message) (s : List ℕ) 
   pub at : m.at ≡ 12 + length s
 
 -- a message that is read to these lines and then as `m` has the part that fits `m`
-abbrev pub Arrives : Table → Answers → ℕ → List ℕ → Message → Message → List ℕ → Messages.Message → Type 0
+abbrev pub Arrives : Table → Answers → ℕ → List ℕ → Message → Message → List ℕ → Messages.Message →
+    Type 0
 Arrives C answers number header old new s m =
-    IsAt number header old s → (before : List LineAt) → message (signatures_of C (answers number)) header s ≡ with_front before m →
+    IsAt number header old s → (before : List LineAt) →
+    message (signatures_of C (answers number)) header s ≡ with_front before m →
     Stands C answers number header s new.part
 
--- A message that is read to these lines, and then to a section of this type of which no octet has come, is in that
+-- A message that is read to these lines, and then to a section of this type of which no octet has
+-- come, is in that
 -- section.
-abbrev pub Enters : Table → Answers → ℕ → List ℕ → Message → Message → List ℕ → Section → Ty → Type 0
+abbrev pub Enters : Table → Answers → ℕ → List ℕ → Message → Message → List ℕ → Section → Ty →
+    Type 0
 Enters C answers number header old new s section T =
     IsAt number header old s → (before : List LineAt) → IsFirst header section T before s →
     message (signatures_of C (answers number)) header s
-    ≡ with_front before (section_and_rest (signatures_of C (answers number)) header section nothing_noted (read (plain (order header)) [] T (12 + length s) [])) →
+    ≡ with_front before (section_and_rest (signatures_of C (answers number)) header section
+    nothing_noted (read (plain (order header)) [] T (12 + length s) [])) →
     Stands C answers number header s new.part
 
 -- a part that is read as a value
@@ -88,11 +96,15 @@ abbrev pub Ended : Part → Section → Read → Type 0
 Ended (parts.Typed held d) section r = (held ≡ section) × KeepsNoted (root_of section) d r
 Ended part section r = ⊥
 
--- what is told where a section ends, by its reading, and the operation that it names if it is a header
+-- what is told where a section ends, by its reading, and the operation that it names if it is a
+-- header
 abbrev pub section_event : Section → ℕ → List ℕ → Read → Option OpId → Option CallEvent
-section_event sections.Header number header r operation = header_event number header (noted_of true r) operation
-section_event sections.Exception number header r operation = raise_event number (noted_of false r).name
-section_event sections.SystemException number header r operation = raise_event number (noted_of false r).name
+section_event sections.Header number header r operation =
+    header_event number header (noted_of true r) operation
+section_event sections.Exception number header r operation =
+    raise_event number (noted_of false r).name
+section_event sections.SystemException number header r operation =
+    raise_event number (noted_of false r).name
 section_event sections.Body number header r operation = None
 
 -- the last part of a rest
@@ -109,11 +121,14 @@ last_rest_text number (parts.Rest r) = held_text number r.offset r.held.items
 
 -- it took so many of them: the message is over at the last, or follows the longer list
 abbrev pub TookSome : Table → Answers → ℕ → List ℕ → Message → List ℕ → List ℕ → ℕ → Bool → Type 0
-TookSome C answers number header m s octets n false = Follows C answers number header m (s ++ take n octets)
-TookSome C answers number header m s octets n true = FaultedAt (signatures_of C (answers number)) header s octets n
+TookSome C answers number header m s octets n false =
+    Follows C answers number header m (s ++ take n octets)
+TookSome C answers number header m s octets n true =
+    FaultedAt (signatures_of C (answers number)) header s octets n
 
 -- the lines of the octets that it took; or a front of those of the run, after which a put failed
-abbrev pub WritesRun : {E : Type 0} → Result (ℕ × Bool) E → Signatures → ℕ → ℕ → List ℕ → List ℕ → List ℕ →
+abbrev pub WritesRun : {E : Type 0} → Result (ℕ × Bool) E → Signatures → ℕ → ℕ → List ℕ → List ℕ →
+    List ℕ →
     OutLog → OutLog → Type 0
 WritesRun result S number place header s octets before after =
     MatchResult result

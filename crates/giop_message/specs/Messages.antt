@@ -1,4 +1,5 @@
--- One joined message: the reading of all its octets, in one piece (GIOP Message Formats; docs/FORMATS.md; meaning).
+-- One joined message: the reading of all its octets, in one piece (GIOP Message Formats;
+-- docs/FORMATS.md; meaning).
 -- Offsets count from the first octet of the message, so its octets after the header begin at 12.
 use Rattle.std.specs.Prelude.{ℕ, zero, suc, ◌+◌, ◌/◌, Bool, true, false, ◌&&◌, ◌||◌, List, [], ◌∷◌, ◌++◌, length, take, drop, Option, Some, None, ◌==◌, nat_lt, nat_le, if◌then◌else◌}
 use Rattle.std.specs.List.{list_all}
@@ -55,16 +56,19 @@ call_of at id name = []
 unfoldable pub calls : Bool → Line → Noted → List LineAt
 calls is_request l h = if ends_operation is_request l then call_of l.at h.request_id h.name else []
 
--- The lines of a reading below a root, of a Request's header or not, with what was noted before them.
+-- The lines of a reading below a root, of a Request's header or not, with what was noted before
+-- them.
 unfoldable pub section_lines : Root → Bool → Noted → List Line → List LineAt
 section_lines root is_request h [] = []
 section_lines root is_request h (l ∷ ls) =
     let now = note (is_header_root root) h l in
-    (line_at l.at (ValueLine root l.path l.value) ∷ calls is_request l now) ++ section_lines root is_request now ls
+    (line_at l.at (ValueLine root l.path l.value) ∷ calls is_request l now)
+    ++ section_lines root is_request now ls
 
 -- ---- where a message is
 
--- The type of a body: none, this one, that of the exception whose repository id comes first, or that of a system
+-- The type of a body: none, this one, that of the exception whose repository id comes first, or
+-- that of a system
 -- exception.
 pub data BodyType : Type 0 where
   Untyped : BodyType
@@ -95,24 +99,30 @@ pub data Message : Type 0 where
 unfoldable pub with_front : List LineAt → Message → Message
 with_front front (ReadTo emitted at stage) = ReadTo (front ++ emitted) at stage
 
--- A section, of a Request's header or not, and what follows it by what is noted of it. A fault has its line instead of
+-- A section, of a Request's header or not, and what follows it by what is noted of it. A fault has
+-- its line instead of
 -- the value's, and ends the message.
-unfoldable pub section_then : Section → Bool → (Noted → ℕ → List ℕ → Message) → Noted → Read → Message
+unfoldable pub section_then : Section → Bool → (Noted → ℕ → List ℕ → Message) → Noted → Read →
+    Message
 section_then section is_request next h (Done lines at s) =
     let root = root_of section in
-    with_front (section_lines root is_request h lines) (next (noted (is_header_root root) h lines) at s)
+    with_front (section_lines root is_request h lines)
+    (next (noted (is_header_root root) h lines) at s)
 section_then section is_request next h (Short lines at outer leaf) =
     let root = root_of section in
-    ReadTo (section_lines root is_request h lines) at (In_typed section (noted (is_header_root root) h lines) outer leaf)
+    ReadTo (section_lines root is_request h lines) at
+    (In_typed section (noted (is_header_root root) h lines) outer leaf)
 section_then section is_request next h (Fault lines at why T) =
-    ReadTo (section_lines (root_of section) is_request h lines ++ line_at at (FaultLine why) ∷ []) at Over
+    ReadTo (section_lines (root_of section) is_request h lines ++ line_at at (FaultLine why) ∷ [])
+    at Over
 
 -- ---- the rest
 
 -- the rest in parts of 32 octets, of which so many are full
 unfoldable pub rest_in : ℕ → ℕ → ℕ → List ℕ → Message
 rest_in zero offset at s = ReadTo [] (at + length s) (In_rest offset s)
-rest_in (suc full) offset at s = with_front (line_at (at + 32) (RestLine offset (take 32 s)) ∷ []) (rest_in full (offset + 32) (at + 32) (drop 32 s))
+rest_in (suc full) offset at s = with_front (line_at (at + 32) (RestLine offset (take 32 s)) ∷ [])
+    (rest_in full (offset + 32) (at + 32) (drop 32 s))
 
 unfoldable pub rest : ℕ → List ℕ → Message
 rest at s = rest_in (length s / 32) 0 at s
@@ -120,7 +130,8 @@ rest at s = rest_in (length s / 32) 0 at s
 -- ---- bodies
 
 unfoldable pub typed : Order → Ty → ℕ → List ℕ → Message
-typed o T at s = section_then sections.Body false (λ h. rest) nothing_noted (read (plain o) [] T at s)
+typed o T at s = section_then sections.Body false (λ h. rest) nothing_noted
+    (read (plain o) [] T at s)
 
 unfoldable pub option_typed : Order → Option Ty → ℕ → List ℕ → Message
 option_typed o None at s = rest at s
@@ -138,9 +149,11 @@ unfoldable pub body : Signatures → List ℕ → BodyType → ℕ → List ℕ 
 body S header Untyped at s = rest at s
 body S header (Typed T) at s = typed (order header) T at s
 body S header UserException at s =
-    section_then sections.Exception false (after_exception S header) nothing_noted (read (plain (order header)) [] S.exception_id at s)
+    section_then sections.Exception false (after_exception S header) nothing_noted
+    (read (plain (order header)) [] S.exception_id at s)
 body S header SystemException at s =
-    section_then sections.SystemException false (λ h. rest) nothing_noted (read (plain (order header)) [] S.system_exception at s)
+    section_then sections.SystemException false (λ h. rest) nothing_noted
+    (read (plain (order header)) [] S.system_exception at s)
 
 unfoldable pub type_if : Option Ty → BodyType
 type_if None = Untyped
@@ -155,7 +168,8 @@ unfoldable pub result_body : Signatures → Option ℕ → BodyType
 result_body S None = Untyped
 result_body S (Some id) = type_if (S.reply id)
 
--- of a Reply, by its status: NO_EXCEPTION, USER_EXCEPTION, SYSTEM_EXCEPTION, LOCATION_FORWARD, LOCATION_FORWARD_PERM,
+-- of a Reply, by its status: NO_EXCEPTION, USER_EXCEPTION, SYSTEM_EXCEPTION, LOCATION_FORWARD,
+-- LOCATION_FORWARD_PERM,
 -- NEEDS_ADDRESSING_MODE
 unfoldable pub reply_body : Signatures → Option ℕ → Option ℕ → BodyType
 reply_body S id None = Untyped
@@ -172,7 +186,8 @@ is_request header = kind header == 0
 
 -- by what is noted of the header
 unfoldable pub body_of : Signatures → List ℕ → Noted → BodyType
-body_of S header h = if is_request header then request_body S h.name else reply_body S h.request_id h.status
+body_of S header h = if is_request header then request_body S h.name else reply_body S h.request_id
+    h.status
 
 -- a Request or a Reply
 unfoldable pub has_body : List ℕ → Bool
@@ -188,13 +203,15 @@ padded S header b at s =
 
 unfoldable pub after_header : Signatures → List ℕ → Noted → ℕ → List ℕ → Message
 after_header S header h at s =
-    if has_body header then (if minor header == 2 then padded S header (body_of S header h) at s else body S header (body_of S header h) at s)
+    if has_body header then (if minor header == 2 then padded S header (body_of S header h) at s
+    else body S header (body_of S header h) at s)
     else rest at s
 
 unfoldable pub of_header : Signatures → List ℕ → Option Ty → ℕ → List ℕ → Message
 of_header S header None at s = rest at s
 of_header S header (Some T) at s =
-    section_then sections.Header (is_request header) (after_header S header) nothing_noted (read (plain (order header)) [] T at s)
+    section_then sections.Header (is_request header) (after_header S header) nothing_noted
+    (read (plain (order header)) [] T at s)
 
 -- of this header of 12 octets and these octets after it
 unfoldable pub message : Signatures → List ℕ → List ℕ → Message
@@ -216,7 +233,8 @@ after S header sections.Body = λ h. rest
 
 -- a section that goes on from what was noted of it, and what follows it
 abbrev pub section_and_rest : Signatures → List ℕ → Section → Noted → Read → Message
-section_and_rest S header section = section_then section (may_call header section) (after S header section)
+section_and_rest S header section = section_then section (may_call header section)
+    (after S header section)
 
 -- ---- its close
 

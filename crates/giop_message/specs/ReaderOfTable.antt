@@ -1,4 +1,5 @@
--- The reading of one message as the stream takes it, by a catalogue's table and the operations that the ids of each
+-- The reading of one message as the stream takes it, by a catalogue's table and the operations that
+-- the ids of each
 -- message answer; and the message's request id (meaning).
 use Rattle.std.specs.Prelude.{◌≡◌, ℕ, suc, ◌-◌, ◌==◌, Bool, true, false, cond, List, [], ◌∷◌, ◌++◌, length, map, Option, Some, None, codes, IfSome}
 use Rattle.std.specs.List.{filter}
@@ -35,7 +36,12 @@ text_of EndLine = codes "end"
 
 -- Offsets count from the front of the message; a reader counts octets from 1 after the header.
 abbrev pub timed_line_of : LineAt → TimedLine
-timed_line_of t = record { at = t.at - 12; line_class = line_class_of t.message_line; text = text_of t.message_line }
+timed_line_of t = record {
+  at = t.at - 12;
+  line_class = line_class_of t.message_line;
+  text =
+      text_of t.message_line;
+}
 
 abbrev pub closing_of : MessageLine → LineClass × List ℕ
 closing_of s = (line_class_of s, text_of s)
@@ -69,7 +75,8 @@ pub record HasIds (S : Signatures) : Type 0 where
 
 -- the request id that a line shows
 unfoldable pub id_in : MessageLine → Option ℕ
-id_in (ValueLine roots.Header path (Number (Plain prims.ULong) n)) = cond (is_member (codes "request_id") path) (Some n) None
+id_in (ValueLine roots.Header path (Number (Plain prims.ULong) n)) =
+    cond (is_member (codes "request_id") path) (Some n) None
 id_in message_line = None
 
 unfoldable pub first_id : Option ℕ → Option ℕ → Option ℕ

@@ -1,4 +1,5 @@
--- The line of the request id that the header of a message begins with (docs/FORMATS.md, Lines; meaning).
+-- The line of the request id that the header of a message begins with (docs/FORMATS.md, Lines;
+-- meaning).
 use Rattle.std.specs.Prelude.{ℕ, List, [], ◌∷◌, codes}
 use Rattle.giop_cdr.specs.declared.prim.Primitive.TheVariants as prims
 use Rattle.giop_print.specs.declared.path.Root.TheVariants as roots

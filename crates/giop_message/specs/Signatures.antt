@@ -1,4 +1,5 @@
--- The types of a message's parts, by a catalogue and the operations that the ids of replies answer: those of headers,
+-- The types of a message's parts, by a catalogue and the operations that the ids of replies answer:
+-- those of headers,
 -- and those that bodies can have (meaning).
 use Rattle.std.specs.Prelude.{ℕ, List, Option}
 use Rattle.std.specs.Option.{option_map}
@@ -13,7 +14,8 @@ use Rattle.giop_sig.specs.RequestList.{kept_operation}
 pub record Signatures : Type 0 where
   -- the type of a header, by the minor version and the message type
   pub header : ℕ → ℕ → Option Ty
-  -- the struct of an operation's parameters, by its name, and that of its results, by the id of the request
+  -- the struct of an operation's parameters, by its name, and that of its results, by the id of the
+  -- request
   pub request : List ℕ → Option Ty
   pub reply : ℕ → Option Ty
   -- the struct of an exception's members, by its repository id

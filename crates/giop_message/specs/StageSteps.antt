@@ -9,14 +9,16 @@ use Rattle.giop_message.specs.Messages.{line_at, RestLine, Stage, In_typed, In_p
 
 unfoldable pub rest_step : ℕ → List ℕ → ℕ → Message
 rest_step offset held at =
-    if length held == 32 then ReadTo (line_at at (RestLine offset held) ∷ []) at (In_rest (offset + 32) []) else ReadTo [] at (In_rest offset held)
+    if length held == 32 then ReadTo (line_at at (RestLine offset held) ∷ []) at
+    (In_rest (offset + 32) []) else ReadTo [] at (In_rest offset held)
 
 -- The octet is at that offset. After a part that ends, what follows it is read with no octets.
 unfoldable pub message_step : Signatures → List ℕ → ℕ → Stage → ℕ → Message
 message_step S header at (In_typed section h outer leaf) b =
     section_and_rest S header section h (decoder.step (plain (order header)) [] outer leaf at b)
 message_step S header at (In_padding t) b =
-    if nat_lt 1 (padding at 8) then ReadTo [] (at + 1) (In_padding t) else body S header t (at + 1) []
+    if nat_lt 1 (padding at 8) then ReadTo [] (at + 1) (In_padding t) else body S header t (at + 1)
+    []
 message_step S header at (In_rest offset held) b = rest_step offset (held ++ b ∷ []) (at + 1)
 message_step S header at Over b = ReadTo [] at Over
 

@@ -1,10 +1,12 @@
--- What a checkpoint keeps of a message, as octets (docs/FORMATS.md; state). A message has 224 octets, its number and its header
+-- What a checkpoint keeps of a message, as octets (docs/FORMATS.md; state). A message has 224
+-- octets, its number and its header
 -- apart. Of these 16 are its own:
 --
 --     at  octets
---      0       1  the part that it is in: 0 header, 1 repository id, 2 body, 3 padding, 4 rest, 5 system exception
+-- 0 1 the part that it is in: 0 header, 1 repository id, 2 body, 3 padding, 4 rest, 5 system
+-- exception
 --      1       8  offset of its next octet, at least 12
---      9       5  whether its request id was read, 0 or 1, and the id; zero in the header, whose decoder has it
+-- 9 5 whether its request id was read, 0 or 1, and the id; zero in the header, whose decoder has it
 --     14       2  zero
 --
 -- and 208 are those of the decoder of a header, a repository id or a body, or of padding:
@@ -105,7 +107,8 @@ pub record IsOwnOf (octets : List ℕ) (m : Message) : Type 0 where
 -- a part is stored in these 208 octets and these frames, which only a decoder has
 abbrev pub PartStored : Part → List ℕ → List ℕ → Type 0
 PartStored (parts.Typed section d) octets frames = decoders.Stored d octets frames
-PartStored (parts.Padding body_type_id) octets frames = IsPaddingOf octets body_type_id × (frames ≡ [])
+PartStored (parts.Padding body_type_id) octets frames =
+    IsPaddingOf octets body_type_id × (frames ≡ [])
 PartStored (parts.Rest r) octets frames = IsRestOf octets r × (frames ≡ [])
 
 -- These 224 octets and these frames are what is stored of the message.

@@ -1,4 +1,5 @@
--- The text of a message's lines, without the message's number and with it (docs/FORMATS.md, Lines; meaning).
+-- The text of a message's lines, without the message's number and with it (docs/FORMATS.md, Lines;
+-- meaning).
 use Rattle.std.specs.Prelude.{ℕ, List, [], ◌∷◌, codes, decimal, flat_map}
 use Rattle.giop_print.specs.Text.{joined, hex}
 use Rattle.giop_print.specs.Lines.{fault_line}
@@ -46,4 +47,5 @@ line_class_text place number End text = numbered_line number text
 
 -- the lines at one place
 unfoldable pub numbered_lines : ℕ → ℕ → List TimedLine → List ℕ
-numbered_lines place number timed_lines = flat_map (λ r. line_class_text place number r.line_class r.text) timed_lines
+numbered_lines place number timed_lines =
+    flat_map (λ r. line_class_text place number r.line_class r.text) timed_lines

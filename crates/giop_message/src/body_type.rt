@@ -42,8 +42,10 @@ pub fn body_type_after<Q: Correspondent>(
     requires of { AreKnown catalogue.now (Q.answer (Q.state correspondent.now)) }
     requires operation { IsKnownOperation catalogue.now operation }
     ensures is { (r : Read) → KeepsNoted (root_of section) decoder.now r →
-        (is_header section ≡ true → operation ≡ operation_of catalogue.now header.now (noted_of true r)) →
-        body_type catalogue.now result ≡ body_type_after (signatures_of catalogue.now (Q.answer (Q.state correspondent.now)))
+        (is_header section ≡ true → operation
+        ≡ operation_of catalogue.now header.now (noted_of true r)) →
+        body_type catalogue.now result ≡ body_type_after
+        (signatures_of catalogue.now (Q.answer (Q.state correspondent.now)))
         header.now section (noted_of (is_header_root (root_of section)) r) }
     ensures known { IsKnown catalogue.now result }
 {
@@ -68,7 +70,8 @@ fn header_body<Q: Correspondent>(
     requires operation { IsKnownOperation catalogue.now operation }
     ensures is { (r : Read) → KeepsNoted Root.Header decoder.now r →
         operation ≡ operation_of catalogue.now header.now (noted_of true r) →
-        body_type catalogue.now result ≡ body_type_after (signatures_of catalogue.now (Q.answer (Q.state correspondent.now)))
+        body_type catalogue.now result ≡ body_type_after
+        (signatures_of catalogue.now (Q.answer (Q.state correspondent.now)))
         header.now Section.Header (noted_of true r) }
     ensures known { IsKnown catalogue.now result }
 {

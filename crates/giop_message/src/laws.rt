@@ -43,7 +43,8 @@ pub fn message_laws()
     ensures id { (C : Table) (answer : Answer) (header : List ℕ) (T : Ty) →
         header_type (minor header) (kind header) ≡ Some T → BeginsWithId T →
         (a b c d : ℕ) (xs : List ℕ) →
-        first_request_id (message_lines (message (signatures_of C answer) header (a ∷ b ∷ c ∷ d ∷ xs)))
+        first_request_id (message_lines (message (signatures_of C answer) header
+        (a ∷ b ∷ c ∷ d ∷ xs)))
         ≡ Some (num (order header) (a ∷ b ∷ c ∷ d ∷ [])) }
     // What a message writes of more octets, and at its close, are the lines of the reading: with the number, and of a
     // fault with its place in the stream.

@@ -35,7 +35,8 @@ impl Message {
 
     /// A message of this number whose header has come.
     pub fn start(catalogue: &Catalogue, number: u64, header: [u8; 12]) -> Message
-        ensures follows { (answers : Answers) → Follows catalogue.now answers number header result [] }
+        ensures follows { (answers : Answers) →
+            Follows catalogue.now answers number header result [] }
         ensures fits { Fits catalogue.now result }
         ensures reach { reach result ≡ 12 }
     {
@@ -128,7 +129,8 @@ impl Message {
             (stage_of (message (signatures_of catalogue.now (answers number)) header s)))) }
         ensures short { IfOk result (λ short. (answers : Answers) (number : ℕ) (header s : List ℕ) →
             Follows catalogue.now answers number header self s →
-            short ≡ is_short (close (stage_of (message (signatures_of catalogue.now (answers number)) header s)))) }
+            short ≡ is_short (close (stage_of (message
+            (signatures_of catalogue.now (answers number)) header s)))) }
     {
         if self.is_short(catalogue) {
             fault_line(out, self.number, "short", place)?;
@@ -144,7 +146,8 @@ impl Message {
         requires { Fits catalogue.now self.now }
         ensures { (answers : Answers) (number : ℕ) (header s : List ℕ) →
             Follows catalogue.now answers number header self.now s →
-            result ≡ is_short (close (stage_of (message (signatures_of catalogue.now (answers number)) header s))) }
+            result ≡ is_short (close (stage_of (message
+            (signatures_of catalogue.now (answers number)) header s))) }
     {
         match &self.part {
             Part::Typed(_, _) => true,
@@ -183,7 +186,8 @@ impl Message {
     pub fn request_id(&self) -> Option<u32>
         ensures { (C : Table) (answers : Answers) (number : ℕ) (header s : List ℕ) →
             Follows C answers number header self.now s
-            → result ≡ first_request_id (message_lines (message (signatures_of C (answers number)) header s)) }
+            → result ≡ first_request_id (message_lines
+            (message (signatures_of C (answers number)) header s)) }
     {
         match &self.part {
             Part::Typed(section, decoder) => id_behind(*section, decoder, self.id),

@@ -29,7 +29,8 @@ pub fn operation_of(
     decoder: &Decoder,
 ) -> Option<OpId>
     requires header { length header.now ≡ 12 }
-    ensures is { (r : Read) → KeepsNoted (root_of section) decoder.now r → is_header section ≡ true →
+    ensures is { (r : Read) → KeepsNoted (root_of section) decoder.now r →
+        is_header section ≡ true →
         result ≡ operation_of catalogue.now header.now (noted_of true r) }
     ensures none { is_header section ≡ false → result ≡ None }
     ensures known { IsKnownOperation catalogue.now result }

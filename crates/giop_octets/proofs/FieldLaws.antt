@@ -26,10 +26,17 @@ unfolding four
 optional_long None = refl
 optional_long (Some n) = refl
 
-pub held_long : (room : ℕ) (octets : List ℕ) → length octets ≤ room → length (held room octets) ≡ 1 + room
+pub held_long : (room : ℕ) (octets : List ℕ) → length octets ≤ room →
+    length (held room octets) ≡ 1 + room
 held_long room octets few =
-    omega (arith, length-append octets (replicate (room - length octets) 0), length-replicate {A = ℕ} (room - length octets) 0)
+    omega (
+      arith,
+      length-append octets (replicate (room - length octets) 0),
+      length-replicate {A = ℕ} (room - length octets) 0,
+    )
 
 -- what follows a field of so many octets at an offset
-pub behind : (at size : ℕ) (octets field rest : List ℕ) → drop at octets ≡ field ++ rest → length field ≡ size → drop (at + size) octets ≡ rest
-behind at size octets field rest is long = sym (drop-drop size at octets) ∙ ap (drop size) is ∙ drop_at field rest size long
+pub behind : (at size : ℕ) (octets field rest : List ℕ) → drop at octets ≡ field ++ rest →
+    length field ≡ size → drop (at + size) octets ≡ rest
+behind at size octets field rest is long =
+    sym (drop-drop size at octets) ∙ ap (drop size) is ∙ drop_at field rest size long

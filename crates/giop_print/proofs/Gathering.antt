@@ -10,12 +10,19 @@ use Rattle.giop_print.specs.Gathering.{WroteBut, Gathers}
 use Rattle.giop_print.proofs.Writing.{wrote-nil, wrote-append, wrote-front, front-append, flat_map-take}
 
 -- what was gathered is written, and so is the part
-pub but-none : (a b c : OutLog) (gathered part : List ℕ) → Wrote a b gathered → Wrote b c part → WroteBut a c [] (gathered ++ part)
+pub but-none : (a b c : OutLog) (gathered part : List ℕ) → Wrote a b gathered → Wrote b c part →
+    WroteBut a c [] (gathered ++ part)
 but-none a b c gathered part v w =
-    record { front = gathered ++ part; wrote = wrote-append a b c gathered part v w; both = append-nil (gathered ++ part) }
+    record {
+      front = gathered ++ part;
+      wrote = wrote-append a b c gathered part v w;
+      both =
+          append-nil (gathered ++ part);
+    }
 
 -- one part more
-pub but-more : (a b c : OutLog) (gathered left due part : List ℕ) → WroteBut a b gathered due → WroteBut b c left (gathered ++ part) → WroteBut a c left (due ++ part)
+pub but-more : (a b c : OutLog) (gathered left due part : List ℕ) → WroteBut a b gathered due →
+    WroteBut b c left (gathered ++ part) → WroteBut a c left (due ++ part)
 but-more a b c gathered left due part v w =
     record {
       front = v.front ++ w.front;
@@ -25,29 +32,46 @@ but-more a b c gathered left due part v w =
     }
 
 -- one part more, at which a put failed
-pub but-front : (a b c : OutLog) (gathered due part : List ℕ) → WroteBut a b gathered due → WroteFront b c (gathered ++ part) → WroteFront a c (due ++ part)
+pub but-front : (a b c : OutLog) (gathered due part : List ℕ) → WroteBut a b gathered due →
+    WroteFront b c (gathered ++ part) → WroteFront a c (due ++ part)
 but-front a b c gathered due part v w =
-    let e : v.front ++ (gathered ++ part) ≡ due ++ part = sym (append_assoc v.front gathered part) ∙ ap (λ z. z ++ part) v.both in
+    let e : v.front ++ (gathered ++ part) ≡ due ++ part =
+    sym (append_assoc v.front gathered part) ∙ ap (λ z. z ++ part) v.both in
     subst (WroteFront a c) e (wrote-front a b c v.front (gathered ++ part) v.wrote w)
 
 -- one part of a list more
-pub but-parts : {X : Type 0} (f : X → List ℕ) (a b c : OutLog) (gathered left : List ℕ) (xs : List X) (i : ℕ) (d : X) → i < length xs → WroteBut a b gathered (flat_map f (take i xs)) → WroteBut b c left (gathered ++ f (get_or xs i d)) → WroteBut a c left (flat_map f (take (i + 1) xs))
+pub but-parts : {X : Type 0} (f : X → List ℕ) (a b c : OutLog) (gathered left : List ℕ)
+    (xs : List X) (i : ℕ) (d : X) → i < length xs → WroteBut a b gathered (flat_map f (take i xs)) →
+    WroteBut b c left (gathered ++ f (get_or xs i d)) →
+    WroteBut a c left (flat_map f (take (i + 1) xs))
 but-parts f a b c gathered left xs i d h p q =
-    rw (flat_map-take f xs i d h) (but-more a b c gathered left (flat_map f (take i xs)) (f (get_or xs i d)) p q)
+    rw (flat_map-take f xs i d h) (but-more a b c gathered left (flat_map f (take i xs))
+    (f (get_or xs i d)) p q)
 
 -- at a part of a list a put failed
-pub gathered-front : {X : Type 0} (f : X → List ℕ) (a b c : OutLog) (gathered : List ℕ) (xs : List X) (i : ℕ) (d : X) → i < length xs → WroteBut a b gathered (flat_map f (take i xs)) → WroteFront b c (gathered ++ f (get_or xs i d)) → WroteFront a c (flat_map f xs)
+pub gathered-front : {X : Type 0} (f : X → List ℕ) (a b c : OutLog) (gathered : List ℕ)
+    (xs : List X) (i : ℕ) (d : X) → i < length xs → WroteBut a b gathered (flat_map f (take i xs)) →
+    WroteFront b c (gathered ++ f (get_or xs i d)) → WroteFront a c (flat_map f xs)
 gathered-front f a b c gathered xs i d h p q =
-    let e : flat_map f xs ≡ (flat_map f (take i xs) ++ f (get_or xs i d)) ++ flat_map f (drop (suc i) xs) =
-    ap (flat_map f) (sym (take-append-drop (suc i) xs)) ∙ (flat_map-append f (take (suc i) xs) (drop (suc i) xs)
-    ∙ ap (λ z. z ++ flat_map f (drop (suc i) xs)) (ap (flat_map f) (take-suc xs i d h) ∙ (flat_map-append f (take i xs) (get_or xs i d ∷ []) ∙ ap (λ z. flat_map f (take i xs) ++ z) (append-nil _)))) in
-    rw e (front-append a c (flat_map f (take i xs) ++ f (get_or xs i d)) (flat_map f (drop (suc i) xs))
+    let e : flat_map f xs ≡ (flat_map f (take i xs) ++ f (get_or xs i d))
+    ++ flat_map f (drop (suc i) xs) =
+    ap (flat_map f) (sym (take-append-drop (suc i) xs))
+    ∙ (flat_map-append f (take (suc i) xs) (drop (suc i) xs)
+    ∙ ap (λ z. z ++ flat_map f (drop (suc i) xs))
+    (ap (flat_map f) (take-suc xs i d h)
+    ∙ (flat_map-append f (take i xs) (get_or xs i d ∷ [])
+    ∙ ap (λ z. flat_map f (take i xs) ++ z) (append-nil _)))) in
+    rw e (front-append a c (flat_map f (take i xs) ++ f (get_or xs i d))
+    (flat_map f (drop (suc i) xs))
     (but-front a b c gathered (flat_map f (take i xs)) (f (get_or xs i d)) p q))
 
 -- all the parts are gathered, and what is left is written
-pub writes_left : {A E : Type 0} (r : Result A E) (a b c : OutLog) (gathered due : List ℕ) → WroteBut a b gathered due → Writes r b c gathered → Writes r a c due
-writes_left (Ok v) a b c gathered due p q = subst (Wrote a c) p.both (wrote-append a b c p.front gathered p.wrote q)
-writes_left (Err e) a b c gathered due p q = subst (WroteFront a c) p.both (wrote-front a b c p.front gathered p.wrote q)
+pub writes_left : {A E : Type 0} (r : Result A E) (a b c : OutLog) (gathered due : List ℕ) →
+    WroteBut a b gathered due → Writes r b c gathered → Writes r a c due
+writes_left (Ok v) a b c gathered due p q =
+    subst (Wrote a c) p.both (wrote-append a b c p.front gathered p.wrote q)
+writes_left (Err e) a b c gathered due p q =
+    subst (WroteFront a c) p.both (wrote-front a b c p.front gathered p.wrote q)
 
 -- where there was no room
 pub had_no_room : {A E : Type 0} (r : Result A E) (P : Type 0) → is_ok r ≡ false → OnErr r P → P
@@ -55,6 +79,7 @@ had_no_room (Ok v) P h p = absurd (true≢false h)
 had_no_room (Err e) P h p = p
 
 -- a part that is written at once
-pub writes_part : {A E : Type 0} (r : Result A E) (a b c : OutLog) (gathered part : List ℕ) → Wrote a b gathered → Writes r b c part → Gathers r a c gathered [] part
+pub writes_part : {A E : Type 0} (r : Result A E) (a b c : OutLog) (gathered part : List ℕ) →
+    Wrote a b gathered → Writes r b c part → Gathers r a c gathered [] part
 writes_part (Ok v) a b c gathered part p q = but-none a b c gathered part p q
 writes_part (Err e) a b c gathered part p q = wrote-front a b c gathered part p q

@@ -23,13 +23,19 @@ spaced_some [] h = absurd (omega arith)
 spaced_some (x ∷ xs) h = refl
 
 -- a piece's text before another
-pub quoted_before : (held next text : List ℕ) → 32 ∷ 34 ∷ (escaped held ++ (escaped next ++ (34 ∷ text))) ≡ (codes " " ++ quoted (held ++ next)) ++ text
+pub quoted_before : (held next text : List ℕ) →
+    32 ∷ 34 ∷ (escaped held ++ (escaped next ++ (34 ∷ text))) ≡ (codes " " ++ quoted (held ++ next))
+    ++ text
 quoted_before held next text =
-    rw escaped_append (ap (λ z. 32 ∷ 34 ∷ z) (sym (append_assoc (escaped held ++ escaped next) (34 ∷ []) text ∙ append_assoc (escaped held) (escaped next) (34 ∷ text))))
+    rw escaped_append (ap (λ z. 32 ∷ 34 ∷ z)
+    (sym (append_assoc (escaped held ++ escaped next) (34 ∷ []) text
+    ∙ append_assoc (escaped held) (escaped next) (34 ∷ text))))
 
-pub spaced_before : (held next text : List ℕ) → 0 < length (held ++ next) → 32 ∷ (hex held ++ (hex next ++ text)) ≡ spaced_hex (held ++ next) ++ text
+pub spaced_before : (held next text : List ℕ) → 0 < length (held ++ next) →
+    32 ∷ (hex held ++ (hex next ++ text)) ≡ spaced_hex (held ++ next) ++ text
 spaced_before held next text some =
-    rw (spaced_some (held ++ next) some, hex_append) (ap (λ z. 32 ∷ z) (sym (append_assoc (hex held) (hex next) text)))
+    rw (spaced_some (held ++ next) some, hex_append)
+    (ap (λ z. 32 ∷ z) (sym (append_assoc (hex held) (hex next) text)))
 
 -- one octet alone
 pub escaped_one : (x : ℕ) → escaped (x ∷ []) ≡ escaped_octet x
@@ -39,23 +45,28 @@ escaped_one x = append-nil (escaped_octet x)
 -- a power of 16 as one of 2
 pow-16 : (k : ℕ) → 16 ^ k ≡ 2 ^ (4 * k)
 pow-16 zero = refl
-pow-16 (suc k) = let e : 4 * suc k ≡ 4 * k + 4 = omega arith in rw (pow-suc, e, pow-add, pow-16 k) refl
+pow-16 (suc k) = let e : 4 * suc k ≡ 4 * k + 4 = omega arith in
+    rw (pow-suc, e, pow-add, pow-16 k) refl
 
 -- the two digits of each octet stand in a table
 are_pairs : ℕ → Bool
 are_pairs zero = true
-are_pairs (suc x) = (eqb (get_or PAIRS (x * 2) 0) (hex_digit (x / 16)) && eqb (get_or PAIRS (x * 2 + 1) 0) (hex_digit (x % 16))) && are_pairs x
+are_pairs (suc x) = (eqb (get_or PAIRS (x * 2) 0) (hex_digit (x / 16))
+    && eqb (get_or PAIRS (x * 2 + 1) 0) (hex_digit (x % 16))) && are_pairs x
 
-pairs_below : (n x : ℕ) → T (are_pairs n) → x < n → (get_or PAIRS (x * 2) 0 ≡ hex_digit (x / 16)) × (get_or PAIRS (x * 2 + 1) 0 ≡ hex_digit (x % 16))
+pairs_below : (n x : ℕ) → T (are_pairs n) → x < n → (get_or PAIRS (x * 2) 0 ≡ hex_digit (x / 16))
+    × (get_or PAIRS (x * 2 + 1) 0 ≡ hex_digit (x % 16))
 unfolding are_pairs
 pairs_below zero x t h = absurd (omega arith)
 pairs_below (suc n) x t h =
     elim (eq-zero-or-pos (n - x)) [
-      | inl z ↦ let e : x ≡ n = omega arith in let a = and_l _ (are_pairs n) t in rw e (eqb→eq _ _ (and_l _ _ a), eqb→eq _ _ (and_r _ _ a))
+      | inl z ↦ let e : x ≡ n = omega arith in let a = and_l _ (are_pairs n) t in
+          rw e (eqb→eq _ _ (and_l _ _ a), eqb→eq _ _ (and_r _ _ a))
       | inr g ↦ pairs_below n x (and_r _ (are_pairs n) t) (omega arith)
     ]
 
-pub pair_at : (x : ℕ) → x < 256 → (get_or PAIRS (x * 2) 0 ≡ hex_digit (x / 16)) × (get_or PAIRS (x * 2 + 1) 0 ≡ hex_digit (x % 16))
+pub pair_at : (x : ℕ) → x < 256 → (get_or PAIRS (x * 2) 0 ≡ hex_digit (x / 16))
+    × (get_or PAIRS (x * 2 + 1) 0 ≡ hex_digit (x % 16))
 unfolding are_pairs
 pair_at x h = pairs_below 256 x tt h
 
@@ -69,16 +80,24 @@ unfolding escaped
 escaped_last text xs = rw (drop_all (length xs) xs (omega arith)) refl
 
 -- one octet more, from the end
-from_end : (xs : List ℕ) (i : ℕ) → 0 < i → i ≤ length xs → drop (i - 1) xs ≡ get_or xs (i - 1) 0 ∷ drop i xs
-from_end xs i p h = let e : i - 1 + 1 ≡ i = omega arith in rw e at (drop_more xs (i - 1) 0 (omega arith))
+from_end : (xs : List ℕ) (i : ℕ) → 0 < i → i ≤ length xs →
+    drop (i - 1) xs ≡ get_or xs (i - 1) 0 ∷ drop i xs
+from_end xs i p h = let e : i - 1 + 1 ≡ i = omega arith in
+    rw e at (drop_more xs (i - 1) 0 (omega arith))
 
-pub hex_before : (text before : List ℕ) (xs : List ℕ) (i : ℕ) → 0 < i → i ≤ length xs → before ≡ hex (drop i xs) ++ text → hex_octet (get_or xs (i - 1) 0) ++ before ≡ hex (drop (i - 1) xs) ++ text
+pub hex_before : (text before : List ℕ) (xs : List ℕ) (i : ℕ) → 0 < i → i ≤ length xs →
+    before ≡ hex (drop i xs) ++ text → hex_octet (get_or xs (i - 1) 0)
+    ++ before ≡ hex (drop (i - 1) xs) ++ text
 unfolding hex
 hex_before text before xs i p h e = rw (from_end xs i p h, e) refl
 
-pub escaped_before : (text before : List ℕ) (xs : List ℕ) (i : ℕ) → 0 < i → i ≤ length xs → before ≡ escaped (drop i xs) ++ text → escaped_octet (get_or xs (i - 1) 0) ++ before ≡ escaped (drop (i - 1) xs) ++ text
+pub escaped_before : (text before : List ℕ) (xs : List ℕ) (i : ℕ) → 0 < i → i ≤ length xs →
+    before ≡ escaped (drop i xs) ++ text → escaped_octet (get_or xs (i - 1) 0)
+    ++ before ≡ escaped (drop (i - 1) xs) ++ text
 unfolding escaped
-escaped_before text before xs i p h e = rw (from_end xs i p h, e) (sym (append_assoc (escaped_octet (get_or xs (i - 1) 0)) (flat_map escaped_octet (drop i xs)) text))
+escaped_before text before xs i p h e = rw (from_end xs i p h, e)
+    (sym (append_assoc (escaped_octet (get_or xs (i - 1) 0)) (flat_map escaped_octet (drop i xs))
+    text))
 
 -- the digits of one octet more of a number, from the lowest
 pub hex_number_none : (text : List ℕ) (n : ℕ) → text ≡ hex_number 0 n ++ text
@@ -96,10 +115,18 @@ low_digit k n =
     let e : 4 * (2 * k) ≡ 8 * k = omega arith in
     rw (pow-16 (2 * k), e) (omega arith)
 
-pub hex_number_before : (text before : List ℕ) (k n : ℕ) → before ≡ hex_number (2 * k) n ++ text → hex_octet (n / 2 ^ (8 * k) % 256) ++ before ≡ hex_number (2 * (k + 1)) n ++ text
+pub hex_number_before : (text before : List ℕ) (k n : ℕ) → before ≡ hex_number (2 * k) n ++ text →
+    hex_octet (n / 2 ^ (8 * k) % 256) ++ before ≡ hex_number (2 * (k + 1)) n ++ text
 unfolding hex_number
 hex_number_before text before k n e =
     let s : 2 * (k + 1) ≡ suc (suc (2 * k)) = omega arith in
     rw (s, high_digit, low_digit, e, add-one) refl
 
-pub ruleset spelling_steps = (hex_last, hex_before, escaped_last, escaped_before, hex_number_none, hex_number_before)
+pub ruleset spelling_steps = (
+  hex_last,
+  hex_before,
+  escaped_last,
+  escaped_before,
+  hex_number_none,
+  hex_number_before,
+)

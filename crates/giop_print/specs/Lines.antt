@@ -71,9 +71,11 @@ kind_line message path kind text =
     joined (codes "m" ∷ decimal message ∷ codes " " ∷ path ∷ kind ∷ text ∷ codes "\n" ∷ [])
 
 abbrev pub value_line : ℕ → List ℕ → Value → List ℕ
-value_line message path (values.Primitive prim number) = kind_line message path (spaced (kind_word prim)) (number_text (size_of prim) number)
+value_line message path (values.Primitive prim number) =
+    kind_line message path (spaced (kind_word prim)) (number_text (size_of prim) number)
 value_line message path (values.Enum name) = kind_line message path (codes " enum ") name.now
-value_line message path (values.Count count) = kind_line message path (codes " count ") (decimal count)
+value_line message path (values.Count count) =
+    kind_line message path (codes " count ") (decimal count)
 
 -- the octets of a piece
 abbrev pub piece_octets : Piece → List ℕ
@@ -105,7 +107,8 @@ content_line message path word offset text more =
     ∷ codes "\n" ∷ [])
 
 abbrev pub piece_line : ℕ → List ℕ → Piece → ℕ → Bool → List ℕ
-piece_line message path piece offset more = content_line message path (piece_word piece) offset (piece_text piece) (more_word more)
+piece_line message path piece offset more =
+    content_line message path (piece_word piece) offset (piece_text piece) (more_word more)
 
 abbrev pub split_piece_line : ℕ → List ℕ → Piece → List ℕ → ℕ → Bool → List ℕ
 split_piece_line message path held octets offset more =
@@ -113,13 +116,15 @@ split_piece_line message path held octets offset more =
 
 -- an encapsulation: how many octets it has, their order, and those that are left after its value
 abbrev pub encapsulation_line : ℕ → List ℕ → ℕ → List ℕ
-encapsulation_line message path length = kind_line message path (codes " encapsulation ") (decimal length)
+encapsulation_line message path length =
+    kind_line message path (codes " encapsulation ") (decimal length)
 
 abbrev pub order_line : ℕ → List ℕ → Order → List ℕ
 order_line message path order = kind_line message path (codes " order ") (order_word order)
 
 abbrev pub inner_rest_line : ℕ → List ℕ → ℕ → List ℕ → List ℕ
-inner_rest_line message path offset octets = content_line message path (codes " rest @") offset (spaced_hex octets) []
+inner_rest_line message path offset octets =
+    content_line message path (codes " rest @") offset (spaced_hex octets) []
 
 unfoldable pub rest_line : ℕ → ℕ → List ℕ → List ℕ
 rest_line message offset octets =
@@ -134,7 +139,8 @@ start_line message minor order kind size more =
 
 unfoldable pub call_line : ℕ → ℕ → List ℕ → List ℕ
 call_line message id name =
-    joined (codes "m" ∷ decimal message ∷ codes " call " ∷ decimal id ∷ codes " " ∷ name ∷ codes "\n" ∷ [])
+    joined (codes "m" ∷ decimal message ∷ codes " call " ∷ decimal id ∷ codes " " ∷ name ∷ codes
+    "\n" ∷ [])
 
 unfoldable pub continues_line : ℕ → ℕ → List ℕ
 continues_line fragment opener =

@@ -41,4 +41,5 @@ pub record WroteFront (before after : OutLog) (due : List ℕ) : Type 0 where
 
 -- what writing did: all that was due, or a front of it and a failed put
 abbrev pub Writes : {A E : Type 0} → Result A E → OutLog → OutLog → List ℕ → Type 0
-Writes r before after due = MatchResult r (λ _. Wrote before after due) (λ _. WroteFront before after due)
+Writes r before after due = MatchResult r (λ _. Wrote before after due)
+    (λ _. WroteFront before after due)

@@ -1,4 +1,5 @@
--- Where a value stands in its message: a root and what is added for each part on the way (docs/FORMATS.md; meaning).
+-- Where a value stands in its message: a root and what is added for each part on the way
+-- (docs/FORMATS.md; meaning).
 use Rattle.std.specs.Prelude.{ℕ, List, ◌++◌, codes, decimal}
 use Rattle.giop_print.specs.declared.path.Root.{Root}
 use Rattle.giop_print.specs.declared.path.Root.TheVariants.{Header, Exception, Body}

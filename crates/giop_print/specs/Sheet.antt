@@ -4,7 +4,12 @@ use Rattle.giop_print.specs.declared.sheet.Sheet.{Sheet}
 use Rattle.giop_print.specs.Output.{OutLog}
 
 abbrev pub sheet_log : Sheet → OutLog
-sheet_log s = record { written = Some (take s.used s.into.now); puts = s.puts; failures = s.failures }
+sheet_log s = record {
+  written = Some (take s.used s.into.now);
+  puts = s.puts;
+  failures =
+      s.failures;
+}
 
 -- how many octets more fit
 abbrev pub sheet_room : Sheet → ℕ

@@ -20,7 +20,8 @@ hex_number (suc digits) n = hex_digit (n / 16 ^ digits % 16) ∷ hex_number digi
 
 -- what stands for itself: 20 to 7e, without the quote and the backslash
 abbrev pub is_plain : ℕ → Bool
-is_plain x = if nat_lt x 32 then false else (if nat_lt 126 x then false else not (x == 34 || x == 92))
+is_plain x = if nat_lt x 32 then false else
+    (if nat_lt 126 x then false else not (x == 34 || x == 92))
 
 -- another octet is \x and its two digits
 abbrev pub escaped_octet : ℕ → List ℕ

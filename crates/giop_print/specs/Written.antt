@@ -4,4 +4,9 @@ use Rattle.giop_print.specs.declared.written.Written.{Written}
 use Rattle.giop_print.specs.Output.{OutLog}
 
 abbrev pub written_log : {W : Type 0} → (W → Option (List ℕ)) → Written W → OutLog
-written_log contents w = record { written = contents w.writer; puts = w.puts; failures = w.failures }
+written_log contents w = record {
+  written = contents w.writer;
+  puts = w.puts;
+  failures =
+      w.failures;
+}

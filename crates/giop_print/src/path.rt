@@ -36,9 +36,14 @@ impl Model for Path {
 
     ghost view = { λ path. record { text = path.text.items; segments = path.segments } };
 
-    ghost inverse = { λ shown. record { text = record { items = shown.text }; segments = shown.segments } };
+    ghost inverse = { λ shown. record {
+      text = record { items = shown.text };
+      segments =
+          shown.segments;
+    } };
 
-    ghost invariant = { λ path. (path.segments ≤ 24) × (length path.text.items ≤ 9 + 65 * path.segments) };
+    ghost invariant = { λ path. (path.segments ≤ 24)
+        × (length path.text.items ≤ 9 + 65 * path.segments) };
 }
 
 impl Path {

@@ -16,7 +16,8 @@ use Rattle.giop_run.specs.declared.fault.ProgramFault.{ProgramFault}
 use Rattle.giop_run.specs.declared.fault.ProgramFault.TheVariants as faults
 
 -- no step before the run fails with these
-not_unwritable : (held : Folder) (asked : Asked) (name : _) → Refused held asked (faults.Unwritable name) → ⊥
+not_unwritable : (held : Folder) (asked : Asked) (name : _) →
+    Refused held asked (faults.Unwritable name) → ⊥
 not_unwritable held asked name (inl q) = q
 not_unwritable held asked name (inr (inl (C, c, q))) = q
 not_unwritable held asked name (inr (inr (C, l, r, inl q))) = q
@@ -38,43 +39,77 @@ failed_by t (faults.Run fault.Failed) x y d r u s = absurd (s refl)
 failed_by t (faults.Run fault.Read) x y d r u s = record { run = d }
 failed_by t (faults.Run fault.Turns) x y d r u s = record { run = d }
 failed_by t (faults.Run fault.Out) x y d r u s = record { run = d }
-failed_by t (faults.Unwritable name) x y d r u s = absurd (not_unwritable t.held t.asked name (r refl))
+failed_by t (faults.Unwritable name) x y d r u s =
+    absurd (not_unwritable t.held t.asked name (r refl))
 failed_by t faults.Words x y d r u s = absurd (not_words t.held t.asked (r refl))
-failed_by t (faults.Signatures name why) x y d r u s = record { refused = r refl; unwritten = u refl }
+failed_by t (faults.Signatures name why) x y d r u s =
+    record { refused = r refl; unwritten = u refl }
 failed_by t (faults.Requests name why) x y d r u s = record { refused = r refl; unwritten = u refl }
-failed_by t (faults.Checkpoint name why) x y d r u s = record { refused = r refl; unwritten = u refl }
+failed_by t (faults.Checkpoint name why) x y d r u s =
+    record { refused = r refl; unwritten = u refl }
 failed_by t (faults.Unreadable name) x y d r u s = record { refused = r refl; unwritten = u refl }
 failed_by t faults.OutOfMemory x y d r u s = record { refused = r refl; unwritten = u refl }
 
-perform_run : (t : Task) (C : Table) (l : RequestTable) (r : Result Report RunFault) (x y : _) → AreOf C l → ReadsBy t.held t.asked C l
-    → GoesOn t.held t.asked.resume t.asked.most C l (λ n p. Dumped (setup_by C l n t.asked) r p (stream_of t.held t.given t.asked.stream) x y)
+perform_run : (t : Task) (C : Table) (l : RequestTable) (r : Result Report RunFault) (x y : _) →
+    AreOf C l → ReadsBy t.held t.asked C l
+    → GoesOn t.held t.asked.resume t.asked.most C l
+    (λ n p. Dumped (setup_by C l n t.asked) r p (stream_of t.held t.given t.asked.stream) x y)
     → Performed t r x y
-perform_run t C l r x y of by d = record { table = C; request_table = l; of = of; reads = by; dumped = d }
+perform_run t C l r x y of by d = record {
+  table = C;
+  request_table = l;
+  of = of;
+  reads = by;
+  dumped = d;
+}
 
 -- what the program did, by what the run did with a catalogue and a list, and the save after it
-pub did_by : (t : Task) (C : Table) (l : RequestTable) (ran : Result Report ProgramFault) (result : Result Totals ProgramFault)
+pub did_by : (t : Task) (C : Table) (l : RequestTable) (ran : Result Report ProgramFault)
+    (result : Result Totals ProgramFault)
     (x y : _) (a b : Option (List Saved)) → AreOf C l → ReadsBy t.held t.asked C l
     → IfSome (run_of ran) (λ r. GoesOn t.held t.asked.resume t.asked.most C l
     (λ n p. Dumped (setup_by C l n t.asked) r p (stream_of t.held t.given t.asked.stream) x y))
-    → (run_of ran ≡ None → IfErr ran (λ why. NoCheckpoint t.held t.asked.resume (counts_of C l) why ⊎ NoStream t.asked.stream why))
+    → (run_of ran ≡ None → IfErr ran (λ why. NoCheckpoint t.held t.asked.resume (counts_of C l) why
+    ⊎ NoStream t.asked.stream why))
     → (run_of ran ≡ None → y ≡ x)
     → (run_of ran ≡ Some (Err fault.Failed) → ⊥)
     → Kept t.asked.save ran result a b → Did t result x y a b
 did_by t C l (Ok report) (Ok totals) x y a b of by d r u s k =
-    record { report = report; run = perform_run t C l (Ok report) x y of by d; totals_are = k.0; saved = k.1 }
+    record {
+      report = report;
+      run = perform_run t C l (Ok report) x y of by d;
+      totals_are = k.0;
+      saved = k.1;
+    }
 did_by t C l (Ok report) (Err why) x y a b of by d r u s k =
-    rw k.1.1 (record { named = k.1.2; report = report; run = perform_run t C l (Ok report) x y of by d }, k.0)
+    rw k.1.1 (
+      record {
+        named = k.1.2;
+        report = report;
+        run =
+            perform_run t C l (Ok report) x y of by d;
+      },
+      k.0,
+    )
 did_by t C l (Err why) result x y a b of by d r u s k =
-    rw k.0 (failed_by t why x y (performed_by (run_of (Err why)) d) (λ e. inr (inr (C, l, by, r e))) u s, k.1)
+    rw k.0 (
+      failed_by t why x y (performed_by (run_of (Err why)) d) (λ e. inr (inr (C, l, by, r e)))
+          u s,
+      k.1,
+    )
   where
-    performed_by : (ran : Option (Result Report RunFault)) → IfSome ran (λ r. GoesOn t.held t.asked.resume t.asked.most C l
-        (λ n p. Dumped (setup_by C l n t.asked) r p (stream_of t.held t.given t.asked.stream) x y)) → IfSome ran (λ r. Performed t r x y)
+    performed_by : (ran : Option (Result Report RunFault)) →
+        IfSome ran (λ r. GoesOn t.held t.asked.resume t.asked.most C l
+        (λ n p. Dumped (setup_by C l n t.asked) r p (stream_of t.held t.given t.asked.stream) x y))
+        → IfSome ran (λ r. Performed t r x y)
     performed_by None d = tt
     performed_by (Some r) d = perform_run t C l r x y of by d
 
 -- the last step succeeds only where the run did
-pub kept_ok : (asked : Option (List ℕ)) (ran : Result Report ProgramFault) (result : Result Totals ProgramFault)
-    (a b : Option (List Saved)) (P : Type 0) → Kept asked ran result a b → OnOk ran P → OnOk result P
+pub kept_ok : (asked : Option (List ℕ)) (ran : Result Report ProgramFault)
+    (result : Result Totals ProgramFault)
+    (a b : Option (List Saved)) (P : Type 0) → Kept asked ran result a b → OnOk ran P →
+    OnOk result P
 kept_ok asked (Ok report) (Ok totals) a b P k p = p
 kept_ok asked (Ok report) (Err why) a b P k p = tt
 kept_ok asked (Err why) result a b P k p = rw k.0 tt

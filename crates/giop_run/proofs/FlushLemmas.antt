@@ -1,10 +1,12 @@
--- What was written before a flush stays written after it; a flush that fails writes none of what was due.
+-- What was written before a flush stays written after it; a flush that fails writes none of what
+-- was due.
 use Rattle.std.proofs.Common.{ℕ, List, [], Option, Some, None, ◌∙◌, append-nil, sym, arith}
 use Rattle.std.specs.Io.KnownBytes.{Appends, Keeps}
 use Rattle.giop_print.specs.Output.{OutLog, Wrote, WroteFront}
 use Rattle.giop_run.specs.Flushing.{Flushed, FlushFailed}
 
-appends_kept : (a b c : Option (List ℕ)) (due : List ℕ) → Appends a b due → Keeps b c → Appends a c due
+appends_kept : (a b c : Option (List ℕ)) (due : List ℕ) → Appends a b due → Keeps b c →
+    Appends a c due
 appends_kept None b c due p q = tt
 appends_kept (Some x) None c due p q = absurd p
 appends_kept (Some x) (Some y) None due p q = absurd q
@@ -16,7 +18,8 @@ appends_none (Some x) None k = absurd k
 appends_none (Some x) (Some y) k = rw k (sym (append-nil x))
 
 -- what was written stays written after a flush
-pub wrote_flushed : (x y z : OutLog) (due kept : List ℕ) → Wrote x y due → Flushed y z kept → Wrote x z due
+pub wrote_flushed : (x y z : OutLog) (due kept : List ℕ) → Wrote x y due → Flushed y z kept →
+    Wrote x z due
 wrote_flushed x y z due kept w f =
     record {
       written = appends_kept x.written y.written z.written due w.written f.written;

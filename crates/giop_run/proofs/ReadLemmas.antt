@@ -13,11 +13,13 @@ pub consumes-same : (x : Option (List ℕ)) → Consumes x x []
 consumes-same None = tt
 consumes-same (Some xs) = refl
 
-pub consumes-append : (x y z : Option (List ℕ)) (s t : List ℕ) → Consumes x y s → Consumes y z t → Consumes x z (s ++ t)
+pub consumes-append : (x y z : Option (List ℕ)) (s t : List ℕ) → Consumes x y s → Consumes y z t →
+    Consumes x z (s ++ t)
 consumes-append None y z s t p q = tt
 consumes-append (Some xs) None z s t p q = absurd p
 consumes-append (Some xs) (Some ys) None s t p q = absurd q
-consumes-append (Some xs) (Some ys) (Some zs) s t p q = p ∙ (ap (λ v. s ++ v) q ∙ sym (append_assoc s t zs))
+consumes-append (Some xs) (Some ys) (Some zs) s t p q =
+    p ∙ (ap (λ v. s ++ v) q ∙ sym (append_assoc s t zs))
 
 consumes_kept : (x y : Option (List ℕ)) → Keeps x y → Consumes x y []
 consumes_kept None y k = tt
@@ -35,16 +37,24 @@ read_none a b f =
     }
 
 -- a read of 0 into some room is the end
-pub read_end : (a b : SourceLog) (into : List ℕ) (n : ℕ) → Gave a b into n → n ≡ 0 → 0 < length into → OneRead [] a b × IsEnded a b
+pub read_end : (a b : SourceLog) (into : List ℕ) (n : ℕ) → Gave a b into n → n ≡ 0 →
+    0 < length into → OneRead [] a b × IsEnded a b
 read_end a b into n g z some =
     let t1 = eq-eqb n 0 z in
     let t2 = lt-ltb 0 (length into) some in (
-      record { left = rw z at g.left; octets = All-nil (λ x. x < 256); within = omega arith; reads = g.reads },
+      record {
+        left = rw z at g.left;
+        octets = All-nil (λ x. x < 256);
+        within = omega arith;
+        reads =
+            g.reads;
+      },
       record { answered = g.ends ∙ rw (t1, t2) refl; none = g.over z some },
     )
 
 -- a read of some octets gave no more than there was room for
-pub read_some : (a b : SourceLog) (into : List ℕ) (n : ℕ) → Gave a b into n → AreOctets into → length into ≡ 4096 → OneRead (take n into) a b
+pub read_some : (a b : SourceLog) (into : List ℕ) (n : ℕ) → Gave a b into n → AreOctets into →
+    length into ≡ 4096 → OneRead (take n into) a b
 read_some a b into n g o r =
     record {
       left = g.left;
@@ -54,11 +64,13 @@ read_some a b into n g o r =
     }
 
 -- and it is not the end
-pub not_end : (a b : SourceLog) (into : List ℕ) (n : ℕ) → Gave a b into n → (n ≡ 0 → ⊥) → b.ends ≡ a.ends
+pub not_end : (a b : SourceLog) (into : List ℕ) (n : ℕ) → Gave a b into n → (n ≡ 0 → ⊥) →
+    b.ends ≡ a.ends
 not_end a b into n g some = let t = ne_eqb n 0 some in g.ends ∙ rw t refl
 
 -- one read more, in a count that allows for it
-pub one_more_read : (before so_far turns after most : ℕ) → so_far ≤ before + turns → after ≡ counted so_far → turns < most → after ≤ before + most
+pub one_more_read : (before so_far turns after most : ℕ) → so_far ≤ before + turns →
+    after ≡ counted so_far → turns < most → after ≤ before + most
 unfolding counted
 one_more_read before so_far turns after most below one room = omega arith
 

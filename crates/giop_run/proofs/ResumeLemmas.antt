@@ -14,13 +14,17 @@ use Rattle.giop_run.specs.declared.fault.ProgramFault.{ProgramFault}
 use Rattle.giop_run.specs.declared.fault.ProgramFault.TheVariants as faults
 
 -- the octets of the file are refused
-pub not_resumed : {A : Type 0} → (r : Result A ProgramFault) (held : Folder) (name : Bor (List ℕ)) (counts : Counts) (octets : List ℕ)
+pub not_resumed : {A : Type 0} → (r : Result A ProgramFault) (held : Folder) (name : Bor (List ℕ))
+    (counts : Counts) (octets : List ℕ)
     → IsFront checkpoint_most (held name.now) octets
-    → IfErr r (λ why. (fault : LoadFault) × (fault ≡ refusals.OutOfMemory → why ≡ faults.OutOfMemory)
-    × (fault ≢ refusals.OutOfMemory → why ≡ faults.Checkpoint name fault) × IsRefused counts octets fault)
+    → IfErr r (λ why. (fault : LoadFault) ×
+    (fault ≡ refusals.OutOfMemory → why ≡ faults.OutOfMemory)
+    × (fault ≢ refusals.OutOfMemory → why ≡ faults.Checkpoint name fault)
+    × IsRefused counts octets fault)
     → IfErr r (NoCheckpoint held (Some name.now) counts)
 not_resumed (Ok engine) held name counts octets front refused = tt
-not_resumed (Err why) held name counts octets front (refusals.OutOfMemory, memory, is, refused) = rw (memory refl) tt
+not_resumed (Err why) held name counts octets front (refusals.OutOfMemory, memory, is, refused) =
+    rw (memory refl) tt
 not_resumed (Err why) held name counts octets front (refusals.Magic, memory, is, refused) =
     rw (is (λ e. cc)) (refl, (octets, front, refused))
 not_resumed (Err why) held name counts octets front (refusals.Version, memory, is, refused) =
@@ -33,7 +37,8 @@ not_resumed (Err why) held name counts octets front (refusals.State, memory, is,
     rw (is (λ e. cc)) (refl, (octets, front, refused))
 
 -- the octets of the file are loaded: the engine holds what they are a checkpoint of
-pub is_resumed : {E : Type 0} (r : Result EngineView E) (held : Folder) (name : Bor (List ℕ)) (most : ℕ) (C : Table) (l : RequestTable)
+pub is_resumed : {E : Type 0} (r : Result EngineView E) (held : Folder) (name : Bor (List ℕ))
+    (most : ℕ) (C : Table) (l : RequestTable)
     (octets : List ℕ) → IsFront checkpoint_most (held name.now) octets
     → IfOk r (λ e. (n : ℕ) (p : List ℕ) → Spells octets C l n p → (e.most ≡ n) × Holds e p)
     → IfOk r (λ e. IsOurs (counts_of C l) octets)

@@ -1,4 +1,5 @@
--- What octets add to a stream's text, piece by piece, and what an engine's status means for the stream.
+-- What octets add to a stream's text, piece by piece, and what an engine's status means for the
+-- stream.
 use Rattle.std.proofs.Common.{◌≡◌, List, ℕ, [], ◌++◌, Option, Some, None, refl, append-nil, IsSome}
 use Rattle.std.proofs.Math.Seq.{drop-length}
 use Rattle.giop_print.specs.Output.{OutLog, Wrote}
@@ -33,7 +34,8 @@ running_fault : (o : Option (ℕ × StreamFault)) → Running ≡ status_of (fau
 running_fault None e = refl
 running_fault (Some o) e = cc
 
-stopped_fault : (o : Option (ℕ × StreamFault)) (f : _) → Stopped f ≡ status_of (fault_of o) → IsSome o
+stopped_fault : (o : Option (ℕ × StreamFault)) (f : _) → Stopped f ≡ status_of (fault_of o) →
+    IsSome o
 stopped_fault None f e = cc
 stopped_fault (Some o) f e = refl
 

@@ -24,7 +24,9 @@ use Rattle.giop_run.proofs.ReadLemmas.{consumes-same, consumes-append}
 -- one read and feed
 
 -- a read of some octets, and their feed
-pub turned_on : (R : Rules) (r : Result Bool RunFault) (p s : List ℕ) (e : EngineView) (a b : SourceLog) (x y : OutLog) → OneRead s a b → b.failures ≡ a.failures → b.ends ≡ a.ends → Fed R r p s e x y → HasReadAndFed R r p s e a b x y
+pub turned_on : (R : Rules) (r : Result Bool RunFault) (p s : List ℕ) (e : EngineView)
+    (a b : SourceLog) (x y : OutLog) → OneRead s a b → b.failures ≡ a.failures → b.ends ≡ a.ends →
+    Fed R r p s e x y → HasReadAndFed R r p s e a b x y
 turned_on R (Ok true) p s e a b x y n k l f = (n, k, l, f.0, f.1)
 turned_on R (Ok false) p s e a b x y n k l f = (n, k, inr f.1, f.0)
 turned_on R (Err fault.Out) p s e a b x y n k l f = (n, k, f)
@@ -33,26 +35,38 @@ turned_on R (Err fault.Turns) p s e a b x y n k l f = absurd f
 turned_on R (Err fault.Failed) p s e a b x y n k l f = absurd f
 
 -- the rules of a read and feed may be replaced by equal ones
-turned_by : (Q R : Rules) (r : Result Bool RunFault) (p s : List ℕ) (e : EngineView) (a b : SourceLog) (x y : OutLog) → Q ≡ R → HasReadAndFed Q r p s e a b x y → HasReadAndFed R r p s e a b x y
+turned_by : (Q R : Rules) (r : Result Bool RunFault) (p s : List ℕ) (e : EngineView)
+    (a b : SourceLog) (x y : OutLog) → Q ≡ R → HasReadAndFed Q r p s e a b x y →
+    HasReadAndFed R r p s e a b x y
 turned_by Q R r p s e a b x y q t = subst (λ z. HasReadAndFed z r p s e a b x y) q t
 
 -- an engine that reads by what a run reads by closed the run
-closed_by : (w : RunSetup) (d : EngineView) (r : Result Report RunFault) (p : List ℕ) (x y : OutLog) → (d.table ≡ w.table) × (d.request_table ≡ w.request_table) × (d.most ≡ w.most) → Closed (setup_of d w.ending) r p x y → Closed w r p x y
+closed_by : (w : RunSetup) (d : EngineView) (r : Result Report RunFault) (p : List ℕ)
+    (x y : OutLog) → (d.table ≡ w.table) × (d.request_table ≡ w.request_table) × (d.most ≡ w.most) →
+    Closed (setup_of d w.ending) r p x y → Closed w r p x y
 closed_by w d r p x y (t, l, n) q = rw (t, l, n) at q
 
 -- nothing was read
-pub took-none : (R : Rules) (p : List ℕ) (e : EngineView) (x : OutLog) → rules_of e ≡ R → Holds e p → HasFed R p [] e x x
+pub took-none : (R : Rules) (p : List ℕ) (e : EngineView) (x : OutLog) → rules_of e ≡ R →
+    Holds e p → HasFed R p [] e x x
 took-none R p e x r h = record { reads = r; holds = rw append-nil h; written = wrote-none R x p }
 
 -- a flush
 
 -- what was written stays written
-pub going_flushed : (R : Rules) (p s : List ℕ) (e : EngineView) (k : ℕ) (a b : SourceLog) (x y z : OutLog) (kept : List ℕ) → Going R p s e k a b x y → Flushed y z kept → Going R p s e k a b x z
+pub going_flushed : (R : Rules) (p s : List ℕ) (e : EngineView) (k : ℕ) (a b : SourceLog)
+    (x y z : OutLog) (kept : List ℕ) → Going R p s e k a b x y → Flushed y z kept →
+    Going R p s e k a b x z
 going_flushed R p s e k a b x y z kept g f =
     record {
       began = g.began;
       running = g.running;
-      took = record { reads = g.took.reads; holds = g.took.holds; written = wrote_flushed x y z (added R p s) kept g.took.written f };
+      took = record {
+        reads = g.took.reads;
+        holds = g.took.holds;
+        written =
+            wrote_flushed x y z (added R p s) kept g.took.written f;
+      };
       left = g.left;
       octets = g.octets;
       reads = g.reads;
@@ -63,7 +77,8 @@ going_flushed R p s e k a b x y z kept g f =
 
 -- the finish of a stream, where it or the flush may fail
 pub closed_flushed : (e : EngineView) (t : Totals) (p : List ℕ) (x y z : OutLog) (kept : List ℕ)
-    → Completed (rules_of e) (Ok t) p x y → Flushed y z kept → Closed (setup_of e endings.Finish) (Ok (record { totals = t; kept = None })) p x z
+    → Completed (rules_of e) (Ok t) p x y → Flushed y z kept →
+    Closed (setup_of e endings.Finish) (Ok (record { totals = t; kept = None })) p x z
 closed_flushed e t p x y z kept (w, f) q =
     record {
       written = wrote_flushed x y z (closing (rules_of e) p) kept w q;
@@ -71,7 +86,8 @@ closed_flushed e t p x y z kept (w, f) q =
     }
 
 pub closed_cut : (e : EngineView) (t : Totals) (p : List ℕ) (x y z : OutLog)
-    → Completed (rules_of e) (Ok t) p x y → FlushFailed y z → Closed (setup_of e endings.Finish) (Err fault.Out) p x z
+    → Completed (rules_of e) (Ok t) p x y → FlushFailed y z →
+    Closed (setup_of e endings.Finish) (Err fault.Out) p x z
 closed_cut e t p x y z (w, f) q =
     rw append-nil at (wrote-front x y z (closing (rules_of e) p) [] w (flush_front y z [] q))
 
@@ -83,8 +99,10 @@ closed_unfinished e fault.Turns p x y f = absurd f
 closed_unfinished e fault.Failed p x y f = absurd f
 
 -- an engine that is kept, where its flush may fail
-pub closed_kept : (e : EngineView) (p : List ℕ) (x y : OutLog) (kept : List ℕ) → Holds e p → Flushed x y kept
-    → Closed (setup_of e endings.Keep) (Ok (record { totals = e.stream.totals; kept = Some e })) p x y
+pub closed_kept : (e : EngineView) (p : List ℕ) (x y : OutLog) (kept : List ℕ) → Holds e p →
+    Flushed x y kept
+    → Closed (setup_of e endings.Keep) (Ok (record { totals = e.stream.totals; kept = Some e })) p x
+    y
 unfolding state_of
 closed_kept e p x y kept h f =
     record {
@@ -92,7 +110,8 @@ closed_kept e p x y kept h f =
       ended = record { totals = h.shows.totals; engine = e; kept = refl; holds = h; same = refl };
     }
 
-pub closed_unkept : (e : EngineView) (p : List ℕ) (x y : OutLog) → FlushFailed x y → Closed (setup_of e endings.Keep) (Err fault.Out) p x y
+pub closed_unkept : (e : EngineView) (p : List ℕ) (x y : OutLog) → FlushFailed x y →
+    Closed (setup_of e endings.Keep) (Err fault.Out) p x y
 closed_unkept e p x y f = flush_front x y [] f
 
 -- all reads and feeds
@@ -113,7 +132,8 @@ given_none p a =
       };
     }
 
-given_more : (R : Rules) (p s t : List ℕ) (e : EngineView) (k : ℕ) (a b c : SourceLog) (x y : OutLog) → Going R p s e k a b x y → OneRead t b c → k < 2 ^ 40 → Given p (s ++ t) a c
+given_more : (R : Rules) (p s t : List ℕ) (e : EngineView) (k : ℕ) (a b c : SourceLog)
+    (x y : OutLog) → Going R p s e k a b x y → OneRead t b c → k < 2 ^ 40 → Given p (s ++ t) a c
 unfolding counted
 given_more R p s t e k a b c x y g u h =
     record {
@@ -130,7 +150,8 @@ given_more R p s t e k a b c x y g u h =
       };
     }
 
-pub going_start : (R : Rules) (p : List ℕ) (e : EngineView) (a : SourceLog) (x y : OutLog) → Fed R (Ok true) p [] e x y → Going R p [] e 0 a a x y
+pub going_start : (R : Rules) (p : List ℕ) (e : EngineView) (a : SourceLog) (x y : OutLog) →
+    Fed R (Ok true) p [] e x y → Going R p [] e 0 a a x y
 going_start R p e a x y f =
     record {
       began = rw append-nil at f.1;
@@ -145,15 +166,19 @@ going_start R p e a x y f =
     }
 
 -- octets that were fed, and then others
-fed_both : (R : Rules) → AddsUp R → (p s t : List ℕ) (e d : EngineView) (x y z : OutLog) → HasFed R p s e x y → HasFed R (p ++ s) t d y z → HasFed R p (s ++ t) d x z
+fed_both : (R : Rules) → AddsUp R → (p s t : List ℕ) (e d : EngineView) (x y z : OutLog) →
+    HasFed R p s e x y → HasFed R (p ++ s) t d y z → HasFed R p (s ++ t) d x z
 fed_both R adds p s t e d x y z first second =
     record {
       reads = second.reads;
       holds = rw append_assoc at second.holds;
-      written = rw (adds p s t) (wrote-append x y z (added R p s) (added R (p ++ s) t) first.written second.written);
+      written = rw (adds p s t) (wrote-append x y z (added R p s) (added R (p ++ s) t) first.written
+          second.written);
     }
 
-going_on : (R : Rules) → AddsUp R → (p s t : List ℕ) (e d : EngineView) (k : ℕ) (a b c : SourceLog) (x y z : OutLog) → Going R p s e k a b x y → HasReadAndFed R (Ok true) (p ++ s) t d b c y z → Going R p (s ++ t) d (k + 1) a c x z
+going_on : (R : Rules) → AddsUp R → (p s t : List ℕ) (e d : EngineView) (k : ℕ) (a b c : SourceLog)
+    (x y z : OutLog) → Going R p s e k a b x y → HasReadAndFed R (Ok true) (p ++ s) t d b c y z →
+    Going R p (s ++ t) d (k + 1) a c x z
 unfolding counted
 going_on R adds p s t e d k a b c x y z g (u, failures, ends, took, running) =
     record {
@@ -168,35 +193,49 @@ going_on R adds p s t e d k a b c x y z g (u, failures, ends, took, running) =
       ends = ends ∙ g.ends;
     }
 
-pub going_more : (R : Rules) → AddsUp R → (p s t : List ℕ) (e d : EngineView) (k : ℕ) (a b c : SourceLog) (x y z : OutLog) → Going R p s e k a b x y → HasReadAndFed (rules_of e) (Ok true) (p ++ s) t d b c y z → Going R p (s ++ t) d (k + 1) a c x z
+pub going_more : (R : Rules) → AddsUp R →
+    (p s t : List ℕ) (e d : EngineView) (k : ℕ) (a b c : SourceLog) (x y z : OutLog) →
+    Going R p s e k a b x y → HasReadAndFed (rules_of e) (Ok true) (p ++ s) t d b c y z →
+    Going R p (s ++ t) d (k + 1) a c x z
 going_more R adds p s t e d k a b c x y z g u =
-    going_on R adds p s t e d k a b c x y z g (turned_by (rules_of e) R (Ok true) (p ++ s) t d b c y z g.took.reads u)
+    going_on R adds p s t e d k a b c x y z g
+    (turned_by (rules_of e) R (Ok true) (p ++ s) t d b c y z g.took.reads u)
 
 -- the last read
 
 -- a read or a feed failed
-failed_on : (R : Rules) → AddsUp R → (r : RunFault) (p s t : List ℕ) (e d : EngineView) (k : ℕ) (a b c : SourceLog) (x y z : OutLog) → Going R p s e k a b x y → HasReadAndFed R (Err r) (p ++ s) t d b c y z → k < 2 ^ 40 → FailedBefore R r p (s ++ t) a c x z
+failed_on : (R : Rules) → AddsUp R → (r : RunFault) (p s t : List ℕ) (e d : EngineView) (k : ℕ)
+    (a b c : SourceLog) (x y z : OutLog) → Going R p s e k a b x y →
+    HasReadAndFed R (Err r) (p ++ s) t d b c y z → k < 2 ^ 40 → FailedBefore R r p (s ++ t) a c x z
 failed_on R adds fault.Read p s t e d k a b c x y z g (u, failures, written) h =
     record {
       given = given_more R p s t e k a b c x y g u h;
       failures = failures ∙ ap counted g.failures;
-      written = rw (adds p s t) (wrote-append x y z (added R p s) (added R (p ++ s) t) g.took.written written);
+      written = rw (adds p s t) (wrote-append x y z (added R p s) (added R (p ++ s) t)
+          g.took.written written);
     }
 failed_on R adds fault.Out p s t e d k a b c x y z g (u, failures, front) h =
     record {
       given = given_more R p s t e k a b c x y g u h;
       failures = failures ∙ g.failures;
-      written = rw (adds p s t) (wrote-front x y z (added R p s) (added R (p ++ s) t) g.took.written front);
+      written = rw (adds p s t) (wrote-front x y z (added R p s) (added R (p ++ s) t) g.took.written
+          front);
     }
 failed_on R adds fault.Turns p s t e d k a b c x y z g u h = absurd u
 failed_on R adds fault.Failed p s t e d k a b c x y z g u h = absurd u
 
-pub turn_failed : (R : Rules) → AddsUp R → (r : RunFault) (p s t : List ℕ) (e d : EngineView) (k : ℕ) (a b c : SourceLog) (x y z : OutLog) → Going R p s e k a b x y → HasReadAndFed (rules_of e) (Err r) (p ++ s) t d b c y z → k < 2 ^ 40 → FailedBefore R r p (s ++ t) a c x z
+pub turn_failed : (R : Rules) → AddsUp R →
+    (r : RunFault) (p s t : List ℕ) (e d : EngineView) (k : ℕ) (a b c : SourceLog)
+    (x y z : OutLog) → Going R p s e k a b x y →
+    HasReadAndFed (rules_of e) (Err r) (p ++ s) t d b c y z → k < 2 ^ 40 →
+    FailedBefore R r p (s ++ t) a c x z
 turn_failed R adds r p s t e d k a b c x y z g u h =
-    failed_on R adds r p s t e d k a b c x y z g (turned_by (rules_of e) R (Err r) (p ++ s) t d b c y z g.took.reads u) h
+    failed_on R adds r p s t e d k a b c x y z g
+    (turned_by (rules_of e) R (Err r) (p ++ s) t d b c y z g.took.reads u) h
 
 -- the source gave what was fed
-given_all : (R : Rules) (p s : List ℕ) (e : EngineView) (k : ℕ) (a b : SourceLog) (x y : OutLog) → Going R p s e k a b x y → k ≤ 2 ^ 40 → Given p s a b
+given_all : (R : Rules) (p s : List ℕ) (e : EngineView) (k : ℕ) (a b : SourceLog) (x y : OutLog) →
+    Going R p s e k a b x y → k ≤ 2 ^ 40 → Given p s a b
 given_all R p s e k a b x y g h =
     record {
       left = g.left;
@@ -213,7 +252,8 @@ given_all R p s e k a b x y g h =
     }
 
 -- no read is left
-pub ran_turns : (R : Rules) (p s : List ℕ) (e : EngineView) (k : ℕ) (a b : SourceLog) (x y : OutLog) → Going R p s e k a b x y → k ≡ 2 ^ 40 → ReadsSpent R p s a b x y
+pub ran_turns : (R : Rules) (p s : List ℕ) (e : EngineView) (k : ℕ) (a b : SourceLog)
+    (x y : OutLog) → Going R p s e k a b x y → k ≡ 2 ^ 40 → ReadsSpent R p s a b x y
 ran_turns R p s e k a b x y g h =
     record {
       given = given_all R p s e k a b x y g (omega arith);
@@ -225,20 +265,30 @@ ran_turns R p s e k a b x y g h =
     }
 
 -- the flush before a read failed
-pub turn_unflushed : (R : Rules) (p s : List ℕ) (e : EngineView) (k : ℕ) (a b : SourceLog) (x y z : OutLog) → Going R p s e k a b x y → FlushFailed y z → k ≤ 2 ^ 40 → PutFailed R p s a b x z
+pub turn_unflushed : (R : Rules) (p s : List ℕ) (e : EngineView) (k : ℕ) (a b : SourceLog)
+    (x y z : OutLog) → Going R p s e k a b x y → FlushFailed y z → k ≤ 2 ^ 40 →
+    PutFailed R p s a b x z
 turn_unflushed R p s e k a b x y z g f h =
     record {
       given = given_all R p s e k a b x y g h;
       failures = g.failures;
-      written = rw append-nil at (wrote-front x y z (added R p s) [] g.took.written (flush_front y z [] f));
+      written = rw append-nil at (wrote-front x y z (added R p s) [] g.took.written
+          (flush_front y z [] f));
     }
 
-over_more : (p s t : List ℕ) (a b c : SourceLog) → b.ends ≡ a.ends → IsOver ((p ++ s) ++ t) b c → IsOver (p ++ (s ++ t)) a c
-over_more p s t a b c e (inl q) = inl (record { answered = q.answered ∙ ap counted e; none = q.none })
+over_more : (p s t : List ℕ) (a b c : SourceLog) → b.ends ≡ a.ends → IsOver ((p ++ s) ++ t) b c →
+    IsOver (p ++ (s ++ t)) a c
+over_more p s t a b c e (inl q) = inl (record {
+  answered = q.answered ∙ ap counted e;
+  none =
+      q.none;
+})
 over_more p s t a b c e (inr q) = inr (rw append_assoc at q)
 
 -- the stream is over after a read and feed
-over_on : (R : Rules) → AddsUp R → (p s t : List ℕ) (e d : EngineView) (k : ℕ) (a b c : SourceLog) (x y z : OutLog) → Going R p s e k a b x y → HasReadAndFed R (Ok false) (p ++ s) t d b c y z → k < 2 ^ 40 → ReadToEnd R p (s ++ t) d a c x z
+over_on : (R : Rules) → AddsUp R → (p s t : List ℕ) (e d : EngineView) (k : ℕ) (a b c : SourceLog)
+    (x y z : OutLog) → Going R p s e k a b x y → HasReadAndFed R (Ok false) (p ++ s) t d b c y z →
+    k < 2 ^ 40 → ReadToEnd R p (s ++ t) d a c x z
 over_on R adds p s t e d k a b c x y z g (u, failures, over, took) h =
     record {
       given = given_more R p s t e k a b c x y g u h;
@@ -247,17 +297,34 @@ over_on R adds p s t e d k a b c x y z g (u, failures, over, took) h =
       fed = fed_both R adds p s t e d x y z g.took took;
     }
 
-pub turn_over : (R : Rules) → AddsUp R → (p s t : List ℕ) (e d : EngineView) (k : ℕ) (a b c : SourceLog) (x y z : OutLog) → Going R p s e k a b x y → HasReadAndFed (rules_of e) (Ok false) (p ++ s) t d b c y z → k < 2 ^ 40 → ReadToEnd R p (s ++ t) d a c x z
+pub turn_over : (R : Rules) → AddsUp R →
+    (p s t : List ℕ) (e d : EngineView) (k : ℕ) (a b c : SourceLog) (x y z : OutLog) →
+    Going R p s e k a b x y → HasReadAndFed (rules_of e) (Ok false) (p ++ s) t d b c y z →
+    k < 2 ^ 40 → ReadToEnd R p (s ++ t) d a c x z
 turn_over R adds p s t e d k a b c x y z g u h =
-    over_on R adds p s t e d k a b c x y z g (turned_by (rules_of e) R (Ok false) (p ++ s) t d b c y z g.took.reads u) h
+    over_on R adds p s t e d k a b c x y z g
+    (turned_by (rules_of e) R (Ok false) (p ++ s) t d b c y z g.took.reads u) h
 
 -- the stream was over before the first read
-pub over_first : (R : Rules) (p : List ℕ) (e : EngineView) (a : SourceLog) (x y : OutLog) → Fed R (Ok false) p [] e x y → ReadToEnd R p [] e a a x y
-over_first R p e a x y f = record { given = given_none p a; over = inr f.1; failures = refl; fed = f.0 }
+pub over_first : (R : Rules) (p : List ℕ) (e : EngineView) (a : SourceLog) (x y : OutLog) →
+    Fed R (Ok false) p [] e x y → ReadToEnd R p [] e a a x y
+over_first R p e a x y f = record {
+  given = given_none p a;
+  over = inr f.1;
+  failures = refl;
+  fed =
+      f.0;
+}
 
 -- the empty piece failed
-pub failed_first : (R : Rules) (r : RunFault) (p : List ℕ) (e : EngineView) (a : SourceLog) (x y : OutLog) → Fed R (Err r) p [] e x y → FailedBefore R r p [] a a x y
-failed_first R fault.Out p e a x y f = record { given = given_none p a; failures = refl; written = f }
+pub failed_first : (R : Rules) (r : RunFault) (p : List ℕ) (e : EngineView) (a : SourceLog)
+    (x y : OutLog) → Fed R (Err r) p [] e x y → FailedBefore R r p [] a a x y
+failed_first R fault.Out p e a x y f = record {
+  given = given_none p a;
+  failures = refl;
+  written =
+      f;
+}
 failed_first R fault.Read p e a x y f = absurd f
 failed_first R fault.Turns p e a x y f = absurd f
 failed_first R fault.Failed p e a x y f = absurd f
@@ -265,36 +332,46 @@ failed_first R fault.Failed p e a x y f = absurd f
 -- a run
 
 -- it failed before its end
-pub ran_failed : (w : RunSetup) (r : RunFault) (p s : List ℕ) (a b : SourceLog) (x y : OutLog) → FailedBefore (reads_by w) r p s a b x y → Ran w (Err r) p s a b x y
+pub ran_failed : (w : RunSetup) (r : RunFault) (p s : List ℕ) (a b : SourceLog) (x y : OutLog) →
+    FailedBefore (reads_by w) r p s a b x y → Ran w (Err r) p s a b x y
 ran_failed w fault.Read p s a b x y f = f
 ran_failed w fault.Turns p s a b x y f = f
 ran_failed w fault.Out p s a b x y f =
     record {
       given = f.given;
       failures = f.failures;
-      written = front-append x y (added (reads_by w) p s) (end_text w.ending (reads_by w) (p ++ s)) f.written;
+      written = front-append x y (added (reads_by w) p s) (end_text w.ending (reads_by w) (p ++ s))
+          f.written;
     }
 ran_failed w fault.Failed p s a b x y f = absurd f
 
-closed_on : (w : RunSetup) (r : Result Report RunFault) (p s : List ℕ) (e : EngineView) (a b : SourceLog) (x y z : OutLog) → ReadToEnd (reads_by w) p s e a b x y → Closed w r (p ++ s) y z → Ran w r p s a b x z
+closed_on : (w : RunSetup) (r : Result Report RunFault) (p s : List ℕ) (e : EngineView)
+    (a b : SourceLog) (x y z : OutLog) → ReadToEnd (reads_by w) p s e a b x y →
+    Closed w r (p ++ s) y z → Ran w r p s a b x z
 closed_on w (Ok v) p s e a b x y z f q =
     record {
       given = f.given;
       over = f.over;
       failures = f.failures;
-      written = wrote-append x y z (added (reads_by w) p s) (end_text w.ending (reads_by w) (p ++ s)) f.fed.written q.written;
+      written = wrote-append x y z (added (reads_by w) p s)
+          (end_text w.ending (reads_by w) (p ++ s)) f.fed.written q.written;
       ended = q.ended;
     }
 closed_on w (Err fault.Out) p s e a b x y z f q =
     record {
       given = f.given;
       failures = f.failures;
-      written = wrote-front x y z (added (reads_by w) p s) (end_text w.ending (reads_by w) (p ++ s)) f.fed.written q;
+      written = wrote-front x y z (added (reads_by w) p s) (end_text w.ending (reads_by w) (p ++ s))
+          f.fed.written q;
     }
 closed_on w (Err fault.Read) p s e a b x y z f q = absurd q
 closed_on w (Err fault.Turns) p s e a b x y z f q = absurd q
 closed_on w (Err fault.Failed) p s e a b x y z f q = absurd q
 
 -- it was closed at its end
-pub ran_closed : (w : RunSetup) (r : Result Report RunFault) (p s : List ℕ) (e : EngineView) (a b : SourceLog) (x y z : OutLog) → ReadToEnd (reads_by w) p s e a b x y → (e.table ≡ w.table) × (e.request_table ≡ w.request_table) × (e.most ≡ w.most) → Closed (setup_of e w.ending) r (p ++ s) y z → Ran w r p s a b x z
-ran_closed w r p s e a b x y z f same q = closed_on w r p s e a b x y z f (closed_by w e r (p ++ s) y z same q)
+pub ran_closed : (w : RunSetup) (r : Result Report RunFault) (p s : List ℕ) (e : EngineView)
+    (a b : SourceLog) (x y z : OutLog) → ReadToEnd (reads_by w) p s e a b x y → (e.table ≡ w.table)
+    × (e.request_table ≡ w.request_table) × (e.most ≡ w.most) →
+    Closed (setup_of e w.ending) r (p ++ s) y z → Ran w r p s a b x z
+ran_closed w r p s e a b x y z f same q =
+    closed_on w r p s e a b x y z f (closed_by w e r (p ++ s) y z same q)

@@ -14,12 +14,14 @@ abbrev pub unread : Option (List ℕ) → SourceLog
 unread told = record { left = told; reads = 0; failures = 0; ends = 0 }
 
 -- a run of an engine that held p did this with such a reader and an out
-pub record Dumped (w : RunSetup) (ran : Result Report RunFault) (p : List ℕ) (told : Option (List ℕ)) (x y : OutLog) : Type 0 where
+pub record Dumped (w : RunSetup) (ran : Result Report RunFault) (p : List ℕ)
+    (told : Option (List ℕ)) (x y : OutLog) : Type 0 where
   pub octets : List ℕ
   pub after : SourceLog
   pub did : Ran w ran p octets (unread told) after x y
 
--- the status of what failed: arguments that can't be read, a file that is refused, a file that can't be read or written or a
+-- the status of what failed: arguments that can't be read, a file that is refused, a file that
+-- can't be read or written or a
 -- run that failed, no memory
 abbrev pub fault_status : ProgramFault → ℕ
 fault_status faults.Words = 2

@@ -1,4 +1,5 @@
--- What a run takes from the files that the arguments name (meaning). `held` is what the file of a name holds, where that is
+-- What a run takes from the files that the arguments name (meaning). `held` is what the file of a
+-- name holds, where that is
 -- known; a name is its text, and None where there is no file.
 use Rattle.std.specs.Prelude.{◌≡◌, ℕ, ◌<◌, ◌≤◌, List, [], length, take, Option, None, Some, IfSome, ◌⊎◌}
 use Rattle.giop_print.specs.Output.{counted}
@@ -23,7 +24,8 @@ use Rattle.giop_run.specs.declared.fault.ProgramFault.TheVariants as faults
 abbrev pub Folder : Type 0
 Folder = List ℕ → Option (List ℕ)
 
--- a text is what is read of a file that may have at most so many octets: all of it, or one octet more than that
+-- a text is what is read of a file that may have at most so many octets: all of it, or one octet
+-- more than that
 abbrev pub IsFront : ℕ → Option (List ℕ) → List ℕ → Type 0
 IsFront most held text = IfSome held (λ octets. text ≡ take (counted most) octets)
 
@@ -62,9 +64,11 @@ RequestsOf held None C kept = kept ≡ []
 RequestsOf held (Some name) C kept =
     (text : List ℕ) × IsFront requests_most (held name) text × Requests text C kept
 
--- `Is` holds of each stream that the octets of the checkpoint's file are a checkpoint of, and of how many messages may be
+-- `Is` holds of each stream that the octets of the checkpoint's file are a checkpoint of, and of
+-- how many messages may be
 -- open in it; without a file, of the empty stream and of as many as are asked for.
-abbrev pub GoesOn : Folder → Option (List ℕ) → ℕ → Table → RequestTable → (ℕ → List ℕ → Type 0) → Type 0
+abbrev pub GoesOn : Folder → Option (List ℕ) → ℕ → Table → RequestTable → (ℕ → List ℕ → Type 0) →
+    Type 0
 GoesOn held None most C kept Is = Is most []
 GoesOn held (Some name) most C kept Is =
     (octets : List ℕ) × IsFront checkpoint_most (held name) octets
@@ -130,7 +134,8 @@ NoStream asked (faults.Checkpoint name why) = ⊥
 NoStream asked (faults.Unwritable name) = ⊥
 NoStream asked (faults.Run why) = ⊥
 
--- what the arguments ask for: the names of the files, and how many messages of a new stream may be open
+-- what the arguments ask for: the names of the files, and how many messages of a new stream may be
+-- open
 pub record Asked : Type 0 where
   pub signatures : Option (List ℕ)
   pub requests : Option (List ℕ)

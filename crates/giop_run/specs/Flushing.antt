@@ -18,4 +18,5 @@ pub record FlushFailed (before after : OutLog) : Type 0 where
 
 -- what a flush did, by its result
 abbrev pub Flushes : {A E : Type 0} → Result A E → OutLog → OutLog → List ℕ → Type 0
-Flushes r before after kept = MatchResult r (λ _. Flushed before after kept) (λ _. FlushFailed before after)
+Flushes r before after kept = MatchResult r (λ _. Flushed before after kept)
+    (λ _. FlushFailed before after)

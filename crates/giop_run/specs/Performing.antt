@@ -1,4 +1,5 @@
--- What the program did for its arguments (meaning): x and y are its out before and after, a and b the saved files.
+-- What the program did for its arguments (meaning): x and y are its out before and after, a and b
+-- the saved files.
 use Rattle.std.specs.Prelude.{◌≡◌, ℕ, List, Option, None, Some, Result, Ok, Err}
 use Rattle.giop_print.specs.Output.{OutLog}
 use Rattle.giop_sig.specs.Table.{Table}
@@ -15,7 +16,8 @@ use Rattle.giop_run.specs.declared.fault.RunFault.TheVariants as fault
 use Rattle.giop_run.specs.declared.fault.ProgramFault.{ProgramFault}
 use Rattle.giop_run.specs.declared.fault.ProgramFault.TheVariants as faults
 
--- what the arguments ask for, and what there is to read, where it is known: files by their names, and standard input
+-- what the arguments ask for, and what there is to read, where it is known: files by their names,
+-- and standard input
 pub record Task : Type 0 where
   pub held : Folder
   pub given : Option (List ℕ)
@@ -24,7 +26,8 @@ pub record Task : Type 0 where
 abbrev pub task_of : Folder → Option (List ℕ) → Asked → Task
 task_of held given asked = record { held = held; given = given; asked = asked }
 
--- A run read what the arguments name: the stream, by the catalogue and the list of the files, from the checkpoint on.
+-- A run read what the arguments name: the stream, by the catalogue and the list of the files, from
+-- the checkpoint on.
 pub record Performed (t : Task) (ran : Result Report RunFault) (x y : OutLog) : Type 0 where
   pub table : Table
   pub request_table : RequestTable
@@ -34,7 +37,8 @@ pub record Performed (t : Task) (ran : Result Report RunFault) (x y : OutLog) : 
       (setup_by table request_table n t.asked) ran p
       (stream_of t.held t.given t.asked.stream) x y)
 
--- the checkpoint of the engine that was kept is saved in the file that was asked for; without one, nothing is saved
+-- the checkpoint of the engine that was kept is saved in the file that was asked for; without one,
+-- nothing is saved
 abbrev pub SavedIn : Option (List ℕ) → Option EngineView → Option (List Saved)
     → Option (List Saved) → Type 0
 SavedIn None kept a b = b ≡ a
@@ -84,7 +88,8 @@ abbrev pub Did : Task → Result Totals ProgramFault → OutLog → OutLog → O
 Did t (Ok totals) x y a b = Completed t totals x y a b
 Did t (Err why) x y a b = FailedBy t why x y × (b ≡ a)
 
--- what the last step did: its result is the run's, or that the file which was asked for can't be written
+-- what the last step did: its result is the run's, or that the file which was asked for can't be
+-- written
 abbrev pub Kept : Option (List ℕ) → Result Report ProgramFault → Result Totals ProgramFault
     → Option (List Saved) → Option (List Saved) → Type 0
 Kept asked (Ok report) (Ok totals) a b =

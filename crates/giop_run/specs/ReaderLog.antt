@@ -5,4 +5,10 @@ use Rattle.giop_run.specs.SourceLog.{SourceLog}
 
 -- `remaining` gives the octets that the reader has left, where they are known
 abbrev pub reading_log : {R : Type 0} → (R → Option (List ℕ)) → Reading R → SourceLog
-reading_log remaining r = record { left = remaining r.reader; reads = r.reads; failures = r.failures; ends = r.ends }
+reading_log remaining r = record {
+  left = remaining r.reader;
+  reads = r.reads;
+  failures =
+      r.failures;
+  ends = r.ends;
+}

@@ -1,4 +1,5 @@
--- What each read and feed of a run did, and how a run ended (steps). Only private clauses cite these.
+-- What each read and feed of a run did, and how a run ended (steps). Only private clauses cite
+-- these.
 use Rattle.std.specs.Prelude.{◌≡◌, ℕ, ◌+◌, ◌^◌, ◌≤◌, ◌<◌, List, ◌++◌, length, None, Result, Ok, Err, Bool, true, false}
 use Rattle.std.specs.Io.KnownBytes.{Consumes}
 use Rattle.giop_cdr.specs.Numbers.{AreOctets}
@@ -19,14 +20,16 @@ use Rattle.giop_run.specs.declared.fault.RunFault.TheVariants as fault
 abbrev pub IsRunning : List ℕ → Type 0
 IsRunning p = (cut p).stop ≡ None
 
--- the octets s were fed to an engine that held p and read messages by R, and their lines were written
+-- the octets s were fed to an engine that held p and read messages by R, and their lines were
+-- written
 pub record HasFed (R : Rules) (p s : List ℕ) (e : EngineView) (x y : OutLog) : Type 0 where
   pub reads : rules_of e ≡ R
   pub holds : Holds e (p ++ s)
   pub written : Wrote x y (added R p s)
 
 -- what feeding the octets s to an engine that held p did: true where the stream goes on
-abbrev pub Fed : Rules → Result Bool RunFault → List ℕ → List ℕ → EngineView → OutLog → OutLog → Type 0
+abbrev pub Fed : Rules → Result Bool RunFault → List ℕ → List ℕ → EngineView → OutLog → OutLog →
+    Type 0
 Fed R (Ok true) p s e x y = HasFed R p s e x y × IsRunning (p ++ s)
 Fed R (Ok false) p s e x y = HasFed R p s e x y × IsStopped (p ++ s)
 Fed R (Err fault.Out) p s e x y = WroteFront x y (added R p s)
@@ -42,11 +45,14 @@ pub record OneRead (s : List ℕ) (before after : SourceLog) : Type 0 where
   pub reads : after.reads ≡ counted before.reads
 
 -- what one read and its feed did on an engine that held p: true where the stream goes on
-abbrev pub HasReadAndFed : Rules → Result Bool RunFault → List ℕ → List ℕ → EngineView → SourceLog → SourceLog → OutLog → OutLog → Type 0
+abbrev pub HasReadAndFed : Rules → Result Bool RunFault → List ℕ → List ℕ → EngineView → SourceLog →
+    SourceLog → OutLog → OutLog → Type 0
 HasReadAndFed R (Ok true) p s e before after x y =
-    OneRead s before after × (after.failures ≡ before.failures) × (after.ends ≡ before.ends) × HasFed R p s e x y × IsRunning (p ++ s)
+    OneRead s before after × (after.failures ≡ before.failures) × (after.ends ≡ before.ends)
+    × HasFed R p s e x y × IsRunning (p ++ s)
 HasReadAndFed R (Ok false) p s e before after x y =
-    OneRead s before after × (after.failures ≡ before.failures) × IsOver (p ++ s) before after × HasFed R p s e x y
+    OneRead s before after × (after.failures ≡ before.failures) × IsOver (p ++ s) before after
+    × HasFed R p s e x y
 HasReadAndFed R (Err fault.Read) p s e before after x y =
     OneRead s before after × (after.failures ≡ counted before.failures) × Wrote x y (added R p s)
 HasReadAndFed R (Err fault.Out) p s e before after x y =
@@ -55,27 +61,31 @@ HasReadAndFed R (Err fault.Turns) p s e before after x y = ⊥
 HasReadAndFed R (Err fault.Failed) p s e before after x y = ⊥
 
 -- the source came to its end, or the stream to a fault, and all that the source gave was fed
-pub record ReadToEnd (R : Rules) (p s : List ℕ) (e : EngineView) (before after : SourceLog) (x y : OutLog) : Type 0 where
+pub record ReadToEnd (R : Rules) (p s : List ℕ) (e : EngineView) (before after : SourceLog)
+    (x y : OutLog) : Type 0 where
   pub given : Given p s before after
   pub over : IsOver (p ++ s) before after
   pub failures : after.failures ≡ before.failures
   pub fed : HasFed R p s e x y
 
 -- a put failed: a front of the lines of what was read is written
-pub record PutFailed (R : Rules) (p s : List ℕ) (before after : SourceLog) (x y : OutLog) : Type 0 where
-  pub given : Given p s before after
-  pub failures : after.failures ≡ before.failures
-  pub written : WroteFront x y (added R p s)
+pub record PutFailed (R : Rules) (p s : List ℕ) (before after : SourceLog) (x y : OutLog) : Type 0
+  where
+    pub given : Given p s before after
+    pub failures : after.failures ≡ before.failures
+    pub written : WroteFront x y (added R p s)
 
 -- how a run failed before its end
-abbrev pub FailedBefore : Rules → RunFault → List ℕ → List ℕ → SourceLog → SourceLog → OutLog → OutLog → Type 0
+abbrev pub FailedBefore : Rules → RunFault → List ℕ → List ℕ → SourceLog → SourceLog → OutLog →
+    OutLog → Type 0
 FailedBefore R fault.Read p s before after x y = ReadStopped R p s before after x y
 FailedBefore R fault.Turns p s before after x y = ReadsSpent R p s before after x y
 FailedBefore R fault.Out p s before after x y = PutFailed R p s before after x y
 FailedBefore R fault.Failed p s before after x y = ⊥
 
 -- what feeding all that the source gave did on an engine that held p
-abbrev pub FedAll : {A : Type 0} → Rules → Result A RunFault → List ℕ → List ℕ → EngineView → SourceLog → SourceLog → OutLog → OutLog → Type 0
+abbrev pub FedAll : {A : Type 0} → Rules → Result A RunFault → List ℕ → List ℕ → EngineView →
+    SourceLog → SourceLog → OutLog → OutLog → Type 0
 FedAll R (Ok done) p s e before after x y = ReadToEnd R p s e before after x y
 FedAll R (Err why) p s e before after x y = FailedBefore R why p s before after x y
 
@@ -101,7 +111,8 @@ Closed w (Err fault.Turns) p x y = ⊥
 Closed w (Err fault.Failed) p x y = ⊥
 
 -- k reads and feeds, after each of which the stream goes on, did this to an engine that held p
-pub record Going (R : Rules) (p s : List ℕ) (e : EngineView) (k : ℕ) (before after : SourceLog) (x y : OutLog) : Type 0 where
+pub record Going (R : Rules) (p s : List ℕ) (e : EngineView) (k : ℕ) (before after : SourceLog)
+    (x y : OutLog) : Type 0 where
   pub began : IsRunning p
   pub running : IsRunning (p ++ s)
   pub took : HasFed R p s e x y

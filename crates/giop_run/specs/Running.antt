@@ -1,4 +1,5 @@
--- What a run did (meaning): p is the stream that its engine held, s are the octets that its source gave, w its setup.
+-- What a run did (meaning): p is the stream that its engine held, s are the octets that its source
+-- gave, w its setup.
 use Rattle.std.specs.Prelude.{◌≡◌, ℕ, ◌+◌, ◌^◌, ◌≤◌, ◌<◌, List, [], ◌++◌, length, Option, None, Some, IsSome, Result, Ok, Err, ◌⊎◌}
 use Rattle.std.specs.Io.KnownBytes.{Consumes, IsAtEnd}
 use Rattle.giop_cdr.specs.Numbers.{AreOctets}
@@ -26,13 +27,19 @@ pub record RunSetup : Type 0 where
 
 -- the setup of a run of this engine
 abbrev pub setup_of : EngineView → Ending → RunSetup
-setup_of e ending = record { table = e.table; request_table = e.request_table; most = e.most; ending = ending }
+setup_of e ending = record {
+  table = e.table;
+  request_table = e.request_table;
+  most = e.most;
+  ending = ending;
+}
 
 -- the rules that it reads by
 abbrev pub reads_by : RunSetup → Rules
 reads_by w = rules w.table w.request_table w.most
 
--- what an ending writes after the lines of the stream p: its closing, or nothing where the stream is read on later
+-- what an ending writes after the lines of the stream p: its closing, or nothing where the stream
+-- is read on later
 abbrev pub end_text : Ending → Rules → List ℕ → List ℕ
 end_text endings.Finish R p = closing R p
 end_text endings.Keep R p = []
@@ -89,8 +96,10 @@ pub record IsEnded (before after : SourceLog) : Type 0 where
 abbrev pub IsOver : List ℕ → SourceLog → SourceLog → Type 0
 IsOver p before after = IsEnded before after ⊎ IsStopped p
 
--- the source ended, or the stream has a fault: the lines are written, and the report is as the ending requires
-pub record Finished (w : RunSetup) (report : Report) (p s : List ℕ) (before after : SourceLog) (x y : OutLog) : Type 0 where
+-- the source ended, or the stream has a fault: the lines are written, and the report is as the
+-- ending requires
+pub record Finished (w : RunSetup) (report : Report) (p s : List ℕ) (before after : SourceLog)
+    (x y : OutLog) : Type 0 where
   pub given : Given p s before after
   pub over : IsOver (p ++ s) before after
   pub failures : after.failures ≡ before.failures
@@ -98,28 +107,32 @@ pub record Finished (w : RunSetup) (report : Report) (p s : List ℕ) (before af
   pub ended : EndsAs w.ending w report (p ++ s)
 
 -- a read failed: the lines of what was read are written, and no closing
-pub record ReadStopped (R : Rules) (p s : List ℕ) (before after : SourceLog) (x y : OutLog) : Type 0 where
-  pub given : Given p s before after
-  pub failures : after.failures ≡ counted before.failures
-  pub written : Wrote x y (added R p s)
+pub record ReadStopped (R : Rules) (p s : List ℕ) (before after : SourceLog) (x y : OutLog) : Type 0
+  where
+    pub given : Given p s before after
+    pub failures : after.failures ≡ counted before.failures
+    pub written : Wrote x y (added R p s)
 
 -- the reads were used up: the lines of what was read are written, and no closing
-pub record ReadsSpent (R : Rules) (p s : List ℕ) (before after : SourceLog) (x y : OutLog) : Type 0 where
-  pub given : Given p s before after
-  pub reads : before.reads + 2 ^ 40 < 2 ^ 64 → after.reads ≡ before.reads + 2 ^ 40
-  pub failures : after.failures ≡ before.failures
-  pub ends : after.ends ≡ before.ends
-  pub running : ¬ IsStopped (p ++ s)
-  pub written : Wrote x y (added R p s)
+pub record ReadsSpent (R : Rules) (p s : List ℕ) (before after : SourceLog) (x y : OutLog) : Type 0
+  where
+    pub given : Given p s before after
+    pub reads : before.reads + 2 ^ 40 < 2 ^ 64 → after.reads ≡ before.reads + 2 ^ 40
+    pub failures : after.failures ≡ before.failures
+    pub ends : after.ends ≡ before.ends
+    pub running : ¬ IsStopped (p ++ s)
+    pub written : Wrote x y (added R p s)
 
 -- a put failed: a front of what was due is written
-pub record WriteStopped (w : RunSetup) (p s : List ℕ) (before after : SourceLog) (x y : OutLog) : Type 0 where
+pub record WriteStopped (w : RunSetup) (p s : List ℕ) (before after : SourceLog) (x y : OutLog) :
+    Type 0 where
   pub given : Given p s before after
   pub failures : after.failures ≡ before.failures
   pub written : WroteFront x y (added (reads_by w) p s ++ end_text w.ending (reads_by w) (p ++ s))
 
 -- what a run did, by its result; with an engine that holds a stream it is never Failed
-abbrev pub Ran : RunSetup → Result Report RunFault → List ℕ → List ℕ → SourceLog → SourceLog → OutLog → OutLog → Type 0
+abbrev pub Ran : RunSetup → Result Report RunFault → List ℕ → List ℕ → SourceLog → SourceLog →
+    OutLog → OutLog → Type 0
 Ran w (Ok report) p s before after x y = Finished w report p s before after x y
 Ran w (Err fault.Read) p s before after x y = ReadStopped (reads_by w) p s before after x y
 Ran w (Err fault.Turns) p s before after x y = ReadsSpent (reads_by w) p s before after x y
@@ -127,7 +140,8 @@ Ran w (Err fault.Out) p s before after x y = WriteStopped w p s before after x y
 Ran w (Err fault.Failed) p s before after x y = ⊥
 
 -- what a run did with a failed engine: it read nothing and wrote nothing
-pub record Refused (result : Result Report RunFault) (before after : SourceLog) (x y : OutLog) : Type 0 where
+pub record Refused (result : Result Report RunFault) (before after : SourceLog) (x y : OutLog) :
+    Type 0 where
   pub answer : result ≡ Err fault.Failed
   pub unread : after ≡ before
   pub unwritten : y ≡ x

@@ -21,7 +21,8 @@ SavedMore (Some before) after name e =
     × (after ≡ Some (before ++ record { name = name; octets = octets } ∷ []))
 
 -- what a save did: the engine's checkpoint is in the file of the name, or nothing is saved
-abbrev pub SavesOne : {A E : Type 0} → Result A E → Option (List Saved) → Option (List Saved) → List ℕ
+abbrev pub SavesOne : {A E : Type 0} → Result A E → Option (List Saved) → Option (List Saved) →
+    List ℕ
     → EngineView → Type 0
 SavesOne result before after name e =
     MatchResult result (λ _. SavedMore before after name e) (λ _. after ≡ before)

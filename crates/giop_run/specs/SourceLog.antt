@@ -10,7 +10,8 @@ pub record SourceLog : Type 0 where
   pub failures : ℕ
   pub ends : ℕ
 
--- a read put `given` octets at the start of `into`; where it gave none and `into` isn't empty, the count of ends rises and
+-- a read put `given` octets at the start of `into`; where it gave none and `into` isn't empty, the
+-- count of ends rises and
 -- nothing is left
 pub record Gave (before after : SourceLog) (into : List ℕ) (given : ℕ) : Type 0 where
   pub within : given ≤ length into
@@ -18,7 +19,8 @@ pub record Gave (before after : SourceLog) (into : List ℕ) (given : ℕ) : Typ
   pub over : given ≡ 0 → 0 < length into → IsAtEnd after.left
   pub reads : after.reads ≡ counted before.reads
   pub failures : after.failures ≡ before.failures
-  pub ends : after.ends ≡ (if given == 0 && nat_lt 0 (length into) then counted before.ends else before.ends)
+  pub ends : after.ends ≡ (if given == 0 && nat_lt 0 (length into) then counted before.ends else
+      before.ends)
 
 -- a read failed and gave nothing
 pub record ReadFailed (before after : SourceLog) : Type 0 where

@@ -90,7 +90,8 @@ impl<'a> ProgramFault<'a> {
 
     /// The fault of a request list of this name that is refused.
     pub fn of_requests(name: &'a str, fault: ListFault) -> ProgramFault<'a>
-        ensures memory { fault.kind ≡ ListFaultKind.OutOfMemory → result ≡ ProgramFault.OutOfMemory }
+        ensures memory { fault.kind ≡ ListFaultKind.OutOfMemory →
+            result ≡ ProgramFault.OutOfMemory }
         ensures refused { fault.kind ≢ ListFaultKind.OutOfMemory
             → result ≡ ProgramFault.Requests name.entry fault }
     {

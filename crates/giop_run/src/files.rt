@@ -35,7 +35,8 @@ pub fn front<R: Read + Drop>(alloc: Global, reader: R, most: u64) -> io::Result<
 
 /// The fault of a file of this name that can't be read.
 pub fn unreadable<'a>(name: &'a str, error: &io::Error) -> ProgramFault<'a>
-    ensures memory { error_kind error.now ≡ ErrorKind.OutOfMemory → result ≡ ProgramFault.OutOfMemory }
+    ensures memory { error_kind error.now ≡ ErrorKind.OutOfMemory →
+        result ≡ ProgramFault.OutOfMemory }
     ensures named { error_kind error.now ≢ ErrorKind.OutOfMemory
         → result ≡ ProgramFault.Unreadable name.entry }
 {

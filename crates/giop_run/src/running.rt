@@ -100,7 +100,8 @@ fn feed_all<S: Source, O: Out, F: Between<O>>(
         × (S.log source.new ≡ S.log source.old) × (O.log out.new ≡ O.log out.old) }
     ensures leaves { OnOk result (engine.new.failed ≡ false) }
     ensures same { (engine.new.table ≡ engine.old.table)
-        × (engine.new.request_table ≡ engine.old.request_table) × (engine.new.most ≡ engine.old.most) }
+        × (engine.new.request_table ≡ engine.old.request_table)
+        × (engine.new.most ≡ engine.old.most) }
     ensures sound { result ≡ Err RunFault.Failed → engine.old.failed ≡ true }
     ensures reads { (S.log source.new).reads ≤ (S.log source.old).reads + 2 ^ 40 }
 {
@@ -137,10 +138,12 @@ fn read_and_feed<S: Source, O: Out>(
     buffer: &mut [u8; ROOM],
 ) -> Result<bool, RunFault>
     ensures turned { (p : List ℕ) → Holds engine.old p → (s : List ℕ)
-        × HasReadAndFed (rules_of engine.old) result p s engine.new (S.log source.old) (S.log source.new) (O.log out.old) (O.log out.new) }
+        × HasReadAndFed (rules_of engine.old) result p s engine.new (S.log source.old)
+        (S.log source.new) (O.log out.old) (O.log out.new) }
     ensures leaves { engine.old.failed ≡ false → OnOk result (engine.new.failed ≡ false) }
     ensures same { (engine.new.table ≡ engine.old.table)
-        × (engine.new.request_table ≡ engine.old.request_table) × (engine.new.most ≡ engine.old.most) }
+        × (engine.new.request_table ≡ engine.old.request_table)
+        × (engine.new.most ≡ engine.old.most) }
     ensures sound { result ≡ Err RunFault.Failed → engine.old.failed ≡ true }
     ensures reads { (S.log source.new).reads ≡ counted (S.log source.old).reads }
 {
@@ -172,7 +175,8 @@ fn feed<O: Out>(engine: &mut Engine, piece: &[u8], out: &mut O) -> Result<bool, 
         → (result ≡ Err RunFault.Failed) × (O.log out.new ≡ O.log out.old) }
     ensures leaves { OnOk result (engine.new.failed ≡ false) }
     ensures same { (engine.new.table ≡ engine.old.table)
-        × (engine.new.request_table ≡ engine.old.request_table) × (engine.new.most ≡ engine.old.most) }
+        × (engine.new.request_table ≡ engine.old.request_table)
+        × (engine.new.most ≡ engine.old.most) }
     ensures sound { result ≡ Err RunFault.Failed → engine.old.failed ≡ true }
 {
     match engine.feed(piece, out) {

@@ -26,17 +26,26 @@ call_stays : (types : List Node) (n : Node) (o : Operation) → IsOperation type
 call_stays types n o is =
     let r = is.request in
     let p = is.reply in
-    record { short = is.short; request = omega (arith, length-append types (n ∷ [])); reply = omega (arith, length-append types (n ∷ [])) }
+    record {
+      short = is.short;
+      request = omega (arith, length-append types (n ∷ []));
+      reply =
+          omega (arith, length-append types (n ∷ []));
+    }
 
 raised_stays : (types : List Node) (n : Node) (e : Exception) → IsException types e
     → IsException (types ++ n ∷ []) e
-raised_stays types n e is = let m = is.members in record { short = is.short; members = omega (arith, length-append types (n ∷ [])) }
+raised_stays types n e is = let m = is.members in
+    record { short = is.short; members = omega (arith, length-append types (n ∷ [])) }
 
 pub type_added : (t : Table) (n : Node) → IsTable t → AreTypes (t.types ++ n ∷ [])
     → IsTable (with_type t n)
 type_added t n laws are = record {
   types = are;
-  begins = let b = laws.begins in (b.0 ++ n ∷ [], ap (λ types. types ++ n ∷ []) b.1 ∙ append_assoc builtin_types b.0 (n ∷ []));
+  begins = let b = laws.begins in (
+    b.0 ++ n ∷ [],
+    ap (λ types. types ++ n ∷ []) b.1 ∙ append_assoc builtin_types b.0 (n ∷ []),
+  );
   operations = λ k d lt. call_stays t.types n (get_or t.operations k d) (laws.operations k d lt);
   exceptions = λ k d lt. raised_stays t.types n (get_or t.exceptions k d) (laws.exceptions k d lt);
   operations_distinct = laws.operations_distinct;
@@ -52,7 +61,8 @@ pub type_put : (types new : List Node) (os : List (ArrayVec ℕ × Signature))
     → IsTable (table_view types os es declared) → new ≡ types ++ n ∷ [] → AreTypes new
     → IsTable (table_view new os es declared)
 type_put types new os es declared n laws is are =
-    subst (λ ts. IsTable (table_view ts os es declared)) (sym is) (type_added (table_view types os es declared) n laws (subst AreTypes is are))
+    subst (λ ts. IsTable (table_view ts os es declared)) (sym is)
+    (type_added (table_view types os es declared) n laws (subst AreTypes is are))
 
 -- ---- a new key goes last
 
@@ -64,7 +74,8 @@ some_cons : {X : Type 0} (p : X → Bool) (x : X) (xs : List X) (v : Bool) → p
     → ltb (position_or_len p xs) (length xs) ≡ list_any p xs
     → ltb (position_or_len p (x ∷ xs)) (length (x ∷ xs)) ≡ (p x || list_any p xs)
 some_cons p x xs true e h = rw e (lt-ltb 0 _ (omega arith))
-some_cons p x xs false e h = rw e (ltb_both (ltb (position_or_len p xs) (length xs)) (position_or_len p xs) (length xs) refl ∙ h)
+some_cons p x xs false e h = rw e (ltb_both (ltb (position_or_len p xs) (length xs))
+    (position_or_len p xs) (length xs) refl ∙ h)
 
 some_position : {X : Type 0} (p : X → Bool) (xs : List X)
     → ltb (position_or_len p xs) (length xs) ≡ list_any p xs
@@ -76,7 +87,8 @@ none_by true i e = absurd cc
 none_by false i e = refl
 
 none_any : {X : Type 0} (p : X → Bool) (xs : List X) → position p xs ≡ None → list_any p xs ≡ false
-none_any p xs e = sym (some_position p xs) ∙ none_by (ltb (position_or_len p xs) (length xs)) (position_or_len p xs) e
+none_any p xs e = sym (some_position p xs)
+    ∙ none_by (ltb (position_or_len p xs) (length xs)) (position_or_len p xs) e
 
 pub list_any-map : {X Y : Type 0} (p : Y → Bool) (f : X → Y) (xs : List X)
     → list_any p (map f xs) ≡ list_any (λ x. p (f x)) xs
@@ -90,7 +102,8 @@ neither false b e = (refl, e)
 pub entry_last : {K V : Type 0} (eq : K → K → Bool) (es : List (K × V)) (k : K) (v : V)
     → list_any (λ (e : K × V). eq k e.0) es ≡ false → insert_entry eq es k v ≡ es ++ (k, v) ∷ []
 entry_last eq [] k v none = refl
-entry_last eq (e ∷ es) k v none = let n = neither (eq k e.0) (list_any (λ x. eq k x.0) es) none in rw (n.0) (ap (λ xs. e ∷ xs) (entry_last eq es k v n.1))
+entry_last eq (e ∷ es) k v none = let n = neither (eq k e.0) (list_any (λ x. eq k x.0) es) none in
+    rw (n.0) (ap (λ xs. e ∷ xs) (entry_last eq es k v n.1))
 
 none_before : {X Y : Type 0} (f : X → Y) (o : Option X) → option_map f o ≡ None → o ≡ None
 none_before f None e = refl
@@ -107,10 +120,12 @@ entries_put : {V X : Type 0} (view : ArrayVec ℕ × V → X) (name_in : X → L
     → new ≡ insert_entry same_key es key v
     → map view new ≡ map view es ++ view (key, v) ∷ []
 entries_put {V} view name_in es new key v name same named none is =
-    let any : list_any (λ x. bytes_eq name (name_in x)) (map view es) ≡ false = none_any (λ x. bytes_eq name (name_in x)) (map view es) none in
+    let any : list_any (λ x. bytes_eq name (name_in x)) (map view es) ≡ false =
+    none_any (λ x. bytes_eq name (name_in x)) (map view es) none in
     let plain : list_any (λ (e : ArrayVec ℕ × V). same_key key (e.0)) es ≡ false =
     ap (λ (n : List ℕ). list_any (λ (e : ArrayVec ℕ × V). bytes_eq n (e.0).items) es) same
-    ∙ ap (λ (f : ArrayVec ℕ × V → List ℕ). list_any (λ (e : ArrayVec ℕ × V). bytes_eq name (f e)) es) (fun_ext (λ e. sym (named e)))
+    ∙ ap (λ (f : ArrayVec ℕ × V → List ℕ).
+    list_any (λ (e : ArrayVec ℕ × V). bytes_eq name (f e)) es) (fun_ext (λ e. sym (named e)))
     ∙ sym (list_any-map (λ x. bytes_eq name (name_in x)) view es) ∙ any in
     ap (map view) (is ∙ entry_last same_key es key v plain) ∙ map-append view es ((key, v) ∷ [])
 
@@ -120,13 +135,15 @@ any_at : {X : Type 0} (p : X → Bool) (xs : List X) (i : ℕ) (d : X) → list_
     → i < length xs → p (get_or xs i d) ≡ false
 any_at p [] i d none lt = absurd (omega arith)
 any_at p (x ∷ xs) zero d none lt = (neither (p x) (list_any p xs) none).0
-any_at p (x ∷ xs) (suc i) d none lt = any_at p xs i d (neither (p x) (list_any p xs) none).1 (omega arith)
+any_at p (x ∷ xs) (suc i) d none lt = any_at p xs i d (neither (p x) (list_any p xs) none).1
+    (omega arith)
 
 differs : {X : Type 0} (name_in : X → List ℕ) (xs : List X) (d : X) (name : List ℕ)
     → position (λ x. bytes_eq name (name_in x)) xs ≡ None → (i : ℕ) → i < length xs
     → name_in (get_or xs i d) ≡ name → ⊥
 differs name_in xs d name none i lt e =
-    let no = any_at (λ x. bytes_eq name (name_in x)) xs i d (none_any (λ x. bytes_eq name (name_in x)) xs none) lt in
+    let no = any_at (λ x. bytes_eq name (name_in x)) xs i d
+    (none_any (λ x. bytes_eq name (name_in x)) xs none) lt in
     absurd (false≢true (sym no ∙ (bytes_eq-Decides name (name_in (get_or xs i d))).1 (sym e)))
 
 distinct_by : {X : Type 0} (name_in : X → List ℕ) (d : X) (xs : List X) (x : X)
@@ -135,22 +152,27 @@ distinct_by : {X : Type 0} (name_in : X → List ℕ) (d : X) (xs : List X) (x :
     → (i < length xs) ⊎ (length xs ≤ i) → (j < length xs) ⊎ (length xs ≤ j)
     → name_in (get_or (xs ++ x ∷ []) i d) ≡ name_in (get_or (xs ++ x ∷ []) j d) → i ≡ j
 distinct_by name_in d xs x before apart i j li lj (inl hi) (inl hj) e =
-    before i j hi hj (ap name_in (sym (get_or_append_left xs (x ∷ []) d i hi)) ∙ e ∙ ap name_in (get_or_append_left xs (x ∷ []) d j hj))
+    before i j hi hj (ap name_in (sym (get_or_append_left xs (x ∷ []) d i hi)) ∙ e
+    ∙ ap name_in (get_or_append_left xs (x ∷ []) d j hj))
 distinct_by name_in d xs x before apart i j li lj (inl hi) (inr hj) e =
     let last : j ≡ length xs = omega (arith, length-append xs (x ∷ [])) in
-    absurd (apart i hi (ap name_in (sym (get_or_append_left xs (x ∷ []) d i hi)) ∙ e ∙ ap (λ k. name_in (get_or (xs ++ x ∷ []) k d)) last
+    absurd (apart i hi (ap name_in (sym (get_or_append_left xs (x ∷ []) d i hi)) ∙ e
+    ∙ ap (λ k. name_in (get_or (xs ++ x ∷ []) k d)) last
     ∙ ap name_in (get_or-append_seam xs x [] d)))
 distinct_by name_in d xs x before apart i j li lj (inr hi) (inl hj) e =
     let last : i ≡ length xs = omega (arith, length-append xs (x ∷ [])) in
-    absurd (apart j hj (ap name_in (sym (get_or_append_left xs (x ∷ []) d j hj)) ∙ sym e ∙ ap (λ k. name_in (get_or (xs ++ x ∷ []) k d)) last
+    absurd (apart j hj (ap name_in (sym (get_or_append_left xs (x ∷ []) d j hj)) ∙ sym e
+    ∙ ap (λ k. name_in (get_or (xs ++ x ∷ []) k d)) last
     ∙ ap name_in (get_or-append_seam xs x [] d)))
-distinct_by name_in d xs x before apart i j li lj (inr hi) (inr hj) e = omega (arith, length-append xs (x ∷ []))
+distinct_by name_in d xs x before apart i j li lj (inr hi) (inr hj) e =
+    omega (arith, length-append xs (x ∷ []))
 
 distinct_push : {X : Type 0} (name_in : X → List ℕ) (d : X) (xs : List X) (x : X)
     → AreDistinct name_in d xs → position (λ y. bytes_eq (name_in x) (name_in y)) xs ≡ None
     → AreDistinct name_in d (xs ++ x ∷ [])
 distinct_push name_in d xs x before none i j li lj e =
-    distinct_by name_in d xs x before (differs name_in xs d (name_in x) none) i j li lj (cases_lt i (length xs)) (cases_lt j (length xs)) e
+    distinct_by name_in d xs x before (differs name_in xs d (name_in x) none) i j li lj
+    (cases_lt i (length xs)) (cases_lt j (length xs)) e
 
 -- ---- an operation
 
@@ -161,7 +183,8 @@ operation_added t o laws call new few = record {
   begins = laws.begins;
   operations = All-push (IsOperation t.types) t.operations o laws.operations call;
   exceptions = laws.exceptions;
-  operations_distinct = distinct_push (λ (x : Operation). x.name) no_operation t.operations o laws.operations_distinct
+  operations_distinct = distinct_push (λ (x : Operation). x.name) no_operation t.operations o
+      laws.operations_distinct
       (none_before op_id (position (λ (x : Operation). bytes_eq o.name x.name) t.operations) new);
   exceptions_distinct = laws.exceptions_distinct;
   operations_few = omega (arith, length-append t.operations (o ∷ []));
@@ -178,12 +201,17 @@ pub operation_put : (types : List Node) (os new : List (ArrayVec ℕ × Signatur
     → table_view types new es declared
     ≡ with_operation t (record { name = name; request = s.request.0; reply = s.reply.0 })
 operation_put types os new es declared t key s name view same none is =
-    let none_here : operation_in (table_view types os es declared) name ≡ None = ap (λ (u : Table). operation_in u name) view ∙ none in
-    let put = entries_put operation_view (λ (o : Operation). o.name) os new key s name same (λ e. refl)
-    (none_before op_id (position (λ (o : Operation). bytes_eq name o.name) (map operation_view os)) none_here) is in
+    let none_here : operation_in (table_view types os es declared) name ≡ None =
+    ap (λ (u : Table). operation_in u name) view ∙ none in
+    let put = entries_put operation_view (λ (o : Operation). o.name) os new key s name same
+    (λ e. refl)
+    (none_before op_id (position (λ (o : Operation). bytes_eq name o.name) (map operation_view os))
+    none_here) is in
     ap (λ xs. record (table_view types os es declared) { operations = xs }) put
-    ∙ ap (λ (n : List ℕ). with_operation (table_view types os es declared) (record { name = n; request = s.request.0; reply = s.reply.0 })) same
-    ∙ ap (λ u. with_operation u (record { name = name; request = s.request.0; reply = s.reply.0 })) view
+    ∙ ap (λ (n : List ℕ). with_operation (table_view types os es declared)
+    (record { name = n; request = s.request.0; reply = s.reply.0 })) same
+    ∙ ap (λ u. with_operation u (record { name = name; request = s.request.0; reply = s.reply.0 }))
+    view
 
 -- ---- an exception
 
@@ -195,8 +223,10 @@ exception_added t e laws raised new few = record {
   operations = laws.operations;
   exceptions = All-push (IsException t.types) t.exceptions e laws.exceptions raised;
   operations_distinct = laws.operations_distinct;
-  exceptions_distinct = distinct_push (λ (x : Exception). x.repository) no_exception t.exceptions e laws.exceptions_distinct
-      (none_before (members_at t) (position (λ (x : Exception). bytes_eq e.repository x.repository) t.exceptions) new);
+  exceptions_distinct = distinct_push (λ (x : Exception). x.repository) no_exception t.exceptions e
+      laws.exceptions_distinct
+      (none_before (members_at t) (position (λ (x : Exception). bytes_eq e.repository x.repository)
+      t.exceptions) new);
   operations_few = laws.operations_few;
   exceptions_few = omega (arith, length-append t.exceptions (e ∷ []));
   declared_few = laws.declared_few;
@@ -212,9 +242,12 @@ pub exception_put : (types : List Node) (os : List (ArrayVec ℕ × Signature))
     ≡ with_exception t (record { repository = name; members = m.0 })
 exception_put types os es new declared t key m name view same none is =
     let here = table_view types os es declared in
-    let none_here : exception_in here name ≡ None = ap (λ (u : Table). exception_in u name) view ∙ none in
-    let put = entries_put exception_view (λ (e : Exception). e.repository) es new key m name same (λ e. refl)
-    (none_before (members_at here) (position (λ (e : Exception). bytes_eq name e.repository) (map exception_view es)) none_here) is in
+    let none_here : exception_in here name ≡ None =
+    ap (λ (u : Table). exception_in u name) view ∙ none in
+    let put = entries_put exception_view (λ (e : Exception). e.repository) es new key m name same
+    (λ e. refl)
+    (none_before (members_at here) (position (λ (e : Exception). bytes_eq name e.repository)
+    (map exception_view es)) none_here) is in
     ap (λ xs. record here { exceptions = xs }) put
     ∙ ap (λ (n : List ℕ). with_exception here (record { repository = n; members = m.0 })) same
     ∙ ap (λ u. with_exception u (record { repository = name; members = m.0 })) view

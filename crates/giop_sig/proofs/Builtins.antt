@@ -61,7 +61,8 @@ inner_test types n i = ltb i n && takes_test (node_in types i)
 
 inner_by : (types : List Node) (n i : ℕ) → inner_test types n i ≡ true → IsInner types n i
 unfolding inner_test
-inner_by types n i e = let k = both (ltb i n) (takes_test (node_in types i)) e in record { below = ltb-true i n k.0; takes = takes_by (node_in types i) k.1 }
+inner_by types n i e = let k = both (ltb i n) (takes_test (node_in types i)) e in
+    record { below = ltb-true i n k.0; takes = takes_by (node_in types i) k.1 }
 
 part_test : List Node → ℕ → Part → Bool
 part_test types n p = inner_test types n p.type && leb (length p.name) 64
@@ -80,7 +81,8 @@ parts_by : (types : List Node) (n : ℕ) (ps : List Part) → parts_test types n
     → AllByRecursion (IsPart types n) ps
 unfolding parts_test
 parts_by types n [] e = tt
-parts_by types n (p ∷ ps) e = let k = both (part_test types n p) (parts_test types n ps) e in (part_by types n p k.0, parts_by types n ps k.1)
+parts_by types n (p ∷ ps) e = let k = both (part_test types n p) (parts_test types n ps) e in
+    (part_by types n p k.0, parts_by types n ps k.1)
 
 cases_test : List Node → ℕ → List Case → Bool
 cases_test types n [] = true
@@ -90,7 +92,8 @@ cases_by : (types : List Node) (n : ℕ) (cs : List Case) → cases_test types n
     → AllByRecursion (λ c. IsPart types n c.part) cs
 unfolding cases_test
 cases_by types n [] e = tt
-cases_by types n (c ∷ cs) e = let k = both (part_test types n c.part) (cases_test types n cs) e in (part_by types n c.part k.0, cases_by types n cs k.1)
+cases_by types n (c ∷ cs) e = let k = both (part_test types n c.part) (cases_test types n cs) e in
+    (part_by types n c.part k.0, cases_by types n cs k.1)
 
 names_test : List (List ℕ) → Bool
 names_test [] = true
@@ -100,13 +103,15 @@ names_by : (xs : List (List ℕ)) → names_test xs ≡ true
     → AllByRecursion (λ name. length name ≤ 64) xs
 unfolding names_test
 names_by [] e = tt
-names_by (x ∷ xs) e = let k = both (leb (length x) 64) (names_test xs) e in (leb-true (length x) 64 k.0, names_by xs k.1)
+names_by (x ∷ xs) e = let k = both (leb (length x) 64) (names_test xs) e in
+    (leb-true (length x) 64 k.0, names_by xs k.1)
 
 -- a union is formed by this test only where it has no default
 node_test : List Node → ℕ → Node → Bool
 node_test types n (nodes.enumeration names) = leb (length names) 1024 && names_test names
 node_test types n (nodes.members parts) = leb (length parts) 256 && parts_test types n parts
-node_test types n (nodes.union switch cases selecteds.Refused) = switch_test types n switch && (leb (length cases) 256 && cases_test types n cases)
+node_test types n (nodes.union switch cases selecteds.Refused) =
+    switch_test types n switch && (leb (length cases) 256 && cases_test types n cases)
 node_test types n (nodes.union switch cases otherwise) = false
 node_test types n (nodes.sequence bound element) = inner_test types n element
 node_test types n (nodes.array count element) = ltb 0 count && inner_test types n element
@@ -119,13 +124,20 @@ node_by : (types : List Node) (n : ℕ) (node : Node)
     → node_test types n node ≡ true → IsFormed types n node
 unfolding node_test
 node_by types n (nodes.enumeration names) e =
-    let k = both (leb (length names) 1024) (names_test names) e in
-    (leb-true (length names) 1024 k.0, All-from_recursion (λ name. length name ≤ 64) names (names_by names k.1))
+    let k = both (leb (length names) 1024) (names_test names) e in (
+      leb-true (length names) 1024 k.0,
+      All-from_recursion (λ name. length name ≤ 64) names
+          (names_by names k.1),
+    )
 node_by types n (nodes.members parts) e =
-    let k = both (leb (length parts) 256) (parts_test types n parts) e in
-    (leb-true (length parts) 256 k.0, All-from_recursion (IsPart types n) parts (parts_by types n parts k.1))
+    let k = both (leb (length parts) 256) (parts_test types n parts) e in (
+      leb-true (length parts) 256 k.0,
+      All-from_recursion (IsPart types n) parts
+          (parts_by types n parts k.1),
+    )
 node_by types n (nodes.union switch cases selecteds.Refused) e =
-    let k = both (switch_test types n switch) (leb (length cases) 256 && cases_test types n cases) e in
+    let k = both (switch_test types n switch) (leb (length cases) 256 && cases_test types n cases) e
+    in
     let c = both (leb (length cases) 256) (cases_test types n cases) k.1 in (
       switch_by types n switch k.0,
       leb-true (length cases) 256 c.0,
@@ -166,7 +178,8 @@ unfolding depth_of trees_after depth builtin_types
 builtin_depth = refl
 
 builtin_test : table_test builtin_types 0 builtin_types ≡ true
-unfolding table_test node_test names_test cases_test parts_test part_test switch_test inner_test scalar_test takes_test builtin_types
+unfolding table_test node_test names_test cases_test parts_test part_test switch_test inner_test
+    scalar_test takes_test builtin_types
 builtin_test = refl
 
 -- the built-in types are a table
@@ -187,7 +200,8 @@ all_take_by : (xs : List Node) (i : ℕ) → all_take_test xs ≡ true → i < l
 unfolding all_take_test
 all_take_by [] i e lt = absurd (omega arith)
 all_take_by (x ∷ xs) zero e lt = let k = both (takes_test x) (all_take_test xs) e in takes_by x k.0
-all_take_by (x ∷ xs) (suc i) e lt = let k = both (takes_test x) (all_take_test xs) e in all_take_by xs i k.1 (omega arith)
+all_take_by (x ∷ xs) (suc i) e lt = let k = both (takes_test x) (all_take_test xs) e in
+    all_take_by xs i k.1 (omega arith)
 
 builtin_takes : (i : ℕ) → i < BUILTIN_LEN → TakesOctet (node_in builtin_types i)
 unfolding all_take_test takes_test builtin_types
@@ -208,7 +222,9 @@ pub builtin_formed : (n : ℕ) (types : List Node) (node : Node) → n < BUILTIN
 unfolding builtin_types
 builtin_formed n types node lt front is =
     let len : length types ≡ n = ap length front ∙ omega (arith, length-take n builtin_types) in
-    let same : SameNodes builtin_types types n = λ i below. sym (ap (λ ts. node_in ts i) front ∙ get_or-take n builtin_types i (nodes.prim Octet) below) in
+    let same : SameNodes builtin_types types n =
+    λ i below. sym (ap (λ ts. node_in ts i) front
+    ∙ get_or-take n builtin_types i (nodes.prim Octet) below) in
     subst (λ m. IsFormed types m node) (sym len) (formed_moved builtin_types types n node same
     (subst (IsFormed builtin_types n) (sym is) (builtin_are.formed n lt)))
 
@@ -223,12 +239,15 @@ unfolding builtin_types
 builtin_shallow n types node lt front is =
     let len : length types ≡ n = ap length front ∙ omega (arith, length-take n builtin_types) in
     let next : types ++ node ∷ [] ≡ take (n + 1) builtin_types =
-    ap (λ ts. ts ++ node ∷ []) front ∙ ap (λ m. take n builtin_types ++ m ∷ []) is ∙ sym (next_builtin n lt) in
+    ap (λ ts. ts ++ node ∷ []) front ∙ ap (λ m. take n builtin_types ++ m ∷ []) is
+    ∙ sym (next_builtin n lt) in
     let whole : (types ++ node ∷ []) ++ drop (n + 1) builtin_types ≡ builtin_types =
     ap (λ ts. ts ++ drop (n + 1) builtin_types) next ∙ take-append-drop (n + 1) builtin_types in
-    let there : length types < length (types ++ node ∷ []) = omega (arith, length-append types (node ∷ [])) in
+    let there : length types < length (types ++ node ∷ []) =
+    omega (arith, length-append types (node ∷ [])) in
     let tree : grow (type_in types) node ≡ type_in builtin_types n =
-    sym (tree_added types node) ∙ sym (tree_stays (types ++ node ∷ []) (drop (n + 1) builtin_types) (length types) there)
+    sym (tree_added types node) ∙ sym (tree_stays (types ++ node ∷ []) (drop (n + 1) builtin_types)
+    (length types) there)
     ∙ ap (λ ts. type_in ts (length types)) whole ∙ ap (type_in builtin_types) len in
     let within = depth_within builtin_types n lt in
     omega (arith, ap depth tree, builtin_depth)
@@ -237,16 +256,19 @@ builtin_shallow n types node lt front is =
 
 pub builtin_known : (t : Table) (i : ℕ) → IsTable t → i < BUILTIN_LEN → i < length t.types
 unfolding builtin_types
-builtin_known t i laws lt = let b = laws.begins in omega (arith, ap length b.1, length-append builtin_types b.0)
+builtin_known t i laws lt = let b = laws.begins in
+    omega (arith, ap length b.1, length-append builtin_types b.0)
 
 pub builtin_tree : (t : Table) (i : ℕ) → IsTable t → i < BUILTIN_LEN
     → tree t i ≡ type_in builtin_types i
 unfolding builtin_types
-builtin_tree t i laws lt = let b = laws.begins in ap (λ types. type_in types i) b.1 ∙ tree_stays builtin_types b.0 i lt
+builtin_tree t i laws lt = let b = laws.begins in
+    ap (λ types. type_in types i) b.1 ∙ tree_stays builtin_types b.0 i lt
 
 pub builtin_fit : (t : Table) (i : ℕ) → IsTable t → i < BUILTIN_LEN → IsFit 24 (tree t i)
 unfolding builtin_types
-builtin_fit t i laws lt = subst (IsFit 24) (sym (builtin_tree t i laws lt)) (fit_at builtin_types i builtin_are lt (builtin_takes i lt))
+builtin_fit t i laws lt = subst (IsFit 24) (sym (builtin_tree t i laws lt))
+    (fit_at builtin_types i builtin_are lt (builtin_takes i lt))
 
 -- ---- the header types
 
@@ -279,7 +301,8 @@ rows_by : (rs : List (List (Option ℕ))) (i minor : ℕ) → rows_test rs ≡ t
 unfolding rows_test
 rows_by [] i minor e = tt
 rows_by (r ∷ rs) zero minor e = let k = both (row_test r) (rows_test rs) e in row_by r minor k.0
-rows_by (r ∷ rs) (suc i) minor e = let k = both (row_test r) (rows_test rs) e in rows_by rs i minor k.1
+rows_by (r ∷ rs) (suc i) minor e = let k = both (row_test r) (rows_test rs) e in
+    rows_by rs i minor k.1
 
 pub header_built_in : (minor kind : ℕ) → IfSome (header_number minor kind) (λ n. n < BUILTIN_LEN)
 unfolding rows_test row_test cell_test
@@ -318,14 +341,20 @@ pub header_found : {X : Type 0} (t : Table) (f : X → ℕ) (r : Option X) (mino
     → option_map (λ x. tree t (f x)) r
     ≡ option_map (type_in builtin_types) (header_number minor kind)
 header_found t f r minor kind laws e =
-    map_twice f (tree t) r ∙ ap (option_map (tree t)) e ∙ header_tree t (header_number minor kind) laws (header_built_in minor kind)
+    map_twice f (tree t) r ∙ ap (option_map (tree t)) e
+    ∙ header_tree t (header_number minor kind) laws (header_built_in minor kind)
 
 -- no catalogue is less deep than its built-in types
 pub least_depth : (t : Table) → IsTable t → 9 ≤ depth_of t.types
 unfolding type_in trees_after depth builtin_types
 least_depth t laws =
     let request : depth (type_in builtin_types REQUEST_1_2) ≡ 9 = refl in
-    omega (arith, request, ap depth (builtin_tree t REQUEST_1_2 laws (lit< tt)), depth_within t.types REQUEST_1_2 (builtin_known t REQUEST_1_2 laws (lit< tt)))
+    omega (
+      arith,
+      request,
+      ap depth (builtin_tree t REQUEST_1_2 laws (lit< tt)),
+      depth_within t.types REQUEST_1_2 (builtin_known t REQUEST_1_2 laws (lit< tt)),
+    )
 
 pub fixed_built_in : (f : Fixed) → fixed_number f < BUILTIN_LEN
 fixed_built_in fixeds.ExceptionId = lit< tt

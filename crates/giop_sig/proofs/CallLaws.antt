@@ -1,4 +1,5 @@
--- Operations, both ways: reading the spelling of one gives it or a rule that it breaks, and the text that was read spells it.
+-- Operations, both ways: reading the spelling of one gives it or a rule that it breaks, and the
+-- text that was read spells it.
 use Rattle.std.proofs.Common.{◌≡◌, inl, ℕ, zero, suc, ◌+◌, ◌<◌, ◌≤◌, Bool, true, false, cond, ltb, leb, List, [], ◌∷◌, ◌++◌, length, Option, Some, None, Result, Ok, Err, append_assoc, refl, sym, ap, subst, ◌∙◌, arith}
 use Rattle.std.specs.Prelude.{codes}
 use Rattle.std.specs.Option.{is_some}
@@ -65,15 +66,22 @@ if_no_void text t ts differs h = if_other (is_the_word (codes "void")) text t ts
 type_no_void : (e : TypeExpr) (names : Names) (text : List ℕ) (more : List Token)
     → OfType kinds.Syntax names e → AreTokens text (spell_type e more)
     → keyword_if (codes "void") text ≡ Ok None
-type_no_void (Base p) names text more free h = if_no_void text (word (base_word p)) more (no_void (Base p) names more free) h
-type_no_void (Text o) names text more free h = if_no_void text (word (codes "string")) (spell_bound o more) (no_void (Text o) names more free) h
-type_no_void Reference names text more free h = if_no_void text (word (codes "Object")) more (no_void Reference names more free) h
-type_no_void (Named w) names text more free h = if_no_void text (word w) more (no_void (Named w) names more free) h
+type_no_void (Base p) names text more free h =
+    if_no_void text (word (base_word p)) more (no_void (Base p) names more free) h
+type_no_void (Text o) names text more free h =
+    if_no_void text (word (codes "string")) (spell_bound o more) (no_void (Text o) names more free)
+    h
+type_no_void Reference names text more free h =
+    if_no_void text (word (codes "Object")) more (no_void Reference names more free) h
+type_no_void (Named w) names text more free h =
+    if_no_void text (word w) more (no_void (Named w) names more free) h
 type_no_void (SequenceOf e o) names text more free h =
-    if_no_void text (word (codes "sequence")) (mark marks.OpenAngle ∷ spell_type e (spell_most o (mark marks.CloseAngle ∷ more)))
+    if_no_void text (word (codes "sequence"))
+    (mark marks.OpenAngle ∷ spell_type e (spell_most o (mark marks.CloseAngle ∷ more)))
     (no_void (SequenceOf e o) names more free) h
 type_no_void (EncapsulationOf e) names text more free h =
-    if_no_void text (word (codes "encapsulation")) (mark marks.OpenAngle ∷ spell_type e (mark marks.CloseAngle ∷ more))
+    if_no_void text (word (codes "encapsulation"))
+    (mark marks.OpenAngle ∷ spell_type e (mark marks.CloseAngle ∷ more))
     (no_void (EncapsulationOf e) names more free) h
 
 abbrev made_return : Scope → Option TypeExpr → List ℕ → ReturnRead
@@ -85,10 +93,12 @@ return_reads : (at : ℕ) (s : Scope) (o : Option TypeExpr) (text : List ℕ) (m
     → Out (made_return s o) (λ k. OfReturn k s.names o) (add_return s o).0.table.types
     more (return_at at s text)
 unfolding return_at
-return_reads at s None text more some free apart h = rw (keyword_if_again (codes "void") text more h) (good h.0 h.2 (λ k. tt))
+return_reads at s None text more some free apart h =
+    rw (keyword_if_again (codes "void") text more h) (good h.0 h.2 (λ k. tt))
 return_reads at s (Some e) text more some free apart h =
     rw (type_no_void e s.names text more free h)
-    (out_bind (type_at at 25 s text) (λ t. Ok (t.0, part (codes "return") t.1 ∷ [], t.2)) (type_reads at s e text more some free apart h)
+    (out_bind (type_at at 25 s text) (λ t. Ok (t.0, part (codes "return") t.1 ∷ [], t.2))
+    (type_reads at s e text more some free apart h)
     (λ rest m keeps. good rest m keeps) (λ k w. w) within_same)
 
 -- ---- the name
@@ -102,7 +112,8 @@ operation_keeps s w short few new _ = tt
 -- the operations are those of the scope before
 operation_same : (s t : Scope) (w : List ℕ) → t.table.operations ≡ s.table.operations → (k : Kind)
     → OfOperation k s w → OfOperation k t w
-operation_same s t w same kinds.Duplicate h = ap (λ os. operation_in (record s.table { operations = os }) w) same ∙ h
+operation_same s t w same kinds.Duplicate h =
+    ap (λ os. operation_in (record s.table { operations = os }) w) same ∙ h
 operation_same s t w same kinds.Limit h = (h.0, let few = h.1 in omega (arith, ap length same))
 operation_same s t w same _ h = tt
 
@@ -113,12 +124,15 @@ long_name : (types : List Node) (s : Scope) (text w : List ℕ) (more : List Tok
 unfolding new_operation_at
 long_name types s text w more true e h =
     rw (operation_name_long text w more h (ltb-true 128 (length w) e))
-    (broken (too_long text) (inl (λ r. let z = ltb-true 128 (length w) e in let f = r.0 in omega arith)))
+    (broken (too_long text) (inl (λ r. let z = ltb-true 128 (length w) e in let f = r.0 in
+    omega arith)))
 long_name types s text w more false e h =
     rw (operation_name_again text w more h (ltb-false 128 (length w) e))
-    (unused_reads (is_some (operation_in s.table w)) (leb 4096 (length s.table.operations)) text w h.0 h.2 (some_none (operation_in s.table w))
+    (unused_reads (is_some (operation_in s.table w)) (leb 4096 (length s.table.operations)) text w
+    h.0 h.2 (some_none (operation_in s.table w))
     (λ k r. let z = leb-true 4096 (length s.table.operations) k in let f = r.1 in omega arith)
-    (λ k f. operation_keeps s w (ltb-false 128 (length w) e) (leb-false 4096 (length s.table.operations) f) (none_of (operation_in s.table w) k)))
+    (λ k f. operation_keeps s w (ltb-false 128 (length w) e)
+    (leb-false 4096 (length s.table.operations) f) (none_of (operation_in s.table w) k)))
 
 name_reads : (types : List Node) (s : Scope) (text w : List ℕ) (more : List Token)
     → AreTokens text (word w ∷ more)
@@ -135,7 +149,8 @@ direction_word_of _ = refl
 direction_again : (d : Direction) (text : List ℕ) (more : List Token)
     (h : AreTokens text (word (direction_word d) ∷ more)) → direction_at text ≡ Ok (d, h.0)
 unfolding direction_at
-direction_again d text more h = rw (word_again text (direction_word d) more h, direction_word_of d) refl
+direction_again d text more h = rw (word_again text (direction_word d) more h, direction_word_of d)
+    refl
 
 -- the tokens behind a parameter and its mark, and whether that closes
 abbrev after_param : List Param → List Token → List Token
@@ -160,11 +175,16 @@ behind_reads : (w : ParameterLists) (s : Scope) (p : Param) (ps : List Param) (r
     → Out (made_param w s p ps) rule types (after_param ps more)
     (mark_if marks.Comma rest >>= λ c. param_end w p.direction (made_item s p.item rest) c)
 behind_reads w s p [] rule types rest more h keeps =
-    rw (if_apart marks.Comma rest (mark marks.CloseParenthesis ∷ more) refl h, mark_again marks.CloseParenthesis rest more h) (good h.0 h.2 keeps)
+    rw (
+      if_apart marks.Comma rest (mark marks.CloseParenthesis ∷ more) refl h,
+      mark_again marks.CloseParenthesis rest more h,
+    ) (good h.0 h.2 keeps)
 behind_reads w s p (q ∷ qs) rule types rest more h keeps =
-    rw (mark_if_again marks.Comma rest (spell_param q (spell_more_params qs more)) h) (good h.0 h.2 keeps)
+    rw (mark_if_again marks.Comma rest (spell_param q (spell_more_params qs more)) h)
+    (good h.0 h.2 keeps)
 
-param_reads : (at : ℕ) (w : ParameterLists) (s : Scope) (p : Param) (ps : List Param) (text : List ℕ)
+param_reads : (at : ℕ) (w : ParameterLists) (s : Scope) (p : Param) (ps : List Param)
+    (text : List ℕ)
     (more : List Token) → 0 < size s → OfItem kinds.Syntax s.names 255 w.seen p.item
     → AreTokens text (spell_param p (spell_more_params ps more))
     → Out (made_param w s p ps) (λ k. OfItem k s.names 255 w.seen p.item)
@@ -172,9 +192,12 @@ param_reads : (at : ℕ) (w : ParameterLists) (s : Scope) (p : Param) (ps : List
 unfolding param_step
 param_reads at w s p ps text more some free h =
     rw (direction_again p.direction text (spell_item p.item (spell_more_params ps more)) h)
-    (out_bind (item_at at 255 w.seen s h.0) (λ i. mark_if marks.Comma i.2 >>= λ c. param_end w p.direction i c)
-    (item_reads at 255 w.seen s p.item h.0 (spell_more_params ps more) some free (more_apart ps more) h.2)
-    (λ rest m keeps. behind_reads w s p ps (λ k. OfItem k s.names 255 w.seen p.item) (add_item s p.item).0.table.types rest more m
+    (out_bind (item_at at 255 w.seen s h.0)
+    (λ i. mark_if marks.Comma i.2 >>= λ c. param_end w p.direction i c)
+    (item_reads at 255 w.seen s p.item h.0 (spell_more_params ps more) some free
+    (more_apart ps more) h.2)
+    (λ rest m keeps. behind_reads w s p ps (λ k. OfItem k s.names 255 w.seen p.item)
+    (add_item s p.item).0.table.types rest more m
     keeps) (λ k w. w) within_same)
 
 abbrev made_params : ParameterLists → Scope → List Param → List ℕ → ParamsRead
@@ -206,9 +229,11 @@ unfolding add_params
 made_on w s p ps rule types more r o =
     let t = add_params (add_item s p.item).0 ps in
     let one = item_part p.item (add_item s p.item) in
-    subst (λ qs. Out {X = ParamsRead} (λ rest. (t.0, qs, w.reply ++ onto_reply p.direction one t.2, rest)) rule types more r)
+    subst (λ qs. Out {X = ParamsRead} (λ rest.
+    (t.0, qs, w.reply ++ onto_reply p.direction one t.2, rest)) rule types more r)
     (request_on p.direction one w.request t.1)
-    (subst (λ rs. Out {X = ParamsRead} (λ rest. (t.0, in_request p.direction one w.request ++ t.1, rs, rest)) rule types more r)
+    (subst (λ rs. Out {X = ParamsRead} (λ rest.
+    (t.0, in_request p.direction one w.request ++ t.1, rs, rest)) rule types more r)
     (reply_on p.direction one w.reply t.2) o)
 
 abbrev then_run : ℕ → ℕ → Params → Result ParamsRead Refusal
@@ -217,7 +242,8 @@ then_run at n m =
     (params_run at n (parameter_lists_of m) m.scope m.rest)
 
 -- the last parameter ends the reading
-last_reads : (at n : ℕ) (w : ParameterLists) (s : Scope) (p : Param) (rule : Kind → Type 0) (rest : List ℕ)
+last_reads : (at n : ℕ) (w : ParameterLists) (s : Scope) (p : Param) (rule : Kind → Type 0)
+    (rest : List ℕ)
     (more : List Token) → AreTokens rest more → ((k : Kind) → rule k)
     → Out (made_params (way_on w s p) (add_item s p.item).0 []) rule
     (add_params (add_item s p.item).0 []).0.table.types more
@@ -226,24 +252,32 @@ unfolding add_params
 last_reads at n w s p rule rest more m keeps =
     let one = item_part p.item (add_item s p.item) in
     let t = (add_item s p.item).0 in
-    subst (λ qs. Out {X = ParamsRead} (λ rest. (t, qs, in_reply p.direction one w.reply ++ [], rest)) rule t.table.types more
-    (Ok (t, in_request p.direction one w.request, in_reply p.direction one w.reply, rest))) (sym (append-nil (in_request p.direction one w.request)))
-    (subst (λ rs. Out {X = ParamsRead} (λ rest. (t, in_request p.direction one w.request, rs, rest)) rule t.table.types more
-    (Ok (t, in_request p.direction one w.request, in_reply p.direction one w.reply, rest))) (sym (append-nil (in_reply p.direction one w.reply)))
+    subst (λ qs. Out {X = ParamsRead} (λ rest.
+    (t, qs, in_reply p.direction one w.reply ++ [], rest)) rule t.table.types more
+    (Ok (t, in_request p.direction one w.request, in_reply p.direction one w.reply, rest)))
+    (sym (append-nil (in_request p.direction one w.request)))
+    (subst (λ rs. Out {X = ParamsRead} (λ rest. (t, in_request p.direction one w.request, rs, rest))
+    rule t.table.types more
+    (Ok (t, in_request p.direction one w.request, in_reply p.direction one w.reply, rest)))
+    (sym (append-nil (in_reply p.direction one w.reply)))
     (good rest m keeps))
 
-param_named : (at : ℕ) (w : ParameterLists) (s : Scope) (names : Names) (p : Param) (ps : List Param)
+param_named : (at : ℕ) (w : ParameterLists) (s : Scope) (names : Names) (p : Param)
+    (ps : List Param)
     (text : List ℕ) (more : List Token) → s.names ≡ names → 0 < size s
     → OfItem kinds.Syntax names 255 w.seen p.item
     → AreTokens text (spell_param p (spell_more_params ps more))
     → Out (made_param w s p ps) (λ k. OfItem k names 255 w.seen p.item)
     (add_item s p.item).0.table.types (after_param ps more) (param_step at w s text)
 param_named at w s names p ps text more same some free h =
-    subst (λ ns. Out (made_param w s p ps) (λ k. OfItem k ns 255 w.seen p.item) (add_item s p.item).0.table.types (after_param ps more)
+    subst (λ ns. Out (made_param w s p ps) (λ k. OfItem k ns 255 w.seen p.item)
+    (add_item s p.item).0.table.types (after_param ps more)
     (param_step at w s text)) same
-    (param_reads at w s p ps text more some (subst (λ ns. OfItem kinds.Syntax ns 255 w.seen p.item) (sym same) free) h)
+    (param_reads at w s p ps text more some
+    (subst (λ ns. OfItem kinds.Syntax ns 255 w.seen p.item) (sym same) free) h)
 
-pub params_reads : (ps : List Param) (p : Param) (at n : ℕ) (w : ParameterLists) (s : Scope) (names : Names)
+pub params_reads : (ps : List Param) (p : Param) (at n : ℕ) (w : ParameterLists) (s : Scope)
+    (names : Names)
     (text : List ℕ) (more : List Token) → s.names ≡ names → 0 < size s
     → n + length w.seen ≡ 256 → length w.seen ≤ 255
     → OfItems kinds.Syntax names 255 w.seen (items_of (p ∷ ps))
@@ -253,19 +287,27 @@ pub params_reads : (ps : List Param) (p : Param) (at n : ℕ) (w : ParameterList
 unfolding OfItems params_run add_params
 params_reads ps p at zero w s names text more same some fuel few free h = absurd (omega arith)
 params_reads [] p at (suc n) w s names text more same some fuel few free h =
-    out_bind (param_step at w s text) (then_run at n) (param_named at w s names p [] text more same some free.0 h)
-    (λ rest m keeps. made_on w s p [] (λ k. OfItems k names 255 w.seen (items_of (p ∷ []))) (add_params s (p ∷ [])).0.table.types more
-    (then_run at n (made_param w s p [] rest)) (last_reads at n w s p (λ k. OfItems k names 255 w.seen (items_of (p ∷ []))) rest more m (λ k. (keeps k, tt))))
+    out_bind (param_step at w s text) (then_run at n)
+    (param_named at w s names p [] text more same some free.0 h)
+    (λ rest m keeps. made_on w s p [] (λ k. OfItems k names 255 w.seen (items_of (p ∷ [])))
+    (add_params s (p ∷ [])).0.table.types more
+    (then_run at n (made_param w s p [] rest))
+    (last_reads at n w s p (λ k. OfItems k names 255 w.seen (items_of (p ∷ []))) rest more m
+    (λ k. (keeps k, tt))))
     (λ k h. h.0) within_same
 params_reads (q ∷ qs) p at (suc n) w s names text more same some fuel few free h =
-    out_bind (param_step at w s text) (then_run at n) (param_named at w s names p (q ∷ qs) text more same some free.0 h)
+    out_bind (param_step at w s text) (then_run at n)
+    (param_named at w s names p (q ∷ qs) text more same some free.0 h)
     (λ rest m keeps.
     let lt = (keeps kinds.Limit).1.1 in
     let v = way_on w s p in
-    made_on w s p (q ∷ qs) (λ k. OfItems k names 255 w.seen (items_of (p ∷ q ∷ qs))) (add_params s (p ∷ q ∷ qs)).0.table.types more
+    made_on w s p (q ∷ qs) (λ k. OfItems k names 255 w.seen (items_of (p ∷ q ∷ qs)))
+    (add_params s (p ∷ q ∷ qs)).0.table.types more
     (params_run at n v (add_item s p.item).0 rest)
-    (out_more (params_reads qs q at n v (add_item s p.item).0 names rest more (item_names s p.item ∙ same) (omega (arith, (item_more s p.item).longer))
-    (omega (arith, length-append w.seen (p.item.name ∷ []))) (omega (arith, length-append w.seen (p.item.name ∷ []))) free.1 m)
+    (out_more (params_reads qs q at n v (add_item s p.item).0 names rest more
+    (item_names s p.item ∙ same) (omega (arith, (item_more s p.item).longer))
+    (omega (arith, length-append w.seen (p.item.name ∷ [])))
+    (omega (arith, length-append w.seen (p.item.name ∷ []))) free.1 m)
     (λ k h. (keeps k, h)) (λ k h. h.1)))
     (λ k h. h.0) (params_more (add_item s p.item).0 (q ∷ qs))
 
@@ -275,7 +317,8 @@ none_reads : (returned : List Part) (s : Scope) (names : Names) (rest : List ℕ
     (add_params s []).0.table.types more (Ok (s, [], returned, rest))
 unfolding OfItems add_params
 none_reads returned s names rest more m =
-    subst (λ rs. Out {X = ParamsRead} (λ rest. (s, [], rs, rest)) (λ k. Unit {0}) s.table.types more (Ok (s, [], returned, rest)))
+    subst (λ rs. Out {X = ParamsRead} (λ rest. (s, [], rs, rest)) (λ k. Unit {0}) s.table.types more
+    (Ok (s, [], returned, rest)))
     (sym (append-nil returned)) (good rest m (λ k. tt))
 
 pub list_reads : (ps : List Param) (at : ℕ) (returned : List Part) (s : Scope) (names : Names)
@@ -284,10 +327,12 @@ pub list_reads : (ps : List Param) (at : ℕ) (returned : List Part) (s : Scope)
     → Out (made_params (no_parameters returned) s ps) (λ k. OfItems k names 255 [] (items_of ps))
     (add_params s ps).0.table.types more (params_at at returned s text)
 unfolding params_at
-list_reads [] at returned s names text more same some free h = rw (mark_if_again marks.CloseParenthesis text more h) (none_reads returned s names h.0 more h.2)
+list_reads [] at returned s names text more same some free h =
+    rw (mark_if_again marks.CloseParenthesis text more h) (none_reads returned s names h.0 more h.2)
 list_reads (p ∷ ps) at returned s names text more same some free h =
     rw (if_apart marks.CloseParenthesis text (spell_param p (spell_more_params ps more)) refl h)
-    (params_reads ps p at 256 (no_parameters returned) s names text more same some (omega arith) (omega arith) free h)
+    (params_reads ps p at 256 (no_parameters returned) s names text more same some (omega arith)
+    (omega arith) free h)
 
 -- ---- operations
 
@@ -307,23 +352,37 @@ operation_reads s o w ps text more some free h =
     let struct = (with_node x.0 request).0 in
     let structs = structs_more x.0 request reply in
     let behind = within_on (params_more t.0 ps) structs in
-    out_bind (return_at (left_of text) s text) (λ t. new_operation_at t.0 t.2 >>= λ n. mark_at marks.OpenParenthesis n.1
-    >>= λ o. params_at (left_of t.2) t.1 t.0 o >>= λ m. mark_at marks.Semicolon m.3 >>= λ r. added (left_of t.2) m.0 (nodes.members m.1)
+    out_bind (return_at (left_of text) s text)
+    (λ t. new_operation_at t.0 t.2 >>= λ n. mark_at marks.OpenParenthesis n.1
+    >>= λ o. params_at (left_of t.2) t.1 t.0 o >>= λ m. mark_at marks.Semicolon m.3 >>= λ r.
+    added (left_of t.2) m.0 (nodes.members m.1)
     >>= λ q. added (left_of t.2) q.0 (nodes.members m.2) >>= λ p. Ok (with_call n.0 q.1 p, r))
-    (return_reads (left_of text) s o text (word w ∷ mark marks.OpenParenthesis ∷ spell_params ps (mark marks.Semicolon ∷ more)) some free.0 refl h)
+    (return_reads (left_of text) s o text (word w ∷ mark marks.OpenParenthesis ∷ spell_params ps
+    (mark marks.Semicolon ∷ more)) some free.0 refl h)
     (λ a ta ka.
     let at = left_of a in
-    out_bind (new_operation_at t.0 a) (λ n. mark_at marks.OpenParenthesis n.1 >>= λ o. params_at at t.1 t.0 o >>= λ m. mark_at marks.Semicolon m.3
-    >>= λ r. added at m.0 (nodes.members m.1) >>= λ q. added at q.0 (nodes.members m.2) >>= λ p. Ok (with_call n.0 q.1 p, r))
-    (name_reads t.0.table.types t.0 a w (mark marks.OpenParenthesis ∷ spell_params ps (mark marks.Semicolon ∷ more)) ta)
-    (λ b tb kb. rw (mark_again marks.OpenParenthesis b (spell_params ps (mark marks.Semicolon ∷ more)) tb)
-    (out_bind (params_at at t.1 t.0 tb.0) (λ m. mark_at marks.Semicolon m.3 >>= λ r. added at m.0 (nodes.members m.1) >>= λ q. added at q.0 (nodes.members m.2)
+    out_bind (new_operation_at t.0 a) (λ n. mark_at marks.OpenParenthesis n.1 >>= λ o.
+    params_at at t.1 t.0 o >>= λ m. mark_at marks.Semicolon m.3
+    >>= λ r. added at m.0 (nodes.members m.1) >>= λ q. added at q.0 (nodes.members m.2) >>= λ p.
+    Ok (with_call n.0 q.1 p, r))
+    (name_reads t.0.table.types t.0 a w (mark marks.OpenParenthesis ∷ spell_params ps
+    (mark marks.Semicolon ∷ more)) ta)
+    (λ b tb kb. rw (mark_again marks.OpenParenthesis b
+    (spell_params ps (mark marks.Semicolon ∷ more)) tb)
+    (out_bind (params_at at t.1 t.0 tb.0) (λ m. mark_at marks.Semicolon m.3 >>= λ r.
+    added at m.0 (nodes.members m.1) >>= λ q. added at q.0 (nodes.members m.2)
     >>= λ p. Ok (with_call w q.1 p, r))
-    (list_reads ps at t.1 t.0 s.names tb.0 (mark marks.Semicolon ∷ more) (return_names s o) (omega (arith, (return_more s o).longer)) free.2 tb.2)
+    (list_reads ps at t.1 t.0 s.names tb.0 (mark marks.Semicolon ∷ more) (return_names s o)
+    (omega (arith, (return_more s o).longer)) free.2 tb.2)
     (λ c tc kc. rw (mark_again marks.Semicolon c more tc)
-    (added_bind at x.0 request (λ q. added at q.0 reply >>= λ p. Ok (with_call w q.1 p, tc.0)) (node_more struct reply)
+    (added_bind at x.0 request (λ q. added at q.0 reply >>= λ p. Ok (with_call w q.1 p, tc.0))
+    (node_more struct reply)
     (added_bind at struct reply (λ p. Ok (with_call w (length x.0.table.types) p, tc.0)) within_same
-    (good tc.0 tc.2 (λ k. (ka k, operation_same t.0 s w (sym (return_operations s o)) k (kb k), kc k))))))
+    (good tc.0 tc.2 (λ k. (
+      ka k,
+      operation_same t.0 s w (sym (return_operations s o)) k (kb k),
+      kc k,
+    ))))))
     (λ k h. h.2) structs))
     (λ k h. operation_same s t.0 w (return_operations s o) k h.1) behind)
     (λ k h. h.0) behind
@@ -337,13 +396,21 @@ unfolding OfDeclaration
 operation_made s whole text o t n m r last before a b c k e = record {
   declaration = Call a.returned n.0 k.params;
   took = record {
-    free = (a.took.free, tt, subst (λ ns. OfItems kinds.Syntax ns 255 [] (items_of k.params)) a.grows.names k.took.free);
+    free = (
+      a.took.free,
+      tt,
+      subst (λ ns. OfItems kinds.Syntax ns 255 [] (items_of k.params))
+          a.grows.names k.took.free,
+    );
     front = λ more h.
         let list = spell_params k.params (mark marks.Semicolon ∷ more) in
-        let inner : AreTokens o list = k.took.front (mark marks.Semicolon ∷ more) (mark_takes marks.Semicolon m.3 r e more h) in
+        let inner : AreTokens o list = k.took.front (mark marks.Semicolon ∷ more)
+        (mark_takes marks.Semicolon m.3 r e more h) in
         let behind : AreTokens t.2 (word n.0 ∷ mark marks.OpenParenthesis ∷ list) =
-        b.front (mark marks.OpenParenthesis ∷ list) (mark_takes marks.OpenParenthesis n.1 o c list inner) in
-        before (spell_return a.returned (word n.0 ∷ mark marks.OpenParenthesis ∷ list)) (a.took.front (word n.0 ∷ mark marks.OpenParenthesis ∷ list) behind);
+        b.front (mark marks.OpenParenthesis ∷ list)
+        (mark_takes marks.OpenParenthesis n.1 o c list inner) in
+        before (spell_return a.returned (word n.0 ∷ mark marks.OpenParenthesis ∷ list))
+        (a.took.front (word n.0 ∷ mark marks.OpenParenthesis ∷ list) behind);
   };
 }
 
@@ -358,8 +425,13 @@ operation_takes s whole text x before e =
     let o = bind_ok _ _ x n.2 in
     let m = bind_ok _ _ x o.2 in
     let r = bind_ok _ _ x m.2 in
-    let q = bind_ok (added at (m.0).0 (nodes.members (m.0).1)) (λ q. added at q.0 (nodes.members (m.0).2) >>= λ p. Ok (with_call (n.0).0 q.1 p, r.0)) x r.2 in
-    let p = bind_ok (added at (q.0).0 (nodes.members (m.0).2)) (λ p. Ok (with_call (n.0).0 (q.0).1 p, r.0)) x q.2 in
+    let q = bind_ok (added at (m.0).0 (nodes.members (m.0).1))
+    (λ q. added at q.0 (nodes.members (m.0).2) >>= λ p. Ok (with_call (n.0).0 q.1 p, r.0)) x r.2
+    in
+    let p = bind_ok (added at (q.0).0 (nodes.members (m.0).2))
+    (λ p. Ok (with_call (n.0).0 (q.0).1 p, r.0)) x q.2 in
     subst (TakenDeclaration s whole) (ok_is (with_call (n.0).0 (q.0).1 p.0, r.0) x p.2)
-    (operation_made s whole text o.0 t.0 n.0 m.0 r.0 (with_call (n.0).0 (q.0).1 p.0) before (return_takes (left_of text) s text t.0 t.1)
-    (new_operation_takes (t.0).0 (t.0).2 n.0 n.1) o.1 (list_takes at (t.0).1 (t.0).0 o.0 m.0 m.1) r.1)
+    (operation_made s whole text o.0 t.0 n.0 m.0 r.0 (with_call (n.0).0 (q.0).1 p.0) before
+    (return_takes (left_of text) s text t.0 t.1)
+    (new_operation_takes (t.0).0 (t.0).2 n.0 n.1) o.1 (list_takes at (t.0).1 (t.0).0 o.0 m.0 m.1)
+    r.1)

@@ -1,4 +1,5 @@
--- Parameters that were read: the text that was read spells them, and they can be members of structs.
+-- Parameters that were read: the text that was read spells them, and they can be members of
+-- structs.
 use Rattle.std.proofs.Common.{◌≡◌, ℕ, zero, suc, ◌+◌, ◌<◌, ◌≤◌, Bool, true, false, cond, leb, List, [], ◌∷◌, ◌++◌, length, Option, Some, None, Result, Ok, Err, refl, sym, ap, subst, ◌∙◌, lit≤, arith}
 use Rattle.std.specs.Prelude.{codes}
 use Rattle.std.specs.Option.{is_some}
@@ -53,9 +54,11 @@ return_by at s text x (Some r) h e = subst (TakenReturn s text) (ok_is (s, [], r
   sound = λ is. (is, no_parts s);
 })
 return_by at s text x None h e =
-    let t = bind_ok (type_at at 25 s text) (λ t. Ok (t.0, part (codes "return") t.1 ∷ [], t.2)) x e in
+    let t = bind_ok (type_at at 25 s text) (λ t. Ok (t.0, part (codes "return") t.1 ∷ [], t.2)) x e
+    in
     let k = type_takes at 25 s text t.0 t.1 in
-    subst (TakenReturn s text) (ok_is ((t.0).0, part (codes "return") (t.0).1 ∷ [], (t.0).2) x t.2) (record {
+    subst (TakenReturn s text) (ok_is ((t.0).0, part (codes "return") (t.0).1 ∷ [], (t.0).2) x t.2)
+    (record {
       returned = Some k.expr;
       took = record { free = k.took.free; front = k.took.front };
       grows = k.grows;
@@ -63,7 +66,8 @@ return_by at s text x None h e =
       sound = λ is.
           let h = k.sound is in (
             h.scope,
-            All-push (IsPart ((t.0).0).table.types (length ((t.0).0).table.types)) [] (part (codes "return") (t.0).1) (no_parts (t.0).0)
+            All-push (IsPart ((t.0).0).table.types (length ((t.0).0).table.types)) []
+                (part (codes "return") (t.0).1) (no_parts (t.0).0)
                 (record { inner = h.known; short = lit≤ tt }),
           );
     })
@@ -71,7 +75,8 @@ return_by at s text x None h e =
 pub return_takes : (at : ℕ) (s : Scope) (text : List ℕ) (x : ReturnRead)
     → return_at at s text ≡ Ok x → TakenReturn s text x
 unfolding return_at
-return_takes at s text x e = let c = bind_ok (keyword_if (codes "void") text) (return_after at s text) x e in return_by at s text x c.0 c.1 c.2
+return_takes at s text x e = let c = bind_ok (keyword_if (codes "void") text)
+    (return_after at s text) x e in return_by at s text x c.0 c.1 c.2
 
 -- ---- the name
 
@@ -90,7 +95,13 @@ new_operation_takes s text x e =
     let known = operation_in s.table (a.0).0 in
     let u = unused_is (is_some known) (leb 4096 (length s.table.operations)) text a.0 x a.2 in
     subst (OperationTaken s text) u.0
-    (record { short = w.1; new = none_of known u.1; few = leb-false 4096 (length s.table.operations) u.2; front = word_takes text a.0 w.0 })
+    (record {
+      short = w.1;
+      new = none_of known u.1;
+      few =
+          leb-false 4096 (length s.table.operations) u.2;
+      front = word_takes text a.0 w.0;
+    })
 
 -- ---- parameters
 
@@ -99,9 +110,12 @@ direction_by : (w : List ℕ) (d : Direction) (a b c : Bool) → bytes_eq w (cod
     → cond a (Some directions.In)
     (cond b (Some directions.Out) (cond c (Some directions.Inout) None))
     ≡ Some d → w ≡ direction_word d
-direction_by w d true b c p q r e = let same : directions.In ≡ d = cc in (bytes_eq-Decides w (codes "in")).0 p ∙ ap direction_word same
-direction_by w d false true c p q r e = let same : directions.Out ≡ d = cc in (bytes_eq-Decides w (codes "out")).0 q ∙ ap direction_word same
-direction_by w d false false true p q r e = let same : directions.Inout ≡ d = cc in (bytes_eq-Decides w (codes "inout")).0 r ∙ ap direction_word same
+direction_by w d true b c p q r e = let same : directions.In ≡ d = cc in
+    (bytes_eq-Decides w (codes "in")).0 p ∙ ap direction_word same
+direction_by w d false true c p q r e = let same : directions.Out ≡ d = cc in
+    (bytes_eq-Decides w (codes "out")).0 q ∙ ap direction_word same
+direction_by w d false false true p q r e = let same : directions.Inout ≡ d = cc in
+    (bytes_eq-Decides w (codes "inout")).0 r ∙ ap direction_word same
 direction_by w d false false false p q r e = absurd cc
 
 as_by : (text w rest : List ℕ) (x : Direction × List ℕ) (o : Option Direction) → direction_of w ≡ o
@@ -109,8 +123,10 @@ as_by : (text w rest : List ℕ) (x : Direction × List ℕ) (o : Option Directi
     → Takes text (word (direction_word x.0)) x.1
 as_by text w rest x None h t e = absurd cc
 as_by text w rest x (Some d) h t e =
-    subst (λ (y : Direction × List ℕ). Takes text (word (direction_word y.0)) y.1) (ok_is (d, rest) x e)
-    (subst (λ v. Takes text (word v) rest) (direction_by w d (bytes_eq w (codes "in")) (bytes_eq w (codes "out"))
+    subst (λ (y : Direction × List ℕ). Takes text (word (direction_word y.0)) y.1)
+    (ok_is (d, rest) x e)
+    (subst (λ v. Takes text (word v) rest)
+    (direction_by w d (bytes_eq w (codes "in")) (bytes_eq w (codes "out"))
     (bytes_eq w (codes "inout")) refl refl refl h) t)
 
 pub direction_takes : (text : List ℕ) (x : Direction × List ℕ) → direction_at text ≡ Ok x
@@ -146,21 +162,23 @@ pub record SoundWays (x : ParamsRead) : Type 0 where
   pub reply : AreParts x.0 x.2
 
 -- the parameters that were read after others; the first has no comma before it
-pub record TakenParams (w : ParameterLists) (s : Scope) (text : List ℕ) (x : ParamsRead) : Type 0 where
-  pub first : Param
-  pub others : List Param
-  pub free : OfItems kinds.Syntax s.names 255 w.seen (items_of (first ∷ others))
-  pub front : (more : List Token) → AreTokens x.3 more
-      → AreTokens text (spell_param first (spell_more_params others more))
-  pub few_requests : (a : ℕ) → length w.request ≤ length w.seen + a → length x.1 ≤ 255 + a
-  pub few_replies : (a : ℕ) → length w.reply ≤ length w.seen + a → length x.2 ≤ 255 + a
-  pub grows : Grows s x.0
-  pub sound : IsScope s → AreParts s w.request → AreParts s w.reply → SoundWays x
+pub record TakenParams (w : ParameterLists) (s : Scope) (text : List ℕ) (x : ParamsRead) : Type 0
+  where
+    pub first : Param
+    pub others : List Param
+    pub free : OfItems kinds.Syntax s.names 255 w.seen (items_of (first ∷ others))
+    pub front : (more : List Token) → AreTokens x.3 more
+        → AreTokens text (spell_param first (spell_more_params others more))
+    pub few_requests : (a : ℕ) → length w.request ≤ length w.seen + a → length x.1 ≤ 255 + a
+    pub few_replies : (a : ℕ) → length w.reply ≤ length w.seen + a → length x.2 ≤ 255 + a
+    pub grows : Grows s x.0
+    pub sound : IsScope s → AreParts s w.request → AreParts s w.reply → SoundWays x
 
 abbrev way_on : ParameterLists → Direction → ItemRead → ParameterLists
 way_on w d i = parameter_lists_of (params_of w d i [] false)
 
-last_param : (w : ParameterLists) (s : Scope) (text r : List ℕ) (d : Direction × List ℕ) (i : ItemRead)
+last_param : (w : ParameterLists) (s : Scope) (text r : List ℕ) (d : Direction × List ℕ)
+    (i : ItemRead)
     → Takes text (word (direction_word d.0)) d.1 → TakenItem s 255 w.seen d.1 i
     → mark_at marks.CloseParenthesis i.2 ≡ Ok r
     → TakenParams w s text (i.0, in_request d.0 i.1 w.request, in_reply d.0 i.1 w.reply, r)
@@ -170,13 +188,15 @@ last_param w s text r d i t a e = record {
   others = [];
   free = (a.took.free, tt);
   front = λ more m. t (spell_item a.item (mark marks.CloseParenthesis ∷ more))
-      (a.took.front (mark marks.CloseParenthesis ∷ more) (mark_takes marks.CloseParenthesis i.2 r e more m));
+      (a.took.front (mark marks.CloseParenthesis ∷ more)
+      (mark_takes marks.CloseParenthesis i.2 r e more m));
   few_requests = λ k le. let f = a.few in omega (arith, request_more d.0 i.1 w.request);
   few_replies = λ k le. let f = a.few in omega (arith, reply_more d.0 i.1 w.reply);
   grows = a.grows;
   sound = λ is q r.
       let h = a.sound is in
-      let p : IsPart (i.0).table.types (length (i.0).table.types) i.1 = record { inner = h.known; short = a.short } in
+      let p : IsPart (i.0).table.types (length (i.0).table.types) i.1 =
+      record { inner = h.known; short = a.short } in
       record {
         scope = h.scope;
         request = request_parts i.0 d.0 i.1 w.request (parts_stay s i.0 w.request a.grows q) p;
@@ -184,7 +204,8 @@ last_param w s text r d i t a e = record {
       };
 }
 
-param_on : (w : ParameterLists) (s : Scope) (text r : List ℕ) (d : Direction × List ℕ) (i : ItemRead)
+param_on : (w : ParameterLists) (s : Scope) (text r : List ℕ) (d : Direction × List ℕ)
+    (i : ItemRead)
     (x : ParamsRead) → Takes text (word (direction_word d.0)) d.1 → TakenItem s 255 w.seen d.1 i
     → mark_if marks.Comma i.2 ≡ Ok (Some r)
     → TakenParams (way_on w d.0 i) i.0 r x → TakenParams w s text x
@@ -194,18 +215,27 @@ param_on w s text r d i x t a e k = record {
   others = k.first ∷ k.others;
   free = (
     a.took.free,
-    subst (λ v. OfItems kinds.Syntax s.names 255 (w.seen ++ v ∷ []) (items_of (k.first ∷ k.others))) (sym a.named)
-        (subst (λ ns. OfItems kinds.Syntax ns 255 (w.seen ++ (i.1).name ∷ []) (items_of (k.first ∷ k.others))) a.grows.names k.free),
+    subst (λ v. OfItems kinds.Syntax s.names 255 (w.seen ++ v ∷ []) (items_of (k.first ∷ k.others)))
+        (sym a.named)
+        (subst (λ ns. OfItems kinds.Syntax ns 255 (w.seen ++ (i.1).name ∷ [])
+        (items_of (k.first ∷ k.others))) a.grows.names k.free),
   );
   front = λ more m. t (spell_item a.item (spell_more_params (k.first ∷ k.others) more))
       (a.took.front (spell_more_params (k.first ∷ k.others) more)
-      (mark_if_takes marks.Comma i.2 r e (spell_param k.first (spell_more_params k.others more)) (k.front more m)));
-  few_requests = λ b le. k.few_requests b (omega (arith, request_more d.0 i.1 w.request, length-append w.seen ((i.1).name ∷ [])));
-  few_replies = λ b le. k.few_replies b (omega (arith, reply_more d.0 i.1 w.reply, length-append w.seen ((i.1).name ∷ [])));
+      (mark_if_takes marks.Comma i.2 r e (spell_param k.first (spell_more_params k.others more))
+      (k.front more m)));
+  few_requests = λ b le. k.few_requests b
+      (omega (arith, request_more d.0 i.1 w.request, length-append w.seen ((i.1).name ∷ [])));
+  few_replies = λ b le. k.few_replies b (omega (
+    arith,
+    reply_more d.0 i.1 w.reply,
+    length-append w.seen ((i.1).name ∷ []),
+  ));
   grows = grows_on s i.0 x.0 a.grows k.grows;
   sound = λ is q r.
       let h = a.sound is in
-      let p : IsPart (i.0).table.types (length (i.0).table.types) i.1 = record { inner = h.known; short = a.short } in
+      let p : IsPart (i.0).table.types (length (i.0).table.types) i.1 =
+      record { inner = h.known; short = a.short } in
       k.sound h.scope (request_parts i.0 d.0 i.1 w.request (parts_stay s i.0 w.request a.grows q) p)
       (reply_parts i.0 d.0 i.1 w.reply (parts_stay s i.0 w.reply a.grows r) p);
 }
@@ -215,20 +245,27 @@ then_run at n m =
     cond m.closed (Ok (m.scope, m.request, m.reply, m.rest))
     (params_run at n (parameter_lists_of m) m.scope m.rest)
 
-behind_by : (at n : ℕ) (w : ParameterLists) (s : Scope) (text : List ℕ) (d : Direction × List ℕ) (i : ItemRead)
+behind_by : (at n : ℕ) (w : ParameterLists) (s : Scope) (text : List ℕ) (d : Direction × List ℕ)
+    (i : ItemRead)
     (m : Params) (x : ParamsRead) (c : Option (List ℕ)) → Takes text (word (direction_word d.0)) d.1
     → TakenItem s 255 w.seen d.1 i → mark_if marks.Comma i.2 ≡ Ok c
     → param_end w d.0 i c ≡ Ok m → then_run at n m ≡ Ok x
     → ((w : ParameterLists) (s : Scope) (text : List ℕ) → params_run at n w s text ≡ Ok x
     → TakenParams w s text x) → TakenParams w s text x
 behind_by at n w s text d i m x (Some r) t a h e run on =
-    let last : params_run at n (way_on w d.0 i) i.0 r ≡ Ok x = ap (then_run at n) (ok_is (params_of w d.0 i r false) m e) ∙ run in
+    let last : params_run at n (way_on w d.0 i) i.0 r ≡ Ok x =
+    ap (then_run at n) (ok_is (params_of w d.0 i r false) m e) ∙ run in
     param_on w s text r d i x t a h (on (way_on w d.0 i) i.0 r last)
 behind_by at n w s text d i m x None t a h e run on =
     let r = bind_ok (mark_at marks.CloseParenthesis i.2) (λ r. Ok (params_of w d.0 i r true)) m e in
     let last : Ok (i.0, in_request d.0 i.1 w.request, in_reply d.0 i.1 w.reply, r.0) ≡ Ok x =
     ap (then_run at n) (ok_is (params_of w d.0 i r.0 true) m r.2) ∙ run in
-    subst (TakenParams w s text) (ok_is (i.0, in_request d.0 i.1 w.request, in_reply d.0 i.1 w.reply, r.0) x last) (last_param w s text r.0 d i t a r.1)
+    subst (TakenParams w s text) (ok_is (
+      i.0,
+      in_request d.0 i.1 w.request,
+      in_reply d.0 i.1 w.reply,
+      r.0,
+    ) x last) (last_param w s text r.0 d i t a r.1)
 
 pub params_takes : (at n : ℕ) (w : ParameterLists) (s : Scope) (text : List ℕ) (x : ParamsRead)
     → params_run at n w s text ≡ Ok x → TakenParams w s text x
@@ -236,10 +273,13 @@ unfolding params_run param_step
 params_takes at zero w s text x e = absurd cc
 params_takes at (suc n) w s text x e =
     let m = bind_ok (param_step at w s text) (then_run at n) x e in
-    let d = bind_ok (direction_at text) (λ d. item_at at 255 w.seen s d.1 >>= λ i. mark_if marks.Comma i.2 >>= λ c. param_end w d.0 i c) m.0 m.1 in
-    let i = bind_ok (item_at at 255 w.seen s (d.0).1) (λ i. mark_if marks.Comma i.2 >>= λ c. param_end w (d.0).0 i c) m.0 d.2 in
+    let d = bind_ok (direction_at text) (λ d. item_at at 255 w.seen s d.1 >>= λ i.
+    mark_if marks.Comma i.2 >>= λ c. param_end w d.0 i c) m.0 m.1 in
+    let i = bind_ok (item_at at 255 w.seen s (d.0).1)
+    (λ i. mark_if marks.Comma i.2 >>= λ c. param_end w (d.0).0 i c) m.0 d.2 in
     let c = bind_ok (mark_if marks.Comma (i.0).2) (λ c. param_end w (d.0).0 i.0 c) m.0 i.2 in
-    behind_by at n w s text d.0 i.0 m.0 x c.0 (direction_takes text d.0 d.1) (item_takes at 255 w.seen s (d.0).1 i.0 i.1) c.1 c.2 m.2
+    behind_by at n w s text d.0 i.0 m.0 x c.0 (direction_takes text d.0 d.1)
+    (item_takes at 255 w.seen s (d.0).1 i.0 i.1) c.1 c.2 m.2
     (λ w s text run. params_takes at n w s text x run)
 
 -- ---- all parameters
@@ -258,14 +298,15 @@ list_by : (at : ℕ) (returned : List Part) (s : Scope) (text : List ℕ) (x : P
     (c : Option (List ℕ)) → mark_if marks.CloseParenthesis text ≡ Ok c
     → params_after at returned s text c ≡ Ok x → TakenList returned s text x
 unfolding OfItems
-list_by at returned s text x (Some r) h e = subst (TakenList returned s text) (ok_is (s, [], returned, r) x e) (record {
-  params = [];
-  took = record { free = tt; front = mark_if_takes marks.CloseParenthesis text r h };
-  few_requests = omega arith;
-  few_replies = λ le. omega arith;
-  grows = grows_none s;
-  sound = λ is all. record { scope = is; request = no_parts s; reply = all };
-})
+list_by at returned s text x (Some r) h e =
+    subst (TakenList returned s text) (ok_is (s, [], returned, r) x e) (record {
+      params = [];
+      took = record { free = tt; front = mark_if_takes marks.CloseParenthesis text r h };
+      few_requests = omega arith;
+      few_replies = λ le. omega arith;
+      grows = grows_none s;
+      sound = λ is all. record { scope = is; request = no_parts s; reply = all };
+    })
 list_by at returned s text x None h e =
     let k = params_takes at 256 (no_parameters returned) s text x e in
     record {
@@ -288,7 +329,8 @@ list_takes at returned s text x e =
 
 pub still_uncalled : (s t : Scope) (w : List ℕ) → Grows s t → operation_in s.table w ≡ None
     → operation_in t.table w ≡ None
-still_uncalled s t w g e = ap (λ os. operation_in (record s.table { operations = os }) w) g.operations ∙ e
+still_uncalled s t w g e = ap (λ os. operation_in (record s.table { operations = os }) w)
+    g.operations ∙ e
 
 -- the structs of an operation can be added
 pub record CallReady (s : Scope) (m : ParamsRead) : Type 0 where
@@ -303,18 +345,27 @@ call_ready a b s text o t m e f is =
     let l = list_takes b t.1 t.0 o m f in
     let both = k.sound is in
     let h = l.sound both.0 both.1 in
-    record { request = (l.few_requests, h.request); reply = (l.few_replies k.few, h.reply); grows = l.grows }
+    record {
+      request = (l.few_requests, h.request);
+      reply = (l.few_replies k.few, h.reply);
+      grows =
+          l.grows;
+    }
 
 -- what could be added can be added after another struct
-pub parts_on : (at : ℕ) (s : Scope) (n : Node) (p : AddedType) (ps : List Part) → added at s n ≡ Ok p
+pub parts_on : (at : ℕ) (s : Scope) (n : Node) (p : AddedType) (ps : List Part) →
+    added at s n ≡ Ok p
     → (length ps ≤ 256) × AreParts s ps → (length ps ≤ 256) × AreParts p.0 ps
 parts_on at s n p ps e both = (both.0, parts_stay s p.0 ps (added_grows at s n p e) both.1)
 
 pub calls_grow : (at : ℕ) (s : Scope) (m : ParamsRead) (q p : AddedType) (n : Node) → CallReady s m
     → added at m.0 (nodes.members m.1) ≡ Ok q → added at q.0 n ≡ Ok p → Grows s p.0
-calls_grow at s m q p n ready e f = grows_on s q.0 p.0 (grows_on s m.0 q.0 ready.grows (added_grows at m.0 (nodes.members m.1) q e)) (added_grows at q.0 n p f)
+calls_grow at s m q p n ready e f = grows_on s q.0 p.0
+    (grows_on s m.0 q.0 ready.grows (added_grows at m.0 (nodes.members m.1) q e))
+    (added_grows at q.0 n p f)
 
 -- a type that was there is there after another is added
 pub below_on : (at : ℕ) (s : Scope) (n : Node) (p : AddedType) (i : ℕ) → added at s n ≡ Ok p
     → i < length s.table.types → i < length (p.0).table.types
-below_on at s n p i e lt = let g = (added_grows at s n p e).types in omega (arith, ap length g.1, length-append s.table.types g.0)
+below_on at s n p i e lt = let g = (added_grows at s n p e).types in
+    omega (arith, ap length g.1, length-append s.table.types g.0)

@@ -20,21 +20,25 @@ use Rattle.giop_sig.proofs.NumberLaws.{number_same, number_self}
 
 none_before : {X : Type 0} (p : X → Bool) (xs : List X) (x : X)
     → position p (xs ++ x ∷ []) ≡ None → position p xs ≡ None
-none_before p xs x e = let push = position_or_len_push p xs x in let within = prefix_len-le-length (λ y. not (p y)) xs in grind (arith, common_steps, push, within)
+none_before p xs x e = let push = position_or_len_push p xs x in let within =
+    prefix_len-le-length (λ y. not (p y)) xs in grind (arith, common_steps, push, within)
 
 none_last : {X : Type 0} (p : X → Bool) (xs : List X) (x : X)
     → position p (xs ++ x ∷ []) ≡ None → p x ≡ true → ⊥
-none_last p xs x e t = let push = position_or_len_push p xs x in let within = prefix_len-le-length (λ y. not (p y)) xs in grind (arith, common_steps, push, within)
+none_last p xs x e t = let push = position_or_len_push p xs x in let within =
+    prefix_len-le-length (λ y. not (p y)) xs in grind (arith, common_steps, push, within)
 
 before_or_last : {X : Type 0} (p : X → Bool) (xs : List X) (x : X) (i : ℕ)
     → position p (xs ++ x ∷ []) ≡ Some i
     → (position p xs ≡ Some i) ⊎ ((p x ≡ true) × (i ≡ length xs))
-before_or_last p xs x i e = let push = position_or_len_push p xs x in let within = prefix_len-le-length (λ y. not (p y)) xs in grind (arith, common_steps, push, within)
+before_or_last p xs x i e = let push = position_or_len_push p xs x in let within =
+    prefix_len-le-length (λ y. not (p y)) xs in grind (arith, common_steps, push, within)
 
 -- ---- the labels of one case
 
 own_there_by : (n : Number) (i : ℕ) (m : Number) (ns : List Number) (b : Bool) → same_number m n ≡ b
-    → (list_any (λ label. same_number label n) ns ≡ true → Contains (map (placed i) ns) (placed i n))
+    → (list_any (λ label. same_number label n) ns ≡ true →
+    Contains (map (placed i) ns) (placed i n))
     → list_any (λ label. same_number label n) (m ∷ ns) ≡ true
     → Contains (map (placed i) (m ∷ ns)) (placed i n)
 own_there_by n i m ns true same on e = (0, omega arith, ap (placed i) (number_same m n same))
@@ -70,21 +74,27 @@ one_case_more cs c ls is =
     record {
       each = All-append (λ (l : PlacedLabel). case_with l.number (cs ++ c ∷ []) ≡ None → ⊥) ls own
           (λ k d lt none. is.each k d lt (none_before (selects (get_or ls k d).number) cs c none))
-          (λ k d lt none. none_last (selects (get_or own k d).number) cs c none (own_selects (length cs) c.labels k d lt));
+          (λ k d lt none. none_last (selects (get_or own k d).number) cs c none
+          (own_selects (length cs) c.labels k d lt));
       whole = λ n i e. ⊎_elim
           (λ before. Contains-append_left ls own (placed i n) (is.whole n i before))
           (λ last. Contains-append_right ls own (placed i n)
-          (subst (λ j. Contains own (placed j n)) (sym last.1) (own_there n (length cs) c.labels last.0)))
+          (subst (λ j. Contains own (placed j n)) (sym last.1)
+          (own_there n (length cs) c.labels last.0)))
           (before_or_last (selects n) cs c i e);
     }
 
 -- after one turn of a loop over the cases
-pub labels_step : (es : List CaseEntry) (i : ℕ) (e : CaseEntry) (ls ms : List PlacedLabel) → i < length es
+pub labels_step : (es : List CaseEntry) (i : ℕ) (e : CaseEntry) (ls ms : List PlacedLabel) →
+    i < length es
     → AreLabels (map case_view (take i es)) ls
-    → ms ≡ ls ++ map (placed i) (get_or es i e).labels.items → AreLabels (map case_view (take (i + 1) es)) ms
+    → ms ≡ ls ++ map (placed i) (get_or es i e).labels.items →
+    AreLabels (map case_view (take (i + 1) es)) ms
 labels_step es i e ls ms lt is more =
-    let long : length (map case_view (take i es)) ≡ i = length-map (take i es) case_view ∙ length-take-le i es (omega arith) in
-    let labels : ls ++ map (placed (length (map case_view (take i es)))) (get_or es i e).labels.items ≡ ms =
+    let long : length (map case_view (take i es)) ≡ i =
+    length-map (take i es) case_view ∙ length-take-le i es (omega arith) in
+    let labels : ls ++ map (placed (length (map case_view (take i es))))
+    (get_or es i e).labels.items ≡ ms =
     ap (λ k. ls ++ map (placed k) (get_or es i e).labels.items) long ∙ sym more in
     subst (λ cs. AreLabels cs ms) (sym (map_more case_view es i e lt))
     (subst (AreLabels (map case_view (take i es) ++ case_view (get_or es i e) ∷ [])) labels
@@ -100,10 +110,12 @@ in_any_order cs ls ms same is = record {
 
 -- ---- labels that rise
 
-pub rise_weakly : (ls : List PlacedLabel) → Rise ls → IsNonDecreasingBy (λ (l : PlacedLabel). key_of l.number) ls
+pub rise_weakly : (ls : List PlacedLabel) → Rise ls →
+    IsNonDecreasingBy (λ (l : PlacedLabel). key_of l.number) ls
 rise_weakly ls rise i j d le lt = ⊎_elim
     (λ below. omega (arith, rise i j d below lt))
-    (λ above. let same : i ≡ j = omega arith in omega (arith, ap (λ k. key_of (get_or ls k d).number) same))
+    (λ above. let same : i ≡ j = omega arith in
+    omega (arith, ap (λ k. key_of (get_or ls k d).number) same))
     (cases_lt i j)
 
 -- the first so many rise
@@ -112,7 +124,8 @@ RiseTo ls n = (i j : ℕ) (d : PlacedLabel) → i < j → j < n → j < length l
     → key_of (get_or ls i d).number < key_of (get_or ls j d).number
 
 pub rise_further : (ls : List PlacedLabel) (n : ℕ) (e : PlacedLabel) → 0 < n → n < length ls
-    → key_of (get_or ls (n - 1) e).number < key_of (get_or ls n e).number → RiseTo ls n → RiseTo ls (n + 1)
+    → key_of (get_or ls (n - 1) e).number < key_of (get_or ls n e).number → RiseTo ls n →
+    RiseTo ls (n + 1)
 rise_further ls n e some lt above rise i j d less within inside = ⊎_elim
     (λ before. rise i j d less before inside)
     (λ from.
@@ -130,7 +143,8 @@ rise_further ls n e some lt above rise i j d less within inside = ⊎_elim
 -- ---- what is found
 
 -- two places of labels with one key are one
-one_place : (ls : List PlacedLabel) (i j : ℕ) (d : PlacedLabel) → Rise ls → i < length ls → j < length ls
+one_place : (ls : List PlacedLabel) (i j : ℕ) (d : PlacedLabel) → Rise ls → i < length ls →
+    j < length ls
     → key_of (get_or ls i d).number ≡ key_of (get_or ls j d).number → i ≡ j
 one_place ls i j d rise li lj same = ⊎_elim
     (λ lt. absurd (omega (arith, rise i j d lt lj)))
@@ -140,7 +154,8 @@ one_place ls i j d rise li lj same = ⊎_elim
     (cases_lt j i))
     (cases_lt i j)
 
-found_by : (cs : List Case) (ls : List PlacedLabel) (at : ℕ) (n : Number) (d : PlacedLabel) (o : Option ℕ)
+found_by : (cs : List Case) (ls : List PlacedLabel) (at : ℕ) (n : Number) (d : PlacedLabel)
+    (o : Option ℕ)
     → AreLabels cs ls → Rise ls → at < length ls → (get_or ls at d).number ≡ n
     → case_with n cs ≡ o → Some (get_or ls at d).place ≡ o
 found_by cs ls at n d None is rise lt same e =
@@ -148,19 +163,24 @@ found_by cs ls at n d None is rise lt same e =
 found_by cs ls at n d (Some i) is rise lt same e =
     let c = is.whole n i e in
     let there : get_or ls c.0 d ≡ placed i n = get_or_default ls c.0 d (placed i n) c.1 ∙ c.2 in
-    let here = one_place ls at c.0 d rise lt c.1 (ap key_of (same ∙ sym (ap (λ (l : PlacedLabel). l.number) there))) in
+    let here = one_place ls at c.0 d rise lt c.1
+    (ap key_of (same ∙ sym (ap (λ (l : PlacedLabel). l.number) there))) in
     ap Some (ap (λ k. (get_or ls k d).place) here ∙ ap (λ (l : PlacedLabel). l.place) there)
 
-pub found : (cs : List Case) (ls : List PlacedLabel) (at : ℕ) (n : Number) (d : PlacedLabel) → AreLabels cs ls
+pub found : (cs : List Case) (ls : List PlacedLabel) (at : ℕ) (n : Number) (d : PlacedLabel) →
+    AreLabels cs ls
     → Rise ls → at < length ls → same_number (get_or ls at d).number n ≡ true
     → Some (get_or ls at d).place ≡ case_with n cs
 found cs ls at n d is rise lt same =
-    found_by cs ls at n d (case_with n cs) is rise lt (number_same (get_or ls at d).number n same) refl
+    found_by cs ls at n d (case_with n cs) is rise lt (number_same (get_or ls at d).number n same)
+    refl
 
-none_by : (cs : List Case) (ls : List PlacedLabel) (at : ℕ) (n : Number) (o : Option ℕ) → AreLabels cs ls
+none_by : (cs : List Case) (ls : List PlacedLabel) (at : ℕ) (n : Number) (o : Option ℕ) →
+    AreLabels cs ls
     → Rise ls
     → ((i : ℕ) (d : PlacedLabel) → i < at → key_of (get_or ls i d).number < key_of n)
-    → ((i : ℕ) (d : PlacedLabel) → at ≤ i → i < length ls → key_of n ≤ key_of (get_or ls i d).number)
+    → ((i : ℕ) (d : PlacedLabel) → at ≤ i → i < length ls →
+    key_of n ≤ key_of (get_or ls i d).number)
     → ((d : PlacedLabel) → at < length ls → (get_or ls at d).number ≡ n → ⊥)
     → case_with n cs ≡ o → None ≡ o
 none_by cs ls at n None is rise below above other e = refl
@@ -183,15 +203,19 @@ other_by : (ls : List PlacedLabel) (at : ℕ) (n : Number) (e d : PlacedLabel)
     → (at < length ls → same_number (get_or ls at e).number n ≡ false)
     → at < length ls → (get_or ls at d).number ≡ n → ⊥
 other_by ls at n e d other lt same =
-    let read : (get_or ls at e).number ≡ n = ap (λ (l : PlacedLabel). l.number) (get_or_default ls at e d lt) ∙ same in
-    let self : same_number (get_or ls at e).number n ≡ true = subst (λ m. same_number m n ≡ true) (sym read) (number_self n) in
+    let read : (get_or ls at e).number ≡ n =
+    ap (λ (l : PlacedLabel). l.number) (get_or_default ls at e d lt) ∙ same in
+    let self : same_number (get_or ls at e).number n ≡ true =
+    subst (λ m. same_number m n ≡ true) (sym read) (number_self n) in
     let no = other lt in
     absurd cc
 
-pub not_found : (cs : List Case) (ls : List PlacedLabel) (at : ℕ) (n : Number) (e : PlacedLabel) → AreLabels cs ls
+pub not_found : (cs : List Case) (ls : List PlacedLabel) (at : ℕ) (n : Number) (e : PlacedLabel) →
+    AreLabels cs ls
     → Rise ls
     → ((i : ℕ) (d : PlacedLabel) → i < at → key_of (get_or ls i d).number < key_of n)
-    → ((i : ℕ) (d : PlacedLabel) → at ≤ i → i < length ls → key_of n ≤ key_of (get_or ls i d).number)
+    → ((i : ℕ) (d : PlacedLabel) → at ≤ i → i < length ls →
+    key_of n ≤ key_of (get_or ls i d).number)
     → (at < length ls → same_number (get_or ls at e).number n ≡ false)
     → None ≡ case_with n cs
 not_found cs ls at n e is rise below above other =

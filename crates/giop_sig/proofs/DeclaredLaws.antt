@@ -1,4 +1,5 @@
--- Structs and exceptions, both ways: reading the spelling of one gives it or a rule that it breaks, and the text that was read
+-- Structs and exceptions, both ways: reading the spelling of one gives it or a rule that it breaks,
+-- and the text that was read
 -- spells it.
 use Rattle.std.proofs.Common.{◌≡◌, inl, ℕ, ◌<◌, ◌≤◌, Bool, true, false, cond, ltb, List, [], ◌∷◌, length, None, Ok, Err, refl, sym, subst, arith}
 use Rattle.std.specs.Prelude.{codes}
@@ -30,10 +31,12 @@ filled_reads : (types : List Node) (is : List Item) (text : List ℕ) (more : Li
     → Out {X = List ℕ} (λ rest. rest) (λ k. OfSome k is) types
     (spell_items is more) (filled_at text)
 unfolding filled_at
-filled_reads types [] text more h = rw (mark_if_again marks.CloseBrace text more h) (broken (refused kinds.Empty text) (λ none. none))
+filled_reads types [] text more h = rw (mark_if_again marks.CloseBrace text more h)
+    (broken (refused kinds.Empty text) (λ none. none))
 filled_reads types (i ∷ is) text more h =
     rw (if_apart marks.CloseBrace text (spell_items (i ∷ is) more)
-    (type_apart i.type (word i.name ∷ spell_length i.length (mark marks.Semicolon ∷ spell_items is more))) h) (good text h (some_keeps i is))
+    (type_apart i.type (word i.name ∷ spell_length i.length
+    (mark marks.Semicolon ∷ spell_items is more))) h) (good text h (some_keeps i is))
 
 -- ---- structs
 
@@ -50,8 +53,10 @@ closed_reads : (at : ℕ) (s : Scope) (is : List Item) (h : AddedType → Scope)
     >>= λ r. added at m.0 (nodes.members m.1) >>= λ p. Ok (h p, r))
 closed_reads at s is h rule text more some free t on up le =
     let made = add_items s is in
-    out_bind (members_at at s text) (λ m. mark_at marks.Semicolon m.2 >>= λ r. added at m.0 (nodes.members m.1) >>= λ p. Ok (h p, r))
-    (members_reads is at 257 [] [] s s.names text (mark marks.Semicolon ∷ more) refl some (omega arith) (omega arith) free t)
+    out_bind (members_at at s text) (λ m. mark_at marks.Semicolon m.2 >>= λ r.
+    added at m.0 (nodes.members m.1) >>= λ p. Ok (h p, r))
+    (members_reads is at 257 [] [] s s.names text (mark marks.Semicolon ∷ more) refl some
+    (omega arith) (omega arith) free t)
     (λ rest m keeps. rw (mark_again marks.Semicolon rest more m)
     (added_bind at made.0 (nodes.members made.1) (λ p. Ok (h p, m.0)) le (good m.0 m.2 (on keeps))))
     up (within_on (node_more made.0 (nodes.members made.1)) le)
@@ -65,14 +70,19 @@ pub structure_reads : (s : Scope) (w : List ℕ) (is : List Item) (text : List �
 unfolding structure_at declare OfDeclaration
 structure_reads s w is text more some free t =
     let at = left_of text in
-    out_bind (declared_at s s.table.declared text) (λ n. mark_at marks.OpenBrace n.1 >>= λ o. filled_at o >>= λ f. members_at at s f
-    >>= λ m. mark_at marks.Semicolon m.2 >>= λ r. added at m.0 (nodes.members m.1) >>= λ p. Ok (with_named n.0 p, r))
-    (declared_reads s.table.types s s.table.declared text w (mark marks.OpenBrace ∷ spell_items is (mark marks.Semicolon ∷ more)) free.0 t)
+    out_bind (declared_at s s.table.declared text)
+    (λ n. mark_at marks.OpenBrace n.1 >>= λ o. filled_at o >>= λ f. members_at at s f
+    >>= λ m. mark_at marks.Semicolon m.2 >>= λ r. added at m.0 (nodes.members m.1) >>= λ p.
+    Ok (with_named n.0 p, r))
+    (declared_reads s.table.types s s.table.declared text w
+    (mark marks.OpenBrace ∷ spell_items is (mark marks.Semicolon ∷ more)) free.0 t)
     (λ a ta ka. rw (mark_again marks.OpenBrace a (spell_items is (mark marks.Semicolon ∷ more)) ta)
-    (out_bind (filled_at ta.0) (λ f. members_at at s f >>= λ m. mark_at marks.Semicolon m.2 >>= λ r. added at m.0 (nodes.members m.1)
+    (out_bind (filled_at ta.0) (λ f. members_at at s f >>= λ m. mark_at marks.Semicolon m.2 >>= λ r.
+    added at m.0 (nodes.members m.1)
     >>= λ p. Ok (with_named w p, r))
     (filled_reads s.table.types is ta.0 (mark marks.Semicolon ∷ more) ta.2)
-    (λ b tb kb. closed_reads at s is (with_named w) (λ k. OfDeclaration k s (Structure w is)) b more some free.2 tb (λ keeps k. (ka k, kb k, keeps k))
+    (λ b tb kb. closed_reads at s is (with_named w) (λ k. OfDeclaration k s (Structure w is)) b more
+    some free.2 tb (λ keeps k. (ka k, kb k, keeps k))
     (λ k h. h.2) within_same)
     (λ k h. h.1) (struct_more s is)))
     (λ k h. h.0) (struct_more s is)
@@ -99,7 +109,9 @@ structure_made s whole text o f n m r t before a b same k e = record {
         k.took.front (mark marks.Semicolon ∷ more) (mark_takes marks.Semicolon m.2 r e more h) in
         let members = spell_items k.items (mark marks.Semicolon ∷ more) in
         before (word n.0 ∷ mark marks.OpenBrace ∷ members)
-        (a.front (mark marks.OpenBrace ∷ members) (mark_takes marks.OpenBrace n.1 o b members (subst (λ z. AreTokens z members) (sym same) behind)));
+        (a.front (mark marks.OpenBrace ∷ members)
+        (mark_takes marks.OpenBrace n.1 o b members
+        (subst (λ z. AreTokens z members) (sym same) behind)));
   };
 }
 
@@ -113,10 +125,14 @@ structure_takes s whole text x before e =
     let o = bind_ok _ _ x n.2 in
     let f = bind_ok _ _ x o.2 in
     let m = bind_ok _ _ x f.2 in
-    let r = bind_ok (mark_at marks.Semicolon (m.0).2) (λ r. added at (m.0).0 (nodes.members (m.0).1) >>= λ p. Ok (with_named (n.0).0 p, r)) x m.2 in
-    let p = bind_ok (added at (m.0).0 (nodes.members (m.0).1)) (λ p. Ok (with_named (n.0).0 p, r.0)) x r.2 in
+    let r = bind_ok (mark_at marks.Semicolon (m.0).2)
+    (λ r. added at (m.0).0 (nodes.members (m.0).1) >>= λ p. Ok (with_named (n.0).0 p, r)) x m.2
+    in
+    let p = bind_ok (added at (m.0).0 (nodes.members (m.0).1)) (λ p. Ok (with_named (n.0).0 p, r.0))
+    x r.2 in
     subst (TakenDeclaration s whole) (ok_is (with_named (n.0).0 p.0, r.0) x p.2)
-    (structure_made s whole text o.0 f.0 n.0 m.0 r.0 (with_named (n.0).0 p.0) before (declared_takes s s.table.declared text n.0 n.1) o.1
+    (structure_made s whole text o.0 f.0 n.0 m.0 r.0 (with_named (n.0).0 p.0) before
+    (declared_takes s s.table.declared text n.0 n.1) o.1
     (filled_takes o.0 f.0 f.1).0 (members_takes at 257 [] [] s f.0 m.0 m.1) r.1)
 
 -- ---- exceptions
@@ -131,8 +147,10 @@ repository_by : (types : List Node) (s : Scope) (text r rest : List ℕ) (more :
     (b : Bool) → length r ≤ 128 → is_some (exception_in s.table r) ≡ b → AreTokens rest more
     → Out {X = List ℕ × List ℕ} (λ rest. (r, rest)) (λ k. OfRepository k s r) types more
     (cond b (Err (refused kinds.Duplicate text)) (Ok (r, rest)))
-repository_by types s text r rest more true few q m = broken (refused kinds.Duplicate text) (some_none (exception_in s.table r) q)
-repository_by types s text r rest more false few q m = good rest m (repository_keeps s r few (none_of (exception_in s.table r) q))
+repository_by types s text r rest more true few q m =
+    broken (refused kinds.Duplicate text) (some_none (exception_in s.table r) q)
+repository_by types s text r rest more false few q m =
+    good rest m (repository_keeps s r few (none_of (exception_in s.table r) q))
 
 repository_reads : (types : List Node) (s : Scope) (text r : List ℕ) (more : List Token)
     → AreTokens text (repository r ∷ more)
@@ -155,16 +173,20 @@ unfolding exception_at declare OfDeclaration
 raise_reads s w i is text more some free t =
     let at = left_of text in
     out_bind (declared_at s (length s.table.exceptions) text)
-    (λ n. new_repository_at s n.1 >>= λ i. mark_at marks.OpenBrace i.1 >>= λ o. members_at at s o >>= λ m. mark_at marks.Semicolon m.2
+    (λ n. new_repository_at s n.1 >>= λ i. mark_at marks.OpenBrace i.1 >>= λ o.
+    members_at at s o >>= λ m. mark_at marks.Semicolon m.2
     >>= λ r. added at m.0 (nodes.members m.1) >>= λ p. Ok (with_raised n.0 i.0 p, r))
     (declared_reads s.table.types s (length s.table.exceptions) text w
     (repository i ∷ mark marks.OpenBrace ∷ spell_items is (mark marks.Semicolon ∷ more)) free.0 t)
     (λ a ta ka.
-    out_bind (new_repository_at s a) (λ i. mark_at marks.OpenBrace i.1 >>= λ o. members_at at s o >>= λ m. mark_at marks.Semicolon m.2
+    out_bind (new_repository_at s a) (λ i. mark_at marks.OpenBrace i.1 >>= λ o.
+    members_at at s o >>= λ m. mark_at marks.Semicolon m.2
     >>= λ r. added at m.0 (nodes.members m.1) >>= λ p. Ok (with_raised w i.0 p, r))
-    (repository_reads s.table.types s a i (mark marks.OpenBrace ∷ spell_items is (mark marks.Semicolon ∷ more)) ta)
+    (repository_reads s.table.types s a i (mark marks.OpenBrace ∷ spell_items is
+    (mark marks.Semicolon ∷ more)) ta)
     (λ b tb kb. rw (mark_again marks.OpenBrace b (spell_items is (mark marks.Semicolon ∷ more)) tb)
-    (closed_reads at s is (with_raised w i) (λ k. OfDeclaration k s (DeclaredException w i is)) tb.0 more some free.2 tb.2 (λ keeps k. (ka k, kb k, keeps k))
+    (closed_reads at s is (with_raised w i) (λ k. OfDeclaration k s (DeclaredException w i is)) tb.0
+    more some free.2 tb.2 (λ keeps k. (ka k, kb k, keeps k))
     (λ k h. h.2) within_same))
     (λ k h. h.1) (struct_more s is))
     (λ k h. h.0) (struct_more s is)
@@ -182,10 +204,12 @@ raise_made s whole text o n i m r t before a d b k e = record {
     free = (a.free, tt, k.took.free);
     front = λ more h.
         let members = spell_items k.items (mark marks.Semicolon ∷ more) in
-        let behind : AreTokens o members = k.took.front (mark marks.Semicolon ∷ more) (mark_takes marks.Semicolon m.2 r e more h) in
+        let behind : AreTokens o members = k.took.front (mark marks.Semicolon ∷ more)
+        (mark_takes marks.Semicolon m.2 r e more h) in
         before (word n.0 ∷ repository i.0 ∷ mark marks.OpenBrace ∷ members)
         (a.front (repository i.0 ∷ mark marks.OpenBrace ∷ members)
-        (d.front (mark marks.OpenBrace ∷ members) (mark_takes marks.OpenBrace i.1 o b members behind)));
+        (d.front (mark marks.OpenBrace ∷ members)
+        (mark_takes marks.OpenBrace i.1 o b members behind)));
   };
 }
 
@@ -199,8 +223,12 @@ raise_takes s whole text x before e =
     let i = bind_ok _ _ x n.2 in
     let o = bind_ok _ _ x i.2 in
     let m = bind_ok _ _ x o.2 in
-    let r = bind_ok (mark_at marks.Semicolon (m.0).2) (λ r. added at (m.0).0 (nodes.members (m.0).1) >>= λ p. Ok (with_raised (n.0).0 (i.0).0 p, r)) x m.2 in
-    let p = bind_ok (added at (m.0).0 (nodes.members (m.0).1)) (λ p. Ok (with_raised (n.0).0 (i.0).0 p, r.0)) x r.2 in
+    let r = bind_ok (mark_at marks.Semicolon (m.0).2)
+    (λ r. added at (m.0).0 (nodes.members (m.0).1) >>= λ p.
+    Ok (with_raised (n.0).0 (i.0).0 p, r)) x m.2 in
+    let p = bind_ok (added at (m.0).0 (nodes.members (m.0).1))
+    (λ p. Ok (with_raised (n.0).0 (i.0).0 p, r.0)) x r.2 in
     subst (TakenDeclaration s whole) (ok_is (with_raised (n.0).0 (i.0).0 p.0, r.0) x p.2)
-    (raise_made s whole text o.0 n.0 i.0 m.0 r.0 (with_raised (n.0).0 (i.0).0 p.0) before (declared_takes s (length s.table.exceptions) text n.0 n.1)
+    (raise_made s whole text o.0 n.0 i.0 m.0 r.0 (with_raised (n.0).0 (i.0).0 p.0) before
+    (declared_takes s (length s.table.exceptions) text n.0 n.1)
     (new_repository_takes s (n.0).1 i.0 i.1) o.1 (members_takes at 257 [] [] s o.0 m.0 m.1) r.1)

@@ -11,7 +11,8 @@ use Rattle.giop_sig.proofs.Nodes.{part_grown}
 
 pub most_same : (n : ℕ) (f g : ℕ → ℕ) → ((i : ℕ) → i < n → f i ≡ g i) → most n f ≡ most n g
 most_same zero f g same = refl
-most_same (suc n) f g same = ap (λ k. max k (f n)) (most_same n f g (λ i lt. same i (omega arith))) ∙ ap (max (most n g)) (same n (omega arith))
+most_same (suc n) f g same = ap (λ k. max k (f n)) (most_same n f g (λ i lt. same i (omega arith)))
+    ∙ ap (max (most n g)) (same n (omega arith))
 
 -- the depth of a shape, of the depths of its parts
 abbrev pub depth_by : Shape → (ℕ → ℕ) → ℕ
@@ -27,17 +28,22 @@ pub depth_grown : (tree : ℕ → Ty) (node : Node)
     → depth (grow tree node) ≡ depth_by (shape_of node)
     (λ i. depth (tree (type_of (part_at node i))))
 unfolding depth
-depth_grown tree (nodes.members parts) = ap (λ n. 1 + n) (most_same (length parts) _ _ (λ i lt. ap depth (sym (part_grown tree (nodes.members parts) i lt))))
+depth_grown tree (nodes.members parts) =
+    ap (λ n. 1 + n) (most_same (length parts) _ _
+    (λ i lt. ap depth (sym (part_grown tree (nodes.members parts) i lt))))
 depth_grown tree (nodes.union switch cases otherwise) =
-    ap (λ n. 1 + max 1 n) (most_same (length cases) _ _ (λ i lt. ap depth (sym (part_grown tree (nodes.union switch cases otherwise) i lt))))
+    ap (λ n. 1 + max 1 n) (most_same (length cases) _ _
+    (λ i lt. ap depth (sym (part_grown tree (nodes.union switch cases otherwise) i lt))))
 depth_grown tree (nodes.tagged special tag inner other) =
-    ap (λ n. 1 + max 1 n) (most_same 3 _ _ (λ i lt. ap depth (sym (part_grown tree (nodes.tagged special tag inner other) i lt))))
+    ap (λ n. 1 + max 1 n) (most_same 3 _ _
+    (λ i lt. ap depth (sym (part_grown tree (nodes.tagged special tag inner other) i lt))))
 depth_grown tree _ = refl
 
 -- the depth of a node's tree, at its shape
 pub depth_at_shape : (types : List Node) (node : Node) (s : Shape) → s ≡ shape_of node
     → depth (grow (type_in types) node) ≡ depth_by s (part_depth types node)
-depth_at_shape types node s e = depth_grown (type_in types) node ∙ ap (λ (t : Shape). depth_by t (part_depth types node)) (sym e)
+depth_at_shape types node s e = depth_grown (type_in types) node
+    ∙ ap (λ (t : Shape). depth_by t (part_depth types node)) (sym e)
 
 -- ---- the depths of a table
 
@@ -71,9 +77,11 @@ greatest_append (m ∷ ms) n = ap (max m) (greatest_append ms n) ∙ omega arith
 pub depths_added : (types : List Node) (node : Node)
     → depths (trees_of (types ++ node ∷ []))
     ≡ depths (trees_of types) ++ depth (grow (type_in types) node) ∷ []
-depths_added types node = ap depths (trees_added types node) ∙ depths_append (trees_of types) (grow (type_in types) node ∷ [])
+depths_added types node = ap depths (trees_added types node)
+    ∙ depths_append (trees_of types) (grow (type_in types) node ∷ [])
 
 pub deepest_added : (types : List Node) (node : Node)
     → depth_of (types ++ node ∷ []) ≡ max (depth_of types) (depth (grow (type_in types) node))
 unfolding depth_of
-deepest_added types node = ap greatest (depths_added types node) ∙ greatest_append (depths (trees_of types)) (depth (grow (type_in types) node))
+deepest_added types node = ap greatest (depths_added types node)
+    ∙ greatest_append (depths (trees_of types)) (depth (grow (type_in types) node))

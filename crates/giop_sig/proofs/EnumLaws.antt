@@ -1,4 +1,5 @@
--- Enums, both ways: reading the spelling of one gives it or a rule that it breaks, and the text that was read spells it.
+-- Enums, both ways: reading the spelling of one gives it or a rule that it breaks, and the text
+-- that was read spells it.
 use Rattle.std.proofs.Common.{◌≡◌, inl, ℕ, zero, suc, ◌+◌, ◌<◌, ◌≤◌, Bool, true, false, cond, ltb, leb, List, [], ◌∷◌, ◌++◌, length, Option, Some, None, Result, Ok, Err, append_assoc, ltb-true, ltb-false, leb-true, leb-false, refl, sym, ap, subst, ◌∙◌, arith}
 use Rattle.std.proofs.lemmas.Bool.{false≢true}
 use Rattle.std.specs.List.{All}
@@ -36,7 +37,15 @@ pub out_as : {X : Type 0} {made made2 : List ℕ → X} {rule rule2 : Kind → T
     → ((k : Kind) → rule2 k → rule k) → Within types types2 → Out made2 rule2 types2 more r
 out_as (Ok x) o same on up le =
     let g = o.out in
-    record { out = record { rest = g.rest; is = g.is ∙ same g.rest; tokens = g.tokens; keeps = λ k. on k (g.keeps k) } }
+    record {
+      out = record {
+        rest = g.rest;
+        is = g.is ∙ same g.rest;
+        tokens = g.tokens;
+        keeps =
+            λ k. on k (g.keeps k);
+      };
+    }
 out_as {rule = rule} {rule2 = rule2} {types = types} {types2 = types2} (Err e) o same on up le =
     record { out = lift e.kind rule rule2 types types2 up le o.out }
 
@@ -48,7 +57,8 @@ pub enumerator_reads : (seen : List (List ℕ)) (w text : List ℕ) (types : Lis
     (enumerator_at seen text)
 unfolding enumerator_at
 enumerator_reads seen w text types ts free h =
-    out_bind (new_name_at 1024 seen text) (λ n. Ok (seen ++ n.0 ∷ [], n.1)) (new_name_reads types 1024 seen text w ts free h)
+    out_bind (new_name_at 1024 seen text) (λ n. Ok (seen ++ n.0 ∷ [], n.1))
+    (new_name_reads types 1024 seen text w ts free h)
     (λ rest tokens keeps. good rest tokens keeps) (λ k whole. whole) within_same
 
 step_last : (seen : List (List ℕ)) (w text : List ℕ) (types : List Node) (more : List Token)
@@ -59,7 +69,10 @@ unfolding names_step
 step_last seen w text types more free h =
     out_bind (enumerator_at seen text) (λ names. mark_if marks.Comma names.1 >>= names_end names)
     (enumerator_reads seen w text types (mark marks.CloseBrace ∷ more) free h)
-    (λ rest tokens keeps. rw (if_apart marks.Comma rest (mark marks.CloseBrace ∷ more) refl tokens, mark_again marks.CloseBrace rest more tokens)
+    (λ rest tokens keeps. rw (
+      if_apart marks.Comma rest (mark marks.CloseBrace ∷ more) refl tokens,
+      mark_again marks.CloseBrace rest more tokens,
+    )
     (good tokens.0 tokens.2 keeps))
     (λ k whole. whole) within_same
 
@@ -71,7 +84,8 @@ unfolding names_step
 step_on seen w text types ts free h =
     out_bind (enumerator_at seen text) (λ names. mark_if marks.Comma names.1 >>= names_end names)
     (enumerator_reads seen w text types (mark marks.Comma ∷ ts) free h)
-    (λ rest tokens keeps. rw (mark_if_again marks.Comma rest ts tokens) (good tokens.0 tokens.2 keeps))
+    (λ rest tokens keeps. rw (mark_if_again marks.Comma rest ts tokens)
+    (good tokens.0 tokens.2 keeps))
     (λ k whole. whole) within_same
 
 abbrev then_names : ℕ → Bool × NamesRead → Result NamesRead Refusal
@@ -84,16 +98,20 @@ names_reads : (left : ℕ) (names : List (List ℕ)) (seen : List (List ℕ)) (w
     → Out (λ rest. (seen ++ w ∷ names, rest)) (λ k. OfNames k seen (w ∷ names)) types more
     (in_steps names_step too_many_names left (seen, text))
 unfolding in_steps OfNames
-names_reads zero names seen w text types more room free h = broken (refused kinds.Limit text) (inl (λ k. let few = (k.0).1 in omega arith))
+names_reads zero names seen w text types more room free h =
+    broken (refused kinds.Limit text) (inl (λ k. let few = (k.0).1 in omega arith))
 names_reads (suc left) [] seen w text types more room free h =
     out_bind (names_step (seen, text)) (then_names left) (step_last seen w text types more free.0 h)
     (λ rest tokens keeps. good rest tokens (λ k. (keeps k, tt))) (λ k whole. whole.0) within_same
 names_reads (suc left) (n ∷ names) seen w text types more room free h =
-    out_bind (names_step (seen, text)) (then_names left) (step_on seen w text types (word n ∷ spell_more_names names more) free.0 h)
+    out_bind (names_step (seen, text)) (then_names left)
+    (step_on seen w text types (word n ∷ spell_more_names names more) free.0 h)
     (λ rest tokens keeps.
     out_as (in_steps names_step too_many_names left (seen ++ w ∷ [], rest))
-    (names_reads left names (seen ++ w ∷ []) n rest types more (omega (arith, length-append seen (w ∷ []))) free.1 tokens)
-    (λ after. ap (λ all. (all, after)) (append_assoc seen (w ∷ []) (n ∷ names))) (λ k others. (keeps k, others)) (λ k whole. whole.1) within_same)
+    (names_reads left names (seen ++ w ∷ []) n rest types more
+    (omega (arith, length-append seen (w ∷ []))) free.1 tokens)
+    (λ after. ap (λ all. (all, after)) (append_assoc seen (w ∷ []) (n ∷ names)))
+    (λ k others. (keeps k, others)) (λ k whole. whole.1) within_same)
     (λ k whole. whole.0) within_same
 
 pub all_names_reads : (names : List (List ℕ)) (text : List ℕ) (types : List Node)
@@ -101,10 +119,12 @@ pub all_names_reads : (names : List (List ℕ)) (text : List ℕ) (types : List 
     → Out (λ rest. (names, rest)) (λ k. OfSome k names × OfNames k [] names)
     types more (names_at text)
 unfolding names_at
-all_names_reads [] text types more free h = rw (mark_if_again marks.CloseBrace text more h) (broken (refused kinds.Empty text) (λ k. k.0))
+all_names_reads [] text types more free h =
+    rw (mark_if_again marks.CloseBrace text more h) (broken (refused kinds.Empty text) (λ k. k.0))
 all_names_reads (n ∷ names) text types more free h =
     rw (if_apart marks.CloseBrace text (word n ∷ spell_more_names names more) refl h)
-    (out_as (in_steps names_step too_many_names 1025 ([], text)) (names_reads 1025 names [] n text types more refl free h) (λ rest. refl)
+    (out_as (in_steps names_step too_many_names 1025 ([], text))
+    (names_reads 1025 names [] n text types more refl free h) (λ rest. refl)
     (λ k keeps. (some_keeps n names k, keeps)) (λ k whole. whole.1) within_same)
 
 -- what reading gives of a text that begins with an enum, after its word
@@ -120,15 +140,18 @@ enumeration_reads n names s text more free h =
     let node = nodes.enumeration names in
     let tail = spell_names names (mark marks.Semicolon ∷ more) in
     out_bind (declared_at s s.table.declared text)
-    (λ d. mark_at marks.OpenBrace d.1 >>= λ o. names_at o >>= λ ns. mark_at marks.Semicolon ns.1 >>= λ r. added (left_of text) s (nodes.enumeration ns.0)
+    (λ d. mark_at marks.OpenBrace d.1 >>= λ o. names_at o >>= λ ns.
+    mark_at marks.Semicolon ns.1 >>= λ r. added (left_of text) s (nodes.enumeration ns.0)
     >>= λ p. Ok (with_named d.0 p, r))
     (declared_reads s.table.types s s.table.declared text n (mark marks.OpenBrace ∷ tail) free.0 h)
     (λ a ta ka.
     rw (mark_again marks.OpenBrace a tail ta)
-    (out_bind (names_at ta.0) (λ ns. mark_at marks.Semicolon ns.1 >>= λ r. added (left_of text) s (nodes.enumeration ns.0) >>= λ p. Ok (with_named n p, r))
+    (out_bind (names_at ta.0) (λ ns. mark_at marks.Semicolon ns.1 >>= λ r.
+    added (left_of text) s (nodes.enumeration ns.0) >>= λ p. Ok (with_named n p, r))
     (all_names_reads names ta.0 s.table.types (mark marks.Semicolon ∷ more) free.2 ta.2)
     (λ b tb kb. rw (mark_again marks.Semicolon b more tb)
-    (added_bind (left_of text) s node (λ p. Ok (with_named n p, tb.0)) within_same (good tb.0 tb.2 (λ k. (ka k, (kb k).0, (kb k).1)))))
+    (added_bind (left_of text) s node (λ p. Ok (with_named n p, tb.0)) within_same
+    (good tb.0 tb.2 (λ k. (ka k, (kb k).0, (kb k).1)))))
     (λ k w. (w.1, w.2)) (node_more s node)))
     (λ k w. w.0) (node_more s node)
 
@@ -150,7 +173,11 @@ record TakenName (seen : List (List ℕ)) (text : List ℕ) (x : NamesRead) : Ty
 name_fits : (seen : List (List ℕ)) (name : List ℕ) → length name ≤ 64 → length seen < 1024
     → AreEnumerators seen → AreEnumerators (seen ++ name ∷ [])
 name_fits seen name short few are =
-    record { few = omega (arith, length-append seen (name ∷ [])); short = All-push (λ n. length n ≤ 64) seen name are.short short }
+    record {
+      few = omega (arith, length-append seen (name ∷ []));
+      short =
+          All-push (λ n. length n ≤ 64) seen name are.short short;
+    }
 
 name_taken : (seen : List (List ℕ)) (text : List ℕ) (x : NamesRead)
     → enumerator_at seen text ≡ Ok x → TakenName seen text x
@@ -159,7 +186,14 @@ name_taken seen text x e =
     let a = bind_ok (new_name_at 1024 seen text) (λ n. Ok (seen ++ n.0 ∷ [], n.1)) x e in
     let k = new_name_takes 1024 seen text a.0 a.1 in
     subst (TakenName seen text) (ok_is (seen ++ (a.0).0 ∷ [], (a.0).1) x a.2)
-    (record { name = (a.0).0; all = refl; free = k.free; front = k.front; fits = name_fits seen (a.0).0 k.short k.few })
+    (record {
+      name = (a.0).0;
+      all = refl;
+      free = k.free;
+      front = k.front;
+      fits =
+          name_fits seen (a.0).0 k.short k.few;
+    })
 
 -- names that were read after others
 record TakenNames (seen : List (List ℕ)) (text : List ℕ) (x : NamesRead) : Type 0 where
@@ -174,19 +208,26 @@ last_name : (left : ℕ) (seen : List (List ℕ)) (text rest : List ℕ) (y x : 
     → TakenName seen text y → mark_at marks.CloseBrace y.1 ≡ Ok rest
     → then_names left (true, (y.0, rest)) ≡ Ok x → TakenNames seen text x
 unfolding OfNames
-last_name left seen text rest y x n close e = subst (TakenNames seen text) (ok_is (y.0, rest) x e) (record {
-  name = n.name;
-  others = [];
-  all = n.all;
-  took = record { free = (n.free, tt); front = λ more m. n.front (mark marks.CloseBrace ∷ more) (mark_takes marks.CloseBrace y.1 rest close more m) };
-  fits = λ are. subst AreEnumerators (sym n.all) (n.fits are);
-})
+last_name left seen text rest y x n close e =
+    subst (TakenNames seen text) (ok_is (y.0, rest) x e) (record {
+      name = n.name;
+      others = [];
+      all = n.all;
+      took = record {
+        free = (n.free, tt);
+        front =
+            λ more m. n.front (mark marks.CloseBrace ∷ more)
+            (mark_takes marks.CloseBrace y.1 rest close more m);
+      };
+      fits = λ are. subst AreEnumerators (sym n.all) (n.fits are);
+    })
 
 next_name : (seen : List (List ℕ)) (text rest : List ℕ) (y x : NamesRead) → TakenName seen text y
     → mark_if marks.Comma y.1 ≡ Ok (Some rest) → TakenNames y.0 rest x → TakenNames seen text x
 unfolding OfNames
 next_name seen text rest y x n comma k =
-    let all = subst (λ ns. x.0 ≡ ns ++ k.name ∷ k.others) n.all k.all ∙ append_assoc seen (n.name ∷ []) (k.name ∷ k.others) in
+    let all = subst (λ ns. x.0 ≡ ns ++ k.name ∷ k.others) n.all k.all
+    ∙ append_assoc seen (n.name ∷ []) (k.name ∷ k.others) in
     let free = subst (λ ns. OfNames kinds.Syntax ns (k.name ∷ k.others)) n.all (k.took).free in
     record {
       name = n.name;
@@ -195,7 +236,8 @@ next_name seen text rest y x n comma k =
       took = record {
         free = (n.free, free);
         front = λ more m. n.front (mark marks.Comma ∷ word k.name ∷ spell_more_names k.others more)
-            (mark_if_takes marks.Comma y.1 rest comma (word k.name ∷ spell_more_names k.others more) ((k.took).front more m));
+            (mark_if_takes marks.Comma y.1 rest comma (word k.name ∷ spell_more_names k.others more)
+            ((k.took).front more m));
       };
       fits = λ are. k.fits (subst AreEnumerators (sym n.all) (n.fits are));
     }
@@ -208,9 +250,11 @@ behind_name : (left : ℕ) (seen : List (List ℕ)) (text : List ℕ) (y : Names
     → then_names left s ≡ Ok x → TakenNames seen text x
 behind_name left seen text y None s x on n m e f =
     let c = bind_ok (mark_at marks.CloseBrace y.1) (λ rest. Ok (true, (y.0, rest))) s e in
-    last_name left seen text c.0 y x n c.1 (ap (then_names left) (ok_is (true, (y.0, c.0)) s c.2) ∙ f)
+    last_name left seen text c.0 y x n c.1
+    (ap (then_names left) (ok_is (true, (y.0, c.0)) s c.2) ∙ f)
 behind_name left seen text y (Some rest) s x on n m e f =
-    next_name seen text rest y x n m (on y.0 rest x (ap (then_names left) (ok_is (false, (y.0, rest)) s e) ∙ f))
+    next_name seen text rest y x n m (on y.0 rest x
+    (ap (then_names left) (ok_is (false, (y.0, rest)) s e) ∙ f))
 
 names_taken : (left : ℕ) (seen : List (List ℕ)) (text : List ℕ) (x : NamesRead)
     → in_steps names_step too_many_names left (seen, text) ≡ Ok x → TakenNames seen text x
@@ -218,9 +262,11 @@ unfolding in_steps names_step
 names_taken zero seen text x e = absurd cc
 names_taken (suc left) seen text x e =
     let s = bind_ok (names_step (seen, text)) (then_names left) x e in
-    let y = bind_ok (enumerator_at seen text) (λ names. mark_if marks.Comma names.1 >>= names_end names) s.0 s.1 in
+    let y = bind_ok (enumerator_at seen text)
+    (λ names. mark_if marks.Comma names.1 >>= names_end names) s.0 s.1 in
     let o = bind_ok (mark_if marks.Comma (y.0).1) (names_end y.0) s.0 y.2 in
-    behind_name left seen text y.0 o.0 s.0 x (names_taken left) (name_taken seen text y.0 y.1) o.1 o.2 s.2
+    behind_name left seen text y.0 o.0 s.0 x (names_taken left) (name_taken seen text y.0 y.1) o.1
+    o.2 s.2
 
 pub record TakenAll (text : List ℕ) (x : NamesRead) : Type 0 where
   pub took : Took (spell_names x.0) (OfNames kinds.Syntax [] x.0) text x.1
@@ -232,11 +278,16 @@ all_by text x (Some rest) e = absurd cc
 all_by text x None e =
     let k = names_taken 1025 [] text x e in
     let names : x.0 ≡ k.name ∷ k.others = k.all in
-    record { took = rw names k.took; fits = k.fits (record { few = omega arith; short = λ i d lt. absurd (omega arith) }) }
+    record {
+      took = rw names k.took;
+      fits =
+          k.fits (record { few = omega arith; short = λ i d lt. absurd (omega arith) });
+    }
 
 pub all_names_taken : (text : List ℕ) (x : NamesRead) → names_at text ≡ Ok x → TakenAll text x
 unfolding names_at
-all_names_taken text x e = let a = bind_ok (mark_if marks.CloseBrace text) (names_by text) x e in all_by text x a.0 a.2
+all_names_taken text x e = let a = bind_ok (mark_if marks.CloseBrace text) (names_by text) x e in
+    all_by text x a.0 a.2
 
 -- an enum that was read
 pub record TakenEnumeration (s : Scope) (text : List ℕ) (x : Declared) : Type 0 where
@@ -254,7 +305,8 @@ enumeration_takes s text x e =
     let o = bind_ok _ _ x d.2 in
     let ns = bind_ok _ _ x o.2 in
     let r = bind_ok _ _ x ns.2 in
-    let p = bind_ok (added (left_of text) s (nodes.enumeration (ns.0).0)) (λ p. Ok (with_named (d.0).0 p, r.0)) x r.2 in
+    let p = bind_ok (added (left_of text) s (nodes.enumeration (ns.0).0))
+    (λ p. Ok (with_named (d.0).0 p, r.0)) x r.2 in
     let a = declared_takes s s.table.declared text d.0 d.1 in
     let b = (all_names_taken o.0 ns.0 ns.1).took in
     subst (TakenEnumeration s text) (ok_is (with_named (d.0).0 p.0, r.0) x p.2) (record {
@@ -262,8 +314,11 @@ enumeration_takes s text x e =
       names = (ns.0).0;
       took = record {
         free = (a.free, tt, b.free);
-        front = λ more m. a.front (mark marks.OpenBrace ∷ spell_names (ns.0).0 (mark marks.Semicolon ∷ more))
-            (mark_takes marks.OpenBrace (d.0).1 o.0 o.1 (spell_names (ns.0).0 (mark marks.Semicolon ∷ more))
-            (b.front (mark marks.Semicolon ∷ more) (mark_takes marks.Semicolon (ns.0).1 r.0 r.1 more m)));
+        front = λ more m. a.front (mark marks.OpenBrace ∷ spell_names (ns.0).0
+            (mark marks.Semicolon ∷ more))
+            (mark_takes marks.OpenBrace (d.0).1 o.0 o.1
+            (spell_names (ns.0).0 (mark marks.Semicolon ∷ more))
+            (b.front (mark marks.Semicolon ∷ more)
+            (mark_takes marks.Semicolon (ns.0).1 r.0 r.1 more m)));
       };
     })

@@ -1,4 +1,5 @@
--- Signature files, both ways: reading the spelling of one gives it or a rule that it breaks, and the text that was read spells it.
+-- Signature files, both ways: reading the spelling of one gives it or a rule that it breaks, and
+-- the text that was read spells it.
 use Rattle.std.proofs.Common.{◌≡◌, ℕ, zero, suc, ◌<◌, ◌≤◌, Bool, true, false, cond, List, [], ◌∷◌, ◌++◌, length, Option, Some, None, Result, Ok, Err, refl, sym, ap, subst, ◌∙◌, lit<, arith}
 use Rattle.std.specs.Prelude.{MatchResult, codes}
 use Rattle.std.specs.Str.{bytes_eq}
@@ -58,19 +59,25 @@ declaration_reads : UnionReads → (d : Declaration) (s : Scope) (text : List �
     → DeclarationOut s d more (declaration_at s text)
 unfolding declaration_at
 declaration_reads union (Enumeration n names) s text more some free h =
-    rw (word_again text (codes "enum") (word n ∷ mark marks.OpenBrace ∷ spell_names names (mark marks.Semicolon ∷ more)) h)
+    rw (word_again text (codes "enum") (word n ∷ mark marks.OpenBrace ∷ spell_names names
+    (mark marks.Semicolon ∷ more)) h)
     (enumeration_reads n names s h.0 more free h.2)
 declaration_reads union (Structure n is) s text more some free h =
-    rw (word_again text (codes "struct") (word n ∷ mark marks.OpenBrace ∷ spell_items is (mark marks.Semicolon ∷ more)) h)
+    rw (word_again text (codes "struct") (word n ∷ mark marks.OpenBrace ∷ spell_items is
+    (mark marks.Semicolon ∷ more)) h)
     (structure_reads s n is h.0 more some free h.2)
 declaration_reads union (DeclaredUnion n e cs) s text more some free h =
     rw (word_again text (codes "union") (word n ∷ word (codes "switch") ∷ mark marks.OpenParenthesis
-    ∷ spell_type e (mark marks.CloseParenthesis ∷ mark marks.OpenBrace ∷ spell_cases cs (mark marks.Semicolon ∷ more))) h)
+    ∷ spell_type e (mark marks.CloseParenthesis ∷ mark marks.OpenBrace ∷ spell_cases cs
+    (mark marks.Semicolon ∷ more))) h)
     (union s n e cs h.0 more some free h.2)
 declaration_reads union (DeclaredException n r is) s text more some free h =
-    rw (word_again text (codes "exception") (spell_raise n r is more) h) (raise_reads s n r is h.0 more some free h.2)
+    rw (word_again text (codes "exception") (spell_raise n r is more) h)
+    (raise_reads s n r is h.0 more some free h.2)
 declaration_reads union (Call o n ps) s text more some free h =
-    rw (word_again text (codes "operation") (spell_return o (word n ∷ mark marks.OpenParenthesis ∷ spell_params ps (mark marks.Semicolon ∷ more))) h)
+    rw (word_again text (codes "operation")
+    (spell_return o (word n ∷ mark marks.OpenParenthesis ∷ spell_params ps
+    (mark marks.Semicolon ∷ more))) h)
     (operation_reads s o n ps h.0 more some free h.2)
 
 enumeration_taken : (s : Scope) (whole text : List ℕ) (x : Declared)
@@ -81,7 +88,8 @@ enumeration_taken s whole text x before t = record {
   took = record {
     free = t.took.free;
     front = λ more m. before
-        (word t.name ∷ mark marks.OpenBrace ∷ spell_names t.names (mark marks.Semicolon ∷ more)) (t.took.front more m);
+        (word t.name ∷ mark marks.OpenBrace ∷ spell_names t.names (mark marks.Semicolon ∷ more))
+        (t.took.front more m);
   };
 }
 
@@ -94,15 +102,20 @@ after_by : UnionTakes → (s : Scope) (text w rest : List ℕ) (x : Declared) (a
     (cond c (union_at s rest) (cond d (exception_at s rest)
     (cond e (operation_at s rest) (Err (misplaced text)))))) ≡ Ok x → TakenDeclaration s text x
 after_by union s text w rest x true b c d e p q r u v t h =
-    enumeration_taken s text rest x (subst (λ v. Takes text (word v) rest) ((bytes_eq-Decides w (codes "enum")).0 p) t) (enumeration_takes s rest x h)
+    enumeration_taken s text rest x (subst (λ v. Takes text (word v) rest)
+    ((bytes_eq-Decides w (codes "enum")).0 p) t) (enumeration_takes s rest x h)
 after_by union s text w rest x false true c d e p q r u v t h =
-    structure_takes s text rest x (subst (λ v. Takes text (word v) rest) ((bytes_eq-Decides w (codes "struct")).0 q) t) h
+    structure_takes s text rest x (subst (λ v. Takes text (word v) rest)
+    ((bytes_eq-Decides w (codes "struct")).0 q) t) h
 after_by union s text w rest x false false true d e p q r u v t h =
-    union s text rest x (subst (λ v. Takes text (word v) rest) ((bytes_eq-Decides w (codes "union")).0 r) t) h
+    union s text rest x (subst (λ v. Takes text (word v) rest)
+    ((bytes_eq-Decides w (codes "union")).0 r) t) h
 after_by union s text w rest x false false false true e p q r u v t h =
-    raise_takes s text rest x (subst (λ v. Takes text (word v) rest) ((bytes_eq-Decides w (codes "exception")).0 u) t) h
+    raise_takes s text rest x (subst (λ v. Takes text (word v) rest)
+    ((bytes_eq-Decides w (codes "exception")).0 u) t) h
 after_by union s text w rest x false false false false true p q r u v t h =
-    operation_takes s text rest x (subst (λ v. Takes text (word v) rest) ((bytes_eq-Decides w (codes "operation")).0 v) t) h
+    operation_takes s text rest x (subst (λ v. Takes text (word v) rest)
+    ((bytes_eq-Decides w (codes "operation")).0 v) t) h
 after_by union s text w rest x false false false false false p q r u v t h = absurd cc
 
 declaration_takes : UnionTakes → (s : Scope) (text : List ℕ) (x : Declared)
@@ -111,7 +124,8 @@ unfolding declaration_at
 declaration_takes union s text x e =
     let w = bind_ok (word_at text) (λ w. declaration_after s text w.0 w.1) x e in
     let v = (w.0).0 in
-    after_by union s text v (w.0).1 x (bytes_eq v (codes "enum")) (bytes_eq v (codes "struct")) (bytes_eq v (codes "union")) (bytes_eq v (codes "exception"))
+    after_by union s text v (w.0).1 x (bytes_eq v (codes "enum")) (bytes_eq v (codes "struct"))
+    (bytes_eq v (codes "union")) (bytes_eq v (codes "exception"))
     (bytes_eq v (codes "operation")) refl refl refl refl refl (word_takes text w.0 w.1) w.2
 
 -- ---- declarations
@@ -127,7 +141,14 @@ pub record BrokenIn (k : Kind) (s : Scope) (ds : List Declaration) : Type 0 wher
 
 broken_later : (k : Kind) (s : Scope) (d : Declaration) (ds : List Declaration)
     → BrokenIn k (declare s d) ds → BrokenIn k s (d ∷ ds)
-broken_later k s d ds b = record { before = d ∷ b.before; broken = b.broken; after = b.after; all = ap (λ es. d ∷ es) b.all; breaks = b.breaks }
+broken_later k s d ds b = record {
+  before = d ∷ b.before;
+  broken = b.broken;
+  after = b.after;
+  all =
+      ap (λ es. d ∷ es) b.all;
+  breaks = b.breaks;
+}
 
 -- what is read of declarations
 abbrev pub FileOut : Scope → List Declaration → Result Scope Refusal → Type 0
@@ -150,19 +171,33 @@ file_on n s d ds (Ok x) o on =
     let g = o.out in
     subst (λ (y : Declared). FileOut s (d ∷ ds) (declarations_run n y.0 y.1)) (sym g.is)
     (file_more s d ds (declarations_run n (declare s d) g.rest) g.keeps (on g.rest g.tokens))
-file_on n s d ds (Err e) o on = record { before = []; broken = d; after = ds; all = refl; breaks = o.out }
+file_on n s d ds (Err e) o on = record {
+  before = [];
+  broken = d;
+  after = ds;
+  all = refl;
+  breaks =
+      o.out;
+}
 
 not_over : (d : Declaration) (text : List ℕ) (more : List Token)
     → AreTokens text (spell d more) → end_at text ≡ Ok false
 not_over (Enumeration n names) text more h =
-    end_other text (word (codes "enum")) (word n ∷ mark marks.OpenBrace ∷ spell_names names (mark marks.Semicolon ∷ more)) h
-not_over (Structure n is) text more h = end_other text (word (codes "struct")) (word n ∷ mark marks.OpenBrace ∷ spell_items is (mark marks.Semicolon ∷ more)) h
+    end_other text (word (codes "enum")) (word n ∷ mark marks.OpenBrace ∷ spell_names names
+    (mark marks.Semicolon ∷ more)) h
+not_over (Structure n is) text more h = end_other text (word (codes "struct"))
+    (word n ∷ mark marks.OpenBrace ∷ spell_items is (mark marks.Semicolon ∷ more)) h
 not_over (DeclaredUnion n e cs) text more h =
-    end_other text (word (codes "union")) (word n ∷ word (codes "switch") ∷ mark marks.OpenParenthesis
-    ∷ spell_type e (mark marks.CloseParenthesis ∷ mark marks.OpenBrace ∷ spell_cases cs (mark marks.Semicolon ∷ more))) h
-not_over (DeclaredException n r is) text more h = end_other text (word (codes "exception")) (spell_raise n r is more) h
+    end_other text (word (codes "union")) (word n ∷ word (codes "switch") ∷ mark
+    marks.OpenParenthesis
+    ∷ spell_type e (mark marks.CloseParenthesis ∷ mark marks.OpenBrace ∷ spell_cases cs
+    (mark marks.Semicolon ∷ more))) h
+not_over (DeclaredException n r is) text more h =
+    end_other text (word (codes "exception")) (spell_raise n r is more) h
 not_over (Call o n ps) text more h =
-    end_other text (word (codes "operation")) (spell_return o (word n ∷ mark marks.OpenParenthesis ∷ spell_params ps (mark marks.Semicolon ∷ more))) h
+    end_other text (word (codes "operation"))
+    (spell_return o (word n ∷ mark marks.OpenParenthesis ∷ spell_params ps
+    (mark marks.Semicolon ∷ more))) h
 
 run_on : (n : ℕ) (s : Scope) (text : List ℕ) → end_at text ≡ Ok false
     → declarations_run (suc n) s text ≡ (declaration_at s text >>= λ d. declarations_run n d.0 d.1)
@@ -180,11 +215,14 @@ declarations_read : UnionReads → (ds : List Declaration) (n : ℕ) (s : Scope)
 unfolding Each
 declarations_read union [] zero s text lt some free h = absurd (omega arith)
 declarations_read union (d ∷ ds) zero s text lt some free h = absurd (omega arith)
-declarations_read union [] (suc n) s text lt some free h = rw (run_over n s text (end_again text h)) (refl, λ k. tt)
+declarations_read union [] (suc n) s text lt some free h =
+    rw (run_over n s text (end_again text h)) (refl, λ k. tt)
 declarations_read union (d ∷ ds) (suc n) s text lt some free h =
     rw (run_on n s text (not_over d text (spell_all ds) h))
-    (file_on n s d ds (declaration_at s text) (declaration_reads union d s text (spell_all ds) some free.0 h)
-    (λ rest m. declarations_read union ds n (declare s d) rest (omega arith) (omega (arith, (declare_more s d).longer)) free.1 m))
+    (file_on n s d ds (declaration_at s text)
+    (declaration_reads union d s text (spell_all ds) some free.0 h)
+    (λ rest m. declarations_read union ds n (declare s d) rest (omega arith)
+    (omega (arith, (declare_more s d).longer)) free.1 m))
 
 -- ---- the whole file
 
@@ -245,7 +283,8 @@ declared_is union s d text more x some words h e =
 more_words : (s t : Scope) (d : Declaration) (ds : List Declaration) → 0 < size s → t ≡ declare s d
     → (0 < size t → Each HasItsWords t ds) → Each HasItsWords (declare s d) ds
 more_words s t d ds some is words =
-    subst (λ u. Each HasItsWords u ds) is (words (omega (arith, (declare_more s d).longer, ap size is)))
+    subst (λ u. Each HasItsWords u ds) is (words
+    (omega (arith, (declare_more s d).longer, ap size is)))
 
 over_by : (n : ℕ) (s : Scope) (text : List ℕ) (t : Scope) (v : Bool) → end_at text ≡ Ok v
     → cond v (Ok s) (declaration_at s text >>= λ d. declarations_run n d.0 d.1) ≡ Ok t → UnionReads
@@ -266,7 +305,8 @@ over_by n s text t false over e reads takes on =
       words = λ some. (
         k.took.free,
         more_words s (d.0).0 k.declaration rest.declarations some
-            (declared_is reads s k.declaration text more d.0 some k.took.free tokens d.1) rest.words,
+            (declared_is reads s k.declaration text more d.0 some k.took.free tokens d.1)
+            rest.words,
       );
       tokens = tokens;
     }
@@ -276,7 +316,8 @@ declarations_take : UnionReads → UnionTakes → (n : ℕ) (s : Scope) (text : 
 unfolding declarations_run
 declarations_take reads takes zero s text t e = absurd cc
 declarations_take reads takes (suc n) s text t e =
-    let o = bind_ok (end_at text) (λ over. cond over (Ok s) (declaration_at s text >>= λ d. declarations_run n d.0 d.1)) t e in
+    let o = bind_ok (end_at text) (λ over.
+    cond over (Ok s) (declaration_at s text >>= λ d. declarations_run n d.0 d.1)) t e in
     over_by n s text t o.0 o.1 o.2 reads takes
     (λ s text run. declarations_take reads takes n s text t run)
 
@@ -295,7 +336,8 @@ version_takes : (text : List ℕ) (x : ℕ × List ℕ) → version_at text ≡ 
     → (is_version x.0 ≡ true) × Takes text (number x.0) x.1
 unfolding version_at
 version_takes text x e =
-    let n = bind_ok (number_at text) (λ n. cond (is_version n.0) (Ok (n.0, n.1)) (Err (misplaced text))) x e in
+    let n = bind_ok (number_at text) (λ n.
+    cond (is_version n.0) (Ok (n.0, n.1)) (Err (misplaced text))) x e in
     let is = version_by text n.0 x (is_version (n.0).0) refl n.2 in
     subst (λ (y : ℕ × List ℕ). (is_version y.0 ≡ true) × Takes text (number y.0) y.1) is.1
     (is.0, number_takes text n.0 n.1)
@@ -304,7 +346,8 @@ head_takes : (text : List ℕ) (x : ℕ × List ℕ) → head_at text ≡ Ok x �
 unfolding head_at
 head_takes text x e =
     let k = bind_ok _ _ x e in
-    let v = bind_ok (version_at k.0) (λ v. mark_at marks.Semicolon v.1 >>= λ r. Ok (v.0, r)) x k.2 in
+    let v = bind_ok (version_at k.0) (λ v. mark_at marks.Semicolon v.1 >>= λ r. Ok (v.0, r)) x k.2
+    in
     let r = bind_ok (mark_at marks.Semicolon (v.0).1) (λ r. Ok ((v.0).0, r)) x v.2 in
     let is = version_takes k.0 v.0 v.1 in
     subst (TakenHead text) (ok_is ((v.0).0, r.0) x r.2) (record {
@@ -319,7 +362,8 @@ pub file_takes : UnionReads → UnionTakes → (text : List ℕ) (t : Scope) →
     → file_at text ≡ Ok t → (file : SignatureFile) × Spells text file
 unfolding file_at
 file_takes reads takes text t short e =
-    let h = bind_ok (head_at text) (λ h. declarations_run (length text) (first_scope h.0) h.1) t e in
+    let h = bind_ok (head_at text) (λ h. declarations_run (length text) (first_scope h.0) h.1) t e
+    in
     let head = head_takes text h.0 h.1 in
     let all = declarations_take reads takes (length text) (first_scope (h.0).0) (h.0).1 t h.2 in (
       record { version = (h.0).0; declarations = all.declarations },

@@ -9,12 +9,15 @@ use Rattle.giop_sig.specs.Outcomes.{Stops}
 use Rattle.giop_sig.specs.ItemReading.{Declared}
 use Rattle.giop_sig.specs.FileReading.{declaration_at, declarations_run}
 
-module _ (n i : ℕ) (s : Scope) (text : List ℕ) (total : Result Scope Refusal) (so_far : declarations_run (n - i) s text ≡ total) where
-  pub goes_on : i < n → end_at text ≡ Ok false → (d : Declared) → declaration_at s text ≡ Ok d → declarations_run (n - (i + 1)) d.0 d.1 ≡ total
+module _ (n i : ℕ) (s : Scope) (text : List ℕ) (total : Result Scope Refusal)
+    (so_far : declarations_run (n - i) s text ≡ total) where
+  pub goes_on : i < n → end_at text ≡ Ok false → (d : Declared) → declaration_at s text ≡ Ok d →
+      declarations_run (n - (i + 1)) d.0 d.1 ≡ total
   unfolding declarations_run
   goes_on lt more d h =
       let k : n - i ≡ suc (n - (i + 1)) = omega arith in
-      let one : declarations_run (n - i) s text ≡ declarations_run (n - (i + 1)) d.0 d.1 = rw (k, more, h) refl in
+      let one : declarations_run (n - i) s text ≡ declarations_run (n - (i + 1)) d.0 d.1 =
+      rw (k, more, h) refl in
       sym one ∙ so_far
 
   pub ends_here : i < n → end_at text ≡ Ok true → total ≡ Ok s
@@ -31,7 +34,8 @@ module _ (n i : ℕ) (s : Scope) (text : List ℕ) (total : Result Scope Refusal
       let one : declarations_run (n - i) s text ≡ Err e = rw (k, h) refl in
       sym so_far ∙ one
 
-  pub fails : i < n → end_at text ≡ Ok false → (e : ParseStop) → Stops e (declaration_at s text) → Stops e total
+  pub fails : i < n → end_at text ≡ Ok false → (e : ParseStop) → Stops e (declaration_at s text) →
+      Stops e total
   unfolding declarations_run
   fails lt more stops.Memory h = tt
   fails lt more (stops.Refused r) h =

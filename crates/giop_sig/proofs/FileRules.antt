@@ -16,7 +16,10 @@ each_shallow : (ds : List Declaration) (s : Scope)
     → deepest (scope_after s ds) ≤ 24 → Each IsShallow s ds
 unfolding Each
 each_shallow [] s le = tt
-each_shallow (d ∷ ds) s le = (omega (arith, (scope_more (declare s d) ds).deeper), each_shallow ds (declare s d) le)
+each_shallow (d ∷ ds) s le = (
+  omega (arith, (scope_more (declare s d) ds).deeper),
+  each_shallow ds (declare s d) le,
+)
 
 -- what was read is the table of a valid file
 pub file_valid : UnionReads → (text : List ℕ) (t : Scope) (file : SignatureFile) → Spells text file

@@ -1,4 +1,5 @@
--- Looking up by name: the index in a list of keys is that in the table's list; for operations and exceptions.
+-- Looking up by name: the index in a list of keys is that in the table's list; for operations and
+-- exceptions.
 use Rattle.std.proofs.Common.{◌≡◌, ℕ, zero, suc, ◌+◌, ◌<◌, ◌≤◌, Bool, cond, not, List, [], ◌∷◌, length, map, get_or, Option, Some, None, refl, sym, ap, subst, ◌∙◌, arith}
 use Rattle.std.specs.Prelude.{slice_get}
 use Rattle.std.specs.List.{position, position_or_len}
@@ -18,7 +19,8 @@ use Rattle.giop_sig.specs.Entries.{operation_view, exception_view}
 position_or_len-map : {X Y : Type 0} (p : Y → Bool) (f : X → Y) (xs : List X)
     → position_or_len p (map f xs) ≡ position_or_len (λ x. p (f x)) xs
 position_or_len-map p f [] = refl
-position_or_len-map p f (x ∷ xs) = ap (λ n. cond (not (p (f x))) (1 + n) 0) (position_or_len-map p f xs)
+position_or_len-map p f (x ∷ xs) = ap (λ n. cond (not (p (f x))) (1 + n) 0)
+    (position_or_len-map p f xs)
 
 pub position-map : {X Y : Type 0} (p : Y → Bool) (f : X → Y) (xs : List X)
     → position p (map f xs) ≡ position (λ x. p (f x)) xs
@@ -33,7 +35,8 @@ place_of : {K V X : Type 0} (items : K → List ℕ) (view : K × V → X) (name
 place_of {K} {V} items view name_in es key name same named =
     position-map (λ k. bytes_eq key (items k)) (λ (e : K × V). e.0) es
     ∙ ap (λ (n : List ℕ). position (λ (e : K × V). bytes_eq n (items e.0)) es) same
-    ∙ ap (λ (f : K × V → List ℕ). position (λ (e : K × V). bytes_eq name (f e)) es) (fun_ext (λ e. sym (named e)))
+    ∙ ap (λ (f : K × V → List ℕ). position (λ (e : K × V). bytes_eq name (f e)) es)
+    (fun_ext (λ e. sym (named e)))
     ∙ sym (position-map (λ x. bytes_eq name (name_in x)) view es)
 
 none_from : (o : Option ℕ) → ((i : ℕ) → o ≡ Some i → ⊥) → o ≡ None
@@ -44,7 +47,8 @@ none_from (Some i) h = absurd (h i refl)
 not_there : {X : Type 0} (name_in : X → List ℕ) (xs : List X) (d : X) (name : List ℕ)
     → ((i : ℕ) → i < length xs → length (name_in (get_or xs i d)) ≤ 128) → 128 < length name
     → position (λ x. bytes_eq name (name_in x)) xs ≡ None
-not_there name_in xs d name short long = none_from (position (λ x. bytes_eq name (name_in x)) xs) (λ i e.
+not_there name_in xs d name short long =
+    none_from (position (λ x. bytes_eq name (name_in x)) xs) (λ i e.
     let s = position-Some (λ x. bytes_eq name (name_in x)) xs i d e in
     let same = (bytes_eq-Decides name (name_in (get_or xs i d))).0 s.1 in
     omega (arith, short i s.0, ap length same))
@@ -54,7 +58,8 @@ not_there name_in xs d name short long = none_from (position (λ x. bytes_eq nam
 pub no_operation_long : (t : Table) (name : List ℕ) → IsTable t → 128 < length name
     → None ≡ operation_in t name
 no_operation_long t name laws long =
-    sym (ap (option_map op_id) (not_there (λ (o : Operation). o.name) t.operations no_operation name (λ i lt. (laws.operations i no_operation lt).short) long))
+    sym (ap (option_map op_id) (not_there (λ (o : Operation). o.name) t.operations no_operation name
+    (λ i lt. (laws.operations i no_operation lt).short) long))
 
 -- what is found among the keys is the table's
 pub operation_found : (es : List (ArrayVec ℕ × Signature)) (t : Table) (key name : List ℕ)
@@ -62,7 +67,8 @@ pub operation_found : (es : List (ArrayVec ℕ × Signature)) (t : Table) (key n
     → r ≡ position (λ (k : ArrayVec ℕ). bytes_eq key k.items)
     (map (λ (e : ArrayVec ℕ × Signature). e.0) es) → option_map op_id r ≡ operation_in t name
 operation_found es t key name r view same is =
-    ap (option_map op_id) (is ∙ place_of (λ (k : ArrayVec ℕ). k.items) operation_view (λ (o : Operation). o.name) es key name same (λ e. refl)
+    ap (option_map op_id) (is ∙ place_of (λ (k : ArrayVec ℕ). k.items) operation_view
+    (λ (o : Operation). o.name) es key name same (λ e. refl)
     ∙ ap (λ (os : List Operation). position (λ (o : Operation). bytes_eq name o.name) os) view)
 
 read_map : {X Y : Type 0} (f : X → Y) (xs : List X) (i : ℕ) (x : X) (d : Y)
@@ -82,19 +88,27 @@ pub signature_known : (es : List (ArrayVec ℕ × Signature)) (view t : Table) (
     → slice_get es i ≡ Some e
     → (e.1.request.0 < length t.types) × (e.1.reply.0 < length t.types)
 signature_known es view t i e laws same kept at =
-    let lt : i < length view.operations = omega (arith, ap length kept, length-map es operation_view, inside_by es i e at) in
+    let lt : i < length view.operations = omega (
+      arith,
+      ap length kept,
+      length-map es operation_view,
+      inside_by es i e at,
+    ) in
     let call = laws.operations i no_operation lt in
     let is : get_or view.operations i no_operation ≡ operation_view e =
-    ap (λ (os : List Operation). get_or os i no_operation) kept ∙ read_map operation_view es i e no_operation at in
+    ap (λ (os : List Operation). get_or os i no_operation) kept
+    ∙ read_map operation_view es i e no_operation at in
     let known = subst (IsOperation view.types) is call in
-    subst (λ (u : Table). (e.1.request.0 < length u.types) × (e.1.reply.0 < length u.types)) same (known.request, known.reply)
+    subst (λ (u : Table). (e.1.request.0 < length u.types) × (e.1.reply.0 < length u.types)) same
+    (known.request, known.reply)
 
 -- ---- exceptions
 
 pub no_exception_long : (t : Table) (name : List ℕ) → IsTable t → 128 < length name
     → None ≡ exception_in t name
 no_exception_long t name laws long =
-    sym (ap (option_map (members_at t)) (not_there (λ (e : Exception). e.repository) t.exceptions no_exception name
+    sym (ap (option_map (members_at t)) (not_there (λ (e : Exception). e.repository) t.exceptions
+    no_exception name
     (λ i lt. (laws.exceptions i no_exception lt).short) long))
 
 exception_place : (es : List (ArrayVec ℕ × TypeId)) (t : Table) (key name : List ℕ) (r : Option ℕ)
@@ -102,8 +116,10 @@ exception_place : (es : List (ArrayVec ℕ × TypeId)) (t : Table) (key name : L
     → r ≡ position (λ (k : ArrayVec ℕ). bytes_eq key k.items)
     (map (λ (e : ArrayVec ℕ × TypeId). e.0) es) → option_map (members_at t) r ≡ exception_in t name
 exception_place es t key name r view same is =
-    ap (option_map (members_at t)) (is ∙ place_of (λ (k : ArrayVec ℕ). k.items) exception_view (λ (e : Exception). e.repository) es key name same (λ e. refl)
-    ∙ ap (λ (xs : List Exception). position (λ (e : Exception). bytes_eq name e.repository) xs) view)
+    ap (option_map (members_at t)) (is ∙ place_of (λ (k : ArrayVec ℕ). k.items) exception_view
+    (λ (e : Exception). e.repository) es key name same (λ e. refl)
+    ∙ ap (λ (xs : List Exception). position (λ (e : Exception). bytes_eq name e.repository) xs)
+    view)
 
 pub exception_none : (es : List (ArrayVec ℕ × TypeId)) (t : Table) (key name : List ℕ)
     → map exception_view es ≡ t.exceptions → key ≡ name
@@ -118,14 +134,22 @@ pub exception_found : (es : List (ArrayVec ℕ × TypeId)) (t : Table) (key name
     → Some e.1 ≡ exception_in t name
 exception_found es t key name i e view same is at =
     let read : get_or t.exceptions i no_exception ≡ exception_view e =
-    ap (λ (xs : List Exception). get_or xs i no_exception) (sym view) ∙ read_map exception_view es i e no_exception at in
-    ap (λ (x : Exception). Some (type_id x.members)) (sym read) ∙ exception_place es t key name (Some i) view same is
+    ap (λ (xs : List Exception). get_or xs i no_exception) (sym view)
+    ∙ read_map exception_view es i e no_exception at in
+    ap (λ (x : Exception). Some (type_id x.members)) (sym read)
+    ∙ exception_place es t key name (Some i) view same is
 
 pub exception_known : (es : List (ArrayVec ℕ × TypeId)) (t : Table) (i : ℕ)
     (e : ArrayVec ℕ × TypeId) → IsTable t → map exception_view es ≡ t.exceptions
     → slice_get es i ≡ Some e → e.1.0 < length t.types
 exception_known es t i e laws view at =
-    let lt : i < length t.exceptions = omega (arith, ap length view, length-map es exception_view, inside_by es i e at) in
+    let lt : i < length t.exceptions = omega (
+      arith,
+      ap length view,
+      length-map es exception_view,
+      inside_by es i e at,
+    ) in
     let is : get_or t.exceptions i no_exception ≡ exception_view e =
-    ap (λ (xs : List Exception). get_or xs i no_exception) (sym view) ∙ read_map exception_view es i e no_exception at in
+    ap (λ (xs : List Exception). get_or xs i no_exception) (sym view)
+    ∙ read_map exception_view es i e no_exception at in
     (subst (IsException t.types) is (laws.exceptions i no_exception lt)).members

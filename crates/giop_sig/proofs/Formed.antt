@@ -35,7 +35,8 @@ part_formed types n (nodes.members parts) i formed has =
 part_formed types n (nodes.union switch cases otherwise) i formed has =
     let there = part_there (nodes.union switch cases otherwise) i has in
     let is = on_some (IsPart types n) (case_part (slice_get cases i)) there.0 there.1
-    (case_read (IsPart types n) cases i (recursion_from_All (λ (c : Case). IsPart types n c.part) cases formed.2)) in
+    (case_read (IsPart types n) cases i (recursion_from_All (λ (c : Case). IsPart types n c.part)
+    cases formed.2)) in
     subst (λ o. IsInner types n (type_of o)) (sym there.1) is.inner
 part_formed types n (nodes.sequence bound element) i formed has = formed
 part_formed types n (nodes.array count element) i formed has = formed.1
@@ -52,7 +53,8 @@ name_short types n (nodes.members parts) i formed has =
 name_short types n (nodes.union switch cases otherwise) i formed has =
     let there = part_there (nodes.union switch cases otherwise) i has in
     let is = on_some (IsPart types n) (case_part (slice_get cases i)) there.0 there.1
-    (case_read (IsPart types n) cases i (recursion_from_All (λ (c : Case). IsPart types n c.part) cases formed.2)) in
+    (case_read (IsPart types n) cases i (recursion_from_All (λ (c : Case). IsPart types n c.part)
+    cases formed.2)) in
     subst (λ o. length (name_of o) ≤ 64) (sym there.1) is.short
 name_short types n (nodes.tagged special tag inner other) i formed has =
     (part_in types n (tag ∷ inner ∷ other ∷ []) i (formed.1, (formed.2, (formed.3, tt))) has).short
@@ -73,13 +75,16 @@ names_short (x ∷ xs) (suc n) all = names_short xs n all.1
 
 pub enum_name_short : (types : List Node) (i : ℕ) (node : Node) (n : ℕ) → IsFormed types i node
     → IfSome (name_at node n) (λ name. length name ≤ 64)
-enum_name_short types i (nodes.enumeration names) n formed = names_short names n (recursion_from_All (λ name. length name ≤ 64) names formed.1)
+enum_name_short types i (nodes.enumeration names) n formed =
+    names_short names n (recursion_from_All (λ name. length name ≤ 64) names formed.1)
 enum_name_short types i _ n formed = tt
 
 -- an entry that is formed can be counted
 pub sized : (types : List Node) (n : ℕ) (e : Entry) → IsFormed types n (node_view e) → IsSized e
-sized types n (entries.Enumeration names) formed = omega (arith, formed.0, length-map names.items (λ x. x.items))
-sized types n (entries.Members parts) formed = omega (arith, formed.0, length-map parts.items part_view)
+sized types n (entries.Enumeration names) formed =
+    omega (arith, formed.0, length-map names.items (λ x. x.items))
+sized types n (entries.Members parts) formed =
+    omega (arith, formed.0, length-map parts.items part_view)
 sized types n (entries.Union switch cases otherwise) formed = formed.1
 sized types n _ formed = tt
 
@@ -90,30 +95,46 @@ SameNodes types others n = (i : ℕ) → i < n → node_in types i ≡ node_in o
 
 inner_moved : (types others : List Node) (n i : ℕ) → SameNodes types others n
     → IsInner types n i → IsInner others n i
-inner_moved types others n i same is = record { below = is.below; takes = subst TakesOctet (same i is.below) is.takes }
+inner_moved types others n i same is = record {
+  below = is.below;
+  takes =
+      subst TakesOctet (same i is.below) is.takes;
+}
 
 part_moved : (types others : List Node) (n : ℕ) (p : Part) → SameNodes types others n
     → IsPart types n p → IsPart others n p
-part_moved types others n p same is = record { inner = inner_moved types others n p.type same is.inner; short = is.short }
+part_moved types others n p same is = record {
+  inner =
+      inner_moved types others n p.type same is.inner;
+  short = is.short;
+}
 
 switch_moved : (types others : List Node) (n i : ℕ) → SameNodes types others n
     → IsSwitch types n i → IsSwitch others n i
-switch_moved types others n i same is = record { below = is.below; scalar = subst IsScalarNode (same i is.below) is.scalar }
+switch_moved types others n i same is = record {
+  below = is.below;
+  scalar =
+      subst IsScalarNode (same i is.below) is.scalar;
+}
 
 -- whether a node can have a number depends on the nodes of smaller numbers alone
 pub formed_moved : (types others : List Node) (n : ℕ) (node : Node) → SameNodes types others n
     → IsFormed types n node → IsFormed others n node
 formed_moved types others n (nodes.enumeration names) same formed = formed
-formed_moved types others n (nodes.members parts) same formed = (formed.0, λ k d lt. part_moved types others n (get_or parts k d) same (formed.1 k d lt))
+formed_moved types others n (nodes.members parts) same formed =
+    (formed.0, λ k d lt. part_moved types others n (get_or parts k d) same (formed.1 k d lt))
 formed_moved types others n (nodes.union switch cases otherwise) same formed = (
   switch_moved types others n switch same formed.0,
   formed.1,
   λ k d lt. part_moved types others n (get_or cases k d).part same (formed.2 k d lt),
   formed.3,
 )
-formed_moved types others n (nodes.sequence bound element) same formed = inner_moved types others n element same formed
-formed_moved types others n (nodes.array count element) same formed = (formed.0, inner_moved types others n element same formed.1)
-formed_moved types others n (nodes.encapsulation held) same formed = inner_moved types others n held same formed
+formed_moved types others n (nodes.sequence bound element) same formed =
+    inner_moved types others n element same formed
+formed_moved types others n (nodes.array count element) same formed =
+    (formed.0, inner_moved types others n element same formed.1)
+formed_moved types others n (nodes.encapsulation held) same formed =
+    inner_moved types others n held same formed
 formed_moved types others n (nodes.tagged special tag inner other) same formed = (
   switch_moved types others n tag.type same formed.0,
   part_moved types others n tag same formed.1,
@@ -126,4 +147,5 @@ formed_moved types others n _ same formed = tt
 pub formed_stays : (types more : List Node) (n : ℕ) (node : Node) → n ≤ length types
     → IsFormed types n node → IsFormed (types ++ more) n node
 formed_stays types more n node le formed =
-    formed_moved types (types ++ more) n node (λ i lt. sym (get_or_append_left types more (nodes.prim Octet) i (omega arith))) formed
+    formed_moved types (types ++ more) n node
+    (λ i lt. sym (get_or_append_left types more (nodes.prim Octet) i (omega arith))) formed

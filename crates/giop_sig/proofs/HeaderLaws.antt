@@ -23,8 +23,10 @@ in_cancel _ = (_, _, _, refl, refl, refl)
 
 pub id_first : (minor kind : ℕ) → IdStandsFirst minor kind
     → IfSome (header_type minor kind) BeginsWithId
-id_first minor kind (inl last) = subst (λ m. IfSome (header_type m kind) BeginsWithId) (sym last) (in_last kind)
-id_first minor kind (inr cancel) = subst (λ k. IfSome (header_type minor k) BeginsWithId) (sym cancel) (in_cancel minor)
+id_first minor kind (inl last) = subst (λ m. IfSome (header_type m kind) BeginsWithId) (sym last)
+    (in_last kind)
+id_first minor kind (inr cancel) = subst (λ k. IfSome (header_type minor k) BeginsWithId)
+    (sym cancel) (in_cancel minor)
 
 some_of_map : {X : Type 0} (P : Ty → Type 0) (f : X → Ty) (r : Option X) (o : Option Ty)
     → option_map f r ≡ o → IfSome o P → IfSome r (λ x. P (f x))
@@ -35,4 +37,5 @@ pub id_found : {X : Type 0} (t : Table) (f : X → ℕ) (r : Option X) (minor ki
     → option_map f r ≡ header_number minor kind → IdStandsFirst minor kind
     → IfSome r (λ x. BeginsWithId (tree t (f x)))
 id_found t f r minor kind laws e first =
-    some_of_map BeginsWithId (λ x. tree t (f x)) r (header_type minor kind) (header_found t f r minor kind laws e) (id_first minor kind first)
+    some_of_map BeginsWithId (λ x. tree t (f x)) r (header_type minor kind)
+    (header_found t f r minor kind laws e) (id_first minor kind first)

@@ -44,22 +44,30 @@ name_keeps most seen w free short few new kinds.Limit = (short, few)
 name_keeps most seen w free short few new _ = tt
 
 -- a word, where it is new and there is room for one more; or a rule is broken
-pub unused_reads : {rule : Kind → Type 0} {types : List Node} {more : List Token} (known full : Bool)
+pub unused_reads : {rule : Kind → Type 0} {types : List Node} {more : List Token}
+    (known full : Bool)
     (text w rest : List ℕ) → AreTokens rest more → (known ≡ true → rule kinds.Duplicate → ⊥)
     → (full ≡ true → rule kinds.Limit → ⊥) → (known ≡ false → full ≡ false → (k : Kind) → rule k)
-    → Out {X = List ℕ × List ℕ} (λ rest. (w, rest)) rule types more (unused known full text (w, rest))
-unused_reads true full text w rest m double many keeps = broken (refused kinds.Duplicate text) (double refl)
-unused_reads false true text w rest m double many keeps = broken (refused kinds.Limit text) (inl (many refl))
+    → Out {X = List ℕ × List ℕ} (λ rest. (w, rest)) rule types more
+    (unused known full text (w, rest))
+unused_reads true full text w rest m double many keeps =
+    broken (refused kinds.Duplicate text) (double refl)
+unused_reads false true text w rest m double many keeps =
+    broken (refused kinds.Limit text) (inl (many refl))
 unused_reads false false text w rest m double many keeps = good rest m (keeps refl refl)
 
 -- what follows an identifier that isn't too long
-identifier_by : {X : Type 0} {made : List ℕ → X} {rule : Kind → Type 0} {types : List Node} {more : List Token}
-    (f : List ℕ × List ℕ → Result X Refusal) (text w : List ℕ) (v : Bool) → ltb 64 (length w) ≡ v → IsFree w
+identifier_by : {X : Type 0} {made : List ℕ → X} {rule : Kind → Type 0} {types : List Node}
+    {more : List Token}
+    (f : List ℕ × List ℕ → Result X Refusal) (text w : List ℕ) (v : Bool) → ltb 64 (length w) ≡ v →
+    IsFree w
     → AreTokens text (word w ∷ more) → (64 < length w → rule kinds.Limit → ⊥)
-    → (length w ≤ 64 → (rest : List ℕ) → AreTokens rest more → Out made rule types more (f (w, rest)))
+    → (length w ≤ 64 → (rest : List ℕ) → AreTokens rest more →
+    Out made rule types more (f (w, rest)))
     → Out made rule types more (identifier_at text >>= f)
 identifier_by {more = more} f text w true e free h long on =
-    let z = ltb-true 64 (length w) e in rw (identifier_long text w more h free z) (broken (too_long text) (inl (long z)))
+    let z = ltb-true 64 (length w) e in rw (identifier_long text w more h free z)
+    (broken (too_long text) (inl (long z)))
 identifier_by {more = more} f text w false e free h long on =
     let z = ltb-false 64 (length w) e in rw (identifier_again text w more h free z) (on z h.0 h.2)
 
@@ -69,9 +77,11 @@ pub new_name_reads : (types : List Node) (most : ℕ) (seen : List (List ℕ)) (
     (new_name_at most seen text)
 unfolding new_name_at
 new_name_reads types most seen text w more free h =
-    identifier_by (λ n. unused (is_among seen n.0) (leb most (length seen)) text n) text w (ltb 64 (length w)) refl free h
+    identifier_by (λ n. unused (is_among seen n.0) (leb most (length seen)) text n) text w
+    (ltb 64 (length w)) refl free h
     (λ long r. let f = r.0 in omega arith)
-    (λ short rest m. unused_reads (is_among seen w) (leb most (length seen)) text w rest m (λ k r. false≢true (sym r ∙ k))
+    (λ short rest m. unused_reads (is_among seen w) (leb most (length seen)) text w rest m
+    (λ k r. false≢true (sym r ∙ k))
     (λ k r. let z = leb-true most (length seen) k in let f = r.1 in omega arith)
     (λ k f. name_keeps most seen w free short (leb-false most (length seen) f) k))
 
@@ -93,7 +103,8 @@ pub declared_reads : (types : List Node) (s : Scope) (count : ℕ) (text w : Lis
 unfolding declared_at
 declared_reads types s count text w more free h =
     let known = lookup (bytes_eq w) s.names.known in
-    identifier_by (λ n. unused (is_some (lookup (bytes_eq n.0) s.names.known)) (leb 4096 count) text n) text w (ltb 64 (length w)) refl free h
+    identifier_by (λ n. unused (is_some (lookup (bytes_eq n.0) s.names.known)) (leb 4096 count) text
+    n) text w (ltb 64 (length w)) refl free h
     (λ long r. let f = r.0 in omega arith)
     (λ short rest m. unused_reads (is_some known) (leb 4096 count) text w rest m (some_none known)
     (λ k r. let z = leb-true 4096 count k in let f = r.1 in omega arith)
@@ -108,7 +119,9 @@ array_reads : (at : ℕ) (s : Scope) (e : ℕ) (o : Option ℕ) (rule : Kind →
     (add_array o (s, e)).0.table.types more
     (array_type at s e o >>= λ p. Ok (p.0, part w p.1, rest))
 array_reads at s e None rule w rest more m keeps = good rest m keeps
-array_reads at s e (Some n) rule w rest more m keeps = added_bind at s (nodes.array n e) (λ p. Ok (p.0, part w p.1, rest)) within_same (good rest m keeps)
+array_reads at s e (Some n) rule w rest more m keeps =
+    added_bind at s (nodes.array n e) (λ p. Ok (p.0, part w p.1, rest)) within_same
+    (good rest m keeps)
 
 abbrev pub made_item : Scope → Item → List ℕ → ItemRead
 made_item s i rest = ((add_item s i).0, item_part i (add_item s i), rest)
@@ -120,18 +133,24 @@ pub item_reads : (at most : ℕ) (seen : List (List ℕ)) (s : Scope) (i : Item)
     (item_at at most seen s text)
 unfolding item_at
 item_reads at most seen s i text more some free apart h =
-    out_bind (type_at at 25 s text) (λ t. new_name_at most seen t.2 >>= λ n. enclosed_at marks.OpenBracket marks.CloseBracket n.1
+    out_bind (type_at at 25 s text) (λ t. new_name_at most seen t.2 >>= λ n.
+    enclosed_at marks.OpenBracket marks.CloseBracket n.1
     >>= λ l. array_type at t.0 t.1 l.0 >>= λ p. Ok (p.0, part n.0 p.1, l.1))
     (type_reads at s i.type text (word i.name ∷ spell_length i.length more) some free.0 refl h)
     (λ a ta ka.
     out_bind (new_name_at most seen a) (λ n. enclosed_at marks.OpenBracket marks.CloseBracket n.1
-    >>= λ l. array_type at (place s i.type).0 (place s i.type).1 l.0 >>= λ p. Ok (p.0, part n.0 p.1, l.1))
-    (new_name_reads (place s i.type).0.table.types most seen a i.name (spell_length i.length more) free.1 ta)
+    >>= λ l. array_type at (place s i.type).0 (place s i.type).1 l.0 >>= λ p.
+    Ok (p.0, part n.0 p.1, l.1))
+    (new_name_reads (place s i.type).0.table.types most seen a i.name (spell_length i.length more)
+    free.1 ta)
     (λ b tb kb.
     out_bind (enclosed_at marks.OpenBracket marks.CloseBracket b)
-    (λ l. array_type at (place s i.type).0 (place s i.type).1 l.0 >>= λ p. Ok (p.0, part i.name p.1, l.1))
-    (enclosed_reads (place s i.type).0.table.types marks.OpenBracket marks.CloseBracket b i.length more apart tb)
-    (λ c tc kc. array_reads at (place s i.type).0 (place s i.type).1 i.length (λ k. OfItem k s.names most seen i) i.name c more tc (λ k. (ka k, kb k, kc k)))
+    (λ l. array_type at (place s i.type).0 (place s i.type).1 l.0 >>= λ p.
+    Ok (p.0, part i.name p.1, l.1))
+    (enclosed_reads (place s i.type).0.table.types marks.OpenBracket marks.CloseBracket b i.length
+    more apart tb)
+    (λ c tc kc. array_reads at (place s i.type).0 (place s i.type).1 i.length
+    (λ k. OfItem k s.names most seen i) i.name c more tc (λ k. (ka k, kb k, kc k)))
     (λ k w. w.2) (length_more i.length (place s i.type)))
     (λ k w. w.1) (length_more i.length (place s i.type)))
     (λ k w. w.0) (length_more i.length (place s i.type))
@@ -161,9 +180,16 @@ member_reads : (at : ℕ) (seen : List (List ℕ)) (parts : List Part) (s : Scop
 unfolding member_at
 member_reads at seen parts s i text more some free h =
     out_bind (item_at at 256 seen s text) (λ i. mark_at marks.Semicolon i.2
-    >>= λ r. Ok (record { scope = i.0; seen = seen ++ (i.1).name ∷ []; parts = parts ++ i.1 ∷ []; rest = r; closed = false }))
+    >>= λ r. Ok (record {
+      scope = i.0;
+      seen = seen ++ (i.1).name ∷ [];
+      parts = parts ++ i.1 ∷ [];
+      rest = r;
+      closed = false;
+    }))
     (item_reads at 256 seen s i text (mark marks.Semicolon ∷ more) some free refl h)
-    (λ rest m keeps. rw (mark_again marks.Semicolon rest more m) (good m.0 m.2 keeps)) (λ k w. w) within_same
+    (λ rest m keeps. rw (mark_again marks.Semicolon rest more m) (good m.0 m.2 keeps)) (λ k w. w)
+    within_same
 
 abbrev pub made_members : List Part → Scope → List Item → List ℕ → MembersRead
 made_members parts s is rest = ((add_items s is).0, parts ++ (add_items s is).1, rest)
@@ -189,7 +215,8 @@ closes : (seen : List (List ℕ)) (parts : List Part) (s : Scope) (names : Names
     (add_items s []).0.table.types more (Ok (s, parts, rest))
 unfolding OfItems add_items
 closes seen parts s names rest more m =
-    subst (λ ps. Out {X = MembersRead} (λ rest. (s, ps, rest)) (λ k. Unit {0}) s.table.types more (Ok (s, parts, rest)))
+    subst (λ ps. Out {X = MembersRead} (λ rest. (s, ps, rest)) (λ k. Unit {0}) s.table.types more
+    (Ok (s, parts, rest)))
     (sym (append-nil parts)) (good rest m (λ k. tt))
 
 made_on : (parts : List Part) (s : Scope) (i : Item) (is : List Item) (names : Names)
@@ -202,8 +229,11 @@ made_on : (parts : List Part) (s : Scope) (i : Item) (is : List Item) (names : N
     (add_items s (i ∷ is)).0.table.types more r
 unfolding OfItems add_items
 made_on parts s i is names seen more r first o =
-    let same = append_assoc parts (item_part i (add_item s i) ∷ []) (add_items (add_item s i).0 is).1 in
-    out_more (subst (λ ps. Out {X = MembersRead} (λ rest. ((add_items (add_item s i).0 is).0, ps, rest)) (λ k. OfItems k names 256 (seen ++ i.name ∷ []) is)
+    let same = append_assoc parts (item_part i (add_item s i) ∷ [])
+    (add_items (add_item s i).0 is).1 in
+    out_more (subst (λ ps. Out {X = MembersRead}
+    (λ rest. ((add_items (add_item s i).0 is).0, ps, rest))
+    (λ k. OfItems k names 256 (seen ++ i.name ∷ []) is)
     (add_items (add_item s i).0 is).0.table.types more r) same o)
     (λ k w. (first k, w)) (λ k w. w.1)
 
@@ -225,9 +255,11 @@ member_on : (at n : ℕ) (seen : List (List ℕ)) (parts : List Part) (s : Scope
     (members_run at n m.seen m.parts m.scope m.rest))
 unfolding OfItems add_items
 member_on at n seen parts s names i is more same r o on =
-    out_bind r (λ m. cond m.closed (Ok (m.scope, m.parts, m.rest)) (members_run at n m.seen m.parts m.scope m.rest)) o
+    out_bind r (λ m. cond m.closed (Ok (m.scope, m.parts, m.rest))
+    (members_run at n m.seen m.parts m.scope m.rest)) o
     (λ rest m keeps. made_on parts s i is names seen more
-    (members_run at n (seen ++ i.name ∷ []) (parts ++ item_part i (add_item s i) ∷ []) (add_item s i).0 rest) keeps (on rest m keeps))
+    (members_run at n (seen ++ i.name ∷ []) (parts ++ item_part i (add_item s i) ∷ [])
+    (add_item s i).0 rest) keeps (on rest m keeps))
     (λ k w. w.0) (items_more (add_item s i).0 is)
 
 pub members_reads : (is : List Item) (at n : ℕ) (seen : List (List ℕ)) (parts : List Part)
@@ -238,18 +270,26 @@ pub members_reads : (is : List Item) (at n : ℕ) (seen : List (List ℕ)) (part
     (add_items s is).0.table.types more (members_run at n seen parts s text)
 unfolding OfItems
 members_reads [] at zero seen parts s names text more same some n few free h = absurd (omega arith)
-members_reads (i ∷ is) at zero seen parts s names text more same some n few free h = absurd (omega arith)
+members_reads (i ∷ is) at zero seen parts s names text more same some n few free h =
+    absurd (omega arith)
 members_reads [] at (suc n) seen parts s names text more same some fuel few free h =
-    rw (run_end at n seen parts s text h.0 (mark_if_again marks.CloseBrace text more h)) (closes seen parts s names h.0 more h.2)
+    rw (run_end at n seen parts s text h.0 (mark_if_again marks.CloseBrace text more h))
+    (closes seen parts s names h.0 more h.2)
 members_reads (i ∷ is) at (suc n) seen parts s names text more same some fuel few free h =
-    let apart = if_apart marks.CloseBrace text (spell_item i (mark marks.Semicolon ∷ spell_items is more))
-    (type_apart i.type (word i.name ∷ spell_length i.length (mark marks.Semicolon ∷ spell_items is more))) h in
+    let apart = if_apart marks.CloseBrace text
+    (spell_item i (mark marks.Semicolon ∷ spell_items is more))
+    (type_apart i.type (word i.name ∷ spell_length i.length
+    (mark marks.Semicolon ∷ spell_items is more))) h in
     rw (run_on at n seen parts s text apart)
     (member_on at n seen parts s names i is more same (member_at at seen parts s text)
-    (subst (λ ns. Out (made_member seen parts s i) (λ k. OfItem k ns 256 seen i) (add_item s i).0.table.types (spell_items is more)
+    (subst (λ ns. Out (made_member seen parts s i) (λ k. OfItem k ns 256 seen i)
+    (add_item s i).0.table.types (spell_items is more)
     (member_at at seen parts s text)) same
-    (member_reads at seen parts s i text (spell_items is more) some (subst (λ ns. OfItem kinds.Syntax ns 256 seen i) (sym same) free.0) h))
+    (member_reads at seen parts s i text (spell_items is more) some
+    (subst (λ ns. OfItem kinds.Syntax ns 256 seen i) (sym same) free.0) h))
     (λ rest m keeps.
     let lt = (keeps kinds.Limit).1.1 in
-    members_reads is at n (seen ++ i.name ∷ []) (parts ++ item_part i (add_item s i) ∷ []) (add_item s i).0 names rest more (item_names s i ∙ same)
-    (omega (arith, (item_more s i).longer)) (omega (arith, length-append seen (i.name ∷ []))) (omega (arith, length-append seen (i.name ∷ []))) free.1 m))
+    members_reads is at n (seen ++ i.name ∷ []) (parts ++ item_part i (add_item s i) ∷ [])
+    (add_item s i).0 names rest more (item_names s i ∙ same)
+    (omega (arith, (item_more s i).longer)) (omega (arith, length-append seen (i.name ∷ [])))
+    (omega (arith, length-append seen (i.name ∷ []))) free.1 m))

@@ -40,7 +40,8 @@ pub record NameTaken (most : ℕ) (seen : List (List ℕ)) (text : List ℕ)
 -- a word, unless it is in the list, or the list is full
 abbrev pub unused : Bool → Bool → List ℕ → List ℕ × List ℕ → Result (List ℕ × List ℕ) Refusal
 unused known full text n =
-    cond known (Err (refused kinds.Duplicate text)) (cond full (Err (refused kinds.Limit text)) (Ok (n.0, n.1)))
+    cond known (Err (refused kinds.Duplicate text))
+    (cond full (Err (refused kinds.Limit text)) (Ok (n.0, n.1)))
 
 pub unused_is : (known full : Bool) (text : List ℕ) (n x : List ℕ × List ℕ)
     → unused known full text n ≡ Ok x → (n ≡ x) × (known ≡ false) × (full ≡ false)
@@ -56,7 +57,13 @@ new_name_takes most seen text x e =
     let w = identifier_word text a.0 a.1 in
     let u = unused_is (is_among seen (a.0).0) (leb most (length seen)) text a.0 x a.2 in
     subst (NameTaken most seen text) u.0
-    (record { free = w.1; short = w.2; few = leb-false most (length seen) u.2; front = word_takes text a.0 w.0 })
+    (record {
+      free = w.1;
+      short = w.2;
+      few = leb-false most (length seen) u.2;
+      front =
+          word_takes text a.0 w.0;
+    })
 
 pub record DeclaredTaken (s : Scope) (count : ℕ) (text : List ℕ)
     (x : List ℕ × List ℕ) : Type 0 where
@@ -79,13 +86,20 @@ declared_takes s count text x e =
     let known = lookup (bytes_eq (a.0).0) s.names.known in
     let u = unused_is (is_some known) (leb 4096 count) text a.0 x a.2 in
     subst (DeclaredTaken s count text) u.0
-    (record { free = w.1; short = w.2; new = none_of known u.1; few = leb-false 4096 count u.2; front = word_takes text a.0 w.0 })
+    (record {
+      free = w.1;
+      short = w.2;
+      new = none_of known u.1;
+      few = leb-false 4096 count u.2;
+      front = word_takes text a.0 w.0;
+    })
 
 -- ---- items
 
 array_grows : (at : ℕ) (s : Scope) (element : ℕ) (o : Option ℕ) (p : AddedType)
     → array_type at s element o ≡ Ok p → Grows s p.0
-array_grows at s element None p e = subst (λ (q : AddedType). Grows s q.0) (ok_is (s, element) p e) (grows_none s)
+array_grows at s element None p e = subst (λ (q : AddedType). Grows s q.0) (ok_is (s, element) p e)
+    (grows_none s)
 array_grows at s element (Some n) p e = added_grows at s (nodes.array n element) p e
 
 array_sound : (at : ℕ) (s : Scope) (element : ℕ) (o : Option ℕ) (p : AddedType)
@@ -113,7 +127,8 @@ item_made at most seen s text t n l p a b c e = record {
   named = refl;
   took = record {
     free = (a.took.free, b.free, bound_free l.0);
-    front = λ more m. a.took.front (word n.0 ∷ spell_length l.0 more) (b.front (spell_length l.0 more) (c.front more m));
+    front = λ more m. a.took.front (word n.0 ∷ spell_length l.0 more)
+        (b.front (spell_length l.0 more) (c.front more m));
   };
   grows = grows_on s t.0 p.0 a.grows (array_grows at t.0 t.1 l.0 p e);
   sound = λ is. array_sound at t.0 t.1 l.0 p e (a.sound is);
@@ -128,9 +143,11 @@ item_takes at most seen s text x e =
     let t = bind_ok _ _ x e in
     let n = bind_ok _ _ x t.2 in
     let l = bind_ok _ _ x n.2 in
-    let p = bind_ok (array_type at (t.0).0 (t.0).1 (l.0).0) (λ p. Ok (p.0, part (n.0).0 p.1, (l.0).1)) x l.2 in
+    let p = bind_ok (array_type at (t.0).0 (t.0).1 (l.0).0)
+    (λ p. Ok (p.0, part (n.0).0 p.1, (l.0).1)) x l.2 in
     subst (TakenItem s most seen text) (ok_is ((p.0).0, part (n.0).0 (p.0).1, (l.0).1) x p.2)
-    (item_made at most seen s text t.0 n.0 l.0 p.0 (type_takes at 25 s text t.0 t.1) (new_name_takes most seen (t.0).2 n.0 n.1)
+    (item_made at most seen s text t.0 n.0 l.0 p.0 (type_takes at 25 s text t.0 t.1)
+    (new_name_takes most seen (t.0).2 n.0 n.1)
     (enclosed_takes marks.OpenBracket marks.CloseBracket (n.0).1 l.0 l.1) p.1)
 
 -- ---- members
@@ -188,7 +205,8 @@ member_on n seen parts s text r i x a e t = record {
     free = (
       a.took.free,
       subst (λ w. OfItems kinds.Syntax s.names 256 (seen ++ w ∷ []) t.items) (sym a.named)
-          (subst (λ ns. OfItems kinds.Syntax ns 256 (seen ++ (i.1).name ∷ []) t.items) a.grows.names t.took.free),
+          (subst (λ ns. OfItems kinds.Syntax ns 256 (seen ++ (i.1).name ∷ []) t.items) a.grows.names
+          t.took.free),
     );
     front = λ more m. a.took.front (mark marks.Semicolon ∷ spell_items t.items more)
         (mark_takes marks.Semicolon i.2 r e (spell_items t.items more) (t.took.front more m));
@@ -199,7 +217,8 @@ member_on n seen parts s text r i x a e t = record {
   grows = grows_on s i.0 x.0 a.grows t.grows;
   sound = λ is all.
       let h = a.sound is in
-      t.sound h.scope (All-push (IsPart (i.0).table.types (length (i.0).table.types)) parts i.1 (parts_stay s i.0 parts a.grows all)
+      t.sound h.scope (All-push (IsPart (i.0).table.types (length (i.0).table.types)) parts i.1
+      (parts_stay s i.0 parts a.grows all)
       (record { inner = h.known; short = a.short }));
 }
 
@@ -215,12 +234,16 @@ member_by : (at n : ℕ) (seen : List (List ℕ)) (parts : List Part) (s : Scope
     → TakenMembers (suc n) seen parts s text x
 unfolding member_at
 member_by at n seen parts s text m x (Some r) h e run on =
-    let last : Ok (s, parts, r) ≡ Ok x = ap (then_run at n) (ok_is (record { scope = s; seen = seen; parts = parts; rest = r; closed = true }) m e) ∙ run in
-    subst (TakenMembers (suc n) seen parts s text) (ok_is (s, parts, r) x last) (closes n seen parts s text r h)
+    let last : Ok (s, parts, r) ≡ Ok x = ap (then_run at n)
+    (ok_is (record { scope = s; seen = seen; parts = parts; rest = r; closed = true }) m e)
+    ∙ run in
+    subst (TakenMembers (suc n) seen parts s text) (ok_is (s, parts, r) x last)
+    (closes n seen parts s text r h)
 member_by at n seen parts s text m x None h e run on =
     let i = bind_ok _ _ m e in
     let r = bind_ok _ _ m i.2 in
-    let last : members_run at n (seen ++ ((i.0).1).name ∷ []) (parts ++ (i.0).1 ∷ []) (i.0).0 r.0 ≡ Ok x =
+    let last : members_run at n (seen ++ ((i.0).1).name ∷ []) (parts ++ (i.0).1 ∷ []) (i.0).0 r.0
+    ≡ Ok x =
     ap (then_run at n) (ok_is (record {
       scope = (i.0).0;
       seen = seen ++ ((i.0).1).name ∷ [];
@@ -239,7 +262,8 @@ members_takes at zero seen parts s text x e = absurd cc
 members_takes at (suc n) seen parts s text x e =
     let m = bind_ok (member_step at seen parts s text) (then_run at n) x e in
     let c = bind_ok (mark_if marks.CloseBrace text) (member_after at seen parts s text) m.0 m.1 in
-    member_by at n seen parts s text m.0 x c.0 c.1 c.2 m.2 (λ seen parts s text run. members_takes at n seen parts s text x run)
+    member_by at n seen parts s text m.0 x c.0 c.1 c.2 m.2
+    (λ seen parts s text run. members_takes at n seen parts s text x run)
 
 filled_by : (text x : List ℕ) (c : Found) → mark_if marks.CloseBrace text ≡ Ok c
     → unless_closed text c ≡ Ok x → (text ≡ x) × (mark_if marks.CloseBrace text ≡ Ok None)
@@ -249,7 +273,8 @@ filled_by text x (Some r) h e = absurd cc
 pub filled_takes : (text x : List ℕ) → filled_at text ≡ Ok x
     → (text ≡ x) × (mark_if marks.CloseBrace text ≡ Ok None)
 unfolding filled_at
-filled_takes text x e = let c = bind_ok (mark_if marks.CloseBrace text) (unless_closed text) x e in filled_by text x c.0 c.1 c.2
+filled_takes text x e = let c = bind_ok (mark_if marks.CloseBrace text) (unless_closed text) x e in
+    filled_by text x c.0 c.1 c.2
 
 -- ---- what the code asks
 
@@ -263,12 +288,14 @@ struct_formed at s text m e is =
     let t = members_takes at 257 [] [] s text m e in
     (let f = t.few in omega arith, (t.sound is (no_parts s)).parts)
 
-pub members_grow : (at : ℕ) (s : Scope) (text : List ℕ) (m : MembersRead) → members_at at s text ≡ Ok m → Grows s m.0
+pub members_grow : (at : ℕ) (s : Scope) (text : List ℕ) (m : MembersRead) →
+    members_at at s text ≡ Ok m → Grows s m.0
 members_grow at s text m e = (members_takes at 257 [] [] s text m e).grows
 
 pub exception_grows : (at : ℕ) (s : Scope) (text : List ℕ) (m : MembersRead) (p : AddedType)
     → members_at at s text ≡ Ok m → added at m.0 (nodes.members m.1) ≡ Ok p → Grows s p.0
-exception_grows at s text m p e put = grows_on s m.0 p.0 (members_grow at s text m e) (added_grows at m.0 (nodes.members m.1) p put)
+exception_grows at s text m p e put = grows_on s m.0 p.0 (members_grow at s text m e)
+    (added_grows at m.0 (nodes.members m.1) p put)
 
 some_octet : (ps : List Part) → 0 < length ps → TakesOctet (nodes.members ps)
 some_octet [] lt = absurd (omega arith)
@@ -279,7 +306,8 @@ pub struct_takes : (at : ℕ) (s : Scope) (o f : List ℕ) (m : MembersRead)
     → filled_at o ≡ Ok f → members_at at s f ≡ Ok m → TakesOctet (nodes.members m.1)
 struct_takes at s o f m fill e =
     let k = filled_takes o f fill in
-    let some : mark_if marks.CloseBrace f ≡ Ok None = subst (λ t. mark_if marks.CloseBrace t ≡ Ok None) k.0 k.1 in
+    let some : mark_if marks.CloseBrace f ≡ Ok None =
+    subst (λ t. mark_if marks.CloseBrace t ≡ Ok None) k.0 k.1 in
     some_octet m.1 ((members_takes at 257 [] [] s f m e).some some)
 
 -- a name that was new is still new
@@ -298,21 +326,25 @@ repository_by : (s : Scope) (text : List ℕ) (i x : List ℕ × List ℕ) (b : 
     → cond b (Err (refused kinds.Duplicate text)) (Ok (i.0, i.1)) ≡ Ok x → RepositoryTaken s text x
 repository_by s text i x true few q t e = absurd cc
 repository_by s text i x false few q t e =
-    subst (RepositoryTaken s text) (ok_is i x e) (record { short = few; new = none_of (exception_in s.table i.0) q; front = t })
+    subst (RepositoryTaken s text) (ok_is i x e)
+    (record { short = few; new = none_of (exception_in s.table i.0) q; front = t })
 
 pub new_repository_takes : (s : Scope) (text : List ℕ) (x : List ℕ × List ℕ)
     → new_repository_at s text ≡ Ok x → RepositoryTaken s text x
 unfolding new_repository_at
 new_repository_takes s text x e =
     let a = bind_ok _ _ x e in
-    repository_by s text a.0 x (is_some (exception_in s.table (a.0).0)) (repository_few text a.0 a.1) refl (repository_takes text a.0 a.1) a.2
+    repository_by s text a.0 x (is_some (exception_in s.table (a.0).0))
+    (repository_few text a.0 a.1) refl (repository_takes text a.0 a.1) a.2
 
 -- an id that was new is still new
 pub still_different : (s t : Scope) (r : List ℕ) → Grows s t → exception_in s.table r ≡ None
     → exception_in t.table r ≡ None
-still_different s t r g e = ap (λ es. exception_in (record s.table { exceptions = es }) r) g.exceptions ∙ e
+still_different s t r g e = ap (λ es. exception_in (record s.table { exceptions = es }) r)
+    g.exceptions ∙ e
 
 pub added_below : (at : ℕ) (s : Scope) (n : Node) (p : AddedType) → added at s n ≡ Ok p
     → p.1 < length (p.0).table.types
 added_below at s n p e =
-    subst (λ (q : AddedType). q.1 < length (q.0).table.types) (sym (added_is at s n p e)) (omega (arith, length-append s.table.types (n ∷ [])))
+    subst (λ (q : AddedType). q.1 < length (q.0).table.types) (sym (added_is at s n p e))
+    (omega (arith, length-append s.table.types (n ∷ [])))

@@ -81,7 +81,8 @@ plain_again m n most k is e = ap value_from (sym (within (leb k most) m n e)) �
 
 below_again : (n : Number) (most k : ℕ) → 0 < k
     → if_at_most most k (numbers.Signed (below k)) ≡ Some n → value_from n ≡ Below k
-below_again n most k lt e = ap value_from (sym (within (leb k most) (numbers.Signed (below k)) n e)) ∙ from_below k lt
+below_again n most k lt e = ap value_from (sym (within (leb k most) (numbers.Signed (below k)) n e))
+    ∙ from_below k lt
 
 prim_again : (p : Primitive) (v : Value) (n : Number) → IsAbove v
     → label_number (nodes.prim p) v ≡ Some n → value_from n ≡ v
@@ -92,7 +93,8 @@ prim_again prims.Char (Truth k) n above e = absurd cc
 prim_again prims.Char (Enumerator k) n above e = absurd cc
 prim_again prims.Boolean (Plain k) n above e = absurd cc
 prim_again prims.Boolean (Below k) n above e = absurd cc
-prim_again prims.Boolean (Truth k) n above e = let same : numbers.Truth k ≡ n = cc in ap value_from (sym same)
+prim_again prims.Boolean (Truth k) n above e = let same : numbers.Truth k ≡ n = cc in
+    ap value_from (sym same)
 prim_again prims.Boolean (Enumerator k) n above e = absurd cc
 prim_again prims.Short (Plain k) n above e = plain_again (numbers.Signed (pos k)) n 32767 k refl e
 prim_again prims.Short (Below k) n above e = below_again n 32768 k above e
@@ -102,7 +104,8 @@ prim_again prims.UShort (Plain k) n above e = plain_again (numbers.Unsigned k) n
 prim_again prims.UShort (Below k) n above e = absurd cc
 prim_again prims.UShort (Truth k) n above e = absurd cc
 prim_again prims.UShort (Enumerator k) n above e = absurd cc
-prim_again prims.Long (Plain k) n above e = plain_again (numbers.Signed (pos k)) n 2147483647 k refl e
+prim_again prims.Long (Plain k) n above e =
+    plain_again (numbers.Signed (pos k)) n 2147483647 k refl e
 prim_again prims.Long (Below k) n above e = below_again n 2147483648 k above e
 prim_again prims.Long (Truth k) n above e = absurd cc
 prim_again prims.Long (Enumerator k) n above e = absurd cc
@@ -110,11 +113,13 @@ prim_again prims.ULong (Plain k) n above e = plain_again (numbers.Unsigned k) n 
 prim_again prims.ULong (Below k) n above e = absurd cc
 prim_again prims.ULong (Truth k) n above e = absurd cc
 prim_again prims.ULong (Enumerator k) n above e = absurd cc
-prim_again prims.LongLong (Plain k) n above e = plain_again (numbers.Signed (pos k)) n 9223372036854775807 k refl e
+prim_again prims.LongLong (Plain k) n above e =
+    plain_again (numbers.Signed (pos k)) n 9223372036854775807 k refl e
 prim_again prims.LongLong (Below k) n above e = below_again n 9223372036854775808 k above e
 prim_again prims.LongLong (Truth k) n above e = absurd cc
 prim_again prims.LongLong (Enumerator k) n above e = absurd cc
-prim_again prims.ULongLong (Plain k) n above e = plain_again (numbers.Unsigned k) n 18446744073709551615 k refl e
+prim_again prims.ULongLong (Plain k) n above e =
+    plain_again (numbers.Unsigned k) n 18446744073709551615 k refl e
 prim_again prims.ULongLong (Below k) n above e = absurd cc
 prim_again prims.ULongLong (Truth k) n above e = absurd cc
 prim_again prims.ULongLong (Enumerator k) n above e = absurd cc
@@ -126,8 +131,12 @@ numbered_is : (names : List (List ℕ)) (w : List ℕ) (o : Option ℕ) (n : Num
     → (i : ℕ) × (n ≡ numbers.Unsigned i) × (w ≡ get_or names i [])
 numbered_is names w None n p e = absurd cc
 numbered_is names w (Some i) n p e =
-    let same : n ≡ numbers.Unsigned i = cc in
-    (i, same, (bytes_eq-Decides w (get_or names i [])).0 (position-Some (bytes_eq w) names i [] p).1)
+    let same : n ≡ numbers.Unsigned i = cc in (
+      i,
+      same,
+      (bytes_eq-Decides w (get_or names i [])).0
+          (position-Some (bytes_eq w) names i [] p).1,
+    )
 
 unsigned_same : (i j : ℕ) → numbers.Unsigned i ≡ numbers.Unsigned j → i ≡ j
 unsigned_same i j e = cc
@@ -142,8 +151,10 @@ enumerators_again names v w n e f =
 
 values_again : (node : Node) (v w : Value) (n : Number) → IsAbove v → IsAbove w
     → label_number node v ≡ Some n → label_number node w ≡ Some n → v ≡ w
-values_again (nodes.prim p) v w n above also e f = sym (prim_again p v n above e) ∙ prim_again p w n also f
-values_again (nodes.enumeration names) (Enumerator v) (Enumerator w) n above also e f = ap Enumerator (enumerators_again names v w n e f)
+values_again (nodes.prim p) v w n above also e f =
+    sym (prim_again p v n above e) ∙ prim_again p w n also f
+values_again (nodes.enumeration names) (Enumerator v) (Enumerator w) n above also e f =
+    ap Enumerator (enumerators_again names v w n e f)
 values_again (nodes.enumeration names) (Enumerator v) (Plain w) n above also e f = absurd cc
 values_again (nodes.enumeration names) (Enumerator v) (Below w) n above also e f = absurd cc
 values_again (nodes.enumeration names) (Enumerator v) (Truth w) n above also e f = absurd cc

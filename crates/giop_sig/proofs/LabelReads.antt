@@ -41,8 +41,11 @@ enumerator_by : (w text rest : List ℕ) (types : List Node) (more : List Token)
     → ltb 64 (length w) ≡ v → IsFree w → AreTokens rest more
     → Out {X = Value × List ℕ} (λ rest. (Enumerator w, rest)) (λ k. OfEnumerator k w) types more
     (cond v (Err (refused kinds.Limit text)) (Ok (Enumerator w, rest)))
-enumerator_by w text rest types more true e free m = broken (refused kinds.Limit text) (inl (λ short. let long = ltb-true 64 (length w) e in omega arith))
-enumerator_by w text rest types more false e free m = good rest m (enumerator_keeps w free (ltb-false 64 (length w) e))
+enumerator_by w text rest types more true e free m =
+    broken (refused kinds.Limit text) (inl
+    (λ short. let long = ltb-true 64 (length w) e in omega arith))
+enumerator_by w text rest types more false e free m =
+    good rest m (enumerator_keeps w free (ltb-false 64 (length w) e))
 
 not_true : (w : List ℕ) → IsFree w → bytes_eq w (codes "true") ≡ false
 unfolding is_reserved
@@ -61,7 +64,8 @@ value_reads (Below n) text types more free h = rw h.1 (good h.0 h.2 (λ k. tt))
 value_reads (Truth true) text types more free h = rw h.1 (good h.0 h.2 (λ k. tt))
 value_reads (Truth false) text types more free h = rw h.1 (good h.0 h.2 (λ k. tt))
 value_reads (Enumerator w) text types more free h =
-    rw (h.1, not_true w free, not_false w free, free) (enumerator_by w text h.0 types more (ltb 64 (length w)) refl free h.2)
+    rw (h.1, not_true w free, not_false w free, free)
+    (enumerator_by w text h.0 types more (ltb 64 (length w)) refl free h.2)
 
 fit_keeps : (node : Node) (v : Value) (n : Number) → label_number node v ≡ Some n
     → (k : Kind) → OfFit k node v
@@ -77,8 +81,10 @@ fit_by : (node : Node) (v : Value) (text rest : List ℕ) (types : List Node) (m
     → ((k : Kind) → OfValueName k v)
     → Out {X = LabelRead} (λ rest. (label_number node v, rest))
     (λ k. OfValueName k v × OfFit k node v) types more (fitting text rest o)
-fit_by node v text rest types more None e m keeps = broken (refused kinds.Label text) (λ k. no_fit (label_number node v) e k.1)
-fit_by node v text rest types more (Some n) e m keeps = rw e (good rest m (λ k. (keeps k, fit_keeps node v n e k)))
+fit_by node v text rest types more None e m keeps =
+    broken (refused kinds.Label text) (λ k. no_fit (label_number node v) e k.1)
+fit_by node v text rest types more (Some n) e m keeps =
+    rw e (good rest m (λ k. (keeps k, fit_keeps node v n e k)))
 
 number_reads : (node : Node) (v : Value) (text : List ℕ) (types : List Node) (more : List Token)
     → OfValueName kinds.Syntax v → AreTokens text (spell_value v more)
@@ -86,8 +92,10 @@ number_reads : (node : Node) (v : Value) (text : List ℕ) (types : List Node) (
     (number_of_value node text)
 unfolding number_of_value
 number_reads node v text types more free h =
-    out_bind (value_at text) (λ x. fitting text x.1 (label_number node x.0)) (value_reads v text types more free h)
-    (λ rest m keeps. fit_by node v text rest types more (label_number node v) refl m keeps) (λ k w. w.0) within_same
+    out_bind (value_at text) (λ x. fitting text x.1 (label_number node x.0))
+    (value_reads v text types more free h)
+    (λ rest m keeps. fit_by node v text rest types more (label_number node v) refl m keeps)
+    (λ k w. w.0) within_same
 
 -- ---- a label
 
@@ -107,11 +115,14 @@ fresh_by : (node : Node) (seen : List Label) (l : Label) (text rest : List ℕ) 
     (cond a (Err (refused kinds.Duplicate text))
     (cond b (Err (refused kinds.Limit text)) (Ok (mark_of node l)))
     >>= λ m. mark_at marks.Colon rest >>= λ r. Ok (m, r))
-fresh_by node seen l text rest types more true b p q m = broken (refused kinds.Duplicate text) (λ k. false≢true (sym k ∙ p))
+fresh_by node seen l text rest types more true b p q m =
+    broken (refused kinds.Duplicate text) (λ k. false≢true (sym k ∙ p))
 fresh_by node seen l text rest types more false true p q m =
-    broken (refused kinds.Limit text) (inl (λ k. let many = leb-true 1024 (length seen) q in omega arith))
+    broken (refused kinds.Limit text) (inl
+    (λ k. let many = leb-true 1024 (length seen) q in omega arith))
 fresh_by node seen l text rest types more false false p q m =
-    rw (mark_again marks.Colon rest more m) (good m.0 m.2 (new_keeps seen l (leb-false 1024 (length seen) q) p))
+    rw (mark_again marks.Colon rest more m)
+    (good m.0 m.2 (new_keeps seen l (leb-false 1024 (length seen) q) p))
 
 fresh_reads : (node : Node) (seen : List Label) (l : Label) (text rest : List ℕ) (types : List Node)
     (more : List Token) → IsKept node l → AllByRecursion (IsKept node) seen
@@ -122,7 +133,8 @@ fresh_reads : (node : Node) (seen : List Label) (l : Label) (text rest : List �
 unfolding unseen_label
 fresh_reads node seen l text rest types more kept all m =
     rw (any_marks node l seen kept all, length-map seen (mark_of node))
-    (fresh_by node seen l text rest types more (list_any (same_label l) seen) (leb 1024 (length seen)) refl refl m)
+    (fresh_by node seen l text rest types more (list_any (same_label l) seen)
+    (leb 1024 (length seen)) refl refl m)
 
 -- the word of the default isn't that of a value
 not_case : (text : List ℕ) (ts : List Token) → AreTokens text (word (codes "default") ∷ ts)
@@ -131,7 +143,8 @@ not_case text ts h = if_other (is_the_word (codes "case")) text (word (codes "de
 
 not_default : (text : List ℕ) (ts : List Token) → AreTokens text (word (codes "case") ∷ ts)
     → keyword_if (codes "default") text ≡ Ok None
-not_default text ts h = if_other (is_the_word (codes "default")) text (word (codes "case")) ts h refl
+not_default text ts h = if_other (is_the_word (codes "default")) text (word (codes "case")) ts h
+    refl
 
 -- a value below zero that a text spells isn't 0
 value_above : (v : Value) (text : List ℕ) (more : List Token)
@@ -160,16 +173,22 @@ label_reads : (node : Node) (seen : List Label) (l : Label) (text : List ℕ) (t
     (label_at node (marks_of node seen) text)
 unfolding label_at
 label_reads node seen Default text types more all free h =
-    rw (not_case text (mark marks.Colon ∷ more) h, keyword_again (codes "default") text (mark marks.Colon ∷ more) h)
-    (out_more (fresh_reads node seen Default text h.0 types more tt all h.2) (λ k w. (tt, w)) (λ k w. w.1))
+    rw (
+      not_case text (mark marks.Colon ∷ more) h,
+      keyword_again (codes "default") text (mark marks.Colon ∷ more) h,
+    )
+    (out_more (fresh_reads node seen Default text h.0 types more tt all h.2) (λ k w. (tt, w))
+    (λ k w. w.1))
 label_reads node seen (Of v) text types more all free h =
     let tail = mark marks.Colon ∷ more in
     rw (keyword_if_again (codes "case") text (spell_value v tail) h)
-    (out_bind (number_of_value node h.0) (λ x. unseen_label (marks_of node seen) x.0 h.0 >>= λ m. mark_at marks.Colon x.1 >>= λ r. Ok (m, r))
+    (out_bind (number_of_value node h.0) (λ x. unseen_label (marks_of node seen) x.0 h.0 >>= λ m.
+    mark_at marks.Colon x.1 >>= λ r. Ok (m, r))
     (number_reads node v h.0 types tail free.0.0 h.2)
     (λ rest m keeps.
     let fit = (keeps kinds.Label).1 in
-    out_more (fresh_reads node seen (Of v) h.0 rest types more (fit.0, fit.1, value_above v h.0 tail h.2) all m) (λ k w. (keeps k, w)) (λ k w. w.1))
+    out_more (fresh_reads node seen (Of v) h.0 rest types more
+    (fit.0, fit.1, value_above v h.0 tail h.2) all m) (λ k w. (keeps k, w)) (λ k w. w.1))
     (λ k w. w.0) within_same)
 
 -- ---- where labels end
@@ -178,12 +197,16 @@ no_label : (text w : List ℕ) (ts : List Token) → bytes_eq w (codes "case") �
     → bytes_eq w (codes "default") ≡ false → AreTokens text (word w ∷ ts)
     → begins_label text ≡ Ok false
 unfolding begins_label
-no_label text w ts a b h = rw (if_other (is_the_word (codes "case")) text (word w) ts h a, if_other (is_the_word (codes "default")) text (word w) ts h b) refl
+no_label text w ts a b h = rw (
+  if_other (is_the_word (codes "case")) text (word w) ts h a,
+  if_other (is_the_word (codes "default")) text (word w) ts h b,
+) refl
 
 not_label : (text w : List ℕ) (ts : List Token) → IsFree w → AreTokens text (word w ∷ ts)
     → begins_label text ≡ Ok false
 unfolding is_reserved
-not_label text w ts free h = no_label text w ts (is_not w (codes "case") free refl) (is_not w (codes "default") free refl) h
+not_label text w ts free h = no_label text w ts (is_not w (codes "case") free refl)
+    (is_not w (codes "default") free refl) h
 
 no_base : (p : Primitive) (text : List ℕ) (ts : List Token)
     → AreTokens text (word (base_word p) ∷ ts) → begins_label text ≡ Ok false
@@ -205,21 +228,30 @@ pub type_no_label : (e : TypeExpr) (names : Names) (text : List ℕ) (more : Lis
     → begins_label text ≡ Ok false
 unfolding OfType
 type_no_label (Base p) names text more free h = no_base p text more h
-type_no_label (Text o) names text more free h = no_label text (codes "string") (spell_bound o more) refl refl h
+type_no_label (Text o) names text more free h =
+    no_label text (codes "string") (spell_bound o more) refl refl h
 type_no_label Reference names text more free h = no_label text (codes "Object") more refl refl h
 type_no_label (Named w) names text more free h = not_label text w more free h
 type_no_label (SequenceOf e o) names text more free h =
-    no_label text (codes "sequence") (mark marks.OpenAngle ∷ spell_type e (spell_most o (mark marks.CloseAngle ∷ more))) refl refl h
+    no_label text (codes "sequence") (mark marks.OpenAngle ∷ spell_type e
+    (spell_most o (mark marks.CloseAngle ∷ more))) refl refl h
 type_no_label (EncapsulationOf e) names text more free h =
-    no_label text (codes "encapsulation") (mark marks.OpenAngle ∷ spell_type e (mark marks.CloseAngle ∷ more)) refl refl h
+    no_label text (codes "encapsulation") (mark marks.OpenAngle ∷ spell_type e
+    (mark marks.CloseAngle ∷ more)) refl refl h
 
 -- a label does
 label_begins : (l : Label) (text : List ℕ) (more : List Token) → AreTokens text (spell_label l more)
     → begins_label text ≡ Ok true
 unfolding begins_label
-label_begins Default text more h = rw (not_case text (mark marks.Colon ∷ more) h, keyword_if_again (codes "default") text (mark marks.Colon ∷ more) h) refl
+label_begins Default text more h = rw (
+  not_case text (mark marks.Colon ∷ more) h,
+  keyword_if_again (codes "default") text (mark marks.Colon ∷ more) h,
+) refl
 label_begins (Of v) text more h =
-    rw (keyword_if_again (codes "case") text (spell_value v (mark marks.Colon ∷ more)) h, not_default text (spell_value v (mark marks.Colon ∷ more)) h) refl
+    rw (
+      keyword_if_again (codes "case") text (spell_value v (mark marks.Colon ∷ more)) h,
+      not_default text (spell_value v (mark marks.Colon ∷ more)) h,
+    ) refl
 
 -- ---- the labels of a case
 
@@ -245,8 +277,10 @@ with_one : (node : Node) (seen : List Label) (own : List Number) (default : Bool
     (text rest : List ℕ) (l : Label) → IsKept node l
     → with_label (marks_of node seen, own, default, text) (mark_of node l, rest)
     ≡ labelled node seen own default (l ∷ []) rest
-with_one node seen own default text rest Default kept = rw (map-append (mark_of node) seen (Default ∷ []), append-nil own, or_true default) refl
-with_one node seen own default text rest (Of v) kept = rw (map-append (mark_of node) seen (Of v ∷ []), kept.1, or_false default) refl
+with_one node seen own default text rest Default kept =
+    rw (map-append (mark_of node) seen (Default ∷ []), append-nil own, or_true default) refl
+with_one node seen own default text rest (Of v) kept =
+    rw (map-append (mark_of node) seen (Of v ∷ []), kept.1, or_false default) refl
 
 numbers_cons : (node : Node) (l : Label) (ls : List Label) → IsKept node l
     → label_numbers node (l ∷ []) ++ label_numbers node ls ≡ label_numbers node (l ∷ ls)
@@ -274,7 +308,8 @@ labelled_on node seen own default l ls rest kept =
 labelled_end : (node : Node) (seen : List Label) (own : List Number) (default : Bool)
     (rest : List ℕ) → (marks_of node seen, own, default, rest)
     ≡ labelled node seen own default [] rest
-labelled_end node seen own default rest = rw (append-nil seen, append-nil own, or_false default) refl
+labelled_end node seen own default rest =
+    rw (append-nil seen, append-nil own, or_false default) refl
 
 step_on : (node : Node) (seen : List Label) (own : List Number) (default : Bool) (l : Label)
     (text : List ℕ) (types : List Node) (more : List Token) → AllByRecursion (IsKept node) seen
@@ -285,11 +320,13 @@ step_on : (node : Node) (seen : List Label) (own : List Number) (default : Bool)
 unfolding labels_step
 step_on node seen own default l text types more all free h =
     rw (label_begins l text more h)
-    (out_bind (label_at node (marks_of node seen) text) (λ x. Ok (false, with_label (marks_of node seen, own, default, text) x))
+    (out_bind (label_at node (marks_of node seen) text)
+    (λ x. Ok (false, with_label (marks_of node seen, own, default, text) x))
     (label_reads node seen l text types more all free h)
     (λ rest m keeps.
     let kept = label_kept node l (label_above l text more h) (keeps kinds.Label).0 in
-    subst (λ (y : LabelsRead). Out {X = Bool × LabelsRead} (λ rest. (false, labelled node seen own default (l ∷ []) rest)) (λ k. OfLabel k node seen l)
+    subst (λ (y : LabelsRead). Out {X = Bool × LabelsRead}
+    (λ rest. (false, labelled node seen own default (l ∷ []) rest)) (λ k. OfLabel k node seen l)
     types more (Ok (false, y)))
     (sym (with_one node seen own default text rest l kept)) (good rest m keeps))
     (λ k w. w) within_same)
@@ -315,22 +352,30 @@ labels_run : (ls : List Label) (left : ℕ) (node : Node) (seen : List Label) (o
     → Out (labelled node seen own default ls) (λ k. OfLabels k node seen ls) types more
     (in_steps (labels_step node) too_many_labels left (marks_of node seen, own, default, text))
 unfolding in_steps OfLabels
-labels_run [] zero node seen own default text types more ended all few room free h = absurd (omega arith)
-labels_run (l ∷ ls) zero node seen own default text types more ended all few room free h = absurd (omega arith)
+labels_run [] zero node seen own default text types more ended all few room free h =
+    absurd (omega arith)
+labels_run (l ∷ ls) zero node seen own default text types more ended all few room free h =
+    absurd (omega arith)
 labels_run [] (suc left) node seen own default text types more ended all few room free h =
     rw (step_end node (marks_of node seen, own, default, text) (ended text h))
-    (subst (λ (y : LabelsRead). Out {X = LabelsRead} (labelled node seen own default []) (λ k. Unit {0}) types more (Ok y))
+    (subst (λ (y : LabelsRead). Out {X = LabelsRead} (labelled node seen own default [])
+    (λ k. Unit {0}) types more (Ok y))
     (sym (labelled_end node seen own default text)) (good text h (λ k. tt)))
 labels_run (l ∷ ls) (suc left) node seen own default text types more ended all few room free h =
     out_bind (labels_step node (marks_of node seen, own, default, text)) (then_labels node left)
     (step_on node seen own default l text types (spell_labels ls more) all free.0 h)
     (λ rest m keeps.
-    let kept = label_kept node l (label_above l text (spell_labels ls more) h) (keeps kinds.Label).0 in
+    let kept = label_kept node l (label_above l text (spell_labels ls more) h) (keeps kinds.Label).0
+    in
     let below = (keeps kinds.Limit).1 in
-    out_as (in_steps (labels_step node) too_many_labels left (labelled node seen own default (l ∷ []) rest))
-    (labels_run ls left node (seen ++ l ∷ []) (own ++ label_numbers node (l ∷ [])) (default || has_default (l ∷ [])) rest types more ended
-    (all_push (IsKept node) seen l all kept) (omega (arith, length-append seen (l ∷ []))) (omega (arith, length-append seen (l ∷ []))) free.1 m)
-    (λ after. labelled_on node seen own default l ls after kept) (λ k w. (keeps k, w)) (λ k w. w.1) within_same)
+    out_as (in_steps (labels_step node) too_many_labels left
+    (labelled node seen own default (l ∷ []) rest))
+    (labels_run ls left node (seen ++ l ∷ []) (own ++ label_numbers node (l ∷ []))
+    (default || has_default (l ∷ [])) rest types more ended
+    (all_push (IsKept node) seen l all kept) (omega (arith, length-append seen (l ∷ [])))
+    (omega (arith, length-append seen (l ∷ []))) free.1 m)
+    (λ after. labelled_on node seen own default l ls after kept) (λ k w. (keeps k, w)) (λ k w. w.1)
+    within_same)
     (λ k w. w.0) within_same
 
 pub labels_reads : (node : Node) (seen : List Label) (l : Label) (ls : List Label) (text : List ℕ)
@@ -342,4 +387,6 @@ pub labels_reads : (node : Node) (seen : List Label) (l : Label) (ls : List Labe
     (labels_at node (marks_of node seen) text)
 unfolding labels_at
 labels_reads node seen l ls text types more ended all few free h =
-    rw (label_begins l text (spell_labels ls more) h) (labels_run (l ∷ ls) 1025 node seen [] false text types more ended all few (omega arith) free h)
+    rw (label_begins l text (spell_labels ls more) h)
+    (labels_run (l ∷ ls) 1025 node seen [] false text types more ended all few (omega arith)
+    free h)

@@ -23,15 +23,18 @@ pub entry_cut : (line : List ℕ) (e : Entry) → IsEntry e → line ≡ line_of
     → Cut is_space line (decimal e.id) 32 e.name
 entry_cut line e h parts =
     cut_made is_space line (decimal e.id) 32 e.name parts
-    (digits_no_space (decimal e.id) (is_written (decimal e.id) e.id (omega (arith, h.id)) refl).digits) refl
+    (digits_no_space (decimal e.id) (is_written (decimal e.id) e.id (omega (arith, h.id))
+    refl).digits) refl
 
 pub no_entry : (line : List ℕ) → NonePass is_space line → IsEntryLine line → ⊥
-no_entry line none h = let e = none_cut is_space (decimal h.0.id) 32 h.0.name (subst (λ (xs : List ℕ). NonePass is_space xs) h.2 none) in absurd cc
+no_entry line none h = let e = none_cut is_space (decimal h.0.id) 32 h.0.name
+    (subst (λ (xs : List ℕ). NonePass is_space xs) h.2 none) in absurd cc
 
 -- what stands before and after the first space of an entry's line
 pub entry_parts : (line : List ℕ) (k : ℕ) → CutAt is_space line k → (h : IsEntryLine line)
     → (take k line ≡ decimal h.0.id) × (drop (k + 1) line ≡ h.0.name)
-entry_parts line k c h = cut_is is_space line (decimal h.0.id) 32 h.0.name k (entry_cut line h.0 h.1 h.2) c
+entry_parts line k c h = cut_is is_space line (decimal h.0.id) 32 h.0.name k
+    (entry_cut line h.0 h.1 h.2) c
 
 pub no_number : (line : List ℕ) (k : ℕ) → CutAt is_space line k
     → ((n : ℕ) → n < 2 ^ 32 → take k line ≡ decimal n → ⊥) → IsEntryLine line → ⊥

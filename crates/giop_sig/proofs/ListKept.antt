@@ -78,7 +78,8 @@ joined_apart : (find : List ℕ → Option OpId) → FindsOne find → (m n : Li
 joined_apart find one m n ne None None p q = refl
 joined_apart find one m n ne None (Some b) p q = refl
 joined_apart find one m n ne (Some a) None p q = refl
-joined_apart find one m n ne (Some a) (Some b) p q = apart_by (eqb a.0 b.0) find one m n a b p q ne refl
+joined_apart find one m n ne (Some a) (Some b) p q =
+    apart_by (eqb a.0 b.0) find one m n a b p q ne refl
 
 joined_same : (x : Option OpId) → x ≡ joined (Some x) x
 joined_same None = refl
@@ -92,16 +93,19 @@ joined_by : (find : List ℕ → Option OpId) → FindsOne find
     → (all : Bool) (m n : List ℕ) (v : Bool) → bytes_eq m n ≡ v
     → option_and_then find (cond (all && (bytes_eq m n && true)) (Some m) None)
     ≡ joined (Some (option_and_then find (cond all (Some m) None))) (find n)
-joined_by find one true m n true e = rw e (joined_same (find m) ∙ ap (λ k. joined (Some (find m)) (find k)) ((bytes_eq-Decides m n).0 e))
+joined_by find one true m n true e = rw e
+    (joined_same (find m) ∙ ap (λ k. joined (Some (find m)) (find k)) ((bytes_eq-Decides m n).0 e))
 joined_by find one true m n false e =
-    rw e (joined_apart find one m n (λ same. absurd (false≢true (sym e ∙ (bytes_eq-Decides m n).1 same))) (find m) (find n) refl refl)
+    rw e (joined_apart find one m n (λ same.
+    absurd (false≢true (sym e ∙ (bytes_eq-Decides m n).1 same))) (find m) (find n) refl refl)
 joined_by find one false m n v e = joined_none (find n)
 
 pub joined_more : (find : List ℕ → Option OpId) → FindsOne find → (ns : List (List ℕ)) (n : List ℕ)
     → kept_by find (ns ++ n ∷ []) ≡ Some (joined (kept_by find ns) (find n))
 joined_more find one [] n = refl
 joined_more find one (m ∷ ms) n =
-    ap (λ b. Some (option_and_then find (cond b (Some m) None))) (list_all-append (bytes_eq m) ms (n ∷ []))
+    ap (λ b. Some (option_and_then find (cond b (Some m) None)))
+    (list_all-append (bytes_eq m) ms (n ∷ []))
     ∙ ap Some (joined_by find one (list_all (bytes_eq m) ms) m n (bytes_eq m n) refl)
 
 kept_more_by : (find : List ℕ → Option OpId) → FindsOne find
@@ -113,14 +117,16 @@ kept_more_by find one es e q true h =
     let same : e.id ≡ q = eqb-true e.id q h in
     rw (h, eq-eqb q e.id (sym same)) (joined_more find one (names_of es q) e.name
     ∙ ap (λ k. Some (joined (kept_by find (names_of es k)) (find e.name))) (sym same))
-kept_more_by find one es e q false h = rw (h, ne_eqb q e.id (λ same. eqb-false e.id q h (sym same))) (ap (kept_by find) (append-nil (names_of es q)))
+kept_more_by find one es e q false h = rw (h, ne_eqb q e.id (λ same. eqb-false e.id q h (sym same)))
+    (ap (kept_by find) (append-nil (names_of es q)))
 
 pub kept_more : (find : List ℕ → Option OpId) → FindsOne find
     → (es : List Entry) (e : Entry) (q : ℕ)
     → kept_by find (names_of (es ++ e ∷ []) q)
     ≡ cond (eqb e.id q) (Some (joined (kept_by find (names_of es e.id)) (find e.name)))
     (kept_by find (names_of es q))
-kept_more find one es e q = ap (kept_by find) (names_more es e q) ∙ kept_more_by find one es e q (eqb e.id q) refl
+kept_more find one es e q = ap (kept_by find) (names_more es e q)
+    ∙ kept_more_by find one es e q (eqb e.id q) refl
 
 pub flat_kept : (find : List ℕ → Option OpId) (ns : List (List ℕ))
     → flat (kept_by find ns) ≡ option_and_then find (the_one ns)
@@ -145,10 +151,13 @@ pub is_of : (find : List ℕ → Option ℕ) (es : List Entry) (kept : List (ℕ
     → ((q : ℕ) → lookup (nat_eq q) kept
     ≡ kept_by (finding find) (names_of es q)) → IsOf find es kept
 is_of find es kept distinct h = record {
-  operation = λ q. ap (λ o. option_map (λ (x : OpId). x.0) (flat o)) (h q) ∙ ap (option_map (λ (x : OpId). x.0)) (flat_kept (finding find) (names_of es q))
+  operation = λ q. ap (λ o. option_map (λ (x : OpId). x.0) (flat o)) (h q)
+      ∙ ap (option_map (λ (x : OpId). x.0)) (flat_kept (finding find) (names_of es q))
       ∙ numbers_of find (the_one (names_of es q));
-  count = sym (length-map kept (λ e. e.0)) ∙ length-from_keys nat_eq_equiv (keys_of kept) (map (λ e. e.id) es) distinct
-      (λ q. sym (is_some-lookup (nat_eq q) kept) ∙ ap is_some (h q) ∙ some_kept (finding find) es q);
+  count = sym (length-map kept (λ e. e.0))
+      ∙ length-from_keys nat_eq_equiv (keys_of kept) (map (λ e. e.id) es) distinct
+      (λ q. sym (is_some-lookup (nat_eq q) kept) ∙ ap is_some (h q)
+      ∙ some_kept (finding find) es q);
 }
 
 -- the map of the entries so far, after one more
@@ -160,5 +169,6 @@ pub kept_step : (find : List ℕ → Option ℕ) → IsOneToOne find
     → (q : ℕ) → lookup (nat_eq q) new ≡ kept_by (finding find) (names_of (es ++ e ∷ []) q)
 kept_step find one es e old new w is before after q =
     after q ∙ ap (λ x. cond (eqb e.id q) (Some w) x) (before q)
-    ∙ ap (λ x. cond (eqb e.id q) (Some x) (kept_by (finding find) (names_of es q))) (is ∙ ap (λ k. joined k (finding find e.name)) (before e.id))
+    ∙ ap (λ x. cond (eqb e.id q) (Some x) (kept_by (finding find) (names_of es q)))
+    (is ∙ ap (λ k. joined k (finding find e.name)) (before e.id))
     ∙ sym (kept_more (finding find) (finds_one find one) es e q)

@@ -21,7 +21,8 @@ module _ {X : Type 0} (p : X → Bool) where
     pub place : position_or_len p xs ≡ length front
 
   abbrev pub Cuts : List X → Type 0
-  Cuts xs = (NonePass xs × (position_or_len p xs ≡ length xs)) ⊎ ((front : List X) × (y : X) × (back : List X) × Cut xs front y back)
+  Cuts xs = (NonePass xs × (position_or_len p xs ≡ length xs))
+      ⊎ ((front : List X) × (y : X) × (back : List X) × Cut xs front y back)
 
   cuts_on : (x : X) (xs : List X) → p x ≡ false → Cuts xs → Cuts (x ∷ xs)
   cuts_on x xs e (inl h) = inl ((e, h.0), rw e (omega (arith, h.1)))
@@ -29,25 +30,40 @@ module _ {X : Type 0} (p : X → Bool) where
     x ∷ h.0,
     h.1,
     h.2,
-    record { parts = ap (λ (ys : List X). x ∷ ys) h.3.parts; none = (e, h.3.none); passes = h.3.passes; place = rw e (omega (arith, h.3.place)) },
+    record {
+      parts = ap (λ (ys : List X). x ∷ ys) h.3.parts;
+      none = (e, h.3.none);
+      passes =
+          h.3.passes;
+      place = rw e (omega (arith, h.3.place));
+    },
   )
 
   cuts_cons : (x : X) (xs : List X) (v : Bool) → p x ≡ v → Cuts xs → Cuts (x ∷ xs)
-  cuts_cons x xs true e h = inr ([], x, xs, record { parts = refl; none = tt; passes = e; place = rw e refl })
+  cuts_cons x xs true e h = inr (
+    [],
+    x,
+    xs,
+    record { parts = refl; none = tt; passes = e; place = rw e refl },
+  )
   cuts_cons x xs false e h = cuts_on x xs e h
 
   pub cuts : (xs : List X) → Cuts xs
   cuts [] = inl (tt, refl)
   cuts (x ∷ xs) = cuts_cons x xs (p x) refl (cuts xs)
 
-  place_on : (x : X) (xs : List X) (n : ℕ) → p x ≡ false → position_or_len p xs ≡ n → position_or_len p (x ∷ xs) ≡ suc n
+  place_on : (x : X) (xs : List X) (n : ℕ) → p x ≡ false → position_or_len p xs ≡ n →
+      position_or_len p (x ∷ xs) ≡ suc n
   place_on x xs n e h = rw e (omega (arith, h))
 
-  place_made : (front : List X) (y : X) (back : List X) → NonePass front → p y ≡ true → position_or_len p (front ++ y ∷ back) ≡ length front
+  place_made : (front : List X) (y : X) (back : List X) → NonePass front → p y ≡ true →
+      position_or_len p (front ++ y ∷ back) ≡ length front
   place_made [] y back none e = rw e refl
-  place_made (x ∷ front) y back none e = place_on x (front ++ y ∷ back) (length front) none.0 (place_made front y back none.1 e)
+  place_made (x ∷ front) y back none e = place_on x (front ++ y ∷ back) (length front) none.0
+      (place_made front y back none.1 e)
 
-  pub cut_made : (xs front : List X) (y : X) (back : List X) → xs ≡ front ++ y ∷ back → NonePass front → p y ≡ true → Cut xs front y back
+  pub cut_made : (xs front : List X) (y : X) (back : List X) → xs ≡ front ++ y ∷ back →
+      NonePass front → p y ≡ true → Cut xs front y back
   cut_made xs front y back parts none e = record {
     parts = parts;
     none = none;
@@ -55,7 +71,8 @@ module _ {X : Type 0} (p : X → Bool) where
     place = ap (position_or_len p) parts ∙ place_made front y back none e;
   }
 
-  pub none_cut : (front : List X) (y : X) (back : List X) → NonePass (front ++ y ∷ back) → p y ≡ false
+  pub none_cut : (front : List X) (y : X) (back : List X) → NonePass (front ++ y ∷ back) →
+      p y ≡ false
   none_cut [] y back none = none.0
   none_cut (x ∷ front) y back none = none_cut front y back none.1
 
@@ -67,38 +84,61 @@ module _ {X : Type 0} (p : X → Bool) where
     pub passes : p first ≡ true
     pub inside : k < length xs
 
-  inside_of : (xs front : List X) (y : X) (back : List X) → Cut xs front y back → length front < length xs
+  inside_of : (xs front : List X) (y : X) (back : List X) → Cut xs front y back →
+      length front < length xs
   inside_of xs front y back c = omega (arith, ap length c.parts, length-append front (y ∷ back))
 
-  cut_at : (xs front : List X) (y : X) (back : List X) → Cut xs front y back → CutAt xs (length front)
+  cut_at : (xs front : List X) (y : X) (back : List X) → Cut xs front y back →
+      CutAt xs (length front)
   cut_at xs front y back c =
-      let t : take (length front) xs ≡ front = ap (take (length front)) c.parts ∙ take_at front (y ∷ back) (length front) refl in
-      let d : drop (length front + 1) xs ≡ back = ap (drop (length front + 1)) (c.parts ∙ sym (append_assoc front (y ∷ []) back))
+      let t : take (length front) xs ≡ front =
+      ap (take (length front)) c.parts ∙ take_at front (y ∷ back) (length front) refl in
+      let d : drop (length front + 1) xs ≡ back =
+      ap (drop (length front + 1)) (c.parts ∙ sym (append_assoc front (y ∷ []) back))
       ∙ drop_at (front ++ y ∷ []) back (length front + 1) (length-append front (y ∷ [])) in
-      record { first = y; parts = rw (t, d) c.parts; none = rw t c.none; passes = c.passes; inside = inside_of xs front y back c }
+      record {
+        first = y;
+        parts = rw (t, d) c.parts;
+        none = rw t c.none;
+        passes = c.passes;
+        inside =
+            inside_of xs front y back c;
+      }
 
   -- a list is cut in one way
-  pub cut_is : (xs front : List X) (y : X) (back : List X) (k : ℕ) → Cut xs front y back → CutAt xs k → (take k xs ≡ front) × (drop (k + 1) xs ≡ back)
+  pub cut_is : (xs front : List X) (y : X) (back : List X) (k : ℕ) → Cut xs front y back →
+      CutAt xs k → (take k xs ≡ front) × (drop (k + 1) xs ≡ back)
   cut_is xs front y back k c d =
       let len : length (take k xs) ≡ k = omega (arith, length-take k xs, d.inside) in
-      let e : position_or_len p xs ≡ k = ap (position_or_len p) d.parts ∙ place_made (take k xs) d.first (drop (k + 1) xs) d.none d.passes ∙ len in
+      let e : position_or_len p xs ≡ k = ap (position_or_len p) d.parts
+      ∙ place_made (take k xs) d.first (drop (k + 1) xs) d.none d.passes ∙ len in
       let l : length front ≡ k = sym c.place ∙ e in
       let t : take k xs ≡ front = ap (take k) c.parts ∙ take_at front (y ∷ back) k l in
-      let r : drop (k + 1) xs ≡ back = ap (drop (k + 1)) (c.parts ∙ sym (append_assoc front (y ∷ []) back))
-      ∙ drop_at (front ++ y ∷ []) back (k + 1) (length-append front (y ∷ []) ∙ ap (λ (n : ℕ). n + 1) l) in
+      let r : drop (k + 1) xs ≡ back = ap (drop (k + 1))
+      (c.parts ∙ sym (append_assoc front (y ∷ []) back))
+      ∙ drop_at (front ++ y ∷ []) back (k + 1)
+      (length-append front (y ∷ []) ∙ ap (λ (n : ℕ). n + 1) l) in
       (t, r)
 
-  pub cut_same : (xs f : List X) (y : X) (b g : List X) (z : X) (e : List X) → Cut xs f y b → Cut xs g z e → (f ≡ g) × (b ≡ e)
+  pub cut_same : (xs f : List X) (y : X) (b g : List X) (z : X) (e : List X) → Cut xs f y b →
+      Cut xs g z e → (f ≡ g) × (b ≡ e)
   cut_same xs f y b g z e c d =
       let at = cut_is xs g z e (length f) d (cut_at xs f y b c) in
       let own = cut_is xs f y b (length f) c (cut_at xs f y b c) in
       (sym own.0 ∙ at.0, sym own.1 ∙ at.1)
 
-  found_by : (xs : List X) → Cuts xs → MatchOption (cond (ltb (position_or_len p xs) (length xs)) (Some (position_or_len p xs)) None) (NonePass xs) (CutAt xs)
+  found_by : (xs : List X) → Cuts xs → MatchOption
+      (cond (ltb (position_or_len p xs) (length xs)) (Some (position_or_len p xs)) None)
+      (NonePass xs) (CutAt xs)
   found_by xs (inl h) = rw (h.1, le-ltb (length xs) (length xs) (omega arith)) h.0
-  found_by xs (inr h) = rw (h.3.place, lt-ltb (length h.0) (length xs) (inside_of xs h.0 h.1 h.2 h.3)) (cut_at xs h.0 h.1 h.2 h.3)
+  found_by xs (inr h) = rw (
+    h.3.place,
+    lt-ltb (length h.0) (length xs)
+        (inside_of xs h.0 h.1 h.2 h.3),
+  ) (cut_at xs h.0 h.1 h.2 h.3)
 
-  pub found : (xs : List X) (r : Option ℕ) → r ≡ cond (ltb (position_or_len p xs) (length xs)) (Some (position_or_len p xs)) None
+  pub found : (xs : List X) (r : Option ℕ) →
+      r ≡ cond (ltb (position_or_len p xs) (length xs)) (Some (position_or_len p xs)) None
       → MatchOption r (NonePass xs) (CutAt xs)
   found xs r e = rw e (found_by xs (cuts xs))
 
@@ -114,7 +154,8 @@ on_line b bs ls e h = rw (e, h) refl
 pub lines_cut : (front : List ℕ) (y : ℕ) (back : List ℕ) → NonePass is_lf front → is_lf y ≡ true
     → lines (front ++ y ∷ back) ≡ front ∷ lines back
 lines_cut [] y back none e = rw e refl
-lines_cut (b ∷ front) y back none e = on_line b (front ++ y ∷ back) (front ∷ lines back) none.0 (lines_cut front y back none.1 e)
+lines_cut (b ∷ front) y back none e = on_line b (front ++ y ∷ back) (front ∷ lines back) none.0
+    (lines_cut front y back none.1 e)
 
 pub lines_only : (b : ℕ) (bs : List ℕ) → NonePass is_lf (b ∷ bs) → lines (b ∷ bs) ≡ (b ∷ bs) ∷ []
 lines_only b [] none = on_line b [] [] none.0 refl

@@ -1,4 +1,5 @@
--- What is stored of a request list is a function of its entries: ids in the order of their first entries.
+-- What is stored of a request list is a function of its entries: ids in the order of their first
+-- entries.
 use Rattle.std.proofs.Common.{◌≡◌, ℕ, Bool, true, false, cond, not, ◌||◌, eqb, nat_eq, List, [], ◌∷◌, ◌++◌, map, filter, Option, Some, None, refl, sym, ap, ◌∙◌, subst}
 use Rattle.std.specs.Prelude.{option_and_then}
 use Rattle.std.specs.List.{list_any, IsDistinct, AllByRecursion}
@@ -29,7 +30,8 @@ any_other x k (y ∷ ids) apart = by (eqb y k) refl (any_other x k ids apart)
   where
     by : (v : Bool) → eqb y k ≡ v
         → list_any (nat_eq x) (filter (is_other k) ids) ≡ list_any (nat_eq x) ids
-        → list_any (nat_eq x) (cond (not (eqb y k)) (y ∷ filter (is_other k) ids) (filter (is_other k) ids))
+        → list_any (nat_eq x) (cond (not (eqb y k)) (y ∷ filter (is_other k) ids)
+        (filter (is_other k) ids))
         ≡ (eqb x y || list_any (nat_eq x) ids)
     by true e rest =
         let same : y ≡ k = eqb-true y k e in
@@ -44,9 +46,17 @@ with_other x k ids = by (eqb x k) refl (list_any (nat_eq x) ids) refl
         → k ∷ filter (is_other k) (with_id ids x) ≡ with_id (k ∷ filter (is_other k) ids) x
     by true e true m = rw (e, m) refl
     by true e false m =
-        rw (m, e, filter-append (is_other k) ids (x ∷ []), e) (ap (λ xs. k ∷ xs) (append-nil (filter (is_other k) ids)))
+        rw (m, e, filter-append (is_other k) ids (x ∷ []), e)
+        (ap (λ xs. k ∷ xs) (append-nil (filter (is_other k) ids)))
     by false e true m = rw (m, e, any_other x k ids e, m) refl
-    by false e false m = rw (m, e, any_other x k ids e, m, filter-append (is_other k) ids (x ∷ []), e) refl
+    by false e false m = rw (
+      m,
+      e,
+      any_other x k ids e,
+      m,
+      filter-append (is_other k) ids (x ∷ []),
+      e,
+    ) refl
 
 pub ids_more : (es : List Entry) (e : Entry) → ids_of (es ++ e ∷ []) ≡ with_id (ids_of es) e.id
 ids_more [] e = refl
@@ -58,23 +68,28 @@ ids_more (f ∷ es) e =
 keys_insert : (es : List (ℕ × Option OpId)) (k : ℕ) (v : Option OpId)
     → keys_of (insert_entry nat_eq es k v) ≡ with_id (keys_of es) k
 keys_insert [] k v = refl
-keys_insert (e ∷ es) k v = by (eqb k e.0) refl (list_any (nat_eq k) (keys_of es)) refl (keys_insert es k v)
+keys_insert (e ∷ es) k v = by (eqb k e.0) refl (list_any (nat_eq k) (keys_of es)) refl
+    (keys_insert es k v)
   where
     by : (x : Bool) → eqb k e.0 ≡ x → (y : Bool) → list_any (nat_eq k) (keys_of es) ≡ y
         → keys_of (insert_entry nat_eq es k v) ≡ with_id (keys_of es) k
         → keys_of (insert_entry nat_eq (e ∷ es) k v) ≡ with_id (keys_of (e ∷ es)) k
     by true a y b rest = rw a refl
-    by false a true b rest = rw (a, b) (ap (λ ks. e.0 ∷ ks) (rest ∙ ap (λ c. cond c (keys_of es) (keys_of es ++ k ∷ [])) b))
-    by false a false b rest = rw (a, b) (ap (λ ks. e.0 ∷ ks) (rest ∙ ap (λ c. cond c (keys_of es) (keys_of es ++ k ∷ [])) b))
+    by false a true b rest = rw (a, b) (ap (λ ks. e.0 ∷ ks)
+        (rest ∙ ap (λ c. cond c (keys_of es) (keys_of es ++ k ∷ [])) b))
+    by false a false b rest = rw (a, b) (ap (λ ks. e.0 ∷ ks)
+        (rest ∙ ap (λ c. cond c (keys_of es) (keys_of es ++ k ∷ [])) b))
 
 pub keys_step : (es : List Entry) (e : Entry) (old new : List (ℕ × Option OpId)) (v : Option OpId)
-    → keys_of old ≡ ids_of es → new ≡ insert_entry nat_eq old e.id v → keys_of new ≡ ids_of (es ++ e ∷ [])
+    → keys_of old ≡ ids_of es → new ≡ insert_entry nat_eq old e.id v →
+    keys_of new ≡ ids_of (es ++ e ∷ [])
 keys_step es e old new v keys is =
     ap keys_of is ∙ keys_insert old e.id v ∙ ap (λ ids. with_id ids e.id) keys ∙ sym (ids_more es e)
 
 -- ---- the whole map
 
-not_there : (k : ℕ) (es : List (ℕ × Option OpId)) → AllByRecursion (λ y. nat_eq k y ≡ false) (keys_of es)
+not_there : (k : ℕ) (es : List (ℕ × Option OpId)) →
+    AllByRecursion (λ y. nat_eq k y ≡ false) (keys_of es)
     → lookup (nat_eq k) es ≡ None
 not_there k [] apart = refl
 not_there k (e ∷ es) apart = rw (apart.0) (not_there k es apart.1)
@@ -86,15 +101,18 @@ by_keys : (value : ℕ → Option OpId) (es : List (ℕ × Option OpId)) → IsD
 unfolding IsDistinct
 by_keys value [] distinct values = refl
 by_keys value ((k, v) ∷ es) distinct values =
-    ap (λ w. (k, w) ∷ es) (values k v here) ∙ ap (λ xs. (k, value k) ∷ xs) (by_keys value es distinct.1 later)
+    ap (λ w. (k, w) ∷ es) (values k v here)
+    ∙ ap (λ xs. (k, value k) ∷ xs) (by_keys value es distinct.1 later)
   where
     here : lookup (nat_eq k) ((k, v) ∷ es) ≡ Some v
     here = rw (eq-eqb k k refl) refl
 
-    by : (q : ℕ) (w : Option OpId) (x : Bool) → eqb q k ≡ x → lookup (nat_eq q) es ≡ Some w → w ≡ value q
+    by : (q : ℕ) (w : Option OpId) (x : Bool) → eqb q k ≡ x → lookup (nat_eq q) es ≡ Some w →
+        w ≡ value q
     by q w true e found =
         let same : q ≡ k = eqb-true q k e in
-        let none : lookup (nat_eq q) es ≡ None = subst (λ y. lookup (nat_eq y) es ≡ None) (sym same) (not_there k es distinct.0) in
+        let none : lookup (nat_eq q) es ≡ None =
+        subst (λ y. lookup (nat_eq y) es ≡ None) (sym same) (not_there k es distinct.0) in
         absurd cc
     by q w false e found = values q w (rw e found)
 
@@ -112,7 +130,8 @@ finding_is find (Some name) = refl
 
 pub kept_is : (find : List ℕ → Option ℕ) (es : List Entry) (kept : List (ℕ × Option OpId))
     → IsDistinct nat_eq (keys_of kept) → keys_of kept ≡ ids_of es
-    → ((q : ℕ) → lookup (nat_eq q) kept ≡ kept_by (finding find) (names_of es q)) → kept ≡ kept_of find es
+    → ((q : ℕ) → lookup (nat_eq q) kept ≡ kept_by (finding find) (names_of es q)) →
+    kept ≡ kept_of find es
 kept_is find es kept distinct keys looks =
     let value : ℕ → Option OpId = λ id. option_map as_operation (operation_of find es id) in
     by_keys value kept distinct

@@ -9,7 +9,8 @@ use Rattle.giop_tokens.specs.Tokens.{Token, word, number, negative, repository, 
 as_token_is : (text : List ℕ) (o : Option Token) (rest after : List ℕ) (t : Token)
     → as_token text o rest ≡ Ok (Some t, after) → o ≡ Some t
 as_token_is text None rest after t e = absurd cc
-as_token_is text (Some s) rest after t e = ap (λ (y : Option Token × List ℕ). y.0) (ok_is (Some s, rest) (Some t, after) e)
+as_token_is text (Some s) rest after t e =
+    ap (λ (y : Option Token × List ℕ). y.0) (ok_is (Some s, rest) (Some t, after) e)
 
 number_no : (o : Option ℕ) (n : ℕ) → option_map number o ≡ Some (negative n) → ⊥
 number_no None n e = absurd cc
@@ -46,22 +47,29 @@ octet_by : (b : ℕ) (bs rest : List ℕ) (n : ℕ) (x y z : Bool)
     ≡ Ok (Some (negative n), rest) → 0 < n
 octet_by b bs rest n true y z e =
     let w = run is_word (b ∷ bs) in
-    absurd (word_by w n (is_digit (slice_index w 0)) (as_token_is (b ∷ bs) (word_token w) (past is_word (b ∷ bs)) rest (negative n) e))
+    absurd (word_by w n (is_digit (slice_index w 0))
+    (as_token_is (b ∷ bs) (word_token w) (past is_word (b ∷ bs)) rest (negative n) e))
 octet_by b bs rest n false true z e =
-    above_zero (number_of (run is_word bs)) n (as_token_is (b ∷ bs) (below_zero (number_of (run is_word bs))) (past is_word bs) rest (negative n) e)
+    above_zero (number_of (run is_word bs)) n
+    (as_token_is (b ∷ bs) (below_zero (number_of (run is_word bs))) (past is_word bs) rest
+    (negative n) e)
 octet_by b bs rest n false false true e =
     let id = run is_id bs in
     let after = past is_id bs in
-    absurd (repository_by id n (leb 1 (length id) && leb (length id) 128 && eqb (slice_index after 0) 34)
+    absurd (repository_by id n (leb 1 (length id) && leb (length id) 128
+    && eqb (slice_index after 0) 34)
     (as_token_is (b ∷ bs) (repository_token id after) (drop 1 after) rest (negative n) e))
-octet_by b bs rest n false false false e = absurd (mark_by (mark_of b) n (as_token_is (b ∷ bs) (option_map mark (mark_of b)) bs rest (negative n) e))
+octet_by b bs rest n false false false e =
+    absurd (mark_by (mark_of b) n (as_token_is (b ∷ bs) (option_map mark (mark_of b)) bs rest
+    (negative n) e))
 
 no_token : (n : ℕ) → None ≡ Some (negative n) → ⊥
 no_token n e = absurd cc
 
 first_by : (text rest : List ℕ) (n : ℕ) → first text ≡ Ok (Some (negative n), rest) → 0 < n
 unfolding first
-first_by [] rest n e = absurd (no_token n (ap (λ (y : Option Token × List ℕ). y.0) (ok_is (None, []) (Some (negative n), rest) e)))
+first_by [] rest n e = absurd (no_token n
+    (ap (λ (y : Option Token × List ℕ). y.0) (ok_is (None, []) (Some (negative n), rest) e)))
 first_by (b ∷ bs) rest n e = octet_by b bs rest n (is_word b) (eqb b 45) (eqb b 34) e
 
 pub negative_some : (text rest : List ℕ) (n : ℕ) → next text ≡ Ok (Some (negative n), rest) → 0 < n

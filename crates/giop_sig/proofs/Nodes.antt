@@ -41,13 +41,15 @@ part_there (nodes.union switch cases otherwise) i has = case_below cases i has
 part_there (nodes.sequence bound element) i has = (nodes.element_part element, refl)
 part_there (nodes.array count element) i has = (nodes.element_part element, refl)
 part_there (nodes.encapsulation held) i has = (nodes.element_part held, refl)
-part_there (nodes.tagged special tag inner other) i has = read_below (tag ∷ inner ∷ other ∷ []) i has
+part_there (nodes.tagged special tag inner other) i has =
+    read_below (tag ∷ inner ∷ other ∷ []) i has
 part_there _ i has = absurd has
 
 pub part_grown : (tree : ℕ → Ty) (node : Node) (i : ℕ) → HasPlace (shape_of node) i
     → tree (type_of (part_at node i)) ≡ part_of (grow tree node) i
 part_grown tree (nodes.members parts) i has = let p = read_below parts i has in rw (p.1) refl
-part_grown tree (nodes.union switch cases otherwise) i has = let p = case_below cases i has in rw (p.1) refl
+part_grown tree (nodes.union switch cases otherwise) i has = let p = case_below cases i has in
+    rw (p.1) refl
 part_grown tree (nodes.sequence bound element) i has = refl
 part_grown tree (nodes.array count element) i has = refl
 part_grown tree (nodes.encapsulation held) i has = refl
@@ -71,7 +73,8 @@ names_read : (names : List (List ℕ)) (n : ℕ)
 names_read [] n = rw (le-ltb n 0 (omega arith)) refl
 names_read (x ∷ xs) zero = rw (lt-ltb 0 (suc (length xs)) (omega arith)) refl
 names_read (x ∷ xs) (suc n) =
-    names_read xs n ∙ ap (λ b. cond b (Some (name_or (slice_get xs n))) None) (sym (ltb_suc_by (nat_lt n (length xs)) n (length xs) refl))
+    names_read xs n ∙ ap (λ b. cond b (Some (name_or (slice_get xs n))) None)
+    (sym (ltb_suc_by (nat_lt n (length xs)) n (length xs) refl))
 
 pub enum_name_grown : (tree : ℕ → Ty) (node : Node) (n : ℕ)
     → name_at node n ≡ enum_name_in (grow tree node) n
@@ -82,7 +85,8 @@ enum_name_grown tree _ n = refl
 pub select_grown : (tree : ℕ → Ty) (node : Node) (number : Number) (n : ℕ)
     → interpreted_in (switch_of (grow tree node)) n ≡ Some number
     → selected node number ≡ select_in (grow tree node) n
-select_grown tree (nodes.union switch cases otherwise) number n e = ap (selected_by (selected (nodes.union switch cases otherwise))) (sym e)
+select_grown tree (nodes.union switch cases otherwise) number n e =
+    ap (selected_by (selected (nodes.union switch cases otherwise))) (sym e)
 select_grown tree (nodes.tagged special tag inner other) number n e =
     ap (selected_by (selected (nodes.tagged special tag inner other))) (sym e)
 select_grown tree _ number n e = refl

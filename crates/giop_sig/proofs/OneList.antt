@@ -15,9 +15,12 @@ use Rattle.giop_sig.proofs.ListEntries.{is_space, entry_cut}
 
 one_entry : (e f : Entry) → IsEntry e → IsEntry f → line_of e ≡ line_of f → e ≡ f
 one_entry e f p q h =
-    let same = cut_same is_space (line_of e) (decimal e.id) 32 e.name (decimal f.id) 32 f.name (entry_cut (line_of e) e p refl) (entry_cut (line_of e) f q h) in
-    let id : e.id ≡ f.id = decimal_injective e.id f.id (let a = p.id in omega arith) (let b = q.id in omega arith) same.0 in
-    ap (λ (x : ℕ × List ℕ). record { id = x.0; name = x.1 }) (ap (λ (i : ℕ). (i, e.name)) id ∙ ap (λ (n : List ℕ). (f.id, n)) same.1)
+    let same = cut_same is_space (line_of e) (decimal e.id) 32 e.name (decimal f.id) 32 f.name
+    (entry_cut (line_of e) e p refl) (entry_cut (line_of e) f q h) in
+    let id : e.id ≡ f.id = decimal_injective e.id f.id (let a = p.id in omega arith)
+    (let b = q.id in omega arith) same.0 in
+    ap (λ (x : ℕ × List ℕ). record { id = x.0; name = x.1 })
+    (ap (λ (i : ℕ). (i, e.name)) id ∙ ap (λ (n : List ℕ). (f.id, n)) same.1)
 
 one_by : (es fs : List Entry) → AllByRecursion IsEntry es → AllByRecursion IsEntry fs
     → map line_of es ≡ map line_of fs → es ≡ fs
@@ -32,7 +35,8 @@ one_by (e ∷ es) (f ∷ fs) p q h =
     cc
 
 pub one_list : (text : List ℕ) (es fs : List Entry) → Lists text es → Lists text fs → es ≡ fs
-one_list text es fs p q = one_by es fs (recursion_from_All IsEntry es p.entries) (recursion_from_All IsEntry fs q.entries) (sym p.spelled ∙ q.spelled)
+one_list text es fs p q = one_by es fs (recursion_from_All IsEntry es p.entries)
+    (recursion_from_All IsEntry fs q.entries) (sym p.spelled ∙ q.spelled)
 
 -- the k-th line of a list is an entry's
 line_at : (es : List Entry) (before : List (List ℕ)) (line : List ℕ) (after : List (List ℕ))
@@ -49,14 +53,16 @@ line_at (e ∷ es) (b ∷ before) line after p h =
 reached : (text : List ℕ) (es fs : List Entry) (line : List ℕ) (k : ℕ) → Lists text es
     → ReachesLine text fs line k → IsEntryLine line × (length fs < length es)
 reached text es fs line k p r =
-    let a = line_at es (map line_of fs) line r.rest.0 (recursion_from_All IsEntry es p.entries) (sym p.spelled ∙ r.rest.1) in
+    let a = line_at es (map line_of fs) line r.rest.0 (recursion_from_All IsEntry es p.entries)
+    (sym p.spelled ∙ r.rest.1) in
     (a.0, omega (arith, a.1, length-map fs line_of))
 
 pub refused_for_memory : (text : List ℕ) (es : List Entry) (k : ℕ) (kind : ListFaultKind)
     → Lists text es → IsRefusedAs text k kind → kind ≡ OutOfMemory
 refused_for_memory text es k Syntax p h = absurd (h.4 (reached text es h.0 h.1 k p h.2).0)
 refused_for_memory text es k Limit p (inl h) = absurd (omega (arith, h.0, p.octets))
-refused_for_memory text es k Limit p (inr h) = absurd (omega (arith, (reached text es h.0 h.1 k p h.2).1, h.3, p.count))
+refused_for_memory text es k Limit p (inr h) =
+    absurd (omega (arith, (reached text es h.0 h.1 k p h.2).1, h.3, p.count))
 refused_for_memory text es k OutOfMemory p h = refl
 
 pub only_for_memory : {T : Type 0} (text : List ℕ) (es : List Entry) (r : Result T ListFault)
@@ -66,7 +72,9 @@ only_for_memory text es (Ok x) p h = tt
 only_for_memory text es (Err f) p h = refused_for_memory text es f.line f.kind p h
 
 -- what is so of the list that a text is, and of a result, is so of any list that the text is
-pub of_list : {T : Type 0} (Q P : List Entry → T → Type 0) (text : List ℕ) (es : List Entry) (r : Result T ListFault)
-    → Lists text es → IfOk r (λ x. (fs : List Entry) × Lists text fs × Q fs x × P fs x) → IfOk r (λ x. P es x)
+pub of_list : {T : Type 0} (Q P : List Entry → T → Type 0) (text : List ℕ) (es : List Entry)
+    (r : Result T ListFault)
+    → Lists text es → IfOk r (λ x. (fs : List Entry) × Lists text fs × Q fs x × P fs x) →
+    IfOk r (λ x. P es x)
 of_list Q P text es (Ok x) p h = subst (λ fs. P fs x) (one_list text h.0 es h.1 p) h.3
 of_list Q P text es (Err f) p h = tt

@@ -12,4 +12,5 @@ pub operation_number_one : (table : Table) → IsOneToOne (operation_number tabl
 operation_number_one table m n i p q =
     let a = (position-Some (λ o. bytes_eq m o.name) table.operations i no_operation p).1 in
     let b = (position-Some (λ o. bytes_eq n o.name) table.operations i no_operation q).1 in
-    (bytes_eq-Decides m (get_or table.operations i no_operation).name).0 a ∙ sym ((bytes_eq-Decides n (get_or table.operations i no_operation).name).0 b)
+    (bytes_eq-Decides m (get_or table.operations i no_operation).name).0 a
+    ∙ sym ((bytes_eq-Decides n (get_or table.operations i no_operation).name).0 b)

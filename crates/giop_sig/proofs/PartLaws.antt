@@ -1,4 +1,5 @@
--- What other crates may use of a table's types: their parts, their depth, and that each fits at the root of a message.
+-- What other crates may use of a table's types: their parts, their depth, and that each fits at the
+-- root of a message.
 use Rattle.std.proofs.Common.{◌≡◌, ℕ, ◌<◌, ◌≤◌, length, refl}
 use Rattle.giop_sig.specs.Fits.{IsRoot}
 use Rattle.giop_sig.specs.HeaderTypes.{IsTable}
@@ -20,7 +21,11 @@ pub part_is : (t : Table) (id i : ℕ) → IsTable t → id < length t.types
     → HasPlace (shape_in (tree t id)) i → PartIs t id i (part_number t id i)
 part_is t id i laws known has =
     let e = at_number t id laws known in
-    record { below = part_below t id i (part_number t id i) (node_at t id) e has refl; same = part_tree t id i (part_number t id i) (node_at t id) e has refl }
+    record {
+      below = part_below t id i (part_number t id i) (node_at t id) e has refl;
+      same =
+          part_tree t id i (part_number t id i) (node_at t id) e has refl;
+    }
 
 pub root_is : (t : Table) (id : ℕ) → IsTable t → id < length t.types → IsRoot (tree t id)
 root_is t id laws known = root_entered t id (node_at t id) (at_number t id laws known)

@@ -188,7 +188,8 @@ nest_depth s (SequenceOf e bound) some =
     let types = (place s e).0.table.types in
     let node = sequence_node bound (place s e).1 in
     let more : suc (nest e) ≤ depth (grow (type_in types) node) =
-    sequence_depth (type_in types) bound (place s e).1 (nest e) (eqb (place s e).1 0) refl (nest_none s e some) (nest_depth s e some) in
+    sequence_depth (type_in types) bound (place s e).1 (nest e) (eqb (place s e).1 0) refl
+    (nest_none s e some) (nest_depth s e some) in
     omega (arith, more, ap depth (tree_added types node))
 nest_depth s (EncapsulationOf e) some =
     let types = (place s e).0.table.types in
@@ -204,7 +205,8 @@ last_within : (s : Scope) (node : Node)
     ≤ deepest (with_node s node).0
 last_within s node =
     let types = s.table.types in
-    let last : length types < length (types ++ node ∷ []) = omega (arith, length-append types (node ∷ [])) in
+    let last : length types < length (types ++ node ∷ []) =
+    omega (arith, length-append types (node ∷ [])) in
     depth_within (types ++ node ∷ []) (length types) last
 
 -- the table is at least that deep

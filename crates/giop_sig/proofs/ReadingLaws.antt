@@ -1,4 +1,5 @@
--- The forms of the laws of reading, from a spelling to what is read and from a text that was read to its spelling; and two
+-- The forms of the laws of reading, from a spelling to what is read and from a text that was read
+-- to its spelling; and two
 -- readings one after the other.
 use Rattle.std.proofs.Common.{◌≡◌, ℕ, ◌^◌, ◌<◌, ◌≤◌, ◌⊎◌, inl, inr, false, List, [], ◌∷◌, length, None, Result, Ok, Err, refl, sym, subst, arith}
 use Rattle.std.specs.Prelude.{MatchResult}
@@ -16,7 +17,8 @@ use Rattle.giop_sig.proofs.PlaceLaws.{Within, within_same}
 
 -- ---- a text that is spelled so
 
--- a refusal of this kind is right: the rule of the kind is broken, or the types become too deep or too many
+-- a refusal of this kind is right: the rule of the kind is broken, or the types become too deep or
+-- too many
 abbrev pub Breaks : Kind → (Kind → Type 0) → List Node → Type 0
 Breaks kinds.Depth rule types = 24 < depth_of types
 Breaks kinds.UnknownType rule types = rule kinds.UnknownType → ⊥
@@ -57,7 +59,15 @@ pub record Out {X : Type 0} (made : List ℕ → X) (rule : Kind → Type 0) (ty
 pub good : {X : Type 0} {made : List ℕ → X} {rule : Kind → Type 0} {types : List Node}
     {more : List Token} (rest : List ℕ) → AreTokens rest more → ((k : Kind) → rule k)
     → Out made rule types more (Ok (made rest))
-good rest tokens keeps = record { out = record { rest = rest; is = refl; tokens = tokens; keeps = keeps } }
+good rest tokens keeps = record {
+  out = record {
+    rest = rest;
+    is = refl;
+    tokens = tokens;
+    keeps =
+        keeps;
+  };
+}
 
 pub broken : {X : Type 0} {made : List ℕ → X} {rule : Kind → Type 0} {types : List Node}
     {more : List Token} (e : Refusal) → Breaks e.kind rule types → Out made rule types more (Err e)
@@ -71,15 +81,27 @@ pub out_bind : {X Y : Type 0} {made : List ℕ → X} {rule : Kind → Type 0} {
     → Out made2 rule2 types2 more2 (h (made rest)))
     → ((k : Kind) → rule2 k → rule k) → Within types types2 → Out made2 rule2 types2 more2 (r >>= h)
 out_bind {made2 = made2} {rule2 = rule2} {types2 = types2} {more2 = more2} (Ok x) h o on up le =
-    let g = o.out in subst (λ y. Out made2 rule2 types2 more2 (h y)) (sym g.is) (on g.rest g.tokens g.keeps)
-out_bind {rule = rule} {types = types} {rule2 = rule2} {types2 = types2} (Err e) h o on up le = record { out = lift e.kind rule rule2 types types2 up le o.out }
+    let g = o.out in subst (λ y. Out made2 rule2 types2 more2 (h y)) (sym g.is)
+    (on g.rest g.tokens g.keeps)
+out_bind {rule = rule} {types = types} {rule2 = rule2} {types2 = types2} (Err e) h o on up le =
+    record { out = lift e.kind rule rule2 types types2 up le o.out }
 
 good_more : {X : Type 0} {made : List ℕ → X} {rule whole : Kind → Type 0} {types : List Node}
     {more : List Token} (r : Result X Refusal) → Out made rule types more r
     → ((k : Kind) → rule k → whole k) → ((k : Kind) → whole k → rule k)
     → Out made whole types more r
-good_more (Ok x) o on up = let g = o.out in record { out = record { rest = g.rest; is = g.is; tokens = g.tokens; keeps = λ k. on k (g.keeps k) } }
-good_more {rule = rule} {whole = whole} {types = types} (Err e) o on up = record { out = lift e.kind rule whole types types up within_same o.out }
+good_more (Ok x) o on up = let g = o.out in
+    record {
+      out = record {
+        rest = g.rest;
+        is = g.is;
+        tokens = g.tokens;
+        keeps =
+            λ k. on k (g.keeps k);
+      };
+    }
+good_more {rule = rule} {whole = whole} {types = types} (Err e) o on up =
+    record { out = lift e.kind rule whole types types up within_same o.out }
 
 -- the same under equivalent rules
 pub out_more : {X : Type 0} {made : List ℕ → X} {rule whole : Kind → Type 0} {types : List Node}

@@ -6,13 +6,16 @@ use Rattle.giop_sig.specs.declared.parse_stop.ParseStop.TheVariants as stops
 use Rattle.giop_sig.specs.Outcomes.{Stops}
 use Rattle.giop_sig.specs.Repeats.{in_steps}
 
-module _ {S : Type 0} (step : S → Result (Bool × S) Refusal) (limit : S → Refusal) (most i : ℕ) (s : S) (total : Result S Refusal)
+module _ {S : Type 0} (step : S → Result (Bool × S) Refusal) (limit : S → Refusal) (most i : ℕ)
+    (s : S) (total : Result S Refusal)
     (so_far : in_steps step limit (most - i) s ≡ total) where
-  pub goes_on : i < most → (x : Bool × S) → step s ≡ Ok x → x.0 ≡ false → in_steps step limit (most - (i + 1)) x.1 ≡ total
+  pub goes_on : i < most → (x : Bool × S) → step s ≡ Ok x → x.0 ≡ false →
+      in_steps step limit (most - (i + 1)) x.1 ≡ total
   unfolding in_steps
   goes_on lt x h c =
       let k : most - i ≡ suc (most - (i + 1)) = omega arith in
-      let one : in_steps step limit (most - i) s ≡ in_steps step limit (most - (i + 1)) x.1 = rw (k, h, c) refl in
+      let one : in_steps step limit (most - i) s ≡ in_steps step limit (most - (i + 1)) x.1 =
+      rw (k, h, c) refl in
       sym one ∙ so_far
 
   pub ends : i < most → (x : Bool × S) → step s ≡ Ok x → x.0 ≡ true → total ≡ Ok x.1

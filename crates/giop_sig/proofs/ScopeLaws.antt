@@ -52,27 +52,31 @@ pub name_found : (s : Scope) (version : ℕ) (t : Table) (es : List (ArrayVec �
     → scope_view version t es ≡ s → key.items ≡ w
     → lookup (bytes_eq w) s.names.known ≡ option_map number_of_id (lookup (key_is key) es)
 name_found s version t es key w view same =
-    ap (λ (x : Scope). lookup (bytes_eq w) x.names.known) (sym view) ∙ ap (λ v. lookup (bytes_eq v) (map name_view es)) (sym same) ∙ view_found key es
+    ap (λ (x : Scope). lookup (bytes_eq w) x.names.known) (sym view)
+    ∙ ap (λ v. lookup (bytes_eq v) (map name_view es)) (sym same) ∙ view_found key es
 
 pub name_declared : (s : Scope) (version : ℕ) (t : Table) (es : List (ArrayVec ℕ × Option TypeId))
     (key : ArrayVec ℕ) (w : List ℕ)
     → scope_view version t es ≡ s → key.items ≡ w
     → is_some (lookup (key_is key) es) ≡ is_some (lookup (bytes_eq w) s.names.known)
 name_declared s version t es key w view same =
-    sym (some_map number_of_id (lookup (key_is key) es)) ∙ ap is_some (sym (name_found s version t es key w view same))
+    sym (some_map number_of_id (lookup (key_is key) es))
+    ∙ ap is_some (sym (name_found s version t es key w view same))
 
 pub name_typed : (s : Scope) (version : ℕ) (t : Table) (es : List (ArrayVec ℕ × Option TypeId))
     (key : ArrayVec ℕ) (w : List ℕ)
     → scope_view version t es ≡ s → key.items ≡ w
     → number_of_id (flat (lookup (key_is key) es)) ≡ named s.names w
-name_typed s version t es key w view same = flat_map (lookup (key_is key) es) ∙ ap flat (sym (name_found s version t es key w view same))
+name_typed s version t es key w view same =
+    flat_map (lookup (key_is key) es) ∙ ap flat (sym (name_found s version t es key w view same))
 
 -- ---- scopes that grow
 
 pub known_stays : (types more : List Node) (i : ℕ) → IsKnown types i → IsKnown (types ++ more) i
 known_stays types more i is = record {
   below = let b = is.below in omega (arith, length-append types more);
-  takes = subst TakesOctet (sym (get_or_append_left types more (nodes.prim Octet) i is.below)) is.takes;
+  takes = subst TakesOctet (sym (get_or_append_left types more (nodes.prim Octet) i is.below))
+      is.takes;
 }
 
 type_stays : (types more : List Node) (o : Option ℕ) → IsKnownType types o
@@ -84,12 +88,22 @@ names_stay : (types more : List Node) (names : List (List ℕ × Option ℕ))
     → AllByRecursion (IsDeclaredName types) names
     → AllByRecursion (IsDeclaredName (types ++ more)) names
 names_stay types more [] all = tt
-names_stay types more (e ∷ es) all = (record { short = (all.0).short; type = type_stays types more e.1 (all.0).type }, names_stay types more es all.1)
+names_stay types more (e ∷ es) all = (
+  record {
+    short = (all.0).short;
+    type =
+        type_stays types more e.1 (all.0).type;
+  },
+  names_stay types more es all.1,
+)
 
 -- a scope with a type more
 pub scope_grows : (s : Scope) (n : Node) → IsScope s → IsScope (with_node s n).0
 scope_grows s n is = record {
-  begins = let b = is.begins in (b.0 ++ n ∷ [], ap (λ types. types ++ n ∷ []) b.1 ∙ append_assoc builtin_types b.0 (n ∷ []));
+  begins = let b = is.begins in (
+    b.0 ++ n ∷ [],
+    ap (λ types. types ++ n ∷ []) b.1 ∙ append_assoc builtin_types b.0 (n ∷ []),
+  );
   names = names_stay s.table.types (n ∷ []) s.names.known is.names;
 }
 
@@ -97,7 +111,8 @@ scope_grows s n is = record {
 pub grown_draft : (version : ℕ) (t new : Table) (es : List (ArrayVec ℕ × Option TypeId)) (n : Node)
     → IsScope (scope_view version t es) → new ≡ with_type t n
     → IsScope (scope_view version new es)
-grown_draft version t new es n is put = subst (λ u. IsScope (scope_view version u es)) (sym put) (scope_grows (scope_view version t es) n is)
+grown_draft version t new es n is put = subst (λ u. IsScope (scope_view version u es)) (sym put)
+    (scope_grows (scope_view version t es) n is)
 
 pub some_copied : {X : Type 0} (o : Option (Bor X)) → is_some o ≡ is_some (option_copied o)
 some_copied None = refl
@@ -130,10 +145,16 @@ pub put_name : (s : Scope) (version : ℕ) (t : Table) (es new : List (ArrayVec 
     → scope_view version t es ≡ s → key.items ≡ w → lookup (bytes_eq w) s.names.known ≡ None
     → new ≡ insert_entry key_is es key v → scope_view version t new ≡ with_name s w (number_of_id v)
 put_name s version t es new key v w view same none is =
-    let unseen_label : lookup (key_is key) es ≡ None = none_before number_of_id (lookup (key_is key) es) (sym (name_found s version t es key w view same) ∙ none) in
-    let last : new ≡ es ++ (key, v) ∷ [] = is ∙ entry_last key_is es key v (none_found key es unseen_label) in
-    ap (scope_view version t) last ∙ ap (λ ns. record { table = t; names = record { version = version; known = ns } }) (map-append name_view es ((key, v) ∷ []))
-    ∙ ap (λ (x : Scope). with_name x key.items (number_of_id v)) view ∙ ap (λ n. with_name s n (number_of_id v)) same
+    let unseen_label : lookup (key_is key) es ≡ None =
+    none_before number_of_id (lookup (key_is key) es)
+    (sym (name_found s version t es key w view same) ∙ none) in
+    let last : new ≡ es ++ (key, v) ∷ [] =
+    is ∙ entry_last key_is es key v (none_found key es unseen_label) in
+    ap (scope_view version t) last ∙ ap (λ ns.
+    record { table = t; names = record { version = version; known = ns } })
+    (map-append name_view es ((key, v) ∷ []))
+    ∙ ap (λ (x : Scope). with_name x key.items (number_of_id v)) view
+    ∙ ap (λ n. with_name s n (number_of_id v)) same
 
 all_last : (types : List Node) (names : List (List ℕ × Option ℕ)) (e : List ℕ × Option ℕ)
     → AllByRecursion (IsDeclaredName types) names → IsDeclaredName types e
@@ -145,4 +166,8 @@ all_last types (n ∷ ns) e all is = (all.0, all_last types ns e all.1 is)
 pub scope_named : (s : Scope) (w : List ℕ) (o : Option ℕ) → IsScope s → length w ≤ 64
     → IsKnownType s.table.types o → IsScope (with_name s w o)
 scope_named s w o is short known =
-    record { begins = is.begins; names = all_last s.table.types s.names.known (w, o) is.names (record { short = short; type = known }) }
+    record {
+      begins = is.begins;
+      names = all_last s.table.types s.names.known (w, o) is.names
+          (record { short = short; type = known });
+    }

@@ -20,8 +20,14 @@ unfolding place
 typed s (Text (Some n)) more = omega (arith, one_more s (nodes.text (Some n)))
 typed s (SequenceOf e o) more =
     let p = place s e in
-    omega (arith, typed s e (spell_most o (mark marks.CloseAngle ∷ more)), most o (mark marks.CloseAngle ∷ more), one_more p.0 (sequence_node o p.1))
-typed s (EncapsulationOf e) more = let p = place s e in omega (arith, typed s e (mark marks.CloseAngle ∷ more), one_more p.0 (nodes.encapsulation p.1))
+    omega (
+      arith,
+      typed s e (spell_most o (mark marks.CloseAngle ∷ more)),
+      most o (mark marks.CloseAngle ∷ more),
+      one_more p.0 (sequence_node o p.1),
+    )
+typed s (EncapsulationOf e) more = let p = place s e in
+    omega (arith, typed s e (mark marks.CloseAngle ∷ more), one_more p.0 (nodes.encapsulation p.1))
 typed s _ more = omega arith
 
 lengthened : (p : AddedType) (o : Option ℕ) (more : List Token)
@@ -31,13 +37,21 @@ lengthened p (Some n) more = omega (arith, one_more p.0 (nodes.array n p.1))
 
 item : (s : Scope) (i : Item) (more : List Token)
     → size (add_item s i).0 + length more ≤ size s + length (spell_item i more)
-item s i more = omega (arith, typed s i.type (word i.name ∷ spell_length i.length more), lengthened (place s i.type) i.length more)
+item s i more = omega (
+  arith,
+  typed s i.type (word i.name ∷ spell_length i.length more),
+  lengthened (place s i.type) i.length more,
+)
 
 items : (s : Scope) (is : List Item) (more : List Token)
     → size (add_items s is).0 + length more ≤ size s + length (spell_items is more)
 unfolding add_items
 items s [] more = omega arith
-items s (i ∷ is) more = omega (arith, item s i (mark marks.Semicolon ∷ spell_items is more), items (add_item s i).0 is more)
+items s (i ∷ is) more = omega (
+  arith,
+  item s i (mark marks.Semicolon ∷ spell_items is more),
+  items (add_item s i).0 is more,
+)
 
 cases : (s : Scope) (node : Node) (cs : List UnionCase) (more : List Token)
     → size (add_cases s node cs).0 + length more ≤ size s + length (spell_cases cs more)
@@ -57,13 +71,21 @@ more_params : (s : Scope) (ps : List Param) (more : List Token)
     → size (add_params s ps).0 + length more ≤ size s + length (spell_more_params ps more)
 unfolding add_params
 more_params s [] more = omega arith
-more_params s (p ∷ ps) more = omega (arith, item s p.item (spell_more_params ps more), more_params (add_item s p.item).0 ps more)
+more_params s (p ∷ ps) more = omega (
+  arith,
+  item s p.item (spell_more_params ps more),
+  more_params (add_item s p.item).0 ps more,
+)
 
 params : (s : Scope) (ps : List Param) (more : List Token)
     → size (add_params s ps).0 + length more ≤ size s + length (spell_params ps more)
 unfolding add_params
 params s [] more = omega arith
-params s (p ∷ ps) more = omega (arith, item s p.item (spell_more_params ps more), more_params (add_item s p.item).0 ps more)
+params s (p ∷ ps) more = omega (
+  arith,
+  item s p.item (spell_more_params ps more),
+  more_params (add_item s p.item).0 ps more,
+)
 
 returned : (s : Scope) (o : Option TypeExpr) (more : List Token)
     → size (add_return s o).0 + length more ≤ size s + length (spell_return o more)
@@ -73,8 +95,16 @@ returned s (Some e) more = omega (arith, typed s e more)
 declared : (s : Scope) (d : Declaration) (more : List Token)
     → size (declare s d) + length more ≤ size s + length (spell d more)
 unfolding declare
-declared s (Enumeration n ns) more = omega (arith, one_more s (nodes.enumeration ns), names ns (mark marks.Semicolon ∷ more))
-declared s (Structure n is) more = omega (arith, items s is (mark marks.Semicolon ∷ more), one_more (add_items s is).0 (nodes.members (add_items s is).1))
+declared s (Enumeration n ns) more = omega (
+  arith,
+  one_more s (nodes.enumeration ns),
+  names ns (mark marks.Semicolon ∷ more),
+)
+declared s (Structure n is) more = omega (
+  arith,
+  items s is (mark marks.Semicolon ∷ more),
+  one_more (add_items s is).0 (nodes.members (add_items s is).1),
+)
 declared s (DeclaredUnion n e cs) more =
     let p = place s e in
     let x = add_cases p.0 (node_at (p.0).table p.1) cs in
@@ -85,7 +115,12 @@ declared s (DeclaredUnion n e cs) more =
       cases p.0 (node_at (p.0).table p.1) cs tail,
       one_more x.0 (nodes.union p.1 x.1 (default_from 0 cs)),
     )
-declared s (DeclaredException n r is) more = omega (arith, items s is (mark marks.Semicolon ∷ more), one_more (add_items s is).0 (nodes.members (add_items s is).1))
+declared s (DeclaredException n r is) more =
+    omega (
+      arith,
+      items s is (mark marks.Semicolon ∷ more),
+      one_more (add_items s is).0 (nodes.members (add_items s is).1),
+    )
 declared s (Call o n ps) more =
     let t = add_return s o in
     let x = add_params t.0 ps in

@@ -26,33 +26,41 @@ size_by : (types : List Node) (text rest : List ℕ) (n : ℕ) (more : List Toke
     → Out {X = ℕ × List ℕ} (λ rest. (n, rest)) (λ k. OfSize k n) types more
     (cond a (Err (refused kinds.Empty text))
     (cond b (Err (refused kinds.Limit text)) (Ok (n, rest))))
-size_by types text rest n more true b p q m = broken (refused kinds.Empty text) (λ h. let z = eqb-true n 0 p in omega arith)
-size_by types text rest n more false true p q m = broken (refused kinds.Limit text) (inl (λ h. let z = ltb-true 4294967295 n q in omega arith))
+size_by types text rest n more true b p q m =
+    broken (refused kinds.Empty text) (λ h. let z = eqb-true n 0 p in omega arith)
+size_by types text rest n more false true p q m =
+    broken (refused kinds.Limit text) (inl (λ h. let z = ltb-true 4294967295 n q in omega arith))
 size_by types text rest n more false false p q m =
-    good rest m (size_keeps n (let z = eqb-false n 0 p in omega arith) (let z = ltb-false 4294967295 n q in omega arith))
+    good rest m (size_keeps n (let z = eqb-false n 0 p in omega arith)
+    (let z = ltb-false 4294967295 n q in omega arith))
 
 size_reads : (types : List Node) (text : List ℕ) (n : ℕ) (more : List Token)
     → AreTokens text (number n ∷ more)
     → Out {X = ℕ × List ℕ} (λ rest. (n, rest)) (λ k. OfSize k n) types more (size_at text)
 unfolding size_at
-size_reads types text n more h = rw (number_again text n more h) (size_by types text h.0 n more (eqb n 0) (ltb 4294967295 n) refl refl h.2)
+size_reads types text n more h = rw (number_again text n more h)
+    (size_by types text h.0 n more (eqb n 0) (ltb 4294967295 n) refl refl h.2)
 
 pub enclosed_reads : (types : List Node) (before close : Mark) (text : List ℕ) (o : Option ℕ)
     (more : List Token) → Apart before more → AreTokens text (spell_between before close o more)
     → Out {X = Option ℕ × List ℕ} (λ rest. (o, rest)) (λ k. OfBound k o) types more
     (enclosed_at before close text)
 unfolding enclosed_at
-enclosed_reads types before close text None more apart h = rw (if_apart before text more apart h) (good text h (λ k. tt))
+enclosed_reads types before close text None more apart h =
+    rw (if_apart before text more apart h) (good text h (λ k. tt))
 enclosed_reads types before close text (Some n) more apart h =
     rw (mark_if_again before text (number n ∷ mark close ∷ more) h)
-    (out_bind (size_at h.0) (λ n. mark_at close n.1 >>= λ r. Ok (Some n.0, r)) (size_reads types h.0 n (mark close ∷ more) h.2)
+    (out_bind (size_at h.0) (λ n. mark_at close n.1 >>= λ r. Ok (Some n.0, r))
+    (size_reads types h.0 n (mark close ∷ more) h.2)
     (λ rest m keeps. rw (mark_again close rest more m) (good m.0 m.2 keeps)) (λ k w. w) within_same)
 
 pub most_reads : (types : List Node) (text : List ℕ) (o : Option ℕ) (more : List Token)
     → Apart marks.Comma more → AreTokens text (spell_most o more)
     → Out {X = Option ℕ × List ℕ} (λ rest. (o, rest)) (λ k. OfBound k o) types more (most_at text)
 unfolding most_at
-most_reads types text None more apart h = rw (if_apart marks.Comma text more apart h) (good text h (λ k. tt))
+most_reads types text None more apart h =
+    rw (if_apart marks.Comma text more apart h) (good text h (λ k. tt))
 most_reads types text (Some n) more apart h =
     rw (mark_if_again marks.Comma text (number n ∷ more) h)
-    (out_bind (size_at h.0) (λ n. Ok (Some n.0, n.1)) (size_reads types h.0 n more h.2) (λ rest m keeps. good rest m keeps) (λ k w. w) within_same)
+    (out_bind (size_at h.0) (λ n. Ok (Some n.0, n.1)) (size_reads types h.0 n more h.2)
+    (λ rest m keeps. good rest m keeps) (λ k w. w) within_same)

@@ -25,18 +25,22 @@ size_takes : (text : List ℕ) (x : ℕ × List ℕ) → size_at text ≡ Ok x
 unfolding size_at
 size_takes text x e =
     let a = bind_ok _ _ x e in
-    subst (λ y. Takes text (number y.0) y.1) (size_by text a.0 x (eqb (a.0).0 0) (ltb 4294967295 (a.0).0) a.2) (number_takes text a.0 a.1)
+    subst (λ y. Takes text (number y.0) y.1)
+    (size_by text a.0 x (eqb (a.0).0 0) (ltb 4294967295 (a.0).0) a.2)
+    (number_takes text a.0 a.1)
 
 within_by : (before close : Mark) (text : List ℕ) (o : Option (List ℕ)) (x : Option ℕ × List ℕ)
     → mark_if before text ≡ Ok o → size_within close text o ≡ Ok x
     → Took (spell_between before close x.0) (Unit {0}) text x.1
 within_by before close text None x h e =
-    subst (λ (y : Option ℕ × List ℕ). Took (spell_between before close y.0) (Unit {0}) text y.1) (ok_is (None, text) x e)
+    subst (λ (y : Option ℕ × List ℕ). Took (spell_between before close y.0) (Unit {0}) text y.1)
+    (ok_is (None, text) x e)
     (record { free = tt; front = λ more m. m })
 within_by before close text (Some inner) x h e =
     let n = bind_ok (size_at inner) (λ n. mark_at close n.1 >>= λ r. Ok (Some n.0, r)) x e in
     let r = bind_ok (mark_at close (n.0).1) (λ r. Ok (Some (n.0).0, r)) x n.2 in
-    subst (λ (y : Option ℕ × List ℕ). Took (spell_between before close y.0) (Unit {0}) text y.1) (ok_is (Some (n.0).0, r.0) x r.2)
+    subst (λ (y : Option ℕ × List ℕ). Took (spell_between before close y.0) (Unit {0}) text y.1)
+    (ok_is (Some (n.0).0, r.0) x r.2)
     (record {
       free = tt;
       front = λ more m. mark_if_takes before text inner h (number (n.0).0 ∷ mark close ∷ more)
@@ -55,16 +59,24 @@ behind_by : (text : List ℕ) (o : Option (List ℕ)) (x : Option ℕ × List �
     → mark_if marks.Comma text ≡ Ok o → size_after text o ≡ Ok x
     → Took (spell_most x.0) (Unit {0}) text x.1
 behind_by text None x h e =
-    subst (λ (y : Option ℕ × List ℕ). Took (spell_most y.0) (Unit {0}) text y.1) (ok_is (None, text) x e) (record { free = tt; front = λ more m. m })
+    subst (λ (y : Option ℕ × List ℕ). Took (spell_most y.0) (Unit {0}) text y.1)
+    (ok_is (None, text) x e) (record { free = tt; front = λ more m. m })
 behind_by text (Some inner) x h e =
     let n = bind_ok (size_at inner) (λ n. Ok (Some n.0, n.1)) x e in
-    subst (λ (y : Option ℕ × List ℕ). Took (spell_most y.0) (Unit {0}) text y.1) (ok_is (Some (n.0).0, (n.0).1) x n.2)
-    (record { free = tt; front = λ more m. mark_if_takes marks.Comma text inner h (number (n.0).0 ∷ more) (size_takes inner n.0 n.1 more m) })
+    subst (λ (y : Option ℕ × List ℕ). Took (spell_most y.0) (Unit {0}) text y.1)
+    (ok_is (Some (n.0).0, (n.0).1) x n.2)
+    (record {
+      free = tt;
+      front = λ more m.
+          mark_if_takes marks.Comma text inner h (number (n.0).0 ∷ more)
+          (size_takes inner n.0 n.1 more m);
+    })
 
 pub most_takes : (text : List ℕ) (x : Option ℕ × List ℕ) → most_at text ≡ Ok x
     → Took (spell_most x.0) (Unit {0}) text x.1
 unfolding most_at
-most_takes text x e = let a = bind_ok (mark_if marks.Comma text) (λ inner. size_after text inner) x e in behind_by text a.0 x a.1 a.2
+most_takes text x e = let a = bind_ok (mark_if marks.Comma text) (λ inner. size_after text inner) x
+    e in behind_by text a.0 x a.1 a.2
 
 -- the rule that names are not reserved asks nothing of sizes
 pub bound_free : (o : Option ℕ) → OfBound kinds.Syntax o

@@ -1,4 +1,5 @@
--- Every type of a table but the empty struct takes at least one octet, and a reader has room for it.
+-- Every type of a table but the empty struct takes at least one octet, and a reader has room for
+-- it.
 use Rattle.std.proofs.Common.{◌≡◌, ℕ, zero, suc, ◌<◌, ◌≤◌, max, Bool, true, false, cond, List, [], ◌∷◌, length, Option, Some, None, refl, sym, ap, subst, ◌∙◌, ◌⊎◌, inl, inr, arith}
 use Rattle.std.specs.List.{list_any}
 use Rattle.std.proofs.lemmas.List.Quantifiers.{position-Some}
@@ -22,7 +23,8 @@ use Rattle.giop_sig.proofs.Depths.{depth_within}
 case_of_below : (count : ℕ) (found : Option ℕ) (otherwise : Selected) (i : ℕ)
     → ((k : ℕ) → found ≡ Some k → k < count) → IsCaseBelow count otherwise
     → case_or found otherwise ≡ selecteds.Case i → i < count
-case_of_below count (Some k) otherwise i found below e = let same : k ≡ i = cc in let lt = found k refl in omega arith
+case_of_below count (Some k) otherwise i found below e = let same : k ≡ i = cc in let lt =
+    found k refl in omega arith
 case_of_below count None otherwise i found below e = subst (IsCaseBelow count) e below
 
 tag_below : (v : Bool) (i : ℕ)
@@ -34,7 +36,8 @@ pub selected_below : (types : List Node) (n : ℕ) (node : Node) (number : Numbe
     → IsFormed types n node → selected node number ≡ selecteds.Case i → HasMember (shape_of node) i
 selected_below types n (nodes.union switch cases otherwise) number i formed e =
     case_of_below (length cases) (case_with number cases) otherwise i
-    (λ k at. (position-Some (λ c. list_any (λ label. same_number label number) c.labels) cases k no_case at).0) formed.3 e
+    (λ k at. (position-Some (λ c. list_any (λ label. same_number label number) c.labels) cases k
+    no_case at).0) formed.3 e
 selected_below types n (nodes.tagged special tag inner other) number i formed e =
     tag_below (same_number (numbers.Unsigned special) number) i e
 selected_below types n _ number i formed e = absurd cc
@@ -58,7 +61,8 @@ part_solid : (types : List Node) (n : ℕ) (node : Node) (i : ℕ)
     → IsFormed types n node → InnerSolid types n
     → HasPlace (shape_of node) i → IsSolid (part_of (grow (type_in types) node) i)
 part_solid types n node i formed inner has =
-    subst IsSolid (part_grown (type_in types) node i has) (inner (type_of (part_at node i)) (part_formed types n node i formed has))
+    subst IsSolid (part_grown (type_in types) node i has)
+    (inner (type_of (part_at node i)) (part_formed types n node i formed has))
 
 grown_solid : (types : List Node) (n : ℕ) (node : Node) → IsFormed types n node → TakesOctet node
     → InnerSolid types n → IsSolid (grow (type_in types) node)
@@ -67,14 +71,17 @@ grown_solid types n (nodes.members []) formed takes inner = absurd takes
 grown_solid types n (nodes.members (p ∷ ps)) formed takes inner =
     (some_part p ps, λ i lt. part_solid types n (nodes.members (p ∷ ps)) i formed inner lt)
 grown_solid types n (nodes.union switch cases otherwise) formed takes inner = (
-  λ k i e. taken_below types n (nodes.union switch cases otherwise) (interpreted_by (scalar_of (type_in types switch)) k) i formed e,
+  λ k i e. taken_below types n (nodes.union switch cases otherwise)
+      (interpreted_by (scalar_of (type_in types switch)) k) i formed e,
   λ i lt. part_solid types n (nodes.union switch cases otherwise) i formed inner lt,
 )
 grown_solid types n (nodes.sequence bound element) formed takes inner = inner element formed
-grown_solid types n (nodes.array count element) formed takes inner = (formed.0, inner element formed.1)
+grown_solid types n (nodes.array count element) formed takes inner =
+    (formed.0, inner element formed.1)
 grown_solid types n (nodes.encapsulation held) formed takes inner = inner held formed
 grown_solid types n (nodes.tagged special tag one other) formed takes inner = (
-  λ k i e. taken_below types n (nodes.tagged special tag one other) (interpreted_by (scalar_of (type_in types tag.type)) k) i formed e,
+  λ k i e. taken_below types n (nodes.tagged special tag one other)
+      (interpreted_by (scalar_of (type_in types tag.type)) k) i formed e,
   λ i lt. part_solid types n (nodes.tagged special tag one other) i formed inner lt,
 )
 grown_solid types n _ formed takes inner = tt
@@ -85,7 +92,8 @@ solid_below types zero i are lt known takes = absurd (omega arith)
 solid_below types (suc fuel) i are lt known takes =
     subst IsSolid (sym (tree_of_parts types i are known))
     (grown_solid types i (node_in types i) (are.formed i known) takes
-    (λ k is. solid_below types fuel k are (let b = is.below in omega arith) (let b = is.below in omega arith) is.takes))
+    (λ k is. solid_below types fuel k are (let b = is.below in omega arith)
+    (let b = is.below in omega arith) is.takes))
 
 pub solid_at : (types : List Node) (i : ℕ) → AreTypes types → i < length types
     → TakesOctet (node_in types i) → IsSolid (type_in types i)
@@ -111,11 +119,17 @@ fit_by (Text bound) (suc d) solid le = tt
 fit_by (Octets bound) zero solid le = absurd (omega arith)
 fit_by (Octets bound) (suc d) solid le = tt
 fit_by (Struct count names parts) zero solid le = absurd (omega arith)
-fit_by (Struct count names parts) (suc d) solid le =
-    (solid.0, λ i lt. fit_by (parts i) d (solid.1 i lt) (omega (arith, most_above count (λ k. depth (parts k)) i lt)))
+fit_by (Struct count names parts) (suc d) solid le = (
+  solid.0,
+  λ i lt. fit_by (parts i) d (solid.1 i lt)
+      (omega (arith, most_above count (λ k. depth (parts k)) i lt)),
+)
 fit_by (Union choice scalar select names cases) zero solid le = absurd (omega arith)
-fit_by (Union choice scalar select names cases) (suc d) solid le =
-    (solid.0, λ i lt. fit_by (cases i) d (solid.1 i lt) (omega (arith, most_above (places_of choice) (λ k. depth (cases k)) i lt)))
+fit_by (Union choice scalar select names cases) (suc d) solid le = (
+  solid.0,
+  λ i lt. fit_by (cases i) d (solid.1 i lt)
+      (omega (arith, most_above (places_of choice) (λ k. depth (cases k)) i lt)),
+)
 fit_by (Sequence bound T) zero solid le = absurd (omega arith)
 fit_by (Sequence bound T) (suc d) solid le = fit_by T d solid (omega arith)
 fit_by (Encapsulation T) zero solid le = absurd (omega arith)
@@ -126,7 +140,8 @@ fit_by (Array count T) (suc d) solid le = (solid.0, fit_by T d solid.1 (omega ar
 pub fit_at : (types : List Node) (i : ℕ) → AreTypes types → i < length types
     → TakesOctet (node_in types i) → IsFit 24 (type_in types i)
 fit_at types i are known takes =
-    fit_by (type_in types i) 24 (solid_at types i are known takes) (let shallow = are.shallow in omega (arith, depth_within types i known))
+    fit_by (type_in types i) 24 (solid_at types i are known takes)
+    (let shallow = are.shallow in omega (arith, depth_within types i known))
 
 takes_or_empty : (node : Node) → TakesOctet node ⊎ (node ≡ nodes.members [])
 takes_or_empty (nodes.members []) = inr refl
@@ -137,6 +152,8 @@ pub root_at : (types : List Node) (i : ℕ) → AreTypes types → i < length ty
     → IsRoot (type_in types i)
 root_at types i are known = by (takes_or_empty (node_in types i))
   where
-    by : TakesOctet (node_in types i) ⊎ (node_in types i ≡ nodes.members []) → IsRoot (type_in types i)
+    by : TakesOctet (node_in types i) ⊎ (node_in types i ≡ nodes.members []) →
+        IsRoot (type_in types i)
     by (inl takes) = inl (fit_at types i are known takes)
-    by (inr e) = inr (subst IsEmptyStruct (sym (tree_of_parts types i are known ∙ ap (grow (type_in types)) e)) tt)
+    by (inr e) = inr (subst IsEmptyStruct (sym (tree_of_parts types i are known
+        ∙ ap (grow (type_in types)) e)) tt)

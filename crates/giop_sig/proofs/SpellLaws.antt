@@ -1,4 +1,5 @@
--- Lengths of spellings: a spelling is written in front of what follows it, and each declaration has tokens.
+-- Lengths of spellings: a spelling is written in front of what follows it, and each declaration has
+-- tokens.
 use Rattle.std.proofs.Common.{ℕ, ◌<◌, ◌≤◌, List, [], ◌∷◌, length, Option, Some, None, arith}
 use Rattle.giop_tokens.specs.declared.marks.Mark.{Mark}
 use Rattle.giop_tokens.specs.declared.marks.Mark.TheVariants as marks
@@ -16,16 +17,28 @@ most (Some n) more = omega arith
 
 typed : (e : TypeExpr) (more : List Token) → length more ≤ length (spell_type e more)
 typed (Text o) more = omega (arith, between marks.OpenAngle marks.CloseAngle o more)
-typed (SequenceOf e o) more = omega (arith, typed e (spell_most o (mark marks.CloseAngle ∷ more)), most o (mark marks.CloseAngle ∷ more))
+typed (SequenceOf e o) more = omega (
+  arith,
+  typed e (spell_most o (mark marks.CloseAngle ∷ more)),
+  most o (mark marks.CloseAngle ∷ more),
+)
 typed (EncapsulationOf e) more = omega (arith, typed e (mark marks.CloseAngle ∷ more))
 typed _ more = omega arith
 
 item : (i : Item) (more : List Token) → length more ≤ length (spell_item i more)
-item i more = omega (arith, typed i.type (word i.name ∷ spell_length i.length more), between marks.OpenBracket marks.CloseBracket i.length more)
+item i more = omega (
+  arith,
+  typed i.type (word i.name ∷ spell_length i.length more),
+  between marks.OpenBracket marks.CloseBracket i.length more,
+)
 
 items : (is : List Item) (more : List Token) → length more ≤ length (spell_items is more)
 items [] more = omega arith
-items (i ∷ is) more = omega (arith, item i (mark marks.Semicolon ∷ spell_items is more), items is more)
+items (i ∷ is) more = omega (
+  arith,
+  item i (mark marks.Semicolon ∷ spell_items is more),
+  items is more,
+)
 
 more_names : (ns : List (List ℕ)) (more : List Token)
     → length more ≤ length (spell_more_names ns more)
@@ -52,12 +65,22 @@ cases : (cs : List UnionCase) (more : List Token) → length more ≤ length (sp
 cases [] more = omega arith
 cases (c ∷ cs) more =
     let tail = mark marks.Semicolon ∷ spell_cases cs more in
-    omega (arith, label c.label (spell_labels c.others (spell_item c.item tail)), labels c.others (spell_item c.item tail), item c.item tail, cases cs more)
+    omega (
+      arith,
+      label c.label (spell_labels c.others (spell_item c.item tail)),
+      labels c.others (spell_item c.item tail),
+      item c.item tail,
+      cases cs more,
+    )
 
 more_params : (ps : List Param) (more : List Token)
     → length more ≤ length (spell_more_params ps more)
 more_params [] more = omega arith
-more_params (p ∷ ps) more = omega (arith, item p.item (spell_more_params ps more), more_params ps more)
+more_params (p ∷ ps) more = omega (
+  arith,
+  item p.item (spell_more_params ps more),
+  more_params ps more,
+)
 
 params : (ps : List Param) (more : List Token) → length more ≤ length (spell_params ps more)
 params [] more = omega arith
@@ -73,11 +96,19 @@ spelled_more (Enumeration n ns) more = omega (arith, names ns (mark marks.Semico
 spelled_more (Structure n is) more = omega (arith, items is (mark marks.Semicolon ∷ more))
 spelled_more (DeclaredUnion n e cs) more =
     let tail = spell_cases cs (mark marks.Semicolon ∷ more) in
-    omega (arith, typed e (mark marks.CloseParenthesis ∷ mark marks.OpenBrace ∷ tail), cases cs (mark marks.Semicolon ∷ more))
+    omega (
+      arith,
+      typed e (mark marks.CloseParenthesis ∷ mark marks.OpenBrace ∷ tail),
+      cases cs (mark marks.Semicolon ∷ more),
+    )
 spelled_more (DeclaredException n r is) more = omega (arith, items is (mark marks.Semicolon ∷ more))
 spelled_more (Call o n ps) more =
     let tail = spell_params ps (mark marks.Semicolon ∷ more) in
-    omega (arith, returned o (word n ∷ mark marks.OpenParenthesis ∷ tail), params ps (mark marks.Semicolon ∷ more))
+    omega (
+      arith,
+      returned o (word n ∷ mark marks.OpenParenthesis ∷ tail),
+      params ps (mark marks.Semicolon ∷ more),
+    )
 
 -- as many tokens as declarations, at least
 pub spelled_few : (ds : List Declaration) → length ds ≤ length (spell_all ds)

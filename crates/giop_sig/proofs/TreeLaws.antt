@@ -1,4 +1,5 @@
--- The tree of a type is its node's, with the trees of its parts; a table that grows keeps its trees.
+-- The tree of a type is its node's, with the trees of its parts; a table that grows keeps its
+-- trees.
 use Rattle.std.proofs.Common.{◌≡◌, ℕ, zero, suc, ◌+◌, ◌<◌, ◌≤◌, List, [], ◌∷◌, ◌++◌, length, get_or, Option, Some, None, refl, sym, ap, subst, ◌∙◌, add-zero, zero-add, arith}
 use Rattle.std.specs.Prelude.{slice_get}
 use Rattle.std.specs.List.{AllByRecursion}
@@ -43,22 +44,31 @@ union_same : (types : List Node) (n : ℕ) (f g : ℕ → Ty) (choice : Choice)
     → grown_union f choice node ≡ grown_union g choice node
 union_same types n f g choice node same switch parts =
     ap (λ T. union_of choice node T (λ i. grown_part f (part_at node i))) switch
-    ∙ ap (union_of choice node (g (switch_at node))) (fun_ext (λ i. part_same types n f g (part_at node i) same (parts i)))
+    ∙ ap (union_of choice node (g (switch_at node)))
+    (fun_ext (λ i. part_same types n f g (part_at node i) same (parts i)))
 
 grow_same : (types : List Node) (n : ℕ) (f g : ℕ → Ty) (node : Node) → SameBelow n f g
     → IsFormed types n node → grow f node ≡ grow g node
 grow_same types n f g (nodes.members parts) same formed =
     ap (Struct (length parts) (λ i. name_of (slice_get parts i)))
-    (fun_ext (λ i. part_same types n f g (slice_get parts i) same (part_read (IsPart types n) parts i (recursion_from_All (IsPart types n) parts formed.1))))
+    (fun_ext (λ i. part_same types n f g (slice_get parts i) same
+    (part_read (IsPart types n) parts i (recursion_from_All (IsPart types n) parts formed.1))))
 grow_same types n f g (nodes.union switch cases otherwise) same formed =
-    union_same types n f g (Cases (length cases)) (nodes.union switch cases otherwise) same (same switch formed.0.below)
-    (λ i. case_read (IsPart types n) cases i (recursion_from_All (λ (c : Case). IsPart types n c.part) cases formed.2))
-grow_same types n f g (nodes.sequence bound element) same formed = ap (Sequence bound) (same element formed.below)
-grow_same types n f g (nodes.array count element) same formed = ap (Array count) (same element formed.1.below)
-grow_same types n f g (nodes.encapsulation held) same formed = ap Encapsulation (same held formed.below)
+    union_same types n f g (Cases (length cases)) (nodes.union switch cases otherwise) same
+    (same switch formed.0.below)
+    (λ i. case_read (IsPart types n) cases i
+    (recursion_from_All (λ (c : Case). IsPart types n c.part) cases formed.2))
+grow_same types n f g (nodes.sequence bound element) same formed =
+    ap (Sequence bound) (same element formed.below)
+grow_same types n f g (nodes.array count element) same formed =
+    ap (Array count) (same element formed.1.below)
+grow_same types n f g (nodes.encapsulation held) same formed =
+    ap Encapsulation (same held formed.below)
 grow_same types n f g (nodes.tagged special tag inner other) same formed =
-    union_same types n f g Tag (nodes.tagged special tag inner other) same (same tag.type formed.0.below)
-    (λ i. part_read (IsPart types n) (tag ∷ inner ∷ other ∷ []) i (formed.1, (formed.2, (formed.3, tt))))
+    union_same types n f g Tag (nodes.tagged special tag inner other) same
+    (same tag.type formed.0.below)
+    (λ i. part_read (IsPart types n) (tag ∷ inner ∷ other ∷ []) i
+    (formed.1, (formed.2, (formed.3, tt))))
 grow_same types n f g _ same formed = refl
 
 -- the trees so far stay
@@ -67,7 +77,8 @@ kept : (done : List Ty) (ns : List Node) (i : ℕ) → i < length done
 unfolding trees_after
 kept done [] i lt = refl
 kept done (n ∷ ns) i lt =
-    kept (done ++ grow (tree_in done) n ∷ []) ns i (omega (arith, length-append done (grow (tree_in done) n ∷ [])))
+    kept (done ++ grow (tree_in done) n ∷ []) ns i
+    (omega (arith, length-append done (grow (tree_in done) n ∷ [])))
     ∙ get_or_append_left done (grow (tree_in done) n ∷ []) octet_type i lt
 
 made : (types : List Node) (done : List Ty) (ns : List Node) (j i : ℕ)
@@ -83,18 +94,21 @@ made types done (n ∷ ns) zero i lt at formed =
     let more = done ++ grow (tree_in done) n ∷ [] in
     kept more ns i (omega (arith, length-append done (grow (tree_in done) n ∷ [])))
     ∙ ap (tree_in more) e ∙ get_or-append_seam done (grow (tree_in done) n) [] octet_type
-    ∙ grow_same types (length done) (tree_in done) (tree_in (trees_after more ns)) n (λ k h. sym (kept done (n ∷ ns) k h)) first
+    ∙ grow_same types (length done) (tree_in done) (tree_in (trees_after more ns)) n
+    (λ k h. sym (kept done (n ∷ ns) k h)) first
 made types done (n ∷ ns) (suc j) i lt at formed =
     let more = done ++ grow (tree_in done) n ∷ [] in
     let len : length more ≡ length done + 1 = length-append done (grow (tree_in done) n ∷ []) in
     made types more ns j i (omega arith) (omega (arith, len))
-    (λ k h. subst (λ m. IsFormed types m (get_or ns k (nodes.prim Octet))) (omega (arith, len)) (formed (suc k) (omega arith)))
+    (λ k h. subst (λ m. IsFormed types m (get_or ns k (nodes.prim Octet))) (omega (arith, len))
+    (formed (suc k) (omega arith)))
 
 -- the tree of a type is its node over the trees of its parts
 pub tree_of_parts : (types : List Node) (i : ℕ) → AreTypes types → i < length types
     → type_in types i ≡ grow (type_in types) (get_or types i (nodes.prim Octet))
 unfolding type_in
-tree_of_parts types i are lt = made types [] types i i lt (omega arith) (λ k h. rw zero-add (are.formed k h))
+tree_of_parts types i are lt = made types [] types i i lt (omega arith)
+    (λ k h. rw zero-add (are.formed k h))
 
 -- ---- the discriminator
 
@@ -109,12 +123,14 @@ pub single_at : (types : List Node) (i : ℕ) → AreTypes types → i < length 
     → IsScalarNode (node_in types i) → type_in types i ≡ Single (scalar_of (type_in types i))
 single_at types i are lt is =
     let e = tree_of_parts types i are lt in
-    e ∙ single_of (type_in types) (node_in types i) is ∙ ap (λ (T : Ty). Single (scalar_of T)) (sym e)
+    e ∙ single_of (type_in types) (node_in types i) is
+    ∙ ap (λ (T : Ty). Single (scalar_of T)) (sym e)
 
 pub switch_grown : (types : List Node) (n : ℕ) (node : Node) → IsFormed types n node
     → AreTypes types → n ≤ length types → IsUnion (shape_of node)
     → type_in types (switch_at node) ≡ switch_of (grow (type_in types) node)
-switch_grown types n (nodes.union switch cases otherwise) formed are le is = single_at types switch are (let b = formed.0.below in omega arith) formed.0.scalar
+switch_grown types n (nodes.union switch cases otherwise) formed are le is =
+    single_at types switch are (let b = formed.0.below in omega arith) formed.0.scalar
 switch_grown types n (nodes.tagged special tag inner other) formed are le is =
     single_at types tag.type are (let b = formed.0.below in omega arith) formed.0.scalar
 switch_grown types n _ formed are le is = absurd is
@@ -131,12 +147,17 @@ pub length_after : (done : List Ty) (ns : List Node)
     → length (trees_after done ns) ≡ length done + length ns
 unfolding trees_after
 length_after done [] = omega arith
-length_after done (n ∷ ns) = omega (arith, length_after (done ++ grow (tree_in done) n ∷ []) ns, length-append done (grow (tree_in done) n ∷ []))
+length_after done (n ∷ ns) = omega (
+  arith,
+  length_after (done ++ grow (tree_in done) n ∷ []) ns,
+  length-append done (grow (tree_in done) n ∷ []),
+)
 
 -- the types that were there keep their trees
 pub tree_stays : (ns ms : List Node) (i : ℕ) → i < length ns → type_in (ns ++ ms) i ≡ type_in ns i
 unfolding type_in
-tree_stays ns ms i lt = ap (λ ts. tree_in ts i) (after_append [] ns ms) ∙ kept (trees_of ns) ms i (omega (arith, length_after [] ns))
+tree_stays ns ms i lt = ap (λ ts. tree_in ts i) (after_append [] ns ms)
+    ∙ kept (trees_of ns) ms i (omega (arith, length_after [] ns))
 
 -- the trees, once a type is added
 pub trees_added : (ns : List Node) (n : Node)

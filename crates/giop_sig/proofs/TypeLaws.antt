@@ -34,7 +34,8 @@ use Rattle.giop_sig.proofs.ReadingLaws.{Breaks, lift, Good, Out, good, broken, o
 
 added_case : (rule : Kind → Type 0) (at : ℕ) (s : Scope) (n : Node) (a b : Bool)
     → leb (depth (grow (tree s.table) n)) 24 ≡ a → leb 4294967295 (size s) ≡ b
-    → MatchResult (cond a (cond b (Err (too_many_types at)) (Ok (with_node s n))) (Err (too_deep at)))
+    → MatchResult (cond a (cond b (Err (too_many_types at)) (Ok (with_node s n)))
+    (Err (too_deep at)))
     (λ (p : AddedType). p ≡ with_node s n)
     (λ (e : Refusal). Breaks e.kind rule (with_node s n).0.table.types)
 added_case rule at s n true true p q =
@@ -51,7 +52,8 @@ added_out : (rule : Kind → Type 0) (at : ℕ) (s : Scope) (n : Node)
     (λ (e : Refusal). Breaks e.kind rule (with_node s n).0.table.types)
 unfolding added
 added_out rule at s n =
-    added_case rule at s n (leb (depth (grow (tree s.table) n)) 24) (leb 4294967295 (size s)) refl refl
+    added_case rule at s n (leb (depth (grow (tree s.table) n)) 24) (leb 4294967295 (size s)) refl
+    refl
 
 added_by : {Y : Type 0} {made : List ℕ → Y} {rule : Kind → Type 0}
     {types : List Node} {more : List Token}
@@ -71,13 +73,15 @@ pub added_bind : {Y : Type 0} {made : List ℕ → Y} {rule : Kind → Type 0}
     (at : ℕ) (s : Scope) (n : Node) (h : AddedType → Result Y Refusal)
     → Within (with_node s n).0.table.types types → Out made rule types more (h (with_node s n))
     → Out made rule types more (added at s n >>= h)
-added_bind {rule = rule} at s n h le on = added_by s n (added at s n) h (added_out rule at s n) le on
+added_bind {rule = rule} at s n h le on =
+    added_by s n (added at s n) h (added_out rule at s n) le on
 
 -- ---- the word of a type
 
 not_by : (w v : List ℕ) (b : Bool) → bytes_eq w v ≡ b → is_reserved w ≡ false
     → is_reserved v ≡ true → bytes_eq w v ≡ false
-not_by w v true e free reserved = absurd (false≢true (sym free ∙ ap is_reserved ((bytes_eq-Decides w v).0 e) ∙ reserved))
+not_by w v true e free reserved = absurd
+    (false≢true (sym free ∙ ap is_reserved ((bytes_eq-Decides w v).0 e) ∙ reserved))
 not_by w v false e free reserved = e
 
 -- a free name is no word that is reserved
@@ -144,10 +148,12 @@ base_reads at inner s p text rest more m =
 
 text_type_reads : (at : ℕ) (s : Scope) (o : Option ℕ) (rest : List ℕ) (more : List Token)
     → AreTokens rest more → ((k : Kind) → OfBound k o)
-    → Out {X = TypeRead} (λ rest. ((add_text_type s o).0, (add_text_type s o).1, rest)) (λ k. OfBound k o)
+    → Out {X = TypeRead} (λ rest. ((add_text_type s o).0, (add_text_type s o).1, rest))
+    (λ k. OfBound k o)
     (add_text_type s o).0.table.types more (text_type at s o >>= λ t. Ok (t.0, t.1, rest))
 text_type_reads at s None rest more m keeps = good rest m keeps
-text_type_reads at s (Some n) rest more m keeps = added_bind at s (nodes.text (Some n)) (λ t. Ok (t.0, t.1, rest)) within_same (good rest m keeps)
+text_type_reads at s (Some n) rest more m keeps =
+    added_bind at s (nodes.text (Some n)) (λ t. Ok (t.0, t.1, rest)) within_same (good rest m keeps)
 
 text_more : (s : Scope) (o : Option ℕ) → Grown s (add_text_type s o).0
 text_more s None = within_same
@@ -159,7 +165,8 @@ string_reads : (at : ℕ) (s : Scope) (o : Option ℕ) (rest : List ℕ) (more :
     (place s (Text o)).0.table.types more (text_at at s rest)
 unfolding text_at OfType place
 string_reads at s o rest more apart h =
-    out_bind (enclosed_at marks.OpenAngle marks.CloseAngle rest) (λ b. text_type at s b.0 >>= λ t. Ok (t.0, t.1, b.1))
+    out_bind (enclosed_at marks.OpenAngle marks.CloseAngle rest)
+    (λ b. text_type at s b.0 >>= λ t. Ok (t.0, t.1, b.1))
     (enclosed_reads s.table.types marks.OpenAngle marks.CloseAngle rest o more apart h)
     (λ r m keeps. text_type_reads at s o r more m keeps) (λ k w. w) (text_more s o)
 
@@ -178,23 +185,29 @@ found_reads : (s : Scope) (text w rest : List ℕ) (more : List Token) (o : Opti
     → named s.names w ≡ o → IsFree w → length w ≤ 64 → AreTokens rest more
     → Out {X = TypeRead} (λ rest. (s, number_or o, rest)) (λ k. OfTypeName k s.names w)
     s.table.types more (found_type s text rest o)
-found_reads s text w rest more None e free short m = broken (refused kinds.UnknownType text) (not_found s.names w e)
-found_reads s text w rest more (Some i) e free short m = good rest m (named_keeps s.names w i free short e)
+found_reads s text w rest more None e free short m =
+    broken (refused kinds.UnknownType text) (not_found s.names w e)
+found_reads s text w rest more (Some i) e free short m =
+    good rest m (named_keeps s.names w i free short e)
 
 long_reads : (s : Scope) (text w rest : List ℕ) (more : List Token) (v : Bool)
     → ltb 64 (length w) ≡ v → IsFree w → AreTokens rest more
     → Out {X = TypeRead} (λ rest. (s, number_or (named s.names w), rest))
     (λ k. OfTypeName k s.names w) s.table.types more
     (cond v (Err (refused kinds.Limit text)) (found_type s text rest (named s.names w)))
-long_reads s text w rest more true e free m = broken (refused kinds.Limit text) (inl (λ short. let z = ltb-true 64 (length w) e in omega arith))
-long_reads s text w rest more false e free m = found_reads s text w rest more (named s.names w) refl free (ltb-false 64 (length w) e) m
+long_reads s text w rest more true e free m =
+    broken (refused kinds.Limit text) (inl
+    (λ short. let z = ltb-true 64 (length w) e in omega arith))
+long_reads s text w rest more false e free m =
+    found_reads s text w rest more (named s.names w) refl free (ltb-false 64 (length w) e) m
 
 named_reads : (s : Scope) (text w rest : List ℕ) (more : List Token)
     → IsFree w → AreTokens rest more
     → Out (placed s (Named w)) (λ k. OfType k s.names (Named w)) (place s (Named w)).0.table.types
     more (named_type s text w rest)
 unfolding named_type OfType place
-named_reads s text w rest more free m = rw free (long_reads s text w rest more (ltb 64 (length w)) refl free m)
+named_reads s text w rest more free m = rw free
+    (long_reads s text w rest more (ltb 64 (length w)) refl free m)
 
 name_reads : (at : ℕ) (inner : List ℕ → Result TypeRead Refusal) (s : Scope)
     (text w rest : List ℕ) (more : List Token)
@@ -222,10 +235,12 @@ closed_reads : (at : ℕ) (s : Scope) (e : TypeExpr) (o : Option ℕ) (rest : Li
     >>= λ r. added at (place s e).0 (sequence_node b.0 (place s e).1) >>= λ t. Ok (t.0, t.1, r))
 unfolding OfType place
 closed_reads at s e o rest more m keeps apart =
-    out_bind (most_at rest) (λ b. mark_at marks.CloseAngle b.1 >>= λ r. added at (place s e).0 (sequence_node b.0 (place s e).1) >>= λ t. Ok (t.0, t.1, r))
+    out_bind (most_at rest) (λ b. mark_at marks.CloseAngle b.1 >>= λ r.
+    added at (place s e).0 (sequence_node b.0 (place s e).1) >>= λ t. Ok (t.0, t.1, r))
     (most_reads (place s e).0.table.types rest o (mark marks.CloseAngle ∷ more) apart m)
     (λ r n bound. rw (mark_again marks.CloseAngle r more n)
-    (added_bind at (place s e).0 (sequence_node o (place s e).1) (λ t. Ok (t.0, t.1, n.0)) within_same (good n.0 n.2 (λ k. (keeps k, bound k)))))
+    (added_bind at (place s e).0 (sequence_node o (place s e).1) (λ t. Ok (t.0, t.1, n.0))
+    within_same (good n.0 n.2 (λ k. (keeps k, bound k)))))
     (λ k w. w.1) (node_more (place s e).0 (sequence_node o (place s e).1))
 
 version_keeps : (names : Names) → has_encapsulations names ≡ true → (k : Kind) → OfVersion k names
@@ -298,13 +313,18 @@ type_out : (at left : ℕ) (s : Scope) (e : TypeExpr) (text : List ℕ) (more : 
 unfolding type_at leaf_at OfType
 type_out at zero s e text more free apart h = record { out = inr (refl, omega arith) }
 type_out at (suc left) s (Base p) text more free apart h =
-    rw (word_again text (base_word p) more h) (type_by (suc left) s (Base p) more _ (base_reads at (type_at at left s) s p text h.0 more h.2))
+    rw (word_again text (base_word p) more h)
+    (type_by (suc left) s (Base p) more _
+    (base_reads at (type_at at left s) s p text h.0 more h.2))
 type_out at (suc left) s (Text o) text more free apart h =
-    rw (word_again text (codes "string") (spell_bound o more) h) (type_by (suc left) s (Text o) more _ (string_reads at s o h.0 more apart h.2))
+    rw (word_again text (codes "string") (spell_bound o more) h)
+    (type_by (suc left) s (Text o) more _ (string_reads at s o h.0 more apart h.2))
 type_out at (suc left) s Reference text more free apart h =
-    rw (word_again text (codes "Object") more h) (type_by (suc left) s Reference more _ (reference_reads s h.0 more h.2))
+    rw (word_again text (codes "Object") more h)
+    (type_by (suc left) s Reference more _ (reference_reads s h.0 more h.2))
 type_out at (suc left) s (Named w) text more free apart h =
-    rw (word_again text w more h) (type_by (suc left) s (Named w) more _ (name_reads at (type_at at left s) s text w h.0 more free h.2))
+    rw (word_again text w more h) (type_by (suc left) s (Named w) more _
+    (name_reads at (type_at at left s) s text w h.0 more free h.2))
 type_out at (suc left) s (SequenceOf e o) text more free apart h =
     let tail = spell_most o (mark marks.CloseAngle ∷ more) in
     let nests : Nests s e (SequenceOf e o)
@@ -313,7 +333,8 @@ type_out at (suc left) s (SequenceOf e o) text more free apart h =
       word_again text (codes "sequence") (mark marks.OpenAngle ∷ spell_type e tail) h,
       mark_again marks.OpenAngle h.0 (spell_type e tail) h.2,
     )
-    (nested_by left s e (SequenceOf e o) tail more (type_at at left s (h.2).0) (after_element at) nests
+    (nested_by left s e (SequenceOf e o) tail more (type_at at left s (h.2).0) (after_element at)
+    nests
     (type_out at left s e (h.2).0 tail free.0 (most_apart o more) (h.2).2)
     (λ rest m keeps. closed_reads at s e o rest more m keeps refl))
 type_out at (suc left) s (EncapsulationOf e) text more free apart h =
@@ -325,7 +346,8 @@ type_out at (suc left) s (EncapsulationOf e) text more free apart h =
       free.0,
       mark_again marks.OpenAngle h.0 (spell_type e tail) h.2,
     )
-    (nested_by left s e (EncapsulationOf e) tail more (type_at at left s (h.2).0) (after_encapsulated at) nests
+    (nested_by left s e (EncapsulationOf e) tail more (type_at at left s (h.2).0)
+    (after_encapsulated at) nests
     (type_out at left s e (h.2).0 tail free.1 refl (h.2).2)
     (λ rest m keeps. held_reads at s e rest more free.0 m keeps))
 
@@ -334,7 +356,8 @@ deep_by : (s : Scope) (e : TypeExpr) (x : Refusal) → 0 < size s → Stuck 25 s
 deep_by s e x some (inl b) = b
 deep_by s e x some (inr d) =
     let n = d.1 in
-    subst (λ k. Breaks k (λ k. OfType k s.names e) (place s e).0.table.types) (sym d.0) (omega (arith, nest_deepest s e some (omega arith)))
+    subst (λ k. Breaks k (λ k. OfType k s.names e) (place s e).0.table.types) (sym d.0)
+    (omega (arith, nest_deepest s e some (omega arith)))
 
 type_from : (s : Scope) (e : TypeExpr) (more : List Token) (r : Result TypeRead Refusal)
     → 0 < size s → TypeOut 25 s e more r
@@ -348,4 +371,5 @@ pub type_reads : (at : ℕ) (s : Scope) (e : TypeExpr) (text : List ℕ) (more :
     → AreTokens text (spell_type e more)
     → Out (placed s e) (λ k. OfType k s.names e) (place s e).0.table.types
     more (type_at at 25 s text)
-type_reads at s e text more some free apart h = type_from s e more (type_at at 25 s text) some (type_out at 25 s e text more free apart h)
+type_reads at s e text more some free apart h =
+    type_from s e more (type_at at 25 s text) some (type_out at 25 s e text more free apart h)

@@ -1,4 +1,5 @@
--- The reading of a type, unfolded by one word: too deep where no word is left, else by its first word.
+-- The reading of a type, unfolded by one word: too deep where no word is left, else by its first
+-- word.
 use Rattle.std.proofs.Common.{◌≡◌, ℕ, zero, suc, ◌-◌, ◌<◌, List, Err, refl, arith}
 use Rattle.giop_tokens.specs.Reading.{◌>>=◌}
 use Rattle.giop_tokens.specs.Readers.{word_at}

@@ -45,11 +45,22 @@ pub record Grows (s t : Scope) : Type 0 where
   pub declared : t.table.declared ≡ s.table.declared
 
 pub grows_none : (s : Scope) → Grows s s
-grows_none s = record { types = ([], sym (append-nil s.table.types)); names = refl; operations = refl; exceptions = refl; declared = refl }
+grows_none s = record {
+  types = ([], sym (append-nil s.table.types));
+  names = refl;
+  operations =
+      refl;
+  exceptions = refl;
+  declared = refl;
+}
 
 pub grows_on : (r s t : Scope) → Grows r s → Grows s t → Grows r t
 grows_on r s t a b = record {
-  types = ((a.types).0 ++ (b.types).0, (b.types).1 ∙ ap (λ ns. ns ++ (b.types).0) (a.types).1 ∙ append_assoc r.table.types (a.types).0 (b.types).0);
+  types = (
+    (a.types).0 ++ (b.types).0,
+    (b.types).1 ∙ ap (λ ns. ns ++ (b.types).0) (a.types).1
+        ∙ append_assoc r.table.types (a.types).0 (b.types).0,
+  );
   names = b.names ∙ a.names;
   operations = b.operations ∙ a.operations;
   exceptions = b.exceptions ∙ a.exceptions;
@@ -58,17 +69,26 @@ grows_on r s t a b = record {
 
 pub grows_known : (s t : Scope) (i : ℕ) → Grows s t → IsKnown s.table.types i
     → IsKnown t.table.types i
-grows_known s t i g is = subst (λ ns. IsKnown ns i) (sym (g.types).1) (known_stays s.table.types (g.types).0 i is)
+grows_known s t i g is = subst (λ ns. IsKnown ns i) (sym (g.types).1)
+    (known_stays s.table.types (g.types).0 i is)
 
 pub node_grows : (s : Scope) (n : Node) → Grows s (with_node s n).0
-node_grows s n = record { types = (n ∷ [], refl); names = refl; operations = refl; exceptions = refl; declared = refl }
+node_grows s n = record {
+  types = (n ∷ [], refl);
+  names = refl;
+  operations = refl;
+  exceptions =
+      refl;
+  declared = refl;
+}
 
 -- a node that was added can be a part
 pub node_known : (s : Scope) (n : Node) → TakesOctet n
     → IsKnown (with_node s n).0.table.types (with_node s n).1
 node_known s n takes = record {
   below = omega (arith, length-append s.table.types (n ∷ []));
-  takes = subst TakesOctet (sym (get_or-append_seam s.table.types n [] (nodes.prim prims.Octet))) takes;
+  takes = subst TakesOctet (sym (get_or-append_seam s.table.types n [] (nodes.prim prims.Octet)))
+      takes;
 }
 
 added_by : (at : ℕ) (s : Scope) (n : Node) (x : AddedType) (a b : Bool)
@@ -82,7 +102,8 @@ pub added_is : (at : ℕ) (s : Scope) (n : Node) (x : AddedType)
     → added at s n ≡ Ok x → x ≡ with_node s n
 unfolding added
 added_is at s n x e =
-    added_by at s n x (leb (depth (grow (tree s.table) n)) 24) (leb 4294967295 (length s.table.types)) e
+    added_by at s n x (leb (depth (grow (tree s.table) n)) 24)
+    (leb 4294967295 (length s.table.types)) e
 
 -- a scope after a type, whose number can be a part's
 pub record Sound (p : AddedType) : Type 0 where
@@ -97,8 +118,10 @@ pub sound_added : (at : ℕ) (s : Scope) (n : Node) (x : AddedType) → added at
     → IsScope s → TakesOctet n → Sound x
 sound_added at s n x e is takes = subst Sound (sym (added_is at s n x e)) (sound_node s n is takes)
 
-pub added_grows : (at : ℕ) (s : Scope) (n : Node) (x : AddedType) → added at s n ≡ Ok x → Grows s x.0
-added_grows at s n x e = subst (λ (p : AddedType). Grows s p.0) (sym (added_is at s n x e)) (node_grows s n)
+pub added_grows : (at : ℕ) (s : Scope) (n : Node) (x : AddedType) → added at s n ≡ Ok x →
+    Grows s x.0
+added_grows at s n x e = subst (λ (p : AddedType). Grows s p.0) (sym (added_is at s n x e))
+    (node_grows s n)
 
 -- ---- types
 
@@ -111,11 +134,16 @@ pub record TakenType (s : Scope) (text : List ℕ) (x : TypeRead) : Type 0 where
 built : (types more : List Node) (k : ℕ) → types ≡ builtin_types ++ more → k < BUILTIN_LEN
     → TakesOctet (node_in builtin_types k) → IsKnown types k
 unfolding builtin_types
-built types more k e lt takes = subst (λ ns. IsKnown ns k) (sym e) (known_stays builtin_types more k (record { below = lt; takes = takes }))
+built types more k e lt takes = subst (λ ns. IsKnown ns k) (sym e)
+    (known_stays builtin_types more k (record { below = lt; takes = takes }))
 
 same_known : (s : Scope) (k : ℕ) → IsScope s → k < BUILTIN_LEN
     → TakesOctet (node_in builtin_types k) → Sound (s, k)
-same_known s k is lt takes = record { scope = is; known = built s.table.types (is.begins).0 k (is.begins).1 lt takes }
+same_known s k is lt takes = record {
+  scope = is;
+  known =
+      built s.table.types (is.begins).0 k (is.begins).1 lt takes;
+}
 
 base_sound : (s : Scope) (p : Primitive) → IsScope s → Sound (s, base_number p)
 unfolding builtin_types
@@ -138,7 +166,8 @@ BaseWord w k = (p : Primitive) × (w ≡ base_word p) × (base_number p ≡ k)
 pick_by : (p : Primitive) (w : List ℕ) (k : ℕ) (o : Option ℕ) (v : Bool)
     → bytes_eq w (base_word p) ≡ v → cond v (Some (base_number p)) o ≡ Some k
     → (o ≡ Some k → BaseWord w k) → BaseWord w k
-pick_by p w k o true same e on = let number : base_number p ≡ k = cc in (p, (bytes_eq-Decides w (base_word p)).0 same, number)
+pick_by p w k o true same e on = let number : base_number p ≡ k = cc in
+    (p, (bytes_eq-Decides w (base_word p)).0 same, number)
 pick_by p w k o false same e on = on e
 
 pick : (p : Primitive) (w : List ℕ) (k : ℕ) (o : Option ℕ)
@@ -148,9 +177,12 @@ pick p w k o e on = pick_by p w k o (bytes_eq w (base_word p)) refl e on
 
 base_from : (w : List ℕ) (k : ℕ) → base_of w ≡ Some k → BaseWord w k
 base_from w k e =
-    pick prims.Octet w k _ e (λ e. pick prims.Char w k _ e (λ e. pick prims.Boolean w k _ e (λ e. pick prims.Short w k _ e (λ e. pick prims.UShort w k _ e (λ e.
+    pick prims.Octet w k _ e (λ e. pick prims.Char w k _ e
+    (λ e. pick prims.Boolean w k _ e (λ e.
+    pick prims.Short w k _ e (λ e. pick prims.UShort w k _ e (λ e.
     pick prims.Long w k _ e (λ e. pick prims.ULong w k _ e
-    (λ e. pick prims.LongLong w k _ e (λ e. pick prims.ULongLong w k _ e (λ e. pick prims.Float w k _ e (λ e.
+    (λ e. pick prims.LongLong w k _ e (λ e.
+    pick prims.ULongLong w k _ e (λ e. pick prims.Float w k _ e (λ e.
     pick prims.Double w k _ e (λ e. absurd cc)))))))))))
 
 base_took : (s : Scope) (text w rest : List ℕ) (k : ℕ) → Takes text (word w) rest → BaseWord w k
@@ -166,24 +198,31 @@ base_took s text w rest k t b = record {
 text_type_sound : (at : ℕ) (s : Scope) (b : Option ℕ) (p : AddedType)
     → text_type at s b ≡ Ok p → IsScope s → Sound p
 unfolding builtin_types
-text_type_sound at s None p e is = subst Sound (ok_is (s, STRING) p e) (same_known s STRING is (lit< tt) tt)
+text_type_sound at s None p e is = subst Sound (ok_is (s, STRING) p e)
+    (same_known s STRING is (lit< tt) tt)
 text_type_sound at s (Some n) p e is = sound_added at s (nodes.text (Some n)) p e is tt
 
 text_type_grows : (at : ℕ) (s : Scope) (b : Option ℕ) (p : AddedType)
     → text_type at s b ≡ Ok p → Grows s p.0
-text_type_grows at s None p e = subst (λ (q : AddedType). Grows s q.0) (ok_is (s, STRING) p e) (grows_none s)
+text_type_grows at s None p e = subst (λ (q : AddedType). Grows s q.0) (ok_is (s, STRING) p e)
+    (grows_none s)
 text_type_grows at s (Some n) p e = added_grows at s (nodes.text (Some n)) p e
 
 text_took : (at : ℕ) (s : Scope) (text w rest : List ℕ) (x : TypeRead) → Takes text (word w) rest
     → w ≡ codes "string" → text_at at s rest ≡ Ok x → TakenType s text x
 unfolding text_at OfType
 text_took at s text w rest x t same e =
-    let b = bind_ok (enclosed_at marks.OpenAngle marks.CloseAngle rest) (λ b. text_type at s b.0 >>= λ t. Ok (t.0, t.1, b.1)) x e in
+    let b = bind_ok (enclosed_at marks.OpenAngle marks.CloseAngle rest)
+    (λ b. text_type at s b.0 >>= λ t. Ok (t.0, t.1, b.1)) x e in
     let p = bind_ok (text_type at s (b.0).0) (λ t. Ok (t.0, t.1, (b.0).1)) x b.2 in
     let bound = enclosed_takes marks.OpenAngle marks.CloseAngle rest b.0 b.1 in
     subst (TakenType s text) (ok_is ((p.0).0, (p.0).1, (b.0).1) x p.2) (record {
       expr = Text (b.0).0;
-      took = record { free = bound_free (b.0).0; front = λ more m. subst (λ v. Takes text (word v) rest) same t _ (bound.front more m) };
+      took = record {
+        free = bound_free (b.0).0;
+        front =
+            λ more m. subst (λ v. Takes text (word v) rest) same t _ (bound.front more m);
+      };
       grows = text_type_grows at s (b.0).0 p.0 p.1;
       sound = λ is. text_type_sound at s (b.0).0 p.0 p.1 is;
     })
@@ -206,12 +245,16 @@ sequence_made at s text w rest inner r y b p t same o k most c put = record {
     front = λ more m.
         let closed : AreTokens y.2 (spell_most b.0 (mark marks.CloseAngle ∷ more)) =
         most.front (mark marks.CloseAngle ∷ more) (mark_takes marks.CloseAngle b.1 r c more m) in
-        let opened = mark_takes marks.OpenAngle rest inner o (spell_type k.expr (spell_most b.0 (mark marks.CloseAngle ∷ more)))
+        let opened = mark_takes marks.OpenAngle rest inner o
+        (spell_type k.expr (spell_most b.0 (mark marks.CloseAngle ∷ more)))
         (k.took.front (spell_most b.0 (mark marks.CloseAngle ∷ more)) closed) in
-        subst (λ v. Takes text (word v) rest) same t (mark marks.OpenAngle ∷ spell_type k.expr (spell_most b.0 (mark marks.CloseAngle ∷ more))) opened;
+        subst (λ v. Takes text (word v) rest) same t
+        (mark marks.OpenAngle ∷ spell_type k.expr
+        (spell_most b.0 (mark marks.CloseAngle ∷ more))) opened;
   };
   grows = grows_on s y.0 p.0 k.grows (added_grows at y.0 (sequence_node b.0 y.1) p put);
-  sound = λ is. let h = k.sound is in sound_added at y.0 (sequence_node b.0 y.1) p put h.scope (sequence_takes_octet b.0 y.1 (eqb y.1 0));
+  sound = λ is. let h = k.sound is in sound_added at y.0 (sequence_node b.0 y.1) p put h.scope
+      (sequence_takes_octet b.0 y.1 (eqb y.1 0));
 }
 
 sequence_took : (at : ℕ) (element : List ℕ → Result TypeRead Refusal) (s : Scope)
@@ -220,13 +263,17 @@ sequence_took : (at : ℕ) (element : List ℕ → Result TypeRead Refusal) (s :
     → Takes text (word w) rest → w ≡ codes "sequence"
     → sequence_at at element rest ≡ Ok x → TakenType s text x
 sequence_took at element s text w rest x takes t same e =
-    let i = bind_ok (mark_at marks.OpenAngle rest) (λ inner. element inner >>= after_element at) x e in
+    let i = bind_ok (mark_at marks.OpenAngle rest) (λ inner. element inner >>= after_element at) x e
+    in
     let y = bind_ok (element i.0) (after_element at) x i.2 in
     let b = bind_ok _ _ x y.2 in
-    let r = bind_ok (mark_at marks.CloseAngle (b.0).1) (λ r. added at (y.0).0 (sequence_node (b.0).0 (y.0).1) >>= λ t. Ok (t.0, t.1, r)) x b.2 in
-    let p = bind_ok (added at (y.0).0 (sequence_node (b.0).0 (y.0).1)) (λ t. Ok (t.0, t.1, r.0)) x r.2 in
+    let r = bind_ok (mark_at marks.CloseAngle (b.0).1)
+    (λ r. added at (y.0).0 (sequence_node (b.0).0 (y.0).1) >>= λ t. Ok (t.0, t.1, r)) x b.2 in
+    let p = bind_ok (added at (y.0).0 (sequence_node (b.0).0 (y.0).1)) (λ t. Ok (t.0, t.1, r.0)) x
+    r.2 in
     subst (TakenType s text) (ok_is ((p.0).0, (p.0).1, r.0) x p.2)
-    (sequence_made at s text w rest i.0 r.0 y.0 b.0 p.0 t same i.1 (takes i.0 y.0 y.1) (most_takes (y.0).2 b.0 b.1) r.1 p.1)
+    (sequence_made at s text w rest i.0 r.0 y.0 b.0 p.0 t same i.1 (takes i.0 y.0 y.1)
+    (most_takes (y.0).2 b.0 b.1) r.1 p.1)
 
 held_made : (at : ℕ) (s : Scope) (text w rest inner r : List ℕ) (y : TypeRead) (p : AddedType)
     → has_encapsulations s.names ≡ true → Takes text (word w) rest → w ≡ codes "encapsulation"
@@ -242,7 +289,8 @@ held_made at s text w rest inner r y p has t same o k c put = record {
         let closed = mark marks.CloseAngle ∷ more in
         let held = k.took.front closed (mark_takes marks.CloseAngle y.2 r c more m) in
         let opened = mark_takes marks.OpenAngle rest inner o (spell_type k.expr closed) held in
-        subst (λ v. Takes text (word v) rest) same t (mark marks.OpenAngle ∷ spell_type k.expr closed) opened;
+        subst (λ v. Takes text (word v) rest) same t
+        (mark marks.OpenAngle ∷ spell_type k.expr closed) opened;
   };
   grows = grows_on s y.0 p.0 k.grows (added_grows at y.0 (nodes.encapsulation y.1) p put);
   sound = λ is. let h = k.sound is in sound_added at y.0 (nodes.encapsulation y.1) p put h.scope tt;
@@ -255,10 +303,12 @@ encapsulation_took : (at : ℕ) (held : List ℕ → Result TypeRead Refusal) (s
     → cond v (held_at at held rest) (Err (misplaced text)) ≡ Ok x → TakenType s text x
 encapsulation_took at held s text w rest x false takes t same has e = absurd cc
 encapsulation_took at held s text w rest x true takes t same has e =
-    let i = bind_ok (mark_at marks.OpenAngle rest) (λ inner. held inner >>= after_encapsulated at) x e in
+    let i = bind_ok (mark_at marks.OpenAngle rest) (λ inner. held inner >>= after_encapsulated at) x
+    e in
     let y = bind_ok (held i.0) (after_encapsulated at) x i.2 in
     let r = bind_ok _ _ x y.2 in
-    let p = bind_ok (added at (y.0).0 (nodes.encapsulation (y.0).1)) (λ t. Ok (t.0, t.1, r.0)) x r.2 in
+    let p = bind_ok (added at (y.0).0 (nodes.encapsulation (y.0).1)) (λ t. Ok (t.0, t.1, r.0)) x r.2
+    in
     subst (TakenType s text) (ok_is ((p.0).0, (p.0).1, r.0) x p.2)
     (held_made at s text w rest i.0 r.0 y.0 p.0 has t same i.1 (takes i.0 y.0 y.1) r.1 p.1)
 
@@ -274,20 +324,22 @@ named_known : (types : List Node) (names : List (List ℕ × Option ℕ)) (w : L
     → AllByRecursion (IsDeclaredName types) names
     → flat (lookup (bytes_eq w) names) ≡ Some k → IsKnown types k
 named_known types [] w k all h = absurd cc
-named_known types (e ∷ es) w k all h = found_known types es w k (bytes_eq w e.0) e refl all.0 (named_known types es w k all.1) h
+named_known types (e ∷ es) w k all h = found_known types es w k (bytes_eq w e.0) e refl all.0
+    (named_known types es w k all.1) h
 
 found_by : (s : Scope) (text w rest : List ℕ) (x : TypeRead) (o : Option ℕ) → named s.names w ≡ o
     → is_reserved w ≡ false → Takes text (word w) rest
     → found_type s text rest o ≡ Ok x → TakenType s text x
 unfolding OfType
 found_by s text w rest x None o free t e = absurd cc
-found_by s text w rest x (Some n) o free t e = subst (TakenType s text) (ok_is (s, n, rest) x e) (record {
-  expr = Named w;
-  took = record { free = free; front = t };
-  grows = grows_none s;
-  sound = λ is.
-      record { scope = is; known = named_known s.table.types s.names.known w n is.names o };
-})
+found_by s text w rest x (Some n) o free t e =
+    subst (TakenType s text) (ok_is (s, n, rest) x e) (record {
+      expr = Named w;
+      took = record { free = free; front = t };
+      grows = grows_none s;
+      sound = λ is.
+          record { scope = is; known = named_known s.table.types s.names.known w n is.names o };
+    })
 
 named_by : (s : Scope) (text w rest : List ℕ) (x : TypeRead) (a b : Bool) → is_reserved w ≡ a
     → Takes text (word w) rest → cond a (Err (misplaced text))
@@ -295,12 +347,14 @@ named_by : (s : Scope) (text w rest : List ℕ) (x : TypeRead) (a b : Bool) → 
     ≡ Ok x → TakenType s text x
 named_by s text w rest x true b free t e = absurd cc
 named_by s text w rest x false true free t e = absurd cc
-named_by s text w rest x false false free t e = found_by s text w rest x (named s.names w) refl free t e
+named_by s text w rest x false false free t e =
+    found_by s text w rest x (named s.names w) refl free t e
 
 named_took : (s : Scope) (text w rest : List ℕ) (x : TypeRead) → Takes text (word w) rest
     → named_type s text w rest ≡ Ok x → TakenType s text x
 unfolding named_type
-named_took s text w rest x t e = named_by s text w rest x (is_reserved w) (ltb 64 (length w)) refl t e
+named_took s text w rest x t e = named_by s text w rest x (is_reserved w) (ltb 64 (length w)) refl t
+    e
 
 leaf_by : (at : ℕ) (s : Scope) (text w rest : List ℕ) (x : TypeRead) → Takes text (word w) rest
     → (a b : Bool) → bytes_eq w (codes "string") ≡ a → bytes_eq w (codes "Object") ≡ b
@@ -309,21 +363,28 @@ leaf_by : (at : ℕ) (s : Scope) (text w rest : List ℕ) (x : TypeRead) → Tak
 unfolding OfType builtin_types
 leaf_by at s text w rest x t true b p q e =
     text_took at s text w rest x t ((bytes_eq-Decides w (codes "string")).0 p) e
-leaf_by at s text w rest x t false true p q e = subst (TakenType s text) (ok_is (s, IOR, rest) x e) (record {
-  expr = Reference;
-  took = record { free = tt; front = subst (λ v. Takes text (word v) rest) ((bytes_eq-Decides w (codes "Object")).0 q) t };
-  grows = grows_none s;
-  sound = λ is. same_known s IOR is (lit< tt) tt;
-})
+leaf_by at s text w rest x t false true p q e =
+    subst (TakenType s text) (ok_is (s, IOR, rest) x e) (record {
+      expr = Reference;
+      took = record {
+        free = tt;
+        front = subst (λ v. Takes text (word v) rest)
+            ((bytes_eq-Decides w (codes "Object")).0 q) t;
+      };
+      grows = grows_none s;
+      sound = λ is. same_known s IOR is (lit< tt) tt;
+    })
 leaf_by at s text w rest x t false false p q e = named_took s text w rest x t e
 
 leaf_took : (at : ℕ) (s : Scope) (text w rest : List ℕ) (x : TypeRead) (o : Option ℕ)
     → Takes text (word w) rest → base_of w ≡ o → leaf_after at s text w rest o ≡ Ok x
     → TakenType s text x
 leaf_took at s text w rest x (Some k) t b e =
-    subst (TakenType s text) (ok_is (s, k, rest) x e) (base_took s text w rest k t (base_from w k b))
+    subst (TakenType s text) (ok_is (s, k, rest) x e)
+    (base_took s text w rest k t (base_from w k b))
 leaf_took at s text w rest x None t b e =
-    leaf_by at s text w rest x t (bytes_eq w (codes "string")) (bytes_eq w (codes "Object")) refl refl e
+    leaf_by at s text w rest x t (bytes_eq w (codes "string")) (bytes_eq w (codes "Object")) refl
+    refl e
 
 after_took : (at : ℕ) (inner : List ℕ → Result TypeRead Refusal) (s : Scope)
     (text w rest : List ℕ) (x : TypeRead)
@@ -349,5 +410,7 @@ type_takes at zero s text x e = absurd cc
 type_takes at (suc left) s text x e =
     let a = bind_ok (word_at text) (λ w. type_after at (type_at at left s) s text w.0 w.1) x e in
     let w = (a.0).0 in
-    after_took at (type_at at left s) s text w (a.0).1 x (λ inner y h. type_takes at left s inner y h)
-    (word_takes text a.0 a.1) (bytes_eq w (codes "sequence")) (bytes_eq w (codes "encapsulation")) refl refl a.2
+    after_took at (type_at at left s) s text w (a.0).1 x
+    (λ inner y h. type_takes at left s inner y h)
+    (word_takes text a.0 a.1) (bytes_eq w (codes "sequence")) (bytes_eq w (codes "encapsulation"))
+    refl refl a.2

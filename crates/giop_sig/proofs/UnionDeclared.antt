@@ -1,4 +1,5 @@
--- A union that was read: the code may add it to the table, and the text that was read spells its declaration.
+-- A union that was read: the code may add it to the table, and the text that was read spells its
+-- declaration.
 use Rattle.std.proofs.Common.{◌≡◌, ℕ, ◌+◌, Bool, true, false, cond, List, [], ◌∷◌, length, Ok, Err, refl, sym, ap, subst, ◌∙◌, arith}
 use Rattle.std.specs.Prelude.{codes}
 use Rattle.std.proofs.lemmas.List.{length-append}
@@ -39,16 +40,25 @@ switch_by : (s : Scope) (text : List ℕ) (t x : TypeRead) (v : Bool)
     → can_switch (node_at (t.0).table t.1) ≡ v → TakenType s text t
     → cond v (Ok t) (Err (refused kinds.Label text)) ≡ Ok x → TakenSwitch s text x
 switch_by s text t x true p k e =
-    subst (TakenSwitch s text) (ok_is t x e) (record
-    { expr = k.expr; took = k.took; grows = k.grows; scope = λ is. (k.sound is).scope; is = discriminates (node_at (t.0).table t.1) p })
+    subst (TakenSwitch s text) (ok_is t x e) (record {
+      expr = k.expr;
+      took = k.took;
+      grows = k.grows;
+      scope = λ is. (k.sound is).scope;
+      is =
+          discriminates (node_at (t.0).table t.1) p;
+    })
 switch_by s text t x false p k e = absurd cc
 
 switch_taken : (at : ℕ) (s : Scope) (text : List ℕ) (x : TypeRead)
     → switch_at at s text ≡ Ok x → TakenSwitch s text x
 unfolding switch_at
 switch_taken at s text x e =
-    let t = bind_ok (type_at at 25 s text) (λ t. cond (can_switch (node_at (t.0).table t.1)) (Ok t) (Err (refused kinds.Label text))) x e in
-    switch_by s text t.0 x (can_switch (node_at ((t.0).0).table (t.0).1)) refl (type_takes at 25 s text t.0 t.1) t.2
+    let t = bind_ok (type_at at 25 s text)
+    (λ t. cond (can_switch (node_at (t.0).table t.1)) (Ok t) (Err (refused kinds.Label text))) x
+    e in
+    switch_by s text t.0 x (can_switch (node_at ((t.0).0).table (t.0).1)) refl
+    (type_takes at 25 s text t.0 t.1) t.2
 
 -- ---- what the code asks
 
@@ -73,12 +83,14 @@ union_formed at s a b t x e f is =
     let below = below_size t.0 t.1 k.is in
     let longer : length (x.0).table.types ≡ length (t.0).table.types + length ((c.grows).types).0 =
     ap length ((c.grows).types).1 ∙ length-append (t.0).table.types ((c.grows).types).0 in
-    let scalar = subst IsScalarNode (sym (node_stays t.0 x.0 t.1 c.grows below)) (discriminator_scalar (node_at (t.0).table t.1) k.is) in
+    let scalar = subst IsScalarNode (sym (node_stays t.0 x.0 t.1 c.grows below))
+    (discriminator_scalar (node_at (t.0).table t.1) k.is) in
     (record { below = omega arith; scalar = scalar }, c.few scope, c.parts scope, c.below scope)
 
 pub union_grows : (at : ℕ) (s : Scope) (a b : List ℕ) (t : TypeRead) (x : CasesRead)
     → switch_at at s a ≡ Ok t → cases_at at t.1 t.0 b ≡ Ok x → Grows s x.0
-union_grows at s a b t x e f = grows_on s t.0 x.0 (switch_taken at s a t e).grows (cases_taken at t.1 t.0 b x f).grows
+union_grows at s a b t x e f = grows_on s t.0 x.0 (switch_taken at s a t e).grows
+    (cases_taken at t.1 t.0 b x f).grows
 
 -- ---- the declaration
 
@@ -89,30 +101,40 @@ unfolding union_at OfDeclaration
 union_takes s whole text x before e =
     let at = left_of text in
     let d = bind_ok (declared_at s s.table.declared text)
-    (λ d. keyword_at (codes "switch") d.1 >>= λ w. mark_at marks.OpenParenthesis w >>= λ b. switch_at at s b >>= λ t. mark_at marks.CloseParenthesis t.2
-    >>= λ q. mark_at marks.OpenBrace q >>= λ o. cases_at at t.1 t.0 o >>= λ cs. mark_at marks.Semicolon cs.2
+    (λ d. keyword_at (codes "switch") d.1 >>= λ w. mark_at marks.OpenParenthesis w >>= λ b.
+    switch_at at s b >>= λ t. mark_at marks.CloseParenthesis t.2
+    >>= λ q. mark_at marks.OpenBrace q >>= λ o. cases_at at t.1 t.0 o >>= λ cs.
+    mark_at marks.Semicolon cs.2
     >>= λ r. added at cs.0 (union_node t.1 cs) >>= λ u. Ok (with_named d.0 u, r)) x e in
     let n = (d.0).0 in
     let w = bind_ok (keyword_at (codes "switch") (d.0).1)
-    (λ w. mark_at marks.OpenParenthesis w >>= λ b. switch_at at s b >>= λ t. mark_at marks.CloseParenthesis t.2 >>= λ q. mark_at marks.OpenBrace q
+    (λ w. mark_at marks.OpenParenthesis w >>= λ b. switch_at at s b >>= λ t.
+    mark_at marks.CloseParenthesis t.2 >>= λ q. mark_at marks.OpenBrace q
     >>= λ o. cases_at at t.1 t.0 o >>= λ cs. mark_at marks.Semicolon cs.2
     >>= λ r. added at cs.0 (union_node t.1 cs) >>= λ u. Ok (with_named n u, r)) x d.2 in
     let b = bind_ok (mark_at marks.OpenParenthesis w.0)
-    (λ b. switch_at at s b >>= λ t. mark_at marks.CloseParenthesis t.2 >>= λ q. mark_at marks.OpenBrace q >>= λ o. cases_at at t.1 t.0 o
+    (λ b. switch_at at s b >>= λ t. mark_at marks.CloseParenthesis t.2 >>= λ q.
+    mark_at marks.OpenBrace q >>= λ o. cases_at at t.1 t.0 o
     >>= λ cs. mark_at marks.Semicolon cs.2
     >>= λ r. added at cs.0 (union_node t.1 cs) >>= λ u. Ok (with_named n u, r)) x w.2 in
     let t = bind_ok (switch_at at s b.0)
-    (λ t. mark_at marks.CloseParenthesis t.2 >>= λ q. mark_at marks.OpenBrace q >>= λ o. cases_at at t.1 t.0 o >>= λ cs. mark_at marks.Semicolon cs.2
+    (λ t. mark_at marks.CloseParenthesis t.2 >>= λ q. mark_at marks.OpenBrace q >>= λ o.
+    cases_at at t.1 t.0 o >>= λ cs. mark_at marks.Semicolon cs.2
     >>= λ r. added at cs.0 (union_node t.1 cs) >>= λ u. Ok (with_named n u, r)) x b.2 in
     let q = bind_ok (mark_at marks.CloseParenthesis (t.0).2)
-    (λ q. mark_at marks.OpenBrace q >>= λ o. cases_at at (t.0).1 (t.0).0 o >>= λ cs. mark_at marks.Semicolon cs.2 >>= λ r. added at cs.0 (union_node (t.0).1 cs)
+    (λ q. mark_at marks.OpenBrace q >>= λ o. cases_at at (t.0).1 (t.0).0 o >>= λ cs.
+    mark_at marks.Semicolon cs.2 >>= λ r. added at cs.0 (union_node (t.0).1 cs)
     >>= λ u. Ok (with_named n u, r)) x t.2 in
-    let o = bind_ok (mark_at marks.OpenBrace q.0) (λ o. cases_at at (t.0).1 (t.0).0 o >>= λ cs. mark_at marks.Semicolon cs.2
+    let o = bind_ok (mark_at marks.OpenBrace q.0)
+    (λ o. cases_at at (t.0).1 (t.0).0 o >>= λ cs. mark_at marks.Semicolon cs.2
     >>= λ r. added at cs.0 (union_node (t.0).1 cs) >>= λ u. Ok (with_named n u, r)) x q.2 in
     let cs = bind_ok (cases_at at (t.0).1 (t.0).0 o.0)
-    (λ cs. mark_at marks.Semicolon cs.2 >>= λ r. added at cs.0 (union_node (t.0).1 cs) >>= λ u. Ok (with_named n u, r)) x o.2 in
-    let r = bind_ok (mark_at marks.Semicolon (cs.0).2) (λ r. added at (cs.0).0 (union_node (t.0).1 cs.0) >>= λ u. Ok (with_named n u, r)) x cs.2 in
-    let u = bind_ok (added at (cs.0).0 (union_node (t.0).1 cs.0)) (λ u. Ok (with_named n u, r.0)) x r.2 in
+    (λ cs. mark_at marks.Semicolon cs.2 >>= λ r. added at cs.0 (union_node (t.0).1 cs) >>= λ u.
+    Ok (with_named n u, r)) x o.2 in
+    let r = bind_ok (mark_at marks.Semicolon (cs.0).2)
+    (λ r. added at (cs.0).0 (union_node (t.0).1 cs.0) >>= λ u. Ok (with_named n u, r)) x cs.2 in
+    let u = bind_ok (added at (cs.0).0 (union_node (t.0).1 cs.0)) (λ u. Ok (with_named n u, r.0)) x
+    r.2 in
     let a = declared_takes s s.table.declared text d.0 d.1 in
     let k = switch_taken at s b.0 t.0 t.1 in
     let c = cases_taken at (t.0).1 (t.0).0 o.0 cs.0 cs.1 in
@@ -120,13 +142,21 @@ union_takes s whole text x before e =
     subst (TakenDeclaration s whole) (ok_is (with_named n u.0, r.0) x u.2) (record {
       declaration = DeclaredUnion n k.expr c.cases;
       took = record {
-        free = (a.free, k.took.free, tt, tt, subst (λ ns. OfCases kinds.Syntax ns node [] [] c.cases) (k.grows).names (c.free node));
+        free = (
+          a.free,
+          k.took.free,
+          tt,
+          tt,
+          subst (λ ns. OfCases kinds.Syntax ns node [] [] c.cases) (k.grows).names (c.free node),
+        );
         front = λ more m.
             let inner = spell_cases c.cases (mark marks.Semicolon ∷ more) in
             let body = mark marks.CloseParenthesis ∷ mark marks.OpenBrace ∷ inner in
-            before (word n ∷ word (codes "switch") ∷ mark marks.OpenParenthesis ∷ spell_type k.expr body)
+            before (word n ∷ word (codes "switch") ∷ mark marks.OpenParenthesis ∷ spell_type k.expr
+            body)
             (a.front (word (codes "switch") ∷ mark marks.OpenParenthesis ∷ spell_type k.expr body)
-            (keyword_takes (codes "switch") (d.0).1 w.0 w.1 (mark marks.OpenParenthesis ∷ spell_type k.expr body)
+            (keyword_takes (codes "switch") (d.0).1 w.0 w.1
+            (mark marks.OpenParenthesis ∷ spell_type k.expr body)
             (mark_takes marks.OpenParenthesis w.0 b.0 b.1 (spell_type k.expr body)
             (k.took.front body
             (mark_takes marks.CloseParenthesis (t.0).2 q.0 q.1 (mark marks.OpenBrace ∷ inner)

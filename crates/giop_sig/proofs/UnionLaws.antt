@@ -59,12 +59,18 @@ case_reads at switch node s labels names cases otherwise c text more same some a
     let tail = mark marks.Semicolon ∷ more in
     rw same
     (out_bind (labels_at node (marks_of node labels) text)
-    (λ ls. item_at at 256 names s ls.3 >>= λ i. mark_at marks.Semicolon i.2 >>= λ rest. Ok (i.0, with_case before ls i.1, rest))
+    (λ ls. item_at at 256 names s ls.3 >>= λ i. mark_at marks.Semicolon i.2 >>= λ rest.
+    Ok (i.0, with_case before ls i.1, rest))
     (labels_reads node labels c.label c.others text s.table.types (spell_item c.item tail)
-    (λ rest m. type_no_label c.item.type s.names rest (word c.item.name ∷ spell_length c.item.length tail) item.0 m) all few free h)
+    (λ rest m. type_no_label c.item.type s.names rest
+    (word c.item.name ∷ spell_length c.item.length tail) item.0 m) all few free h)
     (λ a ta ka.
     out_bind (item_at at 256 names s a) (λ i. mark_at marks.Semicolon i.2
-    >>= λ rest. Ok (i.0, with_case before (labelled node labels [] false (labels_of c) a) i.1, rest))
+    >>= λ rest. Ok (
+      i.0,
+      with_case before (labelled node labels [] false (labels_of c) a) i.1,
+      rest,
+    ))
     (item_reads at 256 names s c.item a tail some item refl ta)
     (λ b tb kb. rw (mark_again marks.Semicolon b more tb) (good tb.0 tb.2 (λ k. (ka k, kb k))))
     (λ k w. w.1) within_same)
@@ -75,20 +81,24 @@ case_reads at switch node s labels names cases otherwise c text more same some a
 pub place_grows : (s : Scope) (e : TypeExpr) → Grows s (place s e).0
 unfolding place
 place_grows s (Text (Some n)) = node_grows s (nodes.text (Some n))
-place_grows s (SequenceOf e bound) = grows_on s (place s e).0 (place s (SequenceOf e bound)).0 (place_grows s e) (node_grows (place s e).0 _)
-place_grows s (EncapsulationOf e) = grows_on s (place s e).0 (place s (EncapsulationOf e)).0 (place_grows s e) (node_grows (place s e).0 _)
+place_grows s (SequenceOf e bound) = grows_on s (place s e).0 (place s (SequenceOf e bound)).0
+    (place_grows s e) (node_grows (place s e).0 _)
+place_grows s (EncapsulationOf e) = grows_on s (place s e).0 (place s (EncapsulationOf e)).0
+    (place_grows s e) (node_grows (place s e).0 _)
 place_grows s _ = grows_none s
 
 length_grows : (s : Scope) (o : Option ℕ) (p : AddedType) → Grows s p.0 → Grows s (add_array o p).0
 length_grows s None p g = g
-length_grows s (Some n) p g = grows_on s p.0 (add_array (Some n) p).0 g (node_grows p.0 (nodes.array n p.1))
+length_grows s (Some n) p g = grows_on s p.0 (add_array (Some n) p).0 g
+    (node_grows p.0 (nodes.array n p.1))
 
 pub item_grows : (s : Scope) (i : Item) → Grows s (add_item s i).0
 item_grows s i = length_grows s i.length (place s i.type) (place_grows s i.type)
 
 pub node_stays : (s t : Scope) (i : ℕ) → Grows s t → i < size s
     → node_at t.table i ≡ node_at s.table i
-node_stays s t i g lt = ap (λ types. node_in types i) (g.types).1 ∙ get_or_append_left s.table.types (g.types).0 (nodes.prim prims.Octet) i lt
+node_stays s t i g lt = ap (λ types. node_in types i) (g.types).1
+    ∙ get_or_append_left s.table.types (g.types).0 (nodes.prim prims.Octet) i lt
 
 -- ---- cases, one after the other
 
@@ -127,8 +137,10 @@ step_on at switch x h = rw h refl
 
 pub labels_apart : (l : Label) (ls : List Label) (text : List ℕ) (more : List Token)
     → AreTokens text (spell_labels (l ∷ ls) more) → mark_if marks.CloseBrace text ≡ Ok None
-labels_apart Default ls text more h = if_apart marks.CloseBrace text (spell_labels (Default ∷ ls) more) refl h
-labels_apart (Of v) ls text more h = if_apart marks.CloseBrace text (spell_labels (Of v ∷ ls) more) refl h
+labels_apart Default ls text more h = if_apart marks.CloseBrace text
+    (spell_labels (Default ∷ ls) more) refl h
+labels_apart (Of v) ls text more h = if_apart marks.CloseBrace text (spell_labels (Of v ∷ ls) more)
+    refl h
 
 abbrev pub then_cases : ℕ → ℕ → ℕ → Bool × CasesRead → Result CasesRead Refusal
 then_cases at switch left x =
@@ -146,10 +158,14 @@ case_step_reads : (at switch : ℕ) (node : Node) (s : Scope) (labels : List Lab
     (λ k. OfLabels k node labels (labels_of c) × OfItem k s.names 256 names c.item)
     (add_item s c.item).0.table.types more
     (cases_step at switch (s, kept_cases node labels names cases otherwise, text))
-case_step_reads at switch node s labels names cases otherwise c text more same some all few free item h =
+case_step_reads at switch node s labels names cases otherwise c text more same some all few free
+    item h =
     let x : CasesRead = (s, kept_cases node labels names cases otherwise, text) in
-    rw (step_on at switch x (labels_apart c.label c.others text (spell_item c.item (mark marks.Semicolon ∷ more)) h))
-    (out_bind (case_at at switch x) (λ c. Ok (false, c)) (case_reads at switch node s labels names cases otherwise c text more same some all few free item h)
+    rw (step_on at switch x (labels_apart c.label c.others text
+    (spell_item c.item (mark marks.Semicolon ∷ more)) h))
+    (out_bind (case_at at switch x) (λ c. Ok (false, c))
+    (case_reads at switch node s labels names cases otherwise c text more same some all few free
+    item h)
     (λ rest m keeps. good rest m keeps) (λ k w. w) within_same)
 
 pub cases_run : (cs : List UnionCase) (left at switch : ℕ) (node : Node) (known : Names) (s : Scope)
@@ -169,30 +185,44 @@ pub cases_run : (cs : List UnionCase) (left at switch : ℕ) (node : Node) (know
     (in_steps (cases_step at switch) too_many_cases left
     (s, kept_cases node labels names cases otherwise, text))
 unfolding in_steps OfCases made_cases
-cases_run [] zero at switch node known s labels names cases otherwise text more at-names some below same all few room short free h = absurd (omega arith)
-cases_run (c ∷ cs) zero at switch node known s labels names cases otherwise text more at-names some below same all few room short free h = absurd (omega arith)
-cases_run [] (suc left) at switch node known s labels names cases otherwise text more at-names some below same all few room short free h =
-    rw (step_end at switch (s, kept_cases node labels names cases otherwise, text) h.0 (mark_if_again marks.CloseBrace text more h)) (good h.0 h.2 (λ k. tt))
-cases_run (c ∷ cs) (suc left) at switch node known s labels names cases otherwise text more at-names some below same all few room short free h =
+cases_run [] zero at switch node known s labels names cases otherwise text more at-names some below
+    same all few room short free h = absurd (omega arith)
+cases_run (c ∷ cs) zero at switch node known s labels names cases otherwise text more at-names some
+    below same all few room short free h = absurd (omega arith)
+cases_run [] (suc left) at switch node known s labels names cases otherwise text more at-names some
+    below same all few room short free h =
+    rw (step_end at switch (s, kept_cases node labels names cases otherwise, text) h.0
+    (mark_if_again marks.CloseBrace text more h)) (good h.0 h.2 (λ k. tt))
+cases_run (c ∷ cs) (suc left) at switch node known s labels names cases otherwise text more at-names
+    some below same all few room short free h =
     let t = (add_item s c.item).0 in
     let tail = spell_cases cs more in
-    let behind = made_cases node t (labels ++ labels_of c) (names ++ c.item.name ∷ []) (cases ++ union_case node c (add_item s c.item) ∷ [])
+    let behind = made_cases node t (labels ++ labels_of c) (names ++ c.item.name ∷ [])
+    (cases ++ union_case node c (add_item s c.item) ∷ [])
     (chosen otherwise (has_default (labels_of c)) (length names)) cs in
-    out_bind (cases_step at switch (s, kept_cases node labels names cases otherwise, text)) (then_cases at switch left)
-    (case_step_reads at switch node s labels names cases otherwise c text tail same some all few free.0
+    out_bind (cases_step at switch (s, kept_cases node labels names cases otherwise, text))
+    (then_cases at switch left)
+    (case_step_reads at switch node s labels names cases otherwise c text tail same some all few
+    free.0
     (subst (λ ns. OfItem kinds.Syntax ns 256 names c.item) (sym at-names) free.1) h)
     (λ rest m keeps.
     let limit = keeps kinds.Limit in
     let fewer = ((limit.1).1).1 in
     out_more
-    (cases_run cs left at switch node known t (labels ++ labels_of c) (names ++ c.item.name ∷ []) (cases ++ union_case node c (add_item s c.item) ∷ [])
+    (cases_run cs left at switch node known t (labels ++ labels_of c) (names ++ c.item.name ∷ [])
+    (cases ++ union_case node c (add_item s c.item) ∷ [])
     (chosen otherwise (has_default (labels_of c)) (length names)) rest more
-    (item_names s c.item ∙ at-names) (omega (arith, (item_more s c.item).longer)) (omega (arith, (item_more s c.item).longer))
+    (item_names s c.item ∙ at-names) (omega (arith, (item_more s c.item).longer))
+    (omega (arith, (item_more s c.item).longer))
     (node_stays s t switch (item_grows s c.item) below ∙ same)
-    (labels_kept node (labels_of c) labels text (spell_item c.item (mark marks.Semicolon ∷ tail)) h (keeps kinds.Label).0 all)
+    (labels_kept node (labels_of c) labels text (spell_item c.item (mark marks.Semicolon ∷ tail)) h
+    (keeps kinds.Label).0 all)
     (labels_few node (labels_of c) labels few limit.0)
-    (omega (arith, length-append names (c.item.name ∷ []))) (omega (arith, length-append names (c.item.name ∷ []))) free.2 m)
-    (λ k w. ((keeps k).0, subst (λ ns. OfItem k ns 256 names c.item) at-names (keeps k).1, w)) (λ k w. w.2))
+    (omega (arith, length-append names (c.item.name ∷ [])))
+    (omega (arith, length-append names (c.item.name ∷ []))) free.2 m)
+    (λ k w. ((keeps k).0, subst (λ ns. OfItem k ns 256 names c.item) at-names (keeps k).1, w))
+    (λ k w. w.2))
     (λ k w. (w.0, subst (λ ns. OfItem k ns 256 names c.item) (sym at-names) w.1))
-    (made_more node t (labels ++ labels_of c) (names ++ c.item.name ∷ []) (cases ++ union_case node c (add_item s c.item) ∷ [])
+    (made_more node t (labels ++ labels_of c) (names ++ c.item.name ∷ [])
+    (cases ++ union_case node c (add_item s c.item) ∷ [])
     (chosen otherwise (has_default (labels_of c)) (length names)) cs)

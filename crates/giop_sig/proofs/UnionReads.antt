@@ -64,16 +64,23 @@ made_is : (cs : List UnionCase) (node : Node) (s : Scope) (labels : List Label)
     (made_cases node s labels names cases otherwise cs)
 unfolding made_cases add_cases
 made_is [] node s labels names cases otherwise =
-    record { scope = refl; cases-are = sym (append-nil cases); otherwise-is = default_end otherwise (length names) }
+    record {
+      scope = refl;
+      cases-are = sym (append-nil cases);
+      otherwise-is =
+          default_end otherwise (length names);
+    }
 made_is (c ∷ cs) node s labels names cases otherwise =
     let t = (add_item s c.item).0 in
     let one = union_case node c (add_item s c.item) in
     let next = chosen otherwise (has_default (labels_of c)) (length names) in
-    let k = made_is cs node t (labels ++ labels_of c) (names ++ c.item.name ∷ []) (cases ++ one ∷ []) next in
+    let k = made_is cs node t (labels ++ labels_of c) (names ++ c.item.name ∷ [])
+    (cases ++ one ∷ []) next in
     record {
       scope = k.scope;
       cases-are = k.cases-are ∙ append_assoc cases (one ∷ []) (add_cases t node cs).1;
-      otherwise-is = k.otherwise-is ∙ ap (λ i. default_or next i cs) (length-append names (c.item.name ∷ [])) ∙ default_on otherwise (length names) c cs;
+      otherwise-is = k.otherwise-is ∙ ap (λ i. default_or next i cs)
+          (length-append names (c.item.name ∷ [])) ∙ default_on otherwise (length names) c cs;
     }
 
 -- ---- all cases
@@ -100,10 +107,13 @@ cases_reads : (at switch : ℕ) (node : Node) (known : Names) (s : Scope) (cs : 
     (made_cases node s [] [] [] selecteds.Nothing cs).0.table.types more (cases_at at switch s text)
 unfolding cases_at
 cases_reads at switch node known s [] text more names some below same free h =
-    rw (filled_end text h.0 (mark_if_again marks.CloseBrace text more h)) (broken (refused kinds.Empty text) (λ k. k.0))
+    rw (filled_end text h.0 (mark_if_again marks.CloseBrace text more h))
+    (broken (refused kinds.Empty text) (λ k. k.0))
 cases_reads at switch node known s (c ∷ cs) text more names some below same free h =
-    rw (filled_on text (labels_apart c.label c.others text (spell_item c.item (mark marks.Semicolon ∷ spell_cases cs more)) h))
-    (out_more (cases_run (c ∷ cs) 257 at switch node known s [] [] [] selecteds.Nothing text more names some below same tt (omega arith)
+    rw (filled_on text (labels_apart c.label c.others text
+    (spell_item c.item (mark marks.Semicolon ∷ spell_cases cs more)) h))
+    (out_more (cases_run (c ∷ cs) 257 at switch node known s [] [] [] selecteds.Nothing text more
+    names some below same tt (omega arith)
     refl (omega arith) free h)
     (λ k w. (some_keeps c cs k, w)) (λ k w. w.1))
 
@@ -141,7 +151,8 @@ switch_keeps node is _ = tt
 below_by : (s : Scope) (i : ℕ) (v : Bool) → ltb i (size s) ≡ v
     → IsDiscriminator (node_at s.table i) → i < size s
 below_by s i true e is = ltb-true i (size s) e
-below_by s i false e is = absurd (subst IsDiscriminator (get_or_past s.table.types i (nodes.prim prims.Octet) (ltb-false i (size s) e)) is)
+below_by s i false e is = absurd (subst IsDiscriminator
+    (get_or_past s.table.types i (nodes.prim prims.Octet) (ltb-false i (size s) e)) is)
 
 pub below_size : (s : Scope) (i : ℕ) → IsDiscriminator (node_at s.table i) → i < size s
 below_size s i is = below_by s i (ltb i (size s)) refl is
@@ -152,8 +163,14 @@ switch_by : (s : Scope) (e : TypeExpr) (text rest : List ℕ) (more : List Token
     → Out (placed s e) (λ k. OfType k s.names e × OfSwitch k (placed_node (place s e)))
     (place s e).0.table.types more
     (cond v (Ok ((place s e).0, (place s e).1, rest)) (Err (refused kinds.Label text)))
-switch_by s e text rest more true p m keeps = good rest m (λ k. (keeps k, switch_keeps (placed_node (place s e)) (discriminates (placed_node (place s e)) p) k))
-switch_by s e text rest more false p m keeps = broken (refused kinds.Label text) (λ k. no_discriminator (placed_node (place s e)) p k.1)
+switch_by s e text rest more true p m keeps =
+    good rest m (λ k. (
+      keeps k,
+      switch_keeps (placed_node (place s e))
+          (discriminates (placed_node (place s e)) p) k,
+    ))
+switch_by s e text rest more false p m keeps =
+    broken (refused kinds.Label text) (λ k. no_discriminator (placed_node (place s e)) p k.1)
 
 switch_reads : (at : ℕ) (s : Scope) (e : TypeExpr) (text : List ℕ) (more : List Token) → 0 < size s
     → OfType kinds.Syntax s.names e → Apart marks.OpenAngle more
@@ -162,9 +179,11 @@ switch_reads : (at : ℕ) (s : Scope) (e : TypeExpr) (text : List ℕ) (more : L
     (place s e).0.table.types more (switch_at at s text)
 unfolding switch_at
 switch_reads at s e text more some free apart h =
-    out_bind (type_at at 25 s text) (λ t. cond (can_switch (node_at (t.0).table t.1)) (Ok t) (Err (refused kinds.Label text)))
+    out_bind (type_at at 25 s text) (λ t. cond (can_switch (node_at (t.0).table t.1)) (Ok t)
+    (Err (refused kinds.Label text)))
     (type_reads at s e text more some free apart h)
-    (λ rest m keeps. switch_by s e text rest more (can_switch (placed_node (place s e))) refl m keeps) (λ k w. w.0) within_same
+    (λ rest m keeps. switch_by s e text rest more (can_switch (placed_node (place s e))) refl m
+    keeps) (λ k w. w.0) within_same
 
 -- ---- a union
 
@@ -177,9 +196,11 @@ kept_is : (cs : List UnionCase) (p : AddedType) (node : Node) → node_at (p.0).
 kept_is cs p node same =
     let k = made_is cs node p.0 [] [] [] selecteds.Nothing in
     let x = add_cases p.0 node cs in
-    let one : kept_union p.1 (made_cases node p.0 [] [] [] selecteds.Nothing cs) ≡ with_node x.0 (nodes.union p.1 x.1 (default_from 0 cs)) =
+    let one : kept_union p.1 (made_cases node p.0 [] [] [] selecteds.Nothing cs)
+    ≡ with_node x.0 (nodes.union p.1 x.1 (default_from 0 cs)) =
     rw (k.scope, k.cases-are, k.otherwise-is) refl in
-    one ∙ ap (λ n. with_node (add_cases p.0 n cs).0 (nodes.union p.1 (add_cases p.0 n cs).1 (default_from 0 cs))) (sym same)
+    one ∙ ap (λ n. with_node (add_cases p.0 n cs).0
+    (nodes.union p.1 (add_cases p.0 n cs).1 (default_from 0 cs))) (sym same)
 
 choice_reads : (n : List ℕ) (switch : TypeExpr) (cases : List UnionCase) (s : Scope) (text : List ℕ)
     (more : List Token) → 0 < size s → OfDeclaration kinds.Syntax s (DeclaredUnion n switch cases)
@@ -204,30 +225,44 @@ choice_reads n switch cases s text more some free h =
     let whole = nodes.union p.1 (m.1).cases (m.1).otherwise in
     let inner = spell_cases cases (mark marks.Semicolon ∷ more) in
     let body = mark marks.CloseParenthesis ∷ mark marks.OpenBrace ∷ inner in
-    let made = within_on (made_more node p.0 [] [] [] selecteds.Nothing cases) (node_more m.0 whole) in
+    let made = within_on (made_more node p.0 [] [] [] selecteds.Nothing cases) (node_more m.0 whole)
+    in
     out_bind (declared_at s s.table.declared text)
-    (λ d. keyword_at (codes "switch") d.1 >>= λ w. mark_at marks.OpenParenthesis w >>= λ b. switch_at at s b >>= λ t. mark_at marks.CloseParenthesis t.2
-    >>= λ q. mark_at marks.OpenBrace q >>= λ o. cases_at at t.1 t.0 o >>= λ cs. mark_at marks.Semicolon cs.2
-    >>= λ r. added at cs.0 (nodes.union t.1 (cs.1).cases (cs.1).otherwise) >>= λ u. Ok (with_named d.0 u, r))
-    (declared_reads s.table.types s s.table.declared text n (word (codes "switch") ∷ mark marks.OpenParenthesis ∷ spell_type switch body) free.0 h)
+    (λ d. keyword_at (codes "switch") d.1 >>= λ w. mark_at marks.OpenParenthesis w >>= λ b.
+    switch_at at s b >>= λ t. mark_at marks.CloseParenthesis t.2
+    >>= λ q. mark_at marks.OpenBrace q >>= λ o. cases_at at t.1 t.0 o >>= λ cs.
+    mark_at marks.Semicolon cs.2
+    >>= λ r. added at cs.0 (nodes.union t.1 (cs.1).cases (cs.1).otherwise) >>= λ u.
+    Ok (with_named d.0 u, r))
+    (declared_reads s.table.types s s.table.declared text n
+    (word (codes "switch") ∷ mark marks.OpenParenthesis ∷ spell_type switch body) free.0 h)
     (λ a ta ka.
     rw (
       keyword_again (codes "switch") a (mark marks.OpenParenthesis ∷ spell_type switch body) ta,
       mark_again marks.OpenParenthesis ta.0 (spell_type switch body) ta.2,
     )
     (out_bind (switch_at at s (ta.2).0)
-    (λ t. mark_at marks.CloseParenthesis t.2 >>= λ q. mark_at marks.OpenBrace q >>= λ o. cases_at at t.1 t.0 o >>= λ cs. mark_at marks.Semicolon cs.2
-    >>= λ r. added at cs.0 (nodes.union t.1 (cs.1).cases (cs.1).otherwise) >>= λ u. Ok (with_named n u, r))
+    (λ t. mark_at marks.CloseParenthesis t.2 >>= λ q. mark_at marks.OpenBrace q >>= λ o.
+    cases_at at t.1 t.0 o >>= λ cs. mark_at marks.Semicolon cs.2
+    >>= λ r. added at cs.0 (nodes.union t.1 (cs.1).cases (cs.1).otherwise) >>= λ u.
+    Ok (with_named n u, r))
     (switch_reads at s switch (ta.2).0 body some free.1 refl (ta.2).2)
     (λ b tb kb.
     let below = below_size p.0 p.1 (kb kinds.Label).1 in
-    rw (mark_again marks.CloseParenthesis b (mark marks.OpenBrace ∷ inner) tb, mark_again marks.OpenBrace tb.0 inner tb.2)
-    (out_bind (cases_at at p.1 p.0 (tb.2).0) (λ cs. mark_at marks.Semicolon cs.2 >>= λ r. added at cs.0 (nodes.union p.1 (cs.1).cases (cs.1).otherwise)
+    rw (
+      mark_again marks.CloseParenthesis b (mark marks.OpenBrace ∷ inner) tb,
+      mark_again marks.OpenBrace tb.0 inner tb.2,
+    )
+    (out_bind (cases_at at p.1 p.0 (tb.2).0)
+    (λ cs. mark_at marks.Semicolon cs.2 >>= λ r.
+    added at cs.0 (nodes.union p.1 (cs.1).cases (cs.1).otherwise)
     >>= λ u. Ok (with_named n u, r))
-    (cases_reads at p.1 node s.names p.0 cases (tb.2).0 (mark marks.Semicolon ∷ more) (place_names s switch) (omega (arith, (place_more s switch).longer))
+    (cases_reads at p.1 node s.names p.0 cases (tb.2).0 (mark marks.Semicolon ∷ more)
+    (place_names s switch) (omega (arith, (place_more s switch).longer))
     below refl free.4 (tb.2).2)
     (λ c tc kc. rw (mark_again marks.Semicolon c more tc)
-    (added_bind at m.0 whole (λ u. Ok (with_named n u, tc.0)) within_same (good tc.0 tc.2 (λ k. (ka k, (kb k).0, (kb k).1, (kc k).0, (kc k).1)))))
+    (added_bind at m.0 whole (λ u. Ok (with_named n u, tc.0)) within_same
+    (good tc.0 tc.2 (λ k. (ka k, (kb k).0, (kb k).1, (kc k).0, (kc k).1)))))
     (λ k w. (w.3, w.4)) (node_more m.0 whole)))
     (λ k w. (w.1, w.2)) made))
     (λ k w. w.0) (within_on (place_more s switch) made)
@@ -248,4 +283,5 @@ union_reads s n switch cases text more some free h =
     let same = kept_is cases p (placed_node p) refl in
     out_as (union_at s text) (choice_reads n switch cases s text more some free h)
     (λ rest. ap (λ (q : AddedType). (with_named n q, rest)) same) (λ k w. w) (λ k w. w)
-    (subst (λ (q : AddedType). Grown (kept_union p.1 (made_cases (placed_node p) p.0 [] [] [] selecteds.Nothing cases)).0 q.0) same within_same)
+    (subst (λ (q : AddedType). Grown (kept_union p.1
+    (made_cases (placed_node p) p.0 [] [] [] selecteds.Nothing cases)).0 q.0) same within_same)

@@ -1,4 +1,5 @@
--- The cases of a union that were read: the text that was read spells them, and they can be a union's.
+-- The cases of a union that were read: the text that was read spells them, and they can be a
+-- union's.
 use Rattle.std.proofs.Common.{◌≡◌, ℕ, zero, suc, ◌+◌, ◌≤◌, Bool, true, false, cond, ltb, List, [], ◌∷◌, ◌++◌, length, get_or, Option, Some, None, Ok, Err, refl, sym, ap, subst, ◌∙◌, arith}
 use Rattle.std.specs.Prelude.{codes}
 use Rattle.std.specs.List.{All}
@@ -45,26 +46,43 @@ word_taken : (text w rest : List ℕ) (x : Value × List ℕ) (a b c d : Bool)
     (cond d (Err (refused kinds.Limit text)) (Ok (Enumerator w, rest))))) ≡ Ok x → TakenValue text x
 word_taken text w rest x true b c d p q r h e =
     let is : w ≡ codes "true" = (bytes_eq-Decides w (codes "true")).0 p in
-    subst (TakenValue text) (ok_is (Truth true, rest) x e) (record { free = tt; front = λ more m. (rest, h ∙ ap (λ v. Ok (Some (word v), rest)) is, m) })
+    subst (TakenValue text) (ok_is (Truth true, rest) x e)
+    (record {
+      free = tt;
+      front = λ more m.
+          (rest, h ∙ ap (λ v. Ok (Some (word v), rest)) is, m);
+    })
 word_taken text w rest x false true c d p q r h e =
     let is : w ≡ codes "false" = (bytes_eq-Decides w (codes "false")).0 q in
-    subst (TakenValue text) (ok_is (Truth false, rest) x e) (record { free = tt; front = λ more m. (rest, h ∙ ap (λ v. Ok (Some (word v), rest)) is, m) })
+    subst (TakenValue text) (ok_is (Truth false, rest) x e)
+    (record {
+      free = tt;
+      front = λ more m.
+          (rest, h ∙ ap (λ v. Ok (Some (word v), rest)) is, m);
+    })
 word_taken text w rest x false false true d p q r h e = absurd cc
 word_taken text w rest x false false false true p q r h e = absurd cc
 word_taken text w rest x false false false false p q r h e =
-    subst (TakenValue text) (ok_is (Enumerator w, rest) x e) (record { free = r; front = λ more m. (rest, h, m) })
+    subst (TakenValue text) (ok_is (Enumerator w, rest) x e)
+    (record { free = r; front = λ more m. (rest, h, m) })
 
 token_taken : (text : List ℕ) (t : Option Token) (rest : List ℕ) (x : Value × List ℕ)
     → next text ≡ Ok (t, rest) → token_value text t rest ≡ Ok x → TakenValue text x
 token_taken text (Some (word w)) rest x h e =
-    word_taken text w rest x (bytes_eq w (codes "true")) (bytes_eq w (codes "false")) (is_reserved w) (ltb 64 (length w)) refl refl refl h e
-token_taken text (Some (number n)) rest x h e = subst (TakenValue text) (ok_is (Plain n, rest) x e) (record { free = tt; front = λ more m. (rest, h, m) })
-token_taken text (Some (negative n)) rest x h e = subst (TakenValue text) (ok_is (Below n, rest) x e) (record { free = tt; front = λ more m. (rest, h, m) })
+    word_taken text w rest x (bytes_eq w (codes "true")) (bytes_eq w (codes "false"))
+    (is_reserved w) (ltb 64 (length w)) refl refl refl h e
+token_taken text (Some (number n)) rest x h e =
+    subst (TakenValue text) (ok_is (Plain n, rest) x e)
+    (record { free = tt; front = λ more m. (rest, h, m) })
+token_taken text (Some (negative n)) rest x h e =
+    subst (TakenValue text) (ok_is (Below n, rest) x e)
+    (record { free = tt; front = λ more m. (rest, h, m) })
 token_taken text _ rest x h e = absurd cc
 
 value_taken : (text : List ℕ) (x : Value × List ℕ) → value_at text ≡ Ok x → TakenValue text x
 unfolding value_at
-value_taken text x e = let t = bind_ok (next text) (λ t. token_value text t.0 t.1) x e in token_taken text (t.0).0 (t.0).1 x t.1 t.2
+value_taken text x e = let t = bind_ok (next text) (λ t. token_value text t.0 t.1) x e in
+    token_taken text (t.0).0 (t.0).1 x t.1 t.2
 
 -- a value, and what follows it
 record TakenNumber (text rest : List ℕ) : Type 0 where
@@ -74,7 +92,8 @@ record TakenNumber (text rest : List ℕ) : Type 0 where
 fitting_by : (text : List ℕ) (v : Value × List ℕ) (o : Option Number) (x : LabelRead)
     → TakenValue text v → fitting text v.1 o ≡ Ok x → TakenNumber text x.1
 fitting_by text v None x t e = absurd cc
-fitting_by text v (Some n) x t e = subst (λ (y : LabelRead). TakenNumber text y.1) (ok_is (Some n, v.1) x e) (record { value = v.0; taken = t })
+fitting_by text v (Some n) x t e = subst (λ (y : LabelRead). TakenNumber text y.1)
+    (ok_is (Some n, v.1) x e) (record { value = v.0; taken = t })
 
 number_taken : (node : Node) (text : List ℕ) (x : LabelRead)
     → number_of_value node text ≡ Ok x → TakenNumber text x.1
@@ -96,30 +115,40 @@ label_taken_by : (node : Node) (seen : List Mark) (text : List ℕ) (o : Option 
     (x : LabelRead) → keyword_if (codes "case") text ≡ Ok o
     → label_by node seen text o ≡ Ok x → TakenLabel text x.1
 label_taken_by node seen text (Some inner) x h e =
-    let v = bind_ok (number_of_value node inner) (λ v. unseen_label seen v.0 inner >>= λ m. mark_at marks.Colon v.1 >>= λ rest. Ok (m, rest)) x e in
-    let m = bind_ok (unseen_label seen (v.0).0 inner) (λ m. mark_at marks.Colon (v.0).1 >>= λ rest. Ok (m, rest)) x v.2 in
+    let v = bind_ok (number_of_value node inner)
+    (λ v. unseen_label seen v.0 inner >>= λ m. mark_at marks.Colon v.1 >>= λ rest. Ok (m, rest))
+    x e in
+    let m = bind_ok (unseen_label seen (v.0).0 inner)
+    (λ m. mark_at marks.Colon (v.0).1 >>= λ rest. Ok (m, rest)) x v.2 in
     let r = bind_ok (mark_at marks.Colon (v.0).1) (λ rest. Ok (m.0, rest)) x m.2 in
     let t = number_taken node inner v.0 v.1 in
     label_rest_is text m.0 r.0 x (ok_is (m.0, r.0) x r.2) (record {
       label = Of t.value;
       free = λ node seen. ((t.taken.free, tt), tt);
-      front = λ more k. keyword_if_takes (codes "case") text inner h (spell_value t.value (mark marks.Colon ∷ more))
+      front = λ more k. keyword_if_takes (codes "case") text inner h
+          (spell_value t.value (mark marks.Colon ∷ more))
           (t.taken.front (mark marks.Colon ∷ more) (mark_takes marks.Colon (v.0).1 r.0 r.1 more k));
     })
 label_taken_by node seen text None x h e =
-    let w = bind_ok (keyword_at (codes "default") text) (λ inner. unseen_label seen None text >>= λ m. mark_at marks.Colon inner >>= λ rest. Ok (m, rest)) x e in
-    let m = bind_ok (unseen_label seen None text) (λ m. mark_at marks.Colon w.0 >>= λ rest. Ok (m, rest)) x w.2 in
+    let w = bind_ok (keyword_at (codes "default") text)
+    (λ inner. unseen_label seen None text >>= λ m. mark_at marks.Colon inner >>= λ rest.
+    Ok (m, rest)) x e in
+    let m = bind_ok (unseen_label seen None text)
+    (λ m. mark_at marks.Colon w.0 >>= λ rest. Ok (m, rest)) x w.2 in
     let r = bind_ok (mark_at marks.Colon w.0) (λ rest. Ok (m.0, rest)) x m.2 in
     label_rest_is text m.0 r.0 x (ok_is (m.0, r.0) x r.2) (record {
       label = Default;
       free = λ node seen. (tt, tt);
-      front = λ more k. keyword_takes (codes "default") text w.0 w.1 (mark marks.Colon ∷ more) (mark_takes marks.Colon w.0 r.0 r.1 more k);
+      front = λ more k. keyword_takes (codes "default") text w.0 w.1 (mark marks.Colon ∷ more)
+          (mark_takes marks.Colon w.0 r.0 r.1 more k);
     })
 
 label_taken : (node : Node) (seen : List Mark) (text : List ℕ) (x : LabelRead)
     → label_at node seen text ≡ Ok x → TakenLabel text x.1
 unfolding label_at
-label_taken node seen text x e = let o = bind_ok (keyword_if (codes "case") text) (label_by node seen text) x e in label_taken_by node seen text o.0 x o.1 o.2
+label_taken node seen text x e = let o =
+    bind_ok (keyword_if (codes "case") text) (label_by node seen text) x e in
+    label_taken_by node seen text o.0 x o.1 o.2
 
 -- ---- the labels of a case
 
@@ -138,7 +167,13 @@ not_both text e f = let same : false ≡ true = ok_is false true (sym e ∙ f) i
 
 no_labels : (text : List ℕ) → begins_label text ≡ Ok false → TakenLabels text text
 unfolding OfLabels
-no_labels text h = record { labels = []; free = λ node seen. tt; front = λ more m. m; some = λ b. absurd (not_both text h b) }
+no_labels text h = record {
+  labels = [];
+  free = λ node seen. tt;
+  front = λ more m. m;
+  some =
+      λ b. absurd (not_both text h b);
+}
 
 one_label : (text middle rest : List ℕ) → TakenLabel text middle
     → TakenLabels middle rest → TakenLabels text rest
@@ -161,8 +196,10 @@ labels_taken_by node left ls false s x on h e f =
 labels_taken_by node left ls true s x on h e f =
     let l = bind_ok (label_at node ls.0 ls.3) (λ l. Ok (false, with_label ls l)) s e in
     let next = with_label ls l.0 in
-    let run : in_steps (labels_step node) too_many_labels left next ≡ Ok x = ap (then_labels node left) (ok_is (false, next) s l.2) ∙ f in
-    one_label ls.3 (l.0).1 x.3 (label_taken node ls.0 ls.3 l.0 l.1) (subst (λ t. TakenLabels t x.3) (with_label_rest ls (l.0).0 (l.0).1) (on next x run))
+    let run : in_steps (labels_step node) too_many_labels left next ≡ Ok x =
+    ap (then_labels node left) (ok_is (false, next) s l.2) ∙ f in
+    one_label ls.3 (l.0).1 x.3 (label_taken node ls.0 ls.3 l.0 l.1)
+    (subst (λ t. TakenLabels t x.3) (with_label_rest ls (l.0).0 (l.0).1) (on next x run))
 
 labels_run_taken : (node : Node) (left : ℕ) (ls x : LabelsRead)
     → in_steps (labels_step node) too_many_labels left ls ≡ Ok x → TakenLabels ls.3 x.3
@@ -195,12 +232,15 @@ some_labels text rest h t =
 labels_taken_or : (node : Node) (seen : List Mark) (text : List ℕ) (b : Bool) (x : LabelsRead)
     → begins_label text ≡ Ok b → labels_by node seen text b ≡ Ok x → TakenSome text x.3
 labels_taken_or node seen text false x h e = absurd cc
-labels_taken_or node seen text true x h e = some_labels text x.3 h (labels_run_taken node 1025 (seen, [], false, text) x e)
+labels_taken_or node seen text true x h e =
+    some_labels text x.3 h (labels_run_taken node 1025 (seen, [], false, text) x e)
 
 labels_taken : (node : Node) (seen : List Mark) (text : List ℕ) (x : LabelsRead)
     → labels_at node seen text ≡ Ok x → TakenSome text x.3
 unfolding labels_at
-labels_taken node seen text x e = let b = bind_ok (begins_label text) (labels_by node seen text) x e in labels_taken_or node seen text b.0 x b.1 b.2
+labels_taken node seen text x e = let b =
+    bind_ok (begins_label text) (labels_by node seen text) x e in
+    labels_taken_or node seen text b.0 x b.1 b.2
 
 -- ---- cases
 
@@ -221,7 +261,8 @@ chosen_below selecteds.Refused default n is = tt
 cases_stay : (s t : Scope) (cs : List Case) → Grows s t
     → All (λ c. IsPart s.table.types (length s.table.types) c.part) cs
     → All (λ c. IsPart t.table.types (length t.table.types) c.part) cs
-cases_stay s t cs g all = λ k d lt. let is = all k d lt in record { inner = grows_known s t ((get_or cs k d).part).type g is.inner; short = is.short }
+cases_stay s t cs g all = λ k d lt. let is = all k d lt in
+    record { inner = grows_known s t ((get_or cs k d).part).type g is.inner; short = is.short }
 
 case_sound : (s : Scope) (cs : Cases) (ls : LabelsRead) (i : ItemRead)
     → TakenItem s 256 cs.names ls.3 i → IsScope s → SoundCases s cs
@@ -231,9 +272,11 @@ case_sound s cs ls i t is sound =
     let few = t.few in
     let same = sound.same in
     let one : Case = record { labels = ls.1; part = i.1 } in
-    let more : length (cs.cases ++ one ∷ []) ≡ length cs.cases + 1 = length-append cs.cases (one ∷ []) in
+    let more : length (cs.cases ++ one ∷ []) ≡ length cs.cases + 1 =
+    length-append cs.cases (one ∷ []) in
     record {
-      parts = All-push (λ c. IsPart (i.0).table.types (length (i.0).table.types) c.part) cs.cases one (cases_stay s i.0 cs.cases t.grows sound.parts)
+      parts = All-push (λ c. IsPart (i.0).table.types (length (i.0).table.types) c.part) cs.cases
+          one (cases_stay s i.0 cs.cases t.grows sound.parts)
           (record { inner = h.known; short = t.short });
       few = omega arith;
       same = omega (arith, length-append cs.names ((i.1).name ∷ []));
@@ -273,10 +316,14 @@ case_taken : (at switch : ℕ) (x y : CasesRead) → case_at at switch x ≡ Ok 
 unfolding case_at
 case_taken at switch x y e =
     let ls = bind_ok _ _ y e in
-    let i = bind_ok (item_at at 256 (x.1).names x.0 (ls.0).3) (λ i. mark_at marks.Semicolon i.2 >>= λ rest. Ok (i.0, with_case x.1 ls.0 i.1, rest)) y ls.2 in
-    let r = bind_ok (mark_at marks.Semicolon (i.0).2) (λ rest. Ok ((i.0).0, with_case x.1 ls.0 (i.0).1, rest)) y i.2 in
+    let i = bind_ok (item_at at 256 (x.1).names x.0 (ls.0).3)
+    (λ i. mark_at marks.Semicolon i.2 >>= λ rest. Ok (i.0, with_case x.1 ls.0 i.1, rest)) y ls.2
+    in
+    let r = bind_ok (mark_at marks.Semicolon (i.0).2)
+    (λ rest. Ok ((i.0).0, with_case x.1 ls.0 (i.0).1, rest)) y i.2 in
     subst (TakenCase x) (ok_is ((i.0).0, with_case x.1 ls.0 (i.0).1, r.0) y r.2)
-    (case_made x ls.0 i.0 r.0 (labels_taken (node_at (x.0).table switch) (x.1).labels x.2 ls.0 ls.1) (item_takes at 256 (x.1).names x.0 (ls.0).3 i.0 i.1) r.1)
+    (case_made x ls.0 i.0 r.0 (labels_taken (node_at (x.0).table switch) (x.1).labels x.2 ls.0 ls.1)
+    (item_takes at 256 (x.1).names x.0 (ls.0).3 i.0 i.1) r.1)
 
 -- ---- cases, one after the other
 
@@ -305,8 +352,14 @@ one_more x y z t u = record {
   cases = t.case ∷ u.cases;
   free = λ node seen.
       let others = u.free node (seen ++ labels_of t.case) in
-      let under = subst (λ ns. OfCases kinds.Syntax ns node (seen ++ labels_of t.case) (y.1).names u.cases) (t.grows).names others in
-      (t.free node seen, t.item, subst (λ ns. OfCases kinds.Syntax (x.0).names node (seen ++ labels_of t.case) ns u.cases) t.named under);
+      let under = subst (λ ns. OfCases kinds.Syntax ns node (seen ++ labels_of t.case) (y.1).names
+      u.cases) (t.grows).names others in (
+        t.free node seen,
+        t.item,
+        subst (λ ns.
+            OfCases kinds.Syntax (x.0).names node (seen ++ labels_of t.case) ns u.cases) t.named
+            under,
+      );
   front = λ more m. t.front (spell_cases u.cases more) (u.front more m);
   grows = grows_on x.0 y.0 z.0 t.grows u.grows;
   sound = λ is sound. let k = t.sound is sound in u.sound k.0 k.1;
@@ -318,10 +371,13 @@ cases_taken_by : (at switch left : ℕ) (x : CasesRead) (o : Option (List ℕ)) 
     → mark_if marks.CloseBrace x.2 ≡ Ok o → case_or_end at switch x o ≡ Ok s
     → then_cases at switch left s ≡ Ok z → TakenCases x z
 cases_taken_by at switch left x (Some rest) s z on h e f =
-    subst (TakenCases x) (ok_is (x.0, x.1, rest) z (ap (then_cases at switch left) (ok_is (true, (x.0, x.1, rest)) s e) ∙ f)) (no_more x rest h)
+    subst (TakenCases x) (ok_is (x.0, x.1, rest) z
+    (ap (then_cases at switch left) (ok_is (true, (x.0, x.1, rest)) s e) ∙ f))
+    (no_more x rest h)
 cases_taken_by at switch left x None s z on h e f =
     let c = bind_ok (case_at at switch x) (λ c. Ok (false, c)) s e in
-    one_more x c.0 z (case_taken at switch x c.0 c.1) (on c.0 z (ap (then_cases at switch left) (ok_is (false, c.0) s c.2) ∙ f))
+    one_more x c.0 z (case_taken at switch x c.0 c.1)
+    (on c.0 z (ap (then_cases at switch left) (ok_is (false, c.0) s c.2) ∙ f))
 
 cases_run_taken : (at switch left : ℕ) (x z : CasesRead)
     → in_steps (cases_step at switch) too_many_cases left x ≡ Ok z → TakenCases x z
@@ -345,7 +401,12 @@ pub record TakenUnionCases (s : Scope) (text : List ℕ) (x : CasesRead) : Type 
   pub below : IsScope s → IsCaseBelow (length (x.1).cases) (x.1).otherwise
 
 sound_none : (s : Scope) → SoundCases s no_cases
-sound_none s = record { parts = λ k d lt. absurd (omega arith); few = omega arith; same = refl; below = tt }
+sound_none s = record {
+  parts = λ k d lt. absurd (omega arith);
+  few = omega arith;
+  same = refl;
+  below = tt;
+}
 
 filled_by : (text some : List ℕ) (o : Option (List ℕ))
     → unless_closed text o ≡ Ok some → text ≡ some
@@ -354,18 +415,21 @@ filled_by text some (Some r) e = absurd cc
 
 filled_is : (text some : List ℕ) → filled_at text ≡ Ok some → text ≡ some
 unfolding filled_at
-filled_is text some e = let o = bind_ok (mark_if marks.CloseBrace text) (unless_closed text) some e in filled_by text some o.0 o.2
+filled_is text some e = let o = bind_ok (mark_if marks.CloseBrace text) (unless_closed text) some
+    e in filled_by text some o.0 o.2
 
 pub cases_taken : (at switch : ℕ) (s : Scope) (text : List ℕ) (x : CasesRead)
     → cases_at at switch s text ≡ Ok x → TakenUnionCases s text x
 unfolding cases_at
 cases_taken at switch s text x e =
-    let some = bind_ok (filled_at text) (λ some. in_steps (cases_step at switch) too_many_cases 257 (s, no_cases, some)) x e in
+    let some = bind_ok (filled_at text) (λ some.
+    in_steps (cases_step at switch) too_many_cases 257 (s, no_cases, some)) x e in
     let t = cases_run_taken at switch 257 (s, no_cases, some.0) x some.2 in
     record {
       cases = t.cases;
       free = λ node. t.free node [];
-      front = λ more m. subst (λ b. AreTokens b (spell_cases t.cases more)) (sym (filled_is text some.0 some.1)) (t.front more m);
+      front = λ more m. subst (λ b. AreTokens b (spell_cases t.cases more))
+          (sym (filled_is text some.0 some.1)) (t.front more m);
       grows = t.grows;
       scope = λ is. (t.sound is (sound_none s)).0;
       parts = λ is. (t.sound is (sound_none s)).1.parts;

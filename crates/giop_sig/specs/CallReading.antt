@@ -104,7 +104,8 @@ params_of w d i rest closed =
       closed = closed;
     }
 
-abbrev pub param_end : ParameterLists → Direction → ItemRead → Option (List ℕ) → Result Params Refusal
+abbrev pub param_end : ParameterLists → Direction → ItemRead → Option (List ℕ) →
+    Result Params Refusal
 param_end w d i (Some r) = Ok (params_of w d i r false)
 param_end w d i None = do
   r ← mark_at marks.CloseParenthesis i.2

@@ -1,4 +1,5 @@
--- Reading a signature file from left to right (steps), and which of its refusals is the first (meaning).
+-- Reading a signature file from left to right (steps), and which of its refusals is the first
+-- (meaning).
 use Rattle.std.specs.Prelude.{◌≡◌, ◌⊎◌, ℕ, zero, suc, if◌then◌else◌, List, length, Result, Ok, Err, codes}
 use Rattle.std.specs.Str.{bytes_eq}
 use Rattle.giop_tokens.specs.declared.fault.Refusal.{Refusal}

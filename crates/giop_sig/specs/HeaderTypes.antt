@@ -1,4 +1,5 @@
--- Which built-in types are headers and bodies (GIOP Message Formats), and what holds of a catalogue as a whole (meaning).
+-- Which built-in types are headers and bodies (GIOP Message Formats), and what holds of a catalogue
+-- as a whole (meaning).
 use Rattle.std.specs.Prelude.{◌≡◌, ℕ, suc, ◌<◌, ◌≤◌, ◌⊎◌, List, [], ◌∷◌, ◌++◌, length, Option, Some, None, slice_get, slice_index_or, codes}
 use Rattle.std.specs.List.{All}
 use Rattle.std.specs.Option.{option_map}
@@ -58,7 +59,8 @@ BeginsWithId T =
     (count : ℕ) × (names : ℕ → List ℕ) × (parts : ℕ → Ty) × (T ≡ Struct (suc count) names parts)
     × (names 0 ≡ codes "request_id") × (parts 0 ≡ Single (Plain ULong))
 
--- where the request id is read before the type is: in all messages of 1.2 that have a header, and in every cancel request
+-- where the request id is read before the type is: in all messages of 1.2 that have a header, and
+-- in every cancel request
 abbrev pub IdStandsFirst : ℕ → ℕ → Type 0
 IdStandsFirst minor kind = (minor ≡ 2) ⊎ (kind ≡ 2)
 

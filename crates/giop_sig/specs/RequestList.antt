@@ -1,4 +1,5 @@
--- Request lists: which text is which list of entries, and which operation a list gives for a request id (docs/FORMATS.md; meaning).
+-- Request lists: which text is which list of entries, and which operation a list gives for a
+-- request id (docs/FORMATS.md; meaning).
 use Rattle.std.specs.Prelude.{◌≡◌, ℕ, ◌+◌, ◌^◌, ◌<◌, ◌≤◌, ◌==◌, ◌⊎◌, List, [], ◌∷◌, ◌++◌, length, map, filter, Option, Some, None, nat_eq, option_and_then, not, if◌then◌else◌}
 use Rattle.std.specs.List.{All, list_all, onto_first}
 use Rattle.std.specs.Map.{lookup}
@@ -61,7 +62,8 @@ pub record ReachesLine (text : List ℕ) (es : List Entry) (line : List ℕ) (k 
   pub rest : (after : List (List ℕ)) × (lines text ≡ map line_of es ++ line ∷ after)
   pub number : k ≡ length es + 1
 
--- the first line refused is the k-th, and this is why: it is no entry, or the text is too long, or the line is
+-- the first line refused is the k-th, and this is why: it is no entry, or the text is too long, or
+-- the line is
 -- an entry too many
 abbrev pub IsRefusedAs : List ℕ → ℕ → ListFaultKind → Type 0
 IsRefusedAs text k Syntax =
@@ -84,7 +86,8 @@ abbrev pub the_one : List (List ℕ) → Option (List ℕ)
 the_one [] = None
 the_one (name ∷ names) = if list_all (bytes_eq name) names then Some name else None
 
--- the operation of an id: that of the one name that all its entries have, where find gives an operation's number
+-- the operation of an id: that of the one name that all its entries have, where find gives an
+-- operation's number
 -- by its name
 abbrev pub operation_of : (List ℕ → Option ℕ) → List Entry → ℕ → Option ℕ
 operation_of find es id = option_and_then find (the_one (names_of es id))
@@ -108,7 +111,8 @@ ids_of (e ∷ es) = e.id ∷ filter (λ id. not (id == e.id)) (ids_of es)
 abbrev pub as_operation : ℕ → OpId
 as_operation k = record { 0 = k }
 
--- what is stored of a list, by find: these ids, each with the operation of the one name that all its entries have
+-- what is stored of a list, by find: these ids, each with the operation of the one name that all
+-- its entries have
 abbrev pub kept_of : (List ℕ → Option ℕ) → List Entry → List (ℕ × Option OpId)
 kept_of find es = map (λ id. (id, option_map as_operation (operation_of find es id))) (ids_of es)
 

@@ -1,4 +1,5 @@
--- What declarations add: the types, operations and exceptions of a table, and the names that later declarations may use
+-- What declarations add: the types, operations and exceptions of a table, and the names that later
+-- declarations may use
 -- (docs/FORMATS.md, Signature file; meaning).
 use Rattle.std.specs.Prelude.{ℕ, ◌+◌, ◌==◌, ◌-ℤ◌, Bool, true, false, if◌then◌else◌, nat_le, ℤ, pos, List, [], ◌∷◌, ◌++◌, length, Option, Some, None, codes, position}
 use Rattle.std.specs.Map.{lookup}
@@ -268,7 +269,8 @@ unfoldable pub declare : Scope → Declaration → Scope
 declare s (Enumeration n names) = with_named n (with_node s (nodes.enumeration names))
 declare s (Structure n items) = with_named n (add_struct_type (add_items s items))
 declare s (DeclaredUnion n switch cases) = with_named n (add_choice_type cases (place s switch))
-declare s (DeclaredException n repository items) = with_raised n repository (add_struct_type (add_items s items))
+declare s (DeclaredException n repository items) =
+    with_raised n repository (add_struct_type (add_items s items))
 declare s (Call returned n params) = add_call_parts n params (add_return s returned)
 
 abbrev pub scope_after : Scope → List Declaration → Scope

@@ -1,4 +1,5 @@
--- The table that a catalogue is: one node for each type, which names the types of its parts by their numbers, and the operations
+-- The table that a catalogue is: one node for each type, which names the types of its parts by
+-- their numbers, and the operations
 -- and exceptions by their names (meaning).
 use Rattle.std.specs.Prelude.{ℕ, ◌+◌, ◌<◌, ◌≤◌, ◌==◌, Bool, false, cond, List, [], ◌∷◌, ◌++◌, length, Option, Some, None, slice_index_or, slice_get, position}
 use Rattle.std.specs.Ordering.{int_eq}
@@ -41,7 +42,8 @@ pub data Node : Type 0 where
   array : ℕ → ℕ → Node
   -- octets with a byte order of their own, that hold a value of a type
   encapsulation : ℕ → Node
-  -- a tag that determines what follows it: the special tag; the part of the tag, the part that follows the special tag, and
+  -- a tag that determines what follows it: the special tag; the part of the tag, the part that
+  -- follows the special tag, and
   -- the part that follows every other tag
   tagged : ℕ → Part → Part → Part → Node
 
@@ -71,7 +73,8 @@ case_part (Some c) = Some c.part
 abbrev pub element_part : ℕ → Part
 element_part element = record { name = []; type = element }
 
--- the part at a place; an element, and what an encapsulation holds, is at every place and has no name
+-- the part at a place; an element, and what an encapsulation holds, is at every place and has no
+-- name
 abbrev pub part_at : Node → ℕ → Option Part
 part_at (members parts) i = slice_get parts i
 part_at (union switch cases otherwise) i = case_part (slice_get cases i)
@@ -138,7 +141,8 @@ pub record Exception : Type 0 where
   pub repository : List ℕ
   pub members : ℕ
 
--- the built-in types come first; declared is how many enums, structs and unions a signature file added
+-- the built-in types come first; declared is how many enums, structs and unions a signature file
+-- added
 pub record Table : Type 0 where
   pub types : List Node
   pub operations : List Operation

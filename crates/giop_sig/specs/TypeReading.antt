@@ -20,14 +20,16 @@ use Rattle.giop_sig.specs.Outcomes.{refused}
 abbrev pub too_deep : ℕ → Refusal
 too_deep at = record { kind = kinds.Depth; left = at }
 
--- too many types to be numbered, in the declaration whose name is at this place; no text that spells a file has so many
+-- too many types to be numbered, in the declaration whose name is at this place; no text that
+-- spells a file has so many
 abbrev pub too_many_types : ℕ → Refusal
 too_many_types at = record { kind = kinds.Limit; left = at }
 
 -- one node more, where a number is left for it
 abbrev pub next_node : ℕ → Scope → Node → Result AddedType Refusal
 next_node at s node =
-    if nat_le 4294967295 (length s.table.types) then Err (too_many_types at) else Ok (with_node s node)
+    if nat_le 4294967295 (length s.table.types) then Err (too_many_types at) else Ok
+    (with_node s node)
 
 -- one node more, where it isn't too deep
 unfoldable pub added : ℕ → Scope → Node → Result AddedType Refusal

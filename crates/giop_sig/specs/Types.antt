@@ -1,6 +1,9 @@
--- CDR's types as finite trees (CDR Transfer Syntax, Constructed Types; meaning). The parts of a type are named by their places, from 0.
--- What a union's discriminator selects is determined by the whole number that its octets spell: a label of a signed type is compared
--- with that number taken in two's complement, so that -1 of a short is selected by the octets of 65535.
+-- CDR's types as finite trees (CDR Transfer Syntax, Constructed Types; meaning). The parts of a
+-- type are named by their places, from 0.
+-- What a union's discriminator selects is determined by the whole number that its octets spell: a
+-- label of a signed type is compared
+-- with that number taken in two's complement, so that -1 of a short is selected by the octets of
+-- 65535.
 use Rattle.std.specs.Prelude.{◌≡◌, ℕ, zero, suc, ◌+◌, ◌<◌, max, cond, nat_lt, List, [], Option, Some, None}
 use Rattle.giop_cdr.specs.declared.prim.Primitive.{Primitive}
 use Rattle.giop_cdr.specs.declared.number.Number.{Number}
@@ -27,7 +30,8 @@ abbrev pub interpreted_by : Scalar → ℕ → Option Number
 interpreted_by (Plain p) n = interpreted_as p n
 interpreted_by (Enum count names) n = Some (numbers.Unsigned n)
 
--- what a union's discriminator chooses among: so many cases; or it is a tag, a member itself, part 0 of three
+-- what a union's discriminator chooses among: so many cases; or it is a tag, a member itself, part
+-- 0 of three
 pub data Choice : Type 0 where
   Cases : ℕ → Choice
   Tag : Choice

@@ -1,4 +1,5 @@
--- The cases of a union as contracts see them, and the list of its labels in which a case is searched for (state).
+-- The cases of a union as contracts see them, and the list of its labels in which a case is
+-- searched for (state).
 use Rattle.std.specs.Prelude.{◌≡◌, ℕ, ◌<◌, Bool, true, List, length, Some, None, slice_index_or}
 use Rattle.std.specs.List.{All, Contains}
 use Rattle.std.specs.Int.{w64, cast_unsigned, from_bool}
@@ -31,7 +32,8 @@ Rise ls = (i j : ℕ) (d : PlacedLabel) → i < j → j < length ls
 abbrev pub placed : ℕ → Number → PlacedLabel
 placed i n = record { number = n; place = i }
 
--- each number of the list selects some case, and the case that a number selects is in the list beside it
+-- each number of the list selects some case, and the case that a number selects is in the list
+-- beside it
 pub record AreLabels (cases : List Case) (ls : List PlacedLabel) : Type 0 where
   pub each : All (λ l. case_with l.number cases ≡ None → ⊥) ls
   pub whole : (n : Number) (i : ℕ) → case_with n cases ≡ Some i → Contains ls (placed i n)

@@ -94,7 +94,8 @@ label_at node seen text = do
 
 -- ---- the labels of a case
 
--- all labels of the union so far; of the case, the numbers, and whether it has the default; what follows
+-- all labels of the union so far; of the case, the numbers, and whether it has the default; what
+-- follows
 abbrev pub LabelsRead : Type 0
 LabelsRead = List Mark × List Number × Bool × List ℕ
 
@@ -165,7 +166,8 @@ with_case cs ls p = record {
 abbrev pub CasesRead : Type 0
 CasesRead = Scope × Cases × List ℕ
 
--- a case of a union in the declaration whose name is at this place, and whose discriminator has the type of a number
+-- a case of a union in the declaration whose name is at this place, and whose discriminator has the
+-- type of a number
 unfoldable pub case_at : ℕ → ℕ → CasesRead → Result CasesRead Refusal
 case_at at switch x = do
   ls ← labels_at (node_at (x.0).table switch) (x.1).labels x.2

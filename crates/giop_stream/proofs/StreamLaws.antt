@@ -1,4 +1,5 @@
--- What other crates may use of a stream, beside the contracts. No other file of this crate's proofs can be cited from outside.
+-- What other crates may use of a stream, beside the contracts. No other file of this crate's proofs
+-- can be cited from outside.
 use Rattle.std.proofs.Common.{◌≡◌, ℕ, List, [], ◌∷◌, ◌++◌}
 use Rattle.giop_sig.specs.Table.{Table}
 use Rattle.giop_message.specs.HeaderEnds.{HeaderEnd, AreSilent}
@@ -14,13 +15,17 @@ use Rattle.giop_stream.proofs.CodeSteps.QuietOctets as quiet
 
 -- what q and then r add to the text of the stream p
 pub added_both : (C : Table) (kept : RequestTable) (most : ℕ) (p q r : List ℕ) →
-    added (rules C kept most) p (q ++ r) ≡ added (rules C kept most) p q ++ added (rules C kept most) (p ++ q) r
-added_both C kept most p q r = further.added_both (rules C kept most) (is_causal (λ number. signatures_of C (by_list kept number))) (in_turn C (by_list kept)) p q r
+    added (rules C kept most) p (q ++ r) ≡ added (rules C kept most) p q
+    ++ added (rules C kept most) (p ++ q) r
+added_both C kept most p q r = further.added_both (rules C kept most)
+    (is_causal (λ number. signatures_of C (by_list kept number))) (in_turn C (by_list kept)) p q r
 
 -- and where the ids of each message answer these operations
 pub added_both_by : (C : Table) (a : Answers) (most : ℕ) (p q r : List ℕ) →
-    added (rules_by C a most) p (q ++ r) ≡ added (rules_by C a most) p q ++ added (rules_by C a most) (p ++ q) r
-added_both_by C a most p q r = further.added_both (rules_by C a most) (is_causal (λ number. signatures_of C (a number))) (in_turn C a) p q r
+    added (rules_by C a most) p (q ++ r) ≡ added (rules_by C a most) p q
+    ++ added (rules_by C a most) (p ++ q) r
+added_both_by C a most p q r = further.added_both (rules_by C a most)
+    (is_causal (λ number. signatures_of C (a number))) (in_turn C a) p q r
 
 -- the headers that end in q and then in r, after the stream p
 pub header_ends_both : (R : Rules) (p q r : List ℕ) →
@@ -28,7 +33,8 @@ pub header_ends_both : (R : Rules) (p q r : List ℕ) →
 header_ends_both R p q r = from_append R q p r
 
 -- and in one octet
-pub header_ends_one : (R : Rules) (p : List ℕ) (x : ℕ) → header_ends_from R p (x ∷ []) ≡ header_ends_at R p x
+pub header_ends_one : (R : Rules) (p : List ℕ) (x : ℕ) →
+    header_ends_from R p (x ∷ []) ≡ header_ends_at R p x
 header_ends_one R p x = from_one R p x
 
 -- what ends last of all that tells nothing of a Reply tells nothing either

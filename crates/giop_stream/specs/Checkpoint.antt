@@ -1,4 +1,5 @@
--- The octets of a checkpoint: which fields of an engine they store, and of which streams they are the checkpoint
+-- The octets of a checkpoint: which fields of an engine they store, and of which streams they are
+-- the checkpoint
 -- (docs/FORMATS.md, Checkpoints; state).
 use Rattle.std.specs.Prelude.{◌≡◌, ◌≤◌, ◌⊎◌, ℕ, ◌+◌, ◌-◌, ◌*◌, List, [], ◌∷◌, ◌++◌, length, flat_map, replicate, nat_lt, Option, Some, None, Result, Ok, Err, IfOk, if◌then◌else◌}
 use Rattle.giop_cdr.specs.Numbers.{AreOctets}
@@ -40,15 +41,24 @@ use Rattle.giop_stream.specs.ViewOfState.{Shows}
 
 -- how many types, operations, exceptions and requests an engine reads by
 unfoldable pub counts_of : Table → RequestTable → Counts
-counts_of C l = record { types = C.declared; operations = length C.operations; exceptions = length C.exceptions; ids = length l }
+counts_of C l = record {
+  types = C.declared;
+  operations = length C.operations;
+  exceptions =
+      length C.exceptions;
+  ids = length l;
+}
 
--- where the next octet is: after a stream fault, in a header of which fewer than 12 octets are held, or in a payload
+-- where the next octet is: after a stream fault, in a header of which fewer than 12 octets are
+-- held, or in a payload
 abbrev pub place_of : Option StreamFault → List ℕ → ℕ → Place
 place_of (Some fault) header payload_count = Stopped fault
 place_of None header payload_count =
-    if nat_lt (length header) 12 then Header (record { items = header }) else Payload header (size header - payload_count)
+    if nat_lt (length header) 12 then Header (record { items = header }) else Payload header
+    (size header - payload_count)
 
--- the record of the message that the payload belongs to, an open one at this index or the current one, whose record stands
+-- the record of the message that the payload belongs to, an open one at this index or the current
+-- one, whose record stands
 -- after those of the open ones
 abbrev pub owner_of : Option ℕ → Option Message → ℕ → Option ℕ
 owner_of (Some k) message many = if nat_lt k many then Some k else None
@@ -68,7 +78,8 @@ fixed_of C l m = record {
   messages = m.totals.messages;
   faults = m.totals.faults;
   place = place_of m.stopped m.header m.payload_count;
-  owner = owner_of (index_of m.slots.owner) (current_of m.slots.owner) (length m.slots.slots.entries);
+  owner = owner_of (index_of m.slots.owner) (current_of m.slots.owner)
+      (length m.slots.slots.entries);
 }
 
 -- ---- the records
@@ -77,7 +88,8 @@ abbrev pub standing_of : Option Message → ℕ → RecordKind
 standing_of None id = record_kinds.Over id
 standing_of (Some m) id = record_kinds.Open id
 
--- the entry stores a message that isn't over, in no more frames than the types that it fits are deep
+-- the entry stores a message that isn't over, in no more frames than the types that it fits are
+-- deep
 pub record IsHeld (m : Message) (e : Entry) : Type 0 where
   pub stored : Stored m e.message e.frames
   pub shallow : (C : Table) → Fits C m → e.record_is.frames ≤ depth_of C.types
@@ -96,7 +108,8 @@ pub record IsOpen (slot : OpenEntry) (e : Entry) : Type 0 where
   pub message : IsStored slot.value.message e
 
 -- the record of a message that isn't over
-pub record IsMessageRecord (record_kind : RecordKind) (number : ℕ) (header : List ℕ) (m : Message) (e : Entry) : Type 0 where
+pub record IsMessageRecord (record_kind : RecordKind) (number : ℕ) (header : List ℕ) (m : Message)
+    (e : Entry) : Type 0 where
   pub range : EntryHasRange e
   pub standing_is : e.record_is.record_kind ≡ record_kind
   pub number_is : e.record_is.number ≡ number
@@ -134,7 +147,8 @@ pub record IsPut (before after : List ℕ) (Are : List Entry → Type 0) : Type 
 abbrev pub AreOpen : List OpenEntry → List Entry → Type 0
 AreOpen slots entries = AreEntries slots None entries
 
--- ---- what a call puts: all of these octets, and their number is its result; or a front of them before a put failed
+-- ---- what a call puts: all of these octets, and their number is its result; or a front of them
+-- before a put failed
 
 pub record Puts (result : Result ℕ OutFault) (before after : OutLog) (octets : List ℕ)
     : Type 0 where
@@ -155,27 +169,31 @@ checkpoint_octets layout C l m entries =
     fixed_octets layout (fixed_of C l m) ++ flat_map entry_octets entries
 
 -- the checkpoint of an engine with these fields, in this layout
-pub record IsPutWhole (layout : Layout) (C : Table) (l : RequestTable) (m : FramingView) (octets : List ℕ)
+pub record IsPutWhole (layout : Layout) (C : Table) (l : RequestTable) (m : FramingView)
+    (octets : List ℕ)
     : Type 0 where
   pub entries : List Entry
   pub are : AreEntries m.slots.slots.entries (current_of m.slots.owner) entries
   pub put : octets ≡ checkpoint_octets layout C l m entries
 
--- These octets are the checkpoint of an engine that holds the stream p, by this table and list, where
+-- These octets are the checkpoint of an engine that holds the stream p, by this table and list,
+-- where
 -- so many messages may be open. Layout 3 stores how many; in layout 2 they are 16.
-pub record Spells (octets : List ℕ) (C : Table) (l : RequestTable) (most : ℕ) (p : List ℕ) : Type 0 where
-  pub layout : Layout
-  pub memory : FramingView
-  pub entries : List Entry
-  pub octets_are : octets ≡ checkpoint_octets layout C l memory entries
-  pub allows : OpenHasRange layout most
-  pub limit : memory.slots.slots.most ≡ most
-  pub entries_are : AreEntries memory.slots.slots.entries (current_of memory.slots.owner) entries
-  pub stream : AreOctets p
-  pub shows : Shows C (by_list l) memory (state_of (rules C l most) p)
-  pub ready : AreReady C (memory.totals.octets + 1) memory.slots
+pub record Spells (octets : List ℕ) (C : Table) (l : RequestTable) (most : ℕ) (p : List ℕ) : Type 0
+  where
+    pub layout : Layout
+    pub memory : FramingView
+    pub entries : List Entry
+    pub octets_are : octets ≡ checkpoint_octets layout C l memory entries
+    pub allows : OpenHasRange layout most
+    pub limit : memory.slots.slots.most ≡ most
+    pub entries_are : AreEntries memory.slots.slots.entries (current_of memory.slots.owner) entries
+    pub stream : AreOctets p
+    pub shows : Shows C (by_list l) memory (state_of (rules C l most) p)
+    pub ready : AreReady C (memory.totals.octets + 1) memory.slots
 
--- the size of the greatest checkpoint where so many messages may be open, for a catalogue of this depth
+-- the size of the greatest checkpoint where so many messages may be open, for a catalogue of this
+-- depth
 unfoldable pub checkpoint_limit : ℕ → ℕ → ℕ
 checkpoint_limit most depth = FIXED_SIZE + (most + 1) * (RECORD_SIZE + FRAME_SIZE * depth)
 
@@ -184,7 +202,8 @@ abbrev pub entries_size : List Entry → ℕ
 entries_size [] = 0
 entries_size (e ∷ es) = (RECORD_SIZE + FRAME_SIZE * e.record_is.frames) + entries_size es
 
--- What a save did: a checkpoint of p was written in layout 3, the fixed part and each record with its
+-- What a save did: a checkpoint of p was written in layout 3, the fixed part and each record with
+-- its
 -- frames, and its length is the result; or a front of it before a put failed.
 pub record Saves (result : Result ℕ Stop) (before after : OutLog)
     (C : Table) (l : RequestTable) (most : ℕ) (p : List ℕ) : Type 0 where
@@ -198,7 +217,8 @@ pub record Saves (result : Result ℕ Stop) (before after : OutLog)
 
 -- ---- octets that are refused
 
--- The octets pass the checks up to the records' lengths. What may be wrong then is a field of a record, or totals that no
+-- The octets pass the checks up to the records' lengths. What may be wrong then is a field of a
+-- record, or totals that no
 -- stream has.
 abbrev pub PassesLengths : Counts → List ℕ → Type 0
 PassesLengths c s = (f : Fixed) × HasState c f s × HasRecords f s

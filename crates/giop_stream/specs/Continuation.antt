@@ -1,4 +1,5 @@
--- A Fragment of an open message, where the last octet of its header and its request id come together (state, steps). Only
+-- A Fragment of an open message, where the last octet of its header and its request id come
+-- together (state, steps). Only
 -- private clauses cite these.
 use Rattle.std.specs.Prelude.{◌≡◌, ◌==◌, ◌<◌, ◌≤◌, ℕ, true, List, [], ◌∷◌, ◌++◌, length, Option, Some, None}
 use Rattle.std.specs.List.{position_from}
@@ -21,7 +22,8 @@ pub record IsOpenAt (s : Slots) (found : Continuation) : Type 0 where
   pub within : found.index < length s.slots.entries
   pub here : position_from (λ slot. slot.key == found.id) 0 s.slots.entries ≡ Some found.index
 
--- These five octets, behind the first eleven of a header, are its last one and the request id of a Fragment of that open
+-- These five octets, behind the first eleven of a header, are its last one and the request id of a
+-- Fragment of that open
 -- message.
 pub record IsContinuation (front octets : List ℕ) (s : Slots) (found : Continuation) : Type 0 where
   pub last : ℕ
@@ -34,15 +36,19 @@ pub record IsContinuation (front octets : List ℕ) (s : Slots) (found : Continu
   pub spells : found.id ≡ num (order (front ++ last ∷ [])) id
   pub open_at : IsOpenAt s found
 
--- The slots represent what is tracked where the request id of a Fragment is complete, whoever owns the octets so far.
-pub record IsContinuing (C : Table) (l : Answers) (s : Slots) (c : Tracked) (owner : Option MessageKey) (m : Message) (now : Current) : Type 0 where
+-- The slots represent what is tracked where the request id of a Fragment is complete, whoever owns
+-- the octets so far.
+pub record IsContinuing (C : Table) (l : Answers) (s : Slots) (c : Tracked)
+    (owner : Option MessageKey) (m : Message) (now : Current) : Type 0 where
   pub keeps : SlotsRepresent C l s c owner
   pub rising : Rising c.still_open
   pub current : IsCurrent now m
   pub alive : (xs : List ℕ) × (c.known m.number ≡ Some xs)
 
--- The slots represent what is tracked before the last octet x of a Fragment's request id, but for the Fragment itself.
-pub record IsBeforeContinuation (C : Table) (l : Answers) (s : Slots) (c : Tracked) (m : Message) (now : Current) (x : ℕ) (found : Continuation) : Type 0 where
+-- The slots represent what is tracked before the last octet x of a Fragment's request id, but for
+-- the Fragment itself.
+pub record IsBeforeContinuation (C : Table) (l : Answers) (s : Slots) (c : Tracked) (m : Message)
+    (now : Current) (x : ℕ) (found : Continuation) : Type 0 where
   pub keeps : SlotsRepresent C l s c None
   pub before : IsBeforeOctet c m now x
   pub three : length m.payload ≡ 3
@@ -50,7 +56,9 @@ pub record IsBeforeContinuation (C : Table) (l : Answers) (s : Slots) (c : Track
   pub spells : id (with_octet m x) ≡ found.id
   pub open_at : IsOpenAt s found
 
--- what the last octet of its header and those of its request id do: the message starts, and the last one does what its events do
+-- what the last octet of its header and those of its request id do: the message starts, and the
+-- last one does what its events do
 abbrev pub continuation_effect : Table → Answers → ℕ → Tracked → Message → ℕ → Effect
 continuation_effect C l most c m x =
-    line_effect (starts (with_payload m [])) (effects (message_reader C l) c (events_of_octet most c.still_open (with_octet m x)))
+    line_effect (starts (with_payload m []))
+    (effects (message_reader C l) c (events_of_octet most c.still_open (with_octet m x)))

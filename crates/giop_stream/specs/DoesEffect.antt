@@ -1,4 +1,5 @@
--- A call carries out the effect of events: the lines that it writes, the faults that it counts, and what the slots keep
+-- A call carries out the effect of events: the lines that it writes, the faults that it counts, and
+-- what the slots keep
 -- afterwards (steps). Only private clauses cite these.
 use Rattle.std.specs.Prelude.{◌≡◌, ℕ, Bool, List, Option, Result, OnOk, IfOk, if◌then◌else◌}
 use Rattle.giop_print.specs.Output.{OutLog, Writes}
@@ -13,8 +14,10 @@ use Rattle.giop_stream.specs.Stream.{fault_count}
 use Rattle.giop_stream.specs.Effects.{Effect, Part}
 use Rattle.giop_stream.specs.SlotsRepresent.{RepresentsMessage, SlotsRepresent}
 
--- The call writes these lines; its result counts the faults among them; and where it doesn't fail, `leaves` holds then.
-pub record WritesAndLeaves {A E : Type 0} (count : A → ℕ) (result : Result A E) (before after : OutLog) (ls : List Line) (leaves : Type 0) : Type 0 where
+-- The call writes these lines; its result counts the faults among them; and where it doesn't fail,
+-- `leaves` holds then.
+pub record WritesAndLeaves {A E : Type 0} (count : A → ℕ) (result : Result A E)
+    (before after : OutLog) (ls : List Line) (leaves : Type 0) : Type 0 where
   pub text : Writes result before after (lines_text ls)
   pub faults : IfOk result (λ x. fault_count ls ≡ count x)
   pub kept : OnOk result leaves
@@ -31,16 +34,22 @@ all faults = faults
 abbrev pub never : {A : Type 0} → A → ℕ
 never x = 0
 
--- The slots then represent what the effect leaves tracked, and the payload's next octets belong to this message.
-abbrev pub DoesEffect : {A E : Type 0} → Table → Answers → (A → ℕ) → Result A E → OutLog → OutLog → Slots → Effect → Option MessageKey → Type 0
+-- The slots then represent what the effect leaves tracked, and the payload's next octets belong to
+-- this message.
+abbrev pub DoesEffect : {A E : Type 0} → Table → Answers → (A → ℕ) → Result A E → OutLog → OutLog →
+    Slots → Effect → Option MessageKey → Type 0
 DoesEffect C l count result before after slots effect owner_of_next =
-    WritesAndLeaves count result before after effect.lines (SlotsRepresent C l slots effect.tracked owner_of_next)
+    WritesAndLeaves count result before after effect.lines
+    (SlotsRepresent C l slots effect.tracked owner_of_next)
 
 -- The code's message of this number and header then represents what this part of an effect leaves.
-abbrev pub DoesPart : {A E : Type 0} → Table → Answers → (A → ℕ) → Result A E → OutLog → OutLog → Option CodeMessage → MessageKey → Part → Type 0
+abbrev pub DoesPart : {A E : Type 0} → Table → Answers → (A → ℕ) → Result A E → OutLog → OutLog →
+    Option CodeMessage → MessageKey → Part → Type 0
 DoesPart C l count result before after message w part =
-    WritesAndLeaves count result before after part.lines (RepresentsMessage C l message w part.octets)
+    WritesAndLeaves count result before after part.lines
+    (RepresentsMessage C l message w part.octets)
 
 -- The lines alone: nothing is kept.
-abbrev pub WritesLines : {A E : Type 0} → (A → ℕ) → Result A E → OutLog → OutLog → List Line → Type 0
+abbrev pub WritesLines : {A E : Type 0} → (A → ℕ) → Result A E → OutLog → OutLog → List Line →
+    Type 0
 WritesLines count result before after ls = WritesAndLeaves count result before after ls (Unit {0})

@@ -1,4 +1,5 @@
--- What the events of an octet do, one after the other: to the open messages, to what is kept of each message, and the lines
+-- What the events of an octet do, one after the other: to the open messages, to what is kept of
+-- each message, and the lines
 -- that they give (steps).
 use Rattle.std.specs.Prelude.{Bool, true, ◌≡◌, ℕ, ◌<◌, ◌≤◌, false, List, [], ◌∷◌, ◌++◌, length, Option, Some, None, if◌then◌else◌, option_map}
 use Rattle.std.specs.List.{list_any, AllByRecursion as Each}
@@ -23,7 +24,8 @@ unfoldable pub lines_for : MessageReader → Event → Option (List ℕ) → Lis
 lines_for R e None = []
 lines_for R e (Some xs) = lines_of_event R e xs (xs ++ joined e.subject.number (e ∷ [])) e.what
 
--- what is kept of each message: with the octets of these events added, and without the messages that these lines end
+-- what is kept of each message: with the octets of these events added, and without the messages
+-- that these lines end
 unfoldable pub kept_with : OctetsByNumber → List Event → OctetsByNumber
 kept_with known es i = option_map (λ xs. xs ++ joined i es) (known i)
 
@@ -35,7 +37,11 @@ unfoldable pub lines_at : MessageReader → OctetsByNumber → Event → List Li
 lines_at R known e = up_to_last_line (λ i. false) (lines_for R e (known e.subject.number))
 
 unfoldable pub tracked_at : MessageReader → Tracked → Event → Tracked
-tracked_at R c e = record { still_open = changed c.still_open e.subject e.what; known = kept_after (kept_with c.known (e ∷ [])) (lines_at R c.known e) }
+tracked_at R c e = record {
+  still_open = changed c.still_open e.subject e.what;
+  known =
+      kept_after (kept_with c.known (e ∷ [])) (lines_at R c.known e);
+}
 
 unfoldable pub effects : MessageReader → Tracked → List Event → Effect
 effects R c [] = record { tracked = c; lines = [] }
@@ -43,9 +49,11 @@ effects R c (e ∷ es) =
     let more = effects R (tracked_at R c e) es in
     record { tracked = more.tracked; lines = lines_at R c.known e ++ more.lines }
 
--- While its request id is read, a message has fewer octets kept than its payload has with this octet.
+-- While its request id is read, a message has fewer octets kept than its payload has with this
+-- octet.
 abbrev pub IsBegun : OctetsByNumber → Message → Type 0
-IsBegun known m = 0 < length m.payload → length m.payload ≤ 4 → (xs : List ℕ) → known m.number ≡ Some xs → length xs < length m.payload
+IsBegun known m = 0 < length m.payload → length m.payload ≤ 4 → (xs : List ℕ) →
+    known m.number ≡ Some xs → length xs < length m.payload
 
 -- ---- An octet of a stream.
 
@@ -59,7 +67,8 @@ unfoldable pub lines_of : MessageReader → Event → Option (List ℕ) → List
 lines_of R e o = up_to_last_line (λ i. false) (lines_for R e o)
 
 unfoldable pub octets_then : MessageReader → Event → Option (List ℕ) → Option (List ℕ)
-octets_then R e o = if list_any (is_last_of e.subject.number) (lines_of R e o) then None else option_map (λ xs. xs ++ octet e.what) o
+octets_then R e o = if list_any (is_last_of e.subject.number) (lines_of R e o) then None else
+    option_map (λ xs. xs ++ octet e.what) o
 
 -- the two together
 pub record Part : Type 0 where
@@ -130,7 +139,12 @@ line_effect line effect = record { tracked = effect.tracked; lines = line ∷ ef
 
 -- the line of a Fragment that continues an open message
 abbrev pub goes_on : Message → Open → Line
-goes_on m o = record { place = place m; number = m.number; content = ContinuesMessage o.opener.number }
+goes_on m o = record {
+  place = place m;
+  number = m.number;
+  content =
+      ContinuesMessage o.opener.number;
+}
 
 -- the start line of a message
 abbrev pub starts : Message → Line

@@ -20,7 +20,8 @@ use Rattle.giop_stream.specs.EngineView.{EngineView}
 abbrev pub AreOf : Table → RequestTable → Type 0
 AreOf C l = messages.AreOf C l
 
--- the rules that an engine reads by: its table, the operations that the ids of each message answer, and how many
+-- the rules that an engine reads by: its table, the operations that the ids of each message answer,
+-- and how many
 -- messages may be open
 abbrev pub rules_with : EngineView → Answers → Rules
 rules_with e a = rules_by e.table a e.most
@@ -33,7 +34,8 @@ rules_of e = rules e.table e.request_table e.most
 unfoldable pub added : Rules → List ℕ → List ℕ → List ℕ
 added R p more = drop (length (text R p)) (text R (p ++ more))
 
--- The engine holds the stream p, where the ids of each message answer these operations: its fields show the state of p.
+-- The engine holds the stream p, where the ids of each message answer these operations: its fields
+-- show the state of p.
 pub record HoldsBy (e : EngineView) (a : Answers) (p : List ℕ) : Type 0 where
   pub sound : e.failed ≡ false
   pub octets : AreOctets p
@@ -47,7 +49,8 @@ abbrev pub status_of : Option StreamFault → Status
 status_of None = Running
 status_of (Some fault) = Stopped fault
 
--- what was written: all that was due, a front of it before a put failed, or nothing by a failed engine
+-- what was written: all that was due, a front of it before a put failed, or nothing by a failed
+-- engine
 abbrev pub StopWrites : {A : Type 0} → Result A Stop → OutLog → OutLog → List ℕ → Type 0
 StopWrites (Ok x) before after due = Wrote before after due
 StopWrites (Err (stop.Out f)) before after due = WroteFront before after due
@@ -56,5 +59,6 @@ StopWrites (Err stop.Failed) before after due = after ≡ before
 -- how a call leaves the engine: whether it is failed, and with which totals
 abbrev pub Leaves : {A : Type 0} → Result A Stop → EngineView → EngineView → Type 0
 Leaves (Ok x) before after = (before.failed ≡ false) × (after.failed ≡ false)
-Leaves (Err (stop.Out f)) before after = (before.failed ≡ false) × (after.failed ≡ true) × (after.stream.totals ≡ before.stream.totals)
+Leaves (Err (stop.Out f)) before after =
+    (before.failed ≡ false) × (after.failed ≡ true) × (after.stream.totals ≡ before.stream.totals)
 Leaves (Err stop.Failed) before after = (before.failed ≡ true) × (after ≡ before)

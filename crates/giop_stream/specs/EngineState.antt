@@ -1,4 +1,5 @@
--- What an engine holds of a stream: one record, each field of which is determined by the whole stream (state). A checkpoint
+-- What an engine holds of a stream: one record, each field of which is determined by the whole
+-- stream (state). A checkpoint
 -- stores these fields and no other.
 use Rattle.std.specs.Prelude.{ℕ, ◌-◌, Bool, ◌&&◌, ◌||◌, List, [], length, Option, Some, None, is_some, nat_lt, nat_le, if◌then◌else◌, option_map}
 use Rattle.giop_stream.specs.Rules.{Rules}
@@ -11,7 +12,8 @@ use Rattle.giop_stream.specs.Stream.{tally}
 use Rattle.giop_stream.specs.OpenSlots.{Slot, OctetsByNumber, octets_of, is_open, slots_of}
 use Rattle.giop_stream.specs.Octet.{header_of}
 
--- the current message, while it is neither open nor over, nor a Fragment whose request id is complete
+-- the current message, while it is neither open nor over, nor a Fragment whose request id is
+-- complete
 pub record Own : Type 0 where
   pub message_key : MessageKey
   pub octets : List ℕ
@@ -36,13 +38,16 @@ held_for now = if nat_lt now.payload_count (size now.subject.header) then now.su
 unfoldable pub own_for : OctetsByNumber → List Open → Now → Option Own
 own_for known still_open now =
     if is_open still_open now.subject.number || is_named now then None
-    else option_map (λ xs. record { message_key = now.subject; octets = xs }) (known now.subject.number)
+    else option_map (λ xs. record { message_key = now.subject; octets = xs })
+    (known now.subject.number)
 
--- the number of the message that its next octets belong to; `other` is the open message that a Fragment continues
+-- the number of the message that its next octets belong to; `other` is the open message that a
+-- Fragment continues
 unfoldable pub owner_for : OctetsByNumber → List Open → Now → Option Open → Option ℕ
 owner_for known still_open now other =
     if is_named now then option_map (λ o. o.opener.number) other
-    else if is_open still_open now.subject.number || is_some (known now.subject.number) then Some now.subject.number
+    else if is_open still_open now.subject.number
+    || is_some (known now.subject.number) then Some now.subject.number
     else None
 
 -- ---- Of a stream.

@@ -1,4 +1,5 @@
--- What the next octet of a stream changes in what an engine holds, and its lines; and what is written at the finish (steps).
+-- What the next octet of a stream changes in what an engine holds, and its lines; and what is
+-- written at the finish (steps).
 use Rattle.std.specs.Prelude.{ℕ, suc, ◌+◌, ◌-◌, Bool, ◌&&◌, List, [], ◌∷◌, ◌++◌, length, map, flat_map, Option, Some, None, is_none, ◌==◌, nat_lt, if◌then◌else◌, option_map}
 use Rattle.std.specs.List.{find}
 use Rattle.giop_cdr.specs.Numbers.{num}
@@ -22,7 +23,15 @@ pub record Step : Type 0 where
 
 -- before the first octet
 unfoldable pub fresh : State
-fresh = record { totals = record { messages = 0; faults = 0; octets = 0 }; stop = None; held = []; left = 0; slots = []; own = None; owner = None }
+fresh = record {
+  totals = record { messages = 0; faults = 0; octets = 0 };
+  stop = None;
+  held = [];
+  left = 0;
+  slots = [];
+  own = None;
+  owner = None;
+}
 
 unfoldable pub octet_at : State → ℕ → Octet
 octet_at s x = octet_in s.stop s.held s.totals.messages s.totals.octets (size s.held - s.left) x
@@ -37,7 +46,11 @@ unfoldable pub still_open_of : State → List Open
 still_open_of s = map (λ slot. slot.open_as) s.slots
 
 unfoldable pub tracked_of : State → Now → Tracked
-tracked_of s now = record { still_open = still_open_of s; known = kept s.slots now.subject.number (own_octets s now) }
+tracked_of s now = record {
+  still_open = still_open_of s;
+  known =
+      kept s.slots now.subject.number (own_octets s now);
+}
 
 -- its request id, where the octet is the last of that
 abbrev pub id_by : Now → Option (List ℕ) → ℕ
@@ -52,9 +65,11 @@ abbrev pub numbered : List Open → Option ℕ → Option Open
 numbered still_open None = None
 numbered still_open (Some number) = find (λ o. o.opener.number == number) still_open
 
--- at the last octet of a request id, the open message with that id; after it, the open message that the octet belongs to
+-- at the last octet of a request id, the open message with that id; after it, the open message that
+-- the octet belongs to
 unfoldable pub other_of : State → Now → Option Open
-other_of s now = if now.payload_count == 4 then find (λ o. o.id == id_of s now) (still_open_of s) else numbered (still_open_of s) s.owner
+other_of s now = if now.payload_count == 4 then find (λ o. o.id == id_of s now) (still_open_of s)
+    else numbered (still_open_of s) s.owner
 
 unfoldable pub events_at : ℕ → State → Now → List Event
 events_at most s now = events_with_id most (still_open_of s) now (id_of s now) (other_of s now)
@@ -64,13 +79,19 @@ stepped s now effect =
     let goes_on = nat_lt now.payload_count (size now.subject.header) in
     record {
       state = record {
-        totals = record { messages = now.subject.number; faults = s.totals.faults + fault_count effect.lines; octets = now.place };
+        totals = record {
+          messages = now.subject.number;
+          faults =
+              s.totals.faults + fault_count effect.lines;
+          octets = now.place;
+        };
         stop = None;
         held = held_for now;
         left = size now.subject.header - now.payload_count;
         slots = slots_of effect.tracked.known effect.tracked.still_open;
         own = if goes_on then own_for effect.tracked.known effect.tracked.still_open now else None;
-        owner = if goes_on then owner_for effect.tracked.known effect.tracked.still_open now (other_of s now) else None;
+        owner = if goes_on then owner_for effect.tracked.known effect.tracked.still_open now
+            (other_of s now) else None;
       };
       lines = effect.lines;
     }
@@ -80,7 +101,12 @@ stepped s now effect =
 unfoldable pub ended : State → StreamFault → Step
 ended s fault = record {
   state = record s {
-    totals = record { messages = s.totals.messages; faults = suc s.totals.faults; octets = suc s.totals.octets };
+    totals = record {
+      messages = s.totals.messages;
+      faults = suc s.totals.faults;
+      octets =
+          suc s.totals.octets;
+    };
     stop = Some fault;
     held = [];
     left = 0;
@@ -89,7 +115,14 @@ ended s fault = record {
 }
 
 unfoldable pub held_on : State → List ℕ → Step
-held_on s front = record { state = record s { totals = record s.totals { octets = suc s.totals.octets }; held = front }; lines = [] }
+held_on s front = record {
+  state = record s {
+    totals =
+        record s.totals { octets = suc s.totals.octets };
+    held = front;
+  };
+  lines = [];
+}
 
 abbrev pub step_by : Rules → State → Octet → Step
 step_by R s AfterStop = record { state = s; lines = [] }
@@ -130,4 +163,5 @@ final_totals s = with_truncated (is_cut_short s) s.totals
 unfoldable pub finish : State → List ℕ
 finish s =
     (if is_cut_short s then truncated_line s.totals.octets else [])
-    ++ (flat_map unfinished_line (left_over s) ++ total_line (final_totals s).messages (final_totals s).faults (final_totals s).octets)
+    ++ (flat_map unfinished_line (left_over s)
+    ++ total_line (final_totals s).messages (final_totals s).faults (final_totals s).octets)

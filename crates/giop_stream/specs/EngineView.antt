@@ -1,4 +1,5 @@
--- The fields of an engine as contracts see them: what it keeps of a stream, and what it reads by (state).
+-- The fields of an engine as contracts see them: what it keeps of a stream, and what it reads by
+-- (state).
 use Rattle.std.specs.Prelude.{ℕ, List, Bool, Option}
 use Rattle.giop_sig.specs.Table.{Table}
 use Rattle.giop_message.specs.Signatures.{RequestTable}
@@ -14,7 +15,8 @@ pub record FramingView : Type 0 where
   pub payload_count : ℕ  -- how many payload octets were read
   pub slots : Slots  -- the messages that have begun and not ended
 
--- the whole engine: that, and what it reads by: the types of its catalogue, and what it knows of requests
+-- the whole engine: that, and what it reads by: the types of its catalogue, and what it knows of
+-- requests
 pub record EngineView : Type 0 where
   pub failed : Bool
   pub table : Table

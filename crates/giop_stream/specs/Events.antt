@@ -1,5 +1,7 @@
--- The events of a stream: what each octet of each message does, and to which message (meaning). They determine the open
--- messages, the octets of each joined message, and its lines (GIOP Message Formats, Fragment Message, CancelRequest Message).
+-- The events of a stream: what each octet of each message does, and to which message (meaning).
+-- They determine the open
+-- messages, the octets of each joined message, and its lines (GIOP Message Formats, Fragment
+-- Message, CancelRequest Message).
 use Rattle.std.specs.Prelude.{ℕ, ◌+◌, ◌-◌, ◌<◌, Bool, true, false, not, ◌&&◌, ◌||◌, List, [], ◌∷◌, ◌++◌, length, get_or, take, filter, flat_map, Option, Some, None, nat_lt, nat_le, ◌==◌, if◌then◌else◌}
 use Rattle.std.specs.List.{find, AllByRecursion as Each}
 use Rattle.giop_cdr.specs.declared.order.Order.{Order}
@@ -52,9 +54,15 @@ pub record Now : Type 0 where
 
 -- a message at the octet of it that came last
 abbrev pub now_of : Message → Now
-now_of m = record { subject = message_key m; place = place m; payload_count = length m.payload; octet = get_or m.payload (length m.payload - 1) 0 }
+now_of m = record {
+  subject = message_key m;
+  place = place m;
+  payload_count = length m.payload;
+  octet = get_or m.payload (length m.payload - 1) 0;
+}
 
--- The functions from here to `events_with_id` give the events of an octet of a message, where `id` is the message's request id
+-- The functions from here to `events_with_id` give the events of an octet of a message, where `id`
+-- is the message's request id
 -- and `other` the message that was open under that id.
 
 -- an event of the message itself
@@ -75,11 +83,13 @@ fault_events now (Some fault) = own now (Faults fault)
 unfoldable pub header_events : Now → List Event
 header_events now = own now Begins ++ fault_events now (refused now.subject.header)
 
--- ---- An octet of the payload. Those of a Fragment after its request id belong to the message that it continues.
+-- ---- An octet of the payload. Those of a Fragment after its request id belong to the message that
+-- it continues.
 
 unfoldable pub payload_events : Now → Option Open → List Event
 payload_events now other =
-    if is_fragment now.subject.header && nat_lt 4 now.payload_count then event_of_open now other (Takes now.octet) else own now (Takes now.octet)
+    if is_fragment now.subject.header && nat_lt 4 now.payload_count then event_of_open now other
+    (Takes now.octet) else own now (Takes now.octet)
 
 -- ---- The fourth octet of the payload, which completes the request id: of an opener,
 
@@ -99,7 +109,8 @@ same_order Little Big = false
 same_order Little Little = true
 
 abbrev pub order_fault : Now → Open → List Event
-order_fault now o = if same_order (order now.subject.header) (order o.opener.header) then [] else event_of_open now (Some o) (Faults FragmentOrder)
+order_fault now o = if same_order (order now.subject.header) (order o.opener.header) then [] else
+    event_of_open now (Some o) (Faults FragmentOrder)
 
 abbrev pub continues : Now → Option Open → List Event
 continues now None = own now (Faults NoOpen)
@@ -109,7 +120,8 @@ continues now (Some o) = own now (Continues o.opener.number) ++ order_fault now 
 
 abbrev pub cancels : Now → Option Open → List Event
 cancels now None = []
-cancels now (Some o) = if may_be_cancelled o.opener.header then event_of_open now (Some o) (Cancelled now.subject.number) else []
+cancels now (Some o) = if may_be_cancelled o.opener.header then event_of_open now (Some o)
+    (Cancelled now.subject.number) else []
 
 unfoldable pub request_id_events : ℕ → List Open → Now → ℕ → Option Open → List Event
 request_id_events most still_open now id other =
@@ -122,9 +134,11 @@ request_id_events most still_open now id other =
 
 unfoldable pub message_end_events : Now → Option Open → List Event
 message_end_events now other =
-    if nat_lt (size now.subject.header) 4 && (is_opener now.subject.header || is_fragment now.subject.header) then own now (Faults Short)
+    if nat_lt (size now.subject.header) 4 &&
+    (is_opener now.subject.header || is_fragment now.subject.header) then own now (Faults Short)
     else if is_opener now.subject.header then []
-    else if is_fragment now.subject.header then (if has_more now.subject.header then [] else event_of_open now other Closes)
+    else if is_fragment now.subject.header then
+    (if has_more now.subject.header then [] else event_of_open now other Closes)
     else own now Closes
 
 -- ---- All that one octet does.
@@ -135,7 +149,8 @@ events_with_id most still_open now id other =
     ++ ((if now.payload_count == 4 then request_id_events most still_open now id other else [])
     ++ (if now.payload_count == size now.subject.header then message_end_events now other else []))
 
--- ---- The same of a message at its last octet so far, where these messages were open before that octet.
+-- ---- The same of a message at its last octet so far, where these messages were open before that
+-- octet.
 
 unfoldable pub id : Message → ℕ
 id m = num (order m.header) (take 4 m.payload)
@@ -158,14 +173,16 @@ abbrev pub events_at_octet : List Open → Message → List Event
 events_at_octet still_open m = payload_events (now_of m) (opener_of still_open m)
 
 abbrev pub events_at_request_id : ℕ → List Open → Message → List Event
-events_at_request_id most still_open m = request_id_events most still_open (now_of m) (id m) (opener_of still_open m)
+events_at_request_id most still_open m =
+    request_id_events most still_open (now_of m) (id m) (opener_of still_open m)
 
 abbrev pub events_at_end : List Open → Message → List Event
 events_at_end still_open m = message_end_events (now_of m) (opener_of still_open m)
 
 unfoldable pub events_of_octet : ℕ → List Open → Message → List Event
 unfolding events_with_id
-events_of_octet most still_open m = events_with_id most still_open (now_of m) (id m) (opener_of still_open m)
+events_of_octet most still_open m = events_with_id most still_open (now_of m) (id m)
+    (opener_of still_open m)
 
 -- All that the octets of m do, from its header's last one on
 unfoldable pub events_of : ℕ → List Open → Message → List Event
@@ -177,7 +194,8 @@ events_of most still_open m =
 unfoldable pub changed : List Open → MessageKey → EventKind → List Open
 changed still_open subject (Opens i) = still_open ++ record { id = i; opener = subject } ∷ []
 changed still_open subject Closes = filter (λ o. not (o.opener.number == subject.number)) still_open
-changed still_open subject (Cancelled j) = filter (λ o. not (o.opener.number == subject.number)) still_open
+changed still_open subject (Cancelled j) =
+    filter (λ o. not (o.opener.number == subject.number)) still_open
 changed still_open subject Begins = still_open
 changed still_open subject (Takes x) = still_open
 changed still_open subject (Continues i) = still_open
@@ -219,4 +237,5 @@ joined i es = flat_map (λ e. if e.subject.number == i then octet e.what else []
 -- the numbers of the open messages rise
 abbrev pub Rising : List Open → Type 0
 Rising [] = Unit {0}
-Rising (o ∷ still_open) = Each (λ a. o.opener.number < a.opener.number) still_open × Rising still_open
+Rising (o ∷ still_open) = Each (λ a. o.opener.number < a.opener.number) still_open
+    × Rising still_open

@@ -1,4 +1,5 @@
--- How a stream is cut into messages, and which octet of it is a stream fault (GIOP Message Formats, GIOP Message Header;
+-- How a stream is cut into messages, and which octet of it is a stream fault (GIOP Message Formats,
+-- GIOP Message Header;
 -- meaning). Places count stream octets from 1.
 use Rattle.std.specs.Prelude.{ℕ, zero, suc, Bool, true, false, ◌+◌, ◌^◌, List, [], ◌∷◌, ◌++◌, length, take, drop, Option, Some, None, nat_lt, if◌then◌else◌, option_to_list}
 use Rattle.giop_checkpoint.specs.declared.fault.StreamFault.{StreamFault}
@@ -24,22 +25,42 @@ pub record Cut : Type 0 where
 unfoldable pub with_first : Message → Cut → Cut
 with_first m c = record c { whole = m ∷ c.whole }
 
--- The rest of the stream, cut, where the next message has this number and comes after so many octets: at most `fuel`
+-- The rest of the stream, cut, where the next message has this number and comes after so many
+-- octets: at most `fuel`
 -- messages. The `elim` looks for a wrong header octet first, so that nothing is cut after one.
 unfoldable pub cut_from : ℕ → ℕ → ℕ → List ℕ → Cut
 cut_from zero number before xs = record { whole = []; current = None; held = []; stop = None }
 cut_from (suc fuel) number before xs =
     let header = take 12 xs in
     let payload = drop 12 xs in
-    let rest = cut_from fuel (suc number) (before + 12 + size header) (drop (size header) payload) in
+    let rest = cut_from fuel (suc number) (before + 12 + size header) (drop (size header) payload)
+    in
     elim (first_wrong_octet header) [
-      | Some found ↦ record { whole = []; current = None; held = []; stop = Some (before + found.0, found.1) }
+      | Some found ↦ record {
+        whole = [];
+        current = None;
+        held = [];
+        stop =
+            Some (before + found.0, found.1);
+      }
       | None ↦
           if nat_lt (length xs) 12
           then record { whole = []; current = None; held = xs; stop = None }
           else if nat_lt (length payload) (size header)
-          then record { whole = []; current = Some (record { number = number; before = before; header = header; payload = payload }); held = []; stop = None }
-          else with_first (record { number = number; before = before; header = header; payload = take (size header) payload }) rest
+          then record {
+            whole = [];
+            current = Some
+                (record { number = number; before = before; header = header; payload = payload });
+            held = [];
+            stop = None;
+          }
+          else with_first (record {
+            number = number;
+            before = before;
+            header = header;
+            payload =
+                take (size header) payload;
+          }) rest
     ]
 
 -- no octet from number 2 ^ 48 + 1 on is read

@@ -7,7 +7,11 @@ use Rattle.giop_stream.specs.EngineView.{FramingView}
 
 -- one octet more is read, and held as one of a header
 unfoldable pub held_on : FramingView → ℕ → FramingView
-held_on m x = record m { totals = record m.totals { octets = suc m.totals.octets }; header = m.header ++ x ∷ [] }
+held_on m x = record m {
+  totals = record m.totals { octets = suc m.totals.octets };
+  header =
+      m.header ++ x ∷ [];
+}
 
 -- the reading ends with a fault at this place
 unfoldable pub stop : FramingView → StreamFault → ℕ → FramingView
@@ -20,7 +24,8 @@ stop m fault place = record m {
 
 -- after a message's last octet the next header begins
 unfoldable pub end_message : FramingView → ℕ → FramingView
-end_message m size = if m.payload_count == size then record m { header = []; payload_count = 0 } else m
+end_message m size = if m.payload_count == size then
+    record m { header = []; payload_count = 0 } else m
 
 -- ---- The finish.
 

@@ -1,5 +1,7 @@
--- The headers and the names of raised exceptions that end in octets of a stream, in the order in which they do (meaning). At
--- each header the correspondent is asked, and at each of both it is told (giop_message, HeaderEnds).
+-- The headers and the names of raised exceptions that end in octets of a stream, in the order in
+-- which they do (meaning). At
+-- each header the correspondent is asked, and at each of both it is told (giop_message,
+-- HeaderEnds).
 use Rattle.std.specs.Prelude.{ℕ, List, [], ◌∷◌, ◌++◌, length, Option, Some, None, is_none, ◌&&◌, ◌==◌, nat_lt, if◌then◌else◌}
 use Rattle.giop_sig.specs.Table.{Table}
 use Rattle.giop_message.specs.Signatures.{Answers, signatures_of}
@@ -11,7 +13,8 @@ use Rattle.giop_stream.specs.Events.{MessageKey, open_after}
 use Rattle.giop_stream.specs.Effects.{Tracked, tracked_after}
 use Rattle.giop_stream.specs.PayloadOwner.{owner_of_next}
 
--- what ends of a message in `octets`, after the octets of it that came before; nothing of a message that is over
+-- what ends of a message in `octets`, after the octets of it that came before; nothing of a message
+-- that is over
 abbrev pub run_header_ends : MessageKey → Option (List ℕ) → List ℕ → List HeaderEnd
 run_header_ends w None octets = []
 run_header_ends w (Some s) octets = header_ends w.number w.header s octets
@@ -21,8 +24,10 @@ abbrev pub owner_header_ends : Tracked → Option MessageKey → List ℕ → Li
 owner_header_ends c None octets = []
 owner_header_ends c (Some w) octets = run_header_ends w (c.known w.number) octets
 
--- How many octets of a Reply have to come at least until its header, or the name of the exception that it raises, ends, where
--- the ids of each message answer these operations. None of another message, and where no header and no name ends any more.
+-- How many octets of a Reply have to come at least until its header, or the name of the exception
+-- that it raises, ends, where
+-- the ids of each message answer these operations. None of another message, and where no header and
+-- no name ends any more.
 abbrev pub reply_told_after : Table → Answers → MessageKey → Option (List ℕ) → Option ℕ
 reply_told_after C a w None = None
 reply_told_after C a w (Some s) =
@@ -33,14 +38,17 @@ abbrev pub owner_told_after : Table → Answers → Tracked → Option MessageKe
 owner_told_after C a c None = None
 owner_told_after C a c (Some w) = reply_told_after C a w (c.known w.number)
 
--- of octets of a payload after the stream p, which belong to the current message or to the one that it continues
+-- of octets of a payload after the stream p, which belong to the current message or to the one that
+-- it continues
 abbrev pub current_header_ends : Rules → List ℕ → Option Message → List ℕ → List HeaderEnd
 current_header_ends R p None octets = []
-current_header_ends R p (Some m) octets = owner_header_ends (tracked_after R p) (owner_of_next (open_after R.most p) m) octets
+current_header_ends R p (Some m) octets =
+    owner_header_ends (tracked_after R p) (owner_of_next (open_after R.most p) m) octets
 
 -- of the octet x after the stream p
 unfoldable pub header_ends_at : Rules → List ℕ → ℕ → List HeaderEnd
-header_ends_at R p x = if is_none (cut p).stop && nat_lt (length p) limit then current_header_ends R p (cut p).current (x ∷ []) else []
+header_ends_at R p x = if is_none (cut p).stop
+    && nat_lt (length p) limit then current_header_ends R p (cut p).current (x ∷ []) else []
 
 -- what ends in these octets after the stream p
 unfoldable pub header_ends_from : Rules → List ℕ → List ℕ → List HeaderEnd

@@ -1,4 +1,5 @@
--- The octets of a message header: which of them is wrong, and how (GIOP Message Formats, GIOP Message Header; meaning).
+-- The octets of a message header: which of them is wrong, and how (GIOP Message Formats, GIOP
+-- Message Header; meaning).
 use Rattle.std.specs.Prelude.{ℕ, ◌-◌, Bool, true, false, ◌||◌, List, [], ◌∷◌, length, get_or, map, Option, Some, None, nat_lt, ◌==◌, if◌then◌else◌}
 use Rattle.giop_checkpoint.specs.declared.fault.StreamFault.{StreamFault}
 use Rattle.giop_checkpoint.specs.declared.fault.StreamFault.TheVariants.{Magic, Version, ByteOrder}
@@ -12,7 +13,8 @@ abbrev pub unless : Bool → StreamFault → Option StreamFault
 unless true fault = None
 unless false fault = Some fault
 
--- What is wrong with the last octet of a header's front: `GIOP`, the major version 1, a minor version up to 2, and in 1.0
+-- What is wrong with the last octet of a header's front: `GIOP`, the major version 1, a minor
+-- version up to 2, and in 1.0
 -- a byte order of 0 or 1. The octets of size and type may have any value.
 unfoldable pub wrong : List ℕ → Option StreamFault
 wrong front =

@@ -1,4 +1,5 @@
--- What kind of message a header begins, and what a message is faulted for by its header or its size alone (GIOP Message
+-- What kind of message a header begins, and what a message is faulted for by its header or its size
+-- alone (GIOP Message
 -- Formats, Fragment Message; meaning).
 use Rattle.std.specs.Prelude.{ℕ, Bool, ◌&&◌, ◌||◌, List, Option, Some, None, nat_lt, ◌==◌, if◌then◌else◌}
 use Rattle.giop_stream.specs.declared.fault.FramingFault.{FramingFault}
@@ -13,7 +14,8 @@ may_be_cancelled header = (kind header == 0) || (kind header == 3)
 unfoldable pub refused : List ℕ → Option FramingFault
 refused header =
     if nat_lt 7 (kind header) || ((kind header == 7) && (minor header == 0)) then Some MessageType
-    else if (minor header == 1) && ((kind header == 7) || (has_more header && may_be_fragmented header)) then Some OldFragment
+    else if (minor header == 1) && ((kind header == 7)
+    || (has_more header && may_be_fragmented header)) then Some OldFragment
     else None
 
 -- an opener or a Fragment that ends before its request id is complete

@@ -1,4 +1,5 @@
--- The lines of a stream, each stamped with the place of its octet and its class (docs/FORMATS.md, Order; meaning).
+-- The lines of a stream, each stamped with the place of its octet and its class (docs/FORMATS.md,
+-- Order; meaning).
 use Rattle.std.specs.Prelude.{ℕ, zero, suc, Bool, true, false, ◌&&◌, ◌||◌, List, [], ◌∷◌, ◌++◌, length, map, filter, flat_map, Option, Some, None, ◌==◌, if◌then◌else◌}
 use Rattle.giop_checkpoint.specs.declared.fault.StreamFault.{StreamFault}
 use Rattle.giop_stream.specs.declared.fault.FramingFault.{FramingFault}
@@ -7,10 +8,12 @@ use Rattle.giop_message.specs.MessageReader.{LineClass, Value, Call, Rest, Fault
 use Rattle.giop_stream.specs.Rules.{Rules}
 use Rattle.giop_stream.specs.Events.{Event, EventKind, Begins, Takes, Opens, Continues, Cancelled, Faults, Closes, events, joined}
 
--- The classes of lines. A framing fault stands before the rest, so that the rest, the end and the other faults of its octet
+-- The classes of lines. A framing fault stands before the rest, so that the rest, the end and the
+-- other faults of its octet
 -- come after it.
 pub data Class : Type 0 where
-  Start ValueClass CallClass Continuing Cancelling FramingFaultClass RestClass FaultClass EndClass Stop : Class
+  Start ValueClass CallClass Continuing Cancelling FramingFaultClass RestClass FaultClass EndClass
+      Stop : Class
 
 -- the order of the classes among the lines of one octet
 abbrev pub rank : Class → ℕ
@@ -29,7 +32,8 @@ abbrev pub is_of : Class → Class → Bool
 is_of a b = rank b == rank a
 
 unfoldable pub classes : List Class
-classes = Start ∷ ValueClass ∷ CallClass ∷ Continuing ∷ Cancelling ∷ FramingFaultClass ∷ RestClass ∷ FaultClass ∷ EndClass ∷ Stop ∷ []
+classes = Start ∷ ValueClass ∷ CallClass ∷ Continuing ∷ Cancelling ∷ FramingFaultClass ∷ RestClass ∷
+    FaultClass ∷ EndClass ∷ Stop ∷ []
 
 pub data Content : Type 0 where
   Started : List ℕ → Content  -- with this header
@@ -63,23 +67,30 @@ has_class c l = is_of c (class_of l.content)
 unfoldable pub line : Event → Content → Line
 line e content = record { place = e.place; number = e.subject.number; content = content }
 
--- The lines of one event, of a message that has the octets `so_far` before it and the octets `all` in the whole stream.
+-- The lines of one event, of a message that has the octets `so_far` before it and the octets `all`
+-- in the whole stream.
 unfoldable pub lines_of_event : MessageReader → Event → List ℕ → List ℕ → EventKind → List Line
 lines_of_event R e so_far all Begins = line e (Started e.subject.header) ∷ []
-lines_of_event R e so_far all (Takes x) = map (λ r. line e (Said r.line_class r.text)) (filter (λ r. r.at == suc (length so_far)) (R.reads e.subject.number e.subject.header all))
+lines_of_event R e so_far all (Takes x) =
+    map (λ r. line e (Said r.line_class r.text))
+    (filter (λ r. r.at == suc (length so_far)) (R.reads e.subject.number e.subject.header all))
 lines_of_event R e so_far all (Opens id) = []
 lines_of_event R e so_far all (Continues i) = line e (ContinuesMessage i) ∷ []
 lines_of_event R e so_far all (Cancelled j) = line e (CancelledBy j) ∷ []
 lines_of_event R e so_far all (Faults fault) = line e (Faulted fault) ∷ []
-lines_of_event R e so_far all Closes = map (λ l. line e (Said l.0 l.1)) (R.closes e.subject.number e.subject.header so_far)
+lines_of_event R e so_far all Closes = map (λ l. line e (Said l.0 l.1))
+    (R.closes e.subject.number e.subject.header so_far)
 
--- The lines of these events, where `past` are the events before them, and `all` those of the whole stream.
+-- The lines of these events, where `past` are the events before them, and `all` those of the whole
+-- stream.
 unfoldable pub lines_of_events : MessageReader → List Event → List Event → List Event → List Line
 lines_of_events R all past [] = []
 lines_of_events R all past (e ∷ es) =
-    lines_of_event R e (joined e.subject.number past) (joined e.subject.number all) e.what ++ lines_of_events R all (past ++ e ∷ []) es
+    lines_of_event R e (joined e.subject.number past) (joined e.subject.number all) e.what
+    ++ lines_of_events R all (past ++ e ∷ []) es
 
--- Lines in the order of their classes; and in the order of places, and at each of classes, up to this place.
+-- Lines in the order of their classes; and in the order of places, and at each of classes, up to
+-- this place.
 unfoldable pub by_class : List Line → List Line
 by_class ls = flat_map (λ class. filter (has_class class) ls) classes
 
@@ -99,7 +110,8 @@ ends (Stopped fault) = false
 unfoldable pub is_last_of : ℕ → Line → Bool
 is_last_of i l = (l.number == i) && ends l.content
 
--- Of each message the lines up to its first fault, cancelled line or end; none of a message that `is_over` holds of.
+-- Of each message the lines up to its first fault, cancelled line or end; none of a message that
+-- `is_over` holds of.
 unfoldable pub up_to_last_line : (ℕ → Bool) → List Line → List Line
 up_to_last_line is_over [] = []
 up_to_last_line is_over (l ∷ ls) =
@@ -116,6 +128,7 @@ unfoldable pub stop_line : Option (ℕ × StreamFault) → List Line
 stop_line None = []
 stop_line (Some found) = record { place = found.0; number = 0; content = Stopped found.1 } ∷ []
 
--- All lines of the stream. No octet after that of the stream fault belongs to a message, so its line is the last.
+-- All lines of the stream. No octet after that of the stream fault belongs to a message, so its
+-- line is the last.
 unfoldable pub lines : Rules → List ℕ → List Line
 lines R p = lines_of_messages R p ++ stop_line (cut p).stop

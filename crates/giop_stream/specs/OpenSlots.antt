@@ -1,4 +1,5 @@
--- What is kept of each message of a stream, and of its open ones, determined by the whole stream (state).
+-- What is kept of each message of a stream, and of its open ones, determined by the whole stream
+-- (state).
 use Rattle.std.specs.Prelude.{ℕ, Bool, List, [], ◌∷◌, map, Option, Some, None, ◌==◌, if◌then◌else◌}
 use Rattle.std.specs.List.{list_any}
 use Rattle.giop_stream.specs.Rules.{Rules}
@@ -23,12 +24,14 @@ is_open still_open i = list_any (λ o. o.opener.number == i) still_open
 
 -- each open message with what is kept of it
 unfoldable pub slots_of : OctetsByNumber → List Open → List Slot
-slots_of known still_open = map (λ o. record { open_as = o; octets = known o.opener.number }) still_open
+slots_of known still_open = map (λ o. record { open_as = o; octets = known o.opener.number })
+    still_open
 
 -- what is kept of a message: that of its slot, or of the current message
 unfoldable pub kept : List Slot → ℕ → Option (List ℕ) → OctetsByNumber
 kept [] number own i = if number == i then own else None
-kept (slot ∷ slots) number own i = if slot.open_as.opener.number == i then slot.octets else kept slots number own i
+kept (slot ∷ slots) number own i = if slot.open_as.opener.number == i then slot.octets else kept
+    slots number own i
 
 -- ---- The finish.
 

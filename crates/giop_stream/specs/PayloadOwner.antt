@@ -21,13 +21,16 @@ abbrev pub opener_key : Option Open → Option MessageKey
 opener_key None = None
 opener_key (Some o) = Some o.opener
 
--- The owner of the next octet, where these messages are open: after a Fragment's request id, the message that it continues.
+-- The owner of the next octet, where these messages are open: after a Fragment's request id, the
+-- message that it continues.
 unfoldable pub owner_of_next : List Open → Message → Option MessageKey
-owner_of_next still_open m = if has_named m then opener_key (opener_of still_open m) else Some (message_key m)
+owner_of_next still_open m = if has_named m then opener_key (opener_of still_open m) else Some
+    (message_key m)
 
 -- the same once the request id is complete
 unfoldable pub owner_after_id : List Open → Message → Option MessageKey
-owner_after_id still_open m = if is_fragment m.header then opener_key (opener_of still_open m) else Some (message_key m)
+owner_after_id still_open m = if is_fragment m.header then opener_key (opener_of still_open m) else
+    Some (message_key m)
 
 -- what the code knows of a message, at the octet that came last
 pub record IsCurrent (now : Current) (m : Message) : Type 0 where
@@ -39,8 +42,10 @@ pub record IsCurrent (now : Current) (m : Message) : Type 0 where
 abbrev pub SaysId : List ℕ → Type 0
 SaysId header = (T : Ty) × (header_type (minor header) (kind header) ≡ Some T) × BeginsWithId T
 
--- The request id of a message is complete. Where the message begins with it, the message is neither open nor over.
-pub record IsAtRequestId (C : Table) (l : Answers) (s : Slots) (c : Tracked) (m : Message) (now : Current) (i : ℕ) : Type 0 where
+-- The request id of a message is complete. Where the message begins with it, the message is neither
+-- open nor over.
+pub record IsAtRequestId (C : Table) (l : Answers) (s : Slots) (c : Tracked) (m : Message)
+    (now : Current) (i : ℕ) : Type 0 where
   pub keeps : SlotsRepresent C l s c (Some (message_key m))
   pub rising : Rising c.still_open
   pub current : IsCurrent now m
@@ -49,32 +54,39 @@ pub record IsAtRequestId (C : Table) (l : Answers) (s : Slots) (c : Tracked) (m 
   pub alive : has_name m.header ≡ true → (xs : List ℕ) × (c.known m.number ≡ Some xs)
 
 -- The slots represent what is tracked at an octet of a message, the last that came.
-pub record IsAtOctet (C : Table) (l : Answers) (s : Slots) (c : Tracked) (m : Message) (now : Current) : Type 0 where
+pub record IsAtOctet (C : Table) (l : Answers) (s : Slots) (c : Tracked) (m : Message)
+    (now : Current) : Type 0 where
   pub keeps : SlotsRepresent C l s c (owner_of_next c.still_open m)
   pub rising : Rising c.still_open
   pub current : IsCurrent now m
 
--- ---- An octet that has come, part by part: its owner, its events at the request id, and those at the end.
+-- ---- An octet that has come, part by part: its owner, its events at the request id, and those at
+-- the end.
 
 unfoldable pub owner_of_octet : List Open → Message → Option MessageKey
-owner_of_octet still_open m = if goes_past m then opener_key (opener_of still_open m) else Some (message_key m)
+owner_of_octet still_open m = if goes_past m then opener_key (opener_of still_open m) else Some
+    (message_key m)
 
 unfoldable pub id_events : ℕ → List Open → Message → List Event
-id_events most still_open m = if length m.payload == 4 then events_at_request_id most still_open m else []
+id_events most still_open m = if length m.payload == 4 then events_at_request_id most still_open m
+    else []
 
 unfoldable pub end_events : List Open → Message → List Event
-end_events still_open m = if length m.payload == size m.header then events_at_end still_open m else []
+end_events still_open m = if length m.payload == size m.header then events_at_end still_open m else
+    []
 
 -- and the owner of the octets from then on
 unfoldable pub owner_after : List Open → Message → Option MessageKey
-owner_after still_open m = if length m.payload == size m.header then None else owner_of_next still_open m
+owner_after still_open m = if length m.payload == size m.header then None else owner_of_next
+    still_open m
 
 -- no open message has this number or a later one
 abbrev pub IsNewest : ℕ → List Open → Type 0
 IsNewest n still_open = Each (λ o. o.opener.number < n) still_open
 
 -- The slots represent what is tracked once the octet's owner has taken it.
-pub record IsAfterTake (C : Table) (l : Answers) (s : Slots) (c : Tracked) (m : Message) (now : Current) : Type 0 where
+pub record IsAfterTake (C : Table) (l : Answers) (s : Slots) (c : Tracked) (m : Message)
+    (now : Current) : Type 0 where
   pub keeps : SlotsRepresent C l s c (owner_of_octet c.still_open m)
   pub rising : Rising c.still_open
   pub current : IsCurrent now m
@@ -83,7 +95,8 @@ pub record IsAfterTake (C : Table) (l : Answers) (s : Slots) (c : Tracked) (m : 
   pub alive : has_name m.header ≡ true → length m.payload ≡ 4 → c.known m.number ≡ Some m.payload
   pub says : has_name m.header ≡ true → SaysId m.header
 
--- What is tracked before this octet of a message comes, and what the code knows of the message at it.
+-- What is tracked before this octet of a message comes, and what the code knows of the message at
+-- it.
 pub record IsBeforeOctet (c : Tracked) (m : Message) (now : Current) (x : ℕ) : Type 0 where
   pub rising : Rising c.still_open
   pub current : IsCurrent now (with_octet m x)
@@ -94,23 +107,31 @@ pub record IsBeforeOctet (c : Tracked) (m : Message) (now : Current) (x : ℕ) :
 
 -- what the octets `q` of a message do that only add to contents, where one more comes behind them
 abbrev pub effect_before : Table → Answers → Tracked → Message → Current → List ℕ → Effect
-effect_before C l c m now q = run_effect C l (now.place - suc (length q)) c (owner_of_next c.still_open m) q
+effect_before C l c m now q = run_effect C l (now.place - suc (length q)) c
+    (owner_of_next c.still_open m) q
 
--- The slots represent what is tracked before octets of a message come: `q`, which only add to contents, and x behind them.
-pub record IsBeforeOctets (C : Table) (l : Answers) (s : Slots) (c : Tracked) (m : Message) (now : Current) (q : List ℕ) (x : ℕ) : Type 0 where
+-- The slots represent what is tracked before octets of a message come: `q`, which only add to
+-- contents, and x behind them.
+pub record IsBeforeOctets (C : Table) (l : Answers) (s : Slots) (c : Tracked) (m : Message)
+    (now : Current) (q : List ℕ) (x : ℕ) : Type 0 where
   pub keeps : SlotsRepresent C l s c (owner_of_next c.still_open m)
   pub rising : Rising c.still_open
-  pub same_owner : owner_of_next (effect_before C l c m now q).tracked.still_open (with_payload m (m.payload ++ q)) ≡ owner_of_next c.still_open m
-  pub last : IsBeforeOctet (effect_before C l c m now q).tracked (with_payload m (m.payload ++ q)) now x
+  pub same_owner : owner_of_next (effect_before C l c m now q).tracked.still_open
+      (with_payload m (m.payload ++ q)) ≡ owner_of_next c.still_open m
+  pub last : IsBeforeOctet (effect_before C l c m now q).tracked (with_payload m (m.payload ++ q))
+      now x
 
 -- what all of them do: x does what its events do
 abbrev pub octets_effect : Table → Answers → ℕ → Tracked → Message → Current → List ℕ → ℕ → Effect
 octets_effect C l most c m now q x =
     let ran = effect_before C l c m now q in
-    then_effect ran (effects (message_reader C l) ran.tracked (events_of_octet most ran.tracked.still_open (with_octet (with_payload m (m.payload ++ q)) x)))
+    then_effect ran (effects (message_reader C l) ran.tracked
+    (events_of_octet most ran.tracked.still_open
+    (with_octet (with_payload m (m.payload ++ q)) x)))
 
 -- The slots represent what is tracked before a message begins, at the last octet of its header.
-pub record IsBeforeMessage (C : Table) (l : Answers) (s : Slots) (c : Tracked) (who : Option MessageKey) (m : Message) (now : Current) : Type 0 where
+pub record IsBeforeMessage (C : Table) (l : Answers) (s : Slots) (c : Tracked)
+    (who : Option MessageKey) (m : Message) (now : Current) : Type 0 where
   pub keeps : SlotsRepresent C l s c who
   pub rising : Rising c.still_open
   pub current : IsCurrent now m
@@ -128,4 +149,5 @@ owner_of_next_in still_open (Some m) = owner_of_next still_open m
 -- The slots represent what is tracked of the messages of this stream.
 abbrev pub SlotsRepresentStream : Table → Answers → ℕ → Slots → List ℕ → Type 0
 SlotsRepresentStream C l most s p =
-    SlotsRepresent C l s (tracked_after (rules_by C l most) p) (owner_of_next_in (open_after most p) (cut p).current)
+    SlotsRepresent C l s (tracked_after (rules_by C l most) p)
+    (owner_of_next_in (open_after most p) (cut p).current)

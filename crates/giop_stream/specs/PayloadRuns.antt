@@ -1,4 +1,5 @@
--- What a run of octets does that only add to one message's contents: what its octets do, one after the other (steps).
+-- What a run of octets does that only add to one message's contents: what its octets do, one after
+-- the other (steps).
 use Rattle.std.specs.Prelude.{ℕ, suc, List, [], ◌∷◌, Option}
 use Rattle.giop_sig.specs.Table.{Table}
 use Rattle.giop_message.specs.Signatures.{Answers}

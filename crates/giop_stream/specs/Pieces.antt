@@ -1,4 +1,5 @@
--- What is written of a stream that comes in pieces, and of one that is read on from its front (meaning).
+-- What is written of a stream that comes in pieces, and of one that is read on from its front
+-- (meaning).
 use Rattle.std.specs.Prelude.{ℕ, List, [], ◌∷◌, ◌++◌}
 use Rattle.giop_stream.specs.Rules.{Rules}
 use Rattle.giop_stream.specs.Stream.{text, closing}

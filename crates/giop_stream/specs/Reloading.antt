@@ -1,4 +1,5 @@
--- Which fields of an engine the parts of a checkpoint give; and what is known of its records while they are read (state).
+-- Which fields of an engine the parts of a checkpoint give; and what is known of its records while
+-- they are read (state).
 use Rattle.std.specs.Prelude.{◌≡◌, ◌⊎◌, ℕ, ◌-◌, List, [], ◌∷◌, ◌++◌, length, flat_map, Option, Some, None, nat_lt, if◌then◌else◌}
 use Rattle.std.specs.List.{AllByRecursion as Each}
 use Rattle.giop_sig.specs.Table.{Table}
@@ -38,7 +39,8 @@ payload_count_in (Header held) = 0
 payload_count_in (Payload header left) = size header - left
 payload_count_in (Stopped fault) = 0
 
--- the owner of the payload: the message of this record, where that is an open one, or else the current message, which was
+-- the owner of the payload: the message of this record, where that is an open one, or else the
+-- current message, which was
 -- loaded before
 abbrev pub owner_by : Option ℕ → ℕ → PayloadOwner → PayloadOwner
 owner_by None many current = current
@@ -62,7 +64,8 @@ pushed first id message =
     open_entry id first.«record».number first.«record».header message
 
 -- It is the entry of an open message with these octets.
-pub record IsOpenEntry (C : Table) (l : Answers) (at : ℕ) (first : FirstRecord) (held : Held) : Type 0 where
+pub record IsOpenEntry (C : Table) (l : Answers) (at : ℕ) (first : FirstRecord) (held : Held) : Type
+    0 where
   pub kept : OpenEntry
   pub entry : Entry
   pub entry_is : IsOpen kept entry
@@ -71,7 +74,8 @@ pub record IsOpenEntry (C : Table) (l : Answers) (at : ℕ) (first : FirstRecord
   pub ready : IsReady C at kept.value.message
 
 -- It is the entry of the current message with these octets.
-pub record IsCurrentEntry (C : Table) (l : Answers) (at : ℕ) (first : FirstRecord) (own : Own) : Type 0 where
+pub record IsCurrentEntry (C : Table) (l : Answers) (at : ℕ) (first : FirstRecord) (own : Own) :
+    Type 0 where
   pub message : Message
   pub entry : Entry
   pub entry_is : IsCurrent message entry
@@ -82,7 +86,8 @@ pub record IsCurrentEntry (C : Table) (l : Answers) (at : ℕ) (first : FirstRec
 -- ---- the records that are left
 
 -- These octets are so many entries, of these open messages and this current one.
-pub record AreLeft (C : Table) (l : Answers) (at count : ℕ) (octets : List ℕ) (held : List Held) (own : Option Own)
+pub record AreLeft (C : Table) (l : Answers) (at count : ℕ) (octets : List ℕ) (held : List Held)
+    (own : Option Own)
     : Type 0 where
   pub kept : List OpenEntry
   pub current : Option Message
@@ -96,10 +101,11 @@ pub record AreLeft (C : Table) (l : Answers) (at count : ℕ) (octets : List ℕ
   pub own_ready : IsReady C at current
 
 -- These open messages were added.
-pub record HasAdded (C : Table) (l : Answers) (before after : Slots) (held : List Held) : Type 0 where
-  pub kept : List OpenEntry
-  pub are : AreSlots C l kept held
-  pub put : after.slots.entries ≡ before.slots.entries ++ kept
+pub record HasAdded (C : Table) (l : Answers) (before after : Slots) (held : List Held) : Type 0
+  where
+    pub kept : List OpenEntry
+    pub are : AreSlots C l kept held
+    pub put : after.slots.entries ≡ before.slots.entries ++ kept
 
 -- The first of so many records was added, that of an open message; `rest` are the others.
 pub record HasAddedOpen (C : Table) (l : Answers) (at count : ℕ) (before after : Slots)

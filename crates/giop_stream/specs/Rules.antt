@@ -1,4 +1,5 @@
--- The rules that a stream is read by: the reader of its messages, and how many of them may be open at once (meaning).
+-- The rules that a stream is read by: the reader of its messages, and how many of them may be open
+-- at once (meaning).
 use Rattle.std.specs.Prelude.{ℕ}
 use Rattle.giop_sig.specs.Table.{Table}
 use Rattle.giop_message.specs.MessageReader.{MessageReader}
@@ -10,7 +11,8 @@ pub record Rules : Type 0 where
   pub reading : MessageReader
   pub most : ℕ
 
--- the rules of a table, of the operations that the ids of each message answer, and of so many open messages
+-- the rules of a table, of the operations that the ids of each message answer, and of so many open
+-- messages
 abbrev pub rules_by : Table → Answers → ℕ → Rules
 rules_by C a most = record { reading = message_reader C a; most = most }
 

@@ -29,13 +29,15 @@ abbrev pub with_message : OpenEntry → Option CodeMessage → OpenEntry
 with_message slot message = open_entry slot.key slot.value.number slot.value.header message
 
 -- The code's message has read these octets; there is none where the message is over.
-abbrev pub RepresentsMessage : Table → Answers → Option CodeMessage → MessageKey → Option (List ℕ) → Type 0
+abbrev pub RepresentsMessage : Table → Answers → Option CodeMessage → MessageKey → Option (List ℕ) →
+    Type 0
 RepresentsMessage C l (Some m) w (Some xs) = Follows C l w.number w.header m xs
 RepresentsMessage C l None w None = Unit {0}
 RepresentsMessage C l (Some m) w None = ⊥
 RepresentsMessage C l None w (Some xs) = ⊥
 
--- A message can take the octet at this place: it fits the table, and has fewer octets than the stream has up to there.
+-- A message can take the octet at this place: it fits the table, and has fewer octets than the
+-- stream has up to there.
 abbrev pub IsReady : Table → ℕ → Option CodeMessage → Type 0
 IsReady C at None = Unit {0}
 IsReady C at (Some m) = Fits C m × (reach m < at)
@@ -67,14 +69,19 @@ AreSlots C l (kept ∷ more) (slot ∷ slots) = IsSlot C l kept slot × AreSlots
 AreSlots C l [] (slot ∷ slots) = ⊥
 AreSlots C l (kept ∷ more) [] = ⊥
 
--- the owner of the payload's octets: the open message at this index; or one that isn't open, of which this is kept, or none
-abbrev pub PayloadBelongs : Table → Answers → Option ℕ → Option CodeMessage → Tracked → Option MessageKey → Type 0
+-- the owner of the payload's octets: the open message at this index; or one that isn't open, of
+-- which this is kept, or none
+abbrev pub PayloadBelongs : Table → Answers → Option ℕ → Option CodeMessage → Tracked →
+    Option MessageKey → Type 0
 PayloadBelongs C l (Some k) message c None = ⊥
-PayloadBelongs C l (Some k) message c (Some w) = (o : events.Open) × (slice_get c.still_open k ≡ Some o) × (o.opener ≡ w)
+PayloadBelongs C l (Some k) message c (Some w) =
+    (o : events.Open) × (slice_get c.still_open k ≡ Some o) × (o.opener ≡ w)
 PayloadBelongs C l None message c None = message ≡ None
-PayloadBelongs C l None message c (Some w) = IsNotOpen w.number c.still_open × RepresentsMessage C l message w (c.known w.number)
+PayloadBelongs C l None message c (Some w) =
+    IsNotOpen w.number c.still_open × RepresentsMessage C l message w (c.known w.number)
 
-pub record SlotsRepresent (C : Table) (l : Answers) (s : Slots) (c : Tracked) (owner_of_next : Option MessageKey) : Type 0 where
+pub record SlotsRepresent (C : Table) (l : Answers) (s : Slots) (c : Tracked)
+    (owner_of_next : Option MessageKey) : Type 0 where
   pub slots : AreSlots C l s.slots.entries (slots_of c.known c.still_open)
   pub owner : PayloadBelongs C l (index_of s.owner) (current_of s.owner) c owner_of_next
 

@@ -1,4 +1,5 @@
--- The numbers of the refusals of an engine that reads or saves (docs/FORMATS.md, Refusals; meaning).
+-- The numbers of the refusals of an engine that reads or saves (docs/FORMATS.md, Refusals;
+-- meaning).
 use Rattle.std.specs.Prelude.{ℕ}
 use Rattle.giop_stream.specs.declared.fault.Stop.{Stop}
 use Rattle.giop_stream.specs.declared.fault.Stop.TheVariants as stop

@@ -1,4 +1,5 @@
--- The text of a stream, its totals, and its closing: what is written at the finish (docs/FORMATS.md, Lines; meaning).
+-- The text of a stream, its totals, and its closing: what is written at the finish
+-- (docs/FORMATS.md, Lines; meaning).
 use Rattle.std.specs.Prelude.{ℕ, ◌+◌, Bool, true, false, not, ◌&&◌, ◌||◌, List, [], ◌++◌, length, map, filter, flat_map, Option, is_some, is_none, nat_lt, if◌then◌else◌}
 use Rattle.std.specs.List.{list_any}
 use Rattle.giop_checkpoint.specs.declared.fault.StreamFault.{StreamFault}
@@ -44,7 +45,12 @@ fault_count ls = length (filter (λ l. is_fault l.content) ls)
 -- the start lines, the fault lines, and the octets that are read
 unfoldable pub tally : Rules → List ℕ → Totals
 tally R p =
-    record { messages = start_count (lines R p); faults = fault_count (lines R p); octets = read_of p (cut p).stop }
+    record {
+      messages = start_count (lines R p);
+      faults = fault_count (lines R p);
+      octets =
+          read_of p (cut p).stop;
+    }
 
 -- The stream ends inside a message or a header.
 unfoldable pub is_inside : Option Message → List ℕ → Option (ℕ × StreamFault) → Bool
@@ -75,4 +81,5 @@ final R p = with_truncated (is_truncated (cut p)) (tally R p)
 unfoldable pub closing : Rules → List ℕ → List ℕ
 closing R p =
     (if is_truncated (cut p) then truncated_line (length p) else [])
-    ++ (flat_map unfinished_line (unfinished R p) ++ total_line (final R p).messages (final R p).faults (final R p).octets)
+    ++ (flat_map unfinished_line (unfinished R p)
+    ++ total_line (final R p).messages (final R p).faults (final R p).octets)

@@ -19,7 +19,8 @@ stream_word StreamLimit = codes "stream-limit"
 -- the start of a message with this header
 unfoldable pub start_line : ℕ → List ℕ → List ℕ
 start_line number header =
-    print.start_line number (minor header) (order header) (kind header) (size header) (has_more header)
+    print.start_line number (minor header) (order header) (kind header) (size header)
+    (has_more header)
 
 abbrev pub stop_text : StreamFault → ℕ → List ℕ
 stop_text fault place = stream_fault_line (stream_word fault) place

@@ -1,4 +1,5 @@
--- How the fields of the code show the state that an engine holds of a stream (state); and what a call does to them (steps).
+-- How the fields of the code show the state that an engine holds of a stream (state); and what a
+-- call does to them (steps).
 use Rattle.std.specs.Prelude.{◌≡◌, ◌-◌, ℕ, List, length, Option, Some, None, Result, OnOk, slice_get, option_map, nat_lt, if◌then◌else◌}
 use Rattle.giop_print.specs.Output.{OutLog, Writes}
 use Rattle.giop_cdr.specs.Numbers.{AreOctets}
@@ -25,12 +26,15 @@ IsOwn C l None (Some o) = ⊥
 unfoldable pub payload_count_in : State → ℕ
 payload_count_in s = if nat_lt (length s.held) 12 then 0 else size s.held - s.left
 
--- The owner of the payload's next octets: the open message at this index; or the current message, of which this is kept
+-- The owner of the payload's next octets: the open message at this index; or the current message,
+-- of which this is kept
 -- unless it is over, or none.
 abbrev pub IsOwner : Table → Answers → Option ℕ → Option CodeMessage → State → Type 0
 IsOwner C l (Some k) message s =
-    (s.own ≡ None) × ((slot : Slot) × (slice_get s.slots k ≡ Some slot) × (s.owner ≡ Some slot.open_as.opener.number))
-IsOwner C l None message s = IsOwn C l message s.own × (s.owner ≡ option_map (λ o. o.message_key.number) s.own)
+    (s.own ≡ None) × ((slot : Slot) × (slice_get s.slots k ≡ Some slot)
+    × (s.owner ≡ Some slot.open_as.opener.number))
+IsOwner C l None message s = IsOwn C l message s.own
+    × (s.owner ≡ option_map (λ o. o.message_key.number) s.own)
 
 -- The fields show this state.
 pub record Shows (C : Table) (l : Answers) (f : FramingView) (s : State) : Type 0 where
@@ -48,6 +52,7 @@ pub record IsReached (C : Table) (l : Answers) (most : ℕ) (s : State) : Type 0
   pub held : s ≡ state_of (rules_by C l most) stream
 
 -- a call writes the lines of this step, and leaves its state
-pub record Does {A E : Type 0} (C : Table) (l : Answers) (result : Result A E) (before after : OutLog) (f : FramingView) (one : Step) : Type 0 where
+pub record Does {A E : Type 0} (C : Table) (l : Answers) (result : Result A E)
+    (before after : OutLog) (f : FramingView) (one : Step) : Type 0 where
   pub text : Writes result before after (lines_text one.lines)
   pub shows : OnOk result (Shows C l f one.state)

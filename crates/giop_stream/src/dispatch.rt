@@ -92,9 +92,11 @@ pub fn passes<O: Out>(
     out: &mut O,
 ) -> Result<bool, OutFault>
     requires { k < length slots.old.slots.entries }
-    ensures does { (C : Table) (l : Answers) (c : Tracked) (owner : Option MessageKey) (m : Message) (o : Open) →
+    ensures does { (C : Table) (l : Answers) (c : Tracked) (owner : Option MessageKey) (m : Message)
+        (o : Open) →
         IsContinuing C l slots.old c owner m now →
-        is_fragment m.header ≡ true → opener_of c.still_open m ≡ Some o → slice_get c.still_open k ≡ Some o →
+        is_fragment m.header ≡ true → opener_of c.still_open m ≡ Some o →
+        slice_get c.still_open k ≡ Some o →
         DoesEffect C l one_if result (O.log out.old) (O.log out.new) slots.new
         (effects (message_reader C l) c (events_at_request_id slots.old.slots.most c.still_open m)) (Some o.opener) }
     ensures ready { (C : Table) (n : ℕ) → AreReady C n slots.old → AreReady C n slots.new }

@@ -168,7 +168,8 @@ impl<'a> Engine<'a> {
             OnErr result ((O.log out.new).failures ≡ counted (O.log out.old).failures)
             × OnOk result ((O.log out.new).failures ≡ (O.log out.old).failures) }
         // The types, the requests and the limit of open messages stay the same.
-        ensures same { (self.new.table ≡ self.old.table) × (self.new.request_table ≡ self.old.request_table) }
+        ensures same { (self.new.table ≡ self.old.table)
+            × (self.new.request_table ≡ self.old.request_table) }
         ensures most { self.new.most ≡ self.old.most }
     {
         if self.failed {
@@ -207,7 +208,8 @@ impl<'a> Engine<'a> {
         // A failed engine writes nothing.
         ensures failed { self.old.failed ≡ true → O.log out.new ≡ O.log out.old }
         // The types, the requests and the limit of open messages stay the same.
-        ensures same { (self.new.table ≡ self.old.table) × (self.new.request_table ≡ self.old.request_table) }
+        ensures same { (self.new.table ≡ self.old.table)
+            × (self.new.request_table ≡ self.old.request_table) }
         ensures most { self.new.most ≡ self.old.most }
     {
         let mut requests = self.requests;
@@ -219,7 +221,8 @@ impl<'a> Engine<'a> {
     pub fn restart(&mut self)
         ensures holds { (a : Answers) → HoldsBy self.new a [] }
         // The types, the requests and the limit of open messages stay the same.
-        ensures same { (self.new.table ≡ self.old.table) × (self.new.request_table ≡ self.old.request_table) }
+        ensures same { (self.new.table ≡ self.old.table)
+            × (self.new.request_table ≡ self.old.request_table) }
         ensures most { self.new.most ≡ self.old.most }
     {
         self.framing.restart();
@@ -340,7 +343,8 @@ pub fn any_pieces()
     ensures whole { (C : Table) (l : RequestTable) (n : ℕ) (p : List ℕ) (pieces : List (List ℕ)) →
         fed (rules C l n) p pieces ≡ added (rules C l n) p (concat pieces) }
     // so that any two ways to cut the same octets write the same.
-    ensures same { (C : Table) (l : RequestTable) (n : ℕ) (p : List ℕ) (pieces others : List (List ℕ)) →
+    ensures same { (C : Table) (l : RequestTable) (n : ℕ) (p : List ℕ)
+        (pieces others : List (List ℕ)) →
         concat pieces ≡ concat others →
         fed (rules C l n) p pieces ≡ fed (rules C l n) p others }
 {}
@@ -348,10 +352,12 @@ pub fn any_pieces()
 /// A stream is read on from a checkpoint of its front as if the reading had never ended, and each checkpoint is small.
 pub fn remaining()
     // The text of the front, and what is written of the octets after it and at their end, are all that is written.
-    ensures text { (C : Table) (l : RequestTable) (n : ℕ) (octets p q : List ℕ) → Spells octets C l n p →
+    ensures text { (C : Table) (l : RequestTable) (n : ℕ) (octets p q : List ℕ) →
+        Spells octets C l n p →
         text (rules C l n) p ++ remaining (rules C l n) p q
         ≡ whole_text (rules C l n) (p ++ q) }
     // However long the front is, its checkpoint has at most so many octets.
-    ensures within { (C : Table) (l : RequestTable) (n : ℕ) (octets p : List ℕ) → Spells octets C l n p →
+    ensures within { (C : Table) (l : RequestTable) (n : ℕ) (octets p : List ℕ) →
+        Spells octets C l n p →
         length octets ≤ checkpoint_limit n (depth_of C.types) }
 {}

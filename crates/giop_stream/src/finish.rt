@@ -43,7 +43,8 @@ impl Framing {
     #[tactic(auto, unfolding(crate::specs::FramingSteps::final_totals))]
     pub fn final_totals(&self) -> Totals
         ensures state { result ≡ final_totals (framing_view self.now) }
-        ensures value { (C : Table) (l : Answers) (s : State) → Shows C l (framing_view self.now) s →
+        ensures value { (C : Table) (l : Answers) (s : State) →
+            Shows C l (framing_view self.now) s →
             result ≡ one.final_totals s }
     {
         let mut totals = self.totals;

@@ -109,7 +109,8 @@ impl Framing {
         requires running { self.old.stopped ≡ None }
         requires limit { self.old.totals.octets + 5 ≤ 2 ^ 48 }
         requires ready { AreReady catalogue.now (self.old.totals.octets + 1) self.old.slots }
-        ensures does { (a : Answers) (s : State) → IsReached catalogue.now a self.old.slots.slots.most s →
+        ensures does { (a : Answers) (s : State) →
+            IsReached catalogue.now a self.old.slots.slots.most s →
             Shows catalogue.now a (framing_view self.old) s →
             Does catalogue.now a result (O.log out.old) (O.log out.new) (framing_view self.new)
             (one.runs (rules_by catalogue.now a self.old.slots.slots.most) s octets.now) }

@@ -121,7 +121,8 @@ impl Framing {
         requires place { self.old.totals.octets ≤ place }
         requires limit { place ≤ 2 ^ 48 + 1 }
         requires faults { self.old.totals.faults < 3 * place }
-        ensures state { OnOk result (framing_view self.new ≡ stop (framing_view self.old) fault place) }
+        ensures state { OnOk result (framing_view self.new
+            ≡ stop (framing_view self.old) fault place) }
         ensures text { Writes result (O.log out.old) (O.log out.new) (stop_text fault place) }
         ensures most { self.new.slots.slots.most ≡ self.old.slots.slots.most }
     {
@@ -231,7 +232,8 @@ impl Framing {
         requires full { length self.old.header.items ≡ 12 }
         requires running { self.old.stopped ≡ None }
         requires some { 0 < length octets.now }
-        requires apart { self.old.payload_count < 4 → self.old.payload_count + length octets.now ≤ 4 }
+        requires apart { self.old.payload_count < 4 →
+            self.old.payload_count + length octets.now ≤ 4 }
         requires few { 1 < length octets.now →
             self.old.payload_count + length octets.now ≤ size self.old.header.items }
         requires limit { self.old.totals.octets + length octets.now ≤ 2 ^ 48 }

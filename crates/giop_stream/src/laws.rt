@@ -30,7 +30,8 @@ use giop_message::Correspondent;
 pub fn each_slot()
     // An octet or a fault changes the slot of its message,
     ensures stays { (R : MessageReader) (c : Tracked) (e : Event) (k : ℕ) (o : Open) →
-        stays e.what ≡ true → Rising c.still_open → slice_get c.still_open k ≡ Some o → e.subject ≡ o.opener →
+        stays e.what ≡ true → Rising c.still_open → slice_get c.still_open k ≡ Some o →
+        e.subject ≡ o.opener →
         slots_at (tracked_at R c e)
         ≡ slice_set (slots_at c) k
         (record { open_as = o; octets = octets_then R e (c.known o.opener.number) }) }
@@ -40,7 +41,8 @@ pub fn each_slot()
         slots_at (tracked_at R c e) ≡ slots_at c }
     // A close or a cancel takes the slot away,
     ensures goes { (R : MessageReader) (c : Tracked) (e : Event) (k : ℕ) (o : Open) →
-        goes e.what ≡ true → Rising c.still_open → slice_get c.still_open k ≡ Some o → e.subject ≡ o.opener →
+        goes e.what ≡ true → Rising c.still_open → slice_get c.still_open k ≡ Some o →
+        e.subject ≡ o.opener →
         slots_at (tracked_at R c e) ≡ remove (slots_at c) k }
     // and none where the message isn't open.
     ensures closes { (R : MessageReader) (c : Tracked) (e : Event) →
@@ -58,7 +60,8 @@ pub fn each_slot()
     // The octets kept of the event's message change as `octets_then` gives; those of no other message change.
     ensures kept { (R : MessageReader) (c : Tracked) (e : Event) →
         (tracked_at R c e).known e.subject.number ≡ octets_then R e (c.known e.subject.number) }
-    ensures others { (R : MessageReader) (c : Tracked) (e : Event) (i : ℕ) → (i ≡ e.subject.number → ⊥) →
+    ensures others { (R : MessageReader) (c : Tracked) (e : Event) (i : ℕ) →
+        (i ≡ e.subject.number → ⊥) →
         (tracked_at R c e).known i ≡ c.known i }
     // The numbers of a stream's open messages rise.
     ensures rising { (most : ℕ) (p : List ℕ) → Rising (open_after most p) }
@@ -95,15 +98,18 @@ pub fn one_of_each()
 /// What an engine holds of a stream changes by one step for each octet.
 pub fn each_step()
     ensures start { (R : Rules) → state_of R [] ≡ fresh }
-    ensures state { (R : Rules) → IsCausal R.reading → IsStreamable R.reading → (p : List ℕ) (x : ℕ) →
+    ensures state { (R : Rules) → IsCausal R.reading → IsStreamable R.reading →
+        (p : List ℕ) (x : ℕ) →
         state_of R (p ++ x ∷ []) ≡ (step R (state_of R p) x).state }
-    ensures lines { (R : Rules) → IsCausal R.reading → IsStreamable R.reading → (p : List ℕ) (x : ℕ) →
+    ensures lines { (R : Rules) → IsCausal R.reading → IsStreamable R.reading →
+        (p : List ℕ) (x : ℕ) →
         lines R (p ++ x ∷ []) ≡ lines R p ++ (step R (state_of R p) x).lines }
     ensures text { (R : Rules) → IsCausal R.reading → IsStreamable R.reading → (p q : List ℕ) →
         text R (p ++ q) ≡ text R p ++ lines_text (run R (state_of R p) q) }
     ensures rest { (R : Rules) → IsCausal R.reading → IsStreamable R.reading → (p q : List ℕ) →
         state_of R (p ++ q) ≡ run_state R (state_of R p) q }
-    ensures closing { (R : Rules) → IsCausal R.reading → IsStreamable R.reading → IsEnding R.reading →
+    ensures closing { (R : Rules) → IsCausal R.reading → IsStreamable R.reading →
+        IsEnding R.reading →
         (p : List ℕ) →
         closing R p ≡ finish (state_of R p) }
     ensures totals { (R : Rules) → IsCausal R.reading → IsStreamable R.reading → (p : List ℕ) →

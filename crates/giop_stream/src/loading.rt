@@ -160,7 +160,8 @@ fn held_of(octets: &[u8]) -> ArrayVec<u8, 12>
 /// Makes the message of this record the owner of the payload, where it is an open one; else the current message stays it,
 /// where there is one.
 fn set_owner(slots: &mut Slots, owner: Option<u32>)
-    ensures owner { slots.new.owner ≡ owner_by owner (length slots.old.slots.entries) slots.old.owner }
+    ensures owner { slots.new.owner ≡ owner_by owner (length slots.old.slots.entries)
+        slots.old.owner }
     ensures same { slots.new.slots ≡ slots.old.slots }
     ensures ready { (C : Table) (n : ℕ) → AreReady C n slots.old → AreReady C n slots.new }
 {
@@ -185,7 +186,8 @@ fn add_all(
     ensures ready { result ≡ true → AreReady catalogue.now (octets + 1) slots.new }
     ensures again { (l : Answers) (held : List Held) (own : Option Own) →
         AreLeft catalogue.now l (octets + 1) count records.now held own →
-        length slots.old.slots.entries + length held ≤ slots.old.slots.most → slots.old.owner ≡ Current None →
+        length slots.old.slots.entries + length held ≤ slots.old.slots.most →
+        slots.old.owner ≡ Current None →
         (result ≡ true) × HasAdded catalogue.now l slots.old slots.new held
         × IsCurrentOwner catalogue.now l slots.new.owner own }
     ensures most { slots.new.slots.most ≡ slots.old.slots.most }
@@ -215,7 +217,8 @@ fn add_first<'a>(
     ensures rest { IfSome result (λ rest. rest.now ≡ drop (used records.now) records.now) }
     ensures again { (l : Answers) (count : ℕ) (held : List Held) (own : Option Own) →
         (count ≡ 0 → ⊥) → AreLeft catalogue.now l (octets + 1) count records.now held own →
-        length slots.old.slots.entries + length held ≤ slots.old.slots.most → slots.old.owner ≡ Current None →
+        length slots.old.slots.entries + length held ≤ slots.old.slots.most →
+        slots.old.owner ≡ Current None →
         IsSomeAnd result (λ rest. HasAddedFirst catalogue.now l (octets + 1) count
         slots.old slots.new rest.now held own) }
     ensures last { IsSome (current_of slots.old.owner) → result ≡ None }

@@ -115,7 +115,8 @@ pub fn close_message<O: Out>(
     out: &mut O,
 ) -> Result<bool, OutFault>
     requires ready { IsReady catalogue.now (place + 1) message }
-    ensures { (l : Answers) (w : MessageKey) (o : Option (List ℕ)) → RepresentsMessage catalogue.now l message w o →
+    ensures { (l : Answers) (w : MessageKey) (o : Option (List ℕ)) →
+        RepresentsMessage catalogue.now l message w o →
         WritesLines one_if result (O.log out.old) (O.log out.new)
         (lines_of (message_reader catalogue.now l) (event place w Closes) o) }
 {

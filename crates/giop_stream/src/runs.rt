@@ -31,7 +31,8 @@ impl Framing {
         ensures within { result ≤ room }
         ensures full { 0 < result → length self.now.header.items ≡ 12 }
         ensures running { 0 < result → self.now.stopped ≡ None }
-        ensures apart { 0 < result → self.now.payload_count < 4 → self.now.payload_count + result ≤ 4 }
+        ensures apart { 0 < result → self.now.payload_count < 4 →
+            self.now.payload_count + result ≤ 4 }
         ensures few { 0 < result → self.now.payload_count + result ≤ size self.now.header.items }
         ensures limit { 0 < result → self.now.totals.octets + result ≤ 2 ^ 48 }
     {
@@ -84,10 +85,12 @@ impl Framing {
         requires limit { self.old.totals.octets + length octets.now ≤ 2 ^ 48 }
         requires right { (k : ℕ) → k < length octets.now →
             wrong (self.old.header.items ++ take (k + 1) octets.now) ≡ None }
-        ensures shows { (C : Table) (l : Answers) (s : State) → Shows C l (framing_view self.old) s →
+        ensures shows { (C : Table) (l : Answers) (s : State) →
+            Shows C l (framing_view self.old) s →
             Shows C l (framing_view self.new)
             (one.run_state (rules_by C l self.old.slots.slots.most) s octets.now) }
-        ensures lines { (C : Table) (l : Answers) (s : State) → Shows C l (framing_view self.old) s →
+        ensures lines { (C : Table) (l : Answers) (s : State) →
+            Shows C l (framing_view self.old) s →
             one.run (rules_by C l self.old.slots.slots.most) s octets.now ≡ [] }
         ensures ready { (C : Table) → AreReady C (self.old.totals.octets + 1) self.old.slots →
             AreReady C (self.new.totals.octets + 1) self.new.slots }

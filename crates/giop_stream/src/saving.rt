@@ -111,7 +111,8 @@ fn records_of(slots: &Slots) -> u32
 
 /// Where the next octet is: in a header, in a payload, or after a stream fault.
 fn place_of(framing: &Framing) -> Place
-    ensures { result ≡ place_of framing.now.stopped framing.now.header.items framing.now.payload_count }
+    ensures { result ≡ place_of framing.now.stopped framing.now.header.items
+        framing.now.payload_count }
 {
     if let Some(fault) = framing.stopped {
         return Place::Stopped(fault);
@@ -142,7 +143,8 @@ fn held(octets: &[u8]) -> ArrayVec<u8, 11>
 /// The record of the message that the payload belongs to.
 fn owner_of(slots: &Slots) -> Option<u32>
     requires { slots.now.slots.most ≤ most_open }
-    ensures { result ≡ owner_of (index_of slots.now.owner) (current_of slots.now.owner) (length slots.now.slots.entries) }
+    ensures { result ≡ owner_of (index_of slots.now.owner) (current_of slots.now.owner)
+        (length slots.now.slots.entries) }
 {
     match &slots.owner {
         PayloadOwner::Current(Some(_)) => Some(slots.slots.len() as u32),

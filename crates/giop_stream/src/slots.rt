@@ -165,7 +165,8 @@ impl Slots {
             (owner_header_ends c owner_of_next octets.now) →
             DoesEffect catalogue.now a one_if result (O.log out.old) (O.log out.new)
             self.new (run_effect catalogue.now a before c owner_of_next octets.now) owner_of_next }
-        ensures told { IfOk result (λ _. (a : Answers) (c : Tracked) (owner_of_next : Option MessageKey) →
+        ensures told { IfOk result (λ _. (a : Answers) (c : Tracked)
+            (owner_of_next : Option MessageKey) →
             SlotsRepresent catalogue.now a self.old c owner_of_next →
             AgreesAtEnds Q.answer Q.notified catalogue.now (Q.state correspondent.old) a
             (owner_header_ends c owner_of_next octets.now) →
@@ -296,7 +297,8 @@ impl Slots {
 
     /// From now on the payload belongs to the open message at this index.
     pub fn set_open_owner(&mut self, k: usize)
-        ensures kept { (C : Table) (l : Answers) (c : Tracked) (owner_of_next : Option MessageKey) (o : Open) →
+        ensures kept { (C : Table) (l : Answers) (c : Tracked) (owner_of_next : Option MessageKey)
+            (o : Open) →
             SlotsRepresent C l self.old c owner_of_next → slice_get c.still_open k ≡ Some o →
             SlotsRepresent C l self.new c (Some o.opener) }
         ensures ready { (C : Table) (n : ℕ) → AreReady C n self.old → AreReady C n self.new }
@@ -321,8 +323,10 @@ impl Slots {
 
     /// A message begins: it is the current one, and not open.
     pub fn begin(&mut self, catalogue: &Catalogue, number: u64, header: [u8; 12])
-        ensures kept { (l : Answers) (c : Tracked) (owner_of_next : Option MessageKey) (w : MessageKey) →
-            SlotsRepresent catalogue.now l self.old c owner_of_next → w.number ≡ number → w.header ≡ header →
+        ensures kept { (l : Answers) (c : Tracked) (owner_of_next : Option MessageKey)
+            (w : MessageKey) →
+            SlotsRepresent catalogue.now l self.old c owner_of_next → w.number ≡ number →
+            w.header ≡ header →
             c.known w.number ≡ Some [] → IsNotOpen w.number c.still_open →
             SlotsRepresent catalogue.now l self.new c (Some w) }
         ensures ready { (n : ℕ) → AreReady catalogue.now n self.old → 12 < n →
@@ -336,7 +340,8 @@ impl Slots {
     pub fn request_id(&self) -> u32
         ensures { (C : Table) (l : Answers) (w : MessageKey) (xs : List ℕ) (i : ℕ) →
             RepresentsMessage C l (current_of self.now.owner) w (Some xs) →
-            first_request_id (message_lines (message (signatures_of C (l w.number)) w.header xs)) ≡ Some i → result ≡ i }
+            first_request_id (message_lines (message (signatures_of C (l w.number)) w.header xs))
+            ≡ Some i → result ≡ i }
     {
         match self.current() {
             Some(message) => message.request_id().unwrap_or(0),

@@ -1,4 +1,5 @@
--- The lines and the closing of each worked stream, and the checkpoints without a record, by computation.
+-- The lines and the closing of each worked stream, and the checkpoints without a record, by
+-- computation.
 use Rattle.std.proofs.Common.{◌≡◌, ℕ, zero, suc, true, nat_lt, List, [], ◌∷◌, None, Some, arith, refl}
 use Rattle.std.specs.List.{list_all}
 use Rattle.std.proofs.lemmas.Bool.{ltb-true, and_parts}
@@ -42,12 +43,25 @@ use Rattle.giop_stream_rows.specs.Checkpoints.{five_octets, one_in_payload, bad_
 
 -- the definitions that are unfolded to read one message
 unfoldable pub one_message : ℕ
-unfolding digits num twos_complement padding block number path_text hex hex_number escaped type_in trees_after builtin_types minor kind order value_line_text call_text rest_text signatures_of line_at is_shown call_of calls one.section_lines with_front section_then rest_in rest typed option_typed members_of after_exception body type_if request_body result_body reply_body is_request body_of has_body padded after_header of_header message body_may_be_missing close message_lines stage_of line_class_of text_of remarks_by closes_by
+unfolding digits num twos_complement padding block number path_text hex hex_number escaped type_in
+    trees_after builtin_types minor kind order value_line_text call_text rest_text signatures_of
+    line_at is_shown call_of calls one.section_lines with_front section_then rest_in rest typed
+    option_typed members_of after_exception body type_if request_body result_body reply_body
+    is_request body_of has_body padded after_header of_header message body_may_be_missing close
+    message_lines stage_of line_class_of text_of remarks_by closes_by
 one_message = 0
 
 -- those to cut a stream and to write its lines
 unfoldable pub a_stream : ℕ
-unfolding type_word print.start_line continues_line cancelled_line fault_line stream_fault_line unfinished_line total_line fronts wrong first_wrong first_wrong_octet has_more size with_first cut_from limit limited cut messages read_of start_line numbered_line is_inside is_truncated may_be_fragmented is_opener is_fragment is_cancel may_be_cancelled refused place own event_of_open id opener_of has_named goes_past header_events payload_events request_id_events message_end_events events_of_octet events_of changed opened events_from events open_after octet joined classes line lines_of_event lines_of_events by_class in_order is_last_of up_to_last_line lines_of_messages stop_line lines lines_text text start_count fault_count tally is_over first_messages unfinished final closing
+unfolding type_word print.start_line continues_line cancelled_line fault_line stream_fault_line
+    unfinished_line total_line fronts wrong first_wrong first_wrong_octet has_more size with_first
+    cut_from limit limited cut messages read_of start_line numbered_line is_inside is_truncated
+    may_be_fragmented is_opener is_fragment is_cancel may_be_cancelled refused place own
+    event_of_open id opener_of has_named goes_past header_events payload_events request_id_events
+    message_end_events events_of_octet events_of changed opened events_from events open_after octet
+    joined classes line lines_of_event lines_of_events by_class in_order is_last_of up_to_last_line
+    lines_of_messages stop_line lines lines_text text start_count fault_count tally is_over
+    first_messages unfinished final closing
 a_stream = 0
 
 -- those in which the rows are stated
@@ -103,15 +117,19 @@ profile = record { text = refl; closing = refl }
 
 -- those that give the octets of a checkpoint
 unfoldable pub a_checkpoint : ℕ
-unfolding four eight magic counts_octets state_octets fixed_octets counts_of fixed_of checkpoint_octets octets_of slots_of state_of own_for owner_for is_open payload_count_in five_octets one_in_payload bad_magic
+unfolding four eight magic counts_octets state_octets fixed_octets counts_of fixed_of
+    checkpoint_octets octets_of slots_of state_of own_for owner_for is_open payload_count_in
+    five_octets one_in_payload bad_magic
 a_checkpoint = 0
 
 -- numbers that are each below 256
 pub are_octets : (xs : List ℕ) → list_all (λ x. nat_lt x 256) xs ≡ true → AreOctets xs
 are_octets [] h k d below = absurd (omega (arith, below))
-are_octets (x ∷ xs) h zero d below = ltb-true x 256 (and_parts (nat_lt x 256) (list_all (λ y. nat_lt y 256) xs) h).0
+are_octets (x ∷ xs) h zero d below = ltb-true x 256
+    (and_parts (nat_lt x 256) (list_all (λ y. nat_lt y 256) xs) h).0
 are_octets (x ∷ xs) h (suc k) d below =
-    are_octets xs (and_parts (nat_lt x 256) (list_all (λ y. nat_lt y 256) xs) h).1 k d (omega (arith, below))
+    are_octets xs (and_parts (nat_lt x 256) (list_all (λ y. nat_lt y 256) xs) h).1 k d
+    (omega (arith, below))
 
 -- slots without a message, where so many may be open
 no_messages : ℕ → Slots

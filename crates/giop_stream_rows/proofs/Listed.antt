@@ -7,7 +7,8 @@ use Rattle.giop_sig.specs.Table.{operation_number}
 use Rattle.giop_sig.specs.RequestList.{kept_operation, operation_of}
 use Rattle.giop_stream_rows.specs.Worked.{called, table_of, late, asks, entry, entries, kept, AreOfTheirList}
 
-answers : (id : ℕ) (b c : Bool) → (id == 1) ≡ b → (id == 2) ≡ c → option_map (λ o. o.0) (kept_operation kept id) ≡ operation_of (operation_number asks) entries id
+answers : (id : ℕ) (b c : Bool) → (id == 1) ≡ b → (id == 2) ≡ c →
+    option_map (λ o. o.0) (kept_operation kept id) ≡ operation_of (operation_number asks) entries id
 unfolding called table_of late asks entry entries kept
 answers id true c e f = let one = eqb-true id 1 e in rw one refl
 answers id false true e f = let two = eqb-true id 2 f in rw two refl

@@ -90,7 +90,13 @@ first = record {
 
 first_entry : Entry
 first_entry = record {
-  record_is = record { frames = 2; record_kind = record_kinds.Open 5; number = 1; header = header 40 };
+  record_is = record {
+    frames = 2;
+    record_kind = record_kinds.Open 5;
+    number = 1;
+    header =
+        header 40;
+  };
   message = messages.own_octets first ++ decoders.fixed_octets in_body number;
   frames = decoders.frames_octets (parameters_frame ∷ decoders.own_frame number ∷ []);
 }
@@ -112,7 +118,13 @@ second = record {
 
 second_entry : Entry
 second_entry = record {
-  record_is = record { frames = 0; record_kind = record_kinds.Open 6; number = 2; header = header 36 };
+  record_is = record {
+    frames = 0;
+    record_kind = record_kinds.Open 6;
+    number = 2;
+    header =
+        header 36;
+  };
   message = messages.own_octets second ++ messages.rest_octets nothing;
   frames = [];
 }
@@ -127,8 +139,24 @@ between = record {
   slots = record {
     slots = record {
       most = 16;
-      entries = record { key = 5; value = record { number = 1; header = header 40; message = Some first } }
-          ∷ record { key = 6; value = record { number = 2; header = header 36; message = Some second } } ∷ [];
+      entries = record {
+        key = 5;
+        value = record {
+          number = 1;
+          header = header 40;
+          message =
+              Some first;
+        };
+      }
+          ∷ record {
+            key = 6;
+            value = record {
+              number = 2;
+              header = header 36;
+              message =
+                  Some second;
+            };
+          } ∷ [];
     };
     owner = owners.Current None;
   };
@@ -253,7 +281,13 @@ unfolding one_message told_with kept_messages some_octets
 first_reads = record {
   lines = [];
   is = refl;
-  keeps_noted = record { request_id = refl; status = refl; expects_reply = refl; name = (refl, refl, omega arith) };
+  keeps_noted = record {
+    request_id = refl;
+    status = refl;
+    expects_reply = refl;
+    name =
+        (refl, refl, omega arith);
+  };
   same_order = refl;
   same_message = refl;
   same_root = refl;
@@ -286,7 +320,10 @@ second_follows = record {
   same_header = refl;
   id = refl;
   at = refl;
-  stands = (message_lines (message (signatures_of bigs (by_list [] 2)) (header 36) second_octets), refl);
+  stands = (
+    message_lines (message (signatures_of bigs (by_list [] 2)) (header 36) second_octets),
+    refl,
+  );
 }
 
 -- ---- They fit their table.

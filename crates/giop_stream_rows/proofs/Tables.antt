@@ -25,7 +25,8 @@ onto (Some p) ps = p ∷ ps
 -- a parameter, by the word of its direction, in front of others
 abbrev param : List ℕ → TypeExpr → List ℕ → List Param → List Param
 param direction type name ps =
-    onto (option_map (λ d. record { direction = d; item = item type name }) (direction_of direction)) ps
+    onto (option_map (λ d. record { direction = d; item = item type name })
+    (direction_of direction)) ps
 
 -- an operation of no parameters and no results
 abbrev nop : Declaration
@@ -35,13 +36,16 @@ abbrev file_of : List Declaration → SignatureFile
 file_of declarations = record { version = 1; declarations = declarations }
 
 abbrev put_file : SignatureFile
-put_file = file_of (Call None (codes "put") (param (codes "in") (Base prims.Double) (codes "d") []) ∷ [])
+put_file = file_of (Call None (codes "put") (param (codes "in") (Base prims.Double) (codes "d") [])
+    ∷ [])
 
 -- ---- Each text has fewer than 40 tokens.
 
 -- the definitions that are unfolded to read a text, and to declare what it says
 unfoldable told_with : ℕ
-unfolding tokens_in gap is_number first next is_reserved mark_of depth trees_after type_in depth_of builtin_types place add_items add_params declare OfType OfItems OfDeclaration Each called table_of builtin puts bigs late asks put_text bigs_text asks_text
+unfolding tokens_in gap is_number first next is_reserved mark_of depth trees_after type_in depth_of
+    builtin_types place add_items add_params declare OfType OfItems OfDeclaration Each called
+    table_of builtin puts bigs late asks put_text bigs_text asks_text
 told_with = 0
 
 pub none_declared : IsTableOf (codes "signatures 1;") builtin
@@ -80,7 +84,8 @@ put_declared = record {
 }
 
 abbrev bigs_file : SignatureFile
-bigs_file = file_of (Call None (codes "big") (param (codes "in") (Base prims.ULongLong) (codes "n") []) ∷ nop ∷ [])
+bigs_file = file_of (Call None (codes "big")
+    (param (codes "in") (Base prims.ULongLong) (codes "n") []) ∷ nop ∷ [])
 
 pub bigs_declared : IsTableOf bigs_text bigs
 unfolding told_with
@@ -98,15 +103,20 @@ bigs_declared = record {
     some = ((tt, tt, ((tt, tt, tt), tt)), ((tt, tt, tt), tt));
     labels = ((tt, tt, ((tt, tt, tt), tt)), ((tt, tt, tt), tt));
     shallow = (lit≤ tt, (lit≤ tt, tt));
-    within = ((tt, (lit≤ tt, lit< tt), ((tt, (lit≤ tt, lit< tt), tt), tt)), ((tt, (lit≤ tt, lit< tt), tt), tt));
+    within = (
+      (tt, (lit≤ tt, lit< tt), ((tt, (lit≤ tt, lit< tt), tt), tt)),
+      ((tt, (lit≤ tt, lit< tt), tt), tt),
+    );
   };
   table = refl;
 }
 
 abbrev asks_file : SignatureFile
-asks_file = file_of (DeclaredException (codes "Late") (codes "IDL:Late:1.0") (item (Base prims.UShort) (codes "by") ∷ [])
+asks_file = file_of (DeclaredException (codes "Late") (codes "IDL:Late:1.0")
+    (item (Base prims.UShort) (codes "by") ∷ [])
     ∷ Call (Some (Base prims.Long)) (codes "ask")
-    (param (codes "in") (Base prims.Long) (codes "a") (param (codes "out") (Base prims.Octet) (codes "b") []))
+    (param (codes "in") (Base prims.Long) (codes "a")
+    (param (codes "out") (Base prims.Octet) (codes "b") []))
     ∷ nop ∷ [])
 
 pub asks_declared : IsTableOf asks_text asks
@@ -123,15 +133,37 @@ asks_declared = record {
     );
   };
   valid = record {
-    known = ((tt, tt, ((tt, tt, tt), tt)), ((tt, tt, ((tt, tt, tt), ((tt, tt, tt), tt))), ((tt, tt, tt), tt)));
-    distinct = ((refl, refl, ((tt, refl, tt), tt)), ((tt, refl, ((tt, refl, tt), ((tt, refl, tt), tt))), ((tt, refl, tt), tt)));
-    some = ((tt, tt, ((tt, tt, tt), tt)), ((tt, tt, ((tt, tt, tt), ((tt, tt, tt), tt))), ((tt, tt, tt), tt)));
-    labels = ((tt, tt, ((tt, tt, tt), tt)), ((tt, tt, ((tt, tt, tt), ((tt, tt, tt), tt))), ((tt, tt, tt), tt)));
+    known = (
+      (tt, tt, ((tt, tt, tt), tt)),
+      ((tt, tt, ((tt, tt, tt), ((tt, tt, tt), tt))), ((tt, tt, tt), tt)),
+    );
+    distinct = (
+      (refl, refl, ((tt, refl, tt), tt)),
+      ((tt, refl, ((tt, refl, tt), ((tt, refl, tt), tt))), ((tt, refl, tt), tt)),
+    );
+    some = (
+      (tt, tt, ((tt, tt, tt), tt)),
+      (
+        (tt, tt, ((tt, tt, tt), ((tt, tt, tt), tt))),
+        ((tt, tt, tt), tt),
+      ),
+    );
+    labels = (
+      (tt, tt, ((tt, tt, tt), tt)),
+      ((tt, tt, ((tt, tt, tt), ((tt, tt, tt), tt))), ((tt, tt, tt), tt)),
+    );
     shallow = (lit≤ tt, (lit≤ tt, (lit≤ tt, tt)));
     within = (
       ((lit≤ tt, lit< tt), lit≤ tt, ((tt, (lit≤ tt, lit< tt), tt), tt)),
       (
-        (tt, (lit≤ tt, lit< tt), ((tt, (lit≤ tt, lit< tt), tt), ((tt, (lit≤ tt, lit< tt), tt), tt))),
+        (
+          tt,
+          (lit≤ tt, lit< tt),
+          (
+            (tt, (lit≤ tt, lit< tt), tt),
+            ((tt, (lit≤ tt, lit< tt), tt), tt),
+          ),
+        ),
         ((tt, (lit≤ tt, lit< tt), tt), tt),
       ),
     );

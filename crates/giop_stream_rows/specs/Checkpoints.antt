@@ -1,4 +1,5 @@
--- Checkpoints of worked streams, octet for octet (meaning). The first four have no record of a message.
+-- Checkpoints of worked streams, octet for octet (meaning). The first four have no record of a
+-- message.
 use Rattle.std.specs.Prelude.{ℕ, List, [], ◌∷◌, ◌++◌, replicate, codes}
 use Rattle.giop_stream.specs.Checkpoint.{Spells}
 use Rattle.giop_stream_rows.specs.Worked.{stream, builtin, bigs}
@@ -69,7 +70,8 @@ BehindAFault = Spells
 
 -- ---- Two open messages.
 
--- the Requests of two operations of `bigs`, each with fragments to follow: the first ends within its number, the second
+-- the Requests of two operations of `bigs`, each with fragments to follow: the first ends within
+-- its number, the second
 -- after its body
 unfoldable pub two_requests : List ℕ
 two_requests = stream (codes "47494f50 0102 02 00 00000028"
@@ -89,7 +91,8 @@ between_messages =
     ∷ codes "00000010 ffffffff 0000000000000000"
     ∷ [])
 
--- The record of the first, which is open under the request id 5 and in its body, before octet 52. Four octets are held of a
+-- The record of the first, which is open under the request id 5 and in its body, before octet 52.
+-- Four octets are held of a
 -- number of type 8, the one part of the struct that is the first type declared.
 unfoldable pub in_a_number : List ℕ
 in_a_number =
@@ -102,7 +105,8 @@ in_a_number =
     ∷ codes "00000008 00000000 00000000 00 0000000000000000000000"
     ∷ [])
 
--- The record of the second, which is open under the request id 6 and in its rest, before octet 48. No octet of the rest is
+-- The record of the second, which is open under the request id 6 and in its rest, before octet 48.
+-- No octet of the rest is
 -- held.
 unfoldable pub behind_a_body : List ℕ
 behind_a_body =

@@ -168,7 +168,8 @@ Raised = Row (read_by asks kept)
 
 -- ---- Encapsulations.
 
--- A Reply of 1.0 with a service context of code sets: an encapsulation of 12 octets, with padding behind its byte order.
+-- A Reply of 1.0 with a service context of code sets: an encapsulation of 12 octets, with padding
+-- behind its byte order.
 abbrev pub CodeSets : Type 0
 CodeSets = Row (read_by builtin [])
     (stream (codes "47494f50 0100 00 01 00000020"

@@ -1,4 +1,5 @@
--- How a worked stream is written down: its octets in hexadecimal digits, its lines, and the types and requests that it is
+-- How a worked stream is written down: its octets in hexadecimal digits, its lines, and the types
+-- and requests that it is
 -- read by (meaning).
 use Rattle.std.specs.Prelude.{◌≡◌, ℕ, ◌+◌, ◌-◌, ◌*◌, ◌==◌, nat_lt, if◌then◌else◌, List, [], ◌∷◌, ◌++◌, length, Some, None, codes}
 use Rattle.giop_sig.specs.Table.{Node, members, Operation, Exception, Table, op_id, operation_number}
@@ -20,7 +21,8 @@ digit c = if nat_lt c 58 then c - 48 else c - 87
 unfoldable pub octets : List ℕ → List ℕ
 octets [] = []
 octets (a ∷ []) = []
-octets (a ∷ (b ∷ more)) = if a == 32 then octets (b ∷ more) else (16 * digit a + digit b) ∷ octets more
+octets (a ∷ (b ∷ more)) = if a == 32 then octets (b ∷ more) else (16 * digit a + digit b) ∷ octets
+    more
 
 unfoldable pub stream : List (List ℕ) → List ℕ
 stream [] = []
@@ -41,7 +43,8 @@ pub record Row (R : Rules) (p : List ℕ) (lines end : List (List ℕ)) : Type 0
 unfoldable pub read_by : Table → RequestTable → Rules
 read_by table kept = rules table kept most_open
 
--- an operation with the structs of its parameters and of its results, one after the other in the table; the first is counted
+-- an operation with the structs of its parameters and of its results, one after the other in the
+-- table; the first is counted
 -- from the first type after the built-in ones
 unfoldable pub called : List ℕ → ℕ → Operation
 called name request = record {
@@ -52,13 +55,20 @@ called name request = record {
 
 -- the built-in types and then these, with these operations and exceptions
 unfoldable pub table_of : List Node → List Operation → List Exception → Table
-table_of types operations exceptions = record { types = builtin_types ++ types; operations = operations; exceptions = exceptions; declared = 0 }
+table_of types operations exceptions = record {
+  types = builtin_types ++ types;
+  operations =
+      operations;
+  exceptions = exceptions;
+  declared = 0;
+}
 
 -- no declarations
 unfoldable pub builtin : Table
 builtin = table_of [] [] []
 
--- The text of a signature file, and its table: the text spells a valid file, and this is the table of that.
+-- The text of a signature file, and its table: the text spells a valid file, and this is the table
+-- of that.
 pub record IsTableOf (text : List ℕ) (t : Table) : Type 0 where
   pub file : SignatureFile
   pub spells : Spells text file
@@ -70,7 +80,8 @@ put_text = codes "signatures 1; operation void put(in double d);"
 
 -- its table
 unfoldable pub puts : Table
-puts = table_of (members (member (codes "d") 10 ∷ []) ∷ members [] ∷ []) (called (codes "put") 0 ∷ []) []
+puts = table_of (members (member (codes "d") 10 ∷ []) ∷ members [] ∷ [])
+    (called (codes "put") 0 ∷ []) []
 
 unfoldable pub bigs_text : List ℕ
 bigs_text = codes "signatures 1; operation void big(in ulonglong n); operation void nop();"
@@ -87,7 +98,9 @@ unfoldable pub late : Exception
 late = record { repository = codes "IDL:Late:1.0"; members = length builtin_types }
 
 unfoldable pub asks_text : List ℕ
-asks_text = codes "signatures 1; exception Late \"IDL:Late:1.0\" { ushort by; }; operation long ask(in long a, out octet b); operation void nop();"
+asks_text =
+    codes
+    "signatures 1; exception Late \"IDL:Late:1.0\" { ushort by; }; operation long ask(in long a, out octet b); operation void nop();"
 
 -- its table
 unfoldable pub asks : Table
@@ -106,9 +119,11 @@ entry id name = record { id = id; name = name }
 
 -- 1 ask, 1 ask, 2 nop, 2 ask
 unfoldable pub entries : List Entry
-entries = entry 1 (codes "ask") ∷ entry 1 (codes "ask") ∷ entry 2 (codes "nop") ∷ entry 2 (codes "ask") ∷ []
+entries = entry 1 (codes "ask") ∷ entry 1 (codes "ask") ∷ entry 2 (codes "nop") ∷ entry 2
+    (codes "ask") ∷ []
 
--- the request table of these: the one operation of the first id, and none of the second, which has two
+-- the request table of these: the one operation of the first id, and none of the second, which has
+-- two
 unfoldable pub kept : RequestTable
 kept = (1, Some (op_id 0)) ∷ (2, None) ∷ []
 

@@ -14,7 +14,8 @@ use Rattle.std.proofs.lemmas.Bool.{and_parts, leb-true, ltb-true, eqb-true, eqb-
 use Rattle.giop_tokens.specs.Tokens.{is_digit, is_word, is_number, number_of}
 
 pub digit_bounds : (b : ℕ) → is_digit b ≡ true → (48 ≤ b) × (b ≤ 57)
-digit_bounds b e = let k = and_parts (nat_le 48 b) (nat_le b 57) e in (leb-true 48 b k.0, leb-true b 57 k.1)
+digit_bounds b e = let k = and_parts (nat_le 48 b) (nat_le b 57) e in
+    (leb-true 48 b k.0, leb-true b 57 k.1)
 
 pub digit_is : (b : ℕ) → is_digit b ≡ true → digit_value b ≡ b - 48
 digit_is b e = let k = digit_bounds b e in omega (arith, digit_value_digit b k)
@@ -23,17 +24,21 @@ pub digit_small : (b : ℕ) → is_digit b ≡ true → digit_value b < 10
 digit_small b e = let k = digit_bounds b e in omega (arith, digit_is b e)
 
 -- each of the octets passes
-pub digit_at : (ds : List ℕ) (i : ℕ) → list_all is_digit ds ≡ true → i < length ds → is_digit (get_or ds i 0) ≡ true
+pub digit_at : (ds : List ℕ) (i : ℕ) → list_all is_digit ds ≡ true → i < length ds →
+    is_digit (get_or ds i 0) ≡ true
 digit_at [] i h lt = absurd (omega arith)
 digit_at (d ∷ ds) zero h lt = (and_parts (is_digit d) (list_all is_digit ds) h).0
-digit_at (d ∷ ds) (suc i) h lt = digit_at ds i (and_parts (is_digit d) (list_all is_digit ds) h).1 (omega arith)
+digit_at (d ∷ ds) (suc i) h lt = digit_at ds i (and_parts (is_digit d) (list_all is_digit ds) h).1
+    (omega arith)
 
 pub all_digits : (ds : List ℕ) → list_all is_digit ds ≡ true → AllDigits 10 ds
 all_digits [] h = tt
-all_digits (d ∷ ds) h = let k = and_parts (is_digit d) (list_all is_digit ds) h in (digit_small d k.0, all_digits ds k.1)
+all_digits (d ∷ ds) h = let k = and_parts (is_digit d) (list_all is_digit ds) h in
+    (digit_small d k.0, all_digits ds k.1)
 
 -- the digits before the last of at most twenty
-pub value_small : (ds : List ℕ) (i : ℕ) → i < length ds → length ds ≤ 20 → AllDigits 10 (take i ds) → digits_value 10 (take i ds) < 10 ^ 19
+pub value_small : (ds : List ℕ) (i : ℕ) → i < length ds → length ds ≤ 20 →
+    AllDigits 10 (take i ds) → digits_value 10 (take i ds) < 10 ^ 19
 value_small ds i lt most h =
     let l : length (take i ds) ≤ 19 = omega (arith, length-take i ds) in
     omega (arith, digits_value-lt 10 (take i ds) h, pow-le-pow_right {n = 10} (omega arith) l)
@@ -70,10 +75,12 @@ unfolding is_number
 number_true w n =
     let some : nat_le 1 (length w) ≡ true = le-leb 1 (length w) n.some in
     let few : nat_le (length w) 20 ≡ true = le-leb (length w) 20 n.few in
-    let value : nat_lt (digits_value 10 w) (2 ^ 64) ≡ true = lt-ltb (digits_value 10 w) (2 ^ 64) n.value in
+    let value : nat_lt (digits_value 10 w) (2 ^ 64) ≡ true =
+    lt-ltb (digits_value 10 w) (2 ^ 64) n.value in
     rw (some, few, n.digits, n.leading, value) refl
 
-five : (a b c d e : Bool) → (a && b && c && d && e) ≡ true → (a ≡ true) × (b ≡ true) × (c ≡ true) × (d ≡ true) × (e ≡ true)
+five : (a b c d e : Bool) → (a && b && c && d && e) ≡ true → (a ≡ true) × (b ≡ true) × (c ≡ true)
+    × (d ≡ true) × (e ≡ true)
 five true true true true true h = (refl, refl, refl, refl, refl)
 five false b c d e h = absurd cc
 five true false c d e h = absurd cc
@@ -84,10 +91,18 @@ five true true true true false h = absurd cc
 pub number_parts : (w : List ℕ) → is_number w ≡ true → IsNumber w
 unfolding is_number
 number_parts w h =
-    let k = five (nat_le 1 (length w)) (nat_le (length w) 20) (list_all is_digit w) (length w == 1 || not (slice_index w 0 == 48)) (nat_lt (digits_value 10 w) (2 ^ 64)) h in
-    record { some = leb-true 1 (length w) k.0; few = leb-true (length w) 20 k.1; digits = k.2; leading = k.3; value = ltb-true (digits_value 10 w) (2 ^ 64) k.4 }
+    let k = five (nat_le 1 (length w)) (nat_le (length w) 20) (list_all is_digit w)
+    (length w == 1 || not (slice_index w 0 == 48)) (nat_lt (digits_value 10 w) (2 ^ 64)) h in
+    record {
+      some = leb-true 1 (length w) k.0;
+      few = leb-true (length w) 20 k.1;
+      digits = k.2;
+      leading = k.3;
+      value = ltb-true (digits_value 10 w) (2 ^ 64) k.4;
+    }
 
-leading_by : (n : ℕ) (v : Bool) → n == 1 ≡ v → (b : ℕ) → (b ≡ 48 → n ≡ 1) → (u : Bool) → b == 48 ≡ u → (n == 1 || not (b == 48)) ≡ true
+leading_by : (n : ℕ) (v : Bool) → n == 1 ≡ v → (b : ℕ) → (b ≡ 48 → n ≡ 1) → (u : Bool) →
+    b == 48 ≡ u → (n == 1 || not (b == 48)) ≡ true
 leading_by n true e b h u f = rw e refl
 leading_by n false e b h false f = rw (e, f) refl
 leading_by n false e b h true f = absurd (eqb-false n 1 e (h (eqb-true b 48 f)))
@@ -112,19 +127,23 @@ decimal_is_number n lt =
       some = omega (arith, k.0.0);
       few = length-decimal-le 20 n (omega arith) (omega arith) lt;
       digits = are_digits_from (decimal n) k.0.1;
-      leading = leading_by (length (decimal n)) (length (decimal n) == 1) refl (slice_index (decimal n) 0) (decimal_leading n lt) (slice_index (decimal n) 0 == 48) refl;
+      leading = leading_by (length (decimal n)) (length (decimal n) == 1) refl
+          (slice_index (decimal n) 0) (decimal_leading n lt) (slice_index (decimal n) 0 == 48) refl;
       value = omega (arith, k.1);
     }
 
 -- a number is written in one way
 pub number_is_decimal : (w : List ℕ) → IsNumber w → decimal (digits_value 10 w) ≡ w
-number_is_decimal w n = decimal-digits_value own w (all_digits w n.digits) n.some (leading_from (length w) (slice_index w 0) n.leading) n.value
+number_is_decimal w n = decimal-digits_value own w (all_digits w n.digits) n.some
+    (leading_from (length w) (slice_index w 0) n.leading) n.value
 
 -- the number of its spelling
 pub number_of_decimal : (n : ℕ) → n < 2 ^ 64 → number_of (decimal n) ≡ Some n
-number_of_decimal n lt = rw (number_true (decimal n) (decimal_is_number n lt)) (ap (λ k. Some k) (decimal_value n lt))
+number_of_decimal n lt = rw (number_true (decimal n) (decimal_is_number n lt))
+    (ap (λ k. Some k) (decimal_value n lt))
 
-number_by : (w : List ℕ) (v : Bool) (n : ℕ) → is_number w ≡ v → cond v (Some (digits_value 10 w)) None ≡ Some n → IsNumber w × (w ≡ decimal n) × (n < 2 ^ 64)
+number_by : (w : List ℕ) (v : Bool) (n : ℕ) → is_number w ≡ v →
+    cond v (Some (digits_value 10 w)) None ≡ Some n → IsNumber w × (w ≡ decimal n) × (n < 2 ^ 64)
 number_by w false n e h = absurd cc
 number_by w true n e h =
     let k = number_parts w e in
@@ -132,7 +151,8 @@ number_by w true n e h =
     (k, sym (number_is_decimal w k) ∙ ap decimal same, subst (λ m. m < 2 ^ 64) same k.value)
 
 -- a word that is a number is its decimal spelling
-pub number_of_is : (w : List ℕ) (n : ℕ) → number_of w ≡ Some n → IsNumber w × (w ≡ decimal n) × (n < 2 ^ 64)
+pub number_of_is : (w : List ℕ) (n : ℕ) → number_of w ≡ Some n → IsNumber w × (w ≡ decimal n)
+    × (n < 2 ^ 64)
 number_of_is w n h = number_by w (is_number w) n refl h
 
 or_third : (a b c d : Bool) → c ≡ true → (a || b || c || d) ≡ true
@@ -142,8 +162,11 @@ or_third false false c d e = rw e refl
 
 -- a digit is a word octet
 pub digit_is_word : (b : ℕ) → is_digit b ≡ true → is_word b ≡ true
-digit_is_word b e = or_third (nat_le 97 b && nat_le b 122) (nat_le 65 b && nat_le b 90) (is_digit b) (b == 95) e
+digit_is_word b e = or_third (nat_le 97 b && nat_le b 122) (nat_le 65 b && nat_le b 90) (is_digit b)
+    (b == 95) e
 
-pub digits_are_word : (w : List ℕ) → list_all is_digit w ≡ true → AllByRecursion (λ b. is_word b ≡ true) w
+pub digits_are_word : (w : List ℕ) → list_all is_digit w ≡ true →
+    AllByRecursion (λ b. is_word b ≡ true) w
 digits_are_word [] h = tt
-digits_are_word (b ∷ w) h = let k = and_parts (is_digit b) (list_all is_digit w) h in (digit_is_word b k.0, digits_are_word w k.1)
+digits_are_word (b ∷ w) h = let k = and_parts (is_digit b) (list_all is_digit w) h in
+    (digit_is_word b k.0, digits_are_word w k.1)

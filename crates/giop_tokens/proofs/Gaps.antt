@@ -4,7 +4,8 @@ use Rattle.std.proofs.lemmas.List.{length-drop}
 use Rattle.giop_tokens.specs.Tokens.{gap, gap_step, or_stop}
 
 pub gap_at : (bs : List ℕ) (i : ℕ) (comment : Bool) → i < length bs
-    → gap comment (drop i bs) ≡ or_stop (gap_step comment (get_or bs i 0) (get_or bs (i + 1) 0)) (drop i bs) (λ more. gap more (drop (i + 1) bs))
+    → gap comment (drop i bs) ≡ or_stop (gap_step comment (get_or bs i 0) (get_or bs (i + 1) 0))
+    (drop i bs) (λ more. gap more (drop (i + 1) bs))
 unfolding gap
 gap_at [] i comment lt = absurd (omega arith)
 gap_at (b ∷ []) zero comment lt = refl

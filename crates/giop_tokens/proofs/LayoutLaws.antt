@@ -36,16 +36,20 @@ gap_slashes : (c : List ℕ) → gap false (47 ∷ 47 ∷ c) ≡ gap true c
 unfolding gap
 gap_slashes c = refl
 
-gap_comment : (c bs : List ℕ) → IsLine c → gap false ((47 ∷ 47 ∷ (c ++ 10 ∷ [])) ++ bs) ≡ gap false bs
-gap_comment c bs l = gap_slashes ((c ++ 10 ∷ []) ++ bs) ∙ ap (gap true) (append_assoc c (10 ∷ []) bs) ∙ gap_line c bs l
+gap_comment : (c bs : List ℕ) → IsLine c →
+    gap false ((47 ∷ 47 ∷ (c ++ 10 ∷ [])) ++ bs) ≡ gap false bs
+gap_comment c bs l = gap_slashes ((c ++ 10 ∷ []) ++ bs)
+    ∙ ap (gap true) (append_assoc c (10 ∷ []) bs) ∙ gap_line c bs l
 
 gap_space : (s : Space) (bs : List ℕ) → IsSpace s → gap false (space s ++ bs) ≡ gap false bs
 gap_space (white b) bs h = gap_white b bs h
 gap_space (comment c) bs h = gap_comment c bs h
 
-gap_spaces : (ss : List Space) (bs : List ℕ) → AllByRecursion IsSpace ss → gap false (spaces ss ++ bs) ≡ gap false bs
+gap_spaces : (ss : List Space) (bs : List ℕ) → AllByRecursion IsSpace ss →
+    gap false (spaces ss ++ bs) ≡ gap false bs
 gap_spaces [] bs h = refl
-gap_spaces (s ∷ ss) bs h = ap (gap false) (append_assoc (space s) (spaces ss) bs) ∙ gap_space s (spaces ss ++ bs) h.0 ∙ gap_spaces ss bs h.1
+gap_spaces (s ∷ ss) bs h = ap (gap false) (append_assoc (space s) (spaces ss) bs)
+    ∙ gap_space s (spaces ss ++ bs) h.0 ∙ gap_spaces ss bs h.1
 
 gap_tail : (tail : List ℕ) → IsTail tail → gap false tail ≡ []
 unfolding gap
@@ -54,21 +58,25 @@ gap_tail tail (inr h) = ap (gap false) h.2 ∙ gap_slashes h.0 ∙ gap_open h.0 
 
 -- ---- A token is no space.
 
-gap_stop : (b : ℕ) (bs : List ℕ) → is_white b ≡ false → eqb b 47 ≡ false → gap false (b ∷ bs) ≡ b ∷ bs
+gap_stop : (b : ℕ) (bs : List ℕ) → is_white b ≡ false → eqb b 47 ≡ false →
+    gap false (b ∷ bs) ≡ b ∷ bs
 unfolding gap
 gap_stop b bs w s = rw (s, w) refl
 
 -- ---- Longest runs.
 
-run_len : (is : ℕ → Bool) (w bs : List ℕ) → AllByRecursion (λ b. is b ≡ true) w → is (slice_index bs 0) ≡ false → prefix_len is (w ++ bs) ≡ length w
+run_len : (is : ℕ → Bool) (w bs : List ℕ) → AllByRecursion (λ b. is b ≡ true) w →
+    is (slice_index bs 0) ≡ false → prefix_len is (w ++ bs) ≡ length w
 run_len is [] [] h e = refl
 run_len is [] (b ∷ bs) h e = rw e refl
 run_len is (c ∷ w) bs h e = rw h.0 (omega (arith, run_len is w bs h.1 e))
 
-run_is : (is : ℕ → Bool) (w bs : List ℕ) → AllByRecursion (λ b. is b ≡ true) w → is (slice_index bs 0) ≡ false → run is (w ++ bs) ≡ w
+run_is : (is : ℕ → Bool) (w bs : List ℕ) → AllByRecursion (λ b. is b ≡ true) w →
+    is (slice_index bs 0) ≡ false → run is (w ++ bs) ≡ w
 run_is is w bs h e = take_at w bs (prefix_len is (w ++ bs)) (sym (run_len is w bs h e))
 
-past_is : (is : ℕ → Bool) (w bs : List ℕ) → AllByRecursion (λ b. is b ≡ true) w → is (slice_index bs 0) ≡ false → past is (w ++ bs) ≡ bs
+past_is : (is : ℕ → Bool) (w bs : List ℕ) → AllByRecursion (λ b. is b ≡ true) w →
+    is (slice_index bs 0) ≡ false → past is (w ++ bs) ≡ bs
 past_is is w bs h e = drop_at w bs (prefix_len is (w ++ bs)) (sym (run_len is w bs h e))
 
 -- ---- A token is read as it is written.
@@ -80,29 +88,51 @@ abbrev lexed : Token → List ℕ → Lexed
 lexed t bs = Ok (Some t, bs)
 
 -- a text that begins with a word octet
-first_word : (b : ℕ) (w after : List ℕ) (t : Token) → AllByRecursion (λ b. is_word b ≡ true) (b ∷ w) → is_word (slice_index after 0) ≡ false → word_token (b ∷ w) ≡ Some t → first (b ∷ (w ++ after)) ≡ lexed t after
+first_word : (b : ℕ) (w after : List ℕ) (t : Token) →
+    AllByRecursion (λ b. is_word b ≡ true) (b ∷ w) → is_word (slice_index after 0) ≡ false →
+    word_token (b ∷ w) ≡ Some t → first (b ∷ (w ++ after)) ≡ lexed t after
 unfolding first
-first_word b w after t h e told = rw (run_is is_word (b ∷ w) after h e, past_is is_word (b ∷ w) after h e, h.0, told) refl
+first_word b w after t h e told = rw (
+  run_is is_word (b ∷ w) after h e,
+  past_is is_word (b ∷ w) after h e,
+  h.0,
+  told,
+) refl
 
 word_told : (w : List ℕ) → is_digit (slice_index w 0) ≡ false → word_token w ≡ Some (word w)
 word_told w e = rw e refl
 
-number_told : (w : List ℕ) (n : ℕ) → is_digit (slice_index w 0) ≡ true → number_of w ≡ Some n → word_token w ≡ Some (number n)
+number_told : (w : List ℕ) (n : ℕ) → is_digit (slice_index w 0) ≡ true → number_of w ≡ Some n →
+    word_token w ≡ Some (number n)
 number_told w n e k = rw (e, k) refl
 
-first_negative : (w after : List ℕ) (t : Token) → AllByRecursion (λ b. is_word b ≡ true) w → is_word (slice_index after 0) ≡ false → below_zero (number_of w) ≡ Some t → first (45 ∷ (w ++ after)) ≡ lexed t after
+first_negative : (w after : List ℕ) (t : Token) → AllByRecursion (λ b. is_word b ≡ true) w →
+    is_word (slice_index after 0) ≡ false → below_zero (number_of w) ≡ Some t →
+    first (45 ∷ (w ++ after)) ≡ lexed t after
 unfolding first
-first_negative w after t h e told = rw (run_is is_word w after h e, past_is is_word w after h e, told) refl
+first_negative w after t h e told = rw (
+  run_is is_word w after h e,
+  past_is is_word w after h e,
+  told,
+) refl
 
-negative_told : (w : List ℕ) (n : ℕ) → 0 < n → number_of w ≡ Some n → below_zero (number_of w) ≡ Some (negative n)
-negative_told w n pos e = let k : eqb n 0 ≡ false = ne_eqb n 0 (λ z. omega (arith, z)) in rw (e, k) refl
+negative_told : (w : List ℕ) (n : ℕ) → 0 < n → number_of w ≡ Some n →
+    below_zero (number_of w) ≡ Some (negative n)
+negative_told w n pos e = let k : eqb n 0 ≡ false = ne_eqb n 0 (λ z. omega (arith, z)) in
+    rw (e, k) refl
 
-first_repository : (r after : List ℕ) → IsId r → first (34 ∷ (r ++ 34 ∷ after)) ≡ lexed (repository r) after
+first_repository : (r after : List ℕ) → IsId r →
+    first (34 ∷ (r ++ 34 ∷ after)) ≡ lexed (repository r) after
 unfolding first
 first_repository r after h =
     let some : nat_le 1 (length r) ≡ true = le-leb 1 (length r) h.some in
     let few : nat_le (length r) 128 ≡ true = le-leb (length r) 128 h.few in
-    rw (run_is is_id r (34 ∷ after) h.octets refl, past_is is_id r (34 ∷ after) h.octets refl, some, few) refl
+    rw (
+      run_is is_id r (34 ∷ after) h.octets refl,
+      past_is is_id r (34 ∷ after) h.octets refl,
+      some,
+      few,
+    ) refl
 
 first_mark : (m : Mark) (after : List ℕ) → first (octet_of m ∷ after) ≡ lexed (mark m) after
 unfolding first mark_of
@@ -110,22 +140,33 @@ first_mark marks.OpenBrace after = refl
 first_mark _ after = refl
 
 -- a text that begins with a run of word octets
-first_run : (w after : List ℕ) (t : Token) → 0 < length w → AllByRecursion (λ b. is_word b ≡ true) w → is_word (slice_index after 0) ≡ false → word_token w ≡ Some t → first (w ++ after) ≡ lexed t after
+first_run : (w after : List ℕ) (t : Token) → 0 < length w →
+    AllByRecursion (λ b. is_word b ≡ true) w → is_word (slice_index after 0) ≡ false →
+    word_token w ≡ Some t → first (w ++ after) ≡ lexed t after
 first_run [] after t some h e told = absurd (omega arith)
 first_run (b ∷ w) after t some h e told = first_word b w after t h e told
 
-first_number : (n : ℕ) (after : List ℕ) → n < 2 ^ 64 → is_word (slice_index after 0) ≡ false → first (decimal n ++ after) ≡ lexed (number n) after
+first_number : (n : ℕ) (after : List ℕ) → n < 2 ^ 64 → is_word (slice_index after 0) ≡ false →
+    first (decimal n ++ after) ≡ lexed (number n) after
 first_number n after lt e =
     let k = decimal_is_number n lt in
-    first_run (decimal n) after (number n) k.some (digits_are_word (decimal n) k.digits) e (number_told (decimal n) n (digit_at (decimal n) 0 k.digits k.some) (number_of_decimal n lt))
+    first_run (decimal n) after (number n) k.some (digits_are_word (decimal n) k.digits) e
+    (number_told (decimal n) n (digit_at (decimal n) 0 k.digits k.some)
+    (number_of_decimal n lt))
 
-pub first_written : (t : Token) (after : List ℕ) → IsToken t → (is_run t ≡ true → is_word (slice_index after 0) ≡ false) → first (written t ++ after) ≡ lexed t after
-first_written (word w) after h e = first_run w after (word w) h.some h.octets (e refl) (word_told w h.begins)
+pub first_written : (t : Token) (after : List ℕ) → IsToken t →
+    (is_run t ≡ true → is_word (slice_index after 0) ≡ false) →
+    first (written t ++ after) ≡ lexed t after
+first_written (word w) after h e = first_run w after (word w) h.some h.octets (e refl)
+    (word_told w h.begins)
 first_written (number n) after h e = first_number n after h (e refl)
 first_written (negative n) after h e =
     let k = decimal_is_number n h.1 in
-    first_negative (decimal n) after (negative n) (digits_are_word (decimal n) k.digits) (e refl) (negative_told (decimal n) n h.0 (number_of_decimal n h.1))
-first_written (repository r) after h e = ap (λ (bs : List ℕ). first (34 ∷ bs)) (append_assoc r (34 ∷ []) after) ∙ first_repository r after h
+    first_negative (decimal n) after (negative n) (digits_are_word (decimal n) k.digits) (e refl)
+    (negative_told (decimal n) n h.0 (number_of_decimal n h.1))
+first_written (repository r) after h e =
+    ap (λ (bs : List ℕ). first (34 ∷ bs)) (append_assoc r (34 ∷ []) after)
+    ∙ first_repository r after h
 first_written (mark m) after h e = first_mark m after
 
 -- ---- No token begins like a space or a comment.
@@ -135,15 +176,23 @@ IsStop b = (is_white b ≡ false) × (eqb b 47 ≡ false)
 
 word_white : (b : ℕ) (v : Bool) → is_white b ≡ v → is_word b ≡ true → is_white b ≡ false
 word_white b false e w = e
-word_white b true e w = absurd (white_word b (eqb b 32) (eqb b 9) (eqb b 13) (eqb b 10) refl refl refl refl e w) where
-  white_word : (b : ℕ) (s t u v : Bool) → eqb b 32 ≡ s → eqb b 9 ≡ t → eqb b 13 ≡ u → eqb b 10 ≡ v → (eqb b 32 || eqb b 9 || eqb b 13 || eqb b 10) ≡ true → is_word b ≡ true → ⊥
-  white_word b true t u v e f g h i w = true≢false (sym w ∙ ap is_word (eqb-true b 32 e))
-  white_word b false true u v e f g h i w = true≢false (sym w ∙ ap is_word (eqb-true b 9 f))
-  white_word b false false true v e f g h i w = true≢false (sym w ∙ ap is_word (eqb-true b 13 g))
-  white_word b false false false true e f g h i w = true≢false (sym w ∙ ap is_word (eqb-true b 10 h))
-  white_word b false false false false e f g h i w = true≢false (sym i ∙ all_false b e f g h) where
-    all_false : (b : ℕ) → eqb b 32 ≡ false → eqb b 9 ≡ false → eqb b 13 ≡ false → eqb b 10 ≡ false → (eqb b 32 || eqb b 9 || eqb b 13 || eqb b 10) ≡ false
-    all_false b e f g h = rw (e, f, g, h) refl
+word_white b true e w = absurd (white_word b (eqb b 32) (eqb b 9) (eqb b 13) (eqb b 10) refl refl
+    refl refl e w) where
+      white_word : (b : ℕ) (s t u v : Bool) → eqb b 32 ≡ s → eqb b 9 ≡ t → eqb b 13 ≡ u →
+          eqb b 10 ≡ v →
+          (eqb b 32 || eqb b 9 || eqb b 13 || eqb b 10) ≡ true → is_word b ≡ true → ⊥
+      white_word b true t u v e f g h i w = true≢false (sym w ∙ ap is_word (eqb-true b 32 e))
+      white_word b false true u v e f g h i w = true≢false (sym w ∙ ap is_word (eqb-true b 9 f))
+      white_word b false false true v e f g h i w =
+          true≢false (sym w ∙ ap is_word (eqb-true b 13 g))
+      white_word b false false false true e f g h i w =
+          true≢false (sym w ∙ ap is_word (eqb-true b 10 h))
+      white_word b false false false false e f g h i w =
+          true≢false (sym i ∙ all_false b e f g h) where
+            all_false : (b : ℕ) → eqb b 32 ≡ false → eqb b 9 ≡ false → eqb b 13 ≡ false →
+                eqb b 10 ≡ false →
+                (eqb b 32 || eqb b 9 || eqb b 13 || eqb b 10) ≡ false
+            all_false b e f g h = rw (e, f, g, h) refl
 
 word_slash : (b : ℕ) (v : Bool) → eqb b 47 ≡ v → is_word b ≡ true → eqb b 47 ≡ false
 word_slash b false e w = e
@@ -156,35 +205,50 @@ mark_stop : (m : Mark) → IsStop (octet_of m)
 mark_stop marks.OpenBrace = (refl, refl)
 mark_stop _ = (refl, refl)
 
-gap_run : (w after : List ℕ) → 0 < length w → AllByRecursion (λ b. is_word b ≡ true) w → gap false (w ++ after) ≡ w ++ after
+gap_run : (w after : List ℕ) → 0 < length w → AllByRecursion (λ b. is_word b ≡ true) w →
+    gap false (w ++ after) ≡ w ++ after
 gap_run [] after some h = absurd (omega arith)
 gap_run (b ∷ w) after some h = let k = word_stop b h.0 in gap_stop b (w ++ after) k.0 k.1
 
-pub gap_written : (t : Token) (after : List ℕ) → IsToken t → gap false (written t ++ after) ≡ written t ++ after
+pub gap_written : (t : Token) (after : List ℕ) → IsToken t →
+    gap false (written t ++ after) ≡ written t ++ after
 gap_written (word w) after h = gap_run w after h.some h.octets
-gap_written (number n) after h = let k = decimal_is_number n h in gap_run (decimal n) after k.some (digits_are_word (decimal n) k.digits)
+gap_written (number n) after h = let k = decimal_is_number n h in
+    gap_run (decimal n) after k.some (digits_are_word (decimal n) k.digits)
 gap_written (negative n) after h = gap_stop 45 (decimal n ++ after) refl refl
 gap_written (repository r) after h = gap_stop 34 ((r ++ 34 ∷ []) ++ after) refl refl
 gap_written (mark m) after h = let k = mark_stop m in gap_stop (octet_of m) after k.0 k.1
 
 -- ---- A layout is its tokens.
 
-next_laid : (front : List Space) (t : Token) (after : List ℕ) → AllByRecursion IsSpace front → IsToken t → (is_run t ≡ true → is_word (slice_index after 0) ≡ false) → next (spaces front ++ (written t ++ after)) ≡ lexed t after
+next_laid : (front : List Space) (t : Token) (after : List ℕ) → AllByRecursion IsSpace front →
+    IsToken t → (is_run t ≡ true → is_word (slice_index after 0) ≡ false) →
+    next (spaces front ++ (written t ++ after)) ≡ lexed t after
 unfolding next
-next_laid front t after f h e = ap first (gap_spaces front (written t ++ after) f ∙ gap_written t after h) ∙ first_written t after h e
+next_laid front t after f h e = ap first
+    (gap_spaces front (written t ++ after) f ∙ gap_written t after h) ∙ first_written t after h e
 
 -- the token that is written first is read first
-pub first_next : (text : List ℕ) (t : Token) (rest : List ℕ) → IsFirst text t rest → next text ≡ Ok (Some t, rest)
+pub first_next : (text : List ℕ) (t : Token) (rest : List ℕ) → IsFirst text t rest →
+    next text ≡ Ok (Some t, rest)
 first_next text t rest k = ap next k.octets ∙ next_laid k.front t rest k.fronts k.token k.apart
 
-next_tail : (front : List Space) (tail : List ℕ) → AllByRecursion IsSpace front → IsTail tail → next (spaces front ++ tail) ≡ Ok (None, [])
+next_tail : (front : List Space) (tail : List ℕ) → AllByRecursion IsSpace front → IsTail tail →
+    next (spaces front ++ tail) ≡ Ok (None, [])
 unfolding next first
 next_tail front tail f h = ap first (gap_spaces front tail f ∙ gap_tail tail h)
 
-are_laid : (front : List Space) (ls : List Laid) (tail : List ℕ) → AllByRecursion IsSpace front → AreLaid ls tail → AreTokens (spaces front ++ printed ls tail) (map (λ l. l.token) ls)
+are_laid : (front : List Space) (ls : List Laid) (tail : List ℕ) → AllByRecursion IsSpace front →
+    AreLaid ls tail → AreTokens (spaces front ++ printed ls tail) (map (λ l. l.token) ls)
 are_laid front [] tail f h = next_tail front tail f h
-are_laid front (l ∷ ls) tail f h = (spaces l.after ++ printed ls tail, next_laid front l.token (spaces l.after ++ printed ls tail) f h.0 h.2, are_laid l.after ls tail h.1 h.3)
+are_laid front (l ∷ ls) tail f h = (
+  spaces l.after ++ printed ls tail,
+  next_laid front l.token (spaces l.after ++ printed ls tail) f h.0 h.2,
+  are_laid l.after ls tail h.1 h.3,
+)
 
 pub layout_tokens : (text : List ℕ) (ts : List Token) → IsLayout text ts → AreTokens text ts
 layout_tokens text ts k =
-    subst (λ (bs : List ℕ). AreTokens bs ts) (sym k.octets) (subst (λ (us : List Token). AreTokens (spaces k.front ++ printed k.laid k.tail) us) k.tokens (are_laid k.front k.laid k.tail k.fronts k.each))
+    subst (λ (bs : List ℕ). AreTokens bs ts) (sym k.octets)
+    (subst (λ (us : List Token). AreTokens (spaces k.front ++ printed k.laid k.tail) us)
+    k.tokens (are_laid k.front k.laid k.tail k.fronts k.each))

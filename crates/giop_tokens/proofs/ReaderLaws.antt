@@ -1,4 +1,5 @@
--- The readers of one token, both ways: what they give of a text of known tokens, and which tokens a text that they read has.
+-- The readers of one token, both ways: what they give of a text of known tokens, and which tokens a
+-- text that they read has.
 use Rattle.std.proofs.Common.{◌≡◌, ℕ, ◌≤◌, ◌<◌, Bool, true, false, cond, eqb, ltb, List, [], ◌∷◌, length, Option, Some, None, Result, Ok, Err, refl, sym, ap, subst, ◌∙◌}
 use Rattle.std.specs.Prelude.{option_and_then}
 use Rattle.std.specs.Str.{bytes_eq}
@@ -16,7 +17,8 @@ use Rattle.giop_tokens.proofs.WrittenLaws.{next_first}
 
 -- ---- Steps of a reading.
 
-pub bind_ok : {A B : Type 0} (r : Result A Refusal) (f : A → Result B Refusal) (y : B) → (r >>= f) ≡ Ok y → (x : A) × (r ≡ Ok x) × (f x ≡ Ok y)
+pub bind_ok : {A B : Type 0} (r : Result A Refusal) (f : A → Result B Refusal) (y : B) →
+    (r >>= f) ≡ Ok y → (x : A) × (r ≡ Ok x) × (f x ≡ Ok y)
 bind_ok (Ok x) f y e = (x, refl, e)
 bind_ok (Err d) f y e = absurd cc
 
@@ -32,36 +34,45 @@ some_is x y e = cc
 -- ---- A text of known tokens is read again.
 
 -- the reader gives the value of the token
-pub as_again : {X : Type 0} (tells : Token → Option X) (text : List ℕ) (t : Token) (ts : List Token) (x : X) (h : AreTokens text (t ∷ ts)) → tells t ≡ Some x → next_as tells text ≡ Ok (x, h.0)
+pub as_again : {X : Type 0} (tells : Token → Option X) (text : List ℕ) (t : Token) (ts : List Token)
+    (x : X) (h : AreTokens text (t ∷ ts)) → tells t ≡ Some x → next_as tells text ≡ Ok (x, h.0)
 unfolding next_as
 as_again tells text t ts x h e = rw (h.1, e) refl
 
 -- the reader refuses a token of another kind
-pub as_other : {X : Type 0} (tells : Token → Option X) (text : List ℕ) (t : Token) (ts : List Token) → AreTokens text (t ∷ ts) → tells t ≡ None → next_as tells text ≡ Err (misplaced text)
+pub as_other : {X : Type 0} (tells : Token → Option X) (text : List ℕ) (t : Token)
+    (ts : List Token) → AreTokens text (t ∷ ts) → tells t ≡ None →
+    next_as tells text ≡ Err (misplaced text)
 unfolding next_as
 as_other tells text t ts h e = rw (h.1, e) refl
 
-pub as_ended : {X : Type 0} (tells : Token → Option X) (text : List ℕ) → AreTokens text [] → next_as tells text ≡ Err (misplaced text)
+pub as_ended : {X : Type 0} (tells : Token → Option X) (text : List ℕ) → AreTokens text [] →
+    next_as tells text ≡ Err (misplaced text)
 unfolding next_as
 as_ended tells text h = rw h refl
 
-pub is_again : (is : Token → Bool) (text : List ℕ) (t : Token) (ts : List Token) (h : AreTokens text (t ∷ ts)) → is t ≡ true → next_is is text ≡ Ok h.0
+pub is_again : (is : Token → Bool) (text : List ℕ) (t : Token) (ts : List Token)
+    (h : AreTokens text (t ∷ ts)) → is t ≡ true → next_is is text ≡ Ok h.0
 unfolding next_is
 is_again is text t ts h e = rw (h.1, e) refl
 
-pub is_other : (is : Token → Bool) (text : List ℕ) (t : Token) (ts : List Token) → AreTokens text (t ∷ ts) → is t ≡ false → next_is is text ≡ Err (misplaced text)
+pub is_other : (is : Token → Bool) (text : List ℕ) (t : Token) (ts : List Token) →
+    AreTokens text (t ∷ ts) → is t ≡ false → next_is is text ≡ Err (misplaced text)
 unfolding next_is
 is_other is text t ts h e = rw (h.1, e) refl
 
-pub is_ended : (is : Token → Bool) (text : List ℕ) → AreTokens text [] → next_is is text ≡ Err (misplaced text)
+pub is_ended : (is : Token → Bool) (text : List ℕ) → AreTokens text [] →
+    next_is is text ≡ Err (misplaced text)
 unfolding next_is
 is_ended is text h = rw h refl
 
-pub if_again : (is : Token → Bool) (text : List ℕ) (t : Token) (ts : List Token) (h : AreTokens text (t ∷ ts)) → is t ≡ true → next_if is text ≡ Ok (Some h.0)
+pub if_again : (is : Token → Bool) (text : List ℕ) (t : Token) (ts : List Token)
+    (h : AreTokens text (t ∷ ts)) → is t ≡ true → next_if is text ≡ Ok (Some h.0)
 unfolding next_if
 if_again is text t ts h e = rw (h.1, e) refl
 
-pub if_other : (is : Token → Bool) (text : List ℕ) (t : Token) (ts : List Token) → AreTokens text (t ∷ ts) → is t ≡ false → next_if is text ≡ Ok None
+pub if_other : (is : Token → Bool) (text : List ℕ) (t : Token) (ts : List Token) →
+    AreTokens text (t ∷ ts) → is t ≡ false → next_if is text ≡ Ok None
 unfolding next_if
 if_other is text t ts h e = rw (h.1, e) refl
 
@@ -76,51 +87,67 @@ octet_self : (m : Mark) → eqb (octet_of m) (octet_of m) ≡ true
 octet_self marks.OpenBrace = refl
 octet_self _ = refl
 
-pub word_again : (text w : List ℕ) (ts : List Token) (h : AreTokens text (word w ∷ ts)) → word_at text ≡ Ok (w, h.0)
+pub word_again : (text w : List ℕ) (ts : List Token) (h : AreTokens text (word w ∷ ts)) →
+    word_at text ≡ Ok (w, h.0)
 word_again text w ts h = as_again as_word text (word w) ts w h refl
 
-pub number_again : (text : List ℕ) (n : ℕ) (ts : List Token) (h : AreTokens text (number n ∷ ts)) → number_at text ≡ Ok (n, h.0)
+pub number_again : (text : List ℕ) (n : ℕ) (ts : List Token) (h : AreTokens text (number n ∷ ts)) →
+    number_at text ≡ Ok (n, h.0)
 number_again text n ts h = as_again as_number text (number n) ts n h refl
 
-pub repository_again : (text r : List ℕ) (ts : List Token) (h : AreTokens text (repository r ∷ ts)) → repository_at text ≡ Ok (r, h.0)
+pub repository_again : (text r : List ℕ) (ts : List Token)
+    (h : AreTokens text (repository r ∷ ts)) → repository_at text ≡ Ok (r, h.0)
 repository_again text r ts h = as_again as_repository text (repository r) ts r h refl
 
-pub mark_again : (m : Mark) (text : List ℕ) (ts : List Token) (h : AreTokens text (mark m ∷ ts)) → mark_at m text ≡ Ok h.0
+pub mark_again : (m : Mark) (text : List ℕ) (ts : List Token) (h : AreTokens text (mark m ∷ ts)) →
+    mark_at m text ≡ Ok h.0
 mark_again m text ts h = is_again (is_the_mark m) text (mark m) ts h (octet_self m)
 
-pub keyword_again : (w text : List ℕ) (ts : List Token) (h : AreTokens text (word w ∷ ts)) → keyword_at w text ≡ Ok h.0
+pub keyword_again : (w text : List ℕ) (ts : List Token) (h : AreTokens text (word w ∷ ts)) →
+    keyword_at w text ≡ Ok h.0
 keyword_again w text ts h = is_again (is_the_word w) text (word w) ts h (bytes_self w)
 
-pub mark_if_again : (m : Mark) (text : List ℕ) (ts : List Token) (h : AreTokens text (mark m ∷ ts)) → mark_if m text ≡ Ok (Some h.0)
+pub mark_if_again : (m : Mark) (text : List ℕ) (ts : List Token)
+    (h : AreTokens text (mark m ∷ ts)) → mark_if m text ≡ Ok (Some h.0)
 mark_if_again m text ts h = if_again (is_the_mark m) text (mark m) ts h (octet_self m)
 
-pub keyword_if_again : (w text : List ℕ) (ts : List Token) (h : AreTokens text (word w ∷ ts)) → keyword_if w text ≡ Ok (Some h.0)
+pub keyword_if_again : (w text : List ℕ) (ts : List Token) (h : AreTokens text (word w ∷ ts)) →
+    keyword_if w text ≡ Ok (Some h.0)
 keyword_if_again w text ts h = if_again (is_the_word w) text (word w) ts h (bytes_self w)
 
 pub end_again : (text : List ℕ) → AreTokens text [] → end_at text ≡ Ok true
 unfolding end_at
 end_again text h = rw h refl
 
-pub end_other : (text : List ℕ) (t : Token) (ts : List Token) → AreTokens text (t ∷ ts) → end_at text ≡ Ok false
+pub end_other : (text : List ℕ) (t : Token) (ts : List Token) → AreTokens text (t ∷ ts) →
+    end_at text ≡ Ok false
 unfolding end_at
 end_other text t ts h = rw h.1 refl
 
 -- a name is read again, unless it is reserved or too long
-pub identifier_again : (text w : List ℕ) (ts : List Token) (h : AreTokens text (word w ∷ ts)) → is_reserved w ≡ false → length w ≤ 64 → identifier_at text ≡ Ok (w, h.0)
+pub identifier_again : (text w : List ℕ) (ts : List Token) (h : AreTokens text (word w ∷ ts)) →
+    is_reserved w ≡ false → length w ≤ 64 → identifier_at text ≡ Ok (w, h.0)
 unfolding identifier_at
-identifier_again text w ts h r few = let k : ltb 64 (length w) ≡ false = le-ltb 64 (length w) few in rw (word_again text w ts h, r, k) refl
+identifier_again text w ts h r few = let k : ltb 64 (length w) ≡ false = le-ltb 64 (length w) few in
+    rw (word_again text w ts h, r, k) refl
 
-pub identifier_long : (text w : List ℕ) (ts : List Token) → AreTokens text (word w ∷ ts) → is_reserved w ≡ false → 64 < length w → identifier_at text ≡ Err (too_long text)
+pub identifier_long : (text w : List ℕ) (ts : List Token) → AreTokens text (word w ∷ ts) →
+    is_reserved w ≡ false → 64 < length w → identifier_at text ≡ Err (too_long text)
 unfolding identifier_at
-identifier_long text w ts h r long = let k : ltb 64 (length w) ≡ true = lt-ltb 64 (length w) long in rw (word_again text w ts h, r, k) refl
+identifier_long text w ts h r long = let k : ltb 64 (length w) ≡ true = lt-ltb 64 (length w) long in
+    rw (word_again text w ts h, r, k) refl
 
-pub operation_name_again : (text w : List ℕ) (ts : List Token) (h : AreTokens text (word w ∷ ts)) → length w ≤ 128 → operation_name_at text ≡ Ok (w, h.0)
+pub operation_name_again : (text w : List ℕ) (ts : List Token) (h : AreTokens text (word w ∷ ts)) →
+    length w ≤ 128 → operation_name_at text ≡ Ok (w, h.0)
 unfolding operation_name_at
-operation_name_again text w ts h few = let k : ltb 128 (length w) ≡ false = le-ltb 128 (length w) few in rw (word_again text w ts h, k) refl
+operation_name_again text w ts h few = let k : ltb 128 (length w) ≡ false =
+    le-ltb 128 (length w) few in rw (word_again text w ts h, k) refl
 
-pub operation_name_long : (text w : List ℕ) (ts : List Token) → AreTokens text (word w ∷ ts) → 128 < length w → operation_name_at text ≡ Err (too_long text)
+pub operation_name_long : (text w : List ℕ) (ts : List Token) → AreTokens text (word w ∷ ts) →
+    128 < length w → operation_name_at text ≡ Err (too_long text)
 unfolding operation_name_at
-operation_name_long text w ts h long = let k : ltb 128 (length w) ≡ true = lt-ltb 128 (length w) long in rw (word_again text w ts h, k) refl
+operation_name_long text w ts h long = let k : ltb 128 (length w) ≡ true =
+    lt-ltb 128 (length w) long in rw (word_again text w ts h, k) refl
 
 -- ---- What a reader took is the text's first token.
 
@@ -128,43 +155,64 @@ operation_name_long text w ts h long = let k : ltb 128 (length w) ≡ true = lt-
 abbrev pub Takes : List ℕ → Token → List ℕ → Type 0
 Takes text t rest = (ts : List Token) → AreTokens rest ts → AreTokens text (t ∷ ts)
 
-next_takes : (text : List ℕ) (t : Token) (rest : List ℕ) → next text ≡ Ok (Some t, rest) → Takes text t rest
+next_takes : (text : List ℕ) (t : Token) (rest : List ℕ) → next text ≡ Ok (Some t, rest) →
+    Takes text t rest
 next_takes text t rest e = λ ts h. (rest, e, h)
 
-told_by : {X : Type 0} (tells : Token → Option X) (text : List ℕ) (t : Token) (rest : List ℕ) (x : X × List ℕ) (o : Option X) → tells t ≡ o → next text ≡ Ok (Some t, rest) → wanted (misplaced text) o rest ≡ Ok x → (s : Token) × (tells s ≡ Some x.0) × (next text ≡ Ok (Some s, x.1))
+told_by : {X : Type 0} (tells : Token → Option X) (text : List ℕ) (t : Token) (rest : List ℕ)
+    (x : X × List ℕ) (o : Option X) → tells t ≡ o → next text ≡ Ok (Some t, rest) →
+    wanted (misplaced text) o rest ≡ Ok x → (s : Token) × (tells s ≡ Some x.0)
+    × (next text ≡ Ok (Some s, x.1))
 told_by tells text t rest x None o n e = absurd cc
 told_by {X} tells text t rest x (Some y) o n e =
-    let same = ok_is (y, rest) x e in
-    (t, o ∙ ap (λ (z : X × List ℕ). Some z.0) same, n ∙ ap (λ (z : X × List ℕ). Ok (Some t, z.1)) same)
+    let same = ok_is (y, rest) x e in (
+      t,
+      o ∙ ap (λ (z : X × List ℕ). Some z.0) same,
+      n ∙ ap (λ (z : X × List ℕ). Ok (Some t, z.1)) same,
+    )
 
-wanted_by : {X : Type 0} (tells : Token → Option X) (text : List ℕ) (t : Option Token) (rest : List ℕ) (x : X × List ℕ) → next text ≡ Ok (t, rest) → wanted (misplaced text) (option_and_then tells t) rest ≡ Ok x → (s : Token) × (tells s ≡ Some x.0) × (next text ≡ Ok (Some s, x.1))
+wanted_by : {X : Type 0} (tells : Token → Option X) (text : List ℕ) (t : Option Token)
+    (rest : List ℕ) (x : X × List ℕ) → next text ≡ Ok (t, rest) →
+    wanted (misplaced text) (option_and_then tells t) rest ≡ Ok x → (s : Token)
+    × (tells s ≡ Some x.0) × (next text ≡ Ok (Some s, x.1))
 wanted_by tells text None rest x n e = absurd cc
 wanted_by tells text (Some t) rest x n e = told_by tells text t rest x (tells t) refl n e
 
 -- what is read follows from the first token
-pub as_takes : {X : Type 0} (tells : Token → Option X) (text : List ℕ) (x : X × List ℕ) → next_as tells text ≡ Ok x → (t : Token) × (tells t ≡ Some x.0) × (next text ≡ Ok (Some t, x.1))
+pub as_takes : {X : Type 0} (tells : Token → Option X) (text : List ℕ) (x : X × List ℕ) →
+    next_as tells text ≡ Ok x → (t : Token) × (tells t ≡ Some x.0) × (next text ≡ Ok (Some t, x.1))
 unfolding next_as
 as_takes tells text x e =
-    let a = bind_ok (next text) (λ t. wanted (misplaced text) (option_and_then tells t.0) t.1) x e in
+    let a = bind_ok (next text) (λ t. wanted (misplaced text) (option_and_then tells t.0) t.1) x e
+    in
     wanted_by tells text a.0.0 a.0.1 x a.1 a.2
 
-passed_by : (is : Token → Bool) (text : List ℕ) (t : Option Token) (b : Bool) (rest after : List ℕ) → passes is t ≡ b → next text ≡ Ok (t, rest) → cond b (done rest) (Err (misplaced text)) ≡ Ok after → (s : Token) × (is s ≡ true) × (next text ≡ Ok (Some s, after))
+passed_by : (is : Token → Bool) (text : List ℕ) (t : Option Token) (b : Bool)
+    (rest after : List ℕ) → passes is t ≡ b → next text ≡ Ok (t, rest) →
+    cond b (done rest) (Err (misplaced text)) ≡ Ok after → (s : Token) × (is s ≡ true)
+    × (next text ≡ Ok (Some s, after))
 passed_by is text t false rest after p n e = absurd cc
 passed_by is text None true rest after p n e = absurd cc
-passed_by is text (Some t) true rest after p n e = (t, p, n ∙ ap (λ (r : List ℕ). Ok (Some t, r)) (ok_is rest after e))
+passed_by is text (Some t) true rest after p n e =
+    (t, p, n ∙ ap (λ (r : List ℕ). Ok (Some t, r)) (ok_is rest after e))
 
-pub is_takes : (is : Token → Bool) (text after : List ℕ) → next_is is text ≡ Ok after → (t : Token) × (is t ≡ true) × (next text ≡ Ok (Some t, after))
+pub is_takes : (is : Token → Bool) (text after : List ℕ) → next_is is text ≡ Ok after → (t : Token)
+    × (is t ≡ true) × (next text ≡ Ok (Some t, after))
 unfolding next_is
 is_takes is text after e =
-    let a = bind_ok (next text) (λ t. cond (passes is t.0) (done t.1) (Err (misplaced text))) after e in
+    let a = bind_ok (next text) (λ t. cond (passes is t.0) (done t.1) (Err (misplaced text))) after
+    e in
     passed_by is text a.0.0 (passes is a.0.0) a.0.1 after refl a.1 a.2
 
-found_by : (is : Token → Bool) (text : List ℕ) (t : Option Token) (b : Bool) (rest after : List ℕ) → passes is t ≡ b → next text ≡ Ok (t, rest) → done (cond b (Some rest) None) ≡ Ok (Some after) → (s : Token) × (is s ≡ true) × (next text ≡ Ok (Some s, after))
+found_by : (is : Token → Bool) (text : List ℕ) (t : Option Token) (b : Bool) (rest after : List ℕ) →
+    passes is t ≡ b → next text ≡ Ok (t, rest) → done (cond b (Some rest) None) ≡ Ok (Some after) →
+    (s : Token) × (is s ≡ true) × (next text ≡ Ok (Some s, after))
 found_by is text t false rest after p n e = absurd cc
 found_by is text None true rest after p n e = absurd cc
 found_by is text (Some t) true rest after p n e = (t, p, n ∙ ap (λ (r : List ℕ). Ok (Some t, r)) cc)
 
-pub if_takes : (is : Token → Bool) (text after : List ℕ) → next_if is text ≡ Ok (Some after) → (t : Token) × (is t ≡ true) × (next text ≡ Ok (Some t, after))
+pub if_takes : (is : Token → Bool) (text after : List ℕ) → next_if is text ≡ Ok (Some after) →
+    (t : Token) × (is t ≡ true) × (next text ≡ Ok (Some t, after))
 unfolding next_if
 if_takes is text after e =
     let a = bind_ok (next text) (λ t. Ok (cond (passes is t.0) (Some t.1) None)) (Some after) e in
@@ -202,80 +250,116 @@ keyword_told w (word v) e = ap word ((bytes_eq-Decides v w).0 e)
 keyword_told w _ e = absurd cc
 
 -- the first token, where it is known to be another
-first_is : (text : List ℕ) (s t : Token) (rest : List ℕ) → next text ≡ Ok (Some s, rest) → s ≡ t → next text ≡ Ok (Some t, rest)
+first_is : (text : List ℕ) (s t : Token) (rest : List ℕ) → next text ≡ Ok (Some s, rest) → s ≡ t →
+    next text ≡ Ok (Some t, rest)
 first_is text s t rest n e = n ∙ ap (λ (k : Token). Ok (Some k, rest)) e
 
-pub word_next : (text : List ℕ) (x : List ℕ × List ℕ) → word_at text ≡ Ok x → next text ≡ Ok (Some (word x.0), x.1)
-word_next text x e = let k = as_takes as_word text x e in first_is text k.0 (word x.0) x.1 k.2 (word_told k.0 x.0 k.1)
+pub word_next : (text : List ℕ) (x : List ℕ × List ℕ) → word_at text ≡ Ok x →
+    next text ≡ Ok (Some (word x.0), x.1)
+word_next text x e = let k = as_takes as_word text x e in
+    first_is text k.0 (word x.0) x.1 k.2 (word_told k.0 x.0 k.1)
 
-pub number_next : (text : List ℕ) (x : ℕ × List ℕ) → number_at text ≡ Ok x → next text ≡ Ok (Some (number x.0), x.1)
-number_next text x e = let k = as_takes as_number text x e in first_is text k.0 (number x.0) x.1 k.2 (number_told k.0 x.0 k.1)
+pub number_next : (text : List ℕ) (x : ℕ × List ℕ) → number_at text ≡ Ok x →
+    next text ≡ Ok (Some (number x.0), x.1)
+number_next text x e = let k = as_takes as_number text x e in
+    first_is text k.0 (number x.0) x.1 k.2 (number_told k.0 x.0 k.1)
 
-pub repository_next : (text : List ℕ) (x : List ℕ × List ℕ) → repository_at text ≡ Ok x → next text ≡ Ok (Some (repository x.0), x.1)
-repository_next text x e = let k = as_takes as_repository text x e in first_is text k.0 (repository x.0) x.1 k.2 (repository_told k.0 x.0 k.1)
+pub repository_next : (text : List ℕ) (x : List ℕ × List ℕ) → repository_at text ≡ Ok x →
+    next text ≡ Ok (Some (repository x.0), x.1)
+repository_next text x e = let k = as_takes as_repository text x e in
+    first_is text k.0 (repository x.0) x.1 k.2 (repository_told k.0 x.0 k.1)
 
-pub mark_next : (m : Mark) (text rest : List ℕ) → mark_at m text ≡ Ok rest → next text ≡ Ok (Some (mark m), rest)
-mark_next m text rest e = let k = is_takes (is_the_mark m) text rest e in first_is text k.0 (mark m) rest k.2 (mark_told m k.0 k.1)
+pub mark_next : (m : Mark) (text rest : List ℕ) → mark_at m text ≡ Ok rest →
+    next text ≡ Ok (Some (mark m), rest)
+mark_next m text rest e = let k = is_takes (is_the_mark m) text rest e in
+    first_is text k.0 (mark m) rest k.2 (mark_told m k.0 k.1)
 
-pub keyword_next : (w text rest : List ℕ) → keyword_at w text ≡ Ok rest → next text ≡ Ok (Some (word w), rest)
-keyword_next w text rest e = let k = is_takes (is_the_word w) text rest e in first_is text k.0 (word w) rest k.2 (keyword_told w k.0 k.1)
+pub keyword_next : (w text rest : List ℕ) → keyword_at w text ≡ Ok rest →
+    next text ≡ Ok (Some (word w), rest)
+keyword_next w text rest e = let k = is_takes (is_the_word w) text rest e in
+    first_is text k.0 (word w) rest k.2 (keyword_told w k.0 k.1)
 
-pub mark_if_next : (m : Mark) (text rest : List ℕ) → mark_if m text ≡ Ok (Some rest) → next text ≡ Ok (Some (mark m), rest)
-mark_if_next m text rest e = let k = if_takes (is_the_mark m) text rest e in first_is text k.0 (mark m) rest k.2 (mark_told m k.0 k.1)
+pub mark_if_next : (m : Mark) (text rest : List ℕ) → mark_if m text ≡ Ok (Some rest) →
+    next text ≡ Ok (Some (mark m), rest)
+mark_if_next m text rest e = let k = if_takes (is_the_mark m) text rest e in
+    first_is text k.0 (mark m) rest k.2 (mark_told m k.0 k.1)
 
-pub keyword_if_next : (w text rest : List ℕ) → keyword_if w text ≡ Ok (Some rest) → next text ≡ Ok (Some (word w), rest)
-keyword_if_next w text rest e = let k = if_takes (is_the_word w) text rest e in first_is text k.0 (word w) rest k.2 (keyword_told w k.0 k.1)
+pub keyword_if_next : (w text rest : List ℕ) → keyword_if w text ≡ Ok (Some rest) →
+    next text ≡ Ok (Some (word w), rest)
+keyword_if_next w text rest e = let k = if_takes (is_the_word w) text rest e in
+    first_is text k.0 (word w) rest k.2 (keyword_told w k.0 k.1)
 
 -- the text has the token that was read, and then what the rest has
-pub word_takes : (text : List ℕ) (x : List ℕ × List ℕ) → word_at text ≡ Ok x → Takes text (word x.0) x.1
+pub word_takes : (text : List ℕ) (x : List ℕ × List ℕ) → word_at text ≡ Ok x →
+    Takes text (word x.0) x.1
 word_takes text x e = next_takes text (word x.0) x.1 (word_next text x e)
 
-pub number_takes : (text : List ℕ) (x : ℕ × List ℕ) → number_at text ≡ Ok x → Takes text (number x.0) x.1
+pub number_takes : (text : List ℕ) (x : ℕ × List ℕ) → number_at text ≡ Ok x →
+    Takes text (number x.0) x.1
 number_takes text x e = next_takes text (number x.0) x.1 (number_next text x e)
 
-pub repository_takes : (text : List ℕ) (x : List ℕ × List ℕ) → repository_at text ≡ Ok x → Takes text (repository x.0) x.1
+pub repository_takes : (text : List ℕ) (x : List ℕ × List ℕ) → repository_at text ≡ Ok x →
+    Takes text (repository x.0) x.1
 repository_takes text x e = next_takes text (repository x.0) x.1 (repository_next text x e)
 
-pub mark_takes : (m : Mark) (text rest : List ℕ) → mark_at m text ≡ Ok rest → Takes text (mark m) rest
+pub mark_takes : (m : Mark) (text rest : List ℕ) → mark_at m text ≡ Ok rest →
+    Takes text (mark m) rest
 mark_takes m text rest e = next_takes text (mark m) rest (mark_next m text rest e)
 
 pub keyword_takes : (w text rest : List ℕ) → keyword_at w text ≡ Ok rest → Takes text (word w) rest
 keyword_takes w text rest e = next_takes text (word w) rest (keyword_next w text rest e)
 
-pub mark_if_takes : (m : Mark) (text rest : List ℕ) → mark_if m text ≡ Ok (Some rest) → Takes text (mark m) rest
+pub mark_if_takes : (m : Mark) (text rest : List ℕ) → mark_if m text ≡ Ok (Some rest) →
+    Takes text (mark m) rest
 mark_if_takes m text rest e = next_takes text (mark m) rest (mark_if_next m text rest e)
 
-pub keyword_if_takes : (w text rest : List ℕ) → keyword_if w text ≡ Ok (Some rest) → Takes text (word w) rest
+pub keyword_if_takes : (w text rest : List ℕ) → keyword_if w text ≡ Ok (Some rest) →
+    Takes text (word w) rest
 keyword_if_takes w text rest e = next_takes text (word w) rest (keyword_if_next w text rest e)
 
 -- a repository id that was read is not too long, since a longer one is no token
-pub repository_few : (text : List ℕ) (x : List ℕ × List ℕ) → repository_at text ≡ Ok x → length x.0 ≤ 128
-repository_few text x e = (next_first text (repository x.0) x.1 (repository_next text x e)).token.few
+pub repository_few : (text : List ℕ) (x : List ℕ × List ℕ) → repository_at text ≡ Ok x →
+    length x.0 ≤ 128
+repository_few text x e = (next_first text (repository x.0) x.1
+    (repository_next text x e)).token.few
 
 -- a name that was read: a word that isn't reserved and is not too long
-name_by : (text : List ℕ) (w x : List ℕ × List ℕ) (b c : Bool) → is_reserved w.0 ≡ b → ltb 64 (length w.0) ≡ c → word_at text ≡ Ok w
-    → cond b (Err (misplaced text)) (cond c (Err (too_long text)) (done (w.0, w.1))) ≡ Ok x → (word_at text ≡ Ok x) × (is_reserved x.0 ≡ false) × (length x.0 ≤ 64)
+name_by : (text : List ℕ) (w x : List ℕ × List ℕ) (b c : Bool) → is_reserved w.0 ≡ b →
+    ltb 64 (length w.0) ≡ c → word_at text ≡ Ok w
+    → cond b (Err (misplaced text)) (cond c (Err (too_long text)) (done (w.0, w.1))) ≡ Ok x →
+    (word_at text ≡ Ok x) × (is_reserved x.0 ≡ false) × (length x.0 ≤ 64)
 name_by text w x true c p q n e = absurd cc
 name_by text w x false true p q n e = absurd cc
 name_by text w x false false p q n e =
-    let same : (w.0, w.1) ≡ x = ok_is (w.0, w.1) x e in
-    (n ∙ ap (λ (y : List ℕ × List ℕ). Ok y) same, subst (λ (y : List ℕ × List ℕ). is_reserved y.0 ≡ false) same p, subst (λ (y : List ℕ × List ℕ). length y.0 ≤ 64) same (ltb-false 64 (length w.0) q))
+    let same : (w.0, w.1) ≡ x = ok_is (w.0, w.1) x e in (
+      n ∙ ap (λ (y : List ℕ × List ℕ). Ok y) same,
+      subst (λ (y : List ℕ × List ℕ). is_reserved y.0 ≡ false) same p,
+      subst (λ (y : List ℕ × List ℕ). length y.0 ≤ 64) same (ltb-false 64 (length w.0) q),
+    )
 
-pub identifier_word : (text : List ℕ) (x : List ℕ × List ℕ) → identifier_at text ≡ Ok x → (word_at text ≡ Ok x) × (is_reserved x.0 ≡ false) × (length x.0 ≤ 64)
+pub identifier_word : (text : List ℕ) (x : List ℕ × List ℕ) → identifier_at text ≡ Ok x →
+    (word_at text ≡ Ok x) × (is_reserved x.0 ≡ false) × (length x.0 ≤ 64)
 unfolding identifier_at
 identifier_word text x e =
-    let a = bind_ok (word_at text) (λ w. cond (is_reserved w.0) (Err (misplaced text)) (cond (ltb 64 (length w.0)) (Err (too_long text)) (done (w.0, w.1)))) x e in
+    let a = bind_ok (word_at text) (λ w. cond (is_reserved w.0) (Err (misplaced text))
+    (cond (ltb 64 (length w.0)) (Err (too_long text)) (done (w.0, w.1)))) x e in
     name_by text a.0 x (is_reserved a.0.0) (ltb 64 (length a.0.0)) refl refl a.1 a.2
 
-operation_by : (text : List ℕ) (w x : List ℕ × List ℕ) (c : Bool) → ltb 128 (length w.0) ≡ c → word_at text ≡ Ok w
-    → cond c (Err (too_long text)) (done (w.0, w.1)) ≡ Ok x → (word_at text ≡ Ok x) × (length x.0 ≤ 128)
+operation_by : (text : List ℕ) (w x : List ℕ × List ℕ) (c : Bool) → ltb 128 (length w.0) ≡ c →
+    word_at text ≡ Ok w
+    → cond c (Err (too_long text)) (done (w.0, w.1)) ≡ Ok x → (word_at text ≡ Ok x)
+    × (length x.0 ≤ 128)
 operation_by text w x true q n e = absurd cc
 operation_by text w x false q n e =
-    let same : (w.0, w.1) ≡ x = ok_is (w.0, w.1) x e in
-    (n ∙ ap (λ (y : List ℕ × List ℕ). Ok y) same, subst (λ (y : List ℕ × List ℕ). length y.0 ≤ 128) same (ltb-false 128 (length w.0) q))
+    let same : (w.0, w.1) ≡ x = ok_is (w.0, w.1) x e in (
+      n ∙ ap (λ (y : List ℕ × List ℕ). Ok y) same,
+      subst (λ (y : List ℕ × List ℕ). length y.0 ≤ 128) same (ltb-false 128 (length w.0) q),
+    )
 
-pub operation_name_word : (text : List ℕ) (x : List ℕ × List ℕ) → operation_name_at text ≡ Ok x → (word_at text ≡ Ok x) × (length x.0 ≤ 128)
+pub operation_name_word : (text : List ℕ) (x : List ℕ × List ℕ) → operation_name_at text ≡ Ok x →
+    (word_at text ≡ Ok x) × (length x.0 ≤ 128)
 unfolding operation_name_at
 operation_name_word text x e =
-    let a = bind_ok (word_at text) (λ w. cond (ltb 128 (length w.0)) (Err (too_long text)) (done (w.0, w.1))) x e in
+    let a = bind_ok (word_at text) (λ w. cond (ltb 128 (length w.0)) (Err (too_long text))
+    (done (w.0, w.1))) x e in
     operation_by text a.0 x (ltb 128 (length a.0.0)) refl a.1 a.2

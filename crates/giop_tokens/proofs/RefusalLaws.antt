@@ -17,21 +17,31 @@ err_is d e h = cc
 not_both : {A : Type 0} (x : A) (e : Refusal) → Ok x ≡ failed e → ⊥
 not_both x e h = cc
 
-as_token_refused : (text rest : List ℕ) (o : Option Token) (r : Refusal) → as_token text o rest ≡ Err r → r ≡ record { kind = kinds.Token; left = length text }
-as_token_refused text rest None r e = sym (err_is (record { kind = kinds.Token; left = length text }) r e)
+as_token_refused : (text rest : List ℕ) (o : Option Token) (r : Refusal) →
+    as_token text o rest ≡ Err r → r ≡ record { kind = kinds.Token; left = length text }
+as_token_refused text rest None r e = sym (err_is
+    (record { kind = kinds.Token; left = length text }) r e)
 as_token_refused text rest (Some t) r e = absurd (not_both (Some t, rest) r e)
 
 first_refused_by : (b : ℕ) (bs : List ℕ) (r : Refusal) (u v w : Bool)
     → cond u (as_token (b ∷ bs) (word_token (run is_word (b ∷ bs))) (past is_word (b ∷ bs)))
     (cond v (as_token (b ∷ bs) (below_zero (number_of (run is_word bs))) (past is_word bs))
-    (cond w (as_token (b ∷ bs) (repository_token (run is_id bs) (past is_id bs)) (drop 1 (past is_id bs)))
-    (as_token (b ∷ bs) (option_map mark (mark_of b)) bs))) ≡ Err r → r ≡ record { kind = kinds.Token; left = length (b ∷ bs) }
-first_refused_by b bs r true v w h = as_token_refused (b ∷ bs) (past is_word (b ∷ bs)) (word_token (run is_word (b ∷ bs))) r h
-first_refused_by b bs r false true w h = as_token_refused (b ∷ bs) (past is_word bs) (below_zero (number_of (run is_word bs))) r h
-first_refused_by b bs r false false true h = as_token_refused (b ∷ bs) (drop 1 (past is_id bs)) (repository_token (run is_id bs) (past is_id bs)) r h
-first_refused_by b bs r false false false h = as_token_refused (b ∷ bs) bs (option_map mark (mark_of b)) r h
+    (cond w (as_token (b ∷ bs) (repository_token (run is_id bs) (past is_id bs))
+    (drop 1 (past is_id bs)))
+    (as_token (b ∷ bs) (option_map mark (mark_of b)) bs))) ≡ Err r →
+    r ≡ record { kind = kinds.Token; left = length (b ∷ bs) }
+first_refused_by b bs r true v w h = as_token_refused (b ∷ bs) (past is_word (b ∷ bs))
+    (word_token (run is_word (b ∷ bs))) r h
+first_refused_by b bs r false true w h =
+    as_token_refused (b ∷ bs) (past is_word bs) (below_zero (number_of (run is_word bs))) r h
+first_refused_by b bs r false false true h =
+    as_token_refused (b ∷ bs) (drop 1 (past is_id bs))
+    (repository_token (run is_id bs) (past is_id bs)) r h
+first_refused_by b bs r false false false h =
+    as_token_refused (b ∷ bs) bs (option_map mark (mark_of b)) r h
 
-first_refused : (text : List ℕ) (r : Refusal) → first text ≡ Err r → r ≡ record { kind = kinds.Token; left = length text }
+first_refused : (text : List ℕ) (r : Refusal) → first text ≡ Err r →
+    r ≡ record { kind = kinds.Token; left = length text }
 unfolding first
 first_refused [] r e = absurd (not_both (None, []) r e)
 first_refused (b ∷ bs) r e = first_refused_by b bs r (is_word b) (eqb b 45) (eqb b 34) e
@@ -42,6 +52,7 @@ unfolding next
 next_refused text r e = first_refused (gap false text) r e
 
 -- a text that goes on with no token has no list of tokens
-pub no_tokens : (text : List ℕ) (r : Refusal) → next text ≡ Err r → (ts : List Token) → AreTokens text ts → ⊥
+pub no_tokens : (text : List ℕ) (r : Refusal) → next text ≡ Err r → (ts : List Token) →
+    AreTokens text ts → ⊥
 no_tokens text r e [] h = not_both (None, []) r (sym h ∙ e)
 no_tokens text r e (t ∷ ts) h = not_both (Some t, h.0) r (sym h.1 ∙ e)

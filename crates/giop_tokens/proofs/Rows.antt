@@ -6,15 +6,34 @@ use Rattle.giop_tokens.specs.declared.marks.Mark.TheVariants as marks
 use Rattle.giop_tokens.specs.Marks.{mark_of}
 use Rattle.giop_tokens.specs.Tokens.{word, number, negative, repository, mark, gap, is_number, first, next, AreTokens}
 
-member : AreTokens (codes "long x[12];// end") (word (codes "long") ∷ word (codes "x") ∷ mark marks.OpenBracket ∷ number 12 ∷ mark marks.CloseBracket ∷ mark marks.Semicolon ∷ [])
+member : AreTokens (codes "long x[12];// end")
+    (word (codes "long") ∷ word (codes "x") ∷ mark marks.OpenBracket ∷ number 12 ∷ mark
+    marks.CloseBracket ∷ mark marks.Semicolon ∷ [])
 unfolding next first gap is_number mark_of
-member = (codes " x[12];// end", refl, (codes "[12];// end", refl, (codes "12];// end", refl, (codes "];// end", refl, (codes ";// end", refl, (codes "// end", refl, refl))))))
+member = (
+  codes " x[12];// end",
+  refl,
+  (
+    codes "[12];// end",
+    refl,
+    (
+      codes "12];// end",
+      refl,
+      (
+        codes "];// end",
+        refl,
+        (codes ";// end", refl, (codes "// end", refl, refl)),
+      ),
+    ),
+  ),
+)
 
 label : next (codes "-32768:") ≡ Ok (Some (negative 32768), codes ":")
 unfolding next first gap is_number
 label = refl
 
-exception : next (codes "\"IDL:a//b:1.0\"{}") ≡ Ok (Some (repository (codes "IDL:a//b:1.0")), codes "{}")
+exception : next (codes "\"IDL:a//b:1.0\"{}")
+    ≡ Ok (Some (repository (codes "IDL:a//b:1.0")), codes "{}")
 unfolding next first gap
 exception = refl
 

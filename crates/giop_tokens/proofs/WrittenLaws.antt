@@ -29,21 +29,57 @@ pub record Ends (text c rest : List ℕ) : Type 0 where
   pub split : Split rest
 
 abbrev SplitFrom : Bool → List ℕ → Type 0
-SplitFrom true text = (c : List ℕ) × IsLine c × (((rest : List ℕ) × Ends text c rest) ⊎ ((text ≡ c) × (gap true text ≡ [])))
+SplitFrom true text = (c : List ℕ) × IsLine c
+    × (((rest : List ℕ) × Ends text c rest) ⊎ ((text ≡ c) × (gap true text ≡ [])))
 SplitFrom false text = Split text
 
 line_on : (b : ℕ) (bs : List ℕ) → eqb b 10 ≡ false → SplitFrom true bs → SplitFrom true (b ∷ bs)
 unfolding gap
-line_on b bs e (c, l, inl (rest, k)) = (b ∷ c, (λ z. eqb-false b 10 e z, l), inl (rest, record { parts = ap (λ (x : List ℕ). b ∷ x) k.parts; gaps = rw e k.gaps; split = k.split }))
-line_on b bs e (c, l, inr k) = (b ∷ c, (λ z. eqb-false b 10 e z, l), inr (ap (λ (x : List ℕ). b ∷ x) k.0, rw e k.1))
+line_on b bs e (c, l, inl (rest, k)) = (
+  b ∷ c,
+  (λ z. eqb-false b 10 e z, l),
+  inl (
+    rest,
+    record {
+      parts = ap (λ (x : List ℕ). b ∷ x) k.parts;
+      gaps = rw e k.gaps;
+      split =
+          k.split;
+    },
+  ),
+)
+line_on b bs e (c, l, inr k) = (
+  b ∷ c,
+  (λ z. eqb-false b 10 e z, l),
+  inr (ap (λ (x : List ℕ). b ∷ x) k.0, rw e k.1),
+)
 
 line_end : (b : ℕ) (bs : List ℕ) → eqb b 10 ≡ true → Split bs → SplitFrom true (b ∷ bs)
 unfolding gap
-line_end b bs e s = ([], tt, inl (bs, record { parts = ap (λ (k : ℕ). k ∷ bs) (eqb-true b 10 e); gaps = rw e refl; split = s }))
+line_end b bs e s = (
+  [],
+  tt,
+  inl (
+    bs,
+    record {
+      parts = ap (λ (k : ℕ). k ∷ bs) (eqb-true b 10 e);
+      gaps = rw e refl;
+      split = s;
+    },
+  ),
+)
 
-white_on : (b : ℕ) (bs : List ℕ) → gap false (b ∷ bs) ≡ gap false bs → is_white b ≡ true → Split bs → Split (b ∷ bs)
-white_on b bs g w s = record { front = white b ∷ s.front; tail = s.tail; fronts = (w, s.fronts); parts = ap (λ (x : List ℕ). b ∷ x) s.parts; gaps = white_by s.gaps } where
-  white_by : (gap false bs ≡ s.tail) ⊎ ((gap false bs ≡ []) × IsTail s.tail) → (gap false (b ∷ bs) ≡ s.tail) ⊎ ((gap false (b ∷ bs) ≡ []) × IsTail s.tail)
+white_on : (b : ℕ) (bs : List ℕ) → gap false (b ∷ bs) ≡ gap false bs → is_white b ≡ true →
+    Split bs → Split (b ∷ bs)
+white_on b bs g w s = record {
+  front = white b ∷ s.front;
+  tail = s.tail;
+  fronts = (w, s.fronts);
+  parts = ap (λ (x : List ℕ). b ∷ x) s.parts;
+  gaps = white_by s.gaps;
+} where
+  white_by : (gap false bs ≡ s.tail) ⊎ ((gap false bs ≡ []) × IsTail s.tail) →
+      (gap false (b ∷ bs) ≡ s.tail) ⊎ ((gap false (b ∷ bs) ≡ []) × IsTail s.tail)
   white_by (inl e) = inl (g ∙ e)
   white_by (inr k) = inr (g ∙ k.0, k.1)
 
@@ -51,38 +87,53 @@ stop_here : (b : ℕ) (bs : List ℕ) → gap false (b ∷ bs) ≡ b ∷ bs → 
 stop_here b bs g = record { front = []; tail = b ∷ bs; fronts = tt; parts = refl; gaps = inl g }
 
 -- the second slash is the first octet of what the line holds
-slashes_by : (b : ℕ) (bs c : List ℕ) → eqb b 47 ≡ true → eqb (slice_index bs 0) 47 ≡ true → gap false (b ∷ bs) ≡ gap true bs → IsLine c
+slashes_by : (b : ℕ) (bs c : List ℕ) → eqb b 47 ≡ true → eqb (slice_index bs 0) 47 ≡ true →
+    gap false (b ∷ bs) ≡ gap true bs → IsLine c
     → (((rest : List ℕ) × Ends bs c rest) ⊎ ((bs ≡ c) × (gap true bs ≡ []))) → Split (b ∷ bs)
-slashes_by b bs [] e f g l (inl (rest, k)) = absurd (eqb-false 10 47 refl (sym (ap (λ (x : List ℕ). slice_index x 0) k.parts) ∙ eqb-true (slice_index bs 0) 47 f))
-slashes_by b bs [] e f g l (inr k) = absurd (eqb-false 0 47 refl (sym (ap (λ (x : List ℕ). slice_index x 0) k.0) ∙ eqb-true (slice_index bs 0) 47 f))
+slashes_by b bs [] e f g l (inl (rest, k)) =
+    absurd (eqb-false 10 47 refl (sym (ap (λ (x : List ℕ). slice_index x 0) k.parts)
+    ∙ eqb-true (slice_index bs 0) 47 f))
+slashes_by b bs [] e f g l (inr k) = absurd
+    (eqb-false 0 47 refl (sym (ap (λ (x : List ℕ). slice_index x 0) k.0)
+    ∙ eqb-true (slice_index bs 0) 47 f))
 slashes_by b bs (d ∷ c) e f g l (inl (rest, k)) =
-    let s : d ≡ 47 = sym (ap (λ (x : List ℕ). slice_index x 0) k.parts) ∙ eqb-true (slice_index bs 0) 47 f in
+    let s : d ≡ 47 = sym (ap (λ (x : List ℕ). slice_index x 0) k.parts)
+    ∙ eqb-true (slice_index bs 0) 47 f in
     let t : bs ≡ 47 ∷ (c ++ 10 ∷ rest) = k.parts ∙ ap (λ (x : ℕ). x ∷ (c ++ 10 ∷ rest)) s in
     let u : c ++ 10 ∷ rest ≡ (c ++ 10 ∷ []) ++ rest = sym (append_assoc c (10 ∷ []) rest) in
-    let v : (c ++ 10 ∷ []) ++ rest ≡ (c ++ 10 ∷ []) ++ (spaces k.split.front ++ k.split.tail) = ap (λ (x : List ℕ). (c ++ 10 ∷ []) ++ x) k.split.parts in
-    let w : (c ++ 10 ∷ []) ++ (spaces k.split.front ++ k.split.tail) ≡ ((c ++ 10 ∷ []) ++ spaces k.split.front) ++ k.split.tail = sym (append_assoc (c ++ 10 ∷ []) (spaces k.split.front) k.split.tail) in
+    let v : (c ++ 10 ∷ []) ++ rest ≡ (c ++ 10 ∷ []) ++ (spaces k.split.front ++ k.split.tail) =
+    ap (λ (x : List ℕ). (c ++ 10 ∷ []) ++ x) k.split.parts in
+    let w : (c ++ 10 ∷ []) ++ (spaces k.split.front ++ k.split.tail)
+    ≡ ((c ++ 10 ∷ []) ++ spaces k.split.front) ++ k.split.tail =
+    sym (append_assoc (c ++ 10 ∷ []) (spaces k.split.front) k.split.tail) in
     record {
       front = comment c ∷ k.split.front;
       tail = k.split.tail;
       fronts = (l.1, k.split.fronts);
-      parts = ap (λ (x : ℕ). x ∷ bs) (eqb-true b 47 e) ∙ ap (λ (x : List ℕ). 47 ∷ x) (t ∙ ap (λ (x : List ℕ). 47 ∷ x) (u ∙ v ∙ w));
-      gaps = subst (λ (x : List ℕ). (x ≡ k.split.tail) ⊎ ((x ≡ []) × IsTail k.split.tail)) (sym (g ∙ k.gaps)) k.split.gaps;
+      parts = ap (λ (x : ℕ). x ∷ bs) (eqb-true b 47 e)
+          ∙ ap (λ (x : List ℕ). 47 ∷ x) (t ∙ ap (λ (x : List ℕ). 47 ∷ x) (u ∙ v ∙ w));
+      gaps = subst (λ (x : List ℕ). (x ≡ k.split.tail) ⊎ ((x ≡ []) × IsTail k.split.tail))
+          (sym (g ∙ k.gaps)) k.split.gaps;
     }
 slashes_by b bs (d ∷ c) e f g l (inr k) =
-    let s : d ≡ 47 = sym (ap (λ (x : List ℕ). slice_index x 0) k.0) ∙ eqb-true (slice_index bs 0) 47 f in
+    let s : d ≡ 47 = sym (ap (λ (x : List ℕ). slice_index x 0) k.0)
+    ∙ eqb-true (slice_index bs 0) 47 f in
     record {
       front = [];
       tail = 47 ∷ 47 ∷ c;
       fronts = tt;
-      parts = ap (λ (x : ℕ). x ∷ bs) (eqb-true b 47 e) ∙ ap (λ (x : List ℕ). 47 ∷ x) (k.0 ∙ ap (λ (x : ℕ). x ∷ c) s);
+      parts = ap (λ (x : ℕ). x ∷ bs) (eqb-true b 47 e)
+          ∙ ap (λ (x : List ℕ). 47 ∷ x) (k.0 ∙ ap (λ (x : ℕ). x ∷ c) s);
       gaps = inr (g ∙ k.1, inr (c, l.1, refl));
     }
 
-slashes_on : (b : ℕ) (bs : List ℕ) → eqb b 47 ≡ true → eqb (slice_index bs 0) 47 ≡ true → SplitFrom true bs → Split (b ∷ bs)
+slashes_on : (b : ℕ) (bs : List ℕ) → eqb b 47 ≡ true → eqb (slice_index bs 0) 47 ≡ true →
+    SplitFrom true bs → Split (b ∷ bs)
 unfolding gap
 slashes_on b bs e f (c, l, k) = slashes_by b bs c e f (rw (e, f) refl) l k
 
-split_step : (b : ℕ) (bs : List ℕ) (u v w : Bool) → eqb b 47 ≡ u → eqb (slice_index bs 0) 47 ≡ v → is_white b ≡ w → Split bs → SplitFrom true bs → Split (b ∷ bs)
+split_step : (b : ℕ) (bs : List ℕ) (u v w : Bool) → eqb b 47 ≡ u → eqb (slice_index bs 0) 47 ≡ v →
+    is_white b ≡ w → Split bs → SplitFrom true bs → Split (b ∷ bs)
 unfolding gap
 split_step b bs true true w e f g s c = slashes_on b bs e f c
 split_step b bs true false true e f g s c = white_on b bs (rw (e, f, g) refl) g s
@@ -90,16 +141,22 @@ split_step b bs true false false e f g s c = stop_here b bs (rw (e, f, g) refl)
 split_step b bs false v true e f g s c = white_on b bs (rw (e, g) refl) g s
 split_step b bs false v false e f g s c = stop_here b bs (rw (e, g) refl)
 
-line_step : (b : ℕ) (bs : List ℕ) (v : Bool) → eqb b 10 ≡ v → Split bs → SplitFrom true bs → SplitFrom true (b ∷ bs)
+line_step : (b : ℕ) (bs : List ℕ) (v : Bool) → eqb b 10 ≡ v → Split bs → SplitFrom true bs →
+    SplitFrom true (b ∷ bs)
 line_step b bs true e s c = line_end b bs e s
 line_step b bs false e s c = line_on b bs e c
 
 split_from : (text : List ℕ) → Split text × SplitFrom true text
 unfolding gap
-split_from [] = (record { front = []; tail = []; fronts = tt; parts = refl; gaps = inl refl }, ([], tt, inr (refl, refl)))
+split_from [] = (
+  record { front = []; tail = []; fronts = tt; parts = refl; gaps = inl refl },
+  ([], tt, inr (refl, refl)),
+)
 split_from (b ∷ bs) =
-    let k = split_from bs in
-    (split_step b bs (eqb b 47) (eqb (slice_index bs 0) 47) (is_white b) refl refl refl k.0 k.1, line_step b bs (eqb b 10) refl k.0 k.1)
+    let k = split_from bs in (
+      split_step b bs (eqb b 47) (eqb (slice_index bs 0) 47) (is_white b) refl refl refl k.0 k.1,
+      line_step b bs (eqb b 10) refl k.0 k.1,
+    )
 
 pub split : (text : List ℕ) → Split text
 split text = (split_from text).0
@@ -116,24 +173,31 @@ run_past : (is : ℕ → Bool) (text : List ℕ) → run is text ++ past is text
 run_past is text = take-append-drop (prefix_len is text) text
 
 run_step : (is : ℕ → Bool) (b : ℕ) (bs : List ℕ) → is b ≡ true → run is (b ∷ bs) ≡ b ∷ run is bs
-run_step is b bs e = let k : 1 + prefix_len is bs ≡ suc (prefix_len is bs) = omega arith in rw (e, k) refl
+run_step is b bs e = let k : 1 + prefix_len is bs ≡ suc (prefix_len is bs) = omega arith in
+    rw (e, k) refl
 
 past_step : (is : ℕ → Bool) (b : ℕ) (bs : List ℕ) → is b ≡ true → past is (b ∷ bs) ≡ past is bs
-past_step is b bs e = let k : 1 + prefix_len is bs ≡ suc (prefix_len is bs) = omega arith in rw (e, k) refl
+past_step is b bs e = let k : 1 + prefix_len is bs ≡ suc (prefix_len is bs) = omega arith in
+    rw (e, k) refl
 
-run_all_by : (is : ℕ → Bool) (b : ℕ) (bs : List ℕ) (v : Bool) → is b ≡ v → AllByRecursion (λ b. is b ≡ true) (run is bs) → AllByRecursion (λ b. is b ≡ true) (run is (b ∷ bs))
-run_all_by is b bs true e h = subst (AllByRecursion (λ b. is b ≡ true)) (sym (run_step is b bs e)) (e, h)
+run_all_by : (is : ℕ → Bool) (b : ℕ) (bs : List ℕ) (v : Bool) → is b ≡ v →
+    AllByRecursion (λ b. is b ≡ true) (run is bs) →
+    AllByRecursion (λ b. is b ≡ true) (run is (b ∷ bs))
+run_all_by is b bs true e h = subst (AllByRecursion (λ b. is b ≡ true)) (sym (run_step is b bs e))
+    (e, h)
 run_all_by is b bs false e h = rw e tt
 
 run_all : (is : ℕ → Bool) (text : List ℕ) → AllByRecursion (λ b. is b ≡ true) (run is text)
 run_all is [] = tt
 run_all is (b ∷ bs) = run_all_by is b bs (is b) refl (run_all is bs)
 
-past_ends_by : (is : ℕ → Bool) (b : ℕ) (bs : List ℕ) (v : Bool) → is b ≡ v → is (slice_index (past is bs) 0) ≡ false → is (slice_index (past is (b ∷ bs)) 0) ≡ false
+past_ends_by : (is : ℕ → Bool) (b : ℕ) (bs : List ℕ) (v : Bool) → is b ≡ v →
+    is (slice_index (past is bs) 0) ≡ false → is (slice_index (past is (b ∷ bs)) 0) ≡ false
 past_ends_by is b bs true e h = rw (past_step is b bs e) h
 past_ends_by is b bs false e h = rw e e
 
-past_ends : (is : ℕ → Bool) (text : List ℕ) → is 0 ≡ false → is (slice_index (past is text) 0) ≡ false
+past_ends : (is : ℕ → Bool) (text : List ℕ) → is 0 ≡ false →
+    is (slice_index (past is text) 0) ≡ false
 past_ends is [] z = z
 past_ends is (b ∷ bs) z = past_ends_by is b bs (is b) refl (past_ends is bs z)
 
@@ -156,67 +220,95 @@ ok_same x y e = cc
 
 lexed_same : (s t : Token) (front bs : List ℕ) → lexed s front ≡ lexed t bs → (s ≡ t) × (front ≡ bs)
 lexed_same s t front bs e =
-    let k = ok_same (Some s, front) (Some t, bs) e in
-    (some_same s t (ap (λ (x : Option Token × List ℕ). x.0) k), ap (λ (x : Option Token × List ℕ). x.1) k)
+    let k = ok_same (Some s, front) (Some t, bs) e in (
+      some_same s t (ap (λ (x : Option Token × List ℕ). x.0) k),
+      ap (λ (x : Option Token × List ℕ). x.1) k,
+    )
 
 -- the end of a text is no token
 no_end : (t : Token) (rest : List ℕ) → Ok (None, []) ≡ lexed t rest → ⊥
-no_end t rest e = none_some t (ap (λ (x : Option Token × List ℕ). x.0) (ok_same (None, []) (Some t, rest) e)) where
-  none_some : (t : Token) → None ≡ Some t → ⊥
-  none_some t e = cc
+no_end t rest e = none_some t (ap (λ (x : Option Token × List ℕ). x.0)
+    (ok_same (None, []) (Some t, rest) e)) where
+      none_some : (t : Token) → None ≡ Some t → ⊥
+      none_some t e = cc
 
-as_token_is : (text : List ℕ) (o : Option Token) (t : Token) (bs rest : List ℕ) → as_token text o bs ≡ lexed t rest → (o ≡ Some t) × (bs ≡ rest)
+as_token_is : (text : List ℕ) (o : Option Token) (t : Token) (bs rest : List ℕ) →
+    as_token text o bs ≡ lexed t rest → (o ≡ Some t) × (bs ≡ rest)
 as_token_is text None t bs rest e = absurd cc
-as_token_is text (Some s) t bs rest e = let k = lexed_same s t bs rest e in (ap (λ (u : Token). Some u) k.0, k.1)
+as_token_is text (Some s) t bs rest e = let k = lexed_same s t bs rest e in
+    (ap (λ (u : Token). Some u) k.0, k.1)
 
 -- what a run of word octets is
-run_token : (w : List ℕ) (t : Token) (v : Bool) → 0 < length w → AllByRecursion (λ b. is_word b ≡ true) w → is_digit (slice_index w 0) ≡ v → word_token w ≡ Some t → IsToken t × (w ≡ written t)
+run_token : (w : List ℕ) (t : Token) (v : Bool) → 0 < length w →
+    AllByRecursion (λ b. is_word b ≡ true) w → is_digit (slice_index w 0) ≡ v →
+    word_token w ≡ Some t → IsToken t × (w ≡ written t)
 run_token w t false some h d e = token_by t (some_same (word w) t (rw d at e)) where
   token_by : (t : Token) → word w ≡ t → IsToken t × (w ≡ written t)
-  token_by t e = subst (λ (t : Token). IsToken t × (w ≡ written t)) e (record { some = some; octets = h; begins = d }, refl)
+  token_by t e = subst (λ (t : Token). IsToken t × (w ≡ written t)) e
+      (record { some = some; octets = h; begins = d }, refl)
 run_token w t true some h d e = number_by w t (number_of w) refl (rw d at e) where
-  number_by : (w : List ℕ) (t : Token) (o : Option ℕ) → number_of w ≡ o → option_map number o ≡ Some t → IsToken t × (w ≡ written t)
+  number_by : (w : List ℕ) (t : Token) (o : Option ℕ) → number_of w ≡ o →
+      option_map number o ≡ Some t → IsToken t × (w ≡ written t)
   number_by w t None n e = absurd cc
   number_by w t (Some n) o e =
       let k = number_of_is w n o in
       subst (λ (t : Token). IsToken t × (w ≡ written t)) (some_same (number n) t e) (k.2, k.1)
 
-negative_token : (w : List ℕ) (t : Token) (o : Option ℕ) → number_of w ≡ o → below_zero o ≡ Some t → IsToken t × (45 ∷ w ≡ written t)
+negative_token : (w : List ℕ) (t : Token) (o : Option ℕ) → number_of w ≡ o → below_zero o ≡ Some t →
+    IsToken t × (45 ∷ w ≡ written t)
 negative_token w t None n e = absurd cc
 negative_token w t (Some n) o e = signed_by w t n (eqb n 0) refl (number_of_is w n o) e where
-  signed_by : (w : List ℕ) (t : Token) (n : ℕ) (v : Bool) → eqb n 0 ≡ v → IsNumber w × (w ≡ decimal n) × (n < 2 ^ 64) → cond v None (Some (negative n)) ≡ Some t → IsToken t × (45 ∷ w ≡ written t)
+  signed_by : (w : List ℕ) (t : Token) (n : ℕ) (v : Bool) → eqb n 0 ≡ v → IsNumber w
+      × (w ≡ decimal n) × (n < 2 ^ 64) → cond v None (Some (negative n)) ≡ Some t → IsToken t
+      × (45 ∷ w ≡ written t)
   signed_by w t n true z k e = absurd cc
   signed_by w t n false z k e =
       let pos : 0 < n = omega (arith, eqb-false n 0 z) in
-      subst (λ (t : Token). IsToken t × (45 ∷ w ≡ written t)) (some_same (negative n) t e) ((pos, k.2), ap (λ (x : List ℕ). 45 ∷ x) k.1)
+      subst (λ (t : Token). IsToken t × (45 ∷ w ≡ written t)) (some_same (negative n) t e)
+      ((pos, k.2), ap (λ (x : List ℕ). 45 ∷ x) k.1)
 
-begins_by : (text octets bs rest : List ℕ) (t : Token) → IsToken t × (octets ≡ written t) → text ≡ octets ++ bs → bs ≡ rest → (is_run t ≡ true → is_word (slice_index bs 0) ≡ false) → Begins text t rest
+begins_by : (text octets bs rest : List ℕ) (t : Token) → IsToken t × (octets ≡ written t) →
+    text ≡ octets ++ bs → bs ≡ rest → (is_run t ≡ true → is_word (slice_index bs 0) ≡ false) →
+    Begins text t rest
 begins_by text octets bs rest t h p r e = record {
   token = h.0;
   parts = p ∙ ap (λ (x : List ℕ). octets ++ x) r ∙ ap (λ (x : List ℕ). x ++ rest) h.1;
   apart = λ u. subst (λ (x : List ℕ). is_word (slice_index x 0) ≡ false) r (e u);
 }
 
-begins_run : (b : ℕ) (bs rest : List ℕ) (t : Token) → is_word b ≡ true → as_token (b ∷ bs) (word_token (run is_word (b ∷ bs))) (past is_word (b ∷ bs)) ≡ lexed t rest → Begins (b ∷ bs) t rest
+begins_run : (b : ℕ) (bs rest : List ℕ) (t : Token) → is_word b ≡ true →
+    as_token (b ∷ bs) (word_token (run is_word (b ∷ bs))) (past is_word (b ∷ bs)) ≡ lexed t rest →
+    Begins (b ∷ bs) t rest
 begins_run b bs rest t w e =
-    let k = as_token_is (b ∷ bs) (word_token (run is_word (b ∷ bs))) t (past is_word (b ∷ bs)) rest e in
-    let some : 0 < length (run is_word (b ∷ bs)) = omega (arith, ap length (run_step is_word b bs w)) in
-    let h = run_token (run is_word (b ∷ bs)) t (is_digit (slice_index (run is_word (b ∷ bs)) 0)) some (run_all is_word (b ∷ bs)) refl k.0 in
-    begins_by (b ∷ bs) (run is_word (b ∷ bs)) (past is_word (b ∷ bs)) rest t h (sym (run_past is_word (b ∷ bs))) k.1 (λ u. past_ends is_word (b ∷ bs) refl)
+    let k = as_token_is (b ∷ bs) (word_token (run is_word (b ∷ bs))) t (past is_word (b ∷ bs)) rest
+    e in
+    let some : 0 < length (run is_word (b ∷ bs)) =
+    omega (arith, ap length (run_step is_word b bs w)) in
+    let h = run_token (run is_word (b ∷ bs)) t (is_digit (slice_index (run is_word (b ∷ bs)) 0))
+    some (run_all is_word (b ∷ bs)) refl k.0 in
+    begins_by (b ∷ bs) (run is_word (b ∷ bs)) (past is_word (b ∷ bs)) rest t h
+    (sym (run_past is_word (b ∷ bs))) k.1 (λ u. past_ends is_word (b ∷ bs) refl)
 
-begins_negative : (b : ℕ) (bs rest : List ℕ) (t : Token) → b ≡ 45 → as_token (b ∷ bs) (below_zero (number_of (run is_word bs))) (past is_word bs) ≡ lexed t rest → Begins (b ∷ bs) t rest
+begins_negative : (b : ℕ) (bs rest : List ℕ) (t : Token) → b ≡ 45 →
+    as_token (b ∷ bs) (below_zero (number_of (run is_word bs))) (past is_word bs) ≡ lexed t rest →
+    Begins (b ∷ bs) t rest
 begins_negative b bs rest t m e =
-    let k = as_token_is (b ∷ bs) (below_zero (number_of (run is_word bs))) t (past is_word bs) rest e in
+    let k = as_token_is (b ∷ bs) (below_zero (number_of (run is_word bs))) t (past is_word bs) rest
+    e in
     let h = negative_token (run is_word bs) t (number_of (run is_word bs)) refl k.0 in
-    let p : b ∷ bs ≡ (45 ∷ run is_word bs) ++ past is_word bs = ap (λ (x : ℕ). x ∷ bs) m ∙ ap (λ (x : List ℕ). 45 ∷ x) (sym (run_past is_word bs)) in
-    begins_by (b ∷ bs) (45 ∷ run is_word bs) (past is_word bs) rest t h p k.1 (λ u. past_ends is_word bs refl)
+    let p : b ∷ bs ≡ (45 ∷ run is_word bs) ++ past is_word bs =
+    ap (λ (x : ℕ). x ∷ bs) m ∙ ap (λ (x : List ℕ). 45 ∷ x) (sym (run_past is_word bs)) in
+    begins_by (b ∷ bs) (45 ∷ run is_word bs) (past is_word bs) rest t h p k.1
+    (λ u. past_ends is_word bs refl)
 
 -- a list that begins with an octet other than 0
 head_is : (after : List ℕ) → slice_index after 0 ≡ 34 → after ≡ 34 ∷ drop 1 after
 head_is [] e = absurd (omega (arith, e))
 head_is (b ∷ bs) e = ap (λ (x : ℕ). x ∷ bs) e
 
-repository_by : (id after : List ℕ) (t : Token) (u v w : Bool) → nat_le 1 (length id) ≡ u → nat_le (length id) 128 ≡ v → eqb (slice_index after 0) 34 ≡ w → AllByRecursion (λ b. is_id b ≡ true) id → repository_token id after ≡ Some t
+repository_by : (id after : List ℕ) (t : Token) (u v w : Bool) → nat_le 1 (length id) ≡ u →
+    nat_le (length id) 128 ≡ v → eqb (slice_index after 0) 34 ≡ w →
+    AllByRecursion (λ b. is_id b ≡ true) id → repository_token id after ≡ Some t
     → IsId id × (repository id ≡ t) × (after ≡ 34 ∷ drop 1 after)
 repository_by id after t false v w e f g h r = absurd (none_some (rw e at r)) where
   none_some : None ≡ Some t → ⊥
@@ -227,22 +319,39 @@ repository_by id after t true false w e f g h r = absurd (none_some (rw (e, f) a
 repository_by id after t true true false e f g h r = absurd (none_some (rw (e, f, g) at r)) where
   none_some : None ≡ Some t → ⊥
   none_some e = cc
-repository_by id after t true true true e f g h r =
-    (record { some = omega (arith, leb-true 1 (length id) e); few = leb-true (length id) 128 f; octets = h }, some_same (repository id) t (rw (e, f, g) at r), head_is after (eqb-true (slice_index after 0) 34 g))
+repository_by id after t true true true e f g h r = (
+  record {
+    some = omega (arith, leb-true 1 (length id) e);
+    few = leb-true (length id) 128 f;
+    octets = h;
+  },
+  some_same (repository id) t (rw (e, f, g) at r),
+  head_is after (eqb-true (slice_index after 0) 34 g),
+)
 
-begins_repository : (b : ℕ) (bs rest : List ℕ) (t : Token) → b ≡ 34 → as_token (b ∷ bs) (repository_token (run is_id bs) (past is_id bs)) (drop 1 (past is_id bs)) ≡ lexed t rest → Begins (b ∷ bs) t rest
+begins_repository : (b : ℕ) (bs rest : List ℕ) (t : Token) → b ≡ 34 →
+    as_token (b ∷ bs) (repository_token (run is_id bs) (past is_id bs)) (drop 1 (past is_id bs))
+    ≡ lexed t rest → Begins (b ∷ bs) t rest
 begins_repository b bs rest t m e =
     let id = run is_id bs in
     let after = past is_id bs in
     let k = as_token_is (b ∷ bs) (repository_token id after) t (drop 1 after) rest e in
-    let h = repository_by id after t (nat_le 1 (length id)) (nat_le (length id) 128) (eqb (slice_index after 0) 34) refl refl refl (run_all is_id bs) k.0 in
-    let p : b ∷ bs ≡ 34 ∷ (id ++ 34 ∷ drop 1 after) = ap (λ (x : ℕ). x ∷ bs) m ∙ ap (λ (x : List ℕ). 34 ∷ x) (sym (run_past is_id bs) ∙ ap (λ (x : List ℕ). id ++ x) h.2) in
-    let q : b ∷ bs ≡ (34 ∷ (id ++ 34 ∷ [])) ++ drop 1 after = p ∙ ap (λ (x : List ℕ). 34 ∷ x) (sym (append_assoc id (34 ∷ []) (drop 1 after))) in
-    subst (λ (t : Token). Begins (b ∷ bs) t rest) h.1 (begins_by (b ∷ bs) (34 ∷ (id ++ 34 ∷ [])) (drop 1 after) rest (repository id) (h.0, refl) q k.1 (λ u. absurd cc))
+    let h = repository_by id after t (nat_le 1 (length id)) (nat_le (length id) 128)
+    (eqb (slice_index after 0) 34) refl refl refl (run_all is_id bs) k.0 in
+    let p : b ∷ bs ≡ 34 ∷ (id ++ 34 ∷ drop 1 after) =
+    ap (λ (x : ℕ). x ∷ bs) m ∙ ap (λ (x : List ℕ). 34 ∷ x)
+    (sym (run_past is_id bs) ∙ ap (λ (x : List ℕ). id ++ x) h.2) in
+    let q : b ∷ bs ≡ (34 ∷ (id ++ 34 ∷ [])) ++ drop 1 after =
+    p ∙ ap (λ (x : List ℕ). 34 ∷ x) (sym (append_assoc id (34 ∷ []) (drop 1 after))) in
+    subst (λ (t : Token). Begins (b ∷ bs) t rest) h.1
+    (begins_by (b ∷ bs) (34 ∷ (id ++ 34 ∷ [])) (drop 1 after) rest (repository id) (h.0, refl) q
+    k.1 (λ u. absurd cc))
 
 -- ---- Marks.
 
-mark_step : (b k : ℕ) (n m : Mark) (o : Option Mark) → octet_of n ≡ k → (o ≡ Some m → octet_of m ≡ b) → (v : Bool) → eqb b k ≡ v → cond v (Some n) o ≡ Some m → octet_of m ≡ b
+mark_step : (b k : ℕ) (n m : Mark) (o : Option Mark) → octet_of n ≡ k →
+    (o ≡ Some m → octet_of m ≡ b) → (v : Bool) → eqb b k ≡ v → cond v (Some n) o ≡ Some m →
+    octet_of m ≡ b
 mark_step b k n m o e on true f h = sym (ap octet_of (some_same n m h)) ∙ e ∙ sym (eqb-true b k f)
 mark_step b k n m o e on false f h = on h
 
@@ -259,21 +368,27 @@ mark_of_is b m h =
     mark_step b 93 marks.CloseBracket m _ refl (λ h.
     mark_step b 44 marks.Comma m _ refl (λ h.
     mark_step b 59 marks.Semicolon m _ refl (λ h.
-    mark_step b 58 marks.Colon m None refl (λ h. absurd cc) (eqb b 58) refl h) (eqb b 59) refl h) (eqb b 44) refl h) (eqb b 93) refl h) (eqb b 91) refl h) (eqb b 62) refl h) (eqb b 60) refl h) (eqb b 41) refl h) (eqb b 40) refl h) (eqb b 125) refl h) (eqb b 123) refl h
+    mark_step b 58 marks.Colon m None refl (λ h. absurd cc) (eqb b 58) refl h) (eqb b 59) refl h)
+    (eqb b 44) refl h) (eqb b 93) refl h) (eqb b 91) refl h) (eqb b 62) refl h) (eqb b 60) refl
+    h) (eqb b 41) refl h) (eqb b 40) refl h) (eqb b 125) refl h) (eqb b 123) refl h
 
-begins_mark : (b : ℕ) (bs rest : List ℕ) (t : Token) (o : Option Mark) → mark_of b ≡ o → as_token (b ∷ bs) (option_map mark o) bs ≡ lexed t rest → Begins (b ∷ bs) t rest
+begins_mark : (b : ℕ) (bs rest : List ℕ) (t : Token) (o : Option Mark) → mark_of b ≡ o →
+    as_token (b ∷ bs) (option_map mark o) bs ≡ lexed t rest → Begins (b ∷ bs) t rest
 begins_mark b bs rest t None m e = absurd cc
 begins_mark b bs rest t (Some n) m e =
     let k = lexed_same (mark n) t bs rest e in
     let p : b ∷ bs ≡ (octet_of n ∷ []) ++ bs = ap (λ (x : ℕ). x ∷ bs) (sym (mark_of_is b n m)) in
-    subst (λ (t : Token). Begins (b ∷ bs) t rest) k.0 (begins_by (b ∷ bs) (octet_of n ∷ []) bs rest (mark n) (tt, refl) p k.1 (λ u. absurd cc))
+    subst (λ (t : Token). Begins (b ∷ bs) t rest) k.0
+    (begins_by (b ∷ bs) (octet_of n ∷ []) bs rest (mark n) (tt, refl) p k.1 (λ u. absurd cc))
 
 -- ---- The first token.
 
-begins_with : (b : ℕ) (bs rest : List ℕ) (t : Token) (u v w : Bool) → is_word b ≡ u → eqb b 45 ≡ v → eqb b 34 ≡ w
+begins_with : (b : ℕ) (bs rest : List ℕ) (t : Token) (u v w : Bool) → is_word b ≡ u → eqb b 45 ≡ v →
+    eqb b 34 ≡ w
     → cond u (as_token (b ∷ bs) (word_token (run is_word (b ∷ bs))) (past is_word (b ∷ bs)))
     (cond v (as_token (b ∷ bs) (below_zero (number_of (run is_word bs))) (past is_word bs))
-    (cond w (as_token (b ∷ bs) (repository_token (run is_id bs) (past is_id bs)) (drop 1 (past is_id bs)))
+    (cond w (as_token (b ∷ bs) (repository_token (run is_id bs) (past is_id bs))
+    (drop 1 (past is_id bs)))
     (as_token (b ∷ bs) (option_map mark (mark_of b)) bs))) ≡ lexed t rest → Begins (b ∷ bs) t rest
 begins_with b bs rest t true v w e f g h = begins_run b bs rest t e h
 begins_with b bs rest t false true w e f g h = begins_negative b bs rest t (eqb-true b 45 f) h
@@ -283,7 +398,8 @@ begins_with b bs rest t false false false e f g h = begins_mark b bs rest t (mar
 pub first_begins : (text rest : List ℕ) (t : Token) → first text ≡ lexed t rest → Begins text t rest
 unfolding first
 first_begins [] rest t e = absurd (no_end t rest e)
-first_begins (b ∷ bs) rest t e = begins_with b bs rest t (is_word b) (eqb b 45) (eqb b 34) refl refl refl e
+first_begins (b ∷ bs) rest t e = begins_with b bs rest t (is_word b) (eqb b 45) (eqb b 34) refl refl
+    refl e
 
 -- ---- All of a text.
 
@@ -298,14 +414,19 @@ first_ended (b ∷ bs) e = absurd (ended_with b bs (is_word b) (eqb b 45) (eqb b
   ended_with : (b : ℕ) (bs : List ℕ) (u v w : Bool)
       → cond u (as_token (b ∷ bs) (word_token (run is_word (b ∷ bs))) (past is_word (b ∷ bs)))
       (cond v (as_token (b ∷ bs) (below_zero (number_of (run is_word bs))) (past is_word bs))
-      (cond w (as_token (b ∷ bs) (repository_token (run is_id bs) (past is_id bs)) (drop 1 (past is_id bs)))
+      (cond w (as_token (b ∷ bs) (repository_token (run is_id bs) (past is_id bs))
+      (drop 1 (past is_id bs)))
       (as_token (b ∷ bs) (option_map mark (mark_of b)) bs))) ≡ Ok (None, []) → ⊥
-  ended_with b bs true v w h = ended_by (b ∷ bs) (past is_word (b ∷ bs)) (word_token (run is_word (b ∷ bs))) h
-  ended_with b bs false true w h = ended_by (b ∷ bs) (past is_word bs) (below_zero (number_of (run is_word bs))) h
-  ended_with b bs false false true h = ended_by (b ∷ bs) (drop 1 (past is_id bs)) (repository_token (run is_id bs) (past is_id bs)) h
+  ended_with b bs true v w h = ended_by (b ∷ bs) (past is_word (b ∷ bs))
+      (word_token (run is_word (b ∷ bs))) h
+  ended_with b bs false true w h = ended_by (b ∷ bs) (past is_word bs)
+      (below_zero (number_of (run is_word bs))) h
+  ended_with b bs false false true h = ended_by (b ∷ bs) (drop 1 (past is_id bs))
+      (repository_token (run is_id bs) (past is_id bs)) h
   ended_with b bs false false false h = ended_by (b ∷ bs) bs (option_map mark (mark_of b)) h
 
-tail_of : (text : List ℕ) (s : Split text) → gap false text ≡ [] → (gap false text ≡ s.tail) ⊎ ((gap false text ≡ []) × IsTail s.tail) → IsTail s.tail
+tail_of : (text : List ℕ) (s : Split text) → gap false text ≡ [] → (gap false text ≡ s.tail)
+    ⊎ ((gap false text ≡ []) × IsTail s.tail) → IsTail s.tail
 tail_of text s e (inl k) = inl (sym k ∙ e)
 tail_of text s e (inr k) = k.1
 
@@ -313,50 +434,85 @@ layout_end : (text : List ℕ) → next text ≡ Ok (None, []) → IsLayout text
 unfolding next
 layout_end text e =
     let s = split text in
-    record { front = s.front; laid = []; tail = s.tail; fronts = s.fronts; each = tail_of text s (first_ended (gap false text) e) s.gaps; tokens = refl; octets = s.parts }
+    record {
+      front = s.front;
+      laid = [];
+      tail = s.tail;
+      fronts = s.fronts;
+      each =
+          tail_of text s (first_ended (gap false text) e) s.gaps;
+      tokens = refl;
+      octets = s.parts;
+    }
 
-layout_on : (text rest : List ℕ) (t : Token) (ts : List Token) (s : Split text) → gap false text ≡ s.tail → Begins (gap false text) t rest → IsLayout rest ts → IsLayout text (t ∷ ts)
+layout_on : (text rest : List ℕ) (t : Token) (ts : List Token) (s : Split text) →
+    gap false text ≡ s.tail → Begins (gap false text) t rest → IsLayout rest ts →
+    IsLayout text (t ∷ ts)
 layout_on text rest t ts s g b k = record {
   front = s.front;
   laid = (record { token = t; after = k.front }) ∷ k.laid;
   tail = k.tail;
   fronts = s.fronts;
-  each = (b.token, k.fronts, (λ u. subst (λ (x : List ℕ). is_word (slice_index x 0) ≡ false) k.octets (b.apart u)), k.each);
+  each = (
+    b.token,
+    k.fronts,
+    (λ u. subst (λ (x : List ℕ). is_word (slice_index x 0) ≡ false)
+        k.octets (b.apart u)),
+    k.each,
+  );
   tokens = ap (λ (us : List Token). t ∷ us) k.tokens;
-  octets = s.parts ∙ ap (λ (x : List ℕ). spaces s.front ++ x) (sym g ∙ b.parts ∙ ap (λ (x : List ℕ). written t ++ x) k.octets);
+  octets = s.parts ∙ ap (λ (x : List ℕ). spaces s.front ++ x)
+      (sym g ∙ b.parts ∙ ap (λ (x : List ℕ). written t ++ x) k.octets);
 }
 
-layout_step : (text rest : List ℕ) (t : Token) (ts : List Token) (s : Split text) → first (gap false text) ≡ lexed t rest → IsLayout rest ts → (gap false text ≡ s.tail) ⊎ ((gap false text ≡ []) × IsTail s.tail) → IsLayout text (t ∷ ts)
+layout_step : (text rest : List ℕ) (t : Token) (ts : List Token) (s : Split text) →
+    first (gap false text) ≡ lexed t rest → IsLayout rest ts → (gap false text ≡ s.tail)
+    ⊎ ((gap false text ≡ []) × IsTail s.tail) → IsLayout text (t ∷ ts)
 unfolding first
-layout_step text rest t ts s e k (inl g) = layout_on text rest t ts s g (first_begins (gap false text) rest t e) k
+layout_step text rest t ts s e k (inl g) =
+    layout_on text rest t ts s g (first_begins (gap false text) rest t e) k
 layout_step text rest t ts s e k (inr g) = absurd (no_end t rest (rw g.0 at e))
 
-first_by : (text rest : List ℕ) (t : Token) (s : Split text) → first (gap false text) ≡ lexed t rest → (gap false text ≡ s.tail) ⊎ ((gap false text ≡ []) × IsTail s.tail) → IsFirst text t rest
+first_by : (text rest : List ℕ) (t : Token) (s : Split text) →
+    first (gap false text) ≡ lexed t rest → (gap false text ≡ s.tail)
+    ⊎ ((gap false text ≡ []) × IsTail s.tail) → IsFirst text t rest
 unfolding first
 first_by text rest t s e (inl g) =
     let b = first_begins (gap false text) rest t e in
-    record { front = s.front; fronts = s.fronts; token = b.token; apart = b.apart; octets = s.parts ∙ ap (λ (x : List ℕ). spaces s.front ++ x) (sym g ∙ b.parts) }
+    record {
+      front = s.front;
+      fronts = s.fronts;
+      token = b.token;
+      apart = b.apart;
+      octets =
+          s.parts ∙ ap (λ (x : List ℕ). spaces s.front ++ x) (sym g ∙ b.parts);
+    }
 first_by text rest t s e (inr g) = absurd (no_end t rest (rw g.0 at e))
 
 -- the token that is read first is written first
-pub next_first : (text : List ℕ) (t : Token) (rest : List ℕ) → next text ≡ Ok (Some t, rest) → IsFirst text t rest
+pub next_first : (text : List ℕ) (t : Token) (rest : List ℕ) → next text ≡ Ok (Some t, rest) →
+    IsFirst text t rest
 unfolding next
 next_first text t rest e = first_by text rest t (split text) e (split text).gaps
 
 pub tokens_layout : (text : List ℕ) (ts : List Token) → AreTokens text ts → IsLayout text ts
 unfolding next
 tokens_layout text [] h = layout_end text h
-tokens_layout text (t ∷ ts) h = let s = split text in layout_step text h.0 t ts s h.1 (tokens_layout h.0 ts h.2) s.gaps
+tokens_layout text (t ∷ ts) h = let s = split text in
+    layout_step text h.0 t ts s h.1 (tokens_layout h.0 ts h.2) s.gaps
 
 -- ---- One list.
 
-next_same : (text : List ℕ) (s t : Token) (bs cs : List ℕ) → next text ≡ lexed s bs → next text ≡ lexed t cs → (s ≡ t) × (bs ≡ cs)
+next_same : (text : List ℕ) (s t : Token) (bs cs : List ℕ) → next text ≡ lexed s bs →
+    next text ≡ lexed t cs → (s ≡ t) × (bs ≡ cs)
 next_same text s t bs cs e f = lexed_same s t bs cs (sym e ∙ f)
 
-pub one_list : (text : List ℕ) (ts us : List Token) → AreTokens text ts → AreTokens text us → ts ≡ us
+pub one_list : (text : List ℕ) (ts us : List Token) → AreTokens text ts → AreTokens text us →
+    ts ≡ us
 one_list text [] [] h k = refl
 one_list text [] (u ∷ us) h k = absurd (no_end u k.0 (sym h ∙ k.1))
 one_list text (t ∷ ts) [] h k = absurd (no_end t h.0 (sym k ∙ h.1))
 one_list text (t ∷ ts) (u ∷ us) h k =
     let e = next_same text t u h.0 k.0 h.1 k.1 in
-    ap (λ (x : Token). x ∷ ts) e.0 ∙ ap (λ (x : List Token). u ∷ x) (one_list k.0 ts us (subst (λ (x : List ℕ). AreTokens x ts) e.1 h.2) k.2)
+    ap (λ (x : Token). x ∷ ts) e.0 ∙ ap (λ (x : List Token). u ∷ x)
+    (one_list k.0 ts us (subst (λ (x : List ℕ). AreTokens x ts) e.1 h.2) k.2)

@@ -1,4 +1,5 @@
--- How tokens are written: each as itself, with white space and comments before, between and after them
+-- How tokens are written: each as itself, with white space and comments before, between and after
+-- them
 -- (docs/FORMATS.md, Signature file; meaning).
 use Rattle.std.specs.Prelude.{◌≡◌, ℕ, ◌^◌, ◌<◌, ◌≤◌, ◌≢◌, Bool, true, false, ◌⊎◌, List, [], ◌∷◌, ◌++◌, length, map, decimal, slice_index, ⊤}
 use Rattle.std.specs.List.{AllByRecursion}
@@ -79,10 +80,13 @@ abbrev pub printed : List Laid → List ℕ → List ℕ
 printed [] tail = tail
 printed (l ∷ ls) tail = written l.token ++ (spaces l.after ++ printed ls tail)
 
--- No word octet follows a word or a number. So two of them have a space between them, and all else may touch.
+-- No word octet follows a word or a number. So two of them have a space between them, and all else
+-- may touch.
 abbrev pub AreLaid : List Laid → List ℕ → Type 0
 AreLaid [] tail = IsTail tail
-AreLaid (l ∷ ls) tail = IsToken l.token × AllByRecursion IsSpace l.after × (is_run l.token ≡ true → is_word (slice_index (spaces l.after ++ printed ls tail) 0) ≡ false) × AreLaid ls tail
+AreLaid (l ∷ ls) tail = IsToken l.token × AllByRecursion IsSpace l.after
+    × (is_run l.token ≡ true → is_word (slice_index (spaces l.after ++ printed ls tail) 0) ≡ false)
+    × AreLaid ls tail
 
 -- this token is the text's first, after white space and comments, and this follows it
 pub record IsFirst (text : List ℕ) (t : Token) (rest : List ℕ) : Type 0 where

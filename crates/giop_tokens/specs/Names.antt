@@ -1,4 +1,5 @@
--- Names: which words are reserved, and how long a name may be (docs/FORMATS.md, Signature file; meaning).
+-- Names: which words are reserved, and how long a name may be (docs/FORMATS.md, Signature file;
+-- meaning).
 use Rattle.std.specs.Prelude.{ℕ, Bool, List, [], ◌∷◌, length, Result, Ok, Err, nat_lt, if◌then◌else◌, codes}
 use Rattle.std.specs.List.{list_any}
 use Rattle.std.specs.Str.{bytes_eq}
@@ -11,10 +12,13 @@ use Rattle.giop_tokens.specs.Readers.{misplaced, word_at}
 -- the words that are no names
 abbrev pub reserved_words : List (List ℕ)
 reserved_words =
-    codes "signatures" ∷ codes "enum" ∷ codes "struct" ∷ codes "union" ∷ codes "switch" ∷ codes "case" ∷ codes "default"
-    ∷ codes "exception" ∷ codes "operation" ∷ codes "void" ∷ codes "in" ∷ codes "out" ∷ codes "inout"
+    codes "signatures" ∷ codes "enum" ∷ codes "struct" ∷ codes "union" ∷ codes "switch" ∷ codes
+    "case" ∷ codes "default"
+    ∷ codes "exception" ∷ codes "operation" ∷ codes "void" ∷ codes "in" ∷ codes "out" ∷ codes
+    "inout"
     ∷ codes "true" ∷ codes "false" ∷ codes "string" ∷ codes "Object" ∷ codes "sequence"
-    ∷ codes "octet" ∷ codes "char" ∷ codes "boolean" ∷ codes "short" ∷ codes "ushort" ∷ codes "long" ∷ codes "ulong"
+    ∷ codes "octet" ∷ codes "char" ∷ codes "boolean" ∷ codes "short" ∷ codes "ushort" ∷ codes "long"
+    ∷ codes "ulong"
     ∷ codes "longlong" ∷ codes "ulonglong" ∷ codes "float" ∷ codes "double"
     ∷ codes "return" ∷ codes "encapsulation" ∷ []
 
@@ -29,7 +33,8 @@ too_long text = record { kind = kinds.Limit; left = left_of text }
 unfoldable pub identifier_at : List ℕ → Result (List ℕ × List ℕ) Refusal
 identifier_at text = do
   w ← word_at text
-  if is_reserved w.0 then Err (misplaced text) else (if nat_lt 64 (length w.0) then Err (too_long text) else Ok (w.0, w.1))
+  if is_reserved w.0 then Err (misplaced text) else
+      (if nat_lt 64 (length w.0) then Err (too_long text) else Ok (w.0, w.1))
 
 -- an operation's name: any word, of at most 128 octets
 unfoldable pub operation_name_at : List ℕ → Result (List ℕ × List ℕ) Refusal

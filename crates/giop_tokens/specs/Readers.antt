@@ -1,4 +1,5 @@
--- Readers of one token: its value, and what follows it (meaning). Each refuses with Token where there is no token, and with
+-- Readers of one token: its value, and what follows it (meaning). Each refuses with Token where
+-- there is no token, and with
 -- Syntax, at the token, where it is another one or the text ends (docs/FORMATS.md, Signature file).
 use Rattle.std.specs.Prelude.{ℕ, Bool, true, false, List, Option, Some, None, Result, Ok, Err, ◌==◌, if◌then◌else◌, option_and_then}
 use Rattle.std.specs.Str.{bytes_eq}
@@ -76,7 +77,8 @@ next_is is text = do
   t ← next text
   if passes is t.0 then Ok t.1 else Err (misplaced text)
 
--- what follows the next token where it passes the test; nothing where it is another one, or the text ends
+-- what follows the next token where it passes the test; nothing where it is another one, or the
+-- text ends
 unfoldable pub next_if : (Token → Bool) → List ℕ → Result (Option (List ℕ)) Refusal
 next_if is text = do
   t ← next text

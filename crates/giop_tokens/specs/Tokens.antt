@@ -1,4 +1,5 @@
--- The tokens of a text (docs/FORMATS.md, Signature file): what the first one is and what follows it, and which tokens
+-- The tokens of a text (docs/FORMATS.md, Signature file): what the first one is and what follows
+-- it, and which tokens
 -- a text is (meaning). A place in a text is the number of octets that are left from there on.
 use Rattle.std.specs.Prelude.{◌≡◌, ℕ, ◌^◌, Bool, true, false, not, ◌||◌, ◌&&◌, List, [], ◌∷◌, length, take, drop, Option, Some, None, Result, Ok, Err, nat_le, nat_lt, ◌==◌, if◌then◌else◌, slice_index, option_map}
 use Rattle.std.specs.List.{prefix_len, list_all}
@@ -36,11 +37,13 @@ is_id b = nat_le 33 b && nat_le b 126 && not (b == 34)
 
 -- ---- White space and comments.
 
--- Whether a comment goes on after an octet, with the one that follows it; nothing where a token begins there.
+-- Whether a comment goes on after an octet, with the one that follows it; nothing where a token
+-- begins there.
 -- A comment goes to the end of its line.
 abbrev pub gap_step : Bool → ℕ → ℕ → Option Bool
 gap_step true b after = Some (not (b == 10))
-gap_step false b after = if b == 47 && after == 47 then Some true else (if is_white b then Some false else None)
+gap_step false b after = if b == 47 && after == 47 then Some true else
+    (if is_white b then Some false else None)
 
 abbrev pub or_stop : Option Bool → List ℕ → (Bool → List ℕ) → List ℕ
 or_stop None here on = here
@@ -49,7 +52,8 @@ or_stop (Some comment) here on = on comment
 -- what follows white space and comments; the flag is whether a comment has begun
 unfoldable pub gap : Bool → List ℕ → List ℕ
 gap comment [] = []
-gap comment (b ∷ bs) = or_stop (gap_step comment b (slice_index bs 0)) (b ∷ bs) (λ more. gap more bs)
+gap comment (b ∷ bs) = or_stop (gap_step comment b (slice_index bs 0)) (b ∷ bs)
+    (λ more. gap more bs)
 
 -- the place of the first token, 0 at the end of the text
 abbrev pub left_of : List ℕ → ℕ
@@ -66,7 +70,8 @@ past is text = drop (prefix_len is text) text
 
 -- digits only, one to 20 of them, no leading zero, at most 2 ^ 64 - 1
 unfoldable pub is_number : List ℕ → Bool
-is_number w = nat_le 1 (length w) && nat_le (length w) 20 && list_all is_digit w && (length w == 1 || not (slice_index w 0 == 48)) && nat_lt (digits_value 10 w) (2 ^ 64)
+is_number w = nat_le 1 (length w) && nat_le (length w) 20 && list_all is_digit w
+    && (length w == 1 || not (slice_index w 0 == 48)) && nat_lt (digits_value 10 w) (2 ^ 64)
 
 abbrev pub number_of : List ℕ → Option ℕ
 number_of w = if is_number w then Some (digits_value 10 w) else None
@@ -81,7 +86,8 @@ below_zero (Some n) = if n == 0 then None else Some (negative n)
 
 -- the content of a repository id, 1 to 128 octets, and what follows it, a quotation mark first
 abbrev pub repository_token : List ℕ → List ℕ → Option Token
-repository_token id after = if nat_le 1 (length id) && nat_le (length id) 128 && slice_index after 0 == 34 then Some (repository id) else None
+repository_token id after = if nat_le 1 (length id) && nat_le (length id) 128
+    && slice_index after 0 == 34 then Some (repository id) else None
 
 -- a token and what follows it; or no token, at this place
 abbrev pub as_token : List ℕ → Option Token → List ℕ → Result (Option Token × List ℕ) Refusal
@@ -92,12 +98,16 @@ as_token text (Some t) rest = Ok (Some t, rest)
 unfoldable pub first : List ℕ → Result (Option Token × List ℕ) Refusal
 first [] = Ok (None, [])
 first (b ∷ bs) =
-    if is_word b then as_token (b ∷ bs) (word_token (run is_word (b ∷ bs))) (past is_word (b ∷ bs)) else
-    (if b == 45 then as_token (b ∷ bs) (below_zero (number_of (run is_word bs))) (past is_word bs) else
-    (if b == 34 then as_token (b ∷ bs) (repository_token (run is_id bs) (past is_id bs)) (drop 1 (past is_id bs)) else
+    if is_word b then as_token (b ∷ bs) (word_token (run is_word (b ∷ bs))) (past is_word (b ∷ bs))
+    else
+    (if b == 45 then as_token (b ∷ bs) (below_zero (number_of (run is_word bs))) (past is_word bs)
+    else
+    (if b == 34 then as_token (b ∷ bs) (repository_token (run is_id bs) (past is_id bs))
+    (drop 1 (past is_id bs)) else
     as_token (b ∷ bs) (option_map mark (mark_of b)) bs))
 
--- The first token of a text, after white space and comments, and what follows it; none at the end of the text.
+-- The first token of a text, after white space and comments, and what follows it; none at the end
+-- of the text.
 unfoldable pub next : List ℕ → Result (Option Token × List ℕ) Refusal
 next text = first (gap false text)
 

@@ -12,11 +12,14 @@ use Rattle.tcp_streams.specs.Pairs.{pair_of, opposite, flow_id}
 use Rattle.tcp_streams.specs.Lives.{lives, elder_side}
 use Rattle.tcp_connections.specs.Connections.{State, flow_at, with_flow, arrived, began, gapped, closed_at, flow_forgotten, live_at, place_of, room_at, forgotten, goes_before, eldest, with_room, next_room, made_known, first_number, number_behind, is_first, is_anew, fin_taken, unknown_taken, acknowledgement_taken, payload_taken, reset_taken, known_taken, step, is_holding, gaps_from, end_cause, all_closed}
 
-pub arrived_none : (F : Reader) (w : State) (id : ℕ) (a : Arrival) → flow_at w id ≡ None → arrived F w id a ≡ w
+pub arrived_none : (F : Reader) (w : State) (id : ℕ) (a : Arrival) → flow_at w id ≡ None →
+    arrived F w id a ≡ w
 unfolding arrived
 arrived_none F w id a e = rw (e, arrived) refl
 
-pub arrived_some : (F : Reader) (w : State) (id : ℕ) (a : Arrival) (s : FlowState) → flow_at w id ≡ Some s → arrived F w id a ≡ with_flow w id (flow_step (setting F w.blocks) (state s w.held w.events) a)
+pub arrived_some : (F : Reader) (w : State) (id : ℕ) (a : Arrival) (s : FlowState) →
+    flow_at w id ≡ Some s → arrived F w id a
+    ≡ with_flow w id (flow_step (setting F w.blocks) (state s w.held w.events) a)
 unfolding arrived
 arrived_some F w id a s e = rw (e, arrived) refl
 
@@ -24,109 +27,168 @@ pub gapped_none : (F : Reader) (w : State) (id : ℕ) → flow_at w id ≡ None 
 unfolding gapped
 gapped_none F w id e = rw (e, gapped) refl
 
-pub gapped_some : (F : Reader) (w : State) (id : ℕ) (s : FlowState) → flow_at w id ≡ Some s → gapped F w id ≡ with_flow w id (gap F (state s w.held w.events))
+pub gapped_some : (F : Reader) (w : State) (id : ℕ) (s : FlowState) → flow_at w id ≡ Some s →
+    gapped F w id ≡ with_flow w id (gap F (state s w.held w.events))
 unfolding gapped
 gapped_some F w id s e = rw (e, gapped) refl
 
-pub closed_none : (w : State) (id : ℕ) (cause : CloseCause) → flow_at w id ≡ None → closed_at w id cause ≡ w
+pub closed_none : (w : State) (id : ℕ) (cause : CloseCause) → flow_at w id ≡ None →
+    closed_at w id cause ≡ w
 unfolding closed_at
 closed_none w id cause e = rw (e, closed_at) refl
 
-pub closed_some : (w : State) (id : ℕ) (cause : CloseCause) (s : FlowState) → flow_at w id ≡ Some s → closed_at w id cause ≡ with_flow w id (closed (state s w.held w.events) cause)
+pub closed_some : (w : State) (id : ℕ) (cause : CloseCause) (s : FlowState) →
+    flow_at w id ≡ Some s → closed_at w id cause
+    ≡ with_flow w id (closed (state s w.held w.events) cause)
 unfolding closed_at
 closed_some w id cause s e = rw (e, closed_at) refl
 
-pub forgot_none : (w : State) (id : ℕ) (cause : CloseCause) → flow_at w id ≡ None → flow_forgotten w id cause ≡ w
+pub forgot_none : (w : State) (id : ℕ) (cause : CloseCause) → flow_at w id ≡ None →
+    flow_forgotten w id cause ≡ w
 unfolding flow_forgotten
 forgot_none w id cause e = rw (e, flow_forgotten) refl
 
 pub forgot_some : (w : State) (id : ℕ) (cause : CloseCause) (s : FlowState) → flow_at w id ≡ Some s
-    → flow_forgotten w id cause ≡ record w { flows = set w.flows id None; held = held_by_others id w.held; events = (closed (state s w.held w.events) cause).events }
+    → flow_forgotten w id cause ≡ record w {
+      flows = set w.flows id None;
+      held =
+          held_by_others id w.held;
+      events = (closed (state s w.held w.events) cause).events;
+    }
 unfolding flow_forgotten
 forgot_some w id cause s e = rw (e, flow_forgotten) refl
 
-pub acknowledged_none : (F : Reader) (w : State) (id : ℕ) (s : Segment) → s.acknowledgement ≡ None → acknowledgement_taken F w id s ≡ w
+pub acknowledged_none : (F : Reader) (w : State) (id : ℕ) (s : Segment) → s.acknowledgement ≡ None →
+    acknowledgement_taken F w id s ≡ w
 unfolding acknowledgement_taken
 acknowledged_none F w id s e = rw (e, acknowledgement_taken) refl
 
-pub acknowledged_some : (F : Reader) (w : State) (id : ℕ) (s : Segment) (number : ℕ) → s.acknowledgement ≡ Some number → acknowledgement_taken F w id s ≡ arrived F w id (Acknowledged number)
+pub acknowledged_some : (F : Reader) (w : State) (id : ℕ) (s : Segment) (number : ℕ) →
+    s.acknowledgement ≡ Some number → acknowledgement_taken F w id s
+    ≡ arrived F w id (Acknowledged number)
 unfolding acknowledgement_taken
 acknowledged_some F w id s number e = rw (e, acknowledgement_taken) refl
 
-pub payload_first : (F : Reader) (w : State) (id : ℕ) (s : Segment) → flow_at w id ≡ None → is_first w.ports s ≡ true → payload_taken F w id s ≡ began F w id (first_number s) s.payload
+pub payload_first : (F : Reader) (w : State) (id : ℕ) (s : Segment) → flow_at w id ≡ None →
+    is_first w.ports s ≡ true → payload_taken F w id s ≡ began F w id (first_number s) s.payload
 unfolding payload_taken
-payload_first F w id s e f = rw (e, payload_taken) (cond-true (is_first w.ports s) (began F w id (first_number s) s.payload) w f)
+payload_first F w id s e f = rw (e, payload_taken)
+    (cond-true (is_first w.ports s) (began F w id (first_number s) s.payload) w f)
 
-pub payload_nothing : (F : Reader) (w : State) (id : ℕ) (s : Segment) → flow_at w id ≡ None → is_first w.ports s ≡ false → payload_taken F w id s ≡ w
+pub payload_nothing : (F : Reader) (w : State) (id : ℕ) (s : Segment) → flow_at w id ≡ None →
+    is_first w.ports s ≡ false → payload_taken F w id s ≡ w
 unfolding payload_taken
-payload_nothing F w id s e f = rw (e, payload_taken) (cond-false (is_first w.ports s) (began F w id (first_number s) s.payload) w f)
+payload_nothing F w id s e f = rw (e, payload_taken)
+    (cond-false (is_first w.ports s) (began F w id (first_number s) s.payload) w f)
 
-pub payload_reset : (F : Reader) (w : State) (id : ℕ) (s : Segment) (f : FlowState) → flow_at w id ≡ Some f → s.reset ≡ true → payload_taken F w id s ≡ w
+pub payload_reset : (F : Reader) (w : State) (id : ℕ) (s : Segment) (f : FlowState) →
+    flow_at w id ≡ Some f → s.reset ≡ true → payload_taken F w id s ≡ w
 unfolding payload_taken
-payload_reset F w id s f e r = rw (e, payload_taken) (cond-true s.reset w (arrived F w id (Octets (first_number s) s.payload)) r)
+payload_reset F w id s f e r = rw (e, payload_taken)
+    (cond-true s.reset w (arrived F w id (Octets (first_number s) s.payload)) r)
 
-pub payload_later : (F : Reader) (w : State) (id : ℕ) (s : Segment) (f : FlowState) → flow_at w id ≡ Some f → s.reset ≡ false → payload_taken F w id s ≡ arrived F w id (Octets (first_number s) s.payload)
+pub payload_later : (F : Reader) (w : State) (id : ℕ) (s : Segment) (f : FlowState) →
+    flow_at w id ≡ Some f → s.reset ≡ false →
+    payload_taken F w id s ≡ arrived F w id (Octets (first_number s) s.payload)
 unfolding payload_taken
-payload_later F w id s f e r = rw (e, payload_taken) (cond-false s.reset w (arrived F w id (Octets (first_number s) s.payload)) r)
+payload_later F w id s f e r = rw (e, payload_taken)
+    (cond-false s.reset w (arrived F w id (Octets (first_number s) s.payload)) r)
 
-pub no_fin : (F : Reader) (w : State) (id : ℕ) (s : Segment) → s.fin ≡ false → fin_taken F w id s ≡ w
+pub no_fin : (F : Reader) (w : State) (id : ℕ) (s : Segment) → s.fin ≡ false →
+    fin_taken F w id s ≡ w
 unfolding fin_taken
 no_fin F w id s e = cond-false s.fin (arrived F w id (End (number_behind s))) w e
 
-pub a_fin : (F : Reader) (w : State) (id : ℕ) (s : Segment) → s.fin ≡ true → fin_taken F w id s ≡ arrived F w id (End (number_behind s))
+pub a_fin : (F : Reader) (w : State) (id : ℕ) (s : Segment) → s.fin ≡ true →
+    fin_taken F w id s ≡ arrived F w id (End (number_behind s))
 unfolding fin_taken
 a_fin F w id s e = cond-true s.fin (arrived F w id (End (number_behind s))) w e
 
-pub no_reset : (w : State) (place : ℕ) (side : Side) (s : Segment) → s.reset ≡ false → reset_taken w place side s ≡ w
+pub no_reset : (w : State) (place : ℕ) (side : Side) (s : Segment) → s.reset ≡ false →
+    reset_taken w place side s ≡ w
 unfolding reset_taken
 no_reset w place side s e = cond-false s.reset (forgotten w place side Reset) w e
 
-pub a_reset : (w : State) (place : ℕ) (side : Side) (s : Segment) → s.reset ≡ true → reset_taken w place side s ≡ forgotten w place side Reset
+pub a_reset : (w : State) (place : ℕ) (side : Side) (s : Segment) → s.reset ≡ true →
+    reset_taken w place side s ≡ forgotten w place side Reset
 unfolding reset_taken
 a_reset w place side s e = cond-true s.reset (forgotten w place side Reset) w e
 
-pub unknown_nothing : (F : Reader) (w : State) (s : Segment) → is_first w.ports s ≡ false → unknown_taken F w s ≡ w
+pub unknown_nothing : (F : Reader) (w : State) (s : Segment) → is_first w.ports s ≡ false →
+    unknown_taken F w s ≡ w
 unfolding unknown_taken
-unknown_nothing F w s e = cond-false (is_first w.ports s) (fin_taken F (began F (made_known (with_room w) (pair_of s.flow).0) (flow_id (next_room (with_room w).free) (pair_of s.flow).1) (first_number s) s.payload) (flow_id (next_room (with_room w).free) (pair_of s.flow).1) s) w e
+unknown_nothing F w s e = cond-false (is_first w.ports s)
+    (fin_taken F (began F (made_known (with_room w) (pair_of s.flow).0)
+    (flow_id (next_room (with_room w).free) (pair_of s.flow).1) (first_number s) s.payload)
+    (flow_id (next_room (with_room w).free) (pair_of s.flow).1) s) w e
 
 pub unknown_first : (F : Reader) (w : State) (s : Segment) → is_first w.ports s ≡ true
-    → unknown_taken F w s ≡ fin_taken F (began F (made_known (with_room w) (pair_of s.flow).0) (flow_id (next_room (with_room w).free) (pair_of s.flow).1) (first_number s) s.payload) (flow_id (next_room (with_room w).free) (pair_of s.flow).1) s
+    → unknown_taken F w s ≡ fin_taken F (began F (made_known (with_room w) (pair_of s.flow).0)
+    (flow_id (next_room (with_room w).free) (pair_of s.flow).1) (first_number s) s.payload)
+    (flow_id (next_room (with_room w).free) (pair_of s.flow).1) s
 unfolding unknown_taken
-unknown_first F w s e = cond-true (is_first w.ports s) (fin_taken F (began F (made_known (with_room w) (pair_of s.flow).0) (flow_id (next_room (with_room w).free) (pair_of s.flow).1) (first_number s) s.payload) (flow_id (next_room (with_room w).free) (pair_of s.flow).1) s) w e
+unknown_first F w s e = cond-true (is_first w.ports s)
+    (fin_taken F (began F (made_known (with_room w) (pair_of s.flow).0)
+    (flow_id (next_room (with_room w).free) (pair_of s.flow).1) (first_number s) s.payload)
+    (flow_id (next_room (with_room w).free) (pair_of s.flow).1) s) w e
 
 pub room_there : (w : State) → length w.known < length w.lasts → with_room w ≡ w
 unfolding with_room
-room_there w l = cond-true (nat_lt (length w.known) (length w.lasts)) w (forgotten w (eldest w (length w.known)) (elder_side (room_at w (eldest w (length w.known))) (lives w.events)) Room) (lt-ltb (length w.known) (length w.lasts) l)
+room_there w l = cond-true (nat_lt (length w.known) (length w.lasts)) w
+    (forgotten w (eldest w (length w.known))
+    (elder_side (room_at w (eldest w (length w.known))) (lives w.events)) Room)
+    (lt-ltb (length w.known) (length w.lasts) l)
 
-pub room_made : (w : State) → length w.lasts ≤ length w.known → with_room w ≡ forgotten w (eldest w (length w.known)) (elder_side (room_at w (eldest w (length w.known))) (lives w.events)) Room
+pub room_made : (w : State) → length w.lasts ≤ length w.known →
+    with_room w ≡ forgotten w (eldest w (length w.known))
+    (elder_side (room_at w (eldest w (length w.known))) (lives w.events)) Room
 unfolding with_room
-room_made w l = cond-false (nat_lt (length w.known) (length w.lasts)) w (forgotten w (eldest w (length w.known)) (elder_side (room_at w (eldest w (length w.known))) (lives w.events)) Room) (le-ltb (length w.known) (length w.lasts) l)
+room_made w l = cond-false (nat_lt (length w.known) (length w.lasts)) w
+    (forgotten w (eldest w (length w.known))
+    (elder_side (room_at w (eldest w (length w.known))) (lives w.events)) Room)
+    (le-ltb (length w.known) (length w.lasts) l)
 
-pub step_unknown : (F : Reader) (w : State) (s : Segment) → place_of (pair_of s.flow).0 w.known ≡ None → step F w s ≡ unknown_taken F (record w { segments = w.segments + 1 }) s
+pub step_unknown : (F : Reader) (w : State) (s : Segment) →
+    place_of (pair_of s.flow).0 w.known ≡ None →
+    step F w s ≡ unknown_taken F (record w { segments = w.segments + 1 }) s
 unfolding step
 step_unknown F w s e = rw (e, step) refl
 
-pub step_anew : (F : Reader) (w : State) (s : Segment) (place : ℕ) → place_of (pair_of s.flow).0 w.known ≡ Some place → is_anew (live_at w (flow_id (room_at w place) (pair_of s.flow).1)) s ≡ true
-    → step F w s ≡ unknown_taken F (forgotten (record w { segments = w.segments + 1 }) place (pair_of s.flow).1 Syn) s
+pub step_anew : (F : Reader) (w : State) (s : Segment) (place : ℕ) →
+    place_of (pair_of s.flow).0 w.known ≡ Some place →
+    is_anew (live_at w (flow_id (room_at w place) (pair_of s.flow).1)) s ≡ true
+    → step F w s ≡ unknown_taken F (forgotten (record w { segments = w.segments + 1 }) place
+    (pair_of s.flow).1 Syn) s
 unfolding step
 step_anew F w s place e a =
     let v : State = record w { segments = w.segments + 1 } in
-    rw (e, step) (cond-true (is_anew (live_at v (flow_id (room_at v place) (pair_of s.flow).1)) s) (unknown_taken F (forgotten v place (pair_of s.flow).1 Syn) s) (known_taken F v place s) a)
+    rw (e, step) (cond-true (is_anew (live_at v (flow_id (room_at v place) (pair_of s.flow).1)) s)
+    (unknown_taken F (forgotten v place (pair_of s.flow).1 Syn) s) (known_taken F v place s) a)
 
-pub step_known : (F : Reader) (w : State) (s : Segment) (place : ℕ) → place_of (pair_of s.flow).0 w.known ≡ Some place → is_anew (live_at w (flow_id (room_at w place) (pair_of s.flow).1)) s ≡ false
+pub step_known : (F : Reader) (w : State) (s : Segment) (place : ℕ) →
+    place_of (pair_of s.flow).0 w.known ≡ Some place →
+    is_anew (live_at w (flow_id (room_at w place) (pair_of s.flow).1)) s ≡ false
     → step F w s ≡ known_taken F (record w { segments = w.segments + 1 }) place s
 unfolding step
 step_known F w s place e a =
     let v : State = record w { segments = w.segments + 1 } in
-    rw (e, step) (cond-false (is_anew (live_at v (flow_id (room_at v place) (pair_of s.flow).1)) s) (unknown_taken F (forgotten v place (pair_of s.flow).1 Syn) s) (known_taken F v place s) a)
+    rw (e, step) (cond-false (is_anew (live_at v (flow_id (room_at v place) (pair_of s.flow).1)) s)
+    (unknown_taken F (forgotten v place (pair_of s.flow).1 Syn) s) (known_taken F v place s) a)
 
 -- what a segment of a known connection does, one after the other
-pub known_is : (F : Reader) (w : State) (place : ℕ) (s : Segment) (room : ℕ) (side : Side) (id other : ℕ) → room ≡ room_at w place → side ≡ (pair_of s.flow).1 → id ≡ flow_id room side → other ≡ flow_id room (opposite side)
+pub known_is : (F : Reader) (w : State) (place : ℕ) (s : Segment) (room : ℕ) (side : Side)
+    (id other : ℕ) → room ≡ room_at w place → side ≡ (pair_of s.flow).1 → id ≡ flow_id room side →
+    other ≡ flow_id room (opposite side)
     → known_taken F w place s
-    ≡ reset_taken (fin_taken F (payload_taken F (acknowledgement_taken F (record w { lasts = set w.lasts room w.segments }) other s) id s) id s) place side s
+    ≡ reset_taken (fin_taken F (payload_taken F
+    (acknowledgement_taken F (record w { lasts = set w.lasts room w.segments }) other s) id s)
+    id s) place side s
 unfolding known_taken
 known_is F w place s room side id other e f g h =
-    let K : ℕ → Side → ℕ → ℕ → State = λ r d i o. reset_taken (fin_taken F (payload_taken F (acknowledgement_taken F (record w { lasts = set w.lasts r w.segments }) o s) i s) i s) place d s in
+    let K : ℕ → Side → ℕ → ℕ → State = λ r d i o.
+    reset_taken (fin_taken F (payload_taken F
+    (acknowledgement_taken F (record w { lasts = set w.lasts r w.segments }) o s) i s) i s)
+    place d s in
     let here : Side = (pair_of s.flow).1 in
     sym (ap (λ (i : ℕ). K room side i other) g ∙ ap (λ (o : ℕ). K room side (flow_id room side) o) h
     ∙ ap (λ (d : Side). K room d (flow_id room d) (flow_id room (opposite d))) f
@@ -139,28 +201,38 @@ unfolding gaps_from
 gaps_none F zero rank w l = refl
 gaps_none F (suc count) rank w l = absurd (omega (arith, l))
 
-pub gaps_over : (F : Reader) (count rank : ℕ) (w : State) → length (lives w.events) ≤ rank → gaps_from F count rank w ≡ w
+pub gaps_over : (F : Reader) (count rank : ℕ) (w : State) → length (lives w.events) ≤ rank →
+    gaps_from F count rank w ≡ w
 unfolding gaps_from
 gaps_over F zero rank w l = refl
-gaps_over F (suc count) rank w l = let e : nat_lt rank (length (lives w.events)) ≡ false = le-ltb rank (length (lives w.events)) l in rw (e, gaps_from) refl
+gaps_over F (suc count) rank w l = let e : nat_lt rank (length (lives w.events)) ≡ false =
+    le-ltb rank (length (lives w.events)) l in rw (e, gaps_from) refl
 
-pub gaps_gap : (F : Reader) (count rank : ℕ) (w : State) → 0 < count → rank < length (lives w.events) → is_holding w.held (flow_at w (get_or (lives w.events) rank 0)) ≡ true
-    → gaps_from F count rank w ≡ gaps_from F (count - 1) rank (gapped F w (get_or (lives w.events) rank 0))
+pub gaps_gap : (F : Reader) (count rank : ℕ) (w : State) → 0 < count →
+    rank < length (lives w.events) → is_holding w.held (flow_at w (get_or (lives w.events) rank 0))
+    ≡ true
+    → gaps_from F count rank w ≡ gaps_from F (count - 1) rank
+    (gapped F w (get_or (lives w.events) rank 0))
 unfolding gaps_from
 gaps_gap F zero rank w z l h = absurd (omega (arith, z))
 gaps_gap F (suc count) rank w z l h =
     let k : suc count - 1 ≡ count = omega arith in
-    let e : nat_lt rank (length (lives w.events)) ≡ true = lt-ltb rank (length (lives w.events)) l in
+    let e : nat_lt rank (length (lives w.events)) ≡ true =
+    lt-ltb rank (length (lives w.events)) l in
     rw (k, e, h, gaps_from) refl
 
-pub gaps_next : (F : Reader) (count rank : ℕ) (w : State) → 0 < count → rank < length (lives w.events) → is_holding w.held (flow_at w (get_or (lives w.events) rank 0)) ≡ false
+pub gaps_next : (F : Reader) (count rank : ℕ) (w : State) → 0 < count →
+    rank < length (lives w.events) → is_holding w.held (flow_at w (get_or (lives w.events) rank 0))
+    ≡ false
     → gaps_from F count rank w ≡ gaps_from F (count - 1) (rank + 1) w
 unfolding gaps_from
 gaps_next F zero rank w z l h = absurd (omega (arith, z))
 gaps_next F (suc count) rank w z l h =
     let k : suc count - 1 ≡ count = omega arith in
-    let e : nat_lt rank (length (lives w.events)) ≡ true = lt-ltb rank (length (lives w.events)) l in
-    let goes : gaps_from F (suc count) rank w ≡ gaps_from F count (suc rank) w = rw (e, h, gaps_from) refl in
+    let e : nat_lt rank (length (lives w.events)) ≡ true =
+    lt-ltb rank (length (lives w.events)) l in
+    let goes : gaps_from F (suc count) rank w ≡ gaps_from F count (suc rank) w =
+    rw (e, h, gaps_from) refl in
     rw (k, add-one) goes
 
 pub closes_none : (count : ℕ) (w : State) → count ≤ 0 → all_closed count w ≡ w
@@ -171,10 +243,13 @@ closes_none (suc count) w l = absurd (omega (arith, l))
 pub closes_over : (count : ℕ) (w : State) → length (lives w.events) ≤ 0 → all_closed count w ≡ w
 unfolding all_closed
 closes_over zero w l = refl
-closes_over (suc count) w l = let e : nat_lt 0 (length (lives w.events)) ≡ false = le-ltb 0 (length (lives w.events)) l in rw (e, all_closed) refl
+closes_over (suc count) w l = let e : nat_lt 0 (length (lives w.events)) ≡ false =
+    le-ltb 0 (length (lives w.events)) l in rw (e, all_closed) refl
 
 pub closes_one : (count : ℕ) (w : State) → 0 < count → 0 < length (lives w.events)
-    → all_closed count w ≡ all_closed (count - 1) (closed_at w (get_or (lives w.events) 0 0) (end_cause (flow_at w (get_or (lives w.events) 0 0))))
+    → all_closed count w ≡ all_closed (count - 1)
+    (closed_at w (get_or (lives w.events) 0 0)
+    (end_cause (flow_at w (get_or (lives w.events) 0 0))))
 unfolding all_closed
 closes_one zero w z l = absurd (omega (arith, z))
 closes_one (suc count) w z l =
@@ -184,6 +259,8 @@ closes_one (suc count) w z l =
 
 -- ---- Which connection makes room.
 
-pub eldest_more : (w : State) (n : ℕ) → eldest w (n + 1) ≡ cond (goes_before w n (eldest w n)) n (eldest w n)
+pub eldest_more : (w : State) (n : ℕ) → eldest w (n + 1)
+    ≡ cond (goes_before w n (eldest w n)) n (eldest w n)
 unfolding eldest
-eldest_more w n = let more : eldest w (suc n) ≡ cond (goes_before w n (eldest w n)) n (eldest w n) = refl in ap (eldest w) (add-one n) ∙ more
+eldest_more w n = let more : eldest w (suc n) ≡ cond (goes_before w n (eldest w n)) n (eldest w n) =
+    refl in ap (eldest w) (add-one n) ∙ more

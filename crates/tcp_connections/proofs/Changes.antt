@@ -14,23 +14,30 @@ use Rattle.tcp_connections.specs.State.{IsSound, IsState, state_of, times}
 use Rattle.tcp_connections.proofs.Sound.{sound_seen, known_sound}
 use Rattle.tcp_connections.proofs.Times.{next_is, rest_is, times_last, times_own}
 
-pub noted : (O : List Event → Type 0) (live : List ℕ) (c c' : Connections) (w : State) (room : ℕ) → IsState O live c w
-    → ((e : List Event) → state_of c' e ≡ record (state_of c e) { lasts = set c.stamps.last.items room c.segments })
+pub noted : (O : List Event → Type 0) (live : List ℕ) (c c' : Connections) (w : State) (room : ℕ) →
+    IsState O live c w
+    → ((e : List Event) → state_of c' e ≡ record (state_of c e) {
+      lasts =
+          set c.stamps.last.items room c.segments;
+    })
     → c'.free.most ≡ c.free.most → c'.table.most ≡ c.table.most
     → IsState O live c' (record w { lasts = set w.lasts room w.segments })
 noted O live c c' w room h same free table =
-    let long : length (set w.lasts room w.segments) ≡ length w.lasts = length-set w.lasts room w.segments in
+    let long : length (set w.lasts room w.segments) ≡ length w.lasts =
+    length-set w.lasts room w.segments in
     record {
       observed = h.observed;
       live = h.live;
-      same = same w.events ∙ ap (λ (u : State). record u { lasts = set u.lasts room u.segments }) h.same;
+      same = same w.events ∙ ap (λ (u : State). record u { lasts = set u.lasts room u.segments })
+          h.same;
       told = h.told;
       sound = sound_seen w (set w.lasts room w.segments) w.segments w.events long h.sound;
       free = free ∙ h.free ∙ sym long;
       room = table ∙ h.room ∙ sym long;
     }
 
-pub counted : (O : List Event → Type 0) (live : List ℕ) (c c' : Connections) (w : State) → IsState O live c w
+pub counted : (O : List Event → Type 0) (live : List ℕ) (c c' : Connections) (w : State) →
+    IsState O live c w
     → ((e : List Event) → state_of c' e ≡ record (state_of c e) { segments = c.segments + 1 })
     → c'.free.most ≡ c.free.most → c'.table.most ≡ c.table.most
     → IsState O live c' (record w { segments = w.segments + 1 })
@@ -46,9 +53,11 @@ counted O live c c' w h same free table =
     }
 
 abbrev pub opened : ℕ → EndpointPair → List Event → List Event
-opened room p events = (events ++ Opens (flow_id room FromLesser) (flow_from p FromLesser) ∷ []) ++ Opens (flow_id room FromGreater) (flow_from p FromGreater) ∷ []
+opened room p events = (events ++ Opens (flow_id room FromLesser) (flow_from p FromLesser) ∷ [])
+    ++ Opens (flow_id room FromGreater) (flow_from p FromGreater) ∷ []
 
-opened_lives : (room : ℕ) (p : EndpointPair) (events : List Event) → lives (opened room p events) ≡ lives events
+opened_lives : (room : ℕ) (p : EndpointPair) (events : List Event) →
+    lives (opened room p events) ≡ lives events
 unfolding behind
 opened_lives room p events =
     let lesser : Event = Opens (flow_id room FromLesser) (flow_from p FromLesser) in
@@ -57,33 +66,78 @@ opened_lives room p events =
 
 -- what the code made is what the definition makes
 made_is : (w : State) (p : EndpointPair) (rest : List ℕ) (room : ℕ) → w.free ≡ rest ++ room ∷ []
-    → (record w { known = insert w.known (place_among p w.known) p; rooms = insert w.rooms (place_among p w.known) room; free = rest; lasts = set w.lasts room w.segments; events = opened room p w.events }) ≡ made_known w p
+    → (record w {
+      known = insert w.known (place_among p w.known) p;
+      rooms =
+          insert w.rooms (place_among p w.known) room;
+      free = rest;
+      lasts =
+          set w.lasts room w.segments;
+      events = opened room p w.events;
+    }) ≡ made_known w p
 unfolding made_known
 made_is w p rest room e =
     let next : next_room w.free ≡ room = ap next_room e ∙ next_is rest room in
     let others : rest_of_rooms w.free ≡ rest = ap rest_of_rooms e ∙ rest_is rest room in
-    ap (λ (r : ℕ). record w { known = insert w.known (place_among p w.known) p; rooms = insert w.rooms (place_among p w.known) r; free = rest; lasts = set w.lasts r w.segments; events = opened r p w.events }) (sym next)
-    ∙ ap (λ (rs : List ℕ). record w { known = insert w.known (place_among p w.known) p; rooms = insert w.rooms (place_among p w.known) (next_room w.free); free = rs; lasts = set w.lasts (next_room w.free) w.segments; events = opened (next_room w.free) p w.events }) (sym others)
+    ap (λ (r : ℕ). record w {
+      known = insert w.known (place_among p w.known) p;
+      rooms =
+          insert w.rooms (place_among p w.known) r;
+      free = rest;
+      lasts = set w.lasts r w.segments;
+      events = opened r p w.events;
+    }) (sym next)
+    ∙ ap (λ (rs : List ℕ). record w {
+      known = insert w.known (place_among p w.known) p;
+      rooms =
+          insert w.rooms (place_among p w.known) (next_room w.free);
+      free = rs;
+      lasts =
+          set w.lasts (next_room w.free) w.segments;
+      events = opened (next_room w.free) p w.events;
+    })
+    (sym others)
 
-pub made : (O O' : List Event → Type 0) (live live' : List ℕ) (c c' : Connections) (w : State) (p : EndpointPair) (rest : List ℕ) (room : ℕ) → IsState O live c w
+pub made : (O O' : List Event → Type 0) (live live' : List ℕ) (c c' : Connections) (w : State)
+    (p : EndpointPair) (rest : List ℕ) (room : ℕ) → IsState O live c w
     → O' (opened room p w.events) → live' ≡ lives (opened room p w.events)
     → c.free.free.items ≡ rest ++ room ∷ [] → place_of p c.table.keys.items ≡ None
-    → ((e : List Event) → state_of c' e ≡ record (state_of c e) { known = insert c.table.keys.items (place_among p c.table.keys.items) p; rooms = insert c.table.rooms.items (place_among p c.table.keys.items) room; free = rest; lasts = set c.stamps.last.items room c.segments })
+    → ((e : List Event) → state_of c' e ≡ record (state_of c e) {
+      known =
+          insert c.table.keys.items (place_among p c.table.keys.items) p;
+      rooms =
+          insert c.table.rooms.items (place_among p c.table.keys.items) room;
+      free = rest;
+      lasts =
+          set c.stamps.last.items room c.segments;
+    })
     → c'.free.most ≡ c.free.most → c'.table.most ≡ c.table.most
     → IsState O' live' c' (made_known w p)
 made O O' live live' c c' w p rest room h observed living free new state most table =
-    let long : length (set w.lasts room w.segments) ≡ length w.lasts = length-set w.lasts room w.segments in
+    let long : length (set w.lasts room w.segments) ≡ length w.lasts =
+    length-set w.lasts room w.segments in
     let had : w.free ≡ rest ++ room ∷ [] = sym (ap (λ (u : State). u.free) h.same) ∙ free in
-    let unknown : place_of p w.known ≡ None = sym (ap (λ (u : State). place_of p u.known) h.same) ∙ new in
+    let unknown : place_of p w.known ≡ None =
+    sym (ap (λ (u : State). place_of p u.known) h.same) ∙ new in
     subst (IsState O' live' c') (made_is w p rest room had)
     (record {
       observed = observed;
       live = living;
       same =
           state (opened room p w.events)
-          ∙ ap (λ (u : State). record u { known = insert u.known (place_among p u.known) p; rooms = insert u.rooms (place_among p u.known) room; free = rest; lasts = set u.lasts room u.segments; events = opened room p w.events }) h.same;
-      told = λ id e. subst (λ (xs : List ℕ). 0 < times id xs) (sym (opened_lives room p w.events)) (h.told id e);
-      sound = known_sound w p rest room (set w.lasts room w.segments) (opened room p w.events) h.sound had unknown long;
+          ∙ ap (λ (u : State). record u {
+            known = insert u.known (place_among p u.known) p;
+            rooms =
+                insert u.rooms (place_among p u.known) room;
+            free = rest;
+            lasts =
+                set u.lasts room u.segments;
+            events = opened room p w.events;
+          }) h.same;
+      told = λ id e. subst (λ (xs : List ℕ). 0 < times id xs) (sym (opened_lives room p w.events))
+          (h.told id e);
+      sound = known_sound w p rest room (set w.lasts room w.segments) (opened room p w.events)
+          h.sound had unknown long;
       free = most ∙ h.free ∙ sym long;
       room = table ∙ h.room ∙ sym long;
     })
@@ -94,19 +148,59 @@ abbrev pub others_of : Connections → List Event → State
 others_of c es = record (state_of c es) { known = []; rooms = []; free = []; lasts = [] }
 
 -- only which connections are known has changed, and when
-pub entered : (c c' : Connections) (es : List Event) → ((e : List Event) → others_of c' e ≡ others_of c e) → (known : List EndpointPair) (rooms free lasts : List ℕ)
-    → c'.table.keys.items ≡ known → c'.table.rooms.items ≡ rooms → c'.free.free.items ≡ free → c'.stamps.last.items ≡ lasts
-    → state_of c' es ≡ record (state_of c es) { known = known; rooms = rooms; free = free; lasts = lasts }
+pub entered : (c c' : Connections) (es : List Event) →
+    ((e : List Event) → others_of c' e ≡ others_of c e) →
+    (known : List EndpointPair) (rooms free lasts : List ℕ)
+    → c'.table.keys.items ≡ known → c'.table.rooms.items ≡ rooms → c'.free.free.items ≡ free →
+    c'.stamps.last.items ≡ lasts
+    → state_of c' es ≡ record (state_of c es) {
+      known = known;
+      rooms = rooms;
+      free = free;
+      lasts =
+          lasts;
+    }
 entered c c' es others known rooms free lasts k r f l =
-    ap (λ (u : State). record u { known = c'.table.keys.items; rooms = c'.table.rooms.items; free = c'.free.free.items; lasts = c'.stamps.last.items }) (others es)
-    ∙ ap (λ (ps : List EndpointPair). record (state_of c es) { known = ps; rooms = c'.table.rooms.items; free = c'.free.free.items; lasts = c'.stamps.last.items }) k
-    ∙ ap (λ (rs : List ℕ). record (state_of c es) { known = known; rooms = rs; free = c'.free.free.items; lasts = c'.stamps.last.items }) r
-    ∙ ap (λ (rs : List ℕ). record (state_of c es) { known = known; rooms = rooms; free = rs; lasts = c'.stamps.last.items }) f
-    ∙ ap (λ (ns : List ℕ). record (state_of c es) { known = known; rooms = rooms; free = free; lasts = ns }) l
+    ap (λ (u : State). record u {
+      known = c'.table.keys.items;
+      rooms = c'.table.rooms.items;
+      free =
+          c'.free.free.items;
+      lasts = c'.stamps.last.items;
+    }) (others es)
+    ∙ ap (λ (ps : List EndpointPair). record (state_of c es) {
+      known = ps;
+      rooms =
+          c'.table.rooms.items;
+      free = c'.free.free.items;
+      lasts = c'.stamps.last.items;
+    }) k
+    ∙ ap (λ (rs : List ℕ). record (state_of c es) {
+      known = known;
+      rooms = rs;
+      free =
+          c'.free.free.items;
+      lasts = c'.stamps.last.items;
+    }) r
+    ∙ ap (λ (rs : List ℕ). record (state_of c es) {
+      known = known;
+      rooms = rooms;
+      free = rs;
+      lasts =
+          c'.stamps.last.items;
+    }) f
+    ∙ ap (λ (ns : List ℕ). record (state_of c es) {
+      known = known;
+      rooms = rooms;
+      free = free;
+      lasts = ns;
+    }) l
 
 -- the ids and flows that are told, by what they are
-pub told_as : (P : List Event → Type 0) (es : List Event) (a b a' b' : ℕ) (x y x' y' : Endpoints) → a ≡ a' → x ≡ x' → b ≡ b' → y ≡ y'
-    → P ((es ++ Opens a x ∷ []) ++ Opens b y ∷ []) → P ((es ++ Opens a' x' ∷ []) ++ Opens b' y' ∷ [])
+pub told_as : (P : List Event → Type 0) (es : List Event) (a b a' b' : ℕ) (x y x' y' : Endpoints) →
+    a ≡ a' → x ≡ x' → b ≡ b' → y ≡ y'
+    → P ((es ++ Opens a x ∷ []) ++ Opens b y ∷ []) →
+    P ((es ++ Opens a' x' ∷ []) ++ Opens b' y' ∷ [])
 told_as P es a b a' b' x y x' y' d e f g h =
     (subst (λ (z : Endpoints). P ((es ++ Opens a' x' ∷ []) ++ Opens b' z ∷ [])) g
     (subst (λ (n : ℕ). P ((es ++ Opens a' x' ∷ []) ++ Opens n y ∷ [])) f
@@ -114,7 +208,8 @@ told_as P es a b a' b' x y x' y' d e f g h =
     (subst (λ (n : ℕ). P ((es ++ Opens n x ∷ []) ++ Opens b y ∷ [])) d h))))
 
 -- the room that is taken is one of those that there are
-pub taken_below : (w : State) (rest : List ℕ) (room : ℕ) → IsSound w → w.free ≡ rest ++ room ∷ [] → room < length w.lasts
+pub taken_below : (w : State) (rest : List ℕ) (room : ℕ) → IsSound w → w.free ≡ rest ++ room ∷ [] →
+    room < length w.lasts
 taken_below w rest room h e =
     let own : ◌≡◌ {A = ℕ} (cond (nat_eq room room) 1 0) 1 = times_own room in
     h.below room (omega (arith, ap (times room) e, times_last room rest room, own))

@@ -14,13 +14,18 @@ use Rattle.tcp_connections.proofs.Cases.{room_there, room_made, step_unknown, st
 use Rattle.tcp_connections.proofs.Forgotten.{forgot_either}
 use Rattle.tcp_connections.proofs.Kept.{began_kept, acknowledgement_kept, payload_kept, fin_kept}
 
-forgot_segments : (w : State) (id : ℕ) (cause : CloseCause) → (flow_forgotten w id cause).segments ≡ w.segments
-forgot_segments w id cause = forgot_either (λ v. v.segments ≡ w.segments) w id cause (λ e. refl) (λ s e. refl)
+forgot_segments : (w : State) (id : ℕ) (cause : CloseCause) →
+    (flow_forgotten w id cause).segments ≡ w.segments
+forgot_segments w id cause = forgot_either (λ v. v.segments ≡ w.segments) w id cause (λ e. refl)
+    (λ s e. refl)
 
-forgotten_segments : (w : State) (place : ℕ) (side : Side) (cause : CloseCause) → (forgotten w place side cause).segments ≡ w.segments
+forgotten_segments : (w : State) (place : ℕ) (side : Side) (cause : CloseCause) →
+    (forgotten w place side cause).segments ≡ w.segments
 unfolding forgotten
 forgotten_segments w place side cause =
-    forgot_segments (flow_forgotten w (flow_id (room_at w place) side) cause) (flow_id (room_at w place) (opposite side)) cause ∙ forgot_segments w (flow_id (room_at w place) side) cause
+    forgot_segments (flow_forgotten w (flow_id (room_at w place) side) cause)
+    (flow_id (room_at w place) (opposite side)) cause
+    ∙ forgot_segments w (flow_id (room_at w place) side) cause
 
 room_segments : (w : State) → (with_room w).segments ≡ w.segments
 room_segments w =
@@ -28,18 +33,21 @@ room_segments w =
       | inl l ↦ ap (λ (v : State). v.segments) (room_there w l)
       | inr g ↦
           ap (λ (v : State). v.segments) (room_made w g)
-          ∙ forgotten_segments w (eldest w (length w.known)) (elder_side (room_at w (eldest w (length w.known))) (lives w.events)) Room
+          ∙ forgotten_segments w (eldest w (length w.known))
+          (elder_side (room_at w (eldest w (length w.known))) (lives w.events)) Room
     ]
 
 made_segments : (w : State) (p : EndpointPair) → (made_known w p).segments ≡ w.segments
 unfolding made_known
 made_segments w p = refl
 
-either : (n : ℕ) (b : Bool) (v w : State) → v.segments ≡ n → w.segments ≡ n → (cond b v w).segments ≡ n
+either : (n : ℕ) (b : Bool) (v w : State) → v.segments ≡ n → w.segments ≡ n →
+    (cond b v w).segments ≡ n
 either n true v w h k = h
 either n false v w h k = k
 
-unknown_segments : (F : Reader) (w : State) (s : Segment) → (unknown_taken F w s).segments ≡ w.segments
+unknown_segments : (F : Reader) (w : State) (s : Segment) →
+    (unknown_taken F w s).segments ≡ w.segments
 unfolding unknown_taken
 unknown_segments F w s =
     let v : State = with_room w in
@@ -47,13 +55,17 @@ unknown_segments F w s =
     let id : ℕ = flow_id (next_room v.free) (pair_of s.flow).1 in
     let b : State = began F m id (first_number s) s.payload in
     either w.segments (is_first w.ports s) (fin_taken F b id s) w
-    ((fin_kept F b id s).segments ∙ (began_kept F m id (first_number s) s.payload).segments ∙ made_segments v (pair_of s.flow).0 ∙ room_segments w) refl
+    ((fin_kept F b id s).segments ∙ (began_kept F m id (first_number s) s.payload).segments
+    ∙ made_segments v (pair_of s.flow).0 ∙ room_segments w) refl
 
-reset_segments : (w : State) (place : ℕ) (side : Side) (s : Segment) → (reset_taken w place side s).segments ≡ w.segments
+reset_segments : (w : State) (place : ℕ) (side : Side) (s : Segment) →
+    (reset_taken w place side s).segments ≡ w.segments
 unfolding reset_taken
-reset_segments w place side s = either w.segments s.reset (forgotten w place side Reset) w (forgotten_segments w place side Reset) refl
+reset_segments w place side s = either w.segments s.reset (forgotten w place side Reset) w
+    (forgotten_segments w place side Reset) refl
 
-known_segments : (F : Reader) (w : State) (place : ℕ) (s : Segment) → (known_taken F w place s).segments ≡ w.segments
+known_segments : (F : Reader) (w : State) (place : ℕ) (s : Segment) →
+    (known_taken F w place s).segments ≡ w.segments
 unfolding known_taken
 known_segments F w place s =
     let side : Side = (pair_of s.flow).1 in
@@ -62,17 +74,24 @@ known_segments F w place s =
     let seen : State = record w { lasts = set w.lasts room w.segments } in
     let heard : State = acknowledgement_taken F seen (flow_id room (opposite side)) s in
     let paid : State = payload_taken F heard id s in
-    reset_segments (fin_taken F paid id s) place side s ∙ (fin_kept F paid id s).segments ∙ (payload_kept F heard id s).segments ∙ (acknowledgement_kept F seen (flow_id room (opposite side)) s).segments
+    reset_segments (fin_taken F paid id s) place side s ∙ (fin_kept F paid id s).segments
+    ∙ (payload_kept F heard id s).segments
+    ∙ (acknowledgement_kept F seen (flow_id room (opposite side)) s).segments
 
 pub step_segments : (F : Reader) (w : State) (s : Segment) → (step F w s).segments ≡ w.segments + 1
 step_segments F w s = by (place_of (pair_of s.flow).0 w.known) refl
   where
-    by : (o : Option ℕ) → place_of (pair_of s.flow).0 w.known ≡ o → (step F w s).segments ≡ w.segments + 1
-    by None e = ap (λ (v : State). v.segments) (step_unknown F w s e) ∙ unknown_segments F (record w { segments = w.segments + 1 }) s
+    by : (o : Option ℕ) → place_of (pair_of s.flow).0 w.known ≡ o →
+        (step F w s).segments ≡ w.segments + 1
+    by None e = ap (λ (v : State). v.segments) (step_unknown F w s e)
+        ∙ unknown_segments F (record w { segments = w.segments + 1 }) s
     by (Some place) e =
         let v : State = record w { segments = w.segments + 1 } in
         let side : Side = (pair_of s.flow).1 in
         elim (cases_Bool (is_anew (live_at w (flow_id (room_at w place) side)) s)) [
-          | inl a ↦ ap (λ (u : State). u.segments) (step_anew F w s place e a) ∙ unknown_segments F (forgotten v place side Syn) s ∙ forgotten_segments v place side Syn
-          | inr a ↦ ap (λ (u : State). u.segments) (step_known F w s place e a) ∙ known_segments F v place s
+          | inl a ↦ ap (λ (u : State). u.segments) (step_anew F w s place e a)
+              ∙ unknown_segments F (forgotten v place side Syn) s
+              ∙ forgotten_segments v place side Syn
+          | inr a ↦ ap (λ (u : State). u.segments) (step_known F w s place e a)
+              ∙ known_segments F v place s
         ]

@@ -42,7 +42,8 @@ pub lives_ids : (es : List Event) → AreIds (lives es)
 lives_ids es = from_ids [] es none_ids
 
 -- where a number stands
-times_index : (n : ℕ) (xs : List ℕ) → 0 < times n xs → (r : ℕ) × ((r < length xs) × (get_or xs r 0 ≡ n))
+times_index : (n : ℕ) (xs : List ℕ) → 0 < times n xs → (r : ℕ)
+    × ((r < length xs) × (get_or xs r 0 ≡ n))
 unfolding times
 times_index n [] l = absurd (omega (arith, l))
 times_index n (x ∷ xs) l =
@@ -55,26 +56,45 @@ times_index n (x ∷ xs) l =
     ]
 
 -- those before one that is taken away stay where they are
-differs : (x n k : ℕ) (xs : List ℕ) → IsDistinct eqb (x ∷ xs) → k < length xs → get_or xs k 0 ≡ n → nat_eq x n ≡ false
-differs x n k xs d l e = subst (λ (m : ℕ). nat_eq x m ≡ false) e (apart_from_distinct eqb (x ∷ xs) 0 (suc k) 0 d (omega arith) (omega (arith, l)))
+differs : (x n k : ℕ) (xs : List ℕ) → IsDistinct eqb (x ∷ xs) → k < length xs → get_or xs k 0 ≡ n →
+    nat_eq x n ≡ false
+differs x n k xs d l e = subst (λ (m : ℕ). nat_eq x m ≡ false) e
+    (apart_from_distinct eqb (x ∷ xs) 0 (suc k) 0 d (omega arith) (omega (arith, l)))
 
-at_without : (n : ℕ) (xs : List ℕ) (r k : ℕ) → IsDistinct eqb xs → k < length xs → get_or xs k 0 ≡ n → r < k → get_or (without n xs) r 0 ≡ get_or xs r 0
+at_without : (n : ℕ) (xs : List ℕ) (r k : ℕ) → IsDistinct eqb xs → k < length xs →
+    get_or xs k 0 ≡ n → r < k → get_or (without n xs) r 0 ≡ get_or xs r 0
 unfolding without IsDistinct
 at_without n [] r k d l e b = absurd (omega (arith, l))
 at_without n (x ∷ xs) r zero d l e b = absurd (omega (arith, b))
-at_without n (x ∷ xs) zero (suc k) d l e b = ap (λ (ys : List ℕ). get_or ys 0 0) (cond-false (nat_eq x n) xs (x ∷ without n xs) (differs x n k xs d (omega (arith, l)) e))
+at_without n (x ∷ xs) zero (suc k) d l e b =
+    ap (λ (ys : List ℕ). get_or ys 0 0) (cond-false (nat_eq x n) xs (x ∷ without n xs)
+    (differs x n k xs d (omega (arith, l)) e))
 at_without n (x ∷ xs) (suc r) (suc k) d l e b =
-    ap (λ (ys : List ℕ). get_or ys (suc r) 0) (cond-false (nat_eq x n) xs (x ∷ without n xs) (differs x n k xs d (omega (arith, l)) e))
+    ap (λ (ys : List ℕ). get_or ys (suc r) 0)
+    (cond-false (nat_eq x n) xs (x ∷ without n xs) (differs x n k xs d (omega (arith, l)) e))
     ∙ at_without n xs r k d.1 (omega (arith, l)) e (omega (arith, b))
 
-length_without : (n : ℕ) (xs : List ℕ) (k : ℕ) → k < length xs → get_or xs k 0 ≡ n → length (without n xs) + 1 ≡ length xs
+length_without : (n : ℕ) (xs : List ℕ) (k : ℕ) → k < length xs → get_or xs k 0 ≡ n →
+    length (without n xs) + 1 ≡ length xs
 unfolding without
 length_without n [] k l e = absurd (omega (arith, l))
-length_without n (x ∷ xs) zero l e = omega (arith, ap {B = ℕ} length (cond-true (nat_eq x n) xs (x ∷ without n xs) (eq-eqb x n e)))
+length_without n (x ∷ xs) zero l e = omega (
+  arith,
+  ap {B = ℕ} length (cond-true (nat_eq x n) xs (x ∷ without n xs) (eq-eqb x n e)),
+)
 length_without n (x ∷ xs) (suc k) l e =
     elim (cases_Bool (nat_eq x n)) [
-      | inl own ↦ omega (arith, ap {B = ℕ} length (cond-true (nat_eq x n) xs (x ∷ without n xs) own))
-      | inr other ↦ omega (arith, ap {B = ℕ} length (cond-false (nat_eq x n) xs (x ∷ without n xs) other), length_without n xs k (omega (arith, l)) e)
+      | inl own ↦ omega (
+        arith,
+        ap {B = ℕ} length
+            (cond-true (nat_eq x n) xs (x ∷ without n xs) own),
+      )
+      | inr other ↦ omega (
+        arith,
+        ap {B = ℕ} length
+            (cond-false (nat_eq x n) xs (x ∷ without n xs) other),
+        length_without n xs k (omega (arith, l)) e,
+      )
     ]
 
 not_own : (n x : ℕ) → eqb n x ≡ false → nat_eq x n ≡ false
@@ -83,12 +103,15 @@ not_own n x h = ne_eqb x n (λ o. absurd (true≢false (sym (eq-eqb n x (sym o))
 without_none : (n : ℕ) (xs : List ℕ) → AllByRecursion (λ y. eqb n y ≡ false) xs → without n xs ≡ xs
 unfolding without
 without_none n [] h = refl
-without_none n (x ∷ xs) h = cond-false (nat_eq x n) xs (x ∷ without n xs) (not_own n x h.0) ∙ ap (λ (ys : List ℕ). x ∷ ys) (without_none n xs h.1)
+without_none n (x ∷ xs) h = cond-false (nat_eq x n) xs (x ∷ without n xs) (not_own n x h.0)
+    ∙ ap (λ (ys : List ℕ). x ∷ ys) (without_none n xs h.1)
 
-without_last : (n : ℕ) (xs : List ℕ) → AllByRecursion (λ y. eqb n y ≡ false) xs → without n (xs ++ n ∷ []) ≡ xs
+without_last : (n : ℕ) (xs : List ℕ) → AllByRecursion (λ y. eqb n y ≡ false) xs →
+    without n (xs ++ n ∷ []) ≡ xs
 unfolding without
 without_last n [] h = cond-true (nat_eq n n) [] (n ∷ []) (eq-eqb n n refl)
-without_last n (x ∷ xs) h = cond-false (nat_eq x n) (xs ++ n ∷ []) (x ∷ without n (xs ++ n ∷ [])) (not_own n x h.0) ∙ ap (λ (ys : List ℕ). x ∷ ys) (without_last n xs h.1)
+without_last n (x ∷ xs) h = cond-false (nat_eq x n) (xs ++ n ∷ []) (x ∷ without n (xs ++ n ∷ []))
+    (not_own n x h.0) ∙ ap (λ (ys : List ℕ). x ∷ ys) (without_last n xs h.1)
 
 -- ---- A gap of a live stream: its flow's is the last from then on, or lives no longer.
 
@@ -105,11 +128,21 @@ either : {X : Type 0} (P : X → Type 0) (b : Bool) (x y : X) → P x → P y �
 either P true x y p q = p
 either P false x y p q = q
 
-closing_tail : (id : ℕ) (others : List ℕ) (g : Flow) (cause : CloseCause) → IsOther id others → IsTail id others g
-    → IsTail id others (record { id = g.id; next = g.next; live = None; fin = g.fin; held = g.held; events = g.events ++ Closes g.id cause ∷ [] })
+closing_tail : (id : ℕ) (others : List ℕ) (g : Flow) (cause : CloseCause) → IsOther id others →
+    IsTail id others g
+    → IsTail id others (record {
+      id = g.id;
+      next = g.next;
+      live = None;
+      fin = g.fin;
+      held = g.held;
+      events = g.events ++ Closes g.id cause ∷ [];
+    })
 unfolding behind
 closing_tail id others g cause o t =
-    let more : lives (g.events ++ Closes g.id cause ∷ []) ≡ without id (lives g.events) = lives_more [] g.events (Closes g.id cause) ∙ ap (λ (n : ℕ). without n (lives g.events)) t.same in
+    let more : lives (g.events ++ Closes g.id cause ∷ []) ≡ without id (lives g.events) =
+    lives_more [] g.events (Closes g.id cause)
+    ∙ ap (λ (n : ℕ). without n (lives g.events)) t.same in
     record {
       same = t.same;
       tail =
@@ -119,68 +152,132 @@ closing_tail id others g cause o t =
           ];
     }
 
-closed_tail : (id : ℕ) (others : List ℕ) (g : Flow) (cause : CloseCause) → IsOther id others → IsTail id others g → IsTail id others (closed g cause)
+closed_tail : (id : ℕ) (others : List ℕ) (g : Flow) (cause : CloseCause) → IsOther id others →
+    IsTail id others g → IsTail id others (closed g cause)
 unfolding closed with_event
 closed_tail id others g cause o t =
-    either (IsTail id others) (is_some g.live) (record { id = g.id; next = g.next; live = None; fin = g.fin; held = g.held; events = g.events ++ Closes g.id cause ∷ [] }) g
+    either (IsTail id others) (is_some g.live)
+    (record {
+      id = g.id;
+      next = g.next;
+      live = None;
+      fin = g.fin;
+      held = g.held;
+      events =
+          g.events ++ Closes g.id cause ∷ [];
+    }) g
     (closing_tail id others g cause o t) t
 
-delivered_tail : (F : Reader) (id : ℕ) (others : List ℕ) (g : Flow) (p : Payload) → IsOther id others → IsTail id others g → IsTail id others (delivered F g p)
+delivered_tail : (F : Reader) (id : ℕ) (others : List ℕ) (g : Flow) (p : Payload) →
+    IsOther id others → IsTail id others g → IsTail id others (delivered F g p)
 unfolding delivered with_event behind
 delivered_tail F id others g p o t =
     let more = lives_more [] g.events (Delivers g.id p.octets) in
-    let d : Flow = record { id = g.id; next = onward p.number (length p.octets); live = g.live; fin = g.fin; held = g.held; events = g.events ++ Delivers g.id p.octets ∷ [] } in
-    let u : IsTail id others d = record { same = t.same; tail = elim t.tail [ inl e ↦ inl (more ∙ e) | inr e ↦ inr (more ∙ e) ] } in
-    either (IsTail id others) (F d.events) (record { id = d.id; next = d.next; live = None; fin = d.fin; held = d.held; events = d.events ++ Closes d.id Fault ∷ [] }) d (closing_tail id others d Fault o u) u
+    let d : Flow = record {
+      id = g.id;
+      next = onward p.number (length p.octets);
+      live = g.live;
+      fin = g.fin;
+      held = g.held;
+      events = g.events ++ Delivers g.id p.octets ∷ [];
+    } in
+    let u : IsTail id others d = record {
+      same = t.same;
+      tail =
+          elim t.tail [ inl e ↦ inl (more ∙ e) | inr e ↦ inr (more ∙ e) ];
+    } in
+    either (IsTail id others) (F d.events)
+    (record {
+      id = d.id;
+      next = d.next;
+      live = None;
+      fin = d.fin;
+      held = d.held;
+      events =
+          d.events ++ Closes d.id Fault ∷ [];
+    }) d (closing_tail id others d Fault o u) u
 
-begun_last : (id : ℕ) (others xs : List ℕ) → IsOther id others → without id xs ≡ others → begun id xs ≡ others ++ id ∷ []
+begun_last : (id : ℕ) (others xs : List ℕ) → IsOther id others → without id xs ≡ others →
+    begun id xs ≡ others ++ id ∷ []
 unfolding begun
-begun_last id others xs o e = cond-true (nat_lt id most_ids) (without id xs ++ id ∷ []) xs (lt-ltb id most_ids o.small) ∙ ap (λ (ys : List ℕ). ys ++ id ∷ []) e
+begun_last id others xs o e = cond-true (nat_lt id most_ids) (without id xs ++ id ∷ []) xs
+    (lt-ltb id most_ids o.small) ∙ ap (λ (ys : List ℕ). ys ++ id ∷ []) e
 
-begun_tail : (F : Reader) (id : ℕ) (others : List ℕ) (g : Flow) (q : Payload) (r : Option ℕ) → IsOther id others → IsTail id others g → IsTail id others (flow_begun F g q r)
+begun_tail : (F : Reader) (id : ℕ) (others : List ℕ) (g : Flow) (q : Payload) (r : Option ℕ) →
+    IsOther id others → IsTail id others g → IsTail id others (flow_begun F g q r)
 unfolding flow_begun with_event behind
 begun_tail F id others g q None o t = t
 begun_tail F id others g q (Some i) o t =
     let n : ℕ = onward q.number i in
-    let more : lives (g.events ++ Begins g.id n ∷ []) ≡ begun id (lives g.events) = lives_more [] g.events (Begins g.id n) ∙ ap (λ (k : ℕ). begun k (lives g.events)) t.same in
-    delivered_tail F id others (record { id = g.id; next = g.next; live = Some n; fin = g.fin; held = g.held; events = g.events ++ Begins g.id n ∷ [] }) (payload q.flow n (drop i q.octets)) o
+    let more : lives (g.events ++ Begins g.id n ∷ []) ≡ begun id (lives g.events) =
+    lives_more [] g.events (Begins g.id n) ∙ ap (λ (k : ℕ). begun k (lives g.events)) t.same in
+    delivered_tail F id others (record {
+      id = g.id;
+      next = g.next;
+      live = Some n;
+      fin = g.fin;
+      held = g.held;
+      events = g.events ++ Begins g.id n ∷ [];
+    })
+    (payload q.flow n (drop i q.octets)) o
     (record {
       same = t.same;
       tail =
           elim t.tail [
-            | inl e ↦ inr (more ∙ ap (begun id) e ∙ begun_last id others others o (without_none id others o.none))
-            | inr e ↦ inr (more ∙ ap (begun id) e ∙ begun_last id others (others ++ id ∷ []) o (without_last id others o.none))
+            | inl e ↦ inr (more ∙ ap (begun id) e
+                ∙ begun_last id others others o (without_none id others o.none))
+            | inr e ↦ inr (more ∙ ap (begun id) e
+                ∙ begun_last id others (others ++ id ∷ []) o (without_last id others o.none))
           ];
     })
 
-taken_tail : (F : Reader) (id : ℕ) (others : List ℕ) (g : Flow) (p : Payload) → IsOther id others → IsTail id others g → IsTail id others (taken F g p)
+taken_tail : (F : Reader) (id : ℕ) (others : List ℕ) (g : Flow) (p : Payload) → IsOther id others →
+    IsTail id others g → IsTail id others (taken F g p)
 unfolding taken
 taken_tail F id others g p o t =
     let q : Payload = left g.next (is_some g.live) p in
     let d : Flow = delivered F g q in
     let b : Flow = flow_begun F g q (header_at q.octets) in
     either (IsTail id others) (nat_eq (length q.octets) 0) g (cond (is_some g.live) d b) t
-    (either (IsTail id others) (is_some g.live) d b (delivered_tail F id others g q o t) (begun_tail F id others g q (header_at q.octets) o t))
+    (either (IsTail id others) (is_some g.live) d b (delivered_tail F id others g q o t)
+    (begun_tail F id others g q (header_at q.octets) o t))
 
-tail_keeps : (F : Reader) (id : ℕ) (others : List ℕ) → IsOther id others → Keeps F (IsTail id others)
+tail_keeps : (F : Reader) (id : ℕ) (others : List ℕ) → IsOther id others →
+    Keeps F (IsTail id others)
 tail_keeps F id others o =
     record {
-      takes = λ f i e d t. taken_tail F id others (record f { held = remove f.held i }) (at f i) o (record { same = t.same; tail = t.tail });
+      takes = λ f i e d t. taken_tail F id others (record f { held = remove f.held i }) (at f i) o
+          (record { same = t.same; tail = t.tail });
       closes = λ f cause t. closed_tail id others f cause o t;
       fins = λ f n t. record { same = t.same; tail = t.tail };
     }
 
-gap_tail : (F : Reader) (id : ℕ) (f : Flow) → id < most_ids → f.id ≡ id → is_some f.live ≡ true → IsTail id (without id (lives f.events)) (gap F f)
+gap_tail : (F : Reader) (id : ℕ) (f : Flow) → id < most_ids → f.id ≡ id → is_some f.live ≡ true →
+    IsTail id (without id (lives f.events)) (gap F f)
 unfolding gap closed with_event behind
 gap_tail F id f l same live =
     let others : List ℕ = without id (lives f.events) in
-    let o : IsOther id others = record { small = l; none = none_left id (lives f.events) (lives_ids f.events).1 } in
-    let c : Flow = record { id = f.id; next = f.next; live = None; fin = f.fin; held = f.held; events = f.events ++ Closes f.id Gap ∷ [] } in
-    let e : lives c.events ≡ others = lives_more [] f.events (Closes f.id Gap) ∙ ap (λ (n : ℕ). without n (lives f.events)) same in
+    let o : IsOther id others = record {
+      small = l;
+      none =
+          none_left id (lives f.events) (lives_ids f.events).1;
+    } in
+    let c : Flow = record {
+      id = f.id;
+      next = f.next;
+      live = None;
+      fin = f.fin;
+      held = f.held;
+      events = f.events ++ Closes f.id Gap ∷ [];
+    } in
+    let e : lives c.events ≡ others = lives_more [] f.events (Closes f.id Gap)
+    ∙ ap (λ (n : ℕ). without n (lives f.events)) same in
     let t : IsTail id others c = record { same = same; tail = inl e } in
-    gone_on_keeps F (IsTail id others) (tail_keeps F id others o) (cond (is_some f.live) c f) (subst (IsTail id others) (sym (cond-true (is_some f.live) c f live)) t)
+    gone_on_keeps F (IsTail id others) (tail_keeps F id others o) (cond (is_some f.live) c f)
+    (subst (IsTail id others) (sym (cond-true (is_some f.live) c f live)) t)
 
--- ---- What the gaps have come to: the flows before a rank hold nothing, and the gaps to come suffice for the rest.
+-- ---- What the gaps have come to: the flows before a rank hold nothing, and the gaps to come
+-- suffice for the rest.
 
 pub record SoFar (left rank : ℕ) (w : State) : Type 0 where
   pub reach : rank ≤ length (lives w.events)
@@ -190,22 +287,32 @@ pub record SoFar (left rank : ℕ) (w : State) : Type 0 where
 abbrev pub AreTold : State → Type 0
 AreTold w = (id : ℕ) → is_some (live_at w id) ≡ true → 0 < times id (lives w.events)
 
-none_held : (id next : ℕ) (ps : List Payload) → is_some (first id next ps) ≡ false → count_of id ps ≡ 0
+none_held : (id next : ℕ) (ps : List Payload) → is_some (first id next ps) ≡ false →
+    count_of id ps ≡ 0
 none_held id next ps e = ap (count_of id) (sym (others_all id next ps e)) ∙ count_gone id ps
 
 -- a flow that isn't holding holds nothing
-idle : (w : State) (id : ℕ) → IsSound w → is_holding w.held (flow_at w id) ≡ false → count_of id w.held ≡ 0
+idle : (w : State) (id : ℕ) → IsSound w → is_holding w.held (flow_at w id) ≡ false →
+    count_of id w.held ≡ 0
 unfolding is_holding
 idle w id h e = by (flow_at w id) refl
   where
     by : (o : Option FlowState) → flow_at w id ≡ o → count_of id w.held ≡ 0
     by None a = h.vacant id a
-    by (Some s) a = subst (λ (n : ℕ). count_of n w.held ≡ 0) (h.ids id s a) (none_held s.id s.next w.held (sym (ap (is_holding w.held) a) ∙ e))
+    by (Some s) a = subst (λ (n : ℕ). count_of n w.held ≡ 0) (h.ids id s a)
+        (none_held s.id s.next w.held (sym (ap (is_holding w.held) a) ∙ e))
 
 pub start_so_far : (w : State) → SoFar (length w.held + length (lives w.events)) 0 w
-start_so_far w = record { reach = omega arith; enough = omega arith; before = λ r l. absurd (omega (arith, l)) }
+start_so_far w = record {
+  reach = omega arith;
+  enough = omega arith;
+  before =
+      λ r l. absurd (omega (arith, l));
+}
 
-pub next_so_far : (left rank : ℕ) (w : State) → IsSound w → 0 < left → rank < length (lives w.events) → is_holding w.held (flow_at w (get_or (lives w.events) rank 0)) ≡ false
+pub next_so_far : (left rank : ℕ) (w : State) → IsSound w → 0 < left →
+    rank < length (lives w.events) → is_holding w.held (flow_at w (get_or (lives w.events) rank 0))
+    ≡ false
     → SoFar left rank w → SoFar (left - 1) (rank + 1) w
 next_so_far left rank w h some l e t =
     record {
@@ -215,7 +322,8 @@ next_so_far left rank w h some l e t =
           λ r b.
           elim (cases_Bool (nat_lt r rank)) [
             | inl c ↦ t.before r (ltb-less c)
-            | inr c ↦ subst (λ (k : ℕ). count_of (get_or (lives w.events) k 0) w.held ≡ 0) (ltb-same b c) (idle w (get_or (lives w.events) rank 0) h e)
+            | inr c ↦ subst (λ (k : ℕ). count_of (get_or (lives w.events) k 0) w.held ≡ 0)
+                (ltb-same b c) (idle w (get_or (lives w.events) rank 0) h e)
           ];
     }
   where
@@ -226,8 +334,10 @@ next_so_far left rank w h some l e t =
     ltb-same {r} {k} b c = let g : k ≤ r = ltb-false r k c in omega (arith, b, g)
 
 -- a gap of the flow at the rank
-by_gap : (left rank : ℕ) (w : State) (g : Flow) (id : ℕ) → id ≡ get_or (lives w.events) rank 0 → 0 < left → rank < length (lives w.events)
-    → length g.held < length w.held → held_by_others id g.held ≡ held_by_others id w.held → IsTail id (without id (lives w.events)) g
+by_gap : (left rank : ℕ) (w : State) (g : Flow) (id : ℕ) → id ≡ get_or (lives w.events) rank 0 →
+    0 < left → rank < length (lives w.events)
+    → length g.held < length w.held → held_by_others id g.held ≡ held_by_others id w.held →
+    IsTail id (without id (lives w.events)) g
     → SoFar left rank w → SoFar (left - 1) rank (with_flow w id g)
 unfolding with_flow
 by_gap left rank w g id same some l fewer others t so =
@@ -235,15 +345,26 @@ by_gap left rank w g id same some l fewer others t so =
     let d : IsDistinct eqb all = (lives_ids w.events).1 in
     let rest : List ℕ = without id all in
     let long : length rest + 1 ≡ length all = length_without id all rank l (sym same) in
-    let stay : (r : ℕ) → r < rank → get_or rest r 0 ≡ get_or all r 0 = λ r b. at_without id all r rank d l (sym same) b in
-    let here : (rank ≤ length (lives g.events)) × ((length (lives g.events) ≤ length all) × ((r : ℕ) → r < rank → get_or (lives g.events) r 0 ≡ get_or all r 0)) =
+    let stay : (r : ℕ) → r < rank → get_or rest r 0 ≡ get_or all r 0 =
+    λ r b. at_without id all r rank d l (sym same) b in
+    let here : (rank ≤ length (lives g.events))
+    × ((length (lives g.events) ≤ length all)
+    × ((r : ℕ) → r < rank → get_or (lives g.events) r 0 ≡ get_or all r 0)) =
     elim t.tail [
-      | inl e ↦ (omega (arith, ap length e, long, l), (omega (arith, ap length e, long), λ r b. ap (λ (xs : List ℕ). get_or xs r 0) e ∙ stay r b))
+      | inl e ↦ (
+        omega (arith, ap length e, long, l),
+        (
+          omega (arith, ap length e, long),
+          λ r b. ap (λ (xs : List ℕ). get_or xs r 0) e
+              ∙ stay r b,
+        ),
+      )
       | inr e ↦ (
         omega (arith, ap length e, length-append rest (id ∷ []), long, l),
         (
           omega (arith, ap length e, length-append rest (id ∷ []), long),
-          λ r b. ap (λ (xs : List ℕ). get_or xs r 0) e ∙ get_or_append_left rest (id ∷ []) 0 r (omega (arith, b, long, l)) ∙ stay r b,
+          λ r b. ap (λ (xs : List ℕ). get_or xs r 0) e
+              ∙ get_or_append_left rest (id ∷ []) 0 r (omega (arith, b, long, l)) ∙ stay r b,
         ),
       )
     ] in
@@ -253,12 +374,16 @@ by_gap left rank w g id same some l fewer others t so =
       before =
           λ r b.
           let j : ℕ = get_or all r 0 in
-          let apart : id ≡ j → ⊥ = λ o. true≢false (sym (eq-eqb j (get_or all rank 0) (sym o ∙ same)) ∙ apart_from_distinct eqb all r rank 0 d b l) in
-          ap (λ (n : ℕ). count_of n g.held) (here.1.1 r b) ∙ sym (count_beside id j g.held apart) ∙ ap (count_of j) others ∙ count_beside id j w.held apart ∙ so.before r b;
+          let apart : id ≡ j → ⊥ = λ o. true≢false
+          (sym (eq-eqb j (get_or all rank 0) (sym o ∙ same))
+          ∙ apart_from_distinct eqb all r rank 0 d b l) in
+          ap (λ (n : ℕ). count_of n g.held) (here.1.1 r b) ∙ sym (count_beside id j g.held apart)
+          ∙ ap (count_of j) others ∙ count_beside id j w.held apart ∙ so.before r b;
     }
 
 -- a flow that holds something has a live stream
-holds_live : (w : State) (id : ℕ) (s : FlowState) → IsSound w → flow_at w id ≡ Some s → is_some (first s.id s.next w.held) ≡ true → is_some s.live ≡ true
+holds_live : (w : State) (id : ℕ) (s : FlowState) → IsSound w → flow_at w id ≡ Some s →
+    is_some (first s.id s.next w.held) ≡ true → is_some s.live ≡ true
 unfolding first_of
 holds_live w id s h a e =
     elim (cases_Bool (is_some s.live)) [
@@ -266,7 +391,9 @@ holds_live w id s h a e =
       | inr x ↦ absurd (true≢false (sym e ∙ (h.settled id s a).dead x))
     ]
 
-pub gap_so_far : (F : Reader) (left rank : ℕ) (w : State) → IsSound w → 0 < left → rank < length (lives w.events) → is_holding w.held (flow_at w (get_or (lives w.events) rank 0)) ≡ true
+pub gap_so_far : (F : Reader) (left rank : ℕ) (w : State) → IsSound w → 0 < left →
+    rank < length (lives w.events) → is_holding w.held (flow_at w (get_or (lives w.events) rank 0))
+    ≡ true
     → SoFar left rank w → SoFar (left - 1) rank (gapped F w (get_or (lives w.events) rank 0))
 unfolding is_holding first_of
 gap_so_far F left rank w h some l e so = by (flow_at w id) refl
@@ -277,20 +404,27 @@ gap_so_far F left rank w h some l e so = by (flow_at w id) refl
     by : (o : Option FlowState) → flow_at w id ≡ o → SoFar (left - 1) rank (gapped F w id)
     by None a = absurd (true≢false (sym e ∙ ap (is_holding w.held) a))
     by (Some s) a =
-        let holds : is_some (first s.id s.next w.held) ≡ true = sym (ap (is_holding w.held) a) ∙ e in
+        let holds : is_some (first s.id s.next w.held) ≡ true =
+        sym (ap (is_holding w.held) a) ∙ e in
         let own : s.id ≡ id = h.ids id s a in
         let f : Flow = state s w.held w.events in
         subst (SoFar (left - 1) rank) (sym (gapped_some F w id s a))
-        (by_gap left rank w (gap F f) id refl some l (gap_fewer F f holds) (subst (λ (n : ℕ). held_by_others n (gap F f).held ≡ held_by_others n w.held) own (gap_others F f))
-        (gap_tail F id f (small_id w id h (some_within w.flows id s a)) own (holds_live w id s h a holds)) so)
+        (by_gap left rank w (gap F f) id refl some l (gap_fewer F f holds)
+        (subst (λ (n : ℕ). held_by_others n (gap F f).held ≡ held_by_others n w.held) own
+        (gap_others F f))
+        (gap_tail F id f (small_id w id h (some_within w.flows id s a)) own
+        (holds_live w id s h a holds)) so)
 
 empty_by : (ps : List Payload) → ((id : ℕ) → count_of id ps ≡ 0) → ps ≡ []
 unfolding count_of
 empty_by [] h = refl
-empty_by (p ∷ ps) h = absurd (let own : nat_eq p.flow p.flow ≡ true = eq-eqb p.flow p.flow refl in let one : ◌≡◌ {A = ℕ} (cond (nat_eq p.flow p.flow) 1 0) 1 = rw own refl in omega (arith, h p.flow, one))
+empty_by (p ∷ ps) h = absurd (let own : nat_eq p.flow p.flow ≡ true = eq-eqb p.flow p.flow refl in
+    let one : ◌≡◌ {A = ℕ} (cond (nat_eq p.flow p.flow) 1 0) 1 = rw own refl in
+    omega (arith, h p.flow, one))
 
 -- where all flows whose streams live hold nothing, nothing is held
-pub all_so_far : (left rank : ℕ) (w : State) → IsSound w → AreTold w → length (lives w.events) ≤ rank → SoFar left rank w → w.held ≡ []
+pub all_so_far : (left rank : ℕ) (w : State) → IsSound w → AreTold w →
+    length (lives w.events) ≤ rank → SoFar left rank w → w.held ≡ []
 unfolding live_of
 all_so_far left rank w h told over so = empty_by w.held (λ id. by id (flow_at w id) refl)
   where
@@ -299,10 +433,13 @@ all_so_far left rank w h told over so = empty_by w.held (λ id. by id (flow_at w
     by id (Some s) a =
         elim (cases_Bool (is_some (first s.id s.next w.held))) [
           | inl e ↦
-              (let live : is_some (live_at w id) ≡ true = ap (λ (o : Option FlowState). is_some (live_of o)) a ∙ holds_live w id s h a e in
+              (let live : is_some (live_at w id) ≡ true =
+              ap (λ (o : Option FlowState). is_some (live_of o)) a ∙ holds_live w id s h a e in
               let i = times_index id (lives w.events) (told id live) in
-              subst (λ (n : ℕ). count_of n w.held ≡ 0) i.1.1 (so.before i.0 (omega (arith, i.1.0, over))))
-          | inr e ↦ subst (λ (n : ℕ). count_of n w.held ≡ 0) (h.ids id s a) (none_held s.id s.next w.held e)
+              subst (λ (n : ℕ). count_of n w.held ≡ 0) i.1.1
+              (so.before i.0 (omega (arith, i.1.0, over))))
+          | inr e ↦ subst (λ (n : ℕ). count_of n w.held ≡ 0) (h.ids id s a)
+              (none_held s.id s.next w.held e)
         ]
 
 -- where no gap is left to come, nothing is held

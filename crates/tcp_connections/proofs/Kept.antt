@@ -19,46 +19,76 @@ pub record IsKept (w v : State) : Type 0 where
   pub segments : v.segments ≡ w.segments
 
 pub kept_self : (w : State) → IsKept w w
-kept_self w = record { known = refl; rooms = refl; free = refl; lasts = refl; flows = refl; segments = refl }
+kept_self w = record {
+  known = refl;
+  rooms = refl;
+  free = refl;
+  lasts = refl;
+  flows = refl;
+  segments = refl;
+}
 
 pub with_flow_kept : (w : State) (id : ℕ) (f : Flow) → IsKept w (with_flow w id f)
 unfolding with_flow
-with_flow_kept w id f = record { known = refl; rooms = refl; free = refl; lasts = refl; flows = length-set w.flows id (Some (flow_state f)); segments = refl }
+with_flow_kept w id f = record {
+  known = refl;
+  rooms = refl;
+  free = refl;
+  lasts = refl;
+  flows =
+      length-set w.flows id (Some (flow_state f));
+  segments = refl;
+}
 
 pub arrived_kept : (F : Reader) (w : State) (id : ℕ) (a : Arrival) → IsKept w (arrived F w id a)
 arrived_kept F w id a = by (flow_at w id) refl
   where
     by : (o : Option FlowState) → flow_at w id ≡ o → IsKept w (arrived F w id a)
     by None e = subst (IsKept w) (sym (arrived_none F w id a e)) (kept_self w)
-    by (Some s) e = subst (IsKept w) (sym (arrived_some F w id a s e)) (with_flow_kept w id (flow_step (setting F w.blocks) (state s w.held w.events) a))
+    by (Some s) e = subst (IsKept w) (sym (arrived_some F w id a s e))
+        (with_flow_kept w id (flow_step (setting F w.blocks) (state s w.held w.events) a))
 
-pub began_kept : (F : Reader) (w : State) (id number : ℕ) (octets : List ℕ) → IsKept w (began F w id number octets)
+pub began_kept : (F : Reader) (w : State) (id number : ℕ) (octets : List ℕ) →
+    IsKept w (began F w id number octets)
 unfolding began
-began_kept F w id number octets = with_flow_kept w id (first_payload (setting F w.blocks) id number octets w.held w.events)
+began_kept F w id number octets = with_flow_kept w id
+    (first_payload (setting F w.blocks) id number octets w.held w.events)
 
 either : (w : State) (b : Bool) (u v : State) → IsKept w u → IsKept w v → IsKept w (cond b u v)
 either w true u v h k = h
 either w false u v h k = k
 
-pub acknowledgement_kept : (F : Reader) (w : State) (id : ℕ) (s : Segment) → IsKept w (acknowledgement_taken F w id s)
+pub acknowledgement_kept : (F : Reader) (w : State) (id : ℕ) (s : Segment) →
+    IsKept w (acknowledgement_taken F w id s)
 unfolding acknowledgement_taken
 acknowledgement_kept F w id s =
-    elim s.acknowledgement as (λ (o : Option ℕ). IsKept w (elim o [ None ↦ w | Some number ↦ arrived F w id (Acknowledged number) ])) [
+    elim s.acknowledgement as (λ (o : Option ℕ).
+    IsKept w (elim o [ None ↦ w | Some number ↦ arrived F w id (Acknowledged number) ])) [
       | None ↦ kept_self w
       | Some number ↦ arrived_kept F w id (Acknowledged number)
     ]
 
-pub payload_kept : (F : Reader) (w : State) (id : ℕ) (s : Segment) → IsKept w (payload_taken F w id s)
+pub payload_kept : (F : Reader) (w : State) (id : ℕ) (s : Segment) →
+    IsKept w (payload_taken F w id s)
 unfolding payload_taken
 payload_kept F w id s =
-    elim (flow_at w id) as (λ (o : Option FlowState). IsKept w (elim o [ None ↦ cond (is_first w.ports s) (began F w id (first_number s) s.payload) w | Some f ↦ cond s.reset w (arrived F w id (Octets (first_number s) s.payload)) ])) [
-      | None ↦ either w (is_first w.ports s) (began F w id (first_number s) s.payload) w (began_kept F w id (first_number s) s.payload) (kept_self w)
-      | Some f ↦ either w s.reset w (arrived F w id (Octets (first_number s) s.payload)) (kept_self w) (arrived_kept F w id (Octets (first_number s) s.payload))
+    elim (flow_at w id) as (λ (o : Option FlowState).
+    IsKept w (elim o [
+      | None ↦ cond (is_first w.ports s)
+          (began F w id (first_number s) s.payload) w
+      | Some f ↦ cond s.reset w
+          (arrived F w id (Octets (first_number s) s.payload))
+    ])) [
+      | None ↦ either w (is_first w.ports s) (began F w id (first_number s) s.payload) w
+          (began_kept F w id (first_number s) s.payload) (kept_self w)
+      | Some f ↦ either w s.reset w (arrived F w id (Octets (first_number s) s.payload))
+          (kept_self w) (arrived_kept F w id (Octets (first_number s) s.payload))
     ]
 
 pub fin_kept : (F : Reader) (w : State) (id : ℕ) (s : Segment) → IsKept w (fin_taken F w id s)
 unfolding fin_taken
-fin_kept F w id s = either w s.fin (arrived F w id (End (number_behind s))) w (arrived_kept F w id (End (number_behind s))) (kept_self w)
+fin_kept F w id s = either w s.fin (arrived F w id (End (number_behind s))) w
+    (arrived_kept F w id (End (number_behind s))) (kept_self w)
 
 -- an id tells the room
 pub half : (room : ℕ) (side : Side) → flow_id room side / 2 ≡ room

@@ -13,20 +13,25 @@ use Rattle.tcp_streams.proofs.Order.{lives_more}
 use Rattle.tcp_connections.specs.State.{times}
 use Rattle.tcp_connections.proofs.Times.{times_last, times_own}
 
-without_by : (n j x : ℕ) (xs : List ℕ) (b : Bool) → nat_eq x n ≡ b → (j ≡ n → ⊥) → times j (without n xs) ≡ times j xs → times j (cond b xs (x ∷ without n xs)) ≡ cond (nat_eq x j) 1 0 + times j xs
+without_by : (n j x : ℕ) (xs : List ℕ) (b : Bool) → nat_eq x n ≡ b → (j ≡ n → ⊥) →
+    times j (without n xs) ≡ times j xs → times j (cond b xs (x ∷ without n xs))
+    ≡ cond (nat_eq x j) 1 0 + times j xs
 unfolding times
-without_by n j x xs true e apart h = let other : nat_eq x j ≡ false = ne_eqb x j (λ o. apart (sym o ∙ eqb-true x n e)) in rw other (omega arith)
+without_by n j x xs true e apart h = let other : nat_eq x j ≡ false =
+    ne_eqb x j (λ o. apart (sym o ∙ eqb-true x n e)) in rw other (omega arith)
 without_by n j x xs false e apart h = ap (λ (k : ℕ). cond (nat_eq x j) 1 0 + k) h
 
 pub times_without : (n j : ℕ) (xs : List ℕ) → (j ≡ n → ⊥) → times j (without n xs) ≡ times j xs
 unfolding times without
 times_without n j [] apart = refl
-times_without n j (x ∷ xs) apart = without_by n j x xs (nat_eq x n) refl apart (times_without n j xs apart)
+times_without n j (x ∷ xs) apart = without_by n j x xs (nat_eq x n) refl apart
+    (times_without n j xs apart)
 
 pub begun_own : (id : ℕ) (xs : List ℕ) → id < most_ids → 0 < times id (begun id xs)
 unfolding begun
 begun_own id xs l =
-    subst (λ (ys : List ℕ). 0 < times id ys) (sym (cond-true (nat_lt id most_ids) (without id xs ++ id ∷ []) xs (lt-ltb id most_ids l)))
+    subst (λ (ys : List ℕ). 0 < times id ys)
+    (sym (cond-true (nat_lt id most_ids) (without id xs ++ id ∷ []) xs (lt-ltb id most_ids l)))
     (omega (arith, times_last id (without id xs) id, times_own id))
 
 pub begun_beside : (id j : ℕ) (xs : List ℕ) → (j ≡ id → ⊥) → times j (begun id xs) ≡ times j xs
@@ -34,13 +39,15 @@ unfolding begun
 begun_beside id j xs apart =
     elim (cases_Bool (nat_lt id most_ids)) [
       | inl e ↦
-          (let other : ◌≡◌ {A = ℕ} (cond (nat_eq id j) 1 0) 0 = rw (ne_eqb id j (λ o. apart (sym o))) refl in
+          (let other : ◌≡◌ {A = ℕ} (cond (nat_eq id j) 1 0) 0 =
+          rw (ne_eqb id j (λ o. apart (sym o))) refl in
           ap (times j) (cond-true (nat_lt id most_ids) (without id xs ++ id ∷ []) xs e)
           ∙ omega (arith, times_last j (without id xs) id, other, times_without id j xs apart))
       | inr e ↦ ap (times j) (cond-false (nat_lt id most_ids) (without id xs ++ id ∷ []) xs e)
     ]
 
--- what a flow of this id has done since: its stream is told where it lives, and those of others stay
+-- what a flow of this id has done since: its stream is told where it lives, and those of others
+-- stay
 pub record IsTurn (id : ℕ) (es : List Event) (g : Flow) : Type 0 where
   pub same : g.id ≡ id
   pub own : is_some g.live ≡ true → 0 < times id (lives g.events)
@@ -51,94 +58,157 @@ either P true x y p q = p
 either P false x y p q = q
 
 closing_turn : (id : ℕ) (es : List Event) (g : Flow) (cause : CloseCause) → IsTurn id es g
-    → IsTurn id es (record { id = g.id; next = g.next; live = None; fin = g.fin; held = g.held; events = g.events ++ Closes g.id cause ∷ [] })
+    → IsTurn id es (record {
+      id = g.id;
+      next = g.next;
+      live = None;
+      fin = g.fin;
+      held = g.held;
+      events = g.events ++ Closes g.id cause ∷ [];
+    })
 unfolding behind
 closing_turn id es g cause t =
     record {
       same = t.same;
       own = λ e. absurd (true≢false (sym e));
-      beside = λ j n. ap (times j) (lives_more [] g.events (Closes g.id cause)) ∙ times_without g.id j (lives g.events) (λ o. n (o ∙ t.same)) ∙ t.beside j n;
+      beside = λ j n. ap (times j) (lives_more [] g.events (Closes g.id cause))
+          ∙ times_without g.id j (lives g.events) (λ o. n (o ∙ t.same)) ∙ t.beside j n;
     }
 
-pub closed_turn : (id : ℕ) (es : List Event) (g : Flow) (cause : CloseCause) → IsTurn id es g → IsTurn id es (closed g cause)
+pub closed_turn : (id : ℕ) (es : List Event) (g : Flow) (cause : CloseCause) → IsTurn id es g →
+    IsTurn id es (closed g cause)
 unfolding closed with_event
 closed_turn id es g cause t =
-    either (IsTurn id es) (is_some g.live) (record { id = g.id; next = g.next; live = None; fin = g.fin; held = g.held; events = g.events ++ Closes g.id cause ∷ [] }) g
+    either (IsTurn id es) (is_some g.live)
+    (record {
+      id = g.id;
+      next = g.next;
+      live = None;
+      fin = g.fin;
+      held = g.held;
+      events =
+          g.events ++ Closes g.id cause ∷ [];
+    }) g
     (closing_turn id es g cause t) t
 
-delivered_turn : (F : Reader) (id : ℕ) (es : List Event) (g : Flow) (p : Payload) → IsTurn id es g → IsTurn id es (delivered F g p)
+delivered_turn : (F : Reader) (id : ℕ) (es : List Event) (g : Flow) (p : Payload) → IsTurn id es g →
+    IsTurn id es (delivered F g p)
 unfolding delivered with_event behind
 delivered_turn F id es g p t =
     let more = lives_more [] g.events (Delivers g.id p.octets) in
-    let d : Flow = record { id = g.id; next = onward p.number (length p.octets); live = g.live; fin = g.fin; held = g.held; events = g.events ++ Delivers g.id p.octets ∷ [] } in
+    let d : Flow = record {
+      id = g.id;
+      next = onward p.number (length p.octets);
+      live = g.live;
+      fin = g.fin;
+      held = g.held;
+      events = g.events ++ Delivers g.id p.octets ∷ [];
+    } in
     let u : IsTurn id es d =
     record {
       same = t.same;
       own = λ e. subst (λ (xs : List ℕ). 0 < times id xs) (sym more) (t.own e);
       beside = λ j n. ap (times j) more ∙ t.beside j n;
     } in
-    either (IsTurn id es) (F d.events) (record { id = d.id; next = d.next; live = None; fin = d.fin; held = d.held; events = d.events ++ Closes d.id Fault ∷ [] }) d (closing_turn id es d Fault u) u
+    either (IsTurn id es) (F d.events) (record {
+      id = d.id;
+      next = d.next;
+      live = None;
+      fin = d.fin;
+      held = d.held;
+      events = d.events ++ Closes d.id Fault ∷ [];
+    }) d
+    (closing_turn id es d Fault u) u
 
-begun_turn : (F : Reader) (id : ℕ) (es : List Event) (g : Flow) (q : Payload) (r : Option ℕ) → id < most_ids → IsTurn id es g → IsTurn id es (flow_begun F g q r)
+begun_turn : (F : Reader) (id : ℕ) (es : List Event) (g : Flow) (q : Payload) (r : Option ℕ) →
+    id < most_ids → IsTurn id es g → IsTurn id es (flow_begun F g q r)
 unfolding flow_begun with_event behind
 begun_turn F id es g q None l t = t
 begun_turn F id es g q (Some i) l t =
     let n : ℕ = onward q.number i in
     let more = lives_more [] g.events (Begins g.id n) in
-    delivered_turn F id es (record { id = g.id; next = g.next; live = Some n; fin = g.fin; held = g.held; events = g.events ++ Begins g.id n ∷ [] }) (payload q.flow n (drop i q.octets))
+    delivered_turn F id es (record {
+      id = g.id;
+      next = g.next;
+      live = Some n;
+      fin = g.fin;
+      held =
+          g.held;
+      events = g.events ++ Begins g.id n ∷ [];
+    }) (payload q.flow n (drop i q.octets))
     (record {
       same = t.same;
-      own = λ e. subst (λ (xs : List ℕ). 0 < times id xs) (sym more) (subst (λ (k : ℕ). 0 < times id (begun k (lives g.events))) (sym t.same) (begun_own id (lives g.events) l));
-      beside = λ j k. ap (times j) more ∙ begun_beside g.id j (lives g.events) (λ o. k (o ∙ t.same)) ∙ t.beside j k;
+      own = λ e. subst (λ (xs : List ℕ). 0 < times id xs) (sym more)
+          (subst (λ (k : ℕ). 0 < times id (begun k (lives g.events))) (sym t.same)
+          (begun_own id (lives g.events) l));
+      beside = λ j k. ap (times j) more ∙ begun_beside g.id j (lives g.events) (λ o. k (o ∙ t.same))
+          ∙ t.beside j k;
     })
 
-taken_turn : (F : Reader) (id : ℕ) (es : List Event) (g : Flow) (p : Payload) → id < most_ids → IsTurn id es g → IsTurn id es (taken F g p)
+taken_turn : (F : Reader) (id : ℕ) (es : List Event) (g : Flow) (p : Payload) → id < most_ids →
+    IsTurn id es g → IsTurn id es (taken F g p)
 unfolding taken
 taken_turn F id es g p l t =
     let q : Payload = left g.next (is_some g.live) p in
     let d : Flow = delivered F g q in
     let b : Flow = flow_begun F g q (header_at q.octets) in
     either (IsTurn id es) (nat_eq (length q.octets) 0) g (cond (is_some g.live) d b) t
-    (either (IsTurn id es) (is_some g.live) d b (delivered_turn F id es g q t) (begun_turn F id es g q (header_at q.octets) l t))
+    (either (IsTurn id es) (is_some g.live) d b (delivered_turn F id es g q t)
+    (begun_turn F id es g q (header_at q.octets) l t))
 
 pub turn_keeps : (F : Reader) (id : ℕ) (es : List Event) → id < most_ids → Keeps F (IsTurn id es)
 turn_keeps F id es l =
     record {
-      takes = λ f i e d t. taken_turn F id es (record f { held = remove f.held i }) (at f i) l (record { same = t.same; own = t.own; beside = t.beside });
+      takes = λ f i e d t. taken_turn F id es (record f { held = remove f.held i }) (at f i) l
+          (record { same = t.same; own = t.own; beside = t.beside });
       closes = λ f cause t. closed_turn id es f cause t;
       fins = λ f n t. record { same = t.same; own = t.own; beside = t.beside };
     }
 
-came_turn : (A : Setting) (id : ℕ) (es : List Event) (f : Flow) (p : Payload) → id < most_ids → IsTurn id es f → IsTurn id es (payload_came A f p)
+came_turn : (A : Setting) (id : ℕ) (es : List Event) (f : Flow) (p : Payload) → id < most_ids →
+    IsTurn id es f → IsTurn id es (payload_came A f p)
 unfolding payload_came holding
 came_turn A id es f p l t =
     let q : Payload = left f.next (is_some f.live) p in
     let k : Keeps A.faulted (IsTurn id es) = turn_keeps A.faulted id es l in
     let h : Flow = record f { held = f.held ++ q ∷ [] } in
-    either (IsTurn id es) (nat_eq (length q.octets) 0 || has_as_much f.id q.number (length q.octets) f.held) f (within_bounds A (length f.held + 1) (gone_on A.faulted h)) t
-    (relieved_keeps A (IsTurn id es) k (length f.held + 1) (gone_on A.faulted h) (gone_on_keeps A.faulted (IsTurn id es) k h (record { same = t.same; own = t.own; beside = t.beside })))
+    either (IsTurn id es) (nat_eq (length q.octets) 0
+    || has_as_much f.id q.number (length q.octets) f.held) f
+    (within_bounds A (length f.held + 1) (gone_on A.faulted h)) t
+    (relieved_keeps A (IsTurn id es) k (length f.held + 1) (gone_on A.faulted h)
+    (gone_on_keeps A.faulted (IsTurn id es) k h
+    (record { same = t.same; own = t.own; beside = t.beside })))
 
-fin_turn : (F : Reader) (id : ℕ) (es : List Event) (f : Flow) (n : ℕ) → id < most_ids → IsTurn id es f → IsTurn id es (fin_came F f n)
+fin_turn : (F : Reader) (id : ℕ) (es : List Event) (f : Flow) (n : ℕ) → id < most_ids →
+    IsTurn id es f → IsTurn id es (fin_came F f n)
 unfolding fin_came
 fin_turn F id es f n l t =
     let k : Keeps F (IsTurn id es) = turn_keeps F id es l in
-    either (IsTurn id es) (is_some f.live && nat_eq (age f.next n) 0) (gone_on F (record f { fin = Some n })) f
-    (gone_on_keeps F (IsTurn id es) k (record f { fin = Some n }) (record { same = t.same; own = t.own; beside = t.beside })) t
+    either (IsTurn id es) (is_some f.live && nat_eq (age f.next n) 0)
+    (gone_on F (record f { fin = Some n })) f
+    (gone_on_keeps F (IsTurn id es) k (record f { fin = Some n })
+    (record { same = t.same; own = t.own; beside = t.beside })) t
 
-pub step_turn : (A : Setting) (id : ℕ) (es : List Event) (f : Flow) (a : Arrival) → id < most_ids → IsTurn id es f → IsTurn id es (step A f a)
+pub step_turn : (A : Setting) (id : ℕ) (es : List Event) (f : Flow) (a : Arrival) → id < most_ids →
+    IsTurn id es f → IsTurn id es (step A f a)
 unfolding step
 step_turn A id es f (Octets n octets) l t = came_turn A id es f (payload f.id n octets) l t
 step_turn A id es f (End n) l t = fin_turn A.faulted id es f n l t
-step_turn A id es f (Acknowledged n) l t = missed_keeps A.faulted (IsTurn id es) (turn_keeps A.faulted id es l) (length f.held) n f t
+step_turn A id es f (Acknowledged n) l t =
+    missed_keeps A.faulted (IsTurn id es) (turn_keeps A.faulted id es l) (length f.held) n f t
 
-pub gap_turn : (F : Reader) (id : ℕ) (es : List Event) (f : Flow) → id < most_ids → IsTurn id es f → IsTurn id es (gap F f)
+pub gap_turn : (F : Reader) (id : ℕ) (es : List Event) (f : Flow) → id < most_ids → IsTurn id es f →
+    IsTurn id es (gap F f)
 gap_turn F id es f l t = gap_keeps F (IsTurn id es) (turn_keeps F id es l) f t
 
-pub first_turn : (A : Setting) (id n : ℕ) (octets : List ℕ) (held : List Payload) (es : List Event) → id < most_ids → IsTurn id es (first_payload A id n octets held es)
+pub first_turn : (A : Setting) (id n : ℕ) (octets : List ℕ) (held : List Payload)
+    (es : List Event) → id < most_ids → IsTurn id es (first_payload A id n octets held es)
 unfolding first_payload
 first_turn A id n octets held es l =
-    came_turn A id es (fresh id n held es) (payload id n octets) l (record { same = refl; own = λ e. absurd (true≢false (sym e)); beside = λ j k. refl })
+    came_turn A id es (fresh id n held es) (payload id n octets) l
+    (record { same = refl; own = λ e. absurd (true≢false (sym e)); beside = λ j k. refl })
 
 -- what a flow has done so far is nothing yet
-pub no_turn : (id : ℕ) (f : Flow) → f.id ≡ id → (is_some f.live ≡ true → 0 < times id (lives f.events)) → IsTurn id f.events f
+pub no_turn : (id : ℕ) (f : Flow) → f.id ≡ id →
+    (is_some f.live ≡ true → 0 < times id (lives f.events)) → IsTurn id f.events f
 no_turn id f same own = record { same = same; own = own; beside = λ j n. refl }

@@ -15,25 +15,30 @@ use Rattle.tcp_connections.specs.Connections.{place_of, place_among}
 order : IsTotalOrder C
 order = total-law
 
-all_at : (P : EndpointPair → Type 0) (xs : List EndpointPair) (i : ℕ) (d : EndpointPair) → AllByRecursion P xs → i < length xs → P (get_or xs i d)
+all_at : (P : EndpointPair → Type 0) (xs : List EndpointPair) (i : ℕ) (d : EndpointPair) →
+    AllByRecursion P xs → i < length xs → P (get_or xs i d)
 all_at P [] i d h l = absurd (omega (arith, l))
 all_at P (x ∷ xs) zero d h l = h.0
 all_at P (x ∷ xs) (suc i) d h l = all_at P xs i d h.1 (omega (arith, l))
 
-sorted_at : (xs : List EndpointPair) (i j : ℕ) (d : EndpointPair) → IsStrictlySortedBy C xs → i < j → j < length xs → C (get_or xs i d) (get_or xs j d) ≡ Less
+sorted_at : (xs : List EndpointPair) (i j : ℕ) (d : EndpointPair) → IsStrictlySortedBy C xs →
+    i < j → j < length xs → C (get_or xs i d) (get_or xs j d) ≡ Less
 unfolding IsStrictlySortedBy
 sorted_at [] i j d h l m = absurd (omega (arith, m))
 sorted_at (x ∷ xs) i zero d h l m = absurd (omega (arith, l))
 sorted_at (x ∷ xs) zero (suc j) d h l m = all_at (λ y. C x y ≡ Less) xs j d h.0 (omega (arith, m))
-sorted_at (x ∷ xs) (suc i) (suc j) d h l m = sorted_at xs i j d h.1 (omega (arith, l)) (omega (arith, m))
+sorted_at (x ∷ xs) (suc i) (suc j) d h l m =
+    sorted_at xs i j d h.1 (omega (arith, l)) (omega (arith, m))
 
 -- an element that is the same stands where the search says
-pub found : (p : EndpointPair) (xs : List EndpointPair) (i : ℕ) → IsStrictlySortedBy C xs → i < length xs → ((d : EndpointPair) → C (get_or xs i d) p ≡ Equal) → place_of p xs ≡ Some i
+pub found : (p : EndpointPair) (xs : List EndpointPair) (i : ℕ) → IsStrictlySortedBy C xs →
+    i < length xs → ((d : EndpointPair) → C (get_or xs i d) p ≡ Equal) → place_of p xs ≡ Some i
 unfolding IsStrictlySortedBy place_of
 found p [] i s l h = absurd (omega (arith, l))
 found p (x ∷ xs) zero s l h = let e : C x p ≡ Equal = h p in rw e refl
 found p (x ∷ xs) (suc i) s l h =
-    let less : C x (get_or xs i p) ≡ Less = all_at (λ y. C x y ≡ Less) xs i p s.0 (omega (arith, l)) in
+    let less : C x (get_or xs i p) ≡ Less =
+    all_at (λ y. C x y ≡ Less) xs i p s.0 (omega (arith, l)) in
     let e : C x p ≡ Less = sym (alike_right order (get_or xs i p) p x (h p)) ∙ less in
     rw e (ap (option_map suc) (found p xs i s.1 (omega (arith, l)) (λ d. h d)))
 
@@ -42,7 +47,9 @@ not_eq Less h = refl
 not_eq Equal h = absurd (h refl)
 not_eq Greater h = refl
 
-pub absent : (p : EndpointPair) (xs : List EndpointPair) → ((k : ℕ) (d : EndpointPair) → k < length xs → C (get_or xs k d) p ≡ Equal → ⊥) → place_of p xs ≡ None
+pub absent : (p : EndpointPair) (xs : List EndpointPair) →
+    ((k : ℕ) (d : EndpointPair) → k < length xs → C (get_or xs k d) p ≡ Equal → ⊥) →
+    place_of p xs ≡ None
 unfolding place_of
 absent p [] h = refl
 absent p (x ∷ xs) h =
@@ -50,11 +57,14 @@ absent p (x ∷ xs) h =
     rw e (ap (option_map suc) (absent p xs (λ k d l. h (suc k) d (omega (arith, l)))))
 
 -- and the other way round
-pub none_same : (p : EndpointPair) (xs : List EndpointPair) → place_of p xs ≡ None → (k : ℕ) (d : EndpointPair) → k < length xs → C (get_or xs k d) p ≡ Equal → ⊥
+pub none_same : (p : EndpointPair) (xs : List EndpointPair) → place_of p xs ≡ None →
+    (k : ℕ) (d : EndpointPair) → k < length xs → C (get_or xs k d) p ≡ Equal → ⊥
 unfolding place_of
 none_same p [] h k d l e = absurd (omega (arith, l))
-none_same p (x ∷ xs) h zero d l e = true≢false (ap is_some (let f : place_of p (x ∷ xs) ≡ Some 0 = rw e refl in sym f ∙ h))
-none_same p (x ∷ xs) h (suc k) d l e = none_same p xs (none_under (is_eq (C x p)) (place_of p xs) h) k d (omega (arith, l)) e
+none_same p (x ∷ xs) h zero d l e = true≢false
+    (ap is_some (let f : place_of p (x ∷ xs) ≡ Some 0 = rw e refl in sym f ∙ h))
+none_same p (x ∷ xs) h (suc k) d l e = none_same p xs (none_under (is_eq (C x p)) (place_of p xs) h)
+    k d (omega (arith, l)) e
   where
     none_under : (b : Bool) (r : Option ℕ) → cond b (Some 0) (option_map suc r) ≡ None → r ≡ None
     none_under true r h = absurd (true≢false (ap is_some h))
@@ -62,40 +72,54 @@ none_same p (x ∷ xs) h (suc k) d l e = none_same p xs (none_under (is_eq (C x 
     none_under false (Some i) h = absurd (true≢false (ap is_some h))
 
 -- where what is less ends, there a pair stands
-pub parted : (p : EndpointPair) (xs : List EndpointPair) (i : ℕ) → i ≤ length xs → ((k : ℕ) (d : EndpointPair) → k < i → C (get_or xs k d) p ≡ Less) → ((k : ℕ) (d : EndpointPair) → i ≤ k → k < length xs → C (get_or xs k d) p ≡ Greater) → place_among p xs ≡ i
+pub parted : (p : EndpointPair) (xs : List EndpointPair) (i : ℕ) → i ≤ length xs →
+    ((k : ℕ) (d : EndpointPair) → k < i → C (get_or xs k d) p ≡ Less) →
+    ((k : ℕ) (d : EndpointPair) → i ≤ k → k < length xs → C (get_or xs k d) p ≡ Greater) →
+    place_among p xs ≡ i
 unfolding place_among
 parted p [] i l below above = omega (arith, l)
-parted p (x ∷ xs) zero l below above = let e : C x p ≡ Greater = above 0 p (omega arith) (omega arith) in rw e refl
+parted p (x ∷ xs) zero l below above = let e : C x p ≡ Greater =
+    above 0 p (omega arith) (omega arith) in rw e refl
 parted p (x ∷ xs) (suc i) l below above =
     let e : C x p ≡ Less = below 0 p (omega arith) in
-    rw e (ap suc (parted p xs i (omega (arith, l)) (λ k d m. below (suc k) d (omega (arith, m))) (λ k d m n. above (suc k) d (omega (arith, m)) (omega (arith, n)))))
+    rw e (ap suc (parted p xs i (omega (arith, l)) (λ k d m. below (suc k) d (omega (arith, m)))
+    (λ k d m n. above (suc k) d (omega (arith, m)) (omega (arith, n)))))
 
-low : (a b : Ordering) → (b ≡ Less → a ≡ Less) → (b ≡ Equal → a ≡ Less) → ordering_index a ≤ ordering_index b
+low : (a b : Ordering) → (b ≡ Less → a ≡ Less) → (b ≡ Equal → a ≡ Less) →
+    ordering_index a ≤ ordering_index b
 low a Less h g = rw (h refl) (omega arith)
 low a Equal h g = rw (g refl) (omega arith)
 low Less Greater h g = omega arith
 low Equal Greater h g = omega arith
 low Greater Greater h g = omega arith
 
-rises : (p : EndpointPair) (xs : List EndpointPair) → IsStrictlySortedBy C xs → IsNonDecreasingBy (λ y. ordering_index (C y p)) xs
+rises : (p : EndpointPair) (xs : List EndpointPair) → IsStrictlySortedBy C xs →
+    IsNonDecreasingBy (λ y. ordering_index (C y p)) xs
 rises p xs s i j d le l =
     elim (cases_eq i j) [
       | inl e ↦ rw e (omega arith)
       | inr n ↦
           (let m : i < j = omega (arith, le, λ (e : i ≡ j). n e) in
           let less : C (get_or xs i d) (get_or xs j d) ≡ Less = sorted_at xs i j d s m l in
-          low (C (get_or xs i d) p) (C (get_or xs j d) p) (λ e. order.trans (get_or xs i d) (get_or xs j d) p less e)
+          low (C (get_or xs i d) p) (C (get_or xs j d) p)
+          (λ e. order.trans (get_or xs i d) (get_or xs j d) p less e)
           (λ e. sym (alike_right order (get_or xs j d) p (get_or xs i d) e) ∙ less))
     ]
 
 -- what a search by halves answers of pairs in their order
-pub searched : (p : EndpointPair) (xs : List EndpointPair) (i : ℕ) → IsStrictlySortedBy C xs → IsBinarySearchResult (λ y. C y p) xs (Ok i) → IsSearchInRange (Ok i) (length xs) → place_of p xs ≡ Some i
+pub searched : (p : EndpointPair) (xs : List EndpointPair) (i : ℕ) → IsStrictlySortedBy C xs →
+    IsBinarySearchResult (λ y. C y p) xs (Ok i) → IsSearchInRange (Ok i) (length xs) →
+    place_of p xs ≡ Some i
 searched p xs i s h l = found p xs i s l h
 
-pub unfound : (p : EndpointPair) (xs : List EndpointPair) (i : ℕ) → IsStrictlySortedBy C xs → IsBinarySearchResult (λ y. C y p) xs (Err i) → IsSearchInRange (Err i) (length xs) → (place_of p xs ≡ None) × (place_among p xs ≡ i)
+pub unfound : (p : EndpointPair) (xs : List EndpointPair) (i : ℕ) → IsStrictlySortedBy C xs →
+    IsBinarySearchResult (λ y. C y p) xs (Err i) → IsSearchInRange (Err i) (length xs) →
+    (place_of p xs ≡ None) × (place_among p xs ≡ i)
 unfound p xs i s h l =
     let parts = h (rises p xs s) in (
-      absent p xs (λ k d m e. ⊎_elim (λ b. absurd (apart Less (sym (parts.0 k d (omega arith) b) ∙ e) (λ z. z))) (λ a. apart_greater (sym (parts.1 k d a m) ∙ e)) (below_or k i)),
+      absent p xs (λ k d m e. ⊎_elim (λ b. absurd
+          (apart Less (sym (parts.0 k d (omega arith) b) ∙ e) (λ z. z)))
+          (λ a. apart_greater (sym (parts.1 k d a m) ∙ e)) (below_or k i)),
       parted p xs i l (λ k d m. parts.0 k d (omega arith) m) (λ k d m n. parts.1 k d m n),
     )
   where
@@ -110,26 +134,30 @@ unfound p xs i s h l =
 
 -- ---- They stay in their order.
 
-all_insert : (P : EndpointPair → Type 0) (xs : List EndpointPair) (i : ℕ) (y : EndpointPair) → AllByRecursion P xs → P y → AllByRecursion P (insert xs i y)
+all_insert : (P : EndpointPair → Type 0) (xs : List EndpointPair) (i : ℕ) (y : EndpointPair) →
+    AllByRecursion P xs → P y → AllByRecursion P (insert xs i y)
 all_insert P [] zero y h p = (p, tt)
 all_insert P [] (suc i) y h p = (p, tt)
 all_insert P (x ∷ xs) zero y h p = (p, h)
 all_insert P (x ∷ xs) (suc i) y h p = (h.0, all_insert P xs i y h.1 p)
 
-all_remove : (P : EndpointPair → Type 0) (xs : List EndpointPair) (i : ℕ) → AllByRecursion P xs → AllByRecursion P (remove xs i)
+all_remove : (P : EndpointPair → Type 0) (xs : List EndpointPair) (i : ℕ) → AllByRecursion P xs →
+    AllByRecursion P (remove xs i)
 all_remove P [] zero h = tt
 all_remove P [] (suc i) h = tt
 all_remove P (x ∷ xs) zero h = h.1
 all_remove P (x ∷ xs) (suc i) h = (h.0, all_remove P xs i h.1)
 
-pub sorted_remove : (xs : List EndpointPair) (i : ℕ) → IsStrictlySortedBy C xs → IsStrictlySortedBy C (remove xs i)
+pub sorted_remove : (xs : List EndpointPair) (i : ℕ) → IsStrictlySortedBy C xs →
+    IsStrictlySortedBy C (remove xs i)
 unfolding IsStrictlySortedBy
 sorted_remove [] zero h = tt
 sorted_remove [] (suc i) h = tt
 sorted_remove (x ∷ xs) zero h = h.1
 sorted_remove (x ∷ xs) (suc i) h = (all_remove (λ y. C x y ≡ Less) xs i h.0, sorted_remove xs i h.1)
 
-all_after : (p x : EndpointPair) (xs : List EndpointPair) → C p x ≡ Less → AllByRecursion (λ y. C x y ≡ Less) xs → AllByRecursion (λ y. C p y ≡ Less) xs
+all_after : (p x : EndpointPair) (xs : List EndpointPair) → C p x ≡ Less →
+    AllByRecursion (λ y. C x y ≡ Less) xs → AllByRecursion (λ y. C p y ≡ Less) xs
 all_after p x [] e h = tt
 all_after p x (y ∷ ys) e h = (order.trans p x y e h.0, all_after p x ys e h.1)
 
@@ -137,27 +165,37 @@ turned : (p x : EndpointPair) → C x p ≡ Greater → C p x ≡ Less
 turned p x e = order.antisymm p x ∙ ap ordering_reverse e
 
 -- a pair that isn't known, put where it belongs
-pub sorted_insert : (p : EndpointPair) (xs : List EndpointPair) → IsStrictlySortedBy C xs → place_of p xs ≡ None → IsStrictlySortedBy C (insert xs (place_among p xs) p)
+pub sorted_insert : (p : EndpointPair) (xs : List EndpointPair) → IsStrictlySortedBy C xs →
+    place_of p xs ≡ None → IsStrictlySortedBy C (insert xs (place_among p xs) p)
 unfolding IsStrictlySortedBy place_among
 sorted_insert p [] h n = (tt, tt)
 sorted_insert p (x ∷ xs) h n =
-    elim (C x p) as (λ (r : Ordering). C x p ≡ r → IsStrictlySortedBy C (insert (x ∷ xs) (cond (is_lt r) (suc (place_among p xs)) 0) p)) [
-      | Less ↦ (λ e. (all_insert (λ y. C x y ≡ Less) xs (place_among p xs) p h.0 e, sorted_insert p xs h.1 (absent p xs (λ k d l s. none_same p (x ∷ xs) n (suc k) d (omega (arith, l)) s))))
+    elim (C x p) as (λ (r : Ordering). C x p ≡ r →
+    IsStrictlySortedBy C (insert (x ∷ xs) (cond (is_lt r) (suc (place_among p xs)) 0) p)) [
+      | Less ↦ (λ e. (
+        all_insert (λ y. C x y ≡ Less) xs (place_among p xs) p h.0 e,
+        sorted_insert p xs h.1 (absent p xs (λ k d l s.
+            none_same p (x ∷ xs) n (suc k) d (omega (arith, l)) s)),
+      ))
       | Equal ↦ (λ e. absurd (none_same p (x ∷ xs) n 0 p (omega arith) e))
       | Greater ↦ (λ e. ((turned p x e, all_after p x xs (turned p x e) h.0), h))
     ] refl
 
 -- a pair that isn't known isn't where another is forgotten
-pub unknown_remove : (p : EndpointPair) (xs : List EndpointPair) (i : ℕ) → place_of p xs ≡ None → place_of p (remove xs i) ≡ None
+pub unknown_remove : (p : EndpointPair) (xs : List EndpointPair) (i : ℕ) → place_of p xs ≡ None →
+    place_of p (remove xs i) ≡ None
 unfolding place_of
 unknown_remove p [] zero h = refl
 unknown_remove p [] (suc i) h = refl
-unknown_remove p (x ∷ xs) zero h = absent p xs (λ k d l s. none_same p (x ∷ xs) h (suc k) d (omega (arith, l)) s)
+unknown_remove p (x ∷ xs) zero h = absent p xs
+    (λ k d l s. none_same p (x ∷ xs) h (suc k) d (omega (arith, l)) s)
 unknown_remove p (x ∷ xs) (suc i) h =
     let e : is_eq (C x p) ≡ false = not_eq (C x p) (none_same p (x ∷ xs) h 0 p (omega arith)) in
-    rw e (ap (option_map suc) (unknown_remove p xs i (absent p xs (λ k d l s. none_same p (x ∷ xs) h (suc k) d (omega (arith, l)) s))))
+    rw e (ap (option_map suc) (unknown_remove p xs i
+    (absent p xs (λ k d l s. none_same p (x ∷ xs) h (suc k) d (omega (arith, l)) s))))
 
-none_later : (p x : EndpointPair) (xs : List EndpointPair) → C x p ≡ Equal → AllByRecursion (λ y. C x y ≡ Less) xs → place_of p xs ≡ None
+none_later : (p x : EndpointPair) (xs : List EndpointPair) → C x p ≡ Equal →
+    AllByRecursion (λ y. C x y ≡ Less) xs → place_of p xs ≡ None
 none_later p x xs e h = absent p xs (λ k d l s.
     let less : C x (get_or xs k d) ≡ Less = all_at (λ y. C x y ≡ Less) xs k d h l in
     let same : C x (get_or xs k d) ≡ Equal = alike_right order (get_or xs k d) p x s ∙ e in
@@ -173,19 +211,24 @@ eq_is Equal e = refl
 eq_is Greater e = absurd (true≢false (sym e))
 
 -- a pair that is forgotten isn't known
-pub forgotten_unknown : (p : EndpointPair) (xs : List EndpointPair) (i : ℕ) → IsStrictlySortedBy C xs → place_of p xs ≡ Some i → place_of p (remove xs i) ≡ None
+pub forgotten_unknown : (p : EndpointPair) (xs : List EndpointPair) (i : ℕ) →
+    IsStrictlySortedBy C xs → place_of p xs ≡ Some i → place_of p (remove xs i) ≡ None
 unfolding IsStrictlySortedBy place_of
 forgotten_unknown p [] i s h = absurd (true≢false (sym (ap is_some h)))
 forgotten_unknown p (x ∷ xs) i s h =
     elim (cases_Bool (is_eq (C x p))) [
       | inl b ↦
-          (let f : place_of p (x ∷ xs) ≡ Some 0 = cond-true (is_eq (C x p)) (Some 0) (option_map suc (place_of p xs)) b in
+          (let f : place_of p (x ∷ xs) ≡ Some 0 =
+          cond-true (is_eq (C x p)) (Some 0) (option_map suc (place_of p xs)) b in
           let z : 0 ≡ i = ap (λ (o : Option ℕ). unwrap_or o 0) (sym f ∙ h) in
-          subst (λ (n : ℕ). place_of p (remove (x ∷ xs) n) ≡ None) z (none_later p x xs (eq_is (C x p) b) s.0))
+          subst (λ (n : ℕ). place_of p (remove (x ∷ xs) n) ≡ None) z
+          (none_later p x xs (eq_is (C x p) b) s.0))
       | inr b ↦
-          (let f : place_of p (x ∷ xs) ≡ option_map suc (place_of p xs) = cond-false (is_eq (C x p)) (Some 0) (option_map suc (place_of p xs)) b in
+          (let f : place_of p (x ∷ xs) ≡ option_map suc (place_of p xs) =
+          cond-false (is_eq (C x p)) (Some 0) (option_map suc (place_of p xs)) b in
           let u = under (place_of p xs) i (sym f ∙ h) in
           let g : place_of p (remove (x ∷ xs) (suc u.0)) ≡ None =
-          cond-false (is_eq (C x p)) (Some 0) (option_map suc (place_of p (remove xs u.0))) b ∙ ap (option_map suc) (forgotten_unknown p xs u.0 s.1 u.1.0) in
+          cond-false (is_eq (C x p)) (Some 0) (option_map suc (place_of p (remove xs u.0))) b
+          ∙ ap (option_map suc) (forgotten_unknown p xs u.0 s.1 u.1.0) in
           subst (λ (n : ℕ). place_of p (remove (x ∷ xs) n) ≡ None) u.1.1 g)
     ]

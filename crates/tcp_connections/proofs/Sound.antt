@@ -24,20 +24,26 @@ some_none o x s n = true≢false (ap is_some (sym s ∙ n))
 
 -- ---- What flows hold.
 
-beside_by : (a b : ℕ) (p : Payload) (ps : List Payload) (c : Bool) → nat_eq p.flow a ≡ c → (a ≡ b → ⊥) → count_of b (held_by_others a ps) ≡ count_of b ps
-    → count_of b (cond c (held_by_others a ps) (p ∷ held_by_others a ps)) ≡ cond (nat_eq p.flow b) 1 0 + count_of b ps
+beside_by : (a b : ℕ) (p : Payload) (ps : List Payload) (c : Bool) → nat_eq p.flow a ≡ c →
+    (a ≡ b → ⊥) → count_of b (held_by_others a ps) ≡ count_of b ps
+    → count_of b (cond c (held_by_others a ps) (p ∷ held_by_others a ps))
+    ≡ cond (nat_eq p.flow b) 1 0 + count_of b ps
 unfolding count_of
 beside_by a b p ps true e apart h =
-    let other : nat_eq p.flow b ≡ false = ne_eqb p.flow b (λ o. apart (sym (eqb-true p.flow a e) ∙ o)) in
+    let other : nat_eq p.flow b ≡ false = ne_eqb p.flow b
+    (λ o. apart (sym (eqb-true p.flow a e) ∙ o)) in
     rw other (omega (arith, h))
 beside_by a b p ps false e apart h = ap (λ (n : ℕ). cond (nat_eq p.flow b) 1 0 + n) h
 
-pub count_beside : (a b : ℕ) (ps : List Payload) → (a ≡ b → ⊥) → count_of b (held_by_others a ps) ≡ count_of b ps
+pub count_beside : (a b : ℕ) (ps : List Payload) → (a ≡ b → ⊥) →
+    count_of b (held_by_others a ps) ≡ count_of b ps
 unfolding count_of held_by_others
 count_beside a b [] apart = refl
-count_beside a b (p ∷ ps) apart = beside_by a b p ps (nat_eq p.flow a) refl apart (count_beside a b ps apart)
+count_beside a b (p ∷ ps) apart = beside_by a b p ps (nat_eq p.flow a) refl apart
+    (count_beside a b ps apart)
 
-gone_by : (a : ℕ) (p : Payload) (ps : List Payload) (c : Bool) → nat_eq p.flow a ≡ c → count_of a ps ≡ 0 → count_of a (cond c ps (p ∷ ps)) ≡ 0
+gone_by : (a : ℕ) (p : Payload) (ps : List Payload) (c : Bool) → nat_eq p.flow a ≡ c →
+    count_of a ps ≡ 0 → count_of a (cond c ps (p ∷ ps)) ≡ 0
 unfolding count_of
 gone_by a p ps true e h = h
 gone_by a p ps false e h = rw e (omega (arith, h))
@@ -52,7 +58,8 @@ count_gone a (p ∷ ps) = gone_by a p (held_by_others a ps) (nat_eq p.flow a) re
 pub IsApart : State → ℕ → Type 0
 IsApart w id = (room : ℕ) → 0 < times room w.free → (2 * room ≡ id → ⊥) × (2 * room + 1 ≡ id → ⊥)
 
-pub apart_some : (w : State) (id : ℕ) (s : FlowState) → IsSound w → flow_at w id ≡ Some s → IsApart w id
+pub apart_some : (w : State) (id : ℕ) (s : FlowState) → IsSound w → flow_at w id ≡ Some s →
+    IsApart w id
 unfolding IsApart
 apart_some w id s h e room m =
     let z = h.freed room m in (
@@ -68,15 +75,20 @@ apart_taken w id h t room m = (
 )
   where
     clash : id / 2 ≡ room → ⊥
-    clash e = let u : 0 < times room w.rooms = subst (λ (k : ℕ). 0 < times k w.rooms) e t in absurd (omega (arith, h.once room, m, u))
+    clash e = let u : 0 < times room w.rooms = subst (λ (k : ℕ). 0 < times k w.rooms) e t in
+        absurd (omega (arith, h.once room, m, u))
 
-other_flow : (w : State) (id j : ℕ) (o : Option FlowState) → (j ≡ id → ⊥) → get_or (set w.flows id o) j None ≡ flow_at w j
+other_flow : (w : State) (id j : ℕ) (o : Option FlowState) → (j ≡ id → ⊥) →
+    get_or (set w.flows id o) j None ≡ flow_at w j
 other_flow w id j o n = get_or-set_other w.flows id j o None n
 
-own_flow : (w : State) (id j : ℕ) (o : Option FlowState) → id < length w.flows → j ≡ id → get_or (set w.flows id o) j None ≡ o
-own_flow w id j o l e = ap (λ (k : ℕ). get_or (set w.flows id o) k None) e ∙ get_or-set_same w.flows id o None l
+own_flow : (w : State) (id j : ℕ) (o : Option FlowState) → id < length w.flows → j ≡ id →
+    get_or (set w.flows id o) j None ≡ o
+own_flow w id j o l e = ap (λ (k : ℕ). get_or (set w.flows id o) k None) e
+    ∙ get_or-set_same w.flows id o None l
 
-pub with_flow_sound : (w : State) (id : ℕ) (f : Flow) → IsSound w → id < length w.flows → f.id ≡ id → held_by_others id f.held ≡ held_by_others id w.held → blocks_of f.held ≤ w.blocks
+pub with_flow_sound : (w : State) (id : ℕ) (f : Flow) → IsSound w → id < length w.flows →
+    f.id ≡ id → held_by_others id f.held ≡ held_by_others id w.held → blocks_of f.held ≤ w.blocks
     → IsSettled (state (flow_state f) f.held []) → IsApart w id → IsSound (with_flow w id f)
 unfolding with_flow IsApart
 with_flow_sound w id f h l own beside blocks settled apart =
@@ -90,8 +102,10 @@ with_flow_sound w id f h l own beside blocks settled apart =
       freed =
           λ room m.
           let a = apart room m in
-          let z = h.freed room m in
-          (other_flow w id (2 * room) flow a.0 ∙ z.0, other_flow w id (2 * room + 1) flow a.1 ∙ z.1);
+          let z = h.freed room m in (
+            other_flow w id (2 * room) flow a.0 ∙ z.0,
+            other_flow w id (2 * room + 1) flow a.1 ∙ z.1,
+          );
       all = h.all;
       flows = length-set w.flows id flow ∙ h.flows;
       order = h.order;
@@ -99,32 +113,45 @@ with_flow_sound w id f h l own beside blocks settled apart =
       ids =
           λ j s e.
           elim (cases_eq j id) [
-            | inl y ↦ sym (ap (λ (t : FlowState). t.id) (some_same (flow_state f) s (sym (own_flow w id j flow l y) ∙ e))) ∙ own ∙ sym y
+            | inl y ↦ sym (ap (λ (t : FlowState). t.id)
+                (some_same (flow_state f) s (sym (own_flow w id j flow l y) ∙ e))) ∙ own ∙ sym y
             | inr n ↦ h.ids j s (sym (other_flow w id j flow n) ∙ e)
           ];
       settled =
           λ j s e.
           elim (cases_eq j id) [
-            | inl y ↦ subst (λ (t : FlowState). IsSettled (state t f.held [])) (some_same (flow_state f) s (sym (own_flow w id j flow l y) ∙ e)) settled
+            | inl y ↦ subst (λ (t : FlowState). IsSettled (state t f.held []))
+                (some_same (flow_state f) s (sym (own_flow w id j flow l y) ∙ e)) settled
             | inr n ↦
                 (let d = sym (other_flow w id j flow n) ∙ e in
-                settled_beside id (state s w.held []) f.held (λ o. n (sym (h.ids j s d) ∙ sym o)) beside (h.settled j s d))
+                settled_beside id (state s w.held []) f.held (λ o. n (sym (h.ids j s d) ∙ sym o))
+                beside (h.settled j s d))
           ];
       vacant =
           λ j e.
           elim (cases_eq j id) [
-            | inl y ↦ absurd (some_none (get_or (set w.flows id flow) j None) (flow_state f) (own_flow w id j flow l y) e)
+            | inl y ↦ absurd (some_none (get_or (set w.flows id flow) j None) (flow_state f)
+                (own_flow w id j flow l y) e)
             | inr n ↦
-                sym (count_beside id j f.held (λ o. n (sym o))) ∙ ap (count_of j) beside ∙ count_beside id j w.held (λ o. n (sym o))
+                sym (count_beside id j f.held (λ o. n (sym o))) ∙ ap (count_of j) beside
+                ∙ count_beside id j w.held (λ o. n (sym o))
                 ∙ h.vacant j (sym (other_flow w id j flow n) ∙ e)
           ];
     }
 
-pub none_stays : (w : State) (id j : ℕ) → id < length w.flows → flow_at w j ≡ None → get_or (set w.flows id None) j None ≡ None
-none_stays w id j l e = elim (cases_eq j id) [ inl y ↦ own_flow w id j None l y | inr n ↦ other_flow w id j None n ∙ e ]
+pub none_stays : (w : State) (id j : ℕ) → id < length w.flows → flow_at w j ≡ None →
+    get_or (set w.flows id None) j None ≡ None
+none_stays w id j l e = elim (cases_eq j id)
+    [ inl y ↦ own_flow w id j None l y | inr n ↦ other_flow w id j None n ∙ e ]
 
 -- a flow is forgotten
-pub forgot_sound : (w : State) (id : ℕ) (events : List Event) → IsSound w → id < length w.flows → IsSound (record w { flows = set w.flows id None; held = held_by_others id w.held; events = events })
+pub forgot_sound : (w : State) (id : ℕ) (events : List Event) → IsSound w → id < length w.flows →
+    IsSound (record w {
+      flows = set w.flows id None;
+      held = held_by_others id w.held;
+      events =
+          events;
+    })
 forgot_sound w id events h l =
     record {
       some = h.some;
@@ -132,7 +159,8 @@ forgot_sound w id events h l =
       pairs = h.pairs;
       below = h.below;
       once = h.once;
-      freed = λ room m. let z = h.freed room m in (none_stays w id (2 * room) l z.0, none_stays w id (2 * room + 1) l z.1);
+      freed = λ room m. let z = h.freed room m in
+          (none_stays w id (2 * room) l z.0, none_stays w id (2 * room + 1) l z.1);
       all = h.all;
       flows = length-set w.flows id None ∙ h.flows;
       order = h.order;
@@ -140,27 +168,34 @@ forgot_sound w id events h l =
       ids =
           λ j s e.
           elim (cases_eq j id) [
-            | inl y ↦ absurd (some_none (get_or (set w.flows id None) j None) s e (own_flow w id j None l y))
+            | inl y ↦ absurd (some_none (get_or (set w.flows id None) j None) s e
+                (own_flow w id j None l y))
             | inr n ↦ h.ids j s (sym (other_flow w id j None n) ∙ e)
           ];
       settled =
           λ j s e.
           elim (cases_eq j id) [
-            | inl y ↦ absurd (some_none (get_or (set w.flows id None) j None) s e (own_flow w id j None l y))
+            | inl y ↦ absurd (some_none (get_or (set w.flows id None) j None) s e
+                (own_flow w id j None l y))
             | inr n ↦
                 (let d = sym (other_flow w id j None n) ∙ e in
-                settled_beside id (state s w.held []) (held_by_others id w.held) (λ o. n (sym (h.ids j s d) ∙ sym o)) (others_twice id w.held) (h.settled j s d))
+                settled_beside id (state s w.held []) (held_by_others id w.held)
+                (λ o. n (sym (h.ids j s d) ∙ sym o)) (others_twice id w.held) (h.settled j s d))
           ];
       vacant =
           λ j e.
           elim (cases_eq j id) [
-            | inl y ↦ subst (λ (k : ℕ). count_of k (held_by_others id w.held) ≡ 0) (sym y) (count_gone id w.held)
-            | inr n ↦ count_beside id j w.held (λ o. n (sym o)) ∙ h.vacant j (sym (other_flow w id j None n) ∙ e)
+            | inl y ↦ subst (λ (k : ℕ). count_of k (held_by_others id w.held) ≡ 0) (sym y)
+                (count_gone id w.held)
+            | inr n ↦ count_beside id j w.held (λ o. n (sym o))
+                ∙ h.vacant j (sym (other_flow w id j None n) ∙ e)
           ];
     }
 
 -- what has happened, when, and how many segments came, is no part of it
-pub sound_seen : (w : State) (lasts : List ℕ) (segments : ℕ) (events : List Event) → length lasts ≡ length w.lasts → IsSound w → IsSound (record w { lasts = lasts; segments = segments; events = events })
+pub sound_seen : (w : State) (lasts : List ℕ) (segments : ℕ) (events : List Event) →
+    length lasts ≡ length w.lasts → IsSound w →
+    IsSound (record w { lasts = lasts; segments = segments; events = events })
 sound_seen w lasts segments events e h =
     record {
       some = rw e h.some;
@@ -183,23 +218,37 @@ sound_seen w lasts segments events e h =
 among_most : (p : EndpointPair) (xs : List EndpointPair) → place_among p xs ≤ length xs
 unfolding place_among
 among_most p [] = omega arith
-among_most p (x ∷ xs) = most_by (is_lt (compare_pairs x p)) (place_among p xs) (length xs) (among_most p xs)
+among_most p (x ∷ xs) = most_by (is_lt (compare_pairs x p)) (place_among p xs) (length xs)
+    (among_most p xs)
   where
     most_by : (b : Bool) (m n : ℕ) → m ≤ n → cond b (suc m) 0 ≤ suc n
     most_by true m n h = omega (arith, h)
     most_by false m n h = omega arith
 
 -- a connection is known from now on, in the room that was free
-pub known_sound : (w : State) (p : EndpointPair) (rest : List ℕ) (room : ℕ) (lasts : List ℕ) (events : List Event) → IsSound w → w.free ≡ rest ++ room ∷ [] → place_of p w.known ≡ None → length lasts ≡ length w.lasts
-    → IsSound (record w { known = insert w.known (place_among p w.known) p; rooms = insert w.rooms (place_among p w.known) room; free = rest; lasts = lasts; events = events })
+pub known_sound : (w : State) (p : EndpointPair) (rest : List ℕ) (room : ℕ) (lasts : List ℕ)
+    (events : List Event) → IsSound w → w.free ≡ rest ++ room ∷ [] → place_of p w.known ≡ None →
+    length lasts ≡ length w.lasts
+    → IsSound (record w {
+      known = insert w.known (place_among p w.known) p;
+      rooms =
+          insert w.rooms (place_among p w.known) room;
+      free = rest;
+      lasts = lasts;
+      events = events;
+    })
 known_sound w p rest room lasts events h free new e =
     let place : ℕ = place_among p w.known in
     let most : place ≤ length w.known = among_most p w.known in
-    let pairs : length (insert w.known place p) ≡ length w.known + 1 = length-insert w.known place p most in
-    let rooms : length (insert w.rooms place room) ≡ length w.rooms + 1 = length-insert w.rooms place room (omega (arith, most, h.pairs)) in
+    let pairs : length (insert w.known place p) ≡ length w.known + 1 =
+    length-insert w.known place p most in
+    let rooms : length (insert w.rooms place room) ≡ length w.rooms + 1 =
+    length-insert w.rooms place room (omega (arith, most, h.pairs)) in
     let long : length w.free ≡ length rest + 1 = ap length free ∙ length-append rest (room ∷ []) in
-    let sum : (n : ℕ) → times n (insert w.rooms place room) + times n rest ≡ times n w.rooms + times n w.free =
-    λ n. omega (arith, times_insert n w.rooms place room, ap (times n) free, times_last n rest room) in
+    let sum : (n : ℕ) → times n (insert w.rooms place room) + times n rest
+    ≡ times n w.rooms + times n w.free =
+    λ n. omega (arith, times_insert n w.rooms place room, ap (times n) free, times_last n rest room)
+    in
     record {
       some = rw e h.some;
       most = rw e h.most;
@@ -217,15 +266,30 @@ known_sound w p rest room lasts events h free new e =
     }
 
 -- a connection whose flows were forgotten is known no longer, and its room is free
-pub unknown_sound : (w : State) (place room : ℕ) → IsSound w → place < length w.known → get_or w.rooms place 0 ≡ room → flow_at w (2 * room) ≡ None → flow_at w (2 * room + 1) ≡ None
-    → IsSound (record w { known = remove w.known place; rooms = remove w.rooms place; free = w.free ++ room ∷ [] })
+pub unknown_sound : (w : State) (place room : ℕ) → IsSound w → place < length w.known →
+    get_or w.rooms place 0 ≡ room → flow_at w (2 * room) ≡ None → flow_at w (2 * room + 1) ≡ None
+    → IsSound (record w {
+      known = remove w.known place;
+      rooms = remove w.rooms place;
+      free =
+          w.free ++ room ∷ [];
+    })
 unknown_sound w place room h l at lesser greater =
     let within : place < length w.rooms = omega (arith, l, h.pairs) in
-    let pairs : length (remove w.known place) + 1 ≡ length w.known = length-remove w.known place l in
-    let rooms : length (remove w.rooms place) + 1 ≡ length w.rooms = length-remove w.rooms place within in
-    let long : length (w.free ++ room ∷ []) ≡ length w.free + 1 = length-append w.free (room ∷ []) in
-    let sum : (n : ℕ) → times n (remove w.rooms place) + times n (w.free ++ room ∷ []) ≡ times n w.rooms + times n w.free =
-    λ n. omega (arith, times_remove n w.rooms place within, ap {B = ℕ} (λ (r : ℕ). cond (nat_eq r n) 1 0) at, times_last n w.free room) in
+    let pairs : length (remove w.known place) + 1 ≡ length w.known =
+    length-remove w.known place l in
+    let rooms : length (remove w.rooms place) + 1 ≡ length w.rooms =
+    length-remove w.rooms place within in
+    let long : length (w.free ++ room ∷ []) ≡ length w.free + 1 =
+    length-append w.free (room ∷ []) in
+    let sum : (n : ℕ) → times n (remove w.rooms place) + times n (w.free ++ room ∷ [])
+    ≡ times n w.rooms + times n w.free =
+    λ n. omega (
+      arith,
+      times_remove n w.rooms place within,
+      ap {B = ℕ} (λ (r : ℕ). cond (nat_eq r n) 1 0) at,
+      times_last n w.free room,
+    ) in
     record {
       some = h.some;
       most = h.most;
@@ -236,8 +300,10 @@ unknown_sound w place room h l at lesser greater =
           λ n m.
           elim (cases_Bool (nat_eq room n)) [
             | inl b ↦
-                (let own : room ≡ n = eqb-true room n b in
-                (subst (λ (k : ℕ). flow_at w (2 * k) ≡ None) own lesser, subst (λ (k : ℕ). flow_at w (2 * k + 1) ≡ None) own greater))
+                (let own : room ≡ n = eqb-true room n b in (
+                  subst (λ (k : ℕ). flow_at w (2 * k) ≡ None) own lesser,
+                  subst (λ (k : ℕ). flow_at w (2 * k + 1) ≡ None) own greater,
+                ))
             | inr b ↦
                 (let none : ◌≡◌ {A = ℕ} (cond (nat_eq room n) 1 0) 0 = rw b refl in
                 h.freed n (omega (arith, m, times_last n w.free room, none)))
@@ -252,11 +318,14 @@ unknown_sound w place room h l at lesser greater =
     }
 
 -- the room of a connection is one of those that there are
-pub room_below : (w : State) (place : ℕ) → IsSound w → place < length w.known → get_or w.rooms place 0 < length w.lasts
-room_below w place h l = h.below (get_or w.rooms place 0) (omega (arith, times_at w.rooms place (omega (arith, l, h.pairs))))
+pub room_below : (w : State) (place : ℕ) → IsSound w → place < length w.known →
+    get_or w.rooms place 0 < length w.lasts
+room_below w place h l = h.below (get_or w.rooms place 0)
+    (omega (arith, times_at w.rooms place (omega (arith, l, h.pairs))))
 
 -- a flow is one of those that there are
-pub some_within : (flows : List (Option FlowState)) (id : ℕ) (s : FlowState) → get_or flows id None ≡ Some s → id < length flows
+pub some_within : (flows : List (Option FlowState)) (id : ℕ) (s : FlowState) →
+    get_or flows id None ≡ Some s → id < length flows
 some_within [] zero s e = absurd (true≢false (sym (ap is_some e)))
 some_within [] (suc id) s e = absurd (true≢false (sym (ap is_some e)))
 some_within (f ∷ flows) zero s e = omega arith

@@ -12,7 +12,8 @@ use Rattle.tcp_connections.specs.State.{IsSound, times}
 use Rattle.tcp_connections.proofs.Sound.{some_none}
 use Rattle.tcp_connections.proofs.Times.{all_below, rooms_length, no_flow, none_there}
 
-pub none_sound : (ports : List ℕ) (blocks most : ℕ) (events : List Event) → 1 ≤ most → most ≤ 65536 → IsSound (none_known ports blocks most events)
+pub none_sound : (ports : List ℕ) (blocks most : ℕ) (events : List Event) → 1 ≤ most →
+    most ≤ 65536 → IsSound (none_known ports blocks most events)
 unfolding count_of blocks_of times IsStrictlySortedBy
 none_sound ports blocks most events some few =
     let long : length {A = ℕ} (replicate most 0) ≡ most = length-replicate most 0 in
@@ -20,19 +21,37 @@ none_sound ports blocks most events some few =
       some = omega (arith, long, some);
       most = omega (arith, long, few);
       pairs = refl;
-      below = λ room m. let l = (all_below most room).1 (omega (arith, m)) in omega (arith, long, l);
+      below = λ room m. let l = (all_below most room).1 (omega (arith, m)) in
+          omega (arith, long, l);
       once = λ room. omega (arith, (all_below most room).0);
       freed = λ room m. (none_there (2 * most) (2 * room), none_there (2 * most) (2 * room + 1));
       all = omega (arith, long, rooms_length most);
       flows = omega (arith, long, length-replicate (2 * most) no_flow);
       order = tt;
       blocks = omega arith;
-      ids = λ id s e. absurd (some_none (get_or (replicate (2 * most) no_flow) id None) s e (none_there (2 * most) id));
-      settled = λ id s e. absurd (some_none (get_or (replicate (2 * most) no_flow) id None) s e (none_there (2 * most) id));
+      ids = λ id s e. absurd (some_none (get_or (replicate (2 * most) no_flow) id None) s e
+          (none_there (2 * most) id));
+      settled = λ id s e. absurd (some_none (get_or (replicate (2 * most) no_flow) id None) s e
+          (none_there (2 * most) id));
       vacant = λ id e. refl;
     }
 
-pub start_sound : (ports : List ℕ) (blocks most segments : ℕ) (known : List EndpointPair) (rooms free lasts : List ℕ) (flows : List (Option FlowState)) (held : List Payload) (events : List Event)
-    → known ≡ [] → rooms ≡ [] → free ≡ rooms_below most → lasts ≡ replicate most 0 → flows ≡ replicate (2 * most) None → held ≡ [] → segments ≡ 0 → 1 ≤ most → most ≤ 65536
-    → IsSound (record { ports = ports; blocks = blocks; known = known; rooms = rooms; free = free; lasts = lasts; flows = flows; held = held; events = events; segments = segments })
-start_sound ports blocks most segments known rooms free lasts flows held events k r f l w h s some few = rw (k, r, f, l, w, h, s) (none_sound ports blocks most events some few)
+pub start_sound : (ports : List ℕ) (blocks most segments : ℕ) (known : List EndpointPair)
+    (rooms free lasts : List ℕ) (flows : List (Option FlowState)) (held : List Payload)
+    (events : List Event)
+    → known ≡ [] → rooms ≡ [] → free ≡ rooms_below most → lasts ≡ replicate most 0 →
+    flows ≡ replicate (2 * most) None → held ≡ [] → segments ≡ 0 → 1 ≤ most → most ≤ 65536
+    → IsSound (record {
+      ports = ports;
+      blocks = blocks;
+      known = known;
+      rooms = rooms;
+      free = free;
+      lasts = lasts;
+      flows = flows;
+      held = held;
+      events = events;
+      segments = segments;
+    })
+start_sound ports blocks most segments known rooms free lasts flows held events k r f l w h s some
+    few = rw (k, r, f, l, w, h, s) (none_sound ports blocks most events some few)

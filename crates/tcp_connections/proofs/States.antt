@@ -23,138 +23,202 @@ use Rattle.tcp_connections.proofs.Times.{none_there}
 use Rattle.tcp_connections.proofs.Sound.{IsApart, with_flow_sound, forgot_sound, sound_seen}
 
 -- what is so of the code's state, whatever has happened, is so of each that it has
-pub by_state : (P : State → Type 0) (O : List Event → Type 0) (live : List ℕ) (c : Connections) (w : State) → IsState O live c w
+pub by_state : (P : State → Type 0) (O : List Event → Type 0) (live : List ℕ) (c : Connections)
+    (w : State) → IsState O live c w
     → ((es : List Event) → IsState O live c (state_of c es) → P (state_of c es)) → P w
 by_state P O live c w h k =
     subst P h.same (k w.events (record {
       observed = h.observed;
       live = h.live;
       same = refl;
-      told = subst (λ (v : State). (id : ℕ) → is_some (live_at v id) ≡ true → 0 < times id (lives v.events)) (sym h.same) h.told;
+      told = subst (λ (v : State). (id : ℕ) → is_some (live_at v id) ≡ true →
+          0 < times id (lives v.events)) (sym h.same) h.told;
       sound = subst IsSound (sym h.same) h.sound;
       free = h.free ∙ sym (ap (λ (v : State). length v.lasts) h.same);
       room = h.room ∙ sym (ap (λ (v : State). length v.lasts) h.same);
     }))
 
-pub moved_ok : {X : Type 0} (r : Result X ListenerFault) (O : List Event → Type 0) (live : List ℕ) (c : Connections) (v w : State) → v ≡ w → OnOk r (IsState O live c w) → OnOk r (IsState O live c v)
+pub moved_ok : {X : Type 0} (r : Result X ListenerFault) (O : List Event → Type 0) (live : List ℕ)
+    (c : Connections) (v w : State) → v ≡ w → OnOk r (IsState O live c w) →
+    OnOk r (IsState O live c v)
 moved_ok r O live c v w e h = subst (λ (u : State). OnOk r (IsState O live c u)) (sym e) h
 
 -- how many segments came, by the state that the code has
-pub segments_of : {X : Type 0} (r : Result X ListenerFault) (O : List Event → Type 0) (live : List ℕ) (c : Connections) (w : State) (n : ℕ) → w.segments ≡ n → OnOk r (IsState O live c w) → OnOk r (c.segments ≡ n)
+pub segments_of : {X : Type 0} (r : Result X ListenerFault) (O : List Event → Type 0)
+    (live : List ℕ) (c : Connections) (w : State) (n : ℕ) → w.segments ≡ n →
+    OnOk r (IsState O live c w) → OnOk r (c.segments ≡ n)
 segments_of (Ok x) O live c w n e h = ap (λ (u : State). u.segments) h.same ∙ e
 segments_of (Err x) O live c w n e h = tt
 
 -- no event is part of what is so of a state
-pub sound_any : (c : Connections) (es fs : List Event) → IsSound (state_of c es) → IsSound (state_of c fs)
-sound_any c es fs h = sound_seen (state_of c es) (state_of c es).lasts (state_of c es).segments fs refl h
+pub sound_any : (c : Connections) (es fs : List Event) → IsSound (state_of c es) →
+    IsSound (state_of c fs)
+sound_any c es fs h = sound_seen (state_of c es) (state_of c es).lasts (state_of c es).segments fs
+    refl h
 
 -- what is no flow's
 abbrev pub rest_of : Connections → List Event → State
 rest_of c es = record (state_of c es) { flows = []; blocks = 0; held = [] }
 
 -- only flows, and what they hold, have changed
-pub changed : (c c' : Connections) (es : List Event) → ((e : List Event) → rest_of c' e ≡ rest_of c e) → (flows : List (Option FlowState)) (held : List Payload)
-    → c'.flows.items ≡ flows → c'.pool.blocks ≡ c.pool.blocks → c'.pool.held ≡ held → state_of c' es ≡ record (state_of c es) { flows = flows; held = held }
+pub changed : (c c' : Connections) (es : List Event) →
+    ((e : List Event) → rest_of c' e ≡ rest_of c e) →
+    (flows : List (Option FlowState)) (held : List Payload)
+    → c'.flows.items ≡ flows → c'.pool.blocks ≡ c.pool.blocks → c'.pool.held ≡ held →
+    state_of c' es ≡ record (state_of c es) { flows = flows; held = held }
 changed c c' es rest flows held f b h =
-    ap (λ (u : State). record u { flows = c'.flows.items; blocks = c'.pool.blocks; held = c'.pool.held }) (rest es)
-    ∙ ap (λ (fs : List (Option FlowState)). record (state_of c es) { flows = fs; blocks = c'.pool.blocks; held = c'.pool.held }) f
+    ap (λ (u : State). record u {
+      flows = c'.flows.items;
+      blocks = c'.pool.blocks;
+      held =
+          c'.pool.held;
+    }) (rest es)
+    ∙ ap (λ (fs : List (Option FlowState)).
+    record (state_of c es) { flows = fs; blocks = c'.pool.blocks; held = c'.pool.held }) f
     ∙ ap (λ (n : ℕ). record (state_of c es) { flows = flows; blocks = n; held = c'.pool.held }) b
     ∙ ap (λ (ps : List Payload). record (state_of c es) { flows = flows; held = ps }) h
 
 -- on Ok, by what has happened
-pub makes_by : (O O' : List Event → Type 0) (live live' : List ℕ) (c c' : Connections) (f : State → State)
-    → ((es : List Event) → IsState O live c (state_of c es) → IsState O' live' c' (f (state_of c es))) → (w : State) → IsState O live c w → IsState O' live' c' (f w)
-makes_by O O' live live' c c' f k w h = by_state (λ (v : State). IsState O' live' c' (f v)) O live c w h k
+pub makes_by : (O O' : List Event → Type 0) (live live' : List ℕ) (c c' : Connections)
+    (f : State → State)
+    → ((es : List Event) → IsState O live c (state_of c es) →
+    IsState O' live' c' (f (state_of c es))) → (w : State) → IsState O live c w →
+    IsState O' live' c' (f w)
+makes_by O O' live live' c c' f k w h = by_state (λ (v : State). IsState O' live' c' (f v)) O live c
+    w h k
 
-pub moved : (O : List Event → Type 0) (live : List ℕ) (c : Connections) (v w : State) → v ≡ w → IsState O live c w → IsState O live c v
+pub moved : (O : List Event → Type 0) (live : List ℕ) (c : Connections) (v w : State) → v ≡ w →
+    IsState O live c w → IsState O live c v
 moved O live c v w e h = subst (IsState O live c) (sym e) h
 
-pub beside_own : (id own : ℕ) (held held' : List Payload) → own ≡ id → held_by_others own held' ≡ held_by_others own held → held_by_others id held' ≡ held_by_others id held
-beside_own id own held held' e h = subst (λ (n : ℕ). held_by_others n held' ≡ held_by_others n held) e h
+pub beside_own : (id own : ℕ) (held held' : List Payload) → own ≡ id →
+    held_by_others own held' ≡ held_by_others own held →
+    held_by_others id held' ≡ held_by_others id held
+beside_own id own held held' e h = subst (λ (n : ℕ). held_by_others n held' ≡ held_by_others n held)
+    e h
 
 -- the streams that live are told, where a flow is another, and so is what has happened
-told_flow : (w : State) (id : ℕ) (o : Option FlowState) (events : List Event) → ((j : ℕ) → is_some (live_at w j) ≡ true → 0 < times j (lives w.events)) → id < length w.flows
-    → (is_some (live_of o) ≡ true → 0 < times id (lives events)) → ((j : ℕ) → (j ≡ id → ⊥) → times j (lives events) ≡ times j (lives w.events))
-    → (j : ℕ) → is_some (live_of (get_or (set w.flows id o) j None)) ≡ true → 0 < times j (lives events)
+told_flow : (w : State) (id : ℕ) (o : Option FlowState) (events : List Event) →
+    ((j : ℕ) → is_some (live_at w j) ≡ true → 0 < times j (lives w.events)) → id < length w.flows
+    → (is_some (live_of o) ≡ true → 0 < times id (lives events)) →
+    ((j : ℕ) → (j ≡ id → ⊥) → times j (lives events) ≡ times j (lives w.events))
+    → (j : ℕ) → is_some (live_of (get_or (set w.flows id o) j None)) ≡ true →
+    0 < times j (lives events)
 told_flow w id o events told l own beside j e =
     elim (cases_eq j id) [
       | inl y ↦
-          (let at : get_or (set w.flows id o) j None ≡ o = ap (λ (k : ℕ). get_or (set w.flows id o) k None) y ∙ get_or-set_same w.flows id o None l in
-          subst (λ (k : ℕ). 0 < times k (lives events)) (sym y) (own (sym (ap (λ (p : Option FlowState). is_some (live_of p)) at) ∙ e)))
+          (let at : get_or (set w.flows id o) j None ≡ o =
+          ap (λ (k : ℕ). get_or (set w.flows id o) k None) y
+          ∙ get_or-set_same w.flows id o None l in
+          subst (λ (k : ℕ). 0 < times k (lives events)) (sym y)
+          (own (sym (ap (λ (p : Option FlowState). is_some (live_of p)) at) ∙ e)))
       | inr n ↦
-          (let at : get_or (set w.flows id o) j None ≡ flow_at w j = get_or-set_other w.flows id j o None n in
-          let had : 0 < times j (lives w.events) = told j (sym (ap (λ (p : Option FlowState). is_some (live_of p)) at) ∙ e) in
+          (let at : get_or (set w.flows id o) j None ≡ flow_at w j =
+          get_or-set_other w.flows id j o None n in
+          let had : 0 < times j (lives w.events) =
+          told j (sym (ap (λ (p : Option FlowState). is_some (live_of p)) at) ∙ e) in
           omega (arith, had, beside j n))
     ]
 
 -- a flow that the code has, before it does anything
-pub turn_start : (O : List Event → Type 0) (live : List ℕ) (c : Connections) (es : List Event) (id : ℕ) (s : FlowState) → IsState O live c (state_of c es) → flow_at (state_of c es) id ≡ Some s
+pub turn_start : (O : List Event → Type 0) (live : List ℕ) (c : Connections) (es : List Event)
+    (id : ℕ) (s : FlowState) → IsState O live c (state_of c es) →
+    flow_at (state_of c es) id ≡ Some s
     → IsTurn id es (state s c.pool.held es)
 unfolding live_of
-turn_start O live c es id s h e = no_turn id (state s c.pool.held es) (h.sound.ids id s e) (λ l. h.told id (ap (λ (o : Option FlowState). is_some (live_of o)) e ∙ l))
+turn_start O live c es id s h e = no_turn id (state s c.pool.held es) (h.sound.ids id s e)
+    (λ l. h.told id (ap (λ (o : Option FlowState). is_some (live_of o)) e ∙ l))
 
 pub small_id : (w : State) (id : ℕ) → IsSound w → id < length w.flows → id < most_ids
 small_id w id h l = omega (arith, h.flows, h.most, l)
 
 -- a flow's step, beside all others
-pub flow_done : (O O' : List Event → Type 0) (live live' : List ℕ) (c c' : Connections) (es : List Event) (id : ℕ) (s' : FlowState) (f : Flow)
+pub flow_done : (O O' : List Event → Type 0) (live live' : List ℕ) (c c' : Connections)
+    (es : List Event) (id : ℕ) (s' : FlowState) (f : Flow)
     → IsState O live c (state_of c es) → id < length c.flows.items
     → IsFlow (λ e. O' e × (live' ≡ lives e)) s' c'.pool.held f
-    → s'.id ≡ id → held_by_others id c'.pool.held ≡ held_by_others id c.pool.held → blocks_of c'.pool.held ≤ c.pool.blocks → IsSettled (state s' c'.pool.held []) → IsApart (state_of c es) id → IsTurn id es f
-    → ((e : List Event) → rest_of c' e ≡ rest_of c e) → c'.flows.items ≡ set c.flows.items id (Some s') → c'.pool.blocks ≡ c.pool.blocks
+    → s'.id ≡ id → held_by_others id c'.pool.held ≡ held_by_others id c.pool.held →
+    blocks_of c'.pool.held ≤ c.pool.blocks → IsSettled (state s' c'.pool.held []) →
+    IsApart (state_of c es) id → IsTurn id es f
+    → ((e : List Event) → rest_of c' e ≡ rest_of c e) →
+    c'.flows.items ≡ set c.flows.items id (Some s') → c'.pool.blocks ≡ c.pool.blocks
     → c'.free.most ≡ c.free.most → c'.table.most ≡ c.table.most
     → IsState O' live' c' (with_flow (state_of c es) id f)
 unfolding with_flow live_of
-flow_done O O' live live' c c' es id s' f h l n own beside blocks settled apart turn rest flows pool free room =
+flow_done O O' live live' c c' es id s' f h l n own beside blocks settled apart turn rest flows pool
+    free room =
     subst (λ (g : Flow). IsState O' live' c' (with_flow (state_of c es) id g)) n.same
     (record {
       observed = n.observed.0;
       live = n.observed.1;
-      same = changed c c' f.events rest (set c.flows.items id (Some s')) c'.pool.held flows pool refl;
+      same = changed c c' f.events rest (set c.flows.items id (Some s')) c'.pool.held flows pool
+          refl;
       told = told_flow (state_of c es) id (Some s') f.events h.told l
           (λ e. turn.own (sym (ap (λ (g : Flow). is_some g.live) n.same) ∙ e)) turn.beside;
-      sound = with_flow_sound (state_of c es) id (state s' c'.pool.held f.events) h.sound l own beside blocks settled apart;
+      sound = with_flow_sound (state_of c es) id (state s' c'.pool.held f.events) h.sound l own
+          beside blocks settled apart;
       free = free ∙ h.free;
       room = room ∙ h.room;
     })
 
 -- a flow that is forgotten, beside all others
-pub forgot_done : (O O' : List Event → Type 0) (live live' : List ℕ) (c c' : Connections) (es : List Event) (id : ℕ) (s' : FlowState) (f : Flow)
+pub forgot_done : (O O' : List Event → Type 0) (live live' : List ℕ) (c c' : Connections)
+    (es : List Event) (id : ℕ) (s' : FlowState) (f : Flow)
     → IsState O live c (state_of c es) → id < length c.flows.items
     → IsFlow (λ e. O' e × (live' ≡ lives e)) s' c.pool.held f
     → IsTurn id es f
-    → ((e : List Event) → rest_of c' e ≡ rest_of c e) → c'.flows.items ≡ set c.flows.items id None → c'.pool.blocks ≡ c.pool.blocks → c'.pool.held ≡ held_by_others id c.pool.held
+    → ((e : List Event) → rest_of c' e ≡ rest_of c e) → c'.flows.items ≡ set c.flows.items id None →
+    c'.pool.blocks ≡ c.pool.blocks → c'.pool.held ≡ held_by_others id c.pool.held
     → c'.free.most ≡ c.free.most → c'.table.most ≡ c.table.most
-    → IsState O' live' c' (record (state_of c es) { flows = set c.flows.items id None; held = held_by_others id c.pool.held; events = f.events })
+    → IsState O' live' c' (record (state_of c es) {
+      flows = set c.flows.items id None;
+      held =
+          held_by_others id c.pool.held;
+      events = f.events;
+    })
 unfolding live_of
 forgot_done O O' live live' c c' es id s' f h l n turn rest flows pool held free room =
     record {
       observed = n.observed.0;
       live = n.observed.1;
-      same = changed c c' f.events rest (set c.flows.items id None) (held_by_others id c.pool.held) flows pool held;
-      told = told_flow (state_of c es) id None f.events h.told l (λ e. absurd (true≢false (sym e))) turn.beside;
+      same = changed c c' f.events rest (set c.flows.items id None) (held_by_others id c.pool.held)
+          flows pool held;
+      told = told_flow (state_of c es) id None f.events h.told l (λ e. absurd (true≢false (sym e)))
+          turn.beside;
       sound = forgot_sound (state_of c es) id f.events h.sound l;
       free = free ∙ h.free;
       room = room ∙ h.room;
     }
 
-pub sound_of : (O : List Event → Type 0) (live : List ℕ) (c : Connections) (w : State) → IsState O live c w → IsSound (state_of c [])
+pub sound_of : (O : List Event → Type 0) (live : List ℕ) (c : Connections) (w : State) →
+    IsState O live c w → IsSound (state_of c [])
 sound_of O live c w h = sound_any c w.events [] (subst IsSound (sym h.same) h.sound)
 
 -- nor of which connection makes room
-pub eldest_any : (c : Connections) (es fs : List Event) (n : ℕ) → eldest (state_of c es) n ≡ eldest (state_of c fs) n
+pub eldest_any : (c : Connections) (es fs : List Event) (n : ℕ) →
+    eldest (state_of c es) n ≡ eldest (state_of c fs) n
 unfolding eldest
 eldest_any c es fs zero = refl
-eldest_any c es fs (suc n) = ap (λ (b : ℕ). cond (goes_before (state_of c fs) n b) n b) (eldest_any c es fs n)
+eldest_any c es fs (suc n) = ap (λ (b : ℕ). cond (goes_before (state_of c fs) n b) n b)
+    (eldest_any c es fs n)
 
 -- ---- A connection is forgotten.
 
-pub known_of : (O : List Event → Type 0) (live : List ℕ) (c : Connections) (w : State) → IsState O live c w → c.table.keys.items ≡ w.known
+pub known_of : (O : List Event → Type 0) (live : List ℕ) (c : Connections) (w : State) →
+    IsState O live c w → c.table.keys.items ≡ w.known
 known_of O live c w h = ap (λ (u : State). u.known) h.same
 
-pub connection_forgotten : (O' : List Event → Type 0) (live' : List ℕ) (c c' : Connections) (w : State) (place : ℕ) (side : Side) (cause : CloseCause) → IsSound w
-    → IsState O' live' c (both_forgotten w (room_at w place) side cause) → place < length w.known → 2 * room_at w place + 1 < length w.flows
-    → ((e : List Event) → state_of c' e ≡ record (state_of c e) { known = remove c.table.keys.items place; rooms = remove c.table.rooms.items place; free = c.free.free.items ++ room_at w place ∷ [] })
+pub connection_forgotten : (O' : List Event → Type 0) (live' : List ℕ) (c c' : Connections)
+    (w : State) (place : ℕ) (side : Side) (cause : CloseCause) → IsSound w
+    → IsState O' live' c (both_forgotten w (room_at w place) side cause) → place < length w.known →
+    2 * room_at w place + 1 < length w.flows
+    → ((e : List Event) → state_of c' e ≡ record (state_of c e) {
+      known =
+          remove c.table.keys.items place;
+      rooms = remove c.table.rooms.items place;
+      free =
+          c.free.free.items ++ room_at w place ∷ [];
+    })
     → c'.free.most ≡ c.free.most → c'.table.most ≡ c.table.most
     → IsState O' live' c' (forgotten w place side cause)
 unfolding forgotten
@@ -163,7 +227,13 @@ connection_forgotten O' live' c c' w place side cause sound h l m same free room
     record {
       observed = h.observed;
       live = h.live;
-      same = same v.events ∙ ap (λ (u : State). record u { known = remove u.known place; rooms = remove u.rooms place; free = u.free ++ room_at w place ∷ [] }) h.same;
+      same = same v.events ∙ ap (λ (u : State).
+          record u {
+            known = remove u.known place;
+            rooms = remove u.rooms place;
+            free =
+                u.free ++ room_at w place ∷ [];
+          }) h.same;
       told = h.told;
       sound = forgotten_sound w place side cause sound h.sound l m;
       free = free ∙ h.free;
@@ -171,28 +241,47 @@ connection_forgotten O' live' c c' w place side cause sound h l m same free room
     }
 
 -- how many rooms are free, where a place is that of a connection
-pub some_known : (O : List Event → Type 0) (live : List ℕ) (c : Connections) (w : State) (place : ℕ) → IsState O live c w → place < length w.known → length c.free.free.items < c.free.most
-some_known O live c w place h l = omega (arith, h.sound.all, l, h.free, ap (λ (u : State). length u.free) h.same)
+pub some_known : (O : List Event → Type 0) (live : List ℕ) (c : Connections) (w : State)
+    (place : ℕ) → IsState O live c w → place < length w.known →
+    length c.free.free.items < c.free.most
+some_known O live c w place h l = omega (
+  arith,
+  h.sound.all,
+  l,
+  h.free,
+  ap (λ (u : State). length u.free) h.same,
+)
 
-pub forgot_at : (O : List Event → Type 0) (live : List ℕ) (c : Connections) (w : State) (a b : ℕ) (cause : CloseCause) → a ≡ b → IsState O live c (flow_forgotten w a cause) → IsState O live c (flow_forgotten w b cause)
-forgot_at O live c w a b cause e h = subst (λ (n : ℕ). IsState O live c (flow_forgotten w n cause)) e h
+pub forgot_at : (O : List Event → Type 0) (live : List ℕ) (c : Connections) (w : State) (a b : ℕ)
+    (cause : CloseCause) → a ≡ b → IsState O live c (flow_forgotten w a cause) →
+    IsState O live c (flow_forgotten w b cause)
+forgot_at O live c w a b cause e h = subst (λ (n : ℕ). IsState O live c (flow_forgotten w n cause))
+    e h
 
 -- ---- The capture ends.
 
-pub ends_by : (O O' : List Event → Type 0) (live live' : List ℕ) (c c' : Connections) (f : State → State)
-    → ((es : List Event) → IsAt O live c (state_of c es) → IsAt O' live' c' (f (state_of c es))) → (w : State) → IsAt O live c w → IsAt O' live' c' (f w)
+pub ends_by : (O O' : List Event → Type 0) (live live' : List ℕ) (c c' : Connections)
+    (f : State → State)
+    → ((es : List Event) → IsAt O live c (state_of c es) → IsAt O' live' c' (f (state_of c es))) →
+    (w : State) → IsAt O live c w → IsAt O' live' c' (f w)
 ends_by O O' live live' c c' f k w h =
-    subst (λ (v : State). IsAt O' live' c' (f v)) h.same (k w.events (record { observed = h.observed; live = h.live; same = refl }))
+    subst (λ (v : State). IsAt O' live' c' (f v)) h.same
+    (k w.events (record { observed = h.observed; live = h.live; same = refl }))
 
-pub moved_end : (O : List Event → Type 0) (live : List ℕ) (c : Connections) (v w : State) → v ≡ w → IsAt O live c w → IsAt O live c v
+pub moved_end : (O : List Event → Type 0) (live : List ℕ) (c : Connections) (v w : State) → v ≡ w →
+    IsAt O live c w → IsAt O live c v
 moved_end O live c v w e h = subst (IsAt O live c) (sym e) h
 
-pub before_end : (O : List Event → Type 0) (live : List ℕ) (c : Connections) (w : State) → IsState O live c w → IsAt O live c w
+pub before_end : (O : List Event → Type 0) (live : List ℕ) (c : Connections) (w : State) →
+    IsState O live c w → IsAt O live c w
 before_end O live c w h = record { observed = h.observed; live = h.live; same = h.same }
 
-pub close_done : (O' : List Event → Type 0) (live' : List ℕ) (c c' : Connections) (es : List Event) (id : ℕ) (s' : FlowState) (f : Flow)
+pub close_done : (O' : List Event → Type 0) (live' : List ℕ) (c c' : Connections) (es : List Event)
+    (id : ℕ) (s' : FlowState) (f : Flow)
     → IsFlow (λ e. O' e × (live' ≡ lives e)) s' c.pool.held f
-    → ((e : List Event) → rest_of c' e ≡ rest_of c e) → c'.flows.items ≡ set c.flows.items id (Some s') → c'.pool.blocks ≡ c.pool.blocks → c'.pool.held ≡ c.pool.held
+    → ((e : List Event) → rest_of c' e ≡ rest_of c e) →
+    c'.flows.items ≡ set c.flows.items id (Some s') → c'.pool.blocks ≡ c.pool.blocks →
+    c'.pool.held ≡ c.pool.held
     → IsAt O' live' c' (with_flow (state_of c es) id f)
 unfolding with_flow
 close_done O' live' c c' es id s' f n rest flows pool held =
@@ -200,25 +289,33 @@ close_done O' live' c c' es id s' f n rest flows pool held =
     (record {
       observed = n.observed.0;
       live = n.observed.1;
-      same = changed c c' f.events rest (set c.flows.items id (Some s')) c.pool.held flows pool held;
+      same = changed c c' f.events rest (set c.flows.items id (Some s')) c.pool.held flows pool
+          held;
     })
 
 -- ---- No connection is known so far.
 
-none_live : (ports : List ℕ) (blocks most : ℕ) (events : List Event) (id : ℕ) → is_some (live_at (none_known ports blocks most events) id) ≡ true → 0 < times id (lives events)
+none_live : (ports : List ℕ) (blocks most : ℕ) (events : List Event) (id : ℕ) →
+    is_some (live_at (none_known ports blocks most events) id) ≡ true → 0 < times id (lives events)
 unfolding live_of
-none_live ports blocks most events id e = absurd (true≢false (sym e ∙ ap (λ (o : Option FlowState). is_some (live_of o)) (none_there (2 * most) id)))
+none_live ports blocks most events id e =
+    absurd (true≢false (sym e ∙ ap (λ (o : Option FlowState). is_some (live_of o))
+    (none_there (2 * most) id)))
 
 -- what `new` makes, beside a listener that has observed these events
-pub starts : (O : List Event → Type 0) (live : List ℕ) (c : Connections) (ports : List ℕ) (blocks most : ℕ) (events : List Event) → O events → live ≡ lives events
-    → state_of c events ≡ none_known ports blocks most events → IsSound (state_of c []) → c.free.most ≡ most → c.table.most ≡ most → IsState O live c (state_of c events)
+pub starts : (O : List Event → Type 0) (live : List ℕ) (c : Connections) (ports : List ℕ)
+    (blocks most : ℕ) (events : List Event) → O events → live ≡ lives events
+    → state_of c events ≡ none_known ports blocks most events → IsSound (state_of c []) →
+    c.free.most ≡ most → c.table.most ≡ most → IsState O live c (state_of c events)
 starts O live c ports blocks most events o lived same sound free room =
-    let many : length (state_of c events).lasts ≡ most = ap (λ (w : State). length w.lasts) same ∙ length-replicate most 0 in
+    let many : length (state_of c events).lasts ≡ most =
+    ap (λ (w : State). length w.lasts) same ∙ length-replicate most 0 in
     record {
       observed = o;
       live = lived;
       same = refl;
-      told = subst (λ (w : State). (id : ℕ) → is_some (live_at w id) ≡ true → 0 < times id (lives w.events)) (sym same) (none_live ports blocks most events);
+      told = subst (λ (w : State). (id : ℕ) → is_some (live_at w id) ≡ true →
+          0 < times id (lives w.events)) (sym same) (none_live ports blocks most events);
       sound = sound_any c [] events sound;
       free = free ∙ sym many;
       room = room ∙ sym many;
@@ -226,17 +323,20 @@ starts O live c ports blocks most events o lived same sound free room =
 
 -- ---- The listener is told of the capture.
 
-pub told_capture : (O O' : List Event → Type 0) (live : List ℕ) (c : Connections) (w : State) (event : CaptureEvent) → IsState O live c w → O' (w.events ++ OfCapture event ∷ [])
+pub told_capture : (O O' : List Event → Type 0) (live : List ℕ) (c : Connections) (w : State)
+    (event : CaptureEvent) → IsState O live c w → O' (w.events ++ OfCapture event ∷ [])
     → IsState O' live c (with_capture_event w event)
 unfolding behind
 told_capture O O' live c w event h o =
     let events : List Event = w.events ++ OfCapture event ∷ [] in
-    let same : state_of c events ≡ record w { events = events } = ap (λ (u : State). record u { events = events }) h.same in
+    let same : state_of c events ≡ record w { events = events } =
+    ap (λ (u : State). record u { events = events }) h.same in
     record {
       observed = o;
       live = h.live ∙ sym (lives_more [] w.events (OfCapture event));
       same = same;
-      told = λ id e. subst (λ (xs : List ℕ). 0 < times id xs) (sym (lives_more [] w.events (OfCapture event))) (h.told id e);
+      told = λ id e. subst (λ (xs : List ℕ). 0 < times id xs)
+          (sym (lives_more [] w.events (OfCapture event))) (h.told id e);
       sound = subst IsSound same (sound_any c w.events events (subst IsSound (sym h.same) h.sound));
       free = h.free;
       room = h.room;

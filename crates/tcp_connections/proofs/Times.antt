@@ -7,20 +7,23 @@ use Rattle.tcp_rooms.specs.Rooms.{rooms_below}
 use Rattle.tcp_connections.specs.Connections.{next_room, rest_of_rooms}
 use Rattle.tcp_connections.specs.State.{times}
 
-pub times_insert : (n : ℕ) (xs : List ℕ) (i y : ℕ) → times n (insert xs i y) ≡ cond (nat_eq y n) 1 0 + times n xs
+pub times_insert : (n : ℕ) (xs : List ℕ) (i y : ℕ) →
+    times n (insert xs i y) ≡ cond (nat_eq y n) 1 0 + times n xs
 unfolding times
 times_insert n [] zero y = refl
 times_insert n [] (suc i) y = refl
 times_insert n (x ∷ xs) zero y = refl
 times_insert n (x ∷ xs) (suc i) y = omega (arith, times_insert n xs i y)
 
-pub times_remove : (n : ℕ) (xs : List ℕ) (i : ℕ) → i < length xs → times n (remove xs i) + cond (nat_eq (get_or xs i 0) n) 1 0 ≡ times n xs
+pub times_remove : (n : ℕ) (xs : List ℕ) (i : ℕ) → i < length xs →
+    times n (remove xs i) + cond (nat_eq (get_or xs i 0) n) 1 0 ≡ times n xs
 unfolding times
 times_remove n [] i l = absurd (omega (arith, l))
 times_remove n (x ∷ xs) zero l = omega arith
 times_remove n (x ∷ xs) (suc i) l = omega (arith, times_remove n xs i (omega (arith, l)))
 
-pub times_last : (n : ℕ) (xs : List ℕ) (x : ℕ) → times n (xs ++ x ∷ []) ≡ times n xs + cond (nat_eq x n) 1 0
+pub times_last : (n : ℕ) (xs : List ℕ) (x : ℕ) →
+    times n (xs ++ x ∷ []) ≡ times n xs + cond (nat_eq x n) 1 0
 unfolding times
 times_last n [] x = omega arith
 times_last n (y ∷ ys) x = omega (arith, times_last n ys x)
@@ -62,7 +65,8 @@ unfolding times rooms_below
 all_below zero n = (omega arith, λ l. absurd (omega (arith, l)))
 all_below (suc m) n =
     let h = all_below m n in
-    let e : times n (rooms_below m ++ m ∷ []) ≡ times n (rooms_below m) + cond (nat_eq m n) 1 0 = times_last n (rooms_below m) m in
+    let e : times n (rooms_below m ++ m ∷ []) ≡ times n (rooms_below m) + cond (nat_eq m n) 1 0 =
+    times_last n (rooms_below m) m in
     elim (cases_Bool (nat_eq m n)) [
       | inl b ↦
           (let own : m ≡ n = eqb-true m n b in
@@ -70,11 +74,15 @@ all_below (suc m) n =
           let none : times n (rooms_below m) ≤ 0 = rest_none h own in
           (omega (arith, e, one, none), λ l. omega (arith, own)))
       | inr b ↦
-          (let one : ◌≡◌ {A = ℕ} (cond (nat_eq m n) 1 0) 0 = rw b refl in
-          (omega (arith, e, one, h.0), λ l. (let k : 0 < times n (rooms_below m) = omega (arith, l, e, one) in let z : n < m = h.1 k in omega (arith, z))))
+          (let one : ◌≡◌ {A = ℕ} (cond (nat_eq m n) 1 0) 0 = rw b refl in (
+            omega (arith, e, one, h.0),
+            λ l. (let k : 0 < times n (rooms_below m) =
+                omega (arith, l, e, one) in let z : n < m = h.1 k in omega (arith, z)),
+          ))
     ]
   where
-    rest_none : {m n : ℕ} → (times n (rooms_below m) ≤ 1) × (0 < times n (rooms_below m) → n < m) → m ≡ n → times n (rooms_below m) ≤ 0
+    rest_none : {m n : ℕ} → (times n (rooms_below m) ≤ 1) × (0 < times n (rooms_below m) → n < m) →
+        m ≡ n → times n (rooms_below m) ≤ 0
     rest_none {m} {n} h own =
         elim (cases_lt 0 (times n (rooms_below m))) [
           | inl l ↦ absurd (let z : n < m = h.1 l in omega (arith, z, own))

@@ -23,7 +23,9 @@ either_below false m n k h g = g
 pub eldest_below : (w : State) (n : ℕ) → eldest w (suc n) < suc n
 unfolding eldest
 eldest_below w zero = either_below (goes_before w 0 0) 0 0 1 (omega arith) (omega arith)
-eldest_below w (suc n) = let h = eldest_below w n in either_below (goes_before w (suc n) (eldest w (suc n))) (suc n) (eldest w (suc n)) (suc (suc n)) (omega arith) (omega (arith, h))
+eldest_below w (suc n) = let h = eldest_below w n in
+    either_below (goes_before w (suc n) (eldest w (suc n))) (suc n) (eldest w (suc n)) (suc (suc n))
+    (omega arith) (omega (arith, h))
 
 pub eldest_within : (w : State) (n : ℕ) → 0 < n → eldest w n < n
 eldest_within w zero l = absurd (omega (arith, l))
@@ -31,38 +33,63 @@ eldest_within w (suc n) l = eldest_below w n
 
 -- behind making room there is some, and who isn't known isn't
 pub room_enough : (w : State) (p : EndpointPair) → IsSound w → place_of p w.known ≡ None
-    → (place_of p (with_room w).known ≡ None) × (length (with_room w).known < length (with_room w).lasts)
+    → (place_of p (with_room w).known ≡ None)
+    × (length (with_room w).known < length (with_room w).lasts)
 room_enough w p h new =
     elim (cases_lt (length w.known) (length w.lasts)) [
-      | inl l ↦ subst (λ (v : State). (place_of p v.known ≡ None) × (length v.known < length v.lasts)) (sym (room_there w l)) (new, l)
+      | inl l ↦ subst (λ (v : State). (place_of p v.known ≡ None)
+          × (length v.known < length v.lasts)) (sym (room_there w l)) (new, l)
       | inr g ↦
           (let place : ℕ = eldest w (length w.known) in
           let side : Side = elder_side (room_at w place) (lives w.events) in
-          let within : place < length w.known = eldest_within w (length w.known) (omega (arith, g, h.some)) in
-          let known : (forgotten w place side Room).known ≡ remove w.known place = forgotten_known w place side Room in
-          let shorter : length (remove w.known place) + 1 ≡ length w.known = length-remove w.known place within in
-          subst (λ (v : State). (place_of p v.known ≡ None) × (length v.known < length v.lasts)) (sym (room_made w g))
-          (ap (place_of p) known ∙ unknown_remove p w.known place new, omega (arith, ap length known, shorter, ap length (forgotten_lasts w place side Room), h.all)))
+          let within : place < length w.known =
+          eldest_within w (length w.known) (omega (arith, g, h.some)) in
+          let known : (forgotten w place side Room).known ≡ remove w.known place =
+          forgotten_known w place side Room in
+          let shorter : length (remove w.known place) + 1 ≡ length w.known =
+          length-remove w.known place within in
+          subst (λ (v : State). (place_of p v.known ≡ None) × (length v.known < length v.lasts))
+          (sym (room_made w g)) (
+            ap (place_of p) known ∙ unknown_remove p w.known place new,
+            omega (
+              arith,
+              ap length known,
+              shorter,
+              ap length (forgotten_lasts w place side Room),
+              h.all,
+            ),
+          ))
     ]
 
 -- the room that is taken next is free
-pub next_free : (w : State) → IsSound w → length w.known < length w.lasts → 0 < times (next_room w.free) w.free
+pub next_free : (w : State) → IsSound w → length w.known < length w.lasts →
+    0 < times (next_room w.free) w.free
 unfolding next_room
 next_free w h l = times_at w.free (length w.free - 1) (omega (arith, l, h.all))
 
-pub next_below : (w : State) → IsSound w → length w.known < length w.lasts → next_room w.free < length w.lasts
+pub next_below : (w : State) → IsSound w → length w.known < length w.lasts →
+    next_room w.free < length w.lasts
 next_below w h l = h.below (next_room w.free) (omega (arith, next_free w h l))
 
-pub next_vacant : (w : State) (p : EndpointPair) (side : Side) → IsSound w → length w.known < length w.lasts → flow_at (made_known w p) (flow_id (next_room w.free) side) ≡ None
+pub next_vacant : (w : State) (p : EndpointPair) (side : Side) → IsSound w →
+    length w.known < length w.lasts → flow_at (made_known w p) (flow_id (next_room w.free) side)
+    ≡ None
 unfolding made_known
 next_vacant w p FromLesser h l = (h.freed (next_room w.free) (next_free w h l)).0
 next_vacant w p FromGreater h l = (h.freed (next_room w.free) (next_free w h l)).1
 
-pub next_taken : (w : State) (p : EndpointPair) → 0 < times (next_room w.free) (made_known w p).rooms
+pub next_taken : (w : State) (p : EndpointPair) →
+    0 < times (next_room w.free) (made_known w p).rooms
 unfolding made_known
 next_taken w p =
-    let own : ◌≡◌ {A = ℕ} (cond (nat_eq (next_room w.free) (next_room w.free)) 1 0) 1 = times_own (next_room w.free) in
-    omega (arith, times_insert (next_room w.free) w.rooms (place_among p w.known) (next_room w.free), own)
+    let own : ◌≡◌ {A = ℕ} (cond (nat_eq (next_room w.free) (next_room w.free)) 1 0) 1 =
+    times_own (next_room w.free) in
+    omega (
+      arith,
+      times_insert (next_room w.free) w.rooms (place_among p w.known)
+          (next_room w.free),
+      own,
+    )
 
 pub made_flows : (w : State) (p : EndpointPair) → length (made_known w p).flows ≡ length w.flows
 unfolding made_known

@@ -1,4 +1,5 @@
--- The connections of a capture (RFC 9293): which are known, what their flows hold, and what happens (meaning).
+-- The connections of a capture (RFC 9293): which are known, what their flows hold, and what happens
+-- (meaning).
 use Rattle.std.specs.Prelude.{ℕ, zero, suc, ◌+◌, ◌-◌, ◌*◌, ◌==◌, Bool, true, false, cond, not, nat_eq, nat_lt, ◌&&◌, ◌||◌, List, [], ◌∷◌, ◌++◌, length, take, get_or, set, replicate, Option, Some, None, is_some}
 use Rattle.std.specs.Option.{option_map}
 use Rattle.std.specs.List.{insert, remove, list_any}
@@ -19,8 +20,10 @@ use Rattle.tcp_streams.specs.declared.pair.Side.TheVariants.{FromLesser, FromGre
 use Rattle.tcp_streams.specs.Pairs.{compare_pairs, pair_of, opposite, flow_id, flow_from}
 use Rattle.tcp_streams.specs.Lives.{lives, elder_side}
 
--- the ports that are chosen and the blocks of the pool; the pairs that are known, in their order, and the room of each; the
--- rooms that are free, the next one last; of each room the number of its last segment; of each id the flow, from its first
+-- the ports that are chosen and the blocks of the pool; the pairs that are known, in their order,
+-- and the room of each; the
+-- rooms that are free, the next one last; of each room the number of its last segment; of each id
+-- the flow, from its first
 -- stream on; what is held, what has happened, and how many segments came
 pub record State : Type 0 where
   pub ports : List ℕ
@@ -153,7 +156,8 @@ abbrev pub is_older : State → ℕ → ℕ → Bool
 is_older w a b =
     nat_lt (get_or w.lasts (room_at w a) 0) (get_or w.lasts (room_at w b) 0)
 
--- whether the connection at one place makes room rather than that at another: first those without a live stream, then by
+-- whether the connection at one place makes room rather than that at another: first those without a
+-- live stream, then by
 -- their last segments
 abbrev pub goes_before : State → ℕ → ℕ → Bool
 goes_before w a b =
@@ -289,7 +293,8 @@ unfoldable pub is_holding : List Payload → Option FlowState → Bool
 is_holding held None = false
 is_holding held (Some s) = is_some (first s.id s.next held)
 
--- while flows hold something, a gap of the one whose live stream has the least number: those before a rank hold nothing
+-- while flows hold something, a gap of the one whose live stream has the least number: those before
+-- a rank hold nothing
 unfoldable pub gaps_from : Reader → ℕ → ℕ → State → State
 gaps_from F zero rank w = w
 gaps_from F (suc count) rank w =

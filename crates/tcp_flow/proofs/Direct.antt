@@ -1,4 +1,5 @@
--- A payload that is due at once is taken from where it is: to hold it first makes no difference. Behind going on nothing of a flow is due.
+-- A payload that is due at once is taken from where it is: to hold it first makes no difference.
+-- Behind going on nothing of a flow is due.
 use Rattle.std.proofs.Common.{◌≡◌, ℕ, zero, suc, ◌+◌, ◌^◌, ◌<◌, ◌≤◌, Bool, true, false, cond, nat_eq, nat_lt, nat_le, ◌&&◌, ◌||◌, not, List, [], ◌∷◌, ◌++◌, length, drop, get_or, Option, Some, None, is_some, IfSome, refl, sym, ◌∙◌, ap, subst, arith, inl, inr}
 use Rattle.std.specs.Option.{option_map}
 use Rattle.std.specs.List.{remove}
@@ -23,18 +24,26 @@ last_gone [] q = refl
 last_gone (p ∷ ps) q = ap (λ (xs : List Payload). p ∷ xs) (last_gone ps q)
 
 -- what is before all others is first
-first_last : (id next : ℕ) (q : Payload) (ps : List Payload) → q.flow ≡ id → AreLater id next (rank next q.number) ps → first id next (ps ++ q ∷ []) ≡ Some (length ps)
+first_last : (id next : ℕ) (q : Payload) (ps : List Payload) → q.flow ≡ id →
+    AreLater id next (rank next q.number) ps → first id next (ps ++ q ∷ []) ≡ Some (length ps)
 unfolding first earlier AreLater
 first_last id next q [] own h = rw (eq-eqb q.flow id own) refl
 first_last id next q (p ∷ ps) own h =
     let e : first id next (ps ++ q ∷ []) ≡ Some (length ps) = first_last id next q ps own h.1 in
     elim (cases_eq p.flow id) [
-      | inl x ↦ rw (eq-eqb p.flow id x, e, last_at ps q p, lt-ltb (rank next q.number) (rank next p.number) (h.0 x)) refl
+      | inl x ↦ rw (
+        eq-eqb p.flow id x,
+        e,
+        last_at ps q p,
+        lt-ltb (rank next q.number) (rank next p.number) (h.0 x),
+      ) refl
       | inr x ↦ rw (ne_eqb p.flow id x, e) refl
     ]
 
 -- to hold what is due and go on is to take it and go on
-pub gone_on_direct : (F : Reader) (f : Flow) (q : Payload) → q.flow ≡ f.id → AreLater f.id f.next (rank f.next q.number) f.held → ((is_some f.live) && is_to_come f.next q.number) ≡ false
+pub gone_on_direct : (F : Reader) (f : Flow) (q : Payload) → q.flow ≡ f.id →
+    AreLater f.id f.next (rank f.next q.number) f.held →
+    ((is_some f.live) && is_to_come f.next q.number) ≡ false
     → gone_on F (holding f q) ≡ gone_on F (taken F f q)
 unfolding gone_on drained holding first_of at is_due
 gone_on_direct F f q own h due =
@@ -44,50 +53,72 @@ gone_on_direct F f q own h due =
     let here : at g i ≡ q = last_at f.held q (payload 0 0 []) in
     let now : is_due g i ≡ true = rw (last_at f.held q (payload 0 0 []), due) refl in
     let n : length g.held ≡ suc i = rw (length-append f.held (q ∷ [])) (omega arith) in
-    let goes : drained_at_most F (suc i) g ≡ drained_at_most F i (taken F (record g { held = remove g.held i }) (at g i)) = flowing_takes F i g i e now in
-    let same : drained_at_most F i (taken F (record g { held = remove g.held i }) (at g i)) ≡ drained_at_most F i (taken F f q) = rw (last_gone f.held q, last_at f.held q (payload 0 0 [])) refl in
+    let goes : drained_at_most F (suc i) g
+    ≡ drained_at_most F i (taken F (record g { held = remove g.held i }) (at g i)) =
+    flowing_takes F i g i e now in
+    let same : drained_at_most F i (taken F (record g { held = remove g.held i }) (at g i))
+    ≡ drained_at_most F i (taken F f q) =
+    rw (last_gone f.held q, last_at f.held q (payload 0 0 [])) refl in
     let s : Stays f (taken F f q) = taken_stays F f q in
     let m : i ≡ length (taken F f q).held = ap length (sym s.held) in
-    ap (λ (d : Flow). without_stale_fin (ended F d)) (ap (λ (k : ℕ). drained_at_most F k g) n ∙ goes ∙ same ∙ ap (λ (k : ℕ). drained_at_most F k (taken F f q)) m)
+    ap (λ (d : Flow). without_stale_fin (ended F d))
+    (ap (λ (k : ℕ). drained_at_most F k g) n ∙ goes ∙ same
+    ∙ ap (λ (k : ℕ). drained_at_most F k (taken F f q)) m)
 
 -- nothing of its own is later than anything
-later_none : (id next n : ℕ) (ps : List Payload) → is_some (first id next ps) ≡ false → AreLater id next n ps
+later_none : (id next n : ℕ) (ps : List Payload) → is_some (first id next ps) ≡ false →
+    AreLater id next n ps
 unfolding AreLater
 later_none id next n [] h = tt
 later_none id next n (p ∷ ps) h =
-    let e : (nat_eq p.flow id ≡ false) × (is_some (first id next ps) ≡ false) = or_parts (nat_eq p.flow id) (is_some (first id next ps)) (sym (first_some id next p ps) ∙ h) in
+    let e : (nat_eq p.flow id ≡ false) × (is_some (first id next ps) ≡ false) =
+    or_parts (nat_eq p.flow id) (is_some (first id next ps)) (sym (first_some id next p ps) ∙ h)
+    in
     ((λ x. absurd (eqb-false p.flow id e.0 x)), later_none id next n ps e.1)
 
 -- a number below the first's is below all
-later_by : (id next n : ℕ) (p : Payload) (ps : List Payload) (c : Bool) (r : Option ℕ) → nat_eq p.flow id ≡ c → first id next ps ≡ r
-    → (IfSome (first id next ps) (λ i. n < rank next (get_or ps i (payload 0 0 [])).number) → AreLater id next n ps)
-    → IfSome (cond c (earlier next p ps r) (option_map suc r)) (λ i. n < rank next (get_or (p ∷ ps) i (payload 0 0 [])).number)
+later_by : (id next n : ℕ) (p : Payload) (ps : List Payload) (c : Bool) (r : Option ℕ) →
+    nat_eq p.flow id ≡ c → first id next ps ≡ r
+    → (IfSome (first id next ps) (λ i. n < rank next (get_or ps i (payload 0 0 [])).number) →
+    AreLater id next n ps)
+    → IfSome (cond c (earlier next p ps r) (option_map suc r))
+    (λ i. n < rank next (get_or (p ∷ ps) i (payload 0 0 [])).number)
     → AreLater id next n (p ∷ ps)
 unfolding AreLater earlier
 later_by id next n p ps true None e f rest h = ((λ x. h), rest (rw f tt))
 later_by id next n p ps true (Some k) e f rest h =
     let within : k < length ps = rw f at (first_within id next ps) in
-    let same : get_or ps k p ≡ get_or ps k (payload 0 0 []) = get_or_default ps k p (payload 0 0 []) within in
+    let same : get_or ps k p ≡ get_or ps k (payload 0 0 []) =
+    get_or_default ps k p (payload 0 0 []) within in
     elim (cases_lt (rank next (get_or ps k p).number) (rank next p.number)) [
       | inl l ↦
-          (let t : nat_lt (rank next (get_or ps k p).number) (rank next p.number) ≡ true = lt-ltb (rank next (get_or ps k p).number) (rank next p.number) l in
+          (let t : nat_lt (rank next (get_or ps k p).number) (rank next p.number) ≡ true =
+          lt-ltb (rank next (get_or ps k p).number) (rank next p.number) l in
           let m : n < rank next (get_or ps k (payload 0 0 [])).number = rw t at h in
-          let o : rank next (get_or ps k (payload 0 0 [])).number < rank next p.number = rw same at l in
+          let o : rank next (get_or ps k (payload 0 0 [])).number < rank next p.number =
+          rw same at l in
           ((λ x. omega arith), rest (rw f m)))
       | inr g ↦
-          (let t : nat_lt (rank next (get_or ps k p).number) (rank next p.number) ≡ false = le-ltb (rank next (get_or ps k p).number) (rank next p.number) g in
+          (let t : nat_lt (rank next (get_or ps k p).number) (rank next p.number) ≡ false =
+          le-ltb (rank next (get_or ps k p).number) (rank next p.number) g in
           let m : n < rank next p.number = rw t at h in
-          let o : rank next p.number ≤ rank next (get_or ps k (payload 0 0 [])).number = rw same at g in
+          let o : rank next p.number ≤ rank next (get_or ps k (payload 0 0 [])).number =
+          rw same at g in
           let u : n < rank next (get_or ps k (payload 0 0 [])).number = omega arith in
           ((λ x. m), rest (rw f u)))
     ]
-later_by id next n p ps false None e f rest h = ((λ x. absurd (eqb-false p.flow id e x)), rest (rw f tt))
-later_by id next n p ps false (Some k) e f rest h = ((λ x. absurd (eqb-false p.flow id e x)), rest (rw f h))
+later_by id next n p ps false None e f rest h =
+    ((λ x. absurd (eqb-false p.flow id e x)), rest (rw f tt))
+later_by id next n p ps false (Some k) e f rest h =
+    ((λ x. absurd (eqb-false p.flow id e x)), rest (rw f h))
 
-later_least : (id next n : ℕ) (ps : List Payload) → IfSome (first id next ps) (λ i. n < rank next (get_or ps i (payload 0 0 [])).number) → AreLater id next n ps
+later_least : (id next n : ℕ) (ps : List Payload) →
+    IfSome (first id next ps) (λ i. n < rank next (get_or ps i (payload 0 0 [])).number) →
+    AreLater id next n ps
 unfolding AreLater first
 later_least id next n [] h = tt
-later_least id next n (p ∷ ps) h = later_by id next n p ps (nat_eq p.flow id) (first id next ps) refl refl (later_least id next n ps) h
+later_least id next n (p ∷ ps) h = later_by id next n p ps (nat_eq p.flow id) (first id next ps)
+    refl refl (later_least id next n ps) h
 
 IsEnded : Flow → Type 0
 IsEnded f = IfSome (first_of f) (λ i. is_due f i ≡ false)
@@ -99,11 +130,14 @@ none_if (Some i) P h = absurd (true≢false h)
 some_if : (r : Option ℕ) (P : ℕ → Type 0) (i : ℕ) → r ≡ Some i → P i → IfSome r P
 some_if r P i e p = subst (λ (o : Option ℕ). IfSome o P) (sym e) p
 
-shorter : (F : Reader) (f : Flow) (i count : ℕ) → first_of f ≡ Some i → length f.held ≤ suc count → length (taken F (record f { held = remove f.held i }) (at f i)).held ≤ count
+shorter : (F : Reader) (f : Flow) (i count : ℕ) → first_of f ≡ Some i → length f.held ≤ suc count →
+    length (taken F (record f { held = remove f.held i }) (at f i)).held ≤ count
 unfolding first_of
 shorter F f i count e l =
     let within : i < length f.held = rw e at (first_within f.id f.next f.held) in
-    let s : Stays (record f { held = remove f.held i }) (taken F (record f { held = remove f.held i }) (at f i)) = taken_stays F (record f { held = remove f.held i }) (at f i) in
+    let s : Stays (record f { held = remove f.held i })
+    (taken F (record f { held = remove f.held i }) (at f i)) =
+    taken_stays F (record f { held = remove f.held i }) (at f i) in
     omega (arith, l, length_remove f.held i within, ap length s.held)
 
 if_more : (r : Option ℕ) (P Q : ℕ → Type 0) → ((i : ℕ) → P i → Q i) → IfSome r P → IfSome r Q
@@ -116,25 +150,37 @@ if_none (Some i) P k h = absurd (k i h)
 
 to_come_place : (next n : ℕ) → is_to_come next n ≡ true → 2 ^ 31 < rank next n
 to_come_place next n h =
-    let p : (nat_lt 0 (ahead next n) ≡ true) × (nat_lt (ahead next n) (2 ^ 31) ≡ true) = and_parts (nat_lt 0 (ahead next n)) (nat_lt (ahead next n) (2 ^ 31)) h in
+    let p : (nat_lt 0 (ahead next n) ≡ true) × (nat_lt (ahead next n) (2 ^ 31) ≡ true) =
+    and_parts (nat_lt 0 (ahead next n)) (nat_lt (ahead next n) (2 ^ 31)) h in
     let a : 0 < ahead next n = ltb-true 0 (ahead next n) p.0 in
     let b : ahead next n < 2 ^ 31 = ltb-true (ahead next n) (2 ^ 31) p.1 in
     omega arith
 
 -- the first is taken until it is not due
-flowing_ends : (F : Reader) (count : ℕ) (f : Flow) → length f.held ≤ count → IsEnded (drained_at_most F count f)
+flowing_ends : (F : Reader) (count : ℕ) (f : Flow) → length f.held ≤ count →
+    IsEnded (drained_at_most F count f)
 unfolding drained_at_most IsEnded
 flowing_ends F zero f l = none_if (first_of f) (λ i. is_due f i ≡ false) (none_some f l)
 flowing_ends F (suc count) f l =
     elim (first_of f) as (λ (r : Option ℕ). first_of f ≡ r → IsEnded (elim r [
       | None ↦ f
-      | Some i ↦ elim (is_due f i) [ true ↦ drained_at_most F count (taken F (record f { held = remove f.held i }) (at f i)) | false ↦ f ]
+      | Some i ↦ elim (is_due f i) [
+        | true ↦ drained_at_most F count
+            (taken F (record f { held = remove f.held i }) (at f i))
+        | false ↦ f
+      ]
     ])) [
       | None ↦ (λ e. none_if (first_of f) (λ i. is_due f i ≡ false) (ap is_some e))
       | Some i ↦
           (λ e.
-          elim (is_due f i) as (λ (b : Bool). is_due f i ≡ b → IsEnded (elim b [ true ↦ drained_at_most F count (taken F (record f { held = remove f.held i }) (at f i)) | false ↦ f ])) [
-            | true ↦ (λ d. flowing_ends F count (taken F (record f { held = remove f.held i }) (at f i)) (shorter F f i count e l))
+          elim (is_due f i) as (λ (b : Bool). is_due f i ≡ b →
+          IsEnded (elim b [
+            | true ↦ drained_at_most F count
+                (taken F (record f { held = remove f.held i }) (at f i))
+            | false ↦ f
+          ])) [
+            | true ↦ (λ d. flowing_ends F count
+                (taken F (record f { held = remove f.held i }) (at f i)) (shorter F f i count e l))
             | false ↦ (λ d. some_if (first_of f) (λ j. is_due f j ≡ false) i e d)
           ] refl)
     ] refl
@@ -144,11 +190,24 @@ ended_settled : (f : Flow) → f.next < 2 ^ 32 → IsEnded f → IsSettled f
 unfolding IsEnded first_of is_due at
 ended_settled f small h =
     record {
-      live = λ l. later_least f.id f.next (2 ^ 31) f.held (if_more (first f.id f.next f.held) (λ i. not ((is_some f.live) && is_to_come f.next (get_or f.held i (payload 0 0 [])).number) ≡ false)
+      live = λ l. later_least f.id f.next (2 ^ 31) f.held
+          (if_more (first f.id f.next f.held) (λ i.
+          not ((is_some f.live) && is_to_come f.next (get_or f.held i (payload 0 0 [])).number)
+          ≡ false)
           (λ i. 2 ^ 31 < rank f.next (get_or f.held i (payload 0 0 [])).number)
-          (λ i e. to_come_place f.next (get_or f.held i (payload 0 0 [])).number (and_parts (is_some f.live) (is_to_come f.next (get_or f.held i (payload 0 0 [])).number) (not-false ((is_some f.live) && is_to_come f.next (get_or f.held i (payload 0 0 [])).number) e)).1) h);
-      dead = λ d. if_none (first f.id f.next f.held) (λ i. not ((is_some f.live) && is_to_come f.next (get_or f.held i (payload 0 0 [])).number) ≡ false)
-          (λ i e. both_ways (is_some f.live) d (and_parts (is_some f.live) (is_to_come f.next (get_or f.held i (payload 0 0 [])).number) (not-false ((is_some f.live) && is_to_come f.next (get_or f.held i (payload 0 0 [])).number) e)).0) h;
+          (λ i e. to_come_place f.next (get_or f.held i (payload 0 0 [])).number
+          (and_parts (is_some f.live) (is_to_come f.next
+          (get_or f.held i (payload 0 0 [])).number)
+          (not-false ((is_some f.live) && is_to_come f.next
+          (get_or f.held i (payload 0 0 [])).number) e)).1) h);
+      dead = λ d. if_none (first f.id f.next f.held)
+          (λ i. not ((is_some f.live) && is_to_come f.next
+          (get_or f.held i (payload 0 0 [])).number) ≡ false)
+          (λ i e. both_ways (is_some f.live) d
+          (and_parts (is_some f.live) (is_to_come f.next
+          (get_or f.held i (payload 0 0 [])).number)
+          (not-false ((is_some f.live) && is_to_come f.next
+          (get_or f.held i (payload 0 0 [])).number) e)).0) h;
     }
 
 either : (P : Flow → Type 0) (b : Bool) (f g : Flow) → P f → P g → P (cond b f g)
@@ -161,72 +220,103 @@ unfolding gone_on ended without_stale_fin drained IsEnded first_of is_due at
 gone_on_ends F f =
     let d : Flow = drained_at_most F (length f.held) f in
     let c : Flow = record (closed d Fin) { fin = None } in
-    let e : Flow = cond (fin_is_reached d.next (is_some d.live) d.fin) (drained_at_most F (length c.held) c) d in
-    let h : IsEnded e = either IsEnded (fin_is_reached d.next (is_some d.live) d.fin) (drained_at_most F (length c.held) c) d (flowing_ends F (length c.held) c (omega arith)) (flowing_ends F (length f.held) f (omega arith)) in
+    let e : Flow = cond (fin_is_reached d.next (is_some d.live) d.fin)
+    (drained_at_most F (length c.held) c) d in
+    let h : IsEnded e = either IsEnded (fin_is_reached d.next (is_some d.live) d.fin)
+    (drained_at_most F (length c.held) c) d (flowing_ends F (length c.held) c (omega arith))
+    (flowing_ends F (length f.held) f (omega arith)) in
     either IsEnded (is_some e.live) e (record e { fin = None }) h h
 
 relieved_ends : (A : Setting) (count : ℕ) (f : Flow) → IsEnded f → IsEnded (within_bounds A count f)
 unfolding within_bounds gap
 relieved_ends A zero f h = h
 relieved_ends A (suc count) f h =
-    elim (is_too_much A f) as (λ (b : Bool). IsEnded (elim b [ true ↦ within_bounds A count (gap A.faulted f) | false ↦ f ])) [
+    elim (is_too_much A f) as (λ (b : Bool).
+    IsEnded (elim b [ true ↦ within_bounds A count (gap A.faulted f) | false ↦ f ])) [
       | true ↦ relieved_ends A count (gap A.faulted f) (gone_on_ends A.faulted (closed f Gap))
       | false ↦ h
     ]
 
-pub came_settled : (A : Setting) (f : Flow) (p : Payload) → IsSettled f → (payload_came A f p).next < 2 ^ 32 → IsSettled (payload_came A f p)
+pub came_settled : (A : Setting) (f : Flow) (p : Payload) → IsSettled f →
+    (payload_came A f p).next < 2 ^ 32 → IsSettled (payload_came A f p)
 unfolding payload_came
 came_settled A f p t =
     let q : Payload = left f.next (is_some f.live) p in
     let r : Flow = within_bounds A (length f.held + 1) (gone_on A.faulted (holding f q)) in
-    either (λ (g : Flow). g.next < 2 ^ 32 → IsSettled g) (nat_eq (length q.octets) 0 || has_as_much f.id q.number (length q.octets) f.held) f r (λ s. t)
-    (λ s. ended_settled r s (relieved_ends A (length f.held + 1) (gone_on A.faulted (holding f q)) (gone_on_ends A.faulted (holding f q))))
+    either (λ (g : Flow). g.next < 2 ^ 32 → IsSettled g)
+    (nat_eq (length q.octets) 0 || has_as_much f.id q.number (length q.octets) f.held) f r
+    (λ s. t)
+    (λ s. ended_settled r s (relieved_ends A (length f.held + 1) (gone_on A.faulted (holding f q))
+    (gone_on_ends A.faulted (holding f q))))
 
-pub fin_settled : (F : Reader) (f : Flow) (n : ℕ) → IsSettled f → (fin_came F f n).next < 2 ^ 32 → IsSettled (fin_came F f n)
+pub fin_settled : (F : Reader) (f : Flow) (n : ℕ) → IsSettled f → (fin_came F f n).next < 2 ^ 32 →
+    IsSettled (fin_came F f n)
 unfolding fin_came
 fin_settled F f n t =
     let g : Flow = gone_on F (record f { fin = Some n }) in
-    either (λ (g : Flow). g.next < 2 ^ 32 → IsSettled g) ((is_some f.live) && nat_eq (age f.next n) 0) g f (λ s. ended_settled g s (gone_on_ends F (record f { fin = Some n }))) (λ s. t)
+    either (λ (g : Flow). g.next < 2 ^ 32 → IsSettled g)
+    ((is_some f.live) && nat_eq (age f.next n) 0) g f
+    (λ s. ended_settled g s (gone_on_ends F (record f { fin = Some n }))) (λ s. t)
 
 pub gap_settled : (F : Reader) (f : Flow) → (gap F f).next < 2 ^ 32 → IsSettled (gap F f)
 unfolding gap
-gap_settled F f small = ended_settled (gone_on F (closed f Gap)) small (gone_on_ends F (closed f Gap))
+gap_settled F f small = ended_settled (gone_on F (closed f Gap)) small
+    (gone_on_ends F (closed f Gap))
 
 abbrev IfSmall : Flow → Type 0
 IfSmall g = g.next < 2 ^ 32 → IsSettled g
 
-missed_by : (F : Reader) (count n : ℕ) (f : Flow) → IfSmall f → IfSmall (acknowledgement_came F count n f)
+missed_by : (F : Reader) (count n : ℕ) (f : Flow) → IfSmall f →
+    IfSmall (acknowledgement_came F count n f)
 unfolding acknowledgement_came gap
 missed_by F zero n f t = t
 missed_by F (suc count) n f t =
-    elim (is_some (first_of f) && is_to_come f.next n) as (λ (b : Bool). IfSmall (elim b [ true ↦ acknowledgement_came F count n (gap F f) | false ↦ f ])) [
-      | true ↦ missed_by F count n (gap F f) (λ s. ended_settled (gap F f) s (gone_on_ends F (closed f Gap)))
+    elim (is_some (first_of f) && is_to_come f.next n) as
+    (λ (b : Bool). IfSmall (elim b [
+      | true ↦ acknowledgement_came F count n (gap F f)
+      | false ↦ f
+    ])) [
+      | true ↦ missed_by F count n (gap F f)
+          (λ s. ended_settled (gap F f) s (gone_on_ends F (closed f Gap)))
       | false ↦ t
     ]
 
-pub missed_settled : (F : Reader) (count n : ℕ) (f : Flow) → IsSettled f → (acknowledgement_came F count n f).next < 2 ^ 32 → IsSettled (acknowledgement_came F count n f)
+pub missed_settled : (F : Reader) (count n : ℕ) (f : Flow) → IsSettled f →
+    (acknowledgement_came F count n f).next < 2 ^ 32 → IsSettled (acknowledgement_came F count n f)
 missed_settled F count n f t = missed_by F count n f (λ s. t)
 
-pub fresh_settled : (f : Flow) → (is_some f.live) ≡ false → is_some (first_of f) ≡ false → IsSettled f
+pub fresh_settled : (f : Flow) → (is_some f.live) ≡ false → is_some (first_of f) ≡ false →
+    IsSettled f
 unfolding first_of first
-fresh_settled f dead none = record { live = λ l. absurd (both_ways (is_some f.live) dead l); dead = λ d. none }
+fresh_settled f dead none = record {
+  live = λ l. absurd (both_ways (is_some f.live) dead l);
+  dead =
+      λ d. none;
+}
 
-later_has : (id next number count : ℕ) (ps : List Payload) → AreLater id next (rank next number) ps → has_as_much id number count ps ≡ false
+later_has : (id next number count : ℕ) (ps : List Payload) →
+    AreLater id next (rank next number) ps → has_as_much id number count ps ≡ false
 unfolding AreLater has_as_much
 later_has id next number count [] h = refl
 later_has id next number count (p ∷ ps) h =
-    or_from (nat_eq p.flow id && nat_eq p.number number && nat_le count (length p.octets)) (has_as_much id number count ps)
+    or_from (nat_eq p.flow id && nat_eq p.number number && nat_le count (length p.octets))
+    (has_as_much id number count ps)
     (and_left (nat_eq p.flow id && nat_eq p.number number) (nat_le count (length p.octets))
     (elim (cases_Bool (nat_eq p.flow id)) [
       | inl x ↦
           and_right (nat_eq p.flow id) (nat_eq p.number number)
-          (ne_eqb p.number number (λ e. let o : rank next number < rank next p.number = h.0 (eqb-true p.flow id x) in absurd (let z : rank next number < rank next number = subst (λ (n : ℕ). rank next number < rank next n) e o in omega arith)))
+          (ne_eqb p.number number (λ e. let o : rank next number < rank next p.number =
+          h.0 (eqb-true p.flow id x) in absurd
+          (let z : rank next number < rank next number =
+          subst (λ (n : ℕ). rank next number < rank next n) e o in omega arith)))
       | inr x ↦ and_left (nat_eq p.flow id) (nat_eq p.number number) x
     ]))
     (later_has id next number count ps h.1)
 
 -- what is due in a settled flow is before all that it holds
-due_later : (f : Flow) (q : Payload) → f.next < 2 ^ 32 → IsSettled f → ((is_some f.live) ≡ true → q.number ≡ f.next) → AreLater f.id f.next (rank f.next q.number) f.held
+due_later : (f : Flow) (q : Payload) → f.next < 2 ^ 32 → IsSettled f →
+    ((is_some f.live) ≡ true → q.number ≡ f.next) →
+    AreLater f.id f.next (rank f.next q.number) f.held
 unfolding first_of
 due_later f q small t due =
     elim (cases_Bool (is_some f.live)) [
@@ -237,25 +327,39 @@ due_later f q small t due =
     ]
 
 -- a payload that is due at once: what it does, without holding it
-pub came_direct : (A : Setting) (f : Flow) (p q : Payload) → q ≡ left f.next (is_some f.live) p → p.flow ≡ f.id → f.next < 2 ^ 32 → IsSettled f → nat_eq (length q.octets) 0 ≡ false
-    → ((is_some f.live) ≡ true → q.number ≡ f.next) → ((is_some f.live) && is_to_come f.next q.number) ≡ false
-    → payload_came A f p ≡ within_bounds A (length f.held + 1) (gone_on A.faulted (taken A.faulted f q))
+pub came_direct : (A : Setting) (f : Flow) (p q : Payload) → q ≡ left f.next (is_some f.live) p →
+    p.flow ≡ f.id → f.next < 2 ^ 32 → IsSettled f → nat_eq (length q.octets) 0 ≡ false
+    → ((is_some f.live) ≡ true → q.number ≡ f.next) →
+    ((is_some f.live) && is_to_come f.next q.number) ≡ false
+    → payload_came A f p ≡ within_bounds A (length f.held + 1)
+    (gone_on A.faulted (taken A.faulted f q))
 came_direct A f p q e own small t some due now =
     let later : AreLater f.id f.next (rank f.next q.number) f.held = due_later f q small t due in
-    let mine : q.flow ≡ f.id = ap (λ (r : Payload). r.flow) e ∙ left_flow f.next (is_some f.live) p ∙ own in
-    came_held A f p q e (or_from (nat_eq (length q.octets) 0) (has_as_much f.id q.number (length q.octets) f.held) some (later_has f.id f.next q.number (length q.octets) f.held later))
+    let mine : q.flow ≡ f.id = ap (λ (r : Payload). r.flow) e ∙ left_flow f.next (is_some f.live) p
+    ∙ own in
+    came_held A f p q e (or_from (nat_eq (length q.octets) 0)
+    (has_as_much f.id q.number (length q.octets) f.held) some
+    (later_has f.id f.next q.number (length q.octets) f.held later))
     ∙ ap (within_bounds A (length f.held + 1)) (gone_on_direct A.faulted f q mine later now)
 
 -- what is left of a payload and is not to come is due
-pub due_number : (next : ℕ) (live : Bool) (p q : Payload) → next < 2 ^ 32 → p.number < 2 ^ 32 → live ≡ true → q ≡ left next live p → is_to_come next q.number ≡ false → q.number ≡ next
+pub due_number : (next : ℕ) (live : Bool) (p q : Payload) → next < 2 ^ 32 → p.number < 2 ^ 32 →
+    live ≡ true → q ≡ left next live p → is_to_come next q.number ≡ false → q.number ≡ next
 unfolding left
 due_number next live p q small bound l e h =
-    let b : (nat_lt window (age next p.number) && not live) ≡ false = and_right (nat_lt window (age next p.number)) (not live) (not_from_true live l) in
+    let b : (nat_lt window (age next p.number) && not live) ≡ false =
+    and_right (nat_lt window (age next p.number)) (not live) (not_from_true live l) in
     let number : q.number ≡ onward p.number (age next p.number) =
-    ap (λ (r : Payload). r.number) e ∙ ap (λ (r : Payload). r.number) (cond-false (nat_lt window (age next p.number) && not live) p (payload p.flow (onward p.number (age next p.number)) (drop (age next p.number) p.octets)) b) in
+    ap (λ (r : Payload). r.number) e ∙ ap (λ (r : Payload). r.number)
+    (cond-false (nat_lt window (age next p.number) && not live) p
+    (payload p.flow (onward p.number (age next p.number)) (drop (age next p.number) p.octets))
+    b) in
     elim (cases_Bool (is_to_come next p.number)) [
       | inl x ↦
-          (let y : ahead next p.number < 2 ^ 31 = ltb-true (ahead next p.number) (2 ^ 31) (and_parts (nat_lt 0 (ahead next p.number)) (nat_lt (ahead next p.number) (2 ^ 31)) x).1 in
+          (let y : ahead next p.number < 2 ^ 31 =
+          ltb-true (ahead next p.number) (2 ^ 31)
+          (and_parts (nat_lt 0 (ahead next p.number)) (nat_lt (ahead next p.number) (2 ^ 31))
+          x).1 in
           let z : age next p.number ≡ 0 = rw (lt-ltb (ahead next p.number) (2 ^ 31) y) refl in
           let w : q.number ≡ p.number = number ∙ rw z (omega arith) in
           absurd (both_ways (is_to_come next q.number) h (ap (λ (n : ℕ). is_to_come next n) w ∙ x)))

@@ -7,13 +7,15 @@ use Rattle.std.proofs.Math.ListN.{drop_of_length-le}
 use Rattle.std.proofs.Math.Seq.{drop-cons, take-length, drop-length}
 use Rattle.std.proofs.lemmas.Bool.{cases_lt, cond-true, cond-false}
 
-pub cut : (a m : ℕ) (xs : List ℕ) → m ≡ min a (length xs) → take (length xs - m) (drop m xs) ≡ drop a xs
+pub cut : (a m : ℕ) (xs : List ℕ) → m ≡ min a (length xs) →
+    take (length xs - m) (drop m xs) ≡ drop a xs
 cut a m xs e =
     elim (cases_lt a (length xs)) [
       | inl h ↦
           (let f : a ≡ m = omega arith in
           let l : length (drop m xs) ≡ length xs - m = length-drop m xs in
-          subst (λ (k : ℕ). take k (drop m xs) ≡ drop a xs) l (take-length (drop m xs) ∙ sym (ap (λ (k : ℕ). drop k xs) f)))
+          subst (λ (k : ℕ). take k (drop m xs) ≡ drop a xs) l
+          (take-length (drop m xs) ∙ sym (ap (λ (k : ℕ). drop k xs) f)))
       | inr h ↦
           (let f : length xs ≡ m = omega arith in
           let d : drop m xs ≡ [] = subst (λ (k : ℕ). drop k xs ≡ []) f (drop-length xs) in
@@ -21,25 +23,35 @@ cut a m xs e =
           rw n (sym (drop_of_length-le xs h)))
     ]
 
-pub header_here : (xs : List ℕ) (i : ℕ) → i < length xs → is_header (drop i xs) ≡ true → header_at (drop i xs) ≡ Some 0
+pub header_here : (xs : List ℕ) (i : ℕ) → i < length xs → is_header (drop i xs) ≡ true →
+    header_at (drop i xs) ≡ Some 0
 unfolding header_at
 header_here xs i h e =
     let d : drop i xs ≡ get_or xs i 0 ∷ drop (suc i) xs = drop-cons xs i 0 h in
-    let f : is_header (get_or xs i 0 ∷ drop (suc i) xs) ≡ true = subst (λ (ys : List ℕ). is_header ys ≡ true) d e in
-    rw d (cond-true (is_header (get_or xs i 0 ∷ drop (suc i) xs)) (Some 0) (option_map suc (header_at (drop (suc i) xs))) f)
+    let f : is_header (get_or xs i 0 ∷ drop (suc i) xs) ≡ true =
+    subst (λ (ys : List ℕ). is_header ys ≡ true) d e in
+    rw d (cond-true (is_header (get_or xs i 0 ∷ drop (suc i) xs)) (Some 0)
+    (option_map suc (header_at (drop (suc i) xs))) f)
 
-shifted : (i : ℕ) (r : Option ℕ) → option_map (λ (k : ℕ). i + k) (option_map suc r) ≡ option_map (λ (k : ℕ). i + 1 + k) r
+shifted : (i : ℕ) (r : Option ℕ) → option_map (λ (k : ℕ). i + k) (option_map suc r)
+    ≡ option_map (λ (k : ℕ). i + 1 + k) r
 shifted i None = refl
 shifted i (Some k) = let e : i + suc k ≡ i + 1 + k = omega arith in ap Some e
 
-pub header_later : (xs : List ℕ) (i : ℕ) → i < length xs → is_header (drop i xs) ≡ false → option_map (λ (k : ℕ). i + k) (header_at (drop i xs)) ≡ option_map (λ (k : ℕ). i + 1 + k) (header_at (drop (i + 1) xs))
+pub header_later : (xs : List ℕ) (i : ℕ) → i < length xs → is_header (drop i xs) ≡ false →
+    option_map (λ (k : ℕ). i + k) (header_at (drop i xs))
+    ≡ option_map (λ (k : ℕ). i + 1 + k) (header_at (drop (i + 1) xs))
 unfolding header_at
 header_later xs i h e =
     let d : drop i xs ≡ get_or xs i 0 ∷ drop (suc i) xs = drop-cons xs i 0 h in
-    let f : is_header (get_or xs i 0 ∷ drop (suc i) xs) ≡ false = subst (λ (ys : List ℕ). is_header ys ≡ false) d e in
-    let s : header_at (get_or xs i 0 ∷ drop (suc i) xs) ≡ option_map suc (header_at (drop (suc i) xs)) =
-    cond-false (is_header (get_or xs i 0 ∷ drop (suc i) xs)) (Some 0) (option_map suc (header_at (drop (suc i) xs))) f in
-    let t : header_at (drop i xs) ≡ option_map suc (header_at (drop (i + 1) xs)) = rw (add-one, d) s in
+    let f : is_header (get_or xs i 0 ∷ drop (suc i) xs) ≡ false =
+    subst (λ (ys : List ℕ). is_header ys ≡ false) d e in
+    let s : header_at (get_or xs i 0 ∷ drop (suc i) xs)
+    ≡ option_map suc (header_at (drop (suc i) xs)) =
+    cond-false (is_header (get_or xs i 0 ∷ drop (suc i) xs)) (Some 0)
+    (option_map suc (header_at (drop (suc i) xs))) f in
+    let t : header_at (drop i xs) ≡ option_map suc (header_at (drop (i + 1) xs)) =
+    rw (add-one, d) s in
     rw t (shifted i (header_at (drop (i + 1) xs)))
 
 pub header_none : (xs : List ℕ) (i : ℕ) → length xs ≤ i → header_at (drop i xs) ≡ None
@@ -51,4 +63,5 @@ from_zero None = refl
 from_zero (Some k) = let e : k ≡ 0 + k = omega arith in ap Some e
 
 pub whole_tail : (xs : List ℕ) (i : ℕ) → take (length xs - i) (drop i xs) ≡ drop i xs
-whole_tail xs i = subst (λ (k : ℕ). take k (drop i xs) ≡ drop i xs) (length-drop i xs) (take-length (drop i xs))
+whole_tail xs i = subst (λ (k : ℕ). take k (drop i xs) ≡ drop i xs) (length-drop i xs)
+    (take-length (drop i xs))

@@ -13,28 +13,34 @@ use Rattle.tcp_flow.proofs.Room.{first_some}
 
 -- ---- Nothing waits at the start.
 
-none_own : (id next : ℕ) (P : Payload → Type 0) (ps : List Payload) → is_some (first id next ps) ≡ false → AllByRecursion (λ p. p.flow ≡ id → P p) ps
+none_own : (id next : ℕ) (P : Payload → Type 0) (ps : List Payload) →
+    is_some (first id next ps) ≡ false → AllByRecursion (λ p. p.flow ≡ id → P p) ps
 none_own id next P [] h = tt
 none_own id next P (p ∷ ps) h =
-    let e = or_parts (nat_eq p.flow id) (is_some (first id next ps)) (sym (first_some id next p ps) ∙ h) in
+    let e = or_parts (nat_eq p.flow id) (is_some (first id next ps))
+    (sym (first_some id next p ps) ∙ h) in
     ((λ o. absurd (true≢false (sym (eq-eqb p.flow id o) ∙ e.0))), none_own id next P ps e.1)
 
-none_later : (id next least : ℕ) (ps : List Payload) → is_some (first id next ps) ≡ false → AreLater id next least ps
+none_later : (id next least : ℕ) (ps : List Payload) → is_some (first id next ps) ≡ false →
+    AreLater id next least ps
 unfolding AreLater
 none_later id next least [] h = tt
 none_later id next least (p ∷ ps) h =
-    let e = or_parts (nat_eq p.flow id) (is_some (first id next ps)) (sym (first_some id next p ps) ∙ h) in
+    let e = or_parts (nat_eq p.flow id) (is_some (first id next ps))
+    (sym (first_some id next p ps) ∙ h) in
     ((λ o. absurd (true≢false (sym (eq-eqb p.flow id o) ∙ e.0))), none_later id next least ps e.1)
 
 -- ---- Payloads that come.
 
-member : (P : Arrival → Type 0) (cs : List Arrival) (c : Arrival) → AllByRecursion P cs → StandsIn cs c → P c
+member : (P : Arrival → Type 0) (cs : List Arrival) (c : Arrival) → AllByRecursion P cs →
+    StandsIn cs c → P c
 unfolding StandsIn
 member P [] c h s = absurd s
 member P (d ∷ ds) c h (inl e) = subst P (sym e) h.0
 member P (d ∷ ds) c h (inr s) = member P ds c h.1 s
 
-members : (P : Arrival → Type 0) (cs : List Arrival) → ((c : Arrival) → StandsIn cs c → P c) → AllByRecursion P cs
+members : (P : Arrival → Type 0) (cs : List Arrival) → ((c : Arrival) → StandsIn cs c → P c) →
+    AllByRecursion P cs
 unfolding StandsIn
 members P [] k = tt
 members P (d ∷ ds) k = (k d (inl refl), members P ds (λ c s. k c (inr s)))
@@ -49,7 +55,8 @@ record IsSpan (start : ℕ) (content : List ℕ) (ps : List Arrival) (place end 
 
 -- no payload spans a place
 unfoldable IsUnspanned : ℕ → List ℕ → List Arrival → ℕ → Type 0
-IsUnspanned start content ps u = (place end : ℕ) → IsSpan start content ps place end → place ≤ u → end ≤ u
+IsUnspanned start content ps u = (place end : ℕ) → IsSpan start content ps place end → place ≤ u →
+    end ≤ u
 
 abbrev case_of : Flow → ℕ → ℕ → List ℕ → ℕ → ℕ → Case
 case_of f start at content place end = record {
@@ -63,7 +70,8 @@ case_of f start at content place end = record {
   front = octets_of f.id f.events;
 }
 
-start_so : (f : Flow) (start at : ℕ) (content : List ℕ) (U : ℕ → Type 0) (place end : ℕ) → IsAt start at content f → IsSo (case_of f start at content place end) U ⊥ f
+start_so : (f : Flow) (start at : ℕ) (content : List ℕ) (U : ℕ → Type 0) (place end : ℕ) →
+    IsAt start at content f → IsSo (case_of f start at content place end) U ⊥ f
 unfolding IsSo first_of
 start_so f start at content U place end h =
     let none : at - at ≡ 0 = omega arith in
@@ -75,7 +83,8 @@ start_so f start at content U place end h =
         next = h.next;
         from = omega arith;
         within = h.within;
-        said = sym (ap (λ (n : ℕ). octets_of f.id f.events ++ take n (drop at content)) none ∙ append-nil (octets_of f.id f.events));
+        said = sym (ap (λ (n : ℕ). octets_of f.id f.events ++ take n (drop at content)) none
+            ∙ append-nil (octets_of f.id f.events));
         count = refl;
         least = λ u l c. l;
         held = none_own f.id f.next (Piece (case_of f start at content place end) U) f.held h.waits;
@@ -87,22 +96,32 @@ start_so f start at content U place end h =
       },
     )
 
-comes_of : (start at : ℕ) (content : List ℕ) (f : Flow) (ps : List Arrival) (place end : ℕ) (c : Arrival) → StandsIn ps c → IsOfContent start content c
+comes_of : (start at : ℕ) (content : List ℕ) (f : Flow) (ps : List Arrival) (place end : ℕ)
+    (c : Arrival) → StandsIn ps c → IsOfContent start content c
     → Comes (case_of f start at content place end) (IsUnspanned start content ps) c
 unfolding Comes IsOfContent IsUnspanned
-comes_of start at content f ps place end (Octets n octets) s h =
-    (h.0, (h.1, λ u k l. k h.0 (h.0 + length octets) (record { number = n; octets = octets; among = s; agrees = h.1; long = refl }) l))
+comes_of start at content f ps place end (Octets n octets) s h = (
+  h.0,
+  (
+    h.1,
+    λ u k l. k h.0 (h.0 + length octets)
+        (record { number = n; octets = octets; among = s; agrees = h.1; long = refl }) l,
+  ),
+)
 comes_of start at content f ps place end (End n) s h = absurd h
 comes_of start at content f ps place end (Acknowledged n) s h = absurd h
 
-later_some : (id next least : ℕ) (Q : Payload → Type 0) (ps : List Payload) → AreLater id next least ps → SomeOf Q ps → (p : Payload) × ((p.flow ≡ id → least < rank next p.number) × Q p)
+later_some : (id next least : ℕ) (Q : Payload → Type 0) (ps : List Payload) →
+    AreLater id next least ps → SomeOf Q ps → (p : Payload)
+    × ((p.flow ≡ id → least < rank next p.number) × Q p)
 unfolding AreLater SomeOf
 later_some id next least Q [] h s = absurd s
 later_some id next least Q (p ∷ ps) h (inl s) = (p, (h.0, s))
 later_some id next least Q (p ∷ ps) h (inr s) = later_some id next least Q ps h.1 s
 
 -- what has come and doesn't wait ends at the place that is reached, or before it
-not_beyond : (x : Case) (U : ℕ → Type 0) (L : Type 0) (g : Flow) (so : So x U L g) → IsSettled g → length x.content < 2 ^ 31 → x.place ≤ so.r → Covered x so.r g.held → x.end ≤ so.r
+not_beyond : (x : Case) (U : ℕ → Type 0) (L : Type 0) (g : Flow) (so : So x U L g) → IsSettled g →
+    length x.content < 2 ^ 31 → x.place ≤ so.r → Covered x so.r g.held → x.end ≤ so.r
 unfolding Covered
 not_beyond x U L g so t small l (inl a) = omega (arith, a, l)
 not_beyond x U L g so t small l (inr (inl a)) = a
@@ -112,27 +131,39 @@ not_beyond x U L g so t small l (inr (inr a)) =
     let h : Reaches x so.r p = w.1.1 in
     let far : 2 ^ 31 < rank g.next p.number = w.1.0 (h.own ∙ sym so.same) in
     let there : 2 ^ 31 < rank (onward x.start so.r) (onward x.start h.place) =
-    subst (λ (n : ℕ). 2 ^ 31 < rank (onward x.start so.r) n) h.agrees.number_is (subst (λ (n : ℕ). 2 ^ 31 < rank n p.number) so.next far) in
-    let behind : so.r < h.place = place_later x.start so.r h.place (omega (arith, so.within, small)) (omega (arith, h.agrees.within, small)) there in
+    subst (λ (n : ℕ). 2 ^ 31 < rank (onward x.start so.r) n) h.agrees.number_is
+    (subst (λ (n : ℕ). 2 ^ 31 < rank n p.number) so.next far) in
+    let behind : so.r < h.place = place_later x.start so.r h.place (omega (arith, so.within, small))
+    (omega (arith, h.agrees.within, small)) there in
     absurd (elim h.early [ inl b ↦ omega (arith, b, l, behind) | inr b ↦ omega (arith, b, behind) ])
 
 -- what a run of them has delivered: the octets up to the first place that none spans
-record IsReached (start at : ℕ) (content front : List ℕ) (ps : List Arrival) (octets : List ℕ) : Type 0 where
+record IsReached (start at : ℕ) (content front : List ℕ) (ps : List Arrival) (octets : List ℕ) :
+    Type 0 where
   pub r : ℕ
   pub from : at ≤ r
   pub unspanned : IsUnspanned start content ps r
   pub least : (u : ℕ) → at ≤ u → IsUnspanned start content ps u → r ≤ u
   pub said : octets ≡ front ++ take (r - at) (drop at content)
 
-reached : (A : Setting) (f : Flow) (start at : ℕ) (content : List ℕ) (ps cs : List Arrival) → length content < 2 ^ 31 → IsAt start at content f
-    → AllByRecursion (IsOfContent start content) ps → ((c : Arrival) → StandsIn ps c → StandsIn cs c) → ((c : Arrival) → StandsIn cs c → StandsIn ps c)
-    → closes_of f.id (after A f cs).events ≡ closes_of f.id f.events → IsReached start at content (octets_of f.id f.events) ps (octets_of f.id (after A f cs).events)
+reached : (A : Setting) (f : Flow) (start at : ℕ) (content : List ℕ) (ps cs : List Arrival) →
+    length content < 2 ^ 31 → IsAt start at content f
+    → AllByRecursion (IsOfContent start content) ps →
+    ((c : Arrival) → StandsIn ps c → StandsIn cs c) →
+    ((c : Arrival) → StandsIn cs c → StandsIn ps c)
+    → closes_of f.id (after A f cs).events ≡ closes_of f.id f.events →
+    IsReached start at content (octets_of f.id f.events) ps
+    (octets_of f.id (after A f cs).events)
 unfolding IsSo IsUnspanned
 reached A f start at content ps cs small h agree into back same =
     let U : ℕ → Type 0 = IsUnspanned start content ps in
-    let comes : (place end : ℕ) → AllByRecursion (Comes (case_of f start at content place end) U) cs =
-    λ place end. members (Comes (case_of f start at content place end) U) cs (λ c s. comes_of start at content f ps place end c (back c s) (member (IsOfContent start content) ps c agree (back c s))) in
-    elim (run A (case_of f start at content 0 0) U ⊥ cs f small (comes 0 0) (start_so f start at content U 0 0 h)) [
+    let comes : (place end : ℕ) → AllByRecursion (Comes (case_of f start at content place end) U)
+    cs =
+    λ place end. members (Comes (case_of f start at content place end) U) cs
+    (λ c s. comes_of start at content f ps place end c (back c s)
+    (member (IsOfContent start content) ps c agree (back c s))) in
+    elim (run A (case_of f start at content 0 0) U ⊥ cs f small (comes 0 0)
+    (start_so f start at content U 0 0 h)) [
       | inl m ↦ absurd (omega (arith, m, same))
       | inr t ↦
           (let so = t.0 in
@@ -141,11 +172,18 @@ reached A f start at content ps cs small h agree into back same =
             from = so.from;
             unspanned =
                 λ place end s l.
-                elim (run_has A (case_of f start at content place end) U s.number s.octets cs f small s.agrees s.long (λ u k m. omega (arith, k place end s m, s.long)) (into (Octets s.number s.octets) s.among) (comes place end) (start_so f start at content U place end h)) [
+                elim (run_has A (case_of f start at content place end) U s.number s.octets cs f
+                small s.agrees s.long (λ u k m. omega (arith, k place end s m, s.long))
+                (into (Octets s.number s.octets) s.among) (comes place end)
+                (start_so f start at content U place end h)) [
                   | inl m ↦ absurd (omega (arith, m, same))
                   | inr v ↦
-                      (let own : v.0.r ≡ so.r = same_place start v.0.r so.r (omega (arith, v.0.within, small)) (omega (arith, so.within, small)) (sym v.0.next ∙ so.next) in
-                      let z : end ≤ v.0.r = not_beyond (case_of f start at content place end) U (Unit {0}) (after A f cs) v.0 v.1 small (omega (arith, own, l)) (v.0.covered tt) in
+                      (let own : v.0.r ≡ so.r = same_place start v.0.r so.r
+                      (omega (arith, v.0.within, small)) (omega (arith, so.within, small))
+                      (sym v.0.next ∙ so.next) in
+                      let z : end ≤ v.0.r = not_beyond (case_of f start at content place end) U
+                      (Unit {0}) (after A f cs) v.0 v.1 small (omega (arith, own, l))
+                      (v.0.covered tt) in
                       omega (arith, z, own))
                 ];
             least = so.least;
@@ -157,6 +195,12 @@ pub order_makes_no_difference : OrderMakesNoDifference
 order_makes_no_difference A f start at content ps qs small h agree into back closes_p closes_q =
     let front : List ℕ = octets_of f.id f.events in
     let p = reached A f start at content ps ps small h agree (λ c s. s) (λ c s. s) closes_p in
-    let q = reached A f start at content ps qs small h agree (λ c s. member (StandsIn qs) ps c into s) (λ c s. member (StandsIn ps) qs c back s) closes_q in
-    let same : p.r ≡ q.r = omega (arith, p.least q.r q.from q.unspanned, q.least p.r p.from p.unspanned) in
+    let q = reached A f start at content ps qs small h agree
+    (λ c s. member (StandsIn qs) ps c into s) (λ c s. member (StandsIn ps) qs c back s) closes_q
+    in
+    let same : p.r ≡ q.r = omega (
+      arith,
+      p.least q.r q.from q.unspanned,
+      q.least p.r p.from p.unspanned,
+    ) in
     p.said ∙ ap (λ (r : ℕ). front ++ take (r - at) (drop at content)) same ∙ sym q.said

@@ -1,4 +1,5 @@
--- Flows side by side: a step of one leaves what the others hold, and so leaves them settled and without a hole.
+-- Flows side by side: a step of one leaves what the others hold, and so leaves them settled and
+-- without a hole.
 use Rattle.std.proofs.Common.{◌≡◌, ℕ, zero, suc, ◌+◌, ◌<◌, ◌≤◌, ◌^◌, Bool, true, false, cond, nat_eq, ◌&&◌, ◌||◌, List, [], ◌∷◌, ◌++◌, length, get_or, Some, is_some, refl, sym, ◌∙◌, ap, subst, arith}
 use Rattle.std.specs.List.{remove}
 use Rattle.std.proofs.lemmas.Bool.{or_parts, eq-eqb, ne_eqb, eqb-true}
@@ -10,21 +11,28 @@ use Rattle.tcp_flow.proofs.Preserving.{Keeps, gone_on_keeps, gap_keeps, relieved
 use Rattle.tcp_flow.proofs.Room.{Holds, held_keeps, left_flow, first_some}
 
 -- a payload of the flow falls away
-pub others_keep : (id : ℕ) (ps : List Payload) (i : ℕ) → i < length ps → (get_or ps i (payload 0 0 [])).flow ≡ id → held_by_others id (remove ps i) ≡ held_by_others id ps
+pub others_keep : (id : ℕ) (ps : List Payload) (i : ℕ) → i < length ps →
+    (get_or ps i (payload 0 0 [])).flow ≡ id →
+    held_by_others id (remove ps i) ≡ held_by_others id ps
 unfolding held_by_others
 others_keep id [] i h own = absurd (omega (arith, h))
 others_keep id (p ∷ ps) zero h own = rw (eq-eqb p.flow id own) refl
-others_keep id (p ∷ ps) (suc i) h own = ap (λ (qs : List Payload). cond (nat_eq p.flow id) qs (p ∷ qs)) (others_keep id ps i (omega (arith, h)) own)
+others_keep id (p ∷ ps) (suc i) h own = ap (λ (qs : List Payload).
+    cond (nat_eq p.flow id) qs (p ∷ qs)) (others_keep id ps i (omega (arith, h)) own)
 
 -- the flow holds nothing: all is others'
-pub others_all : (id next : ℕ) (ps : List Payload) → is_some (first id next ps) ≡ false → held_by_others id ps ≡ ps
+pub others_all : (id next : ℕ) (ps : List Payload) → is_some (first id next ps) ≡ false →
+    held_by_others id ps ≡ ps
 unfolding held_by_others
 others_all id next [] h = refl
 others_all id next (p ∷ ps) h =
-    let e : (nat_eq p.flow id ≡ false) × (is_some (first id next ps) ≡ false) = or_parts (nat_eq p.flow id) (is_some (first id next ps)) (sym (first_some id next p ps) ∙ h) in
+    let e : (nat_eq p.flow id ≡ false) × (is_some (first id next ps) ≡ false) =
+    or_parts (nat_eq p.flow id) (is_some (first id next ps)) (sym (first_some id next p ps) ∙ h)
+    in
     rw e.0 (ap (λ (qs : List Payload). p ∷ qs) (others_all id next ps e.1))
 
-either_less : (b : Bool) (ps qs : List Payload) (p : Payload) → blocks_of qs ≤ blocks_of ps → blocks_of (cond b qs (p ∷ qs)) ≤ blocks_of (p ∷ ps)
+either_less : (b : Bool) (ps qs : List Payload) (p : Payload) → blocks_of qs ≤ blocks_of ps →
+    blocks_of (cond b qs (p ∷ qs)) ≤ blocks_of (p ∷ ps)
 unfolding blocks_of
 either_less true ps qs p h = omega (arith, h)
 either_less false ps qs p h = omega (arith, h)
@@ -33,20 +41,24 @@ either_less false ps qs p h = omega (arith, h)
 pub others_blocks : (id : ℕ) (ps : List Payload) → blocks_of (held_by_others id ps) ≤ blocks_of ps
 unfolding held_by_others
 others_blocks id [] = omega arith
-others_blocks id (p ∷ ps) = either_less (nat_eq p.flow id) ps (held_by_others id ps) p (others_blocks id ps)
+others_blocks id (p ∷ ps) = either_less (nat_eq p.flow id) ps (held_by_others id ps) p
+    (others_blocks id ps)
 
 -- a payload of the flow comes
-others_push : (id : ℕ) (ps : List Payload) (q : Payload) → q.flow ≡ id → held_by_others id (ps ++ q ∷ []) ≡ held_by_others id ps
+others_push : (id : ℕ) (ps : List Payload) (q : Payload) → q.flow ≡ id →
+    held_by_others id (ps ++ q ∷ []) ≡ held_by_others id ps
 unfolding held_by_others
 others_push id [] q own = rw (eq-eqb q.flow id own) refl
-others_push id (p ∷ ps) q own = ap (λ (qs : List Payload). cond (nat_eq p.flow id) qs (p ∷ qs)) (others_push id ps q own)
+others_push id (p ∷ ps) q own = ap (λ (qs : List Payload). cond (nat_eq p.flow id) qs (p ∷ qs))
+    (others_push id ps q own)
 
 OthersHold : List Payload → ℕ → List Payload → Type 0
 OthersHold rest id ps = held_by_others id ps ≡ rest
 
 others_keeps : (F : Reader) (rest : List Payload) (id : ℕ) → Keeps F (Holds (OthersHold rest) id)
 unfolding OthersHold
-others_keeps F rest id = held_keeps F (OthersHold rest) id (λ ps i l own h. others_keep id ps i l own ∙ h)
+others_keeps F rest id = held_keeps F (OthersHold rest) id
+    (λ ps i l own h. others_keep id ps i l own ∙ h)
 
 either : (P : Flow → Type 0) (b : Bool) (f g : Flow) → P f → P g → P (cond b f g)
 either P true f g p q = p
@@ -56,91 +68,133 @@ same_others : (f : Flow) → Holds (OthersHold (held_by_others f.id f.held)) f.i
 unfolding OthersHold
 same_others f = record { own = refl; held = refl }
 
-came_others : (A : Setting) (f : Flow) (p : Payload) → p.flow ≡ f.id → Holds (OthersHold (held_by_others f.id f.held)) f.id (payload_came A f p)
+came_others : (A : Setting) (f : Flow) (p : Payload) → p.flow ≡ f.id →
+    Holds (OthersHold (held_by_others f.id f.held)) f.id (payload_came A f p)
 unfolding payload_came holding OthersHold
 came_others A f p own =
     let P = Holds (OthersHold (held_by_others f.id f.held)) f.id in
     let k = others_keeps A.faulted (held_by_others f.id f.held) f.id in
     let q : Payload = left f.next (is_some f.live) p in
     let h : Flow = record f { held = f.held ++ q ∷ [] } in
-    let start : P h = record { own = refl; held = others_push f.id f.held q (left_flow f.next (is_some f.live) p ∙ own) } in
-    either P (nat_eq (length q.octets) 0 || has_as_much f.id q.number (length q.octets) f.held) f (within_bounds A (length f.held + 1) (gone_on A.faulted h)) (same_others f)
-    (relieved_keeps A P k (length f.held + 1) (gone_on A.faulted h) (gone_on_keeps A.faulted P k h start))
+    let start : P h = record {
+      own = refl;
+      held =
+          others_push f.id f.held q (left_flow f.next (is_some f.live) p ∙ own);
+    } in
+    either P (nat_eq (length q.octets) 0 || has_as_much f.id q.number (length q.octets) f.held) f
+    (within_bounds A (length f.held + 1) (gone_on A.faulted h)) (same_others f)
+    (relieved_keeps A P k (length f.held + 1) (gone_on A.faulted h)
+    (gone_on_keeps A.faulted P k h start))
 
-step_holds : (A : Setting) (f : Flow) (a : Arrival) → Holds (OthersHold (held_by_others f.id f.held)) f.id (step A f a)
+step_holds : (A : Setting) (f : Flow) (a : Arrival) →
+    Holds (OthersHold (held_by_others f.id f.held)) f.id (step A f a)
 unfolding step fin_came OthersHold
 step_holds A f (Octets n octets) = came_others A f (payload f.id n octets) refl
 step_holds A f (End n) =
     let P = Holds (OthersHold (held_by_others f.id f.held)) f.id in
-    either P (is_some f.live && nat_eq (age f.next n) 0) (gone_on A.faulted (record f { fin = Some n })) f
-    (gone_on_keeps A.faulted P (others_keeps A.faulted (held_by_others f.id f.held) f.id) (record f { fin = Some n }) (record { own = refl; held = refl })) (same_others f)
+    either P (is_some f.live && nat_eq (age f.next n) 0)
+    (gone_on A.faulted (record f { fin = Some n })) f
+    (gone_on_keeps A.faulted P (others_keeps A.faulted (held_by_others f.id f.held) f.id)
+    (record f { fin = Some n }) (record { own = refl; held = refl })) (same_others f)
 step_holds A f (Acknowledged n) =
-    missed_keeps A.faulted (Holds (OthersHold (held_by_others f.id f.held)) f.id) (others_keeps A.faulted (held_by_others f.id f.held) f.id) (length f.held) n f (same_others f)
+    missed_keeps A.faulted (Holds (OthersHold (held_by_others f.id f.held)) f.id)
+    (others_keeps A.faulted (held_by_others f.id f.held) f.id) (length f.held) n f
+    (same_others f)
 
 -- a step leaves what others hold
-pub step_others : (A : Setting) (f : Flow) (a : Arrival) → held_by_others f.id (step A f a).held ≡ held_by_others f.id f.held
+pub step_others : (A : Setting) (f : Flow) (a : Arrival) →
+    held_by_others f.id (step A f a).held ≡ held_by_others f.id f.held
 unfolding OthersHold
 step_others A f a = (step_holds A f a).held
 
-pub gap_others : (F : Reader) (f : Flow) → held_by_others f.id (gap F f).held ≡ held_by_others f.id f.held
+pub gap_others : (F : Reader) (f : Flow) →
+    held_by_others f.id (gap F f).held ≡ held_by_others f.id f.held
 unfolding OthersHold
-gap_others F f = (gap_keeps F (Holds (OthersHold (held_by_others f.id f.held)) f.id) (others_keeps F (held_by_others f.id f.held) f.id) f (same_others f)).held
+gap_others F f = (gap_keeps F (Holds (OthersHold (held_by_others f.id f.held)) f.id)
+    (others_keeps F (held_by_others f.id f.held) f.id) f (same_others f)).held
 
-others_twice_by : (id : ℕ) (p : Payload) (qs : List Payload) (b : Bool) → nat_eq p.flow id ≡ b → held_by_others id qs ≡ qs → held_by_others id (cond b qs (p ∷ qs)) ≡ cond b qs (p ∷ qs)
+others_twice_by : (id : ℕ) (p : Payload) (qs : List Payload) (b : Bool) → nat_eq p.flow id ≡ b →
+    held_by_others id qs ≡ qs → held_by_others id (cond b qs (p ∷ qs)) ≡ cond b qs (p ∷ qs)
 unfolding held_by_others
 others_twice_by id p qs true e h = h
 others_twice_by id p qs false e h = rw e (ap (λ (rs : List Payload). p ∷ rs) h)
 
 -- so does what falls away
-pub others_twice : (id : ℕ) (ps : List Payload) → held_by_others id (held_by_others id ps) ≡ held_by_others id ps
+pub others_twice : (id : ℕ) (ps : List Payload) →
+    held_by_others id (held_by_others id ps) ≡ held_by_others id ps
 unfolding held_by_others
 others_twice id [] = refl
-others_twice id (p ∷ ps) = others_twice_by id p (held_by_others id ps) (nat_eq p.flow id) refl (others_twice id ps)
+others_twice id (p ∷ ps) = others_twice_by id p (held_by_others id ps) (nat_eq p.flow id) refl
+    (others_twice id ps)
 
 -- another flow's first is among what the others hold
-first_beside_by : (a b next : ℕ) (p : Payload) (ps : List Payload) (here : Bool) → (a ≡ b → ⊥) → nat_eq p.flow a ≡ here
-    → is_some (first b next (held_by_others a ps)) ≡ is_some (first b next ps) → is_some (first b next (cond here (held_by_others a ps) (p ∷ held_by_others a ps))) ≡ is_some (first b next (p ∷ ps))
+first_beside_by : (a b next : ℕ) (p : Payload) (ps : List Payload) (here : Bool) → (a ≡ b → ⊥) →
+    nat_eq p.flow a ≡ here
+    → is_some (first b next (held_by_others a ps)) ≡ is_some (first b next ps) →
+    is_some (first b next (cond here (held_by_others a ps) (p ∷ held_by_others a ps)))
+    ≡ is_some (first b next (p ∷ ps))
 first_beside_by a b next p ps true apart e h =
-    let none : nat_eq p.flow b ≡ false = ne_eqb p.flow b (λ o. apart (sym (eqb-true p.flow a e) ∙ o)) in
+    let none : nat_eq p.flow b ≡ false = ne_eqb p.flow b
+    (λ o. apart (sym (eqb-true p.flow a e) ∙ o)) in
     h ∙ sym (first_some b next p ps ∙ rw none refl)
 first_beside_by a b next p ps false apart e h =
     first_some b next p (held_by_others a ps) ∙ rw h refl ∙ sym (first_some b next p ps)
 
-first_beside : (a b next : ℕ) (ps : List Payload) → (a ≡ b → ⊥) → is_some (first b next (held_by_others a ps)) ≡ is_some (first b next ps)
+first_beside : (a b next : ℕ) (ps : List Payload) → (a ≡ b → ⊥) →
+    is_some (first b next (held_by_others a ps)) ≡ is_some (first b next ps)
 unfolding held_by_others
 first_beside a b next [] apart = refl
-first_beside a b next (p ∷ ps) apart = first_beside_by a b next p ps (nat_eq p.flow a) apart refl (first_beside a b next ps apart)
+first_beside a b next (p ∷ ps) apart = first_beside_by a b next p ps (nat_eq p.flow a) apart refl
+    (first_beside a b next ps apart)
 
-fewer_later_by : (b next least : ℕ) (p : Payload) (qs : List Payload) (here : Bool) → (p.flow ≡ b → least < rank next p.number) → AreLater b next least qs → AreLater b next least (cond here qs (p ∷ qs))
+fewer_later_by : (b next least : ℕ) (p : Payload) (qs : List Payload) (here : Bool) →
+    (p.flow ≡ b → least < rank next p.number) → AreLater b next least qs →
+    AreLater b next least (cond here qs (p ∷ qs))
 unfolding AreLater
 fewer_later_by b next least p qs true h t = t
 fewer_later_by b next least p qs false h t = (h, t)
 
-fewer_later : (a b next least : ℕ) (ps : List Payload) → AreLater b next least ps → AreLater b next least (held_by_others a ps)
+fewer_later : (a b next least : ℕ) (ps : List Payload) → AreLater b next least ps →
+    AreLater b next least (held_by_others a ps)
 unfolding AreLater held_by_others
 fewer_later a b next least [] t = tt
-fewer_later a b next least (p ∷ ps) t = fewer_later_by b next least p (held_by_others a ps) (nat_eq p.flow a) t.0 (fewer_later a b next least ps t.1)
+fewer_later a b next least (p ∷ ps) t = fewer_later_by b next least p (held_by_others a ps)
+    (nat_eq p.flow a) t.0 (fewer_later a b next least ps t.1)
 
-all_later_by : (a b next least : ℕ) (p : Payload) (ps : List Payload) (here : Bool) → (a ≡ b → ⊥) → nat_eq p.flow a ≡ here → (AreLater b next least (held_by_others a ps) → AreLater b next least ps)
-    → AreLater b next least (cond here (held_by_others a ps) (p ∷ held_by_others a ps)) → (p.flow ≡ b → least < rank next p.number) × AreLater b next least ps
+all_later_by : (a b next least : ℕ) (p : Payload) (ps : List Payload) (here : Bool) → (a ≡ b → ⊥) →
+    nat_eq p.flow a ≡ here → (AreLater b next least (held_by_others a ps) →
+    AreLater b next least ps)
+    → AreLater b next least (cond here (held_by_others a ps) (p ∷ held_by_others a ps)) →
+    (p.flow ≡ b → least < rank next p.number) × AreLater b next least ps
 unfolding AreLater
-all_later_by a b next least p ps true apart e h t = ((λ o. absurd (apart (sym (eqb-true p.flow a e) ∙ o))), h t)
+all_later_by a b next least p ps true apart e h t =
+    ((λ o. absurd (apart (sym (eqb-true p.flow a e) ∙ o))), h t)
 all_later_by a b next least p ps false apart e h t = (t.0, h t.1)
 
-all_later : (a b next least : ℕ) (ps : List Payload) → (a ≡ b → ⊥) → AreLater b next least (held_by_others a ps) → AreLater b next least ps
+all_later : (a b next least : ℕ) (ps : List Payload) → (a ≡ b → ⊥) →
+    AreLater b next least (held_by_others a ps) → AreLater b next least ps
 unfolding AreLater held_by_others
 all_later a b next least [] apart t = tt
-all_later a b next least (p ∷ ps) apart t = all_later_by a b next least p ps (nat_eq p.flow a) apart refl (all_later a b next least ps apart) t
+all_later a b next least (p ∷ ps) apart t =
+    all_later_by a b next least p ps (nat_eq p.flow a) apart refl
+    (all_later a b next least ps apart) t
 
 -- what another flow does leaves a flow settled
-pub settled_beside : (a : ℕ) (f : Flow) (held : List Payload) → (a ≡ f.id → ⊥) → held_by_others a held ≡ held_by_others a f.held → IsSettled f → IsSettled (record f { held = held })
+pub settled_beside : (a : ℕ) (f : Flow) (held : List Payload) → (a ≡ f.id → ⊥) →
+    held_by_others a held ≡ held_by_others a f.held → IsSettled f →
+    IsSettled (record f { held = held })
 unfolding first_of
 settled_beside a f held apart e t =
     record {
-      live = λ l. all_later a f.id f.next (2 ^ 31) held apart (subst (AreLater f.id f.next (2 ^ 31)) (sym e) (fewer_later a f.id f.next (2 ^ 31) f.held (t.live l)));
-      dead = λ d. sym (first_beside a f.id f.next held apart) ∙ ap (λ (ps : List Payload). is_some (first f.id f.next ps)) e ∙ first_beside a f.id f.next f.held apart ∙ t.dead d;
+      live = λ l. all_later a f.id f.next (2 ^ 31) held apart
+          (subst (AreLater f.id f.next (2 ^ 31)) (sym e)
+          (fewer_later a f.id f.next (2 ^ 31) f.held (t.live l)));
+      dead = λ d. sym (first_beside a f.id f.next held apart)
+          ∙ ap (λ (ps : List Payload). is_some (first f.id f.next ps)) e
+          ∙ first_beside a f.id f.next f.held apart ∙ t.dead d;
     }
 
 -- and without a hole
-pub gapless_beside : (payloads : List Payload) (f g : Flow) → IsGapless payloads f → IsGapless payloads g → IsGapless payloads (record f { held = g.held })
+pub gapless_beside : (payloads : List Payload) (f g : Flow) → IsGapless payloads f →
+    IsGapless payloads g → IsGapless payloads (record f { held = g.held })
 gapless_beside payloads f g t u = record { next = t.next; held = u.held; events = t.events }

@@ -12,22 +12,28 @@ ahead_down : (s r i : ℕ) → i < r → r < 2 ^ 31 → ahead (onward s r) (onwa
 ahead_down s r i l m = omega (arith, l, m)
 
 -- what is not to come stands at the place that is due, or before it
-pub place_due : (s r i : ℕ) → r < 2 ^ 31 → i < 2 ^ 31 → is_to_come (onward s r) (onward s i) ≡ false → i ≤ r
+pub place_due : (s r i : ℕ) → r < 2 ^ 31 → i < 2 ^ 31 →
+    is_to_come (onward s r) (onward s i) ≡ false → i ≤ r
 place_due s r i l m e =
     elim (cases_lt r i) [
       | inr g ↦ g
       | inl g ↦
           (let up = ahead_up s r i (omega (arith, g)) m in
-          elim (and_cases (nat_lt 0 (ahead (onward s r) (onward s i))) (nat_lt (ahead (onward s r) (onward s i)) (2 ^ 31)) e) [
-            | inl x ↦ absurd (let z = ltb-false 0 (ahead (onward s r) (onward s i)) x in omega (arith, z, up, g))
-            | inr x ↦ absurd (let z = ltb-false (ahead (onward s r) (onward s i)) (2 ^ 31) x in omega (arith, z, up, m))
+          elim (and_cases (nat_lt 0 (ahead (onward s r) (onward s i)))
+          (nat_lt (ahead (onward s r) (onward s i)) (2 ^ 31)) e) [
+            | inl x ↦ absurd (let z = ltb-false 0 (ahead (onward s r) (onward s i)) x in
+                omega (arith, z, up, g))
+            | inr x ↦ absurd (let z = ltb-false (ahead (onward s r) (onward s i)) (2 ^ 31) x in
+                omega (arith, z, up, m))
           ])
     ]
 
 pub age_before : (s r i : ℕ) → i ≤ r → r < 2 ^ 31 → age (onward s r) (onward s i) ≡ r - i
 age_before s r i l m =
     elim (cases_lt i r) [
-      | inl g ↦ (let down = ahead_down s r i g m in let far : 2 ^ 31 ≤ ahead (onward s r) (onward s i) = omega (arith, down, m) in rw (le-ltb (ahead (onward s r) (onward s i)) (2 ^ 31) far) (omega (arith, down, g, m)))
+      | inl g ↦ (let down = ahead_down s r i g m in
+          let far : 2 ^ 31 ≤ ahead (onward s r) (onward s i) = omega (arith, down, m) in
+          rw (le-ltb (ahead (onward s r) (onward s i)) (2 ^ 31) far) (omega (arith, down, g, m)))
       | inr g ↦
           (let up = ahead_up s r i g (omega (arith, l, m)) in
           let near : ahead (onward s r) (onward s i) < 2 ^ 31 = omega (arith, up, l) in
@@ -46,7 +52,8 @@ same_place s i j l m e = omega (arith, l, m, e)
 pub place_further : (s i k : ℕ) → onward (onward s i) k ≡ onward s (i + k)
 place_further s i k = omega arith
 
-pub place_later : (s r i : ℕ) → r < 2 ^ 31 → i < 2 ^ 31 → 2 ^ 31 < rank (onward s r) (onward s i) → r < i
+pub place_later : (s r i : ℕ) → r < 2 ^ 31 → i < 2 ^ 31 → 2 ^ 31 < rank (onward s r) (onward s i) →
+    r < i
 place_later s r i l m h =
     elim (cases_lt r i) [
       | inl g ↦ g
@@ -58,20 +65,29 @@ place_later s r i l m h =
     ]
 
 -- the octets behind the first so many
-pub drop_content : (place k : ℕ) (octets content : List ℕ) → k ≤ length octets → octets ≡ take (length octets) (drop place content)
+pub drop_content : (place k : ℕ) (octets content : List ℕ) → k ≤ length octets →
+    octets ≡ take (length octets) (drop place content)
     → drop k octets ≡ take (length octets - k) (drop (place + k) content)
 drop_content place k octets content l e =
     let n : length octets ≡ k + (length octets - k) = omega (arith, l) in
-    ap (drop k) (e ∙ ap (λ (m : ℕ). take m (drop place content)) n) ∙ drop-take k (length octets - k) (drop place content)
+    ap (drop k) (e ∙ ap (λ (m : ℕ). take m (drop place content)) n)
+    ∙ drop-take k (length octets - k) (drop place content)
     ∙ ap (take (length octets - k)) (drop-drop k place content)
 
 -- what was delivered, and then the octets from there on
-pub goes_on : (at r place : ℕ) (octets content : List ℕ) → at ≤ r → place ≤ r → r ≤ place + length octets → octets ≡ take (length octets) (drop place content)
-    → take (r - at) (drop at content) ++ drop (r - place) octets ≡ take (place + length octets - at) (drop at content)
+pub goes_on : (at r place : ℕ) (octets content : List ℕ) → at ≤ r → place ≤ r →
+    r ≤ place + length octets → octets ≡ take (length octets) (drop place content)
+    → take (r - at) (drop at content) ++ drop (r - place) octets
+    ≡ take (place + length octets - at) (drop at content)
 goes_on at r place octets content l m n e =
-    let rest : drop (r - place) octets ≡ take (length octets - (r - place)) (drop (place + (r - place)) content) = drop_content place (r - place) octets content (omega (arith, n, m)) e in
+    let rest : drop (r - place) octets ≡ take (length octets - (r - place))
+    (drop (place + (r - place)) content) =
+    drop_content place (r - place) octets content (omega (arith, n, m)) e in
     let here : place + (r - place) ≡ at + (r - at) = omega (arith, l, m) in
-    let long : place + length octets - at ≡ (r - at) + (length octets - (r - place)) = omega (arith, l, m, n) in
+    let long : place + length octets - at ≡ (r - at) + (length octets - (r - place)) =
+    omega (arith, l, m, n) in
     ap (λ (xs : List ℕ). take (r - at) (drop at content) ++ xs)
-    (rest ∙ ap (λ (k : ℕ). take (length octets - (r - place)) (drop k content)) here ∙ ap (take (length octets - (r - place))) (sym (drop-drop (r - at) at content)))
-    ∙ sym (ap (λ (k : ℕ). take k (drop at content)) long ∙ take-add (r - at) (length octets - (r - place)) (drop at content))
+    (rest ∙ ap (λ (k : ℕ). take (length octets - (r - place)) (drop k content)) here
+    ∙ ap (take (length octets - (r - place))) (sym (drop-drop (r - at) at content)))
+    ∙ sym (ap (λ (k : ℕ). take k (drop at content)) long
+    ∙ take-add (r - at) (length octets - (r - place)) (drop at content))

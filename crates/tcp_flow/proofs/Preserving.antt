@@ -7,28 +7,41 @@ use Rattle.tcp_waiting.specs.Numbers.{is_to_come}
 use Rattle.tcp_flow.specs.Flow.{Flow, Reader, Setting, taken, first_of, is_due, at, drained_at_most, drained, fin_is_reached, closed, without_stale_fin, ended, gone_on, gap, is_too_much, within_bounds, acknowledgement_came}
 
 pub record Keeps (F : Reader) (P : Flow → Type 0) : Type 0 where
-  pub takes : (f : Flow) (i : ℕ) → first_of f ≡ Some i → is_due f i ≡ true → P f → P (taken F (record f { held = remove f.held i }) (at f i))
+  pub takes : (f : Flow) (i : ℕ) → first_of f ≡ Some i → is_due f i ≡ true → P f →
+      P (taken F (record f { held = remove f.held i }) (at f i))
   pub closes : (f : Flow) (cause : CloseCause) → P f → P (closed f cause)
   pub fins : (f : Flow) (n : Option ℕ) → P f → P (record f { fin = n })
 
-pub flowing_by : (F : Reader) (P : Flow → Type 0) → Keeps F P → (count : ℕ) (f : Flow) → P f → P (drained_at_most F count f)
+pub flowing_by : (F : Reader) (P : Flow → Type 0) → Keeps F P → (count : ℕ) (f : Flow) → P f →
+    P (drained_at_most F count f)
 unfolding drained_at_most
 flowing_by F P k zero f p = p
 flowing_by F P k (suc count) f p =
     elim (first_of f) as (λ (r : Option ℕ). first_of f ≡ r → P (elim r [
       | None ↦ f
-      | Some i ↦ elim (is_due f i) [ true ↦ drained_at_most F count (taken F (record f { held = remove f.held i }) (at f i)) | false ↦ f ]
+      | Some i ↦ elim (is_due f i) [
+        | true ↦ drained_at_most F count
+            (taken F (record f { held = remove f.held i }) (at f i))
+        | false ↦ f
+      ]
     ])) [
       | None ↦ (λ e. p)
       | Some i ↦
           (λ e.
-          elim (is_due f i) as (λ (b : Bool). is_due f i ≡ b → P (elim b [ true ↦ drained_at_most F count (taken F (record f { held = remove f.held i }) (at f i)) | false ↦ f ])) [
-            | true ↦ (λ d. flowing_by F P k count (taken F (record f { held = remove f.held i }) (at f i)) (k.takes f i e d p))
+          elim (is_due f i) as (λ (b : Bool). is_due f i ≡ b →
+          P (elim b [
+            | true ↦ drained_at_most F count
+                (taken F (record f { held = remove f.held i }) (at f i))
+            | false ↦ f
+          ])) [
+            | true ↦ (λ d. flowing_by F P k count
+                (taken F (record f { held = remove f.held i }) (at f i)) (k.takes f i e d p))
             | false ↦ (λ d. p)
           ] refl)
     ] refl
 
-pub drained_keeps : (F : Reader) (P : Flow → Type 0) → Keeps F P → (f : Flow) → P f → P (drained F f)
+pub drained_keeps : (F : Reader) (P : Flow → Type 0) → Keeps F P → (f : Flow) → P f →
+    P (drained F f)
 unfolding drained
 drained_keeps F P k f p = flowing_by F P k (length f.held) f p
 
@@ -36,14 +49,18 @@ pub cond_keeps : (P : Flow → Type 0) (b : Bool) (f g : Flow) → P f → P g �
 cond_keeps P true f g p q = p
 cond_keeps P false f g p q = q
 
-pub rest_keeps : (F : Reader) (P : Flow → Type 0) → Keeps F P → (d : Flow) → P d → P (without_stale_fin (ended F d))
+pub rest_keeps : (F : Reader) (P : Flow → Type 0) → Keeps F P → (d : Flow) → P d →
+    P (without_stale_fin (ended F d))
 unfolding ended without_stale_fin
 rest_keeps F P k d q =
     let c : Flow = record (closed d Fin) { fin = None } in
-    let e : P (ended F d) = cond_keeps P (fin_is_reached d.next (is_some d.live) d.fin) (drained F c) d (drained_keeps F P k c (k.fins (closed d Fin) None (k.closes d Fin q))) q in
-    cond_keeps P (is_some (ended F d).live) (ended F d) (record (ended F d) { fin = None }) e (k.fins (ended F d) None e)
+    let e : P (ended F d) = cond_keeps P (fin_is_reached d.next (is_some d.live) d.fin)
+    (drained F c) d (drained_keeps F P k c (k.fins (closed d Fin) None (k.closes d Fin q))) q in
+    cond_keeps P (is_some (ended F d).live) (ended F d) (record (ended F d) { fin = None }) e
+    (k.fins (ended F d) None e)
 
-pub gone_on_keeps : (F : Reader) (P : Flow → Type 0) → Keeps F P → (f : Flow) → P f → P (gone_on F f)
+pub gone_on_keeps : (F : Reader) (P : Flow → Type 0) → Keeps F P → (f : Flow) → P f →
+    P (gone_on F f)
 unfolding gone_on
 gone_on_keeps F P k f p = rest_keeps F P k (drained F f) (drained_keeps F P k f p)
 
@@ -51,20 +68,24 @@ pub gap_keeps : (F : Reader) (P : Flow → Type 0) → Keeps F P → (f : Flow) 
 unfolding gap
 gap_keeps F P k f p = gone_on_keeps F P k (closed f Gap) (k.closes f Gap p)
 
-pub relieved_keeps : (A : Setting) (P : Flow → Type 0) → Keeps A.faulted P → (count : ℕ) (f : Flow) → P f → P (within_bounds A count f)
+pub relieved_keeps : (A : Setting) (P : Flow → Type 0) → Keeps A.faulted P →
+    (count : ℕ) (f : Flow) → P f → P (within_bounds A count f)
 unfolding within_bounds
 relieved_keeps A P k zero f p = p
 relieved_keeps A P k (suc count) f p =
-    elim (is_too_much A f) as (λ (b : Bool). P (elim b [ true ↦ within_bounds A count (gap A.faulted f) | false ↦ f ])) [
+    elim (is_too_much A f) as (λ (b : Bool).
+    P (elim b [ true ↦ within_bounds A count (gap A.faulted f) | false ↦ f ])) [
       | true ↦ relieved_keeps A P k count (gap A.faulted f) (gap_keeps A.faulted P k f p)
       | false ↦ p
     ]
 
-pub missed_keeps : (F : Reader) (P : Flow → Type 0) → Keeps F P → (count n : ℕ) (f : Flow) → P f → P (acknowledgement_came F count n f)
+pub missed_keeps : (F : Reader) (P : Flow → Type 0) → Keeps F P → (count n : ℕ) (f : Flow) → P f →
+    P (acknowledgement_came F count n f)
 unfolding acknowledgement_came
 missed_keeps F P k zero n f p = p
 missed_keeps F P k (suc count) n f p =
-    elim (is_some (first_of f) && is_to_come f.next n) as (λ (b : Bool). P (elim b [ true ↦ acknowledgement_came F count n (gap F f) | false ↦ f ])) [
+    elim (is_some (first_of f) && is_to_come f.next n) as
+    (λ (b : Bool). P (elim b [ true ↦ acknowledgement_came F count n (gap F f) | false ↦ f ])) [
       | true ↦ missed_keeps F P k count n (gap F f) (gap_keeps F P k f p)
       | false ↦ p
     ]

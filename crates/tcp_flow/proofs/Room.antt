@@ -1,4 +1,5 @@
--- The pool's blocks suffice behind each payload: the gaps end, and what other flows hold is left alone.
+-- The pool's blocks suffice behind each payload: the gaps end, and what other flows hold is left
+-- alone.
 use Rattle.std.proofs.Common.{◌≡◌, ℕ, zero, suc, ◌+◌, ◌-◌, ◌/◌, ◌<◌, ◌≤◌, Bool, true, false, cond, nat_eq, nat_lt, ◌&&◌, ◌||◌, not, List, [], ◌∷◌, ◌++◌, length, drop, get_or, Option, Some, None, is_some, refl, sym, ◌∙◌, ap, subst, arith, inl, inr}
 use Rattle.std.specs.List.{remove}
 use Rattle.std.proofs.lemmas.Bool.{cases_Bool, and_cases, or_cases, or_parts, and_parts, ltb-false, true≢false, eq-eqb, or_left, or_right, and_left, cond-true, cond-false}
@@ -13,7 +14,8 @@ use Rattle.tcp_waiting.proofs.Firsts.{first_within, first_own}
 use Rattle.tcp_flow.proofs.Steps.{length_remove, flowing_takes, due_now}
 use Rattle.tcp_flow.proofs.Preserving.{gap_keeps, Keeps, flowing_by, rest_keeps, gone_on_keeps, relieved_keeps, missed_keeps}
 
-same : {X : Type 0} (get : Flow → X) (b : Bool) (f g : Flow) (x : X) → get f ≡ x → get g ≡ x → get (cond b f g) ≡ x
+same : {X : Type 0} (get : Flow → X) (b : Bool) (f g : Flow) (x : X) → get f ≡ x → get g ≡ x →
+    get (cond b f g) ≡ x
 same get true f g x e d = e
 same get false f g x e d = d
 
@@ -31,38 +33,69 @@ unfolding delivered with_event
 delivered_stays F f p =
     let events : List Event = f.events ++ Delivers f.id p.octets ∷ [] in
     let next : ℕ = onward p.number (length p.octets) in
-    stays_either f (F events) (record { id = f.id; next = next; live = None; fin = f.fin; held = f.held; events = events ++ Closes f.id Fault ∷ [] })
-    (record { id = f.id; next = next; live = f.live; fin = f.fin; held = f.held; events = events }) (record { held = refl; id = refl }) (record { held = refl; id = refl })
+    stays_either f (F events) (record {
+      id = f.id;
+      next = next;
+      live = None;
+      fin = f.fin;
+      held =
+          f.held;
+      events = events ++ Closes f.id Fault ∷ [];
+    })
+    (record { id = f.id; next = next; live = f.live; fin = f.fin; held = f.held; events = events })
+    (record { held = refl; id = refl }) (record { held = refl; id = refl })
 
 begun_stays : (F : Reader) (f : Flow) (p : Payload) (r : Option ℕ) → Stays f (begun F f p r)
 unfolding begun with_event
 begun_stays F f p None = record { held = refl; id = refl }
 begun_stays F f p (Some i) =
-    let g : Flow = record { id = f.id; next = f.next; live = Some (onward p.number i); fin = f.fin; held = f.held; events = f.events ++ Begins f.id (onward p.number i) ∷ [] } in
-    let s : Stays g (delivered F g (payload p.flow (onward p.number i) (drop i p.octets))) = delivered_stays F g (payload p.flow (onward p.number i) (drop i p.octets)) in
+    let g : Flow = record {
+      id = f.id;
+      next = f.next;
+      live = Some (onward p.number i);
+      fin = f.fin;
+      held = f.held;
+      events = f.events ++ Begins f.id (onward p.number i) ∷ [];
+    } in
+    let s : Stays g (delivered F g (payload p.flow (onward p.number i) (drop i p.octets))) =
+    delivered_stays F g (payload p.flow (onward p.number i) (drop i p.octets)) in
     record { held = s.held; id = s.id }
 
 pub taken_stays : (F : Reader) (f : Flow) (p : Payload) → Stays f (taken F f p)
 unfolding taken
 taken_stays F f p =
     let q : Payload = left f.next (is_some f.live) p in
-    stays_either f (nat_eq (length q.octets) 0) f (cond (is_some f.live) (delivered F f q) (begun F f q (header_at q.octets))) (record { held = refl; id = refl })
-    (stays_either f (is_some f.live) (delivered F f q) (begun F f q (header_at q.octets)) (delivered_stays F f q) (begun_stays F f q (header_at q.octets)))
+    stays_either f (nat_eq (length q.octets) 0) f
+    (cond (is_some f.live) (delivered F f q) (begun F f q (header_at q.octets)))
+    (record { held = refl; id = refl })
+    (stays_either f (is_some f.live) (delivered F f q) (begun F f q (header_at q.octets))
+    (delivered_stays F f q) (begun_stays F f q (header_at q.octets)))
 
 closed_stays : (f : Flow) (cause : CloseCause) → Stays f (closed f cause)
 unfolding closed with_event
 closed_stays f cause =
-    stays_either f (is_some f.live) (record { id = f.id; next = f.next; live = None; fin = f.fin; held = f.held; events = f.events ++ Closes f.id cause ∷ [] }) f (record { held = refl; id = refl }) (record { held = refl; id = refl })
+    stays_either f (is_some f.live) (record {
+      id = f.id;
+      next = f.next;
+      live = None;
+      fin = f.fin;
+      held = f.held;
+      events = f.events ++ Closes f.id cause ∷ [];
+    }) f
+    (record { held = refl; id = refl }) (record { held = refl; id = refl })
 
 -- what removing own payloads keeps, a flow keeps
 pub record Holds (P : ℕ → List Payload → Type 0) (id : ℕ) (f : Flow) : Type 0 where
   pub own : f.id ≡ id
   pub held : P id f.held
 
-holds_on : (P : ℕ → List Payload → Type 0) (id : ℕ) (f g : Flow) → Stays f g → Holds P id f → Holds P id g
+holds_on : (P : ℕ → List Payload → Type 0) (id : ℕ) (f g : Flow) → Stays f g → Holds P id f →
+    Holds P id g
 holds_on P id f g s h = record { own = s.id ∙ h.own; held = subst (P id) (sym s.held) h.held }
 
-pub held_keeps : (F : Reader) (P : ℕ → List Payload → Type 0) (id : ℕ) → ((ps : List Payload) (i : ℕ) → i < length ps → (get_or ps i (payload 0 0 [])).flow ≡ id → P id ps → P id (remove ps i))
+pub held_keeps : (F : Reader) (P : ℕ → List Payload → Type 0) (id : ℕ) →
+    ((ps : List Payload) (i : ℕ) → i < length ps → (get_or ps i (payload 0 0 [])).flow ≡ id →
+    P id ps → P id (remove ps i))
     → Keeps F (Holds P id)
 unfolding first_of at
 held_keeps F P id keeps =
@@ -70,9 +103,12 @@ held_keeps F P id keeps =
       takes =
           λ f i e d h.
           let within : i < length f.held = rw e at (first_within f.id f.next f.held) in
-          let own : (get_or f.held i (payload 0 0 [])).flow ≡ f.id = rw e at (first_own f.id f.next (payload 0 0 []) f.held) in
+          let own : (get_or f.held i (payload 0 0 [])).flow ≡ f.id =
+          rw e at (first_own f.id f.next (payload 0 0 []) f.held) in
           let g : Flow = record f { held = remove f.held i } in
-          holds_on P id g (taken F g (get_or f.held i (payload 0 0 []))) (taken_stays F g (get_or f.held i (payload 0 0 []))) (record { own = h.own; held = keeps f.held i within (own ∙ h.own) h.held });
+          holds_on P id g (taken F g (get_or f.held i (payload 0 0 [])))
+          (taken_stays F g (get_or f.held i (payload 0 0 [])))
+          (record { own = h.own; held = keeps f.held i within (own ∙ h.own) h.held });
       closes = λ f cause h. holds_on P id f (closed f cause) (closed_stays f cause) h;
       fins = λ f n h. record { own = h.own; held = h.held };
     }
@@ -82,16 +118,21 @@ others : ℕ → List Payload → ℕ
 others id [] = 0
 others id (p ∷ ps) = cond (nat_eq p.flow id) 0 ((length p.octets + 1023) / 1024) + others id ps
 
-others_remove : (id : ℕ) (ps : List Payload) (i : ℕ) → i < length ps → (get_or ps i (payload 0 0 [])).flow ≡ id → others id (remove ps i) ≡ others id ps
+others_remove : (id : ℕ) (ps : List Payload) (i : ℕ) → i < length ps →
+    (get_or ps i (payload 0 0 [])).flow ≡ id → others id (remove ps i) ≡ others id ps
 unfolding others
 others_remove id [] i h own = absurd (omega (arith, h))
 others_remove id (p ∷ ps) zero h own = rw (eq-eqb p.flow id own) (omega arith)
-others_remove id (p ∷ ps) (suc i) h own = ap (λ (n : ℕ). cond (nat_eq p.flow id) 0 ((length p.octets + 1023) / 1024) + n) (others_remove id ps i (omega (arith, h)) own)
+others_remove id (p ∷ ps) (suc i) h own =
+    ap (λ (n : ℕ). cond (nat_eq p.flow id) 0 ((length p.octets + 1023) / 1024) + n)
+    (others_remove id ps i (omega (arith, h)) own)
 
-others_push : (id : ℕ) (ps : List Payload) (q : Payload) → q.flow ≡ id → others id (ps ++ q ∷ []) ≡ others id ps
+others_push : (id : ℕ) (ps : List Payload) (q : Payload) → q.flow ≡ id →
+    others id (ps ++ q ∷ []) ≡ others id ps
 unfolding others
 others_push id [] q own = rw (eq-eqb q.flow id own) refl
-others_push id (p ∷ ps) q own = ap (λ (n : ℕ). cond (nat_eq p.flow id) 0 ((length p.octets + 1023) / 1024) + n) (others_push id ps q own)
+others_push id (p ∷ ps) q own = ap (λ (n : ℕ).
+    cond (nat_eq p.flow id) 0 ((length p.octets + 1023) / 1024) + n) (others_push id ps q own)
 
 least : (b : Bool) (n : ℕ) → cond b 0 n ≤ n
 least true n = omega arith
@@ -100,41 +141,55 @@ least false n = omega arith
 others_most : (id : ℕ) (ps : List Payload) → others id ps ≤ blocks_of ps
 unfolding others blocks_of
 others_most id [] = omega arith
-others_most id (p ∷ ps) = omega (arith, others_most id ps, least (nat_eq p.flow id) ((length p.octets + 1023) / 1024))
+others_most id (p ∷ ps) = omega (
+  arith,
+  others_most id ps,
+  least (nat_eq p.flow id) ((length p.octets + 1023) / 1024),
+)
 
-earlier_some : (next : ℕ) (p : Payload) (ps : List Payload) (r : Option ℕ) → is_some (earlier next p ps r) ≡ true
+earlier_some : (next : ℕ) (p : Payload) (ps : List Payload) (r : Option ℕ) →
+    is_some (earlier next p ps r) ≡ true
 unfolding earlier
 earlier_some next p ps None = refl
 earlier_some next p ps (Some k) =
-    elim (nat_lt (rank next (get_or ps k p).number) (rank next p.number)) as (λ b. is_some (cond b (Some (suc k)) (Some 0)) ≡ true) [ true ↦ refl | false ↦ refl ]
+    elim (nat_lt (rank next (get_or ps k p).number) (rank next p.number)) as
+    (λ b. is_some (cond b (Some (suc k)) (Some 0)) ≡ true) [ true ↦ refl | false ↦ refl ]
 
 map_some : (r : Option ℕ) → is_some (option_map suc r) ≡ is_some r
 map_some None = refl
 map_some (Some k) = refl
 
-some_by : (c : Bool) (next : ℕ) (p : Payload) (ps : List Payload) (r : Option ℕ) → is_some (cond c (earlier next p ps r) (option_map suc r)) ≡ (c || is_some r)
+some_by : (c : Bool) (next : ℕ) (p : Payload) (ps : List Payload) (r : Option ℕ) →
+    is_some (cond c (earlier next p ps r) (option_map suc r)) ≡ (c || is_some r)
 some_by true next p ps r = earlier_some next p ps r
 some_by false next p ps r = map_some r
 
-pub first_some : (id next : ℕ) (p : Payload) (ps : List Payload) → is_some (first id next (p ∷ ps)) ≡ (nat_eq p.flow id || is_some (first id next ps))
+pub first_some : (id next : ℕ) (p : Payload) (ps : List Payload) →
+    is_some (first id next (p ∷ ps)) ≡ (nat_eq p.flow id || is_some (first id next ps))
 unfolding first
 first_some id next p ps = some_by (nat_eq p.flow id) next p ps (first id next ps)
 
 -- nothing of its own: the blocks are others'
-none_blocks : (id next : ℕ) (ps : List Payload) → is_some (first id next ps) ≡ false → blocks_of ps ≡ others id ps
+none_blocks : (id next : ℕ) (ps : List Payload) → is_some (first id next ps) ≡ false →
+    blocks_of ps ≡ others id ps
 unfolding others blocks_of
 none_blocks id next [] h = refl
 none_blocks id next (p ∷ ps) h =
-    let e : (nat_eq p.flow id ≡ false) × (is_some (first id next ps) ≡ false) = or_parts (nat_eq p.flow id) (is_some (first id next ps)) (sym (first_some id next p ps) ∙ h) in
+    let e : (nat_eq p.flow id ≡ false) × (is_some (first id next ps) ≡ false) =
+    or_parts (nat_eq p.flow id) (is_some (first id next ps)) (sym (first_some id next p ps) ∙ h)
+    in
     rw (e.0, none_blocks id next ps e.1) refl
 
-far_some : (id next : ℕ) (ps : List Payload) → is_far id next ps ≡ true → is_some (first id next ps) ≡ true
+far_some : (id next : ℕ) (ps : List Payload) → is_far id next ps ≡ true →
+    is_some (first id next ps) ≡ true
 unfolding is_far
 far_some id next [] h = absurd (true≢false (sym h))
 far_some id next (p ∷ ps) h =
     first_some id next p ps
-    ∙ elim (or_cases (nat_eq p.flow id && nat_lt window (ahead next p.number + length p.octets)) (is_far id next ps) h) [
-      | inl x ↦ or_left (nat_eq p.flow id) (is_some (first id next ps)) (and_parts (nat_eq p.flow id) (nat_lt window (ahead next p.number + length p.octets)) x).0
+    ∙ elim (or_cases (nat_eq p.flow id && nat_lt window (ahead next p.number + length p.octets))
+    (is_far id next ps) h) [
+      | inl x ↦ or_left (nat_eq p.flow id) (is_some (first id next ps))
+          (and_parts (nat_eq p.flow id) (nat_lt window (ahead next p.number + length p.octets)) x).0
       | inr x ↦ or_right (nat_eq p.flow id) (is_some (first id next ps)) (far_some id next ps x)
     ]
 
@@ -142,9 +197,11 @@ far_some id next (p ∷ ps) h =
 much_some : (A : Setting) (f : Flow) → is_too_much A f ≡ true → is_some (first_of f) ≡ true
 unfolding is_too_much first_of
 much_some A f h =
-    elim (or_cases (is_far f.id f.next f.held) (is_some (first f.id f.next f.held) && nat_lt A.blocks (blocks_of f.held)) h) [
+    elim (or_cases (is_far f.id f.next f.held)
+    (is_some (first f.id f.next f.held) && nat_lt A.blocks (blocks_of f.held)) h) [
       | inl x ↦ far_some f.id f.next f.held x
-      | inr x ↦ (and_parts (is_some (first f.id f.next f.held)) (nat_lt A.blocks (blocks_of f.held)) x).0
+      | inr x ↦ (and_parts (is_some (first f.id f.next f.held)) (nat_lt A.blocks (blocks_of f.held))
+          x).0
     ]
 
 some_is : (r : Option ℕ) → is_some r ≡ true → (i : ℕ) × (r ≡ Some i)
@@ -156,23 +213,50 @@ AtMost most id ps = length ps ≤ most
 
 most_keeps : (F : Reader) (most id : ℕ) → Keeps F (Holds (AtMost most) id)
 unfolding AtMost
-most_keeps F most id = held_keeps F (AtMost most) id (λ ps i l own h. omega (arith, length_remove ps i l))
+most_keeps F most id = held_keeps F (AtMost most) id
+    (λ ps i l own h. omega (arith, length_remove ps i l))
 
 pub closed_dead : (f : Flow) (cause : CloseCause) → is_some (closed f cause).live ≡ false
 unfolding closed with_event
 closed_dead f cause =
     elim (cases_Bool (is_some f.live)) [
-      | inl e ↦ ap (λ (g : Flow). (is_some g.live)) (cond-true (is_some f.live) (record { id = f.id; next = f.next; live = None; fin = f.fin; held = f.held; events = f.events ++ Closes f.id cause ∷ [] }) f e)
-      | inr e ↦ ap (λ (g : Flow). (is_some g.live)) (cond-false (is_some f.live) (record { id = f.id; next = f.next; live = None; fin = f.fin; held = f.held; events = f.events ++ Closes f.id cause ∷ [] }) f e) ∙ e
+      | inl e ↦ ap (λ (g : Flow). (is_some g.live))
+          (cond-true (is_some f.live) (record {
+            id = f.id;
+            next = f.next;
+            live = None;
+            fin = f.fin;
+            held = f.held;
+            events = f.events ++ Closes f.id cause ∷ [];
+          }) f e)
+      | inr e ↦ ap (λ (g : Flow). (is_some g.live))
+          (cond-false (is_some f.live) (record {
+            id = f.id;
+            next = f.next;
+            live = None;
+            fin = f.fin;
+            held = f.held;
+            events = f.events ++ Closes f.id cause ∷ [];
+          }) f e) ∙ e
     ]
 
 closed_next : (f : Flow) (cause : CloseCause) → (closed f cause).next ≡ f.next
 unfolding closed with_event
 closed_next f cause =
-    same (λ (g : Flow). g.next) (is_some f.live) (record { id = f.id; next = f.next; live = None; fin = f.fin; held = f.held; events = f.events ++ Closes f.id cause ∷ [] }) f f.next refl refl
+    same (λ (g : Flow). g.next) (is_some f.live)
+    (record {
+      id = f.id;
+      next = f.next;
+      live = None;
+      fin = f.fin;
+      held = f.held;
+      events =
+          f.events ++ Closes f.id cause ∷ [];
+    }) f f.next refl refl
 
 -- a flow without a live stream takes one at least
-dead_shrinks : (F : Reader) (c : Flow) (i m : ℕ) → (is_some c.live) ≡ false → first_of c ≡ Some i → length c.held ≤ suc m → Holds (AtMost m) c.id (drained F c)
+dead_shrinks : (F : Reader) (c : Flow) (i m : ℕ) → (is_some c.live) ≡ false → first_of c ≡ Some i →
+    length c.held ≤ suc m → Holds (AtMost m) c.id (drained F c)
 unfolding drained AtMost first_of
 dead_shrinks F c i m dead e l =
     let within : i < length c.held = rw e at (first_within c.id c.next c.held) in
@@ -180,26 +264,35 @@ dead_shrinks F c i m dead e l =
     let n : length c.held ≡ suc k = length_remove c.held i within in
     let g : Flow = record c { held = remove c.held i } in
     let s : Stays g (taken F g (at c i)) = taken_stays F g (at c i) in
-    let h : Holds (AtMost m) c.id (taken F g (at c i)) = record { own = s.id; held = omega (arith, n, ap length s.held) } in
-    let on : Holds (AtMost m) c.id (drained_at_most F k (taken F g (at c i))) = flowing_by F (Holds (AtMost m) c.id) (most_keeps F m c.id) k (taken F g (at c i)) h in
-    let goes : drained_at_most F (suc k) c ≡ drained_at_most F k (taken F g (at c i)) = flowing_takes F k c i e (due_now c i dead) in
-    subst (λ (x : ℕ). Holds (AtMost m) c.id (drained_at_most F x c)) (sym n) (subst (Holds (AtMost m) c.id) (sym goes) on)
+    let h : Holds (AtMost m) c.id (taken F g (at c i)) =
+    record { own = s.id; held = omega (arith, n, ap length s.held) } in
+    let on : Holds (AtMost m) c.id (drained_at_most F k (taken F g (at c i))) =
+    flowing_by F (Holds (AtMost m) c.id) (most_keeps F m c.id) k (taken F g (at c i)) h in
+    let goes : drained_at_most F (suc k) c ≡ drained_at_most F k (taken F g (at c i)) =
+    flowing_takes F k c i e (due_now c i dead) in
+    subst (λ (x : ℕ). Holds (AtMost m) c.id (drained_at_most F x c)) (sym n)
+    (subst (Holds (AtMost m) c.id) (sym goes) on)
 
 -- so does a gap
-gap_shrinks : (F : Reader) (f : Flow) (m : ℕ) → is_some (first_of f) ≡ true → length f.held ≤ suc m → length (gap F f).held ≤ m
+gap_shrinks : (F : Reader) (f : Flow) (m : ℕ) → is_some (first_of f) ≡ true →
+    length f.held ≤ suc m → length (gap F f).held ≤ m
 unfolding gap gone_on AtMost first_of
 gap_shrinks F f m some l =
     let c : Flow = closed f Gap in
     let s : Stays f c = closed_stays f Gap in
-    let i : (i : ℕ) × (first f.id f.next f.held ≡ Some i) = some_is (first f.id f.next f.held) some in
+    let i : (i : ℕ) × (first f.id f.next f.held ≡ Some i) =
+    some_is (first f.id f.next f.held) some in
     let e : first c.id c.next c.held ≡ Some i.0 = rw (s.id, s.held, closed_next f Gap) i.1 in
-    let h : Holds (AtMost m) c.id (drained F c) = dead_shrinks F c i.0 m (closed_dead f Gap) e (omega (arith, l, ap length s.held)) in
+    let h : Holds (AtMost m) c.id (drained F c) =
+    dead_shrinks F c i.0 m (closed_dead f Gap) e (omega (arith, l, ap length s.held)) in
     (rest_keeps F (Holds (AtMost m) c.id) (most_keeps F m c.id) (drained F c) h).held
 
-pub gap_fewer : (F : Reader) (f : Flow) → is_some (first_of f) ≡ true → length (gap F f).held < length f.held
+pub gap_fewer : (F : Reader) (f : Flow) → is_some (first_of f) ≡ true →
+    length (gap F f).held < length f.held
 unfolding first_of
 gap_fewer F f some =
-    let i : (i : ℕ) × (first f.id f.next f.held ≡ Some i) = some_is (first f.id f.next f.held) some in
+    let i : (i : ℕ) × (first f.id f.next f.held ≡ Some i) =
+    some_is (first f.id f.next f.held) some in
     let within : i.0 < length f.held = rw i.1 at (first_within f.id f.next f.held) in
     let l : length f.held ≤ suc (length f.held - 1) = omega arith in
     omega (arith, within, gap_shrinks F f (length f.held - 1) some l)
@@ -209,7 +302,8 @@ unfolding first_of first
 none_some f h = rw (nil_from_length f.held (omega (arith, h))) refl
 
 -- the gaps end
-settles : (A : Setting) (count : ℕ) (f : Flow) → length f.held ≤ count → is_too_much A (within_bounds A count f) ≡ false
+settles : (A : Setting) (count : ℕ) (f : Flow) → length f.held ≤ count →
+    is_too_much A (within_bounds A count f) ≡ false
 unfolding within_bounds
 settles A zero f l =
     elim (cases_Bool (is_too_much A f)) [
@@ -217,8 +311,11 @@ settles A zero f l =
       | inr e ↦ e
     ]
 settles A (suc count) f l =
-    elim (is_too_much A f) as (λ (b : Bool). is_too_much A f ≡ b → is_too_much A (elim b [ true ↦ within_bounds A count (gap A.faulted f) | false ↦ f ]) ≡ false) [
-      | true ↦ (λ e. settles A count (gap A.faulted f) (gap_shrinks A.faulted f count (much_some A f e) l))
+    elim (is_too_much A f) as (λ (b : Bool). is_too_much A f ≡ b →
+    is_too_much A (elim b [ true ↦ within_bounds A count (gap A.faulted f) | false ↦ f ])
+    ≡ false) [
+      | true ↦ (λ e. settles A count (gap A.faulted f)
+          (gap_shrinks A.faulted f count (much_some A f e) l))
       | false ↦ (λ e. e)
     ] refl
 
@@ -227,7 +324,8 @@ IsOthers blocks id ps = others id ps ≡ blocks
 
 others_keeps : (F : Reader) (blocks id : ℕ) → Keeps F (Holds (IsOthers blocks) id)
 unfolding IsOthers
-others_keeps F blocks id = held_keeps F (IsOthers blocks) id (λ ps i l own h. others_remove id ps i l own ∙ h)
+others_keeps F blocks id = held_keeps F (IsOthers blocks) id
+    (λ ps i l own h. others_remove id ps i l own ∙ h)
 
 flow_either : (b : Bool) (p q : Payload) (n : ℕ) → p.flow ≡ n → q.flow ≡ n → (cond b p q).flow ≡ n
 flow_either true p q n e d = e
@@ -235,9 +333,12 @@ flow_either false p q n e d = d
 
 pub left_flow : (next : ℕ) (live : Bool) (p : Payload) → (left next live p).flow ≡ p.flow
 unfolding left
-left_flow next live p = flow_either (nat_lt window (age next p.number) && not live) p (payload p.flow (onward p.number (age next p.number)) (drop (age next p.number) p.octets)) p.flow refl refl
+left_flow next live p = flow_either (nat_lt window (age next p.number) && not live) p
+    (payload p.flow (onward p.number (age next p.number)) (drop (age next p.number) p.octets))
+    p.flow refl refl
 
-blocks_either : (blocks : ℕ) (b : Bool) (f g : Flow) → blocks_of f.held ≤ blocks → blocks_of g.held ≤ blocks → blocks_of (cond b f g).held ≤ blocks
+blocks_either : (blocks : ℕ) (b : Bool) (f g : Flow) → blocks_of f.held ≤ blocks →
+    blocks_of g.held ≤ blocks → blocks_of (cond b f g).held ≤ blocks
 blocks_either blocks true f g e d = e
 blocks_either blocks false f g e d = d
 
@@ -245,7 +346,8 @@ most_push : (ps : List Payload) (q : Payload) → AtMost (length ps + 1) 0 (ps +
 unfolding AtMost
 most_push ps q = omega (arith, length-append ps (q ∷ []))
 
-others_own : (f r : Flow) → Holds (IsOthers (others f.id f.held)) f.id r → others r.id r.held ≡ others f.id f.held
+others_own : (f r : Flow) → Holds (IsOthers (others f.id f.held)) f.id r →
+    others r.id r.held ≡ others f.id f.held
 unfolding IsOthers
 others_own f r h = rw h.own h.held
 
@@ -253,17 +355,21 @@ none_of : (f : Flow) → is_some (first_of f) ≡ false → blocks_of f.held ≡
 unfolding first_of
 none_of f x = none_blocks f.id f.next f.held x
 
-enough_by : (A : Setting) (f : Flow) → is_too_much A f ≡ false → others f.id f.held ≤ A.blocks → blocks_of f.held ≤ A.blocks
+enough_by : (A : Setting) (f : Flow) → is_too_much A f ≡ false → others f.id f.held ≤ A.blocks →
+    blocks_of f.held ≤ A.blocks
 unfolding is_too_much
 enough_by A f h o =
-    let n : (is_some (first_of f) && nat_lt A.blocks (blocks_of f.held)) ≡ false = (or_parts (is_far f.id f.next f.held) (is_some (first_of f) && nat_lt A.blocks (blocks_of f.held)) h).1 in
+    let n : (is_some (first_of f) && nat_lt A.blocks (blocks_of f.held)) ≡ false =
+    (or_parts (is_far f.id f.next f.held)
+    (is_some (first_of f) && nat_lt A.blocks (blocks_of f.held)) h).1 in
     elim (and_cases (is_some (first_of f)) (nat_lt A.blocks (blocks_of f.held)) n) [
       | inl x ↦ (let b : blocks_of f.held ≡ others f.id f.held = none_of f x in omega arith)
       | inr x ↦ ltb-false A.blocks (blocks_of f.held) x
     ]
 
 -- behind a payload that came the blocks suffice
-pub room_after : (A : Setting) (f : Flow) (p : Payload) → p.flow ≡ f.id → blocks_of f.held ≤ A.blocks → blocks_of (payload_came A f p).held ≤ A.blocks
+pub room_after : (A : Setting) (f : Flow) (p : Payload) → p.flow ≡ f.id →
+    blocks_of f.held ≤ A.blocks → blocks_of (payload_came A f p).held ≤ A.blocks
 unfolding payload_came holding IsOthers AtMost
 room_after A f p own room =
     let q : Payload = left f.next (is_some f.live) p in
@@ -271,13 +377,25 @@ room_after A f p own room =
     let g : Flow = gone_on A.faulted h in
     let r : Flow = within_bounds A (length f.held + 1) g in
     let few : length g.held ≤ length f.held + 1 =
-    (gone_on_keeps A.faulted (Holds (AtMost (length f.held + 1)) f.id) (most_keeps A.faulted (length f.held + 1) f.id) h (record { own = refl; held = most_push f.held q })).held in
-    let start : Holds (IsOthers (others f.id f.held)) f.id h = record { own = refl; held = others_push f.id f.held q (left_flow f.next (is_some f.live) p ∙ own) } in
-    let k : Keeps A.faulted (Holds (IsOthers (others f.id f.held)) f.id) = others_keeps A.faulted (others f.id f.held) f.id in
+    (gone_on_keeps A.faulted (Holds (AtMost (length f.held + 1)) f.id)
+    (most_keeps A.faulted (length f.held + 1) f.id) h
+    (record { own = refl; held = most_push f.held q })).held in
+    let start : Holds (IsOthers (others f.id f.held)) f.id h =
+    record {
+      own = refl;
+      held = others_push f.id f.held q
+          (left_flow f.next (is_some f.live) p ∙ own);
+    } in
+    let k : Keeps A.faulted (Holds (IsOthers (others f.id f.held)) f.id) =
+    others_keeps A.faulted (others f.id f.held) f.id in
     let kept : Holds (IsOthers (others f.id f.held)) f.id r =
-    relieved_keeps A (Holds (IsOthers (others f.id f.held)) f.id) k (length f.held + 1) g (gone_on_keeps A.faulted (Holds (IsOthers (others f.id f.held)) f.id) k h start) in
-    let enough : blocks_of r.held ≤ A.blocks = enough_by A r (settles A (length f.held + 1) g few) (omega (arith, room, others_most f.id f.held, others_own f r kept)) in
-    blocks_either A.blocks (nat_eq (length q.octets) 0 || has_as_much f.id q.number (length q.octets) f.held) f r room enough
+    relieved_keeps A (Holds (IsOthers (others f.id f.held)) f.id) k (length f.held + 1) g
+    (gone_on_keeps A.faulted (Holds (IsOthers (others f.id f.held)) f.id) k h start) in
+    let enough : blocks_of r.held ≤ A.blocks =
+    enough_by A r (settles A (length f.held + 1) g few)
+    (omega (arith, room, others_most f.id f.held, others_own f r kept)) in
+    blocks_either A.blocks (nat_eq (length q.octets) 0
+    || has_as_much f.id q.number (length q.octets) f.held) f r room enough
 
 blocks_remove : (ps : List Payload) (i : ℕ) → blocks_of (remove ps i) ≤ blocks_of ps
 unfolding blocks_of
@@ -291,33 +409,47 @@ InBlocks blocks id ps = blocks_of ps ≤ blocks
 
 blocks_keeps : (F : Reader) (blocks id : ℕ) → Keeps F (Holds (InBlocks blocks) id)
 unfolding InBlocks
-blocks_keeps F blocks id = held_keeps F (InBlocks blocks) id (λ ps i l own h. omega (arith, h, blocks_remove ps i))
+blocks_keeps F blocks id = held_keeps F (InBlocks blocks) id
+    (λ ps i l own h. omega (arith, h, blocks_remove ps i))
 
 -- no other payload comes: no more blocks
-pub fin_blocks : (F : Reader) (f : Flow) (n : ℕ) → blocks_of (fin_came F f n).held ≤ blocks_of f.held
+pub fin_blocks : (F : Reader) (f : Flow) (n : ℕ) →
+    blocks_of (fin_came F f n).held ≤ blocks_of f.held
 unfolding fin_came InBlocks
 fin_blocks F f n =
-    blocks_either (blocks_of f.held) ((is_some f.live) && nat_eq (age f.next n) 0) (gone_on F (record f { fin = Some n })) f
-    (gone_on_keeps F (Holds (InBlocks (blocks_of f.held)) f.id) (blocks_keeps F (blocks_of f.held) f.id) (record f { fin = Some n }) (record { own = refl; held = omega arith })).held (omega arith)
+    blocks_either (blocks_of f.held) ((is_some f.live) && nat_eq (age f.next n) 0)
+    (gone_on F (record f { fin = Some n })) f
+    (gone_on_keeps F (Holds (InBlocks (blocks_of f.held)) f.id)
+    (blocks_keeps F (blocks_of f.held) f.id) (record f { fin = Some n })
+    (record { own = refl; held = omega arith })).held (omega arith)
 
 pub gap_blocks : (F : Reader) (f : Flow) → blocks_of (gap F f).held ≤ blocks_of f.held
 unfolding InBlocks
-gap_blocks F f = (gap_keeps F (Holds (InBlocks (blocks_of f.held)) f.id) (blocks_keeps F (blocks_of f.held) f.id) f (record { own = refl; held = omega arith })).held
+gap_blocks F f = (gap_keeps F (Holds (InBlocks (blocks_of f.held)) f.id)
+    (blocks_keeps F (blocks_of f.held) f.id) f (record { own = refl; held = omega arith })).held
 
-pub missed_blocks : (F : Reader) (count n : ℕ) (f : Flow) → blocks_of (acknowledgement_came F count n f).held ≤ blocks_of f.held
+pub missed_blocks : (F : Reader) (count n : ℕ) (f : Flow) →
+    blocks_of (acknowledgement_came F count n f).held ≤ blocks_of f.held
 unfolding InBlocks
 missed_blocks F count n f =
-    (missed_keeps F (Holds (InBlocks (blocks_of f.held)) f.id) (blocks_keeps F (blocks_of f.held) f.id) count n f (record { own = refl; held = omega arith })).held
+    (missed_keeps F (Holds (InBlocks (blocks_of f.held)) f.id)
+    (blocks_keeps F (blocks_of f.held) f.id) count n f
+    (record { own = refl; held = omega arith })).held
 
 abbrev IsOver : ℕ → Flow → Type 0
 IsOver n g = (is_some (first_of g) && is_to_come g.next n) ≡ false
 
 -- the gaps by an acknowledgement end
-pub missed_ends : (F : Reader) (count n : ℕ) (f : Flow) → length f.held ≤ count → (is_some (first_of (acknowledgement_came F count n f)) && is_to_come (acknowledgement_came F count n f).next n) ≡ false
+pub missed_ends : (F : Reader) (count n : ℕ) (f : Flow) → length f.held ≤ count →
+    (is_some (first_of (acknowledgement_came F count n f))
+    && is_to_come (acknowledgement_came F count n f).next n) ≡ false
 unfolding acknowledgement_came
 missed_ends F zero n f l = and_left (is_some (first_of f)) (is_to_come f.next n) (none_some f l)
 missed_ends F (suc count) n f l =
-    elim (is_some (first_of f) && is_to_come f.next n) as (λ (b : Bool). (is_some (first_of f) && is_to_come f.next n) ≡ b → IsOver n (elim b [ true ↦ acknowledgement_came F count n (gap F f) | false ↦ f ])) [
-      | true ↦ (λ e. missed_ends F count n (gap F f) (gap_shrinks F f count (and_parts (is_some (first_of f)) (is_to_come f.next n) e).0 l))
+    elim (is_some (first_of f) && is_to_come f.next n) as
+    (λ (b : Bool). (is_some (first_of f) && is_to_come f.next n) ≡ b →
+    IsOver n (elim b [ true ↦ acknowledgement_came F count n (gap F f) | false ↦ f ])) [
+      | true ↦ (λ e. missed_ends F count n (gap F f)
+          (gap_shrinks F f count (and_parts (is_some (first_of f)) (is_to_come f.next n) e).0 l))
       | false ↦ (λ e. e)
     ] refl

@@ -11,28 +11,54 @@ use Rattle.tcp_flow.specs.Laws.{IsSettled}
 use Rattle.tcp_flow.specs.State.{state, IsState}
 
 -- a claim of a flow that the code has follows from the claim of what the code has
-pub by_state : (P : Flow → Type 0) (O : List Event → Type 0) (s : FlowState) (held : List Payload) (f : Flow) → IsState O s held f
+pub by_state : (P : Flow → Type 0) (O : List Event → Type 0) (s : FlowState) (held : List Payload)
+    (f : Flow) → IsState O s held f
     → ((events : List Event) → O events → P (state s held events)) → P f
 by_state P O s held f h k = subst P h.same (k f.events h.observed)
 
 -- a call went on from the flow to an equal one
-pub on_ok_equal : {T E : Type 0} (r : Result T E) (O : List Event → Type 0) (s : FlowState) (held : List Payload) (f g : Flow) → f ≡ g → OnOk r (IsState O s held f) → OnOk r (IsState O s held g)
+pub on_ok_equal : {T E : Type 0} (r : Result T E) (O : List Event → Type 0) (s : FlowState)
+    (held : List Payload) (f g : Flow) → f ≡ g → OnOk r (IsState O s held f) →
+    OnOk r (IsState O s held g)
 on_ok_equal r O s held f g e t = on_ok_weaker r (subst (IsState O s held) e) t
 
-pub delivered_on : (F : Reader) (f : Flow) (p : Payload) → F (f.events ++ Delivers f.id p.octets ∷ []) ≡ false
-    → delivered F f p ≡ record { id = f.id; next = onward p.number (length p.octets); live = f.live; fin = f.fin; held = f.held; events = f.events ++ Delivers f.id p.octets ∷ [] }
+pub delivered_on : (F : Reader) (f : Flow) (p : Payload) →
+    F (f.events ++ Delivers f.id p.octets ∷ []) ≡ false
+    → delivered F f p ≡ record {
+      id = f.id;
+      next = onward p.number (length p.octets);
+      live = f.live;
+      fin = f.fin;
+      held = f.held;
+      events = f.events ++ Delivers f.id p.octets ∷ [];
+    }
 unfolding delivered with_event
 delivered_on F f p e = rw e refl
 
-pub delivered_fault : (F : Reader) (f : Flow) (p : Payload) → F (f.events ++ Delivers f.id p.octets ∷ []) ≡ true
-    → delivered F f p ≡ record { id = f.id; next = onward p.number (length p.octets); live = None; fin = f.fin; held = f.held; events = (f.events ++ Delivers f.id p.octets ∷ []) ++ Closes f.id Fault ∷ [] }
+pub delivered_fault : (F : Reader) (f : Flow) (p : Payload) →
+    F (f.events ++ Delivers f.id p.octets ∷ []) ≡ true
+    → delivered F f p ≡ record {
+      id = f.id;
+      next = onward p.number (length p.octets);
+      live = None;
+      fin = f.fin;
+      held = f.held;
+      events =
+          (f.events ++ Delivers f.id p.octets ∷ []) ++ Closes f.id Fault ∷ [];
+    }
 unfolding delivered with_event
 delivered_fault F f p e = rw e refl
 
 -- a FIN is kept or dropped
-pub with_fin : (O : List Event → Type 0) (s : FlowState) (held : List Payload) (f : Flow) (n : Option ℕ) → IsState O s held f
-    → IsState O (record { id = s.id; next = s.next; live = s.live; fin = n }) held (record f { fin = n })
-with_fin O s held f n h = record { observed = h.observed; same = ap (λ (g : Flow). record g { fin = n }) h.same }
+pub with_fin : (O : List Event → Type 0) (s : FlowState) (held : List Payload) (f : Flow)
+    (n : Option ℕ) → IsState O s held f
+    → IsState O (record { id = s.id; next = s.next; live = s.live; fin = n }) held
+    (record f { fin = n })
+with_fin O s held f n h = record {
+  observed = h.observed;
+  same =
+      ap (λ (g : Flow). record g { fin = n }) h.same;
+}
 
 same_events : (b : Bool) (f g : Flow) → f.events ≡ g.events → (cond b f g).events ≡ f.events
 same_events true f g e = refl
@@ -42,35 +68,52 @@ stale_events : (f : Flow) → (without_stale_fin f).events ≡ f.events
 unfolding without_stale_fin
 stale_events f = same_events (is_some f.live) f (record f { fin = None }) refl
 
-pub stale_state : (O : List Event → Type 0) (s s' : FlowState) (held : List Payload) (f : Flow) → IsState O s held f
-    → ((ps : List Payload) (events : List Event) → state s' ps events ≡ without_stale_fin (state s ps events)) → IsState O s' held (without_stale_fin f)
+pub stale_state : (O : List Event → Type 0) (s s' : FlowState) (held : List Payload) (f : Flow) →
+    IsState O s held f
+    → ((ps : List Payload) (events : List Event) →
+    state s' ps events ≡ without_stale_fin (state s ps events)) →
+    IsState O s' held (without_stale_fin f)
 stale_state O s s' held f h k =
     by_state (λ g. IsState O s' held (without_stale_fin g)) O s held f h (λ events o.
     let e = sym (stale_events (state s held events)) in
-    record { observed = subst O e o; same = subst (λ (es : List Event). state s' held es ≡ without_stale_fin (state s held events)) e (k held events) })
+    record {
+      observed = subst O e o;
+      same =
+          subst (λ (es : List Event). state s' held es ≡ without_stale_fin (state s held events)) e
+          (k held events);
+    })
 
 -- whether a flow is settled has nothing to do with what has happened
-pub settled_whatever : (s : FlowState) (held : List Payload) (before behind : List Event) → IsSettled (state s held before) → IsSettled (state s held behind)
+pub settled_whatever : (s : FlowState) (held : List Payload) (before behind : List Event) →
+    IsSettled (state s held before) → IsSettled (state s held behind)
 unfolding first_of
 settled_whatever s held before behind t = record { live = t.live; dead = t.dead }
 
 -- what is settled by the flow is by the code's state
-pub settled_state : (O : List Event → Type 0) (s : FlowState) (held : List Payload) (f : Flow) → IsState O s held f → IsSettled f → IsSettled (state s held [])
+pub settled_state : (O : List Event → Type 0) (s : FlowState) (held : List Payload) (f : Flow) →
+    IsState O s held f → IsSettled f → IsSettled (state s held [])
 settled_state O s held f h t = settled_whatever s held f.events [] (subst IsSettled (sym h.same) t)
 
-pub settled_flow : (O : List Event → Type 0) (s : FlowState) (held : List Payload) (f : Flow) → IsState O s held f → IsSettled (state s held []) → IsSettled f
+pub settled_flow : (O : List Event → Type 0) (s : FlowState) (held : List Payload) (f : Flow) →
+    IsState O s held f → IsSettled (state s held []) → IsSettled f
 settled_flow O s held f h t = subst IsSettled h.same (settled_whatever s held [] f.events t)
 
-pub held_of : (O : List Event → Type 0) (s : FlowState) (held : List Payload) (f : Flow) → IsState O s held f → held ≡ f.held
+pub held_of : (O : List Event → Type 0) (s : FlowState) (held : List Payload) (f : Flow) →
+    IsState O s held f → held ≡ f.held
 held_of O s held f h = ap (λ (g : Flow). g.held) h.same
 
-pub next_of : (O : List Event → Type 0) (s : FlowState) (held : List Payload) (f : Flow) → IsState O s held f → s.next < 2 ^ 32 → f.next < 2 ^ 32
+pub next_of : (O : List Event → Type 0) (s : FlowState) (held : List Payload) (f : Flow) →
+    IsState O s held f → s.next < 2 ^ 32 → f.next < 2 ^ 32
 next_of O s held f h l = subst (λ (g : Flow). g.next < 2 ^ 32) h.same l
 
 -- what others hold is the same, by the flow and so by the code's states
-pub others_of : (O O' : List Event → Type 0) (s s' : FlowState) (held held' : List Payload) (f g : Flow) → IsState O s held f → IsState O' s' held' g
-    → held_by_others f.id g.held ≡ held_by_others f.id f.held → held_by_others s.id held' ≡ held_by_others s.id held
+pub others_of : (O O' : List Event → Type 0) (s s' : FlowState) (held held' : List Payload)
+    (f g : Flow) → IsState O s held f → IsState O' s' held' g
+    → held_by_others f.id g.held ≡ held_by_others f.id f.held →
+    held_by_others s.id held' ≡ held_by_others s.id held
 others_of O O' s s' held held' f g h n e =
     let own : s.id ≡ f.id = ap (λ (d : Flow). d.id) h.same in
-    ap (held_by_others s.id) (held_of O' s' held' g n) ∙ ap (λ (id : ℕ). held_by_others id g.held) own ∙ e
-    ∙ sym (ap (λ (id : ℕ). held_by_others id f.held) own) ∙ sym (ap (held_by_others s.id) (held_of O s held f h))
+    ap (held_by_others s.id) (held_of O' s' held' g n)
+    ∙ ap (λ (id : ℕ). held_by_others id g.held) own ∙ e
+    ∙ sym (ap (λ (id : ℕ). held_by_others id f.held) own)
+    ∙ sym (ap (held_by_others s.id) (held_of O s held f h))

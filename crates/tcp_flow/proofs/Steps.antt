@@ -7,48 +7,64 @@ use Rattle.tcp_waiting.proofs.Firsts.{first_within, first_own}
 use Rattle.tcp_waiting.specs.Payload.{Payload, payload, first, has_as_much}
 use Rattle.tcp_flow.specs.Flow.{Flow, Reader, left, delivered, begun, taken, header_at, first_of, is_due, at, drained_at_most, Setting, is_too_much, within_bounds, gap, acknowledgement_came, payload_came, gone_on, holding}
 
-pub taken_none : (F : Reader) (f : Flow) (p q : Payload) → q ≡ left f.next (is_some f.live) p → nat_eq (length q.octets) 0 ≡ true → taken F f p ≡ f
+pub taken_none : (F : Reader) (f : Flow) (p q : Payload) → q ≡ left f.next (is_some f.live) p →
+    nat_eq (length q.octets) 0 ≡ true → taken F f p ≡ f
 unfolding taken
 taken_none F f p q e z = rw (← e, z) refl
 
-pub taken_live : (F : Reader) (f : Flow) (p q : Payload) → q ≡ left f.next (is_some f.live) p → nat_eq (length q.octets) 0 ≡ false → (is_some f.live) ≡ true → taken F f p ≡ delivered F f q
+pub taken_live : (F : Reader) (f : Flow) (p q : Payload) → q ≡ left f.next (is_some f.live) p →
+    nat_eq (length q.octets) 0 ≡ false → (is_some f.live) ≡ true → taken F f p ≡ delivered F f q
 unfolding taken
-taken_live F f p q e z l = rw (← e, z) (cond-true (is_some f.live) (delivered F f q) (begun F f q (header_at q.octets)) l)
+taken_live F f p q e z l = rw (← e, z) (cond-true (is_some f.live) (delivered F f q)
+    (begun F f q (header_at q.octets)) l)
 
-pub taken_dead : (F : Reader) (f : Flow) (p q : Payload) → q ≡ left f.next (is_some f.live) p → nat_eq (length q.octets) 0 ≡ false → (is_some f.live) ≡ false → taken F f p ≡ begun F f q (header_at q.octets)
+pub taken_dead : (F : Reader) (f : Flow) (p q : Payload) → q ≡ left f.next (is_some f.live) p →
+    nat_eq (length q.octets) 0 ≡ false → (is_some f.live) ≡ false →
+    taken F f p ≡ begun F f q (header_at q.octets)
 unfolding taken
-taken_dead F f p q e z l = rw (← e, z) (cond-false (is_some f.live) (delivered F f q) (begun F f q (header_at q.octets)) l)
+taken_dead F f p q e z l = rw (← e, z) (cond-false (is_some f.live) (delivered F f q)
+    (begun F f q (header_at q.octets)) l)
 
 -- a payload is taken while it is due
-pub flowing_none : (F : Reader) (count : ℕ) (f : Flow) → first_of f ≡ None → drained_at_most F count f ≡ f
+pub flowing_none : (F : Reader) (count : ℕ) (f : Flow) → first_of f ≡ None →
+    drained_at_most F count f ≡ f
 unfolding drained_at_most
 flowing_none F zero f e = refl
 flowing_none F (suc count) f e = rw (e, drained_at_most) refl
 
-pub flowing_stays : (F : Reader) (count : ℕ) (f : Flow) (i : ℕ) → first_of f ≡ Some i → is_due f i ≡ false → drained_at_most F count f ≡ f
+pub flowing_stays : (F : Reader) (count : ℕ) (f : Flow) (i : ℕ) → first_of f ≡ Some i →
+    is_due f i ≡ false → drained_at_most F count f ≡ f
 unfolding drained_at_most
 flowing_stays F zero f i e d = refl
 flowing_stays F (suc count) f i e d = rw (e, d, drained_at_most) refl
 
-pub flowing_takes : (F : Reader) (count : ℕ) (f : Flow) (i : ℕ) → first_of f ≡ Some i → is_due f i ≡ true → drained_at_most F (suc count) f ≡ drained_at_most F count (taken F (record f { held = remove f.held i }) (at f i))
+pub flowing_takes : (F : Reader) (count : ℕ) (f : Flow) (i : ℕ) → first_of f ≡ Some i →
+    is_due f i ≡ true → drained_at_most F (suc count) f
+    ≡ drained_at_most F count (taken F (record f { held = remove f.held i }) (at f i))
 unfolding drained_at_most
 flowing_takes F count f i e d = rw (e, d, drained_at_most) refl
 
-pub length_remove : (ps : List Payload) (i : ℕ) → i < length ps → length ps ≡ suc (length (remove ps i))
+pub length_remove : (ps : List Payload) (i : ℕ) → i < length ps →
+    length ps ≡ suc (length (remove ps i))
 length_remove [] i h = absurd (omega (arith, h))
 length_remove (p ∷ ps) zero h = refl
 length_remove (p ∷ ps) (suc i) h = ap suc (length_remove ps i (omega (arith, h)))
 
 -- the first of a flow that is due is taken
-pub drain_takes : (F : Reader) (f g : Flow) (i : ℕ) → first f.id f.next f.held ≡ Some i → is_due f i ≡ true
-    → g ≡ taken F (record f { held = remove f.held i }) (payload f.id (at f i).number (at f i).octets)
+pub drain_takes : (F : Reader) (f g : Flow) (i : ℕ) → first f.id f.next f.held ≡ Some i →
+    is_due f i ≡ true
+    → g ≡ taken F (record f { held = remove f.held i })
+    (payload f.id (at f i).number (at f i).octets)
     → drained_at_most F (length f.held) f ≡ drained_at_most F (length (remove f.held i)) g
 unfolding first_of at
 drain_takes F f g i e d t =
     let within : i < length f.held = rw e at (first_within f.id f.next f.held) in
-    let own : (get_or f.held i (payload 0 0 [])).flow ≡ f.id = rw e at (first_own f.id f.next (payload 0 0 []) f.held) in
-    let same : payload f.id (at f i).number (at f i).octets ≡ at f i = ap (λ (n : ℕ). payload n (at f i).number (at f i).octets) (sym own) in
-    let u : g ≡ taken F (record f { held = remove f.held i }) (at f i) = t ∙ ap (λ (p : Payload). taken F (record f { held = remove f.held i }) p) same in
+    let own : (get_or f.held i (payload 0 0 [])).flow ≡ f.id =
+    rw e at (first_own f.id f.next (payload 0 0 []) f.held) in
+    let same : payload f.id (at f i).number (at f i).octets ≡ at f i =
+    ap (λ (n : ℕ). payload n (at f i).number (at f i).octets) (sym own) in
+    let u : g ≡ taken F (record f { held = remove f.held i }) (at f i) =
+    t ∙ ap (λ (p : Payload). taken F (record f { held = remove f.held i }) p) same in
     rw (length_remove f.held i within, u) (flowing_takes F (length (remove f.held i)) f i e d)
 
 pub due_now : (f : Flow) (i : ℕ) → (is_some f.live) ≡ false → is_due f i ≡ true
@@ -59,20 +75,24 @@ pub due_reached : (f : Flow) (i : ℕ) → is_to_come f.next (at f i).number ≡
 unfolding is_due
 due_reached f i e = rw (and_right (is_some f.live) (is_to_come f.next (at f i).number) e) refl
 
-pub due_not : (f : Flow) (i : ℕ) → (is_some f.live) ≡ true → is_to_come f.next (at f i).number ≡ true → is_due f i ≡ false
+pub due_not : (f : Flow) (i : ℕ) → (is_some f.live) ≡ true →
+    is_to_come f.next (at f i).number ≡ true → is_due f i ≡ false
 unfolding is_due
 due_not f i l e = rw (and_from (is_some f.live) (is_to_come f.next (at f i).number) l e) refl
 
 -- gaps while too much is held
-pub relieved_stops : (A : Setting) (count : ℕ) (f : Flow) → is_too_much A f ≡ false → within_bounds A count f ≡ f
+pub relieved_stops : (A : Setting) (count : ℕ) (f : Flow) → is_too_much A f ≡ false →
+    within_bounds A count f ≡ f
 unfolding within_bounds
 relieved_stops A zero f e = refl
 relieved_stops A (suc count) f e = rw (e, within_bounds) refl
 
-pub relieved_goes : (A : Setting) (count : ℕ) (f : Flow) → 0 < count → is_too_much A f ≡ true → within_bounds A count f ≡ within_bounds A (count - 1) (gap A.faulted f)
+pub relieved_goes : (A : Setting) (count : ℕ) (f : Flow) → 0 < count → is_too_much A f ≡ true →
+    within_bounds A count f ≡ within_bounds A (count - 1) (gap A.faulted f)
 unfolding within_bounds
 relieved_goes A zero f h e = absurd (omega (arith, h))
-relieved_goes A (suc count) f h e = let k : suc count - 1 ≡ count = omega arith in rw (k, e, within_bounds) refl
+relieved_goes A (suc count) f h e = let k : suc count - 1 ≡ count = omega arith in
+    rw (k, e, within_bounds) refl
 
 pub relieved_none : (A : Setting) (count : ℕ) (f : Flow) → count ≤ 0 → within_bounds A count f ≡ f
 unfolding within_bounds
@@ -80,32 +100,57 @@ relieved_none A zero f h = refl
 relieved_none A (suc count) f h = absurd (omega (arith, h))
 
 -- gaps by an acknowledgement
-pub missed_stops : (F : Reader) (count n : ℕ) (f : Flow) → (is_some (first_of f) && is_to_come f.next n) ≡ false → acknowledgement_came F count n f ≡ f
+pub missed_stops : (F : Reader) (count n : ℕ) (f : Flow) →
+    (is_some (first_of f) && is_to_come f.next n) ≡ false → acknowledgement_came F count n f ≡ f
 unfolding acknowledgement_came
 missed_stops F zero n f e = refl
 missed_stops F (suc count) n f e = rw (e, acknowledgement_came) refl
 
-pub missed_goes : (F : Reader) (count n : ℕ) (f : Flow) → 0 < count → (is_some (first_of f) && is_to_come f.next n) ≡ true → acknowledgement_came F count n f ≡ acknowledgement_came F (count - 1) n (gap F f)
+pub missed_goes : (F : Reader) (count n : ℕ) (f : Flow) → 0 < count →
+    (is_some (first_of f) && is_to_come f.next n) ≡ true →
+    acknowledgement_came F count n f ≡ acknowledgement_came F (count - 1) n (gap F f)
 unfolding acknowledgement_came
 missed_goes F zero n f h e = absurd (omega (arith, h))
-missed_goes F (suc count) n f h e = let k : suc count - 1 ≡ count = omega arith in rw (k, e, acknowledgement_came) refl
+missed_goes F (suc count) n f h e = let k : suc count - 1 ≡ count = omega arith in
+    rw (k, e, acknowledgement_came) refl
 
-pub missed_none : (F : Reader) (count n : ℕ) (f : Flow) → count ≤ 0 → acknowledgement_came F count n f ≡ f
+pub missed_none : (F : Reader) (count n : ℕ) (f : Flow) → count ≤ 0 →
+    acknowledgement_came F count n f ≡ f
 unfolding acknowledgement_came
 missed_none F zero n f h = refl
 missed_none F (suc count) n f h = absurd (omega (arith, h))
 
 -- a payload comes
-pub came_nothing : (A : Setting) (f : Flow) (p q : Payload) → q ≡ left f.next (is_some f.live) p → (nat_eq (length q.octets) 0 || has_as_much f.id q.number (length q.octets) f.held) ≡ true → payload_came A f p ≡ f
+pub came_nothing : (A : Setting) (f : Flow) (p q : Payload) → q ≡ left f.next (is_some f.live) p →
+    (nat_eq (length q.octets) 0 || has_as_much f.id q.number (length q.octets) f.held) ≡ true →
+    payload_came A f p ≡ f
 unfolding payload_came
 came_nothing A f p q e t =
-    let u : (nat_eq (length (left f.next (is_some f.live) p).octets) 0 || has_as_much f.id (left f.next (is_some f.live) p).number (length (left f.next (is_some f.live) p).octets) f.held) ≡ true = subst (λ (r : Payload). (nat_eq (length r.octets) 0 || has_as_much f.id r.number (length r.octets) f.held) ≡ true) e t in
-    cond-true (nat_eq (length (left f.next (is_some f.live) p).octets) 0 || has_as_much f.id (left f.next (is_some f.live) p).number (length (left f.next (is_some f.live) p).octets) f.held) f (within_bounds A (length f.held + 1) (gone_on A.faulted (holding f (left f.next (is_some f.live) p)))) u
+    let u : (nat_eq (length (left f.next (is_some f.live) p).octets) 0
+    || has_as_much f.id (left f.next (is_some f.live) p).number
+    (length (left f.next (is_some f.live) p).octets) f.held) ≡ true =
+    subst (λ (r : Payload). (nat_eq (length r.octets) 0
+    || has_as_much f.id r.number (length r.octets) f.held) ≡ true) e t in
+    cond-true (nat_eq (length (left f.next (is_some f.live) p).octets) 0
+    || has_as_much f.id (left f.next (is_some f.live) p).number
+    (length (left f.next (is_some f.live) p).octets) f.held) f
+    (within_bounds A (length f.held + 1)
+    (gone_on A.faulted (holding f (left f.next (is_some f.live) p)))) u
 
-pub came_held : (A : Setting) (f : Flow) (p q : Payload) → q ≡ left f.next (is_some f.live) p → (nat_eq (length q.octets) 0 || has_as_much f.id q.number (length q.octets) f.held) ≡ false
+pub came_held : (A : Setting) (f : Flow) (p q : Payload) → q ≡ left f.next (is_some f.live) p →
+    (nat_eq (length q.octets) 0 || has_as_much f.id q.number (length q.octets) f.held) ≡ false
     → payload_came A f p ≡ within_bounds A (length f.held + 1) (gone_on A.faulted (holding f q))
 unfolding payload_came
 came_held A f p q e t =
-    let u : (nat_eq (length (left f.next (is_some f.live) p).octets) 0 || has_as_much f.id (left f.next (is_some f.live) p).number (length (left f.next (is_some f.live) p).octets) f.held) ≡ false = subst (λ (r : Payload). (nat_eq (length r.octets) 0 || has_as_much f.id r.number (length r.octets) f.held) ≡ false) e t in
-    cond-false (nat_eq (length (left f.next (is_some f.live) p).octets) 0 || has_as_much f.id (left f.next (is_some f.live) p).number (length (left f.next (is_some f.live) p).octets) f.held) f (within_bounds A (length f.held + 1) (gone_on A.faulted (holding f (left f.next (is_some f.live) p)))) u
-    ∙ ap (λ (r : Payload). within_bounds A (length f.held + 1) (gone_on A.faulted (holding f r))) (sym e)
+    let u : (nat_eq (length (left f.next (is_some f.live) p).octets) 0
+    || has_as_much f.id (left f.next (is_some f.live) p).number
+    (length (left f.next (is_some f.live) p).octets) f.held) ≡ false =
+    subst (λ (r : Payload). (nat_eq (length r.octets) 0
+    || has_as_much f.id r.number (length r.octets) f.held) ≡ false) e t in
+    cond-false (nat_eq (length (left f.next (is_some f.live) p).octets) 0
+    || has_as_much f.id (left f.next (is_some f.live) p).number
+    (length (left f.next (is_some f.live) p).octets) f.held) f
+    (within_bounds A (length f.held + 1)
+    (gone_on A.faulted (holding f (left f.next (is_some f.live) p)))) u
+    ∙ ap (λ (r : Payload). within_bounds A (length f.held + 1) (gone_on A.faulted (holding f r)))
+    (sym e)

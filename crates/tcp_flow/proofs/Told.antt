@@ -19,14 +19,33 @@ IsKept Q id = (es : List Event) (e : Event) → flow_of e ≡ Some id → Q es �
 
 module _ (Q : List Event → Type 0) (id : ℕ) (more : IsKept Q id) where
   closing_told : (f : Flow) (cause : CloseCause) → Told Q id f
-      → Told Q id (record { id = f.id; next = f.next; live = None; fin = f.fin; held = f.held; events = f.events ++ Closes f.id cause ∷ [] })
-  closing_told f cause t = record { same = t.same; told = more f.events (Closes f.id cause) (ap Some t.same) t.told }
+      → Told Q id (record {
+        id = f.id;
+        next = f.next;
+        live = None;
+        fin = f.fin;
+        held = f.held;
+        events = f.events ++ Closes f.id cause ∷ [];
+      })
+  closing_told f cause t = record {
+    same = t.same;
+    told =
+        more f.events (Closes f.id cause) (ap Some t.same) t.told;
+  }
 
   pub closed_told : (f : Flow) (cause : CloseCause) → Told Q id f → Told Q id (closed f cause)
   unfolding closed with_event
   closed_told f cause t =
       cond_keeps (Told Q id) (is_some f.live)
-      (record { id = f.id; next = f.next; live = None; fin = f.fin; held = f.held; events = f.events ++ Closes f.id cause ∷ [] }) f
+      (record {
+        id = f.id;
+        next = f.next;
+        live = None;
+        fin = f.fin;
+        held = f.held;
+        events =
+            f.events ++ Closes f.id cause ∷ [];
+      }) f
       (closing_told f cause t) t
 
   delivered_told : (F : Reader) (f : Flow) (p : Payload) → Told Q id f → Told Q id (delivered F f p)
@@ -41,17 +60,38 @@ module _ (Q : List Event → Type 0) (id : ℕ) (more : IsKept Q id) where
         held = f.held;
         events = f.events ++ Delivers f.id p.octets ∷ [];
       } in
-      let u : Told Q id d = record { same = t.same; told = more f.events (Delivers f.id p.octets) (ap Some t.same) t.told } in
+      let u : Told Q id d = record {
+        same = t.same;
+        told =
+            more f.events (Delivers f.id p.octets) (ap Some t.same) t.told;
+      } in
       cond_keeps (Told Q id) (F d.events)
-      (record { id = d.id; next = d.next; live = None; fin = d.fin; held = d.held; events = d.events ++ Closes d.id Fault ∷ [] }) d
+      (record {
+        id = d.id;
+        next = d.next;
+        live = None;
+        fin = d.fin;
+        held = d.held;
+        events =
+            d.events ++ Closes d.id Fault ∷ [];
+      }) d
       (closing_told d Fault u) u
 
-  begun_told : (F : Reader) (f : Flow) (q : Payload) (r : Option ℕ) → Told Q id f → Told Q id (begun F f q r)
+  begun_told : (F : Reader) (f : Flow) (q : Payload) (r : Option ℕ) → Told Q id f →
+      Told Q id (begun F f q r)
   unfolding begun with_event
   begun_told F f q None t = t
   begun_told F f q (Some i) t =
       let n : ℕ = onward q.number i in
-      delivered_told F (record { id = f.id; next = f.next; live = Some n; fin = f.fin; held = f.held; events = f.events ++ Begins f.id n ∷ [] })
+      delivered_told F (record {
+        id = f.id;
+        next = f.next;
+        live = Some n;
+        fin = f.fin;
+        held =
+            f.held;
+        events = f.events ++ Begins f.id n ∷ [];
+      })
       (payload q.flow n (drop i q.octets))
       (record { same = t.same; told = more f.events (Begins f.id n) (ap Some t.same) t.told })
 
@@ -62,23 +102,27 @@ module _ (Q : List Event → Type 0) (id : ℕ) (more : IsKept Q id) where
       let d : Flow = delivered F f q in
       let b : Flow = begun F f q (header_at q.octets) in
       cond_keeps (Told Q id) (nat_eq (length q.octets) 0) f (cond (is_some f.live) d b) t
-      (cond_keeps (Told Q id) (is_some f.live) d b (delivered_told F f q t) (begun_told F f q (header_at q.octets) t))
+      (cond_keeps (Told Q id) (is_some f.live) d b (delivered_told F f q t)
+      (begun_told F f q (header_at q.octets) t))
 
   told_keeps : (F : Reader) → Keeps F (Told Q id)
   told_keeps F =
       record {
-        takes = λ f i e d t. taken_told F (record f { held = remove f.held i }) (at f i) (record { same = t.same; told = t.told });
+        takes = λ f i e d t. taken_told F (record f { held = remove f.held i }) (at f i)
+            (record { same = t.same; told = t.told });
         closes = λ f cause t. closed_told f cause t;
         fins = λ f n t. record { same = t.same; told = t.told };
       }
 
-  pub came_told : (A : Setting) (f : Flow) (p : Payload) → Told Q id f → Told Q id (payload_came A f p)
+  pub came_told : (A : Setting) (f : Flow) (p : Payload) → Told Q id f →
+      Told Q id (payload_came A f p)
   unfolding payload_came holding
   came_told A f p t =
       let q : Payload = left f.next (is_some f.live) p in
       let h : Flow = record f { held = f.held ++ q ∷ [] } in
       let k : Keeps A.faulted (Told Q id) = told_keeps A.faulted in
-      cond_keeps (Told Q id) (nat_eq (length q.octets) 0 || has_as_much f.id q.number (length q.octets) f.held) f
+      cond_keeps (Told Q id) (nat_eq (length q.octets) 0
+      || has_as_much f.id q.number (length q.octets) f.held) f
       (within_bounds A (length f.held + 1) (gone_on A.faulted h)) t
       (relieved_keeps A (Told Q id) k (length f.held + 1) (gone_on A.faulted h)
       (gone_on_keeps A.faulted (Told Q id) k h (record { same = t.same; told = t.told })))
@@ -94,7 +138,8 @@ module _ (Q : List Event → Type 0) (id : ℕ) (more : IsKept Q id) where
   unfolding step
   step_told A f (Octets n octets) t = came_told A f (payload f.id n octets) t
   step_told A f (End n) t = fin_told A.faulted f n t
-  step_told A f (Acknowledged n) t = missed_keeps A.faulted (Told Q id) (told_keeps A.faulted) (length f.held) n f t
+  step_told A f (Acknowledged n) t = missed_keeps A.faulted (Told Q id) (told_keeps A.faulted)
+      (length f.held) n f t
 
   pub gap_told : (F : Reader) (f : Flow) → Told Q id f → Told Q id (gap F f)
   gap_told F f t = gap_keeps F (Told Q id) (told_keeps F) f t

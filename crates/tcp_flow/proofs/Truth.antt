@@ -18,49 +18,62 @@ onward_small : (n k : ℕ) → onward n k < 2 ^ 32
 onward_small n k = omega arith
 
 -- what is not to come is due behind what is old
-pub reached : (next n : ℕ) → next < 2 ^ 32 → is_to_come next n ≡ false → onward n (age next n) ≡ next
+pub reached : (next n : ℕ) → next < 2 ^ 32 → is_to_come next n ≡ false →
+    onward n (age next n) ≡ next
 reached next n small h =
     elim (cases_lt (ahead next n) (2 ^ 31)) [
       | inl l ↦
           (let z : ahead next n ≡ 0 =
           elim (and_cases (nat_lt 0 (ahead next n)) (nat_lt (ahead next n) (2 ^ 31)) h) [
             | inl x ↦ (let y : ahead next n ≤ 0 = ltb-false 0 (ahead next n) x in omega arith)
-            | inr x ↦ absurd (let y : 2 ^ 31 ≤ ahead next n = ltb-false (ahead next n) (2 ^ 31) x in omega arith)
+            | inr x ↦ absurd (let y : 2 ^ 31 ≤ ahead next n = ltb-false (ahead next n) (2 ^ 31) x in
+                omega arith)
           ] in
           rw (lt-ltb (ahead next n) (2 ^ 31) l) (omega arith))
       | inr m ↦ rw (le-ltb (ahead next n) (2 ^ 31) m) (omega arith)
     ]
 
-pub runs_more : (payloads : List Payload) (id : ℕ) (before due behind : Option ℕ) (hs : List Event) (h : Event) → AllFollow payloads id before hs due → MayFollow payloads id due h behind → AllFollow payloads id before (hs ++ h ∷ []) behind
+pub runs_more : (payloads : List Payload) (id : ℕ) (before due behind : Option ℕ) (hs : List Event)
+    (h : Event) → AllFollow payloads id before hs due → MayFollow payloads id due h behind →
+    AllFollow payloads id before (hs ++ h ∷ []) behind
 unfolding AllFollow
-runs_more payloads id before due behind [] h r t = (behind, (subst (λ (d : Option ℕ). MayFollow payloads id d h behind) (sym r) t, refl))
-runs_more payloads id before due behind (g ∷ hs) h r t = (r.0, (r.1.0, runs_more payloads id r.0 due behind hs h r.1.1 t))
+runs_more payloads id before due behind [] h r t =
+    (behind, (subst (λ (d : Option ℕ). MayFollow payloads id d h behind) (sym r) t, refl))
+runs_more payloads id before due behind (g ∷ hs) h r t =
+    (r.0, (r.1.0, runs_more payloads id r.0 due behind hs h r.1.1 t))
 
-has_more : (payloads : List Payload) (id n a : ℕ) (xs : List ℕ) → IsPartOf payloads id n xs → IsPartOf payloads id (onward n a) (drop a xs)
+has_more : (payloads : List Payload) (id n a : ℕ) (xs : List ℕ) → IsPartOf payloads id n xs →
+    IsPartOf payloads id (onward n a) (drop a xs)
 has_more payloads id n a xs h =
     record {
       index = h.index;
       among = h.among;
       own = h.own;
       skipped = h.skipped + a;
-      number_is = rw h.number_is (onward_onward (get_or payloads h.index (payload 0 0 [])).number h.skipped a);
-      octets_are = rw h.octets_are (drop-drop a h.skipped (get_or payloads h.index (payload 0 0 [])).octets);
+      number_is = rw h.number_is (onward_onward (get_or payloads h.index (payload 0 0 [])).number
+          h.skipped a);
+      octets_are = rw h.octets_are (drop-drop a h.skipped
+          (get_or payloads h.index (payload 0 0 [])).octets);
     }
 
-have_at : (payloads ps : List Payload) (i : ℕ) (d : Payload) → AllArePartsOf payloads ps → i < length ps → IsPartOf payloads (get_or ps i d).flow (get_or ps i d).number (get_or ps i d).octets
+have_at : (payloads ps : List Payload) (i : ℕ) (d : Payload) → AllArePartsOf payloads ps →
+    i < length ps → IsPartOf payloads (get_or ps i d).flow (get_or ps i d).number
+    (get_or ps i d).octets
 unfolding AllArePartsOf
 have_at payloads [] i d h l = absurd (omega (arith, l))
 have_at payloads (p ∷ ps) zero d h l = h.0
 have_at payloads (p ∷ ps) (suc i) d h l = have_at payloads ps i d h.1 (omega (arith, l))
 
-have_remove : (payloads ps : List Payload) (i : ℕ) → AllArePartsOf payloads ps → AllArePartsOf payloads (remove ps i)
+have_remove : (payloads ps : List Payload) (i : ℕ) → AllArePartsOf payloads ps →
+    AllArePartsOf payloads (remove ps i)
 unfolding AllArePartsOf
 have_remove payloads [] zero h = h
 have_remove payloads [] (suc i) h = h
 have_remove payloads (p ∷ ps) zero h = h.1
 have_remove payloads (p ∷ ps) (suc i) h = (h.0, have_remove payloads ps i h.1)
 
-pub have_push : (payloads ps : List Payload) (p : Payload) → AllArePartsOf payloads ps → IsPartOf payloads p.flow p.number p.octets → AllArePartsOf payloads (ps ++ p ∷ [])
+pub have_push : (payloads ps : List Payload) (p : Payload) → AllArePartsOf payloads ps →
+    IsPartOf payloads p.flow p.number p.octets → AllArePartsOf payloads (ps ++ p ∷ [])
 unfolding AllArePartsOf
 have_push payloads [] p h q = (q, tt)
 have_push payloads (r ∷ ps) p h q = (h.0, have_push payloads ps p h.1 q)
@@ -75,59 +88,105 @@ when_true P b x y e p = subst P (sym (cond-true b x y e)) p
 when_false : {X : Type 0} (P : X → Type 0) (b : Bool) (x y : X) → b ≡ false → P y → P (cond b x y)
 when_false P b x y e p = subst P (sym (cond-false b x y e)) p
 
-left_has : (payloads : List Payload) (id next : ℕ) (live : Bool) (p : Payload) → IsPartOf payloads id p.number p.octets → IsPartOf payloads id (left next live p).number (left next live p).octets
+left_has : (payloads : List Payload) (id next : ℕ) (live : Bool) (p : Payload) →
+    IsPartOf payloads id p.number p.octets →
+    IsPartOf payloads id (left next live p).number (left next live p).octets
 unfolding left
 left_has payloads id next live p h =
-    either (λ (q : Payload). IsPartOf payloads id q.number q.octets) (nat_lt window (age next p.number) && not live) p
-    (payload p.flow (onward p.number (age next p.number)) (drop (age next p.number) p.octets)) h (has_more payloads id p.number (age next p.number) p.octets h)
+    either (λ (q : Payload). IsPartOf payloads id q.number q.octets)
+    (nat_lt window (age next p.number) && not live) p
+    (payload p.flow (onward p.number (age next p.number)) (drop (age next p.number) p.octets)) h
+    (has_more payloads id p.number (age next p.number) p.octets h)
 
-left_due : (next : ℕ) (live : Bool) (p : Payload) → next < 2 ^ 32 → live ≡ true → is_to_come next p.number ≡ false → (left next live p).number ≡ next
+left_due : (next : ℕ) (live : Bool) (p : Payload) → next < 2 ^ 32 → live ≡ true →
+    is_to_come next p.number ≡ false → (left next live p).number ≡ next
 unfolding left
 left_due next live p small l h =
     when_false (λ (q : Payload). q.number ≡ next) (nat_lt window (age next p.number) && not live) p
     (payload p.flow (onward p.number (age next p.number)) (drop (age next p.number) p.octets))
-    (and_right (nat_lt window (age next p.number)) (not live) (not_from_true live l)) (reached next p.number small h)
+    (and_right (nat_lt window (age next p.number)) (not live) (not_from_true live l))
+    (reached next p.number small h)
 
-delivered_true : (F : Reader) (payloads : List Payload) (g : Flow) (p : Payload) (n : ℕ) → AllArePartsOf payloads g.held → AllFollow payloads g.id None g.events (Some n) → IsPartOf payloads g.id n p.octets → p.number ≡ n → (is_some g.live) ≡ true
+delivered_true : (F : Reader) (payloads : List Payload) (g : Flow) (p : Payload) (n : ℕ) →
+    AllArePartsOf payloads g.held → AllFollow payloads g.id None g.events (Some n) →
+    IsPartOf payloads g.id n p.octets → p.number ≡ n → (is_some g.live) ≡ true
     → IsGapless payloads (delivered F g p)
 unfolding delivered with_event OwnMayFollow
 delivered_true F payloads g p n held runs has e live =
     let next : ℕ = onward p.number (length p.octets) in
     let events : List Event = g.events ++ Delivers g.id p.octets ∷ [] in
-    let more : AllFollow payloads g.id None events (Some next) = runs_more payloads g.id None (Some n) (Some next) g.events (Delivers g.id p.octets) runs (inl (refl, (has, ap (λ (k : ℕ). onward k (length p.octets)) e))) in
-    let closes : AllFollow payloads g.id None (events ++ Closes g.id Fault ∷ []) None = runs_more payloads g.id None (Some next) None events (Closes g.id Fault) more (inl (refl, tt)) in
+    let more : AllFollow payloads g.id None events (Some next) =
+    runs_more payloads g.id None (Some n) (Some next) g.events (Delivers g.id p.octets) runs
+    (inl (refl, (has, ap (λ (k : ℕ). onward k (length p.octets)) e))) in
+    let closes : AllFollow payloads g.id None (events ++ Closes g.id Fault ∷ []) None =
+    runs_more payloads g.id None (Some next) None events (Closes g.id Fault) more
+    (inl (refl, tt)) in
     either (IsGapless payloads) (F events)
-    (record { id = g.id; next = next; live = None; fin = g.fin; held = g.held; events = events ++ Closes g.id Fault ∷ [] })
+    (record {
+      id = g.id;
+      next = next;
+      live = None;
+      fin = g.fin;
+      held = g.held;
+      events =
+          events ++ Closes g.id Fault ∷ [];
+    })
     (record { id = g.id; next = next; live = g.live; fin = g.fin; held = g.held; events = events })
     (record { next = onward_small p.number (length p.octets); held = held; events = closes })
-    (record { next = onward_small p.number (length p.octets); held = held; events = when_true (AllFollow payloads g.id None events) (is_some g.live) (Some next) None live more })
+    (record {
+      next = onward_small p.number (length p.octets);
+      held = held;
+      events =
+          when_true (AllFollow payloads g.id None events) (is_some g.live) (Some next) None live
+          more;
+    })
 
-begun_true : (F : Reader) (payloads : List Payload) (g : Flow) (q : Payload) (r : Option ℕ) → IsGapless payloads g → (is_some g.live) ≡ false → IsPartOf payloads g.id q.number q.octets → IsGapless payloads (begun F g q r)
+begun_true : (F : Reader) (payloads : List Payload) (g : Flow) (q : Payload) (r : Option ℕ) →
+    IsGapless payloads g → (is_some g.live) ≡ false → IsPartOf payloads g.id q.number q.octets →
+    IsGapless payloads (begun F g q r)
 unfolding begun with_event OwnMayFollow
 begun_true F payloads g q None t dead has = t
 begun_true F payloads g q (Some i) t dead has =
     let n : ℕ = onward q.number i in
     let none : due_of g ≡ None = cond-false (is_some g.live) (Some g.next) None dead in
     let begins : AllFollow payloads g.id None (g.events ++ Begins g.id n ∷ []) (Some n) =
-    runs_more payloads g.id None None (Some n) g.events (Begins g.id n) (subst (AllFollow payloads g.id None g.events) none t.events) (inl (refl, refl)) in
-    delivered_true F payloads (record { id = g.id; next = g.next; live = Some n; fin = g.fin; held = g.held; events = g.events ++ Begins g.id n ∷ [] }) (payload q.flow n (drop i q.octets)) n t.held begins
+    runs_more payloads g.id None None (Some n) g.events (Begins g.id n)
+    (subst (AllFollow payloads g.id None g.events) none t.events) (inl (refl, refl)) in
+    delivered_true F payloads (record {
+      id = g.id;
+      next = g.next;
+      live = Some n;
+      fin = g.fin;
+      held =
+          g.held;
+      events = g.events ++ Begins g.id n ∷ [];
+    }) (payload q.flow n (drop i q.octets)) n
+    t.held begins
     (has_more payloads g.id q.number i q.octets has) refl refl
 
-pub taken_true : (F : Reader) (payloads : List Payload) (f : Flow) (p : Payload) → IsGapless payloads f → IsPartOf payloads f.id p.number p.octets → ((is_some f.live) ≡ true → is_to_come f.next p.number ≡ false) → IsGapless payloads (taken F f p)
+pub taken_true : (F : Reader) (payloads : List Payload) (f : Flow) (p : Payload) →
+    IsGapless payloads f → IsPartOf payloads f.id p.number p.octets →
+    ((is_some f.live) ≡ true → is_to_come f.next p.number ≡ false) →
+    IsGapless payloads (taken F f p)
 unfolding taken
 taken_true F payloads f p t has reach =
     let q : Payload = left f.next (is_some f.live) p in
-    let left : IsPartOf payloads f.id q.number q.octets = left_has payloads f.id f.next (is_some f.live) p has in
+    let left : IsPartOf payloads f.id q.number q.octets =
+    left_has payloads f.id f.next (is_some f.live) p has in
     let d : Flow = delivered F f q in
     let b : Flow = begun F f q (header_at q.octets) in
     let live : IsGapless payloads (cond (is_some f.live) d b) =
     elim (cases_Bool (is_some f.live)) [
       | inl e ↦
           (let due : q.number ≡ f.next = left_due f.next (is_some f.live) p t.next e (reach e) in
-          let runs : AllFollow payloads f.id None f.events (Some f.next) = subst (AllFollow payloads f.id None f.events) (cond-true (is_some f.live) (Some f.next) None e) t.events in
+          let runs : AllFollow payloads f.id None f.events (Some f.next) =
+          subst (AllFollow payloads f.id None f.events)
+          (cond-true (is_some f.live) (Some f.next) None e) t.events in
           when_true (IsGapless payloads) (is_some f.live) d b e
-          (delivered_true F payloads f q f.next t.held runs (subst (λ (n : ℕ). IsPartOf payloads f.id n q.octets) due left) due e))
-      | inr e ↦ when_false (IsGapless payloads) (is_some f.live) d b e (begun_true F payloads f q (header_at q.octets) t e left)
+          (delivered_true F payloads f q f.next t.held runs
+          (subst (λ (n : ℕ). IsPartOf payloads f.id n q.octets) due left) due e))
+      | inr e ↦ when_false (IsGapless payloads) (is_some f.live) d b e
+          (begun_true F payloads f q (header_at q.octets) t e left)
     ] in
     either (IsGapless payloads) (nat_eq (length q.octets) 0) f (cond (is_some f.live) d b) t live
 
@@ -138,35 +197,61 @@ true_keeps F payloads =
       takes =
           λ f i e d t.
           let within : i < length f.held = rw e at (first_within f.id f.next f.held) in
-          let own : (get_or f.held i (payload 0 0 [])).flow ≡ f.id = rw e at (first_own f.id f.next (payload 0 0 []) f.held) in
+          let own : (get_or f.held i (payload 0 0 [])).flow ≡ f.id =
+          rw e at (first_own f.id f.next (payload 0 0 []) f.held) in
           let p : Payload = get_or f.held i (payload 0 0 []) in
-          let has : IsPartOf payloads f.id p.number p.octets = subst (λ (n : ℕ). IsPartOf payloads n p.number p.octets) own (have_at payloads f.held i (payload 0 0 []) t.held within) in
+          let has : IsPartOf payloads f.id p.number p.octets =
+          subst (λ (n : ℕ). IsPartOf payloads n p.number p.octets) own
+          (have_at payloads f.held i (payload 0 0 []) t.held within) in
           let g : Flow = record f { held = remove f.held i } in
-          let u : IsGapless payloads g = record { next = t.next; held = have_remove payloads f.held i t.held; events = t.events } in
+          let u : IsGapless payloads g = record {
+            next = t.next;
+            held =
+                have_remove payloads f.held i t.held;
+            events = t.events;
+          } in
           taken_true F payloads g p u has
           (λ l.
-          elim (and_cases (is_some f.live) (is_to_come f.next p.number) (not-true ((is_some f.live) && is_to_come f.next p.number) d)) [
+          elim (and_cases (is_some f.live) (is_to_come f.next p.number)
+          (not-true ((is_some f.live) && is_to_come f.next p.number) d)) [
             | inl x ↦ absurd (both_ways (is_some f.live) x l)
             | inr x ↦ x
           ]);
       closes =
           λ f cause t.
-          let c : Flow = record { id = f.id; next = f.next; live = None; fin = f.fin; held = f.held; events = f.events ++ Closes f.id cause ∷ [] } in
+          let c : Flow = record {
+            id = f.id;
+            next = f.next;
+            live = None;
+            fin = f.fin;
+            held = f.held;
+            events = f.events ++ Closes f.id cause ∷ [];
+          } in
           elim (cases_Bool (is_some f.live)) [
             | inl e ↦
-                (let runs : AllFollow payloads f.id None f.events (Some f.next) = subst (AllFollow payloads f.id None f.events) (cond-true (is_some f.live) (Some f.next) None e) t.events in
+                (let runs : AllFollow payloads f.id None f.events (Some f.next) =
+                subst (AllFollow payloads f.id None f.events)
+                (cond-true (is_some f.live) (Some f.next) None e) t.events in
                 when_true (IsGapless payloads) (is_some f.live) c f e
-                (record { next = t.next; held = t.held; events = runs_more payloads f.id None (Some f.next) None f.events (Closes f.id cause) runs (inl (refl, tt)) }))
+                (record {
+                  next = t.next;
+                  held = t.held;
+                  events =
+                      runs_more payloads f.id None (Some f.next) None f.events (Closes f.id cause)
+                      runs (inl (refl, tt));
+                }))
             | inr e ↦ when_false (IsGapless payloads) (is_some f.live) c f e t
           ];
       fins = λ f n t. record { next = t.next; held = t.held; events = t.events };
     }
 
 -- one more payload comes
-has_grow : (payloads : List Payload) (p : Payload) (id n : ℕ) (xs : List ℕ) → IsPartOf payloads id n xs → IsPartOf (payloads ++ p ∷ []) id n xs
+has_grow : (payloads : List Payload) (p : Payload) (id n : ℕ) (xs : List ℕ) →
+    IsPartOf payloads id n xs → IsPartOf (payloads ++ p ∷ []) id n xs
 has_grow payloads p id n xs h =
     let d : Payload = payload 0 0 [] in
-    let e : get_or payloads h.index d ≡ get_or (payloads ++ p ∷ []) h.index d = sym (get_or_append_left payloads (p ∷ []) d h.index h.among) in
+    let e : get_or payloads h.index d ≡ get_or (payloads ++ p ∷ []) h.index d =
+    sym (get_or_append_left payloads (p ∷ []) d h.index h.among) in
     record {
       index = h.index;
       among = omega (arith, h.among, length-append payloads (p ∷ []));
@@ -176,33 +261,59 @@ has_grow payloads p id n xs h =
       octets_are = subst (λ (q : Payload). xs ≡ drop h.skipped q.octets) e h.octets_are;
     }
 
-pub all_grow : (payloads : List Payload) (p : Payload) (ps : List Payload) → AllArePartsOf payloads ps → AllArePartsOf (payloads ++ p ∷ []) ps
+pub all_grow : (payloads : List Payload) (p : Payload) (ps : List Payload) →
+    AllArePartsOf payloads ps → AllArePartsOf (payloads ++ p ∷ []) ps
 unfolding AllArePartsOf
 all_grow payloads p [] h = tt
-all_grow payloads p (q ∷ ps) h = (has_grow payloads p q.flow q.number q.octets h.0, all_grow payloads p ps h.1)
+all_grow payloads p (q ∷ ps) h = (
+  has_grow payloads p q.flow q.number q.octets h.0,
+  all_grow payloads p ps h.1,
+)
 
-own_grow : (payloads : List Payload) (p : Payload) (id : ℕ) (before : Option ℕ) (h : Event) (behind : Option ℕ) → OwnMayFollow payloads id before h behind → OwnMayFollow (payloads ++ p ∷ []) id before h behind
+own_grow : (payloads : List Payload) (p : Payload) (id : ℕ) (before : Option ℕ) (h : Event)
+    (behind : Option ℕ) → OwnMayFollow payloads id before h behind →
+    OwnMayFollow (payloads ++ p ∷ []) id before h behind
 unfolding OwnMayFollow
-own_grow payloads p id (Some due) (Delivers flow xs) (Some next) t = (has_grow payloads p id due xs t.0, t.1)
+own_grow payloads p id (Some due) (Delivers flow xs) (Some next) t =
+    (has_grow payloads p id due xs t.0, t.1)
 own_grow payloads p id before h behind t = t
 
-turns_grow : (payloads : List Payload) (p : Payload) (id : ℕ) (before : Option ℕ) (h : Event) (behind : Option ℕ) → MayFollow payloads id before h behind → MayFollow (payloads ++ p ∷ []) id before h behind
-turns_grow payloads p id before h behind (inl t) = inl (t.0, own_grow payloads p id before h behind t.1)
+turns_grow : (payloads : List Payload) (p : Payload) (id : ℕ) (before : Option ℕ) (h : Event)
+    (behind : Option ℕ) → MayFollow payloads id before h behind →
+    MayFollow (payloads ++ p ∷ []) id before h behind
+turns_grow payloads p id before h behind (inl t) =
+    inl (t.0, own_grow payloads p id before h behind t.1)
 turns_grow payloads p id before h behind (inr t) = inr t
 
-pub runs_grow : (payloads : List Payload) (p : Payload) (id : ℕ) (before : Option ℕ) (hs : List Event) (behind : Option ℕ) → AllFollow payloads id before hs behind → AllFollow (payloads ++ p ∷ []) id before hs behind
+pub runs_grow : (payloads : List Payload) (p : Payload) (id : ℕ) (before : Option ℕ)
+    (hs : List Event) (behind : Option ℕ) → AllFollow payloads id before hs behind →
+    AllFollow (payloads ++ p ∷ []) id before hs behind
 unfolding AllFollow
 runs_grow payloads p id before [] behind r = r
-runs_grow payloads p id before (h ∷ hs) behind r = (r.0, (turns_grow payloads p id before h r.0 r.1.0, runs_grow payloads p id r.0 hs behind r.1.1))
+runs_grow payloads p id before (h ∷ hs) behind r = (
+  r.0,
+  (
+    turns_grow payloads p id before h r.0 r.1.0,
+    runs_grow payloads p id r.0 hs behind r.1.1,
+  ),
+)
 
-pub true_grows : (payloads : List Payload) (p : Payload) (f : Flow) → IsGapless payloads f → IsGapless (payloads ++ p ∷ []) f
-true_grows payloads p f t = record { next = t.next; held = all_grow payloads p f.held t.held; events = runs_grow payloads p f.id None f.events (due_of f) t.events }
+pub true_grows : (payloads : List Payload) (p : Payload) (f : Flow) → IsGapless payloads f →
+    IsGapless (payloads ++ p ∷ []) f
+true_grows payloads p f t = record {
+  next = t.next;
+  held = all_grow payloads p f.held t.held;
+  events = runs_grow payloads p f.id None f.events (due_of f) t.events;
+}
 
-has_last : (payloads : List Payload) (p : Payload) → p.number < 2 ^ 32 → IsPartOf (payloads ++ p ∷ []) p.flow p.number p.octets
+has_last : (payloads : List Payload) (p : Payload) → p.number < 2 ^ 32 →
+    IsPartOf (payloads ++ p ∷ []) p.flow p.number p.octets
 has_last payloads p small =
     let d : Payload = payload 0 0 [] in
     let n : length payloads - length payloads ≡ 0 = omega arith in
-    let e : p ≡ get_or (payloads ++ p ∷ []) (length payloads) d = sym (get_or-append_right payloads (p ∷ []) (length payloads) (length payloads) d refl (omega arith) ∙ rw n refl) in
+    let e : p ≡ get_or (payloads ++ p ∷ []) (length payloads) d =
+    sym (get_or-append_right payloads (p ∷ []) (length payloads) (length payloads) d refl
+    (omega arith) ∙ rw n refl) in
     record {
       index = length payloads;
       among = omega (arith, length-append payloads (p ∷ []));
@@ -212,13 +323,18 @@ has_last payloads p small =
       octets_are = ap (λ (q : Payload). q.octets) e;
     }
 
-left_all : (payloads : List Payload) (next : ℕ) (live : Bool) (p : Payload) → IsPartOf payloads p.flow p.number p.octets → IsPartOf payloads (left next live p).flow (left next live p).number (left next live p).octets
+left_all : (payloads : List Payload) (next : ℕ) (live : Bool) (p : Payload) →
+    IsPartOf payloads p.flow p.number p.octets →
+    IsPartOf payloads (left next live p).flow (left next live p).number (left next live p).octets
 unfolding left
 left_all payloads next live p h =
-    either (λ (q : Payload). IsPartOf payloads q.flow q.number q.octets) (nat_lt window (age next p.number) && not live) p
-    (payload p.flow (onward p.number (age next p.number)) (drop (age next p.number) p.octets)) h (has_more payloads p.flow p.number (age next p.number) p.octets h)
+    either (λ (q : Payload). IsPartOf payloads q.flow q.number q.octets)
+    (nat_lt window (age next p.number) && not live) p
+    (payload p.flow (onward p.number (age next p.number)) (drop (age next p.number) p.octets)) h
+    (has_more payloads p.flow p.number (age next p.number) p.octets h)
 
-pub came_true : (A : Setting) (payloads' : List Payload) (f : Flow) (p : Payload) → p.number < 2 ^ 32 → IsGapless payloads' f → IsGapless (payloads' ++ p ∷ []) (payload_came A f p)
+pub came_true : (A : Setting) (payloads' : List Payload) (f : Flow) (p : Payload) →
+    p.number < 2 ^ 32 → IsGapless payloads' f → IsGapless (payloads' ++ p ∷ []) (payload_came A f p)
 unfolding payload_came holding
 came_true A payloads' f p small t =
     let all : List Payload = payloads' ++ p ∷ [] in
@@ -226,27 +342,45 @@ came_true A payloads' f p small t =
     let u : IsGapless all f = true_grows payloads' p f t in
     let k : Keeps A.faulted (IsGapless all) = true_keeps A.faulted all in
     let h : Flow = record f { held = f.held ++ q ∷ [] } in
-    let v : IsGapless all h = record { next = u.next; held = have_push all f.held q u.held (left_all all f.next (is_some f.live) p (has_last payloads' p small)); events = u.events } in
-    either (IsGapless all) (nat_eq (length q.octets) 0 || has_as_much f.id q.number (length q.octets) f.held) f (within_bounds A (length f.held + 1) (gone_on A.faulted h)) u
-    (relieved_keeps A (IsGapless all) k (length f.held + 1) (gone_on A.faulted h) (gone_on_keeps A.faulted (IsGapless all) k h v))
+    let v : IsGapless all h = record {
+      next = u.next;
+      held =
+          have_push all f.held q u.held (left_all all f.next (is_some f.live) p
+          (has_last payloads' p small));
+      events = u.events;
+    } in
+    either (IsGapless all) (nat_eq (length q.octets) 0
+    || has_as_much f.id q.number (length q.octets) f.held) f
+    (within_bounds A (length f.held + 1) (gone_on A.faulted h)) u
+    (relieved_keeps A (IsGapless all) k (length f.held + 1) (gone_on A.faulted h)
+    (gone_on_keeps A.faulted (IsGapless all) k h v))
 
-pub fin_true : (F : Reader) (payloads' : List Payload) (f : Flow) (n : ℕ) → IsGapless payloads' f → IsGapless payloads' (fin_came F f n)
+pub fin_true : (F : Reader) (payloads' : List Payload) (f : Flow) (n : ℕ) → IsGapless payloads' f →
+    IsGapless payloads' (fin_came F f n)
 unfolding fin_came
 fin_true F payloads' f n t =
     let k : Keeps F (IsGapless payloads') = true_keeps F payloads' in
-    either (IsGapless payloads') ((is_some f.live) && nat_eq (age f.next n) 0) (gone_on F (record f { fin = Some n })) f (gone_on_keeps F (IsGapless payloads') k (record f { fin = Some n }) (k.fins f (Some n) t)) t
+    either (IsGapless payloads') ((is_some f.live) && nat_eq (age f.next n) 0)
+    (gone_on F (record f { fin = Some n })) f
+    (gone_on_keeps F (IsGapless payloads') k (record f { fin = Some n }) (k.fins f (Some n) t))
+    t
 
-pub gap_true : (F : Reader) (payloads : List Payload) (f : Flow) → IsGapless payloads f → IsGapless payloads (gap F f)
+pub gap_true : (F : Reader) (payloads : List Payload) (f : Flow) → IsGapless payloads f →
+    IsGapless payloads (gap F f)
 gap_true F payloads f t = gap_keeps F (IsGapless payloads) (true_keeps F payloads) f t
 
-pub missed_true : (F : Reader) (payloads' : List Payload) (count n : ℕ) (f : Flow) → IsGapless payloads' f → IsGapless payloads' (acknowledgement_came F count n f)
-missed_true F payloads' count n f t = missed_keeps F (IsGapless payloads') (true_keeps F payloads') count n f t
+pub missed_true : (F : Reader) (payloads' : List Payload) (count n : ℕ) (f : Flow) →
+    IsGapless payloads' f → IsGapless payloads' (acknowledgement_came F count n f)
+missed_true F payloads' count n f t = missed_keeps F (IsGapless payloads') (true_keeps F payloads')
+    count n f t
 
-pub fresh_true : (f : Flow) → f.next < 2 ^ 32 → (is_some f.live) ≡ false → f.held ≡ [] → f.events ≡ [] → IsGapless [] f
+pub fresh_true : (f : Flow) → f.next < 2 ^ 32 → (is_some f.live) ≡ false → f.held ≡ [] →
+    f.events ≡ [] → IsGapless [] f
 unfolding AllArePartsOf AllFollow
 fresh_true f small dead none quiet =
     record {
       next = small;
       held = subst (λ (ps : List Payload). AllArePartsOf [] ps) (sym none) tt;
-      events = subst (λ (hs : List Event). AllFollow [] f.id None hs (due_of f)) (sym quiet) (sym (cond-false (is_some f.live) (Some f.next) None dead));
+      events = subst (λ (hs : List Event). AllFollow [] f.id None hs (due_of f)) (sym quiet)
+          (sym (cond-false (is_some f.live) (Some f.next) None dead));
     }

@@ -8,14 +8,17 @@ use Rattle.tcp_segment.specs.declared.endpoint.Flow as endpoints
 use Rattle.tcp_waiting.specs.Payload.{Payload, payload, window, first, blocks_of, is_far, has_as_much}
 use Rattle.tcp_waiting.specs.Numbers.{onward, age, is_to_come}
 
--- what happens in a capture beside its flows: a packet arrives, at a time in nanoseconds since 1970-01-01 UTC where it has one;
+-- what happens in a capture beside its flows: a packet arrives, at a time in nanoseconds since
+-- 1970-01-01 UTC where it has one;
 -- it has a fault, of this word, at the octet of this number
 pub data CaptureEvent : Type 0 where
   PacketArrives : Option ℕ → CaptureEvent
   HasFault : List ℕ → ℕ → CaptureEvent
 
--- what happens in flows, each by its id: the id stands for the flow between these endpoints from now on, a stream begins at a
--- number, octets are delivered to it, it closes; and what happens in the capture, which whoever reads it tells between segments
+-- what happens in flows, each by its id: the id stands for the flow between these endpoints from
+-- now on, a stream begins at a
+-- number, octets are delivered to it, it closes; and what happens in the capture, which whoever
+-- reads it tells between segments
 pub data Event : Type 0 where
   Opens : ℕ → endpoints.Flow → Event
   Begins : ℕ → ℕ → Event
@@ -31,7 +34,8 @@ flow_of (Delivers id octets) = Some id
 flow_of (Closes id cause) = Some id
 flow_of (OfCapture event) = None
 
--- whether the reader of the stream that octets were delivered to last is at a fault, by all that has happened
+-- whether the reader of the stream that octets were delivered to last is at a fault, by all that
+-- has happened
 abbrev pub Reader : Type 0
 Reader = List Event → Bool
 

@@ -1,4 +1,5 @@
--- What an IP packet carries for TCP, and between which addresses (RFC 791, Internet Header Format; RFC 8200, IPv6 Header
+-- What an IP packet carries for TCP, and between which addresses (RFC 791, Internet Header Format;
+-- RFC 8200, IPv6 Header
 -- Format and IPv6 Extension Headers; RFC 4302, Authentication Header Format; meaning).
 use Rattle.std.specs.Prelude.{ℕ, zero, suc, ◌+◌, ◌*◌, ◌/◌, ◌%◌, Bool, not, ◌&&◌, ◌||◌, List, length, take, drop, slice_index, Option, Some, option_map, nat_le, ◌==◌, if◌then◌else◌}
 use Rattle.tcp_segment.specs.declared.endpoint.Address.{Address}
@@ -15,7 +16,8 @@ pub record Datagram : Type 0 where
   pub destination : Address
   pub octets : List ℕ
 
--- what a length field leaves of octets: 0 stands for all, since the packet of a segment that the sender's hardware is still to
+-- what a length field leaves of octets: 0 stands for all, since the packet of a segment that the
+-- sender's hardware is still to
 -- cut has a length that fits no field
 unfoldable pub limited : ℕ → List ℕ → List ℕ
 limited size octets = if size == 0 then octets else take size octets
@@ -36,7 +38,8 @@ carries_whole_tcp octets =
     slice_index octets 0 / 16 == 4 && is_tcp (slice_index octets 9)
     && not (is_fragment (two_at 6 octets))
 
--- the header has as many octets as its Internet Header Length says, in words of four, and at least 20
+-- the header has as many octets as its Internet Header Length says, in words of four, and at least
+-- 20
 abbrev pub behind_header : List ℕ → List ℕ → Option Datagram
 behind_header octets packet =
     let header = slice_index octets 0 % 16 * 4 in
@@ -59,7 +62,8 @@ abbrev pub is_extension : ℕ → Bool
 is_extension header =
     header == 0 || header == 43 || header == 44 || header == 51 || header == 60
 
--- its length field counts 8 octets beyond the first 8; that of an authentication header 4 beyond the first 8; a fragment
+-- its length field counts 8 octets beyond the first 8; that of an authentication header 4 beyond
+-- the first 8; a fragment
 -- header has none
 abbrev pub extension_size : ℕ → List ℕ → ℕ
 extension_size header octets =

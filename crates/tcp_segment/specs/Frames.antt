@@ -1,4 +1,5 @@
--- What is in a frame, by the link type of the capture: an IP packet and its version (IEEE 802.3, IEEE 802.1Q, the link-layer
+-- What is in a frame, by the link type of the capture: an IP packet and its version (IEEE 802.3,
+-- IEEE 802.1Q, the link-layer
 -- header types of tcpdump; meaning).
 use Rattle.std.specs.Prelude.{ℕ, zero, suc, ◌/◌, Bool, ◌||◌, List, length, drop, slice_index, Option, Some, None, nat_le, ◌==◌, if◌then◌else◌}
 use Rattle.std.specs.Int.{w32, from_le_bytes}
@@ -14,7 +15,8 @@ pub record Packet : Type 0 where
 
 -- ---- Ethernet types and tags.
 
--- the types of a customer's and of a service's tag (IEEE 802.1Q), and of a service's tag before it had one
+-- the types of a customer's and of a service's tag (IEEE 802.1Q), and of a service's tag before it
+-- had one
 abbrev pub is_tag : ℕ → Bool
 is_tag kind = kind == 0x8100 || kind == 0x88a8 || kind == 0x9100
 

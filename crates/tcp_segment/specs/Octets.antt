@@ -1,4 +1,5 @@
--- Fields of a header: octets at an offset, and the numbers that they spell, the most significant octet first (meaning).
+-- Fields of a header: octets at an offset, and the numbers that they spell, the most significant
+-- octet first (meaning).
 use Rattle.std.specs.Prelude.{ℕ, Bool, List, take, drop, Option, None, option_and_then, if◌then◌else◌}
 use Rattle.std.specs.Int.{w16, w32, from_be_bytes}
 

@@ -44,7 +44,8 @@ flow_of datagram = record {
 abbrev pub has_flag : ℕ → ℕ → Bool
 has_flag flags flag = not (bit_and flags flag == 0)
 
--- the data offset, in words of four octets and at least 20 octets, where the segment holds the whole header
+-- the data offset, in words of four octets and at least 20 octets, where the segment holds the
+-- whole header
 abbrev pub header_size : List ℕ → Option ℕ
 header_size octets =
     let size = slice_index octets 12 / 16 * 4 in

@@ -1,4 +1,5 @@
--- Packets and endpoints worked by hand: the segments of the packets, and the texts of the endpoints (meaning).
+-- Packets and endpoints worked by hand: the segments of the packets, and the texts of the endpoints
+-- (meaning).
 use Rattle.std.specs.Prelude.{◌≡◌, ℕ, ◌+◌, ◌-◌, ◌*◌, ◌==◌, nat_lt, if◌then◌else◌, true, false, List, [], ◌∷◌, Some, None, codes}
 use Rattle.tcp_segment.specs.declared.endpoint.Address.TheVariants.{V4, V6}
 use Rattle.tcp_segment.specs.declared.endpoint.Endpoint.{Endpoint}
@@ -26,7 +27,11 @@ v6 address port = record { address = V6 (octets address); port = port }
 
 -- Ethernet, a tag, IPv4, TCP with SYN, and two octets of padding.
 abbrev pub Tagged : Type 0
-Tagged = segment 1 (octets (codes "010203040506 0102030405aa 8100 0007 0800 45000029 0000 4000 40 06 0000 c0000201 c6336407 03e8 0af9 01020304 00000009 50 02 ffff 0000 0000 47 0000"))
+Tagged =
+    segment 1
+    (octets
+    (codes
+    "010203040506 0102030405aa 8100 0007 0800 45000029 0000 4000 40 06 0000 c0000201 c6336407 03e8 0af9 01020304 00000009 50 02 ffff 0000 0000 47 0000"))
     ≡ Some (record {
       flow = record { from = v4 (codes "c0000201") 1000; to = v4 (codes "c6336407") 2809 };
       sequence = 16909060;
@@ -37,9 +42,14 @@ Tagged = segment 1 (octets (codes "010203040506 0102030405aa 8100 0007 0800 4500
       payload = 0x47 ∷ [];
     })
 
--- Cooked 2, IPv6, hop-by-hop options of 16 octets and a fragment header of a whole packet, TCP with ACK and FIN.
+-- Cooked 2, IPv6, hop-by-hop options of 16 octets and a fragment header of a whole packet, TCP with
+-- ACK and FIN.
 abbrev pub Extended : Type 0
-Extended = segment 276 (octets (codes "86dd 000000000000000000000000000000000000 60000000 002d 00 40 20010db8000000000000000000000001 20010db8000000000000000000000002 2c010000 00000000 00000000 00000000 06ff 0006 00000001 03e8 0af9 00000005 00000009 50 11 ffff 0000 0000 47"))
+Extended =
+    segment 276
+    (octets
+    (codes
+    "86dd 000000000000000000000000000000000000 60000000 002d 00 40 20010db8000000000000000000000001 20010db8000000000000000000000002 2c010000 00000000 00000000 00000000 06ff 0006 00000001 03e8 0af9 00000005 00000009 50 11 ffff 0000 0000 47"))
     ≡ Some (record {
       flow = record {
         from = v6 (codes "20010db8000000000000000000000001") 1000;
@@ -55,12 +65,20 @@ Extended = segment 276 (octets (codes "86dd 000000000000000000000000000000000000
 
 -- A loopback frame of the other byte order, and a fragment that isn't the first.
 abbrev pub Fragment : Type 0
-Fragment = segment 0 (octets (codes "02000000 45000029 0000 0001 40 06 0000 c0000201 c6336407 03e8 0af9 01020304 00000009 50 02 ffff 0000 0000 47"))
+Fragment =
+    segment 0
+    (octets
+    (codes
+    "02000000 45000029 0000 0001 40 06 0000 c0000201 c6336407 03e8 0af9 01020304 00000009 50 02 ffff 0000 0000 47"))
     ≡ None
 
 -- A raw packet from an endpoint to itself.
 abbrev pub ToItself : Type 0
-ToItself = segment 101 (octets (codes "45000029 0000 4000 40 06 0000 c0000201 c0000201 0af9 0af9 01020304 00000009 50 02 ffff 0000 0000 47"))
+ToItself =
+    segment 101
+    (octets
+    (codes
+    "45000029 0000 4000 40 06 0000 c0000201 c0000201 0af9 0af9 01020304 00000009 50 02 ffff 0000 0000 47"))
     ≡ None
 
 -- ---- Endpoints.

@@ -25,7 +25,8 @@ most_ids = 131072
 abbrev pub AreIds : List ℕ → Type 0
 AreIds ids = AllByRecursion (λ id. id < most_ids) ids × IsDistinct eqb ids
 
--- the flows whose streams live, behind the beginning of one: it is the last, and the only one of its flow
+-- the flows whose streams live, behind the beginning of one: it is the last, and the only one of
+-- its flow
 unfoldable pub begun : ℕ → List ℕ → List ℕ
 begun id live = cond (nat_lt id most_ids) (without id live ++ id ∷ []) live
 
@@ -42,7 +43,8 @@ unfoldable pub lives_from : List ℕ → List Event → List ℕ
 lives_from live [] = live
 lives_from live (e ∷ es) = lives_from (behind live e) es
 
--- the flows whose streams live behind all events, by the order in which these streams began: that of their numbers
+-- the flows whose streams live behind all events, by the order in which these streams began: that
+-- of their numbers
 abbrev pub lives : List Event → List ℕ
 lives events = lives_from [] events
 

@@ -8,13 +8,15 @@ use Rattle.tcp_waiting.proofs.Held.{length_held, get_held, remove_held}
 use Rattle.tcp_waiting.specs.Payload.{Payload, count_of, first, is_far, has_as_much}
 
 -- one more waits
-pub count_push : (id : ℕ) (ps : List Payload) (p : Payload) → count_of id (ps ++ p ∷ []) ≡ count_of id ps + cond (nat_eq p.flow id) 1 0
+pub count_push : (id : ℕ) (ps : List Payload) (p : Payload) →
+    count_of id (ps ++ p ∷ []) ≡ count_of id ps + cond (nat_eq p.flow id) 1 0
 unfolding count_of
 count_push id [] p = omega arith
 count_push id (q ∷ ps) p = omega (arith, count_push id ps p)
 
 -- one is removed
-pub count_remove : (id : ℕ) (ps : List Payload) (i : ℕ) (d : Payload) → i < length ps → count_of id (remove ps i) + cond (nat_eq (get_or ps i d).flow id) 1 0 ≡ count_of id ps
+pub count_remove : (id : ℕ) (ps : List Payload) (i : ℕ) (d : Payload) → i < length ps →
+    count_of id (remove ps i) + cond (nat_eq (get_or ps i d).flow id) 1 0 ≡ count_of id ps
 unfolding count_of
 count_remove id [] i d h = absurd (omega (arith, h))
 count_remove id (p ∷ ps) zero d h = omega arith
@@ -47,7 +49,8 @@ far_none id next (p ∷ ps) h =
     let e = none_here (nat_eq p.flow id) (count_of id ps) h in
     rw (e.0, far_none id next ps e.1) refl
 
-pub has_none : (id number count : ℕ) (ps : List Payload) → count_of id ps ≡ 0 → has_as_much id number count ps ≡ false
+pub has_none : (id number count : ℕ) (ps : List Payload) → count_of id ps ≡ 0 →
+    has_as_much id number count ps ≡ false
 unfolding count_of has_as_much
 has_none id number count [] h = refl
 has_none id number count (p ∷ ps) h =
@@ -55,12 +58,16 @@ has_none id number count (p ∷ ps) h =
     rw (e.0, has_none id number count ps e.1) refl
 
 -- a payload of its flow less is counted
-pub removed_counts : (all : List ℕ) (ws : List Waiting) (i : ℕ) (w : Waiting) (id : ℕ) → i < length ws → w ≡ get_or ws i w
-    → count_of id (held_in all (remove ws i)) + cond (nat_eq w.flow id) 1 0 ≡ count_of id (held_in all ws)
+pub removed_counts : (all : List ℕ) (ws : List Waiting) (i : ℕ) (w : Waiting) (id : ℕ) →
+    i < length ws → w ≡ get_or ws i w
+    → count_of id (held_in all (remove ws i)) + cond (nat_eq w.flow id) 1 0
+    ≡ count_of id (held_in all ws)
 removed_counts all ws i w id h is =
     let d : Payload = payload_in all w in
-    let own : (get_or (held_in all ws) i d).flow ≡ w.flow = ap (λ (p : Payload). p.flow) (get_held all ws i w d h is) in
-    rw (remove_held all ws i, ← own) (count_remove id (held_in all ws) i d (omega (arith, h, length_held all ws)))
+    let own : (get_or (held_in all ws) i d).flow ≡ w.flow =
+    ap (λ (p : Payload). p.flow) (get_held all ws i w d h is) in
+    rw (remove_held all ws i, ← own) (count_remove id (held_in all ws) i d
+    (omega (arith, h, length_held all ws)))
 
 pub one_own : (id : ℕ) → 0 < cond (nat_eq id id) 1 0
 one_own id = rw (eq-eqb id id refl) (omega arith)

@@ -38,36 +38,44 @@ use Rattle.giop_stream.proofs.CodeSteps.HeaderEndSteps.{at_free, at_none, at_sto
 -- ---- What holds of each message holds of each event's, and of the owner of the next octet.
 
 module _ (P : MessageKey → Type 0) (most : ℕ) where
-  of_message : (still_open : List Open) (m : Message) → Each (λ o. P o.opener) still_open → P (message_key m)
+  of_message : (still_open : List Open) (m : Message) → Each (λ o. P o.opener) still_open →
+      P (message_key m)
       → Each (λ e. P e.subject) (events_of most still_open m)
   unfolding events_of
   of_message still_open m openers own = go (fronts m.payload)
     where
-      go : (fs : List (List ℕ)) → Each (λ e. P e.subject) (flat_map (λ front. events_of_octet most still_open (with_payload m front)) fs)
+      go : (fs : List (List ℕ)) → Each (λ e. P e.subject)
+          (flat_map (λ front. events_of_octet most still_open (with_payload m front)) fs)
       go [] = tt
       go (f ∷ fs) =
           each_append (λ e. P e.subject) (events_of_octet most still_open (with_payload m f)) _
           (events_of_octet_each most (λ e. P e.subject) still_open (with_payload m f) (λ what. own)
-          (each_weaker (λ o. P o.opener) (λ (o : Open). (what : EventKind) → P o.opener) (λ o h what. h) still_open openers)) (go fs)
+          (each_weaker (λ o. P o.opener) (λ (o : Open). (what : EventKind) → P o.opener)
+          (λ o h what. h) still_open openers)) (go fs)
 
-  of_messages : (still_open : List Open) (ms : List Message) → Each (λ o. P o.opener) still_open → Each (λ m. P (message_key m)) ms
+  of_messages : (still_open : List Open) (ms : List Message) → Each (λ o. P o.opener) still_open →
+      Each (λ m. P (message_key m)) ms
       → Each (λ e. P e.subject) (events_from most still_open ms)
   unfolding events_from
   of_messages still_open [] openers own = tt
   of_messages still_open (m ∷ ms) openers own =
       let es = events_of most still_open m in
       let first = of_message still_open m openers own.0 in
-      each_append (λ e. P e.subject) es _ first (of_messages (opened still_open es) ms (opened_each P still_open es openers first) own.1)
+      each_append (λ e. P e.subject) es _ first
+      (of_messages (opened still_open es) ms (opened_each P still_open es openers first) own.1)
 
-  of_owner : (p : List ℕ) (m : Message) (w : MessageKey) → (cut p).current ≡ Some m → owner_of_next (open_after most p) m ≡ Some w
+  of_owner : (p : List ℕ) (m : Message) (w : MessageKey) → (cut p).current ≡ Some m →
+      owner_of_next (open_after most p) m ≡ Some w
       → Each (λ e. P e.subject) (events most p) → P w
   unfolding events messages open_after owner_of_next opener_of
   of_owner p m w current owner h = go (has_named m) owner
     where
       own : P (message_key m)
       own =
-          let both = each_parts (λ m. P (message_key m)) (cut p).whole (option_to_list (cut p).current) (each_own P most [] (messages (cut p)) h) in
-          (subst (λ (o : Option Message). Each (λ m. P (message_key m)) (option_to_list o)) current both.1).0
+          let both = each_parts (λ m. P (message_key m)) (cut p).whole
+          (option_to_list (cut p).current) (each_own P most [] (messages (cut p)) h) in
+          (subst (λ (o : Option Message). Each (λ m. P (message_key m)) (option_to_list o)) current
+          both.1).0
 
       openers : Each (λ o. P o.opener) (open_after most p)
       openers = opened_each P [] (events most p) tt h
@@ -76,20 +84,26 @@ module _ (P : MessageKey → Type 0) (most : ℕ) where
       other None e k = absurd cc
       other (Some o) e k =
           let same : o.opener ≡ w = cc in
-          subst P same (found_in (λ o. P o.opener) (λ o. o.id == id m) (open_after most p) o openers e)
+          subst P same (found_in (λ o. P o.opener) (λ o. o.id == id m) (open_after most p) o openers
+          e)
 
-      go : (b : Bool) → (if b then opener_key (opener_of (open_after most p) m) else Some (message_key m)) ≡ Some w → P w
+      go : (b : Bool) → (if b then opener_key (opener_of (open_after most p) m) else Some
+          (message_key m)) ≡ Some w → P w
       go true k = other (opener_of (open_after most p) m) refl k
       go false k = let same : message_key m ≡ w = cc in subst P same own
 
 -- the events of a number have one header
-one_header : (most : ℕ) (p : List ℕ) → Each (λ e. header_of_number (messages (cut p)) e.subject.number ≡ Some e.subject.header) (events most p)
+one_header : (most : ℕ) (p : List ℕ) → Each
+    (λ e. header_of_number (messages (cut p)) e.subject.number ≡ Some e.subject.header)
+    (events most p)
 unfolding events
 one_header most p =
-    of_messages (λ w. header_of_number (messages (cut p)) w.number ≡ Some w.header) most [] (messages (cut p)) tt (own_header p)
+    of_messages (λ w. header_of_number (messages (cut p)) w.number ≡ Some w.header) most []
+    (messages (cut p)) tt (own_header p)
 
 -- the owner of an octet takes it
-owner_takes : (most : ℕ) (still_open : List Open) (m : Message) (x : ℕ) (w : MessageKey) → owner_of_octet still_open (with_octet m x) ≡ Some w
+owner_takes : (most : ℕ) (still_open : List Open) (m : Message) (x : ℕ) (w : MessageKey) →
+    owner_of_octet still_open (with_octet m x) ≡ Some w
     → joined w.number (events_of_octet most still_open (with_octet m x)) ≡ x ∷ []
 unfolding owner_of_octet more_of continued
 owner_takes most still_open m x w owner =
@@ -97,10 +111,13 @@ owner_takes most still_open m x w owner =
   where
     other : (o : Option Open) → opener_key o ≡ Some w → continued w.number o (x ∷ []) ≡ x ∷ []
     other None k = absurd cc
-    other (Some o) k = let same : o.opener.number ≡ w.number = cc in rw (eq-eqb o.opener.number w.number same) refl
+    other (Some o) k = let same : o.opener.number ≡ w.number = cc in
+        rw (eq-eqb o.opener.number w.number same) refl
 
-    go : (b : Bool) → (if b then opener_key (opener_of still_open (with_octet m x)) else Some (message_key m)) ≡ Some w
-        → (if b then continued w.number (opener_of still_open (with_octet m x)) (x ∷ []) else (if m.number == w.number then x ∷ [] else [])) ≡ x ∷ []
+    go : (b : Bool) → (if b then opener_key (opener_of still_open (with_octet m x)) else Some
+        (message_key m)) ≡ Some w
+        → (if b then continued w.number (opener_of still_open (with_octet m x)) (x ∷ []) else
+        (if m.number == w.number then x ∷ [] else [])) ≡ x ∷ []
     go true k = other (opener_of still_open (with_octet m x)) k
     go false k = let same : m.number ≡ w.number = cc in rw (eq-eqb m.number w.number same) refl
 
@@ -110,43 +127,53 @@ module _ (C : Table) (most : ℕ) where
 
   -- they agree for this message, or its header has not ended
   abbrev AgreeAt : List ℕ → Answers → Answers → MessageKey → Type 0
-  AgreeAt p f g w = (f w.number ≡ g w.number) ⊎ (header_noted w.header (joined w.number (events most p)) ≡ None)
+  AgreeAt p f g w = (f w.number ≡ g w.number)
+      ⊎ (header_noted w.header (joined w.number (events most p)) ≡ None)
 
   -- a longer stream has more events
-  more_events : (a : Answers) (p : List ℕ) (x : ℕ) → (more : List Event) × (events most (p ++ x ∷ []) ≡ events most p ++ more)
+  more_events : (a : Answers) (p : List ℕ) (x : ℕ) → (more : List Event)
+      × (events most (p ++ x ∷ []) ≡ events most p ++ more)
   unfolding events stopped_at of_parts messages
-  more_events a p x = go (octet_of (cut p) (length p) x) (then_is (R a) (is_causal (λ number. signatures_of C (a number))) (in_turn C a) p x
+  more_events a p x = go (octet_of (cut p) (length p) x)
+      (then_is (R a) (is_causal (λ number. signatures_of C (a number))) (in_turn C a) p x
       (sound (R a) (is_causal (λ number. signatures_of C (a number))) (in_turn C a) p))
     where
-      none : messages (cut (p ++ x ∷ [])) ≡ messages (cut p) → (more : List Event) × (events most (p ++ x ∷ []) ≡ events most p ++ more)
+      none : messages (cut (p ++ x ∷ [])) ≡ messages (cut p) → (more : List Event)
+          × (events most (p ++ x ∷ []) ≡ events most p ++ more)
       none same = ([], ap (events_from most []) same ∙ sym (append-nil (events most p)))
 
-      go : (o : Octet) → Then (R a) p x o → (more : List Event) × (events most (p ++ x ∷ []) ≡ events most p ++ more)
+      go : (o : Octet) → Then (R a) p x o → (more : List Event)
+          × (events most (p ++ x ∷ []) ≡ events most p ++ more)
       go AfterStop h = none (ap messages h.2.cut_is)
       go (Ends fault) h = none (ap messages h.1.cut_is)
       go (Held front) h =
-          none (ap messages h.2.cut_is ∙ sym (ap (λ (o : Option Message). (cut p).whole ++ option_to_list o) h.1))
+          none (ap messages h.2.cut_is ∙ sym (ap (λ (o : Option Message). (cut p).whole
+          ++ option_to_list o) h.1))
       go (Of now) h = (_, h.1.grows)
 
   -- ---- answers that agree for a longer stream, for a front of it; and one after the other
 
-  agree_back : (p : List ℕ) (x : ℕ) (a b : Answers) → AnswersAgree most (p ++ x ∷ []) a b → AnswersAgree most p a b
+  agree_back : (p : List ℕ) (x : ℕ) (a b : Answers) → AnswersAgree most (p ++ x ∷ []) a b →
+      AnswersAgree most p a b
   agree_back p x a b h =
       let more = more_events a p x in
       let parts = each_parts (λ e. AgreeAt (p ++ x ∷ []) a b e.subject) (events most p) more.0
       (subst (λ (es : List Event). Each (λ e. AgreeAt (p ++ x ∷ []) a b e.subject) es) more.1 h) in
       each_weaker (λ e. AgreeAt (p ++ x ∷ []) a b e.subject) (λ e. AgreeAt p a b e.subject)
-      (λ e k. one e more.0 (ap (joined e.subject.number) more.1 ∙ joined_append e.subject.number (events most p) more.0) k) (events most p) parts.0
+      (λ e k. one e more.0 (ap (joined e.subject.number) more.1
+      ∙ joined_append e.subject.number (events most p) more.0) k) (events most p) parts.0
     where
       one : (e : Event) (more : List Event) → joined e.subject.number (events most (p ++ x ∷ []))
           ≡ joined e.subject.number (events most p) ++ joined e.subject.number more
           → AgreeAt (p ++ x ∷ []) a b e.subject → AgreeAt p a b e.subject
       one e more longer (inl k) = inl k
       one e more longer (inr k) =
-          inr (header_noted_before e.subject.header (joined e.subject.number (events most p)) (joined e.subject.number more)
+          inr (header_noted_before e.subject.header (joined e.subject.number (events most p))
+          (joined e.subject.number more)
           (ap (header_noted e.subject.header) (sym longer) ∙ k))
 
-  agree_both : (p : List ℕ) (a b c : Answers) → AnswersAgree most p a b → AnswersAgree most p b c → AnswersAgree most p a c
+  agree_both : (p : List ℕ) (a b c : Answers) → AnswersAgree most p a b → AnswersAgree most p b c →
+      AnswersAgree most p a c
   agree_both p a b c h k = go (events most p) h k
     where
       Same : Answers → Answers → Event → Type 0
@@ -166,14 +193,19 @@ module _ (C : Table) (most : ℕ) where
       all_by (λ (e : Event). AgreeAt p a a e.subject) (λ e. inl refl) (events most p)
 
   -- the same headers end in the next octet
-  ends_agree : (p : List ℕ) (x : ℕ) (a b : Answers) → AnswersAgree most p a b → header_ends_at (R a) p x ≡ header_ends_at (R b) p x
+  ends_agree : (p : List ℕ) (x : ℕ) (a b : Answers) → AnswersAgree most p a b →
+      header_ends_at (R a) p x ≡ header_ends_at (R b) p x
   unfolding header_ends_at tracked_after
-  ends_agree p x a b h = ap (λ (z : List HeaderEnd). if is_none (cut p).stop && nat_lt (length p) limit then z else []) (here (cut p).current)
+  ends_agree p x a b h = ap (λ (z : List HeaderEnd). if is_none (cut p).stop
+      && nat_lt (length p) limit then z else []) (here (cut p).current)
     where
-      here : (o : Option Message) → current_header_ends (R a) p o (x ∷ []) ≡ current_header_ends (R b) p o (x ∷ [])
+      here : (o : Option Message) → current_header_ends (R a) p o (x ∷ [])
+          ≡ current_header_ends (R b) p o (x ∷ [])
       here None = refl
       here (Some m) =
-          ap (λ (known : ℕ → Option (List ℕ)). owner_header_ends (record { still_open = open_after most p; known = known }) (owner_of_next (open_after most p) m) (x ∷ []))
+          ap (λ (known : ℕ → Option (List ℕ)).
+          owner_header_ends (record { still_open = open_after most p; known = known })
+          (owner_of_next (open_after most p) m) (x ∷ []))
           (known_agree C a b most p h)
 
   -- ---- the header that ends in the next octet
@@ -205,7 +237,8 @@ module _ (C : Table) (most : ℕ) where
   unfolding tracked_after
   ends_case a p x = by_stop (cut p).stop refl
     where
-      by_octets : (m : Message) (w : MessageKey) (s : List ℕ) → (cut p).stop ≡ None → length p < limit → (cut p).current ≡ Some m
+      by_octets : (m : Message) (w : MessageKey) (s : List ℕ) → (cut p).stop ≡ None →
+          length p < limit → (cut p).current ≡ Some m
           → owner_of_next (open_after most p) m ≡ Some w → octets_of (R a) p w.number ≡ Some s
           → header_ends_at (R a) p x ≡ header_ends w.number w.header s (x ∷ []) → Here a p x
       by_octets m w s free room current owner known is = elim (one_octet w.number w.header s x) [
@@ -230,25 +263,33 @@ module _ (C : Table) (most : ℕ) where
         ]
       ]
 
-      by_known : (m : Message) (w : MessageKey) → (cut p).stop ≡ None → length p < limit → (cut p).current ≡ Some m
+      by_known : (m : Message) (w : MessageKey) → (cut p).stop ≡ None → length p < limit →
+          (cut p).current ≡ Some m
           → owner_of_next (open_after most p) m ≡ Some w
           → header_ends_at (R a) p x ≡ run_header_ends w (octets_of (R a) p w.number) (x ∷ [])
           → (o : Option (List ℕ)) → octets_of (R a) p w.number ≡ o → Here a p x
-      by_known m w free room current owner is None e = inl (is ∙ ap (λ o. run_header_ends w o (x ∷ [])) e)
+      by_known m w free room current owner is None e =
+          inl (is ∙ ap (λ o. run_header_ends w o (x ∷ [])) e)
       by_known m w free room current owner is (Some s) e =
           by_octets m w s free room current owner e (is ∙ ap (λ o. run_header_ends w o (x ∷ [])) e)
 
       by_owner : (m : Message) → (cut p).stop ≡ None → length p < limit → (cut p).current ≡ Some m
-          → header_ends_at (R a) p x ≡ owner_header_ends (tracked_after (R a) p) (owner_of_next (open_after most p) m) (x ∷ [])
+          → header_ends_at (R a) p x ≡ owner_header_ends (tracked_after (R a) p)
+          (owner_of_next (open_after most p) m) (x ∷ [])
           → (o : Option MessageKey) → owner_of_next (open_after most p) m ≡ o → Here a p x
-      by_owner m free room current is None e = inl (is ∙ ap (λ o. owner_header_ends (tracked_after (R a) p) o (x ∷ [])) e)
+      by_owner m free room current is None e =
+          inl (is ∙ ap (λ o. owner_header_ends (tracked_after (R a) p) o (x ∷ [])) e)
       by_owner m free room current is (Some w) e =
-          by_known m w free room current e (is ∙ ap (λ o. owner_header_ends (tracked_after (R a) p) o (x ∷ [])) e) (octets_of (R a) p w.number) refl
+          by_known m w free room current e (is
+          ∙ ap (λ o. owner_header_ends (tracked_after (R a) p) o (x ∷ [])) e)
+          (octets_of (R a) p w.number) refl
 
-      by_current : (cut p).stop ≡ None → length p < limit → (o : Option Message) → (cut p).current ≡ o → Here a p x
+      by_current : (cut p).stop ≡ None → length p < limit → (o : Option Message) →
+          (cut p).current ≡ o → Here a p x
       by_current free room None e = inl (at_none (R a) p x e)
       by_current free room (Some m) e =
-          by_owner m free room e (at_free (R a) p x free room ∙ ap (λ o. current_header_ends (R a) p o (x ∷ [])) e)
+          by_owner m free room e (at_free (R a) p x free room
+          ∙ ap (λ o. current_header_ends (R a) p o (x ∷ [])) e)
           (owner_of_next (open_after most p) m) refl
 
       by_stop : (o : Option (ℕ × StreamFault)) → (cut p).stop ≡ o → Here a p x
@@ -265,26 +306,35 @@ module _ (C : Table) (most : ℕ) where
     joined_then =
         let causal = is_causal (λ number. signatures_of C (a number)) in
         let room = h.room in
-        let grown = paid_events (R a) causal (in_turn C a) p x (sound (R a) causal (in_turn C a) p) (cut p).whole h.m (cut p).held
-        (parts_by (cut p) (Some h.m) None h.current h.free) (within_limit (length p) (omega (arith, room))) in
+        let grown = paid_events (R a) causal (in_turn C a) p x (sound (R a) causal (in_turn C a) p)
+        (cut p).whole h.m (cut p).held
+        (parts_by (cut p) (Some h.m) None h.current h.free)
+        (within_limit (length p) (omega (arith, room))) in
         let owner = owner_next (open_after most p) h.m x ∙ h.owner in
         ap (joined h.w.number) grown
-        ∙ (joined_append h.w.number (events most p) (events_of_octet most (open_after most p) (with_octet h.m x))
-        ∙ rw (octets_are (R a) p h.w.number h.s h.known, owner_takes most (open_after most p) h.m x h.w owner) refl)
+        ∙ (joined_append h.w.number (events most p)
+        (events_of_octet most (open_after most p) (with_octet h.m x))
+        ∙ rw (
+          octets_are (R a) p h.w.number h.s h.known,
+          owner_takes most (open_after most p) h.m x h.w owner,
+        ) refl)
 
     -- answers that agree behind the octet agree for it
     agree_for : (b c : Answers) → AnswersAgree most (p ++ x ∷ []) b c → b h.w.number ≡ c h.w.number
-    agree_for b c agree = go (of_owner (AgreeAt (p ++ x ∷ []) b c) most p h.m h.w h.current h.owner front)
+    agree_for b c agree = go (of_owner (AgreeAt (p ++ x ∷ []) b c) most p h.m h.w h.current h.owner
+        front)
       where
         front : Each (λ e. AgreeAt (p ++ x ∷ []) b c e.subject) (events most p)
         front =
             let more = more_events a p x in
             (each_parts (λ e. AgreeAt (p ++ x ∷ []) b c e.subject) (events most p) more.0
-            (subst (λ (es : List Event). Each (λ e. AgreeAt (p ++ x ∷ []) b c e.subject) es) more.1 agree)).0
+            (subst (λ (es : List Event). Each (λ e. AgreeAt (p ++ x ∷ []) b c e.subject) es) more.1
+            agree)).0
 
         go : AgreeAt (p ++ x ∷ []) b c h.w → b h.w.number ≡ c h.w.number
         go (inl k) = k
-        go (inr k) = absurd (let no : None ≡ Some h.n = sym k ∙ (ap (header_noted h.w.header) joined_then ∙ h.now) in cc)
+        go (inr k) = absurd (let no : None ≡ Some h.n =
+            sym k ∙ (ap (header_noted h.w.header) joined_then ∙ h.now) in cc)
 
     -- another answer for it makes no difference before it
     abbrev put : Answer → Answers
@@ -292,20 +342,25 @@ module _ (C : Table) (most : ℕ) where
 
     agree_put : (answer : Answer) → AnswersAgree most p a (put answer)
     agree_put answer =
-        each_weaker (λ e. header_of_number (messages (cut p)) e.subject.number ≡ Some e.subject.header)
+        each_weaker (λ e. header_of_number (messages (cut p)) e.subject.number
+        ≡ Some e.subject.header)
         (λ e. AgreeAt p a (put answer) e.subject)
         (λ e k. go e k (e.subject.number == h.w.number) refl) (events most p) (one_header most p)
       where
         of_w : header_of_number (messages (cut p)) h.w.number ≡ Some h.w.header
-        of_w = of_owner (λ w. header_of_number (messages (cut p)) w.number ≡ Some w.header) most p h.m h.w h.current h.owner (one_header most p)
+        of_w = of_owner (λ w. header_of_number (messages (cut p)) w.number ≡ Some w.header) most p
+            h.m h.w h.current h.owner (one_header most p)
 
-        go : (e : Event) → header_of_number (messages (cut p)) e.subject.number ≡ Some e.subject.header → (b : Bool) → (e.subject.number == h.w.number) ≡ b
-            → (a e.subject.number ≡ (if e.subject.number == h.w.number then answer else a e.subject.number))
+        go : (e : Event) → header_of_number (messages (cut p)) e.subject.number
+            ≡ Some e.subject.header → (b : Bool) → (e.subject.number == h.w.number) ≡ b
+            → (a e.subject.number ≡ (if e.subject.number == h.w.number then answer else a
+            e.subject.number))
             ⊎ (header_noted e.subject.header (joined e.subject.number (events most p)) ≡ None)
         go e k false is = inl (rw is refl)
         go e k true is =
             let number = eqb-true e.subject.number h.w.number is in
-            let both : Some e.subject.header ≡ Some h.w.header = sym k ∙ (ap (header_of_number (messages (cut p))) number ∙ of_w) in
+            let both : Some e.subject.header ≡ Some h.w.header =
+            sym k ∙ (ap (header_of_number (messages (cut p))) number ∙ of_w) in
             let header : e.subject.header ≡ h.w.header = cc in
             inr (rw (header, number, octets_are (R a) p h.w.number h.s h.known) h.before)
 
@@ -313,7 +368,8 @@ module _ (C : Table) (most : ℕ) where
 
   module _ {St : Type 0} (answer : St → Answer) (notified : St → CallEvent → St) where
     abbrev GoesOn : Answers → List ℕ → List ℕ → St → Type 0
-    GoesOn a p q st = (b : Answers) × AnswersAgree most p a b × AgreesAtEnds answer notified C st b (header_ends_from (R b) p q)
+    GoesOn a p q st = (b : Answers) × AnswersAgree most p a b
+        × AgreesAtEnds answer notified C st b (header_ends_from (R b) p q)
 
     pub goes_on : (q p : List ℕ) (a : Answers) (st : St) → GoesOn a p q st
     unfolding header_ends_from
@@ -323,24 +379,46 @@ module _ (C : Table) (most : ℕ) where
           let more = goes_on q (p ++ x ∷ []) a st in
           let b = more.0 in
           let agree = agree_back p x a b more.1 in
-          let ends : header_ends_at (R b) p x ≡ [] = sym (ends_agree p x a b agree) ∙ none in
-          (b, agree, subst (λ (es : List HeaderEnd). AgreesAtEnds answer notified C st b (es ++ header_ends_from (R b) (p ++ x ∷ []) q)) (sym ends) more.2)
+          let ends : header_ends_at (R b) p x ≡ [] = sym (ends_agree p x a b agree) ∙ none in (
+            b,
+            agree,
+            subst (λ (es : List HeaderEnd).
+                AgreesAtEnds answer notified C st b (es ++ header_ends_from (R b) (p ++ x ∷ []) q))
+                (sym ends) more.2,
+          )
       | inr some ↦ elim some [
         | inl h ↦
             let e = Header_end h.w.number h.w.header h.n in
             let now = put a p x h (answer st) in
             let more = goes_on q (p ++ x ∷ []) now (after_event notified st (call_event C e)) in
             let b = more.0 in
-            let agree = agree_both p a now b (agree_put a p x h (answer st)) (agree_back p x now b more.1) in
-            let ends : header_ends_at (R b) p x ≡ e ∷ [] = sym (ends_agree p x a b agree) ∙ h.ends in
-            let here : b h.w.number ≡ answer st = sym (agree_for a p x h now b more.1) ∙ rw (eq-eqb h.w.number h.w.number refl) refl in
-            (b, agree, subst (λ (es : List HeaderEnd). AgreesAtEnds answer notified C st b (es ++ header_ends_from (R b) (p ++ x ∷ []) q)) (sym ends) (here, more.2))
+            let agree = agree_both p a now b (agree_put a p x h (answer st))
+            (agree_back p x now b more.1) in
+            let ends : header_ends_at (R b) p x ≡ e ∷ [] =
+            sym (ends_agree p x a b agree) ∙ h.ends in
+            let here : b h.w.number ≡ answer st =
+            sym (agree_for a p x h now b more.1)
+            ∙ rw (eq-eqb h.w.number h.w.number refl) refl in (
+              b,
+              agree,
+              subst (λ (es : List HeaderEnd).
+                  AgreesAtEnds answer notified C st b
+                  (es ++ header_ends_from (R b) (p ++ x ∷ []) q))
+                  (sym ends) (here, more.2),
+            )
         | inr h ↦
             let e = Exception_end h.number h.name in
             let more = goes_on q (p ++ x ∷ []) a (after_event notified st (call_event C e)) in
             let b = more.0 in
             let agree = agree_back p x a b more.1 in
-            let ends : header_ends_at (R b) p x ≡ e ∷ [] = sym (ends_agree p x a b agree) ∙ h.ends in
-            (b, agree, subst (λ (es : List HeaderEnd). AgreesAtEnds answer notified C st b (es ++ header_ends_from (R b) (p ++ x ∷ []) q)) (sym ends) (tt, more.2))
+            let ends : header_ends_at (R b) p x ≡ e ∷ [] =
+            sym (ends_agree p x a b agree) ∙ h.ends in (
+              b,
+              agree,
+              subst (λ (es : List HeaderEnd).
+                  AgreesAtEnds answer notified C st b
+                  (es ++ header_ends_from (R b) (p ++ x ∷ []) q))
+                  (sym ends) (tt, more.2),
+            )
       ]
     ]

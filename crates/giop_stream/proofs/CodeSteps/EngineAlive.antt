@@ -1,4 +1,5 @@
--- The invariants of every stream, by induction on its octets: those of `Soundness`, and that a message which begins with its
+-- The invariants of every stream, by induction on its octets: those of `Soundness`, and that a
+-- message which begins with its
 -- request id is not over before that is complete.
 use Rattle.std.proofs.Common.{inl, inr, ◌⊎◌, ◌≡◌, ℕ, suc, ◌-◌, ◌<◌, ◌≤◌, true, List, [], ◌∷◌, ◌++◌, length, get_or, refl, sym, ap, ◌∙◌, Some, None, arith, append-nil}
 use Rattle.std.specs.List.{AllByRecursion as Each}
@@ -26,45 +27,89 @@ known_is : (R : Rules) (p : List ℕ) (i : ℕ) → (tracked_after R p).known i 
 unfolding tracked_after
 known_is R p i = refl
 
-module _ (R : Rules) (laws : IsStreamable R.reading) (p : List ℕ) (x : ℕ) (sound : IsSound R p) (alive : IsAlive R p) where
+module _ (R : Rules) (laws : IsStreamable R.reading) (p : List ℕ) (x : ℕ) (sound : IsSound R p)
+    (alive : IsAlive R p) where
   -- what is kept of m after the octet
-  kept_now : (m : Message) → (cut p).stop ≡ None → length m.payload ≤ size m.header → length m.payload < size m.header → m.number ≡ suc (length (cut p).whole) → has_name m.header ≡ true → length m.payload < 4
-      → (((cut p).current ≡ None) × (m.payload ≡ [])) ⊎ ((was : Message) × ((cut p).current ≡ Some was) × (m ≡ with_octet was x)) → (effects R.reading (tracked_after R p) (events_of_octet R.most (open_after R.most p) m)).tracked.known m.number ≡ Some m.payload
+  kept_now : (m : Message) → (cut p).stop ≡ None → length m.payload ≤ size m.header →
+      length m.payload < size m.header → m.number ≡ suc (length (cut p).whole) →
+      has_name m.header ≡ true → length m.payload < 4
+      → (((cut p).current ≡ None) × (m.payload ≡ []))
+      ⊎ ((was : Message) × ((cut p).current ≡ Some was) × (m ≡ with_octet was x)) →
+      (effects R.reading (tracked_after R p)
+      (events_of_octet R.most (open_after R.most p) m)).tracked.known m.number ≡ Some m.payload
   unfolding messages
   kept_now m st fits lacks number name few (inl (cur, none)) =
       let free : length m.payload ≡ 0 = ap length none in
-      let count : length (messages (cut p)) ≡ length (cut p).whole = rw cur (ap length (append-nil (cut p).whole)) in
-      let known : octets_of R p m.number ≡ Some [] = sound.unknown m.number (omega (arith, count, number)) in
+      let count : length (messages (cut p)) ≡ length (cut p).whole =
+      rw cur (ap length (append-nil (cut p).whole)) in
+      let known : octets_of R p m.number ≡ Some [] =
+      sound.unknown m.number (omega (arith, count, number)) in
       let some : 0 < size m.header = omega (arith, lacks, free) in
-      let stepped : effects R.reading (tracked_after R p) (events_of_octet R.most (open_after R.most p) m) ≡ record { tracked = tracked_after R p; lines = starts m ∷ [] } = rw (first_octet R.most (open_after R.most p) m free some) (header_begins R.reading (tracked_after R p) m [] (known_is R p m.number ∙ known) (named_accepted m.header name)) in
-      ap (λ (q : Effect). q.tracked.known m.number) stepped ∙ (known_is R p m.number ∙ (known ∙ ap Some (sym none)))
-  kept_now m st fits lacks number name few (inr (was, cur, is)) = rw is (next was cur (rw is at name) (rw is at few) (rw is at lacks))
+      let stepped : effects R.reading (tracked_after R p)
+      (events_of_octet R.most (open_after R.most p) m) ≡
+      record { tracked = tracked_after R p; lines = starts m ∷ [] } =
+      rw (first_octet R.most (open_after R.most p) m free some)
+      (header_begins R.reading (tracked_after R p) m [] (known_is R p m.number ∙ known)
+      (named_accepted m.header name)) in
+      ap (λ (q : Effect). q.tracked.known m.number) stepped
+      ∙ (known_is R p m.number ∙ (known ∙ ap Some (sym none)))
+  kept_now m st fits lacks number name few (inr (was, cur, is)) =
+      rw is (next was cur (rw is at name) (rw is at few) (rw is at lacks))
     where
-      next : (was : Message) → (cut p).current ≡ Some was → has_name was.header ≡ true → length (was.payload ++ x ∷ []) < 4 → length (was.payload ++ x ∷ []) < size was.header → (effects R.reading (tracked_after R p) (events_of_octet R.most (open_after R.most p) (with_octet was x))).tracked.known was.number ≡ Some (was.payload ++ x ∷ [])
+      next : (was : Message) → (cut p).current ≡ Some was → has_name was.header ≡ true →
+          length (was.payload ++ x ∷ []) < 4 → length (was.payload ++ x ∷ []) < size was.header →
+          (effects R.reading (tracked_after R p)
+          (events_of_octet R.most (open_after R.most p) (with_octet was x))).tracked.known
+          was.number ≡ Some (was.payload ++ x ∷ [])
       next was cur name few lacks =
           let m = with_octet was x in
           let long = length_push was.payload x in
-          let known : octets_of R p was.number ≡ Some was.payload = alive st was cur name (omega (arith, few, long)) in
-          let last : get_or m.payload (length m.payload - 1) 0 ≡ x = get_or_push was.payload x 0 (length m.payload - 1) (omega (arith, long)) in
+          let known : octets_of R p was.number ≡ Some was.payload =
+          alive st was cur name (omega (arith, few, long)) in
+          let last : get_or m.payload (length m.payload - 1) 0 ≡ x =
+          get_or_push was.payload x 0 (length m.payload - 1) (omega (arith, long)) in
           let e : Event = record { place = place m; subject = message_key was; what = Takes x } in
-          let stepped : effects R.reading (tracked_after R p) (events_of_octet R.most (open_after R.most p) m) ≡ one_effect R.reading (tracked_after R p) (place m) (message_key was) (Takes x) = rw (early_octet R.most (open_after R.most p) m (omega (arith, long)) few lacks, octet_own R.reading (tracked_after R p) (open_after R.most p) m (not_past m (omega (arith, few))), last) refl in
-          ap (λ (q : Effect). q.tracked.known was.number) stepped ∙ (own_then R.reading (tracked_after R p) e ∙ (ap (octets_then R.reading e) (known_is R p was.number ∙ known) ∙ named_then R.reading laws (place m) (message_key was) was.payload x name (omega (arith, few, long))))
+          let stepped : effects R.reading (tracked_after R p)
+          (events_of_octet R.most (open_after R.most p) m)
+          ≡ one_effect R.reading (tracked_after R p) (place m) (message_key was) (Takes x) =
+          rw (
+            early_octet R.most (open_after R.most p) m (omega (arith, long)) few lacks,
+            octet_own R.reading (tracked_after R p) (open_after R.most p) m
+                (not_past m (omega (arith, few))),
+            last,
+          ) refl in
+          ap (λ (q : Effect). q.tracked.known was.number) stepped
+          ∙ (own_then R.reading (tracked_after R p) e
+          ∙ (ap (octets_then R.reading e) (known_is R p was.number ∙ known)
+          ∙ named_then R.reading laws (place m) (message_key was) was.payload x name
+          (omega (arith, few, long))))
 
   pub alive_then : (o : Octet) → Then R p x o → IsAlive R (p ++ x ∷ [])
   unfolding stopped_at of_parts
-  alive_then AfterStop h st m cur name few = absurd (let no : Some h.0 ≡ None = sym h.1 ∙ (ap (λ (c : Cut). c.stop) (sym h.2.cut_is) ∙ st) in cc)
-  alive_then (Ends fault) h st m cur name few = absurd (let no : Some (suc (length p), fault) ≡ None = ap (λ (c : Cut). c.stop) (sym h.1.cut_is) ∙ st in cc)
-  alive_then (Held front) h st m cur name few = absurd (let no : None ≡ Some m = ap (λ (c : Cut). c.current) (sym h.2.cut_is) ∙ cur in cc)
+  alive_then AfterStop h st m cur name few =
+      absurd (let no : Some h.0 ≡ None = sym h.1
+      ∙ (ap (λ (c : Cut). c.stop) (sym h.2.cut_is) ∙ st) in cc)
+  alive_then (Ends fault) h st m cur name few =
+      absurd (let no : Some (suc (length p), fault) ≡ None =
+      ap (λ (c : Cut). c.stop) (sym h.1.cut_is) ∙ st in cc)
+  alive_then (Held front) h st m cur name few =
+      absurd (let no : None ≡ Some m = ap (λ (c : Cut). c.current) (sym h.2.cut_is) ∙ cur in cc)
   alive_then (Of now) h st m cur name few =
       let one = h.1 in
       let adds = one.adds in
-      let s = settled_is (cut p).whole one.m m (ap (λ (c : Cut). c.current) (sym adds.cut_is) ∙ cur) in
+      let s = settled_is (cut p).whole one.m m (ap (λ (c : Cut). c.current) (sym adds.cut_is) ∙ cur)
+      in
       let same = s.same in
-      let name' : has_name one.m.header ≡ true = ap (λ (n : Message). has_name n.header) (sym same) ∙ name in
-      let few' : length one.m.payload < 4 = omega (arith, few, ap (λ (n : Message). length n.payload) same) in
+      let name' : has_name one.m.header ≡ true =
+      ap (λ (n : Message). has_name n.header) (sym same) ∙ name in
+      let few' : length one.m.payload < 4 =
+      omega (arith, few, ap (λ (n : Message). length n.payload) same) in
       sym (known_is R (p ++ x ∷ []) m.number)
       ∙ (ap (λ (c : Tracked). c.known m.number) adds.tracked_after
-      ∙ (ap (λ (n : Message). (effects R.reading (tracked_after R p) (events_of_octet R.most (open_after R.most p) one.m)).tracked.known n.number) same ∙ (kept_now one.m h.0 one.fits s.lacks one.number_is name' few' one.from ∙ ap (λ (n : Message). Some n.payload) (sym same))))
+      ∙ (ap (λ (n : Message). (effects R.reading (tracked_after R p)
+      (events_of_octet R.most (open_after R.most p) one.m)).tracked.known n.number) same
+      ∙ (kept_now one.m h.0 one.fits s.lacks one.number_is name' few' one.from
+      ∙ ap (λ (n : Message). Some n.payload) (sym same))))
 
 -- ---- The invariants, for every stream.
 
@@ -78,9 +123,14 @@ record IsKept (R : Rules) (p : List ℕ) : Type 0 where
   alive : IsAlive R p
 
 kept : (R : Rules) → IsCausal R.reading → IsStreamable R.reading → (p : List ℕ) → IsKept R p
-kept R causal laws = by_growth (IsKept R) (record { sound = sound_start R; alive = alive_start R }) (λ p x h.
+kept R causal laws = by_growth (IsKept R) (record { sound = sound_start R; alive = alive_start R })
+    (λ p x h.
     let octet = then_is R causal laws p x h.sound in
-    record { sound = sound_by R p x (octet_of (cut p) (length p) x) octet; alive = alive_then R laws p x h.sound h.alive (octet_of (cut p) (length p) x) octet })
+    record {
+      sound = sound_by R p x (octet_of (cut p) (length p) x) octet;
+      alive =
+          alive_then R laws p x h.sound h.alive (octet_of (cut p) (length p) x) octet;
+    })
 
 pub sound : (R : Rules) → IsCausal R.reading → IsStreamable R.reading → (p : List ℕ) → IsSound R p
 sound R causal laws p = (kept R causal laws p).sound
@@ -88,7 +138,8 @@ sound R causal laws p = (kept R causal laws p).sound
 pub alive : (R : Rules) → IsCausal R.reading → IsStreamable R.reading → (p : List ℕ) → IsAlive R p
 alive R causal laws p = (kept R causal laws p).alive
 
--- ---- What does not depend on the reader of messages, shown with one that gives no lines but an end.
+-- ---- What does not depend on the reader of messages, shown with one that gives no lines but an
+-- end.
 
 mute : MessageReader
 mute = record { reads = λ number header xs. []; closes = λ number header xs. (End, []) ∷ [] }
@@ -105,7 +156,12 @@ unfolding mute
 silent_streamable = record {
   named = record { named = λ number header xs name few. tt };
   ordered = record { ordered = λ number header xs k. inl refl };
-  closing = record { closed = λ number header xs. inr (inl refl); over = λ number header xs x no. absurd cc; one_rest = λ number header xs x no. absurd cc };
+  closing = record {
+    closed = λ number header xs. inr (inl refl);
+    over =
+        λ number header xs x no. absurd cc;
+    one_rest = λ number header xs x no. absurd cc;
+  };
 }
 
 pub few_open : (most : ℕ) (p : List ℕ) → length (open_after most p) ≤ most

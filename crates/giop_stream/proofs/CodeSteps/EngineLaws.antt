@@ -1,4 +1,5 @@
--- The state of a stream is the fresh state stepped by each octet, and gives what is written at the finish.
+-- The state of a stream is the fresh state stepped by each octet, and gives what is written at the
+-- finish.
 use Rattle.std.proofs.Common.{◌≡◌, ℕ, Bool, true, List, [], ◌∷◌, ◌++◌, length, refl, sym, ap, append_assoc, Option, Some, None, arith}
 use Rattle.std.specs.Prelude.{◌&&◌, nat_lt, is_none, IfSome}
 use Rattle.std.proofs.lemmas.Bool.{lt-ltb}
@@ -23,7 +24,8 @@ use Rattle.giop_stream.proofs.CodeSteps.EngineAlive.{sound, alive}
 use Rattle.giop_stream.proofs.CodeSteps.EngineStep.{steps}
 use Rattle.giop_stream.proofs.CodeSteps.NextOctet.{Steps}
 
-stepped : (R : Rules) → IsCausal R.reading → IsStreamable R.reading → (p : List ℕ) (x : ℕ) → Steps R p (p ++ x ∷ []) (step R (state_of R p) x)
+stepped : (R : Rules) → IsCausal R.reading → IsStreamable R.reading → (p : List ℕ) (x : ℕ) →
+    Steps R p (p ++ x ∷ []) (step R (state_of R p) x)
 stepped R causal laws p x = steps R causal laws p x (sound R causal laws p) (alive R causal laws p)
 
 -- ---- The states and the lines, octet by octet.
@@ -32,13 +34,16 @@ pub start_is : (R : Rules) → state_of R [] ≡ fresh
 unfolding state_of fresh tally of_parts slots_of read_of start_count fault_count
 start_is R = rw (state_of, tally, cut_nothing, open_nothing R.most, lines_nothing R) refl
 
-pub step_state : (R : Rules) → IsCausal R.reading → IsStreamable R.reading → (p : List ℕ) (x : ℕ) → state_of R (p ++ x ∷ []) ≡ (step R (state_of R p) x).state
+pub step_state : (R : Rules) → IsCausal R.reading → IsStreamable R.reading → (p : List ℕ) (x : ℕ) →
+    state_of R (p ++ x ∷ []) ≡ (step R (state_of R p) x).state
 step_state R causal laws p x = (stepped R causal laws p x).state
 
-pub step_lines : (R : Rules) → IsCausal R.reading → IsStreamable R.reading → (p : List ℕ) (x : ℕ) → lines R (p ++ x ∷ []) ≡ lines R p ++ (step R (state_of R p) x).lines
+pub step_lines : (R : Rules) → IsCausal R.reading → IsStreamable R.reading → (p : List ℕ) (x : ℕ) →
+    lines R (p ++ x ∷ []) ≡ lines R p ++ (step R (state_of R p) x).lines
 step_lines R causal laws p x = (stepped R causal laws p x).lines
 
-pub run_lines : (R : Rules) → IsCausal R.reading → IsStreamable R.reading → (p q : List ℕ) → lines R (p ++ q) ≡ lines R p ++ run R (state_of R p) q
+pub run_lines : (R : Rules) → IsCausal R.reading → IsStreamable R.reading → (p q : List ℕ) →
+    lines R (p ++ q) ≡ lines R p ++ run R (state_of R p) q
 unfolding run
 run_lines R causal laws p [] = rw (append-nil p) (sym (append-nil (lines R p)))
 run_lines R causal laws p (x ∷ q) =
@@ -49,16 +54,24 @@ run_lines R causal laws p (x ∷ q) =
       step_lines R causal laws p x,
       step_state R causal laws p x,
     )
-    (append_assoc (lines R p) (step R (state_of R p) x).lines (run R (step R (state_of R p) x).state q))
+    (append_assoc (lines R p) (step R (state_of R p) x).lines
+    (run R (step R (state_of R p) x).state q))
 
-pub run_holds : (R : Rules) → IsCausal R.reading → IsStreamable R.reading → (p q : List ℕ) → state_of R (p ++ q) ≡ run_state R (state_of R p) q
+pub run_holds : (R : Rules) → IsCausal R.reading → IsStreamable R.reading → (p q : List ℕ) →
+    state_of R (p ++ q) ≡ run_state R (state_of R p) q
 unfolding run_state
 run_holds R causal laws p [] = rw (append-nil p) refl
-run_holds R causal laws p (x ∷ q) = rw (← append_assoc p (x ∷ []) q, run_holds R causal laws (p ++ x ∷ []) q, step_state R causal laws p x) refl
+run_holds R causal laws p (x ∷ q) = rw (
+  ← append_assoc p (x ∷ []) q,
+  run_holds R causal laws (p ++ x ∷ []) q,
+  step_state R causal laws p x,
+) refl
 
-pub run_text : (R : Rules) → IsCausal R.reading → IsStreamable R.reading → (p q : List ℕ) → text R (p ++ q) ≡ text R p ++ lines_text (run R (state_of R p) q)
+pub run_text : (R : Rules) → IsCausal R.reading → IsStreamable R.reading → (p q : List ℕ) →
+    text R (p ++ q) ≡ text R p ++ lines_text (run R (state_of R p) q)
 unfolding text lines_text
-run_text R causal laws p q = rw (run_lines R causal laws p q) (flat_map-append line_text (lines R p) (run R (state_of R p) q))
+run_text R causal laws p q = rw (run_lines R causal laws p q)
+    (flat_map-append line_text (lines R p) (run R (state_of R p) q))
 
 pub stop_is : (R : Rules) (p : List ℕ) → (state_of R p).stop ≡ fault_of (cut p).stop
 unfolding state_of
@@ -68,30 +81,40 @@ stop_is R p = refl
 
 cut_short : (stop : Option (ℕ × StreamFault)) (current : Option Message) (held : List ℕ)
     → (stop ≡ None → IfSome current (λ m. length m.header ≡ 12))
-    → is_inside current held stop ≡ (is_none (fault_of stop) && nat_lt 0 (length (unless stop [] (header_of current held))))
+    → is_inside current held stop ≡ (is_none (fault_of stop)
+    && nat_lt 0 (length (unless stop [] (header_of current held))))
 unfolding is_inside
 cut_short (Some found) current held h = refl
-cut_short None (Some m) held h = let twelve = h refl in rw (lt-ltb 0 (length m.header) (omega (arith, twelve))) refl
+cut_short None (Some m) held h = let twelve = h refl in
+    rw (lt-ltb 0 (length m.header) (omega (arith, twelve))) refl
 cut_short None None held h = refl
 
-twelve_of : (n : ℕ) (c : Cut) (o : Option Message) → IfSome o (CurrentFits n c) → IfSome o (λ m. length m.header ≡ 12)
+twelve_of : (n : ℕ) (c : Cut) (o : Option Message) → IfSome o (CurrentFits n c) →
+    IfSome o (λ m. length m.header ≡ 12)
 twelve_of n c None h = tt
 twelve_of n c (Some m) h = h.twelve
 
-pub cut_short_is : (R : Rules) → IsCausal R.reading → IsStreamable R.reading → (p : List ℕ) → is_truncated (cut p) ≡ is_cut_short (state_of R p)
+pub cut_short_is : (R : Rules) → IsCausal R.reading → IsStreamable R.reading → (p : List ℕ) →
+    is_truncated (cut p) ≡ is_cut_short (state_of R p)
 unfolding is_truncated is_cut_short state_of
 cut_short_is R causal laws p =
-    cut_short (cut p).stop (cut p).current (cut p).held (λ free. twelve_of (length p) (cut p) (cut p).current ((sound R causal laws p).fits free).current)
+    cut_short (cut p).stop (cut p).current (cut p).held
+    (λ free. twelve_of (length p) (cut p) (cut p).current
+    ((sound R causal laws p).fits free).current)
 
-pub final_is : (R : Rules) → IsCausal R.reading → IsStreamable R.reading → (p : List ℕ) → final R p ≡ final_totals (state_of R p)
+pub final_is : (R : Rules) → IsCausal R.reading → IsStreamable R.reading → (p : List ℕ) →
+    final R p ≡ final_totals (state_of R p)
 unfolding final final_totals state_of
-final_is R causal laws p = ap (λ (b : Bool). with_truncated b (tally R p)) (cut_short_is R causal laws p)
+final_is R causal laws p = ap (λ (b : Bool). with_truncated b (tally R p))
+    (cut_short_is R causal laws p)
 
-read_short : (R : Rules) (p : List ℕ) → is_truncated (cut p) ≡ true → (state_of R p).totals.octets ≡ length p
+read_short : (R : Rules) (p : List ℕ) → is_truncated (cut p) ≡ true →
+    (state_of R p).totals.octets ≡ length p
 unfolding state_of tally is_truncated
 read_short R p h = read_by p (cut p) refl h
 
-pub finish_is : (R : Rules) → IsCausal R.reading → IsStreamable R.reading → IsEnding R.reading → (p : List ℕ) → closing R p ≡ finish (state_of R p)
+pub finish_is : (R : Rules) → IsCausal R.reading → IsStreamable R.reading → IsEnding R.reading →
+    (p : List ℕ) → closing R p ≡ finish (state_of R p)
 unfolding closing finish
 finish_is R causal laws ending p =
     let short = cut_short_is R causal laws p in

@@ -1,4 +1,5 @@
--- The last octet of a header and the request id of a Fragment that continues an open message: the stream with them, and that
+-- The last octet of a header and the request id of a Fragment that continues an open message: the
+-- stream with them, and that
 -- the code does their steps. They write the start, the request id, and what its last octet does.
 use Rattle.std.proofs.Common.{◌≡◌, ℕ, suc, ◌+◌, ◌^◌, ◌<◌, ◌≤◌, true, List, [], ◌∷◌, ◌++◌, length, take, refl, sym, ap, subst, ◌∙◌, append_assoc, append-nil, length-append, take_all, Option, Some, None, Result, arith}
 use Rattle.std.specs.Prelude.{◌==◌, OnOk}
@@ -78,7 +79,8 @@ unfolding refused
 fragment_stands header f = let is = fragment_is header f in rw (is.0, is.1) refl
 
 -- and the correspondent is told nothing of it
-fragment_tells : (C : Table) (number : ℕ) (header : List ℕ) (n : Noted) → kind header ≡ 7 → call_event C (Header_end number header n) ≡ None
+fragment_tells : (C : Table) (number : ℕ) (header : List ℕ) (n : Noted) → kind header ≡ 7 →
+    call_event C (Header_end number header n) ≡ None
 unfolding header_event
 fragment_tells C number header n seven = rw seven refl
 
@@ -87,13 +89,16 @@ module _ {St : Type 0} (notified : St → CallEvent → St) (C : Table) (st : St
       → after_ends notified C st (ends_between number header before now ++ []) ≡ st
   ends_tell number header (Some before) now seven = refl
   ends_tell number header None None seven = refl
-  ends_tell number header None (Some n) seven = ap (after_event notified st) (fragment_tells C number header n seven)
+  ends_tell number header None (Some n) seven =
+      ap (after_event notified st) (fragment_tells C number header n seven)
 
   fragment_told : (w : MessageKey) (o : Option (List ℕ)) (octets : List ℕ) → kind w.header ≡ 7
       → after_ends notified C st (run_header_ends w o octets) ≡ st
   unfolding header_ends raised
   fragment_told w None octets seven = refl
-  fragment_told w (Some xs) octets seven = rw seven (ends_tell w.number w.header (header_noted w.header xs) (header_noted w.header (xs ++ octets)) seven)
+  fragment_told w (Some xs) octets seven =
+      rw seven (ends_tell w.number w.header (header_noted w.header xs)
+      (header_noted w.header (xs ++ octets)) seven)
 
 -- ---- The octets of a request id before the last one.
 
@@ -103,7 +108,8 @@ record IsQuietRun (c : Tracked) (ran : Effect) : Type 0 where
   slots : slots_at ran.tracked ≡ slots_at c
 
 module _ (C : Table) (l : Answers) (w : MessageKey) (says : SaysId w.header) where
-  quiet_run : (q xs : List ℕ) (at : ℕ) (c : Tracked) → c.known w.number ≡ Some xs → length xs + length q ≤ 3 → IsNotOpen w.number c.still_open
+  quiet_run : (q xs : List ℕ) (at : ℕ) (c : Tracked) → c.known w.number ≡ Some xs →
+      length xs + length q ≤ 3 → IsNotOpen w.number c.still_open
       → IsQuietRun c (run_effect C l at c (Some w) q)
   unfolding run_effect tracked_at changed
   quiet_run [] xs at c known few apart = record { lines = refl; slots = refl }
@@ -115,17 +121,27 @@ module _ (C : Table) (l : Answers) (w : MessageKey) (says : SaysId w.header) whe
       ap (λ (o : Option (List ℕ)). lines_of (message_reader C l) e o) known
       ∙ (take_lines C l (suc at) w xs x ∙ ap (reader_lines (suc at) w.number) nothing) in
       let kept : one.tracked.known w.number ≡ Some (xs ++ x ∷ []) =
-      own_then (message_reader C l) c e ∙ rw known (then_by C l (suc at) w xs x ∙ rw nothing refl) in
-      let slots : slots_at one.tracked ≡ slots_at c = slots_stay (message_reader C l) c e refl apart in
-      let more = quiet_run q (xs ++ x ∷ []) (suc at) one.tracked kept (omega (arith, few, length_push xs x)) apart in
+      own_then (message_reader C l) c e ∙ rw known (then_by C l (suc at) w xs x ∙ rw nothing refl)
+      in
+      let slots : slots_at one.tracked ≡ slots_at c =
+      slots_stay (message_reader C l) c e refl apart in
+      let more = quiet_run q (xs ++ x ∷ []) (suc at) one.tracked kept
+      (omega (arith, few, length_push xs x)) apart in
       let ran = run_effect C l (suc at) one.tracked (Some w) q in
-      record { lines = ap (λ (ls : List Line). ls ++ ran.lines) silent ∙ more.lines; slots = more.slots ∙ slots }
+      record {
+        lines = ap (λ (ls : List Line). ls ++ ran.lines) silent ∙ more.lines;
+        slots =
+            more.slots ∙ slots;
+      }
 
 -- ---- The stream with these octets: x, the last one of a header, q and d, those of a request id.
 
-module _ (C : Table) (l : Answers) (most : ℕ) (p : List ℕ) (x : ℕ) (q : List ℕ) (d : ℕ) (free : (cut p).stop ≡ None)
-    (none : (cut p).current ≡ None) (three : length q ≡ 3) (full : length ((cut p).held ++ x ∷ []) ≡ 12)
-    (fragment : is_fragment ((cut p).held ++ x ∷ []) ≡ true) (sized : 4 ≤ size ((cut p).held ++ x ∷ []))
+module _ (C : Table) (l : Answers) (most : ℕ) (p : List ℕ) (x : ℕ) (q : List ℕ) (d : ℕ)
+    (free : (cut p).stop ≡ None)
+    (none : (cut p).current ≡ None) (three : length q ≡ 3)
+    (full : length ((cut p).held ++ x ∷ []) ≡ 12)
+    (fragment : is_fragment ((cut p).held ++ x ∷ []) ≡ true)
+    (sized : 4 ≤ size ((cut p).held ++ x ∷ []))
     (room : length p + 5 ≤ limit) where
   abbrev R : Rules
   R = rules_by C l most
@@ -158,20 +174,24 @@ module _ (C : Table) (l : Answers) (most : ℕ) (p : List ℕ) (x : ℕ) (q : Li
 
   first_adds : Adds R p p₁ (end_message (cut p).whole first) begun.lines begun.tracked
   unfolding tracked_after
-  first_adds = begins_is R causal (in_turn C l) p x so free none (le-ltb limit (suc (length p)) (omega (arith, room))) (right_at_twelve header full) full
+  first_adds = begins_is R causal (in_turn C l) p x so free none
+      (le-ltb limit (suc (length p)) (omega (arith, room))) (right_at_twelve header full) full
 
   -- it starts, and nothing else
   begun_is : begun ≡ record { tracked = c₀; lines = starts first ∷ [] }
   unfolding tracked_after end_events
   begun_is =
       in_two R c₀ first refl
-      ∙ (ap (λ (b : Effect). then_effect b (effects R.reading b.tracked (end_events b.tracked.still_open first))) header_is
-      ∙ ap (then_effect (record { tracked = c₀; lines = starts first ∷ [] })) (ap (effects R.reading c₀) goes ∙ effects_none R.reading c₀))
+      ∙ (ap (λ (b : Effect). then_effect b (effects R.reading b.tracked
+      (end_events b.tracked.still_open first))) header_is
+      ∙ ap (then_effect (record { tracked = c₀; lines = starts first ∷ [] }))
+      (ap (effects R.reading c₀) goes ∙ effects_none R.reading c₀))
     where
       known : c₀.known first.number ≡ Some []
       known = so.unknown (suc (length (cut p).whole)) (omega (arith, count))
 
-      header_is : effects R.reading c₀ (events_at_header first) ≡ record { tracked = c₀; lines = starts first ∷ [] }
+      header_is : effects R.reading c₀ (events_at_header first) ≡
+          record { tracked = c₀; lines = starts first ∷ [] }
       header_is = header_begins R.reading c₀ first [] known (fragment_stands header fragment)
 
       goes : end_events c₀.still_open first ≡ []
@@ -218,28 +238,34 @@ module _ (C : Table) (l : Answers) (most : ℕ) (p : List ℕ) (x : ℕ) (q : Li
   quiet =
       quiet_run C l (message_key first) (fragment_says header fragment) q [] (length p₁) c₀
       (so.unknown (suc (length (cut p).whole)) (omega (arith, count))) (omega (arith, three))
-      (each_weaker {A = Open} (λ o. o.opener.number ≤ length (messages (cut p))) (λ o. o.opener.number ≡ suc (length (cut p).whole) → ⊥)
+      (each_weaker {A = Open} (λ o. o.opener.number ≤ length (messages (cut p)))
+      (λ o. o.opener.number ≡ suc (length (cut p).whole) → ⊥)
       (λ o k same. omega (arith, k, same, count)) (open_after most p) so.numbers)
 
   pub same_slots : slots_at c₄ ≡ slots_at c₀
   same_slots =
-      ap slots_at (run.tracked_after ∙ (λ j. (run_effect C l (length p₁) (begun_tracked j) (own j) q).tracked)) ∙ quiet.slots
+      ap slots_at (run.tracked_after ∙ (λ j.
+      (run_effect C l (length p₁) (begun_tracked j) (own j) q).tracked)) ∙ quiet.slots
 
   pub started : lines R p₄ ≡ lines R p ++ starts first ∷ []
   started =
-      run.lines ∙ ((λ j. begun_lines j ++ (run_effect C l (length p₁) (begun_tracked j) (own j) q).lines)
-      ∙ (ap (λ (ls : List Line). (lines R p ++ starts first ∷ []) ++ ls) quiet.lines ∙ append-nil (lines R p ++ starts first ∷ [])))
+      run.lines ∙ ((λ j. begun_lines j ++ (run_effect C l (length p₁) (begun_tracked j) (own j)
+      q).lines)
+      ∙ (ap (λ (ls : List Line). (lines R p ++ starts first ∷ []) ++ ls) quiet.lines
+      ∙ append-nil (lines R p ++ starts first ∷ [])))
 
   so₄ : IsSound R p₄
   so₄ = sound R causal (in_turn C l) p₄
 
   pub fits : CurrentFits (length p₄) (cut p₄) m₄
-  fits = if_some (CurrentFits (length p₄) (cut p₄)) (cut p₄).current m₄ run.within.current (so₄.fits run.within.free).current
+  fits = if_some (CurrentFits (length p₄) (cut p₄)) (cut p₄).current m₄ run.within.current
+      (so₄.fits run.within.free).current
 
   pub many : length p₄ ≡ length p + 4
   many = omega (arith, length-append p₁ q, length_push p x, three)
 
-  pub before_last : (now : Current) → now.number ≡ suc (length (cut p).whole) → now.header ≡ header → now.place ≡ length p + 5
+  pub before_last : (now : Current) → now.number ≡ suc (length (cut p).whole) →
+      now.header ≡ header → now.place ≡ length p + 5
       → now.payload_count ≡ 4 → IsBeforeOctet c₄ m₄ now d
   unfolding tracked_after
   before_last now number head place_is payload_count = record {
@@ -250,8 +276,10 @@ module _ (C : Table) (l : Answers) (most : ℕ) (p : List ℕ) (x : ℕ) (q : Li
       place = omega (arith, place_more m₄ d (length p₄) fits.place_is, many, place_is);
     };
     payload_count = omega (arith, three, payload_count);
-    newest = if_some (λ m. length m.payload < 4 → IsNewest m.number (open_after most p₄)) (cut p₄).current m₄ run.within.current (so₄.early run.within.free);
-    alive = λ name less. alive R causal (in_turn C l) p₄ run.within.free m₄ run.within.current name less;
+    newest = if_some (λ m. length m.payload < 4 → IsNewest m.number (open_after most p₄))
+        (cut p₄).current m₄ run.within.current (so₄.early run.within.free);
+    alive = λ name less. alive R causal (in_turn C l) p₄ run.within.free m₄ run.within.current name
+        less;
     says = λ name. fragment_says header fragment;
   }
 
@@ -268,16 +296,19 @@ module _ (C : Table) (l : Answers) (most : ℕ) (p : List ℕ) (x : ℕ) (q : Li
   abbrev last_does : Effect
   last_does = effects R.reading c₄ (events_of_octet most c₄.still_open (with_octet m₄ d))
 
-  pub paid : Adds R p₄ (p₄ ++ d ∷ []) (end_message (cut p₄).whole (with_octet m₄ d)) last_does.lines last_does.tracked
+  pub paid : Adds R p₄ (p₄ ++ d ∷ []) (end_message (cut p₄).whole (with_octet m₄ d)) last_does.lines
+      last_does.tracked
   unfolding tracked_after
-  paid = paid_is R causal (in_turn C l) p₄ d so₄ m₄ run.within.free run.within.current (le-ltb limit (suc (length p₄)) (omega (arith, room, many)))
+  paid = paid_is R causal (in_turn C l) p₄ d so₄ m₄ run.within.free run.within.current
+      (le-ltb limit (suc (length p₄)) (omega (arith, room, many)))
 
   pub all_octets : p₄ ++ d ∷ [] ≡ p ++ (x ∷ (q ++ d ∷ []))
   all_octets = append_assoc p₁ q (d ∷ []) ∙ append_assoc p (x ∷ []) (q ++ d ∷ [])
 
   pub grows : lines R (p ++ (x ∷ (q ++ d ∷ []))) ≡ lines R p ++ all_do.lines
   grows =
-      ap (lines R) (sym all_octets) ∙ (paid.lines ∙ (ap (λ (ls : List Line). ls ++ last_does.lines) started
+      ap (lines R) (sym all_octets) ∙ (paid.lines
+      ∙ (ap (λ (ls : List Line). ls ++ last_does.lines) started
       ∙ append_assoc (lines R p) (starts first ∷ []) last_does.lines))
 
   -- the correspondent is told nothing
@@ -285,16 +316,23 @@ module _ (C : Table) (l : Answers) (most : ℕ) (p : List ℕ) (x : ℕ) (q : Li
       → after_ends notified C st (header_ends_from R p (x ∷ (q ++ d ∷ []))) ≡ st
   unfolding header_ends_from
   tells_none notified st =
-      let ends : header_ends_from R p₁ (q ++ d ∷ []) ≡ run_header_ends (message_key first) ((tracked_after R p₁).known first.number) (q ++ d ∷ []) =
+      let ends : header_ends_from R p₁ (q ++ d ∷ [])
+      ≡ run_header_ends (message_key first) ((tracked_after R p₁).known first.number)
+      (q ++ d ∷ []) =
       sym (run_from C l most q p₁ first d within (omega (arith, room, length_push p x, three)))
-      ∙ ap (λ (w : Option MessageKey). owner_header_ends (tracked_after R p₁) w (q ++ d ∷ [])) own in
-      ap (after_ends notified C st) (ap (λ (es : List HeaderEnd). es ++ header_ends_from R p₁ (q ++ d ∷ [])) (at_none R p x none) ∙ ends)
-      ∙ fragment_told notified C st (message_key first) ((tracked_after R p₁).known first.number) (q ++ d ∷ []) (fragment_is header fragment).1
+      ∙ ap (λ (w : Option MessageKey). owner_header_ends (tracked_after R p₁) w (q ++ d ∷ [])) own
+      in
+      ap (after_ends notified C st) (ap (λ (es : List HeaderEnd). es
+      ++ header_ends_from R p₁ (q ++ d ∷ [])) (at_none R p x none) ∙ ends)
+      ∙ fragment_told notified C st (message_key first) ((tracked_after R p₁).known first.number)
+      (q ++ d ∷ []) (fragment_is header fragment).1
 
 -- ---- By the fields.
 
-module _ (C : Table) (l : Answers) (most : ℕ) (s : State) (reached : IsReached C l most s) (m : FramingView) (h : Shows C l m s)
-    (octets : List ℕ) (found : Continuation) (free : m.stopped ≡ None) (room : m.totals.octets + 5 ≤ 2 ^ 48)
+module _ (C : Table) (l : Answers) (most : ℕ) (s : State) (reached : IsReached C l most s)
+    (m : FramingView) (h : Shows C l m s)
+    (octets : List ℕ) (found : Continuation) (free : m.stopped ≡ None)
+    (room : m.totals.octets + 5 ≤ 2 ^ 48)
     (is : IsContinuation m.header octets m.slots found) where
   abbrev R' : Rules
   R' = rules_by C l most
@@ -312,7 +350,8 @@ module _ (C : Table) (l : Answers) (most : ℕ) (s : State) (reached : IsReached
   no_message = no_current C l most s reached m h free (omega (arith, is.eleven))
 
   held : m.header ≡ (cut p).held
-  held = header_at C l most s reached m h free ∙ ap (λ (o : Option Message). header_of o (cut p).held) no_message
+  held = header_at C l most s reached m h free
+      ∙ ap (λ (o : Option Message). header_of o (cut p).held) no_message
 
   pub all_come : m.totals.octets ≡ length p
   all_come = all_read C l most s reached m h free
@@ -358,55 +397,84 @@ module _ (C : Table) (l : Answers) (most : ℕ) (s : State) (reached : IsReached
   abbrev pub effect : Effect
   effect = continuation_effect C l most tracked message d
 
-  pub is_before : (now : Current) → now.number ≡ m.totals.messages + 1 → now.header ≡ m.header ++ x ∷ [] → now.place ≡ m.totals.octets + 5
+  pub is_before : (now : Current) → now.number ≡ m.totals.messages + 1 → now.header ≡ m.header
+      ++ x ∷ [] → now.place ≡ m.totals.octets + 5
       → now.payload_count ≡ 4 → IsBeforeContinuation C l m.slots tracked message now d found
   is_before now number head place_is payload_count = record {
     keeps = owned_by_none C l m.slots (tracked_after R' p) tracked
         (same_slots C l most p x q d runs_free no_message three full fragment sized within_limit)
-        (subst (λ (o : Option Message). SlotsRepresent C l m.slots (tracked_after R' p) (owner_of_next_in (open_after most p) o)) no_message (knows_at C l most s reached m h free));
-    before = before_last C l most p x q d runs_free no_message three full fragment sized within_limit now
-        (omega (arith, number, messages_at C l most s reached m h, count C l most p x q d runs_free no_message three full fragment sized within_limit))
+        (subst (λ (o : Option Message). SlotsRepresent C l m.slots (tracked_after R' p)
+        (owner_of_next_in (open_after most p) o)) no_message
+        (knows_at C l most s reached m h free));
+    before = before_last C l most p x q d runs_free no_message three full fragment sized
+        within_limit now
+        (omega (
+          arith,
+          number,
+          messages_at C l most s reached m h,
+          count C l most p x q d runs_free no_message three full fragment sized within_limit,
+        ))
         (head ∙ header_as) (omega (arith, place_is, all_come)) payload_count;
     three = three;
     fragment = fragment;
     spells = id_is C l most p x q d runs_free no_message three full fragment sized within_limit
-        ∙ (ap (num (order ((cut p).held ++ x ∷ []))) (sym parts.1.1) ∙ (ap (λ (z : List ℕ). num (order z) is.id) (sym header_as) ∙ sym is.spells));
+        ∙ (ap (num (order ((cut p).held ++ x ∷ []))) (sym parts.1.1)
+        ∙ (ap (λ (z : List ℕ). num (order z) is.id) (sym header_as) ∙ sym is.spells));
     open_at = is.open_at;
   }
 
-  pub continuation_does : {A E : Type 0} (result : Result A E) (before after : OutLog) (f : FramingView)
-      → Writes result before after (lines_text effect.lines) → OnOk result (Shows C l f (state_of R' (p ++ octets)))
+  pub continuation_does : {A E : Type 0} (result : Result A E) (before after : OutLog)
+      (f : FramingView)
+      → Writes result before after (lines_text effect.lines) →
+      OnOk result (Shows C l f (state_of R' (p ++ octets)))
       → Does C l result before after f (runs R' s octets)
   continuation_does result before after f text shows =
       does_run C l most s reached m h octets effect.lines result before after f
-      (ap (λ (z : List ℕ). lines R' (p ++ z)) come ∙ grows C l most p x q d runs_free no_message three full fragment sized within_limit) text shows
+      (ap (λ (z : List ℕ). lines R' (p ++ z)) come
+      ∙ grows C l most p x q d runs_free no_message three full fragment sized within_limit) text
+      shows
 
-  pub continuation_shows : (b f : FramingView) (k : ℕ) → f ≡ settled b k → b.totals.messages ≡ m.totals.messages + 1
-      → b.totals.faults ≡ m.totals.faults + fault_count effect.lines → b.totals.octets ≡ m.totals.octets + 5
-      → b.stopped ≡ m.stopped → b.header ≡ m.header ++ x ∷ [] → b.payload_count ≡ 4 → k ≡ size (m.header ++ x ∷ [])
-      → SlotsRepresent C l b.slots effect.tracked (owner_after effect.tracked.still_open (with_octet message d))
+  pub continuation_shows : (b f : FramingView) (k : ℕ) → f ≡ settled b k →
+      b.totals.messages ≡ m.totals.messages + 1
+      → b.totals.faults ≡ m.totals.faults + fault_count effect.lines →
+      b.totals.octets ≡ m.totals.octets + 5
+      → b.stopped ≡ m.stopped → b.header ≡ m.header ++ x ∷ [] → b.payload_count ≡ 4 →
+      k ≡ size (m.header ++ x ∷ [])
+      → SlotsRepresent C l b.slots effect.tracked
+      (owner_after effect.tracked.still_open (with_octet message d))
       → Shows C l f (state_of R' (p ++ octets))
-  continuation_shows b f k settles messages_are faults_are octets_read stopped head payload_count size_is keeps =
+  continuation_shows b f k settles messages_are faults_are octets_read stopped head payload_count
+      size_is keeps =
       let p₄ = (p ++ x ∷ []) ++ q in
       let n = with_octet message d in
       let last = effects R'.reading tracked (events_of_octet most tracked.still_open n) in
-      let here = fits C l most p x q d runs_free no_message three full fragment sized within_limit in
+      let here = fits C l most p x q d runs_free no_message three full fragment sized within_limit
+      in
       let before : fault_count (lines R' p₄) ≡ fault_count (lines R' p) =
-      ap fault_count (started C l most p x q d runs_free no_message three full fragment sized within_limit)
+      ap fault_count (started C l most p x q d runs_free no_message three full fragment sized
+      within_limit)
       ∙ (count_append (lines R' p) (starts (with_payload message []) ∷ [])
       ∙ omega (arith, starts_faults (with_payload message []) [], no_faults)) in
-      let start : fault_count effect.lines ≡ fault_count last.lines = starts_faults (with_payload message []) last.lines in
-      let messages_before = count C l most p x q d runs_free no_message three full fragment sized within_limit in
-      let octets_before = many C l most p x q d runs_free no_message three full fragment sized within_limit in
+      let start : fault_count effect.lines ≡ fault_count last.lines =
+      starts_faults (with_payload message []) last.lines in
+      let messages_before = count C l most p x q d runs_free no_message three full fragment sized
+      within_limit in
+      let octets_before = many C l most p x q d runs_free no_message three full fragment sized
+      within_limit in
       subst (λ (z : List ℕ). Shows C l f (state_of R' z))
-      (all_octets C l most p x q d runs_free no_message three full fragment sized within_limit ∙ ap (λ (z : List ℕ). p ++ z) (sym come))
+      (all_octets C l most p x q d runs_free no_message three full fragment sized within_limit
+      ∙ ap (λ (z : List ℕ). p ++ z) (sym come))
       (settled_shows C l most p₄ d n (omega (arith, length_push q d, three, sized)) here.number_is
-      (paid C l most p x q d runs_free no_message three full fragment sized within_limit) b f k settles
-      (omega (arith, messages_are, messages_at C l most s reached m h, messages_before)) (omega (arith, faults_are, faults_at C l most s reached m h, before, start))
+      (paid C l most p x q d runs_free no_message three full fragment sized within_limit) b f k
+      settles
+      (omega (arith, messages_are, messages_at C l most s reached m h, messages_before))
+      (omega (arith, faults_are, faults_at C l most s reached m h, before, start))
       (omega (arith, octets_read, all_come, octets_before)) (stopped ∙ free) (head ∙ header_as)
       (omega (arith, payload_count, length_push q d, three)) (size_is ∙ ap size header_as) keeps)
 
-  pub continuation_told : {St : Type 0} (notified : St → CallEvent → St) (st : St) → after_ends notified C st (header_ends_from R' p octets) ≡ st
+  pub continuation_told : {St : Type 0} (notified : St → CallEvent → St) (st : St) →
+      after_ends notified C st (header_ends_from R' p octets) ≡ st
   continuation_told notified st =
       ap (λ (z : List ℕ). after_ends notified C st (header_ends_from R' p z)) come
-      ∙ tells_none C l most p x q d runs_free no_message three full fragment sized within_limit notified st
+      ∙ tells_none C l most p x q d runs_free no_message three full fragment sized within_limit
+      notified st

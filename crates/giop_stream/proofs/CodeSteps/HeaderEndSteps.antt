@@ -39,7 +39,8 @@ use Rattle.giop_stream.proofs.CodeSteps.MessageOctets.{runs_on, all_read, header
 
 -- ---- a result
 
-pub if_ok_weaker : {A E : Type 0} {P Q : A → Type 0} (r : Result A E) → ((x : A) → P x → Q x) → IfOk r P → IfOk r Q
+pub if_ok_weaker : {A E : Type 0} {P Q : A → Type 0} (r : Result A E) → ((x : A) → P x → Q x) →
+    IfOk r P → IfOk r Q
 if_ok_weaker (Ok x) f h = f x h
 if_ok_weaker (Err e) f h = h
 
@@ -53,25 +54,30 @@ none_first (x ∷ xs) e = absurd (let no : None ≡ Some x = e in cc)
 
 -- ---- one message
 
-pub none_told : {St : Type 0} (notified : St → CallEvent → St) (C : Table) (a : Answers) (st : St) (w : MessageKey) (o : Option (List ℕ)) (octets : List ℕ)
+pub none_told : {St : Type 0} (notified : St → CallEvent → St) (C : Table) (a : Answers) (st : St)
+    (w : MessageKey) (o : Option (List ℕ)) (octets : List ℕ)
     → RepresentsMessage C a None w o → st ≡ after_ends notified C st (run_header_ends w o octets)
 none_told notified C a st w None octets k = refl
 none_told notified C a st w (Some s) octets k = absurd k
 
-pub none_told_after : (C : Table) (a : Answers) (w : MessageKey) (o : Option (List ℕ)) → RepresentsMessage C a None w o → None ≡ reply_told_after C a w o
+pub none_told_after : (C : Table) (a : Answers) (w : MessageKey) (o : Option (List ℕ)) →
+    RepresentsMessage C a None w o → None ≡ reply_told_after C a w o
 none_told_after C a w None k = refl
 none_told_after C a w (Some s) k = absurd k
 
-pub given_told : {St : Type 0} (notified : St → CallEvent → St) (C : Table) (a : Answers) (st now : St) (m : CodeMessage) (w : MessageKey)
+pub given_told : {St : Type 0} (notified : St → CallEvent → St) (C : Table) (a : Answers)
+    (st now : St) (m : CodeMessage) (w : MessageKey)
     (o : Option (List ℕ)) (octets : List ℕ) → RepresentsMessage C a (Some m) w o
-    → ((s : List ℕ) → o ≡ Some s → Follows C a w.number w.header m s → now ≡ after_ends notified C st (header_ends w.number w.header s octets))
+    → ((s : List ℕ) → o ≡ Some s → Follows C a w.number w.header m s →
+    now ≡ after_ends notified C st (header_ends w.number w.header s octets))
     → now ≡ after_ends notified C st (run_header_ends w o octets)
 given_told notified C a st now m w (Some s) octets k f = f s refl k
 given_told notified C a st now m w None octets k f = absurd k
 
 -- ---- the owner of the octets
 
-module _ {St : Type 0} (answer : St → Answer) (notified : St → CallEvent → St) (C : Table) (a : Answers) (st now : St) (s : Slots)
+module _ {St : Type 0} (answer : St → Answer) (notified : St → CallEvent → St) (C : Table)
+    (a : Answers) (st now : St) (s : Slots)
     (c : Tracked) (who : Option MessageKey) (octets : List ℕ) (h : SlotsRepresent C a s c who) where
   abbrev Agrees : Option MessageKey → Type 0
   Agrees who' = AgreesAtEnds answer notified C st a (owner_header_ends c who' octets)
@@ -80,18 +86,23 @@ module _ {St : Type 0} (answer : St → Answer) (notified : St → CallEvent →
   IsTold who' = now ≡ after_ends notified C st (owner_header_ends c who' octets)
 
   pub own_told : (m : Option CodeMessage) → IsItself s.owner m → Agrees who
-      → ((w : MessageKey) (o : Option (List ℕ)) → RepresentsMessage C a m w o → AgreesAtEnds answer notified C st a (run_header_ends w o octets)
+      → ((w : MessageKey) (o : Option (List ℕ)) → RepresentsMessage C a m w o →
+      AgreesAtEnds answer notified C st a (run_header_ends w o octets)
       → now ≡ after_ends notified C st (run_header_ends w o octets)) → IsTold who
   own_told m e agrees f =
-      own_has C a (λ v. Agrees v → IsTold v) s c who m e h (λ none agrees_here. f no_key None (rw none tt) agrees_here)
+      own_has C a (λ v. Agrees v → IsTold v) s c who m e h
+      (λ none agrees_here. f no_key None (rw none tt) agrees_here)
       (λ w k agrees_here. f w (c.known w.number) (own_kept C a s c w m e k) agrees_here) agrees
 
-  pub slot_told : (v : Contents) (k : ℕ) → index_of s.owner ≡ Some k → option_map (λ e. e.value) (slice_get s.slots.entries k) ≡ Some v
+  pub slot_told : (v : Contents) (k : ℕ) → index_of s.owner ≡ Some k →
+      option_map (λ e. e.value) (slice_get s.slots.entries k) ≡ Some v
       → Agrees who
-      → ((w : MessageKey) → RepresentsMessage C a v.message w (c.known w.number) → AgreesAtEnds answer notified C st a (run_header_ends w (c.known w.number) octets)
+      → ((w : MessageKey) → RepresentsMessage C a v.message w (c.known w.number) →
+      AgreesAtEnds answer notified C st a (run_header_ends w (c.known w.number) octets)
       → now ≡ after_ends notified C st (run_header_ends w (c.known w.number) octets)) → IsTold who
   slot_told v k e get agrees f =
-      slot_has C a (λ v. Agrees v → IsTold v) s c who k e h (λ w kept agrees_here. f w (slot_kept C a s v c w k e get kept) agrees_here) agrees
+      slot_has C a (λ v. Agrees v → IsTold v) s c who k e h
+      (λ w kept agrees_here. f w (slot_kept C a s v c w k e get kept) agrees_here) agrees
 
 -- ---- one octet, and others after it
 
@@ -104,52 +115,71 @@ module _ (C : Table) (a : Answers) where
   -- the message is over where an octet faults it
   faulted_over : (w : MessageKey) (s : List ℕ) (x : ℕ) → Faulty C a w s x ≡ true
       → is_over (stage_of (message (signatures_of C (a w.number)) w.header (s ++ x ∷ []))) ≡ true
-  faulted_over w s x e = go (is_over (stage_of (message (signatures_of C (a w.number)) w.header s))) refl
+  faulted_over w s x e = go (is_over (stage_of (message (signatures_of C (a w.number)) w.header s)))
+      refl
     where
       go : (b : Bool) → is_over (stage_of (message (signatures_of C (a w.number)) w.header s)) ≡ b
-          → is_over (stage_of (message (signatures_of C (a w.number)) w.header (s ++ x ∷ []))) ≡ true
+          → is_over (stage_of (message (signatures_of C (a w.number)) w.header (s ++ x ∷ [])))
+          ≡ true
       go true over = over_stays (signatures_of C (a w.number)) w.header s (x ∷ []) over
       go false goes = octet_over (signatures_of C (a w.number)) w.header s x goes ∙ e
 
-  ends_on : (w : MessageKey) (s : List ℕ) (x : ℕ) (q : List ℕ) (at : ℕ) → header_ends w.number w.header s (x ∷ q)
-      ≡ header_ends w.number w.header s (x ∷ []) ++ run_header_ends w (octets_then (message_reader C a) (event at w (Takes x)) (Some s)) q
+  ends_on : (w : MessageKey) (s : List ℕ) (x : ℕ) (q : List ℕ) (at : ℕ) →
+      header_ends w.number w.header s (x ∷ q)
+      ≡ header_ends w.number w.header s (x ∷ [])
+      ++ run_header_ends w (octets_then (message_reader C a) (event at w (Takes x)) (Some s)) q
   ends_on w s x q at =
       header_ends_both w.number w.header s (x ∷ []) q
-      ∙ ap (λ (z : List HeaderEnd). header_ends w.number w.header s (x ∷ []) ++ z) (go (Faulty C a w s x) refl)
+      ∙ ap (λ (z : List HeaderEnd). header_ends w.number w.header s (x ∷ []) ++ z)
+      (go (Faulty C a w s x) refl)
     where
       go : (b : Bool) → Faulty C a w s x ≡ b → header_ends w.number w.header (s ++ x ∷ []) q
           ≡ run_header_ends w (octets_then (message_reader C a) (event at w (Takes x)) (Some s)) q
       go true e =
           over_none C (a w.number) w.number w.header (s ++ x ∷ []) q (faulted_over w s x e)
-          ∙ sym (ap (λ o. run_header_ends w o q) (then_by C a at w s x ∙ ap (λ (b : Bool). if b then None else Some (s ++ x ∷ [])) e))
-      go false e = sym (ap (λ o. run_header_ends w o q) (then_by C a at w s x ∙ ap (λ (b : Bool). if b then None else Some (s ++ x ∷ [])) e))
+          ∙ sym (ap (λ o. run_header_ends w o q)
+          (then_by C a at w s x ∙ ap (λ (b : Bool). if b then None else Some (s ++ x ∷ [])) e))
+      go false e = sym (ap (λ o. run_header_ends w o q)
+          (then_by C a at w s x ∙ ap (λ (b : Bool). if b then None else Some (s ++ x ∷ [])) e))
 
-  known_on : (w : MessageKey) (o : Option (List ℕ)) (x : ℕ) (q : List ℕ) (at : ℕ) → run_header_ends w o (x ∷ q)
-      ≡ run_header_ends w o (x ∷ []) ++ run_header_ends w (octets_then (message_reader C a) (event at w (Takes x)) o) q
-  known_on w None x q at = sym (ap (λ o. run_header_ends w o q) (over_then (message_reader C a) (event at w (Takes x))))
+  known_on : (w : MessageKey) (o : Option (List ℕ)) (x : ℕ) (q : List ℕ) (at : ℕ) →
+      run_header_ends w o (x ∷ q)
+      ≡ run_header_ends w o (x ∷ []) ++ run_header_ends w
+      (octets_then (message_reader C a) (event at w (Takes x)) o) q
+  known_on w None x q at = sym (ap (λ o. run_header_ends w o q)
+      (over_then (message_reader C a) (event at w (Takes x))))
   known_on w (Some s) x q at = ends_on w s x q at
 
-  pub owner_on : (c : Tracked) (who : Option MessageKey) (x : ℕ) (q : List ℕ) (at : ℕ) → owner_header_ends c who (x ∷ q)
-      ≡ owner_header_ends c who (x ∷ []) ++ owner_header_ends (effect_to C a at c who (Takes x)).tracked who q
+  pub owner_on : (c : Tracked) (who : Option MessageKey) (x : ℕ) (q : List ℕ) (at : ℕ) →
+      owner_header_ends c who (x ∷ q)
+      ≡ owner_header_ends c who (x ∷ []) ++ owner_header_ends
+      (effect_to C a at c who (Takes x)).tracked who q
   owner_on c None x q at = refl
   owner_on c (Some w) x q at =
       known_on w (c.known w.number) x q at
       ∙ ap (λ (z : List HeaderEnd). run_header_ends w (c.known w.number) (x ∷ []) ++ z)
-      (ap (λ o. run_header_ends w o q) (sym (own_then (message_reader C a) c (event at w (Takes x)))))
+      (ap (λ o. run_header_ends w o q) (sym (own_then (message_reader C a) c
+      (event at w (Takes x)))))
 
   -- of an octet of this message
-  ends_here : (R : Rules) (p : List ℕ) (m : Message) (x : ℕ) → (cut p).stop ≡ None → (cut p).current ≡ Some m → length p < limit
-      → header_ends_at R p x ≡ owner_header_ends (tracked_after R p) (owner_of_next (open_after R.most p) m) (x ∷ [])
-  ends_here R p m x free current room = at_free R p x free room ∙ ap (λ (o : Option Message). current_header_ends R p o (x ∷ [])) current
+  ends_here : (R : Rules) (p : List ℕ) (m : Message) (x : ℕ) → (cut p).stop ≡ None →
+      (cut p).current ≡ Some m → length p < limit
+      → header_ends_at R p x ≡ owner_header_ends (tracked_after R p)
+      (owner_of_next (open_after R.most p) m) (x ∷ [])
+  ends_here R p m x free current room = at_free R p x free room
+      ∙ ap (λ (o : Option Message). current_header_ends R p o (x ∷ [])) current
 
   -- octets that only add to contents, one after the other, and one more
-  pub run_from : (most : ℕ) (q p : List ℕ) (m : Message) (x : ℕ) → Within p m (length q) → length p + length q < limit
-      → owner_header_ends (tracked_after (rules_by C a most) p) (owner_of_next (open_after most p) m) (q ++ x ∷ [])
+  pub run_from : (most : ℕ) (q p : List ℕ) (m : Message) (x : ℕ) → Within p m (length q) →
+      length p + length q < limit
+      → owner_header_ends (tracked_after (rules_by C a most) p)
+      (owner_of_next (open_after most p) m) (q ++ x ∷ [])
       ≡ header_ends_from (rules_by C a most) p (q ++ x ∷ [])
   unfolding header_ends_from
   run_from most [] p m x h room =
       let R = rules_by C a most in
-      sym (append-nil (header_ends_at R p x) ∙ ends_here R p m x h.free h.current (omega (arith, room)))
+      sym (append-nil (header_ends_at R p x)
+      ∙ ends_here R p m x h.free h.current (omega (arith, room)))
   run_from most (y ∷ q) p m x h room =
       let R = rules_by C a most in
       let W = owner_of_next (open_after most p) m in
@@ -157,7 +187,8 @@ module _ (C : Table) (a : Answers) where
       let one = octet_adds C a most p m y (length q) h in
       let who = octet_owner C a most p m y (length q) h in
       let here = ends_here R p m y h.free h.current (omega (arith, h.room)) in
-      let more = run_from most q p' (with_octet m y) x (within_on p m y (length q) h) (omega (arith, room, length_push p y)) in
+      let more = run_from most q p' (with_octet m y) x (within_on p m y (length q) h)
+      (omega (arith, room, length_push p y)) in
       let after = (effect_to C a (suc (length p)) (tracked_after R p) W (Takes y)).tracked in
       let rest : owner_header_ends after W (q ++ x ∷ []) ≡ header_ends_from R p' (q ++ x ∷ []) =
       (λ j. owner_header_ends (sym one.tracked_after j) (sym who j) (q ++ x ∷ [])) ∙ more in
@@ -175,7 +206,8 @@ at_none R p x e = rw e (go (is_none (cut p).stop && nat_lt (length p) limit))
     go true = refl
     go false = refl
 
-pub at_stop : (R : Rules) (p : List ℕ) (x : ℕ) (found : ℕ × StreamFault) → (cut p).stop ≡ Some found → header_ends_at R p x ≡ []
+pub at_stop : (R : Rules) (p : List ℕ) (x : ℕ) (found : ℕ × StreamFault) →
+    (cut p).stop ≡ Some found → header_ends_at R p x ≡ []
 unfolding header_ends_at
 at_stop R p x found e = rw e refl
 
@@ -186,19 +218,24 @@ at_limit R p x full = rw (past (length p) full) (go (is_none (cut p).stop))
     past : (n : ℕ) → limit ≤ n → nat_lt n limit ≡ false
     past n h = grind (arith, h)
 
-    go : (b : Bool) → (let some : List HeaderEnd = if b && false then current_header_ends R p (cut p).current (x ∷ []) else [] in some) ≡ []
+    go : (b : Bool) → (let some : List HeaderEnd =
+        if b && false then current_header_ends R p (cut p).current (x ∷ []) else [] in some) ≡ []
     go true = refl
     go false = refl
 
-pub from_append : (R : Rules) (xs p ys : List ℕ) → header_ends_from R p (xs ++ ys) ≡ header_ends_from R p xs ++ header_ends_from R (p ++ xs) ys
+pub from_append : (R : Rules) (xs p ys : List ℕ) →
+    header_ends_from R p (xs ++ ys) ≡ header_ends_from R p xs ++ header_ends_from R (p ++ xs) ys
 unfolding header_ends_from
 from_append R [] p ys = ap (λ (z : List ℕ). header_ends_from R z ys) (sym (append-nil p))
 from_append R (x ∷ xs) p ys =
     ap (λ (z : List HeaderEnd). header_ends_at R p x ++ z)
-    (from_append R xs (p ++ x ∷ []) ys ∙ ap (λ (z : List ℕ). header_ends_from R (p ++ x ∷ []) xs ++ header_ends_from R z ys) (append_assoc p (x ∷ []) xs))
-    ∙ sym (append_assoc (header_ends_at R p x) (header_ends_from R (p ++ x ∷ []) xs) (header_ends_from R (p ++ x ∷ xs) ys))
+    (from_append R xs (p ++ x ∷ []) ys ∙ ap (λ (z : List ℕ). header_ends_from R (p ++ x ∷ []) xs
+    ++ header_ends_from R z ys) (append_assoc p (x ∷ []) xs))
+    ∙ sym (append_assoc (header_ends_at R p x) (header_ends_from R (p ++ x ∷ []) xs)
+    (header_ends_from R (p ++ x ∷ xs) ys))
 
-pub from_one : (R : Rules) (p : List ℕ) (x : ℕ) → header_ends_from R p (x ∷ []) ≡ header_ends_at R p x
+pub from_one : (R : Rules) (p : List ℕ) (x : ℕ) →
+    header_ends_from R p (x ∷ []) ≡ header_ends_at R p x
 unfolding header_ends_from
 from_one R p x = append-nil (header_ends_at R p x)
 
@@ -211,11 +248,13 @@ pub record Heads (p : List ℕ) (n : ℕ) : Type 0 where
 abbrev Right : ℕ → Cut → Type 0
 Right k c = (c.current ≡ None) × (length c.held + k < 12)
 
-head_case : (first n : ℕ) (whole : List Message) (front : List ℕ) (o : Option StreamFault) (k : ℕ) → length front + k < 12
+head_case : (first n : ℕ) (whole : List Message) (front : List ℕ) (o : Option StreamFault) (k : ℕ) →
+    length front + k < 12
     → Right k (header_case first n whole front o (length front == 12))
 unfolding header_case
 head_case first n whole front (Some word) k h = (refl, omega (arith, h))
-head_case first n whole front None k h = rw (ne_eqb (length front) 12 (λ e. omega (arith, h, e))) (refl, h)
+head_case first n whole front None k h =
+    rw (ne_eqb (length front) 12 (λ e. omega (arith, h, e))) (refl, h)
 
 pub heads_on : (p : List ℕ) (x k : ℕ) → Heads p (suc k) → Heads (p ++ x ∷ []) k
 unfolding of_parts
@@ -225,41 +264,56 @@ heads_on p x k h = let both = go (cut p).stop refl in record { no_current = both
         → cut (p ++ x ∷ []) ≡ next (length p) x (of_parts (cut p).whole None (cut p).held o)
     grown o e = cut_grows p x ∙ ap (next (length p) x) (parts_by (cut p) None o h.no_current e)
 
-    room : (b : Bool) → nat_lt limit (suc (length p)) ≡ b → Right k (next (length p) x (of_parts (cut p).whole None (cut p).held None))
+    room : (b : Bool) → nat_lt limit (suc (length p)) ≡ b →
+        Right k (next (length p) x (of_parts (cut p).whole None (cut p).held None))
     room true e =
-        subst (Right k) (sym (next_limit (cut p).whole None (cut p).held (length p) x e)) (refl, omega (arith, h.few))
+        subst (Right k) (sym (next_limit (cut p).whole None (cut p).held (length p) x e))
+        (refl, omega (arith, h.few))
     room false e =
         subst (Right k) (sym (next_front (cut p).whole (cut p).held (length p) x e))
-        (head_case 1 (suc (length p)) (cut p).whole ((cut p).held ++ x ∷ []) (wrong ((cut p).held ++ x ∷ [])) k
+        (head_case 1 (suc (length p)) (cut p).whole ((cut p).held ++ x ∷ [])
+        (wrong ((cut p).held ++ x ∷ [])) k
         (omega (arith, h.few, length_push (cut p).held x)))
 
     go : (o : Option (ℕ × StreamFault)) → (cut p).stop ≡ o → Right k (cut (p ++ x ∷ []))
     go (Some found) e =
-        subst (Right k) (sym (grown (Some found) e ∙ next_stopped (cut p).whole None (cut p).held found (length p) x)) (refl, omega (arith, h.few))
+        subst (Right k) (sym (grown (Some found) e
+        ∙ next_stopped (cut p).whole None (cut p).held found (length p) x))
+        (refl, omega (arith, h.few))
     go None e = subst (Right k) (sym (grown None e)) (room (nat_lt limit (suc (length p))) refl)
 
-pub heads_none : (R : Rules) (xs p : List ℕ) → (cut p).current ≡ None → length (cut p).held + length xs < 12 → header_ends_from R p xs ≡ []
+pub heads_none : (R : Rules) (xs p : List ℕ) → (cut p).current ≡ None →
+    length (cut p).held + length xs < 12 → header_ends_from R p xs ≡ []
 unfolding header_ends_from
 heads_none R xs p none few = all xs p (record { no_current = none; few = few })
   where
     all : (ys q : List ℕ) → Heads q (length ys) → header_ends_from R q ys ≡ []
     all [] q h = refl
-    all (y ∷ ys) q h = rw (at_none R q y h.no_current) (all ys (q ++ y ∷ []) (heads_on q y (length ys) h))
+    all (y ∷ ys) q h = rw (at_none R q y h.no_current)
+        (all ys (q ++ y ∷ []) (heads_on q y (length ys) h))
 
 -- ---- events of one part, and of another after it
 
-module _ {St : Type 0} (answer : St → Answer) (notified : St → CallEvent → St) (C : Table) (a : Answers) (st : St) where
-  pub agrees_front : (all es fs : List HeaderEnd) → all ≡ es ++ fs → AgreesAtEnds answer notified C st a all → AgreesAtEnds answer notified C st a es
-  agrees_front all es fs e h = answers_first answer notified C st a es fs (subst (AgreesAtEnds answer notified C st a) e h)
+module _ {St : Type 0} (answer : St → Answer) (notified : St → CallEvent → St) (C : Table)
+    (a : Answers) (st : St) where
+  pub agrees_front : (all es fs : List HeaderEnd) → all ≡ es ++ fs →
+      AgreesAtEnds answer notified C st a all → AgreesAtEnds answer notified C st a es
+  agrees_front all es fs e h = answers_first answer notified C st a es fs
+      (subst (AgreesAtEnds answer notified C st a) e h)
 
-  pub agrees_after : (now : St) (all es fs : List HeaderEnd) → all ≡ es ++ fs → now ≡ after_ends notified C st es
+  pub agrees_after : (now : St) (all es fs : List HeaderEnd) → all ≡ es ++ fs →
+      now ≡ after_ends notified C st es
       → AgreesAtEnds answer notified C st a all → AgreesAtEnds answer notified C now a fs
   agrees_after now all es fs e told h =
-      subst (λ x. AgreesAtEnds answer notified C x a fs) (sym told) (answers_then answer notified C st a es fs (subst (AgreesAtEnds answer notified C st a) e h))
+      subst (λ x. AgreesAtEnds answer notified C x a fs) (sym told)
+      (answers_then answer notified C st a es fs
+      (subst (AgreesAtEnds answer notified C st a) e h))
 
-  pub told_after : (now later : St) (es fs : List HeaderEnd) → now ≡ after_ends notified C st es → later ≡ after_ends notified C now fs
+  pub told_after : (now later : St) (es fs : List HeaderEnd) → now ≡ after_ends notified C st es →
+      later ≡ after_ends notified C now fs
       → later ≡ after_ends notified C st (es ++ fs)
-  told_after now later es fs told more = more ∙ (ap (λ x. after_ends notified C x fs) told ∙ sym (told_both answer notified C st es fs))
+  told_after now later es fs told more = more
+      ∙ (ap (λ x. after_ends notified C x fs) told ∙ sym (told_both answer notified C st es fs))
 
 -- a request list answers each message, and no event changes it
 pub list_answers : (C : Table) (l : RequestTable) (es : List HeaderEnd)
@@ -267,12 +321,15 @@ pub list_answers : (C : Table) (l : RequestTable) (es : List HeaderEnd)
 list_answers C l [] = tt
 list_answers C l (e ∷ es) = (here e, rest (call_event C e) (list_answers C l es))
   where
-    here : (f : HeaderEnd) → IsAnswered (λ (k : RequestTable) id. kept_operation k id) l (by_list l) f
+    here : (f : HeaderEnd) → IsAnswered (λ (k : RequestTable) id. kept_operation k id) l (by_list l)
+        f
     here (Header_end number header n) = refl
     here (Exception_end number name) = tt
 
-    rest : (o : Option CallEvent) → AgreesAtEnds (λ (k : RequestTable) id. kept_operation k id) (λ k t. k) C l (by_list l) es
-        → AgreesAtEnds (λ (k : RequestTable) id. kept_operation k id) (λ k t. k) C (after_event (λ (k : RequestTable) t. k) l o) (by_list l) es
+    rest : (o : Option CallEvent) → AgreesAtEnds (λ (k : RequestTable) id. kept_operation k id)
+        (λ k t. k) C l (by_list l) es
+        → AgreesAtEnds (λ (k : RequestTable) id. kept_operation k id) (λ k t. k) C
+        (after_event (λ (k : RequestTable) t. k) l o) (by_list l) es
     rest None h = h
     rest (Some t) h = h
 
@@ -282,7 +339,8 @@ pub any_ok : {A E : Type 0} {P : A → Type 0} (r : Result A E) → ((x : A) →
 any_ok (Ok x) f = f x
 any_ok (Err e) f = tt
 
-module _ {St : Type 0} (notified : St → CallEvent → St) (C : Table) (a : Answers) (most : ℕ) (s : State) (r : IsReached C a most s)
+module _ {St : Type 0} (notified : St → CallEvent → St) (C : Table) (a : Answers) (most : ℕ)
+    (s : State) (r : IsReached C a most s)
     (m : FramingView) (h : Shows C a m s) (st : St) (x : ℕ) where
   abbrev R : Rules
   R = rules_by C a most
@@ -302,78 +360,106 @@ module _ {St : Type 0} (notified : St → CallEvent → St) (C : Table) (a : Ans
 
       go : (o : Option (ℕ × StreamFault)) → (cut r.stream).stop ≡ o → Same
       go (Some found) e = same_by (at_stop R r.stream x found e)
-      go None e = absurd (let no : is_some m.stopped ≡ false = ap is_some (stops ∙ ap fault_of e) in false≢true (sym no ∙ over))
+      go None e = absurd (let no : is_some m.stopped ≡ false = ap is_some (stops ∙ ap fault_of e) in
+          false≢true (sym no ∙ over))
 
   module _ (free : m.stopped ≡ None) where
     pub told_limit : 2 ^ 48 ≤ m.totals.octets → Same
     unfolding limit
-    told_limit full = same_by (at_limit R r.stream x (omega (arith, full, all_read C a most s r m h free)))
+    told_limit full = same_by (at_limit R r.stream x
+        (omega (arith, full, all_read C a most s r m h free)))
 
     -- a header that is not whole
     pub told_heads : length m.header < 12 → Same
     told_heads few = same_by (at_none R r.stream x (no_current C a most s r m h free few))
 
     -- an octet of a payload
-    pub at_payload : m.totals.octets < 2 ^ 48 → header_ends_at R r.stream x ≡ current_header_ends R r.stream (cut r.stream).current (x ∷ [])
+    pub at_payload : m.totals.octets < 2 ^ 48 →
+        header_ends_at R r.stream x ≡ current_header_ends R r.stream (cut r.stream).current (x ∷ [])
     unfolding limit
     at_payload room =
-        at_free R r.stream x (runs_on C a most s r m h free) (omega (arith, room, all_read C a most s r m h free))
+        at_free R r.stream x (runs_on C a most s r m h free)
+        (omega (arith, room, all_read C a most s r m h free))
 
 -- octets of a header that only add to it
-pub told_ahead : (C : Table) (a : Answers) (most : ℕ) (s : State) (r : IsReached C a most s) (m : FramingView) (h : Shows C a m s) (xs : List ℕ)
-    → m.stopped ≡ None → length m.header + length xs < 12 → header_ends_from (rules_by C a most) r.stream xs ≡ []
+pub told_ahead : (C : Table) (a : Answers) (most : ℕ) (s : State) (r : IsReached C a most s)
+    (m : FramingView) (h : Shows C a m s) (xs : List ℕ)
+    → m.stopped ≡ None → length m.header + length xs < 12 →
+    header_ends_from (rules_by C a most) r.stream xs ≡ []
 told_ahead C a most s r m h xs free few =
     let none = no_current C a most s r m h free (omega (arith, few)) in
-    let held = header_at C a most s r m h free ∙ ap (λ (o : Option Message). header_of o (cut r.stream).held) none in
+    let held = header_at C a most s r m h free
+    ∙ ap (λ (o : Option Message). header_of o (cut r.stream).held) none in
     heads_none (rules_by C a most) xs r.stream none (omega (arith, few, ap length held))
 
 -- octets of a payload
-pub told_run : (C : Table) (a : Answers) (most : ℕ) (s : State) (r : IsReached C a most s) (m : FramingView) (h : Shows C a m s)
-    (free : m.stopped ≡ None) (full : length m.header ≡ 12) (octets : List ℕ) (some : 0 < length octets)
+pub told_run : (C : Table) (a : Answers) (most : ℕ) (s : State) (r : IsReached C a most s)
+    (m : FramingView) (h : Shows C a m s)
+    (free : m.stopped ≡ None) (full : length m.header ≡ 12) (octets : List ℕ)
+    (some : 0 < length octets)
     (apart : m.payload_count < 4 → m.payload_count + length octets ≤ 4)
-    (few : 1 < length octets → m.payload_count + length octets ≤ size m.header) (room : m.totals.octets + length octets ≤ 2 ^ 48)
-    → current_header_ends (rules_by C a most) r.stream (cut r.stream).current octets ≡ header_ends_from (rules_by C a most) r.stream octets
+    (few : 1 < length octets → m.payload_count + length octets ≤ size m.header)
+    (room : m.totals.octets + length octets ≤ 2 ^ 48)
+    → current_header_ends (rules_by C a most) r.stream (cut r.stream).current octets
+    ≡ header_ends_from (rules_by C a most) r.stream octets
 unfolding limit
 told_run C a most s r m h free full octets some apart few room =
     let here = has_current C a most s r m h free full in
     let (q, (x, e)) = octets_are octets some in
     let all = all_read C a most s r m h free in
-    rw here.1 (subst (λ (z : List ℕ). owner_header_ends (tracked_after (rules_by C a most) r.stream) (owner_of_next (open_after most r.stream) here.0) z
+    rw here.1 (subst (λ (z : List ℕ). owner_header_ends (tracked_after (rules_by C a most) r.stream)
+    (owner_of_next (open_after most r.stream) here.0) z
     ≡ header_ends_from (rules_by C a most) r.stream z) (sym e)
-    (run_from C a most q r.stream here.0 x (begins C a most s r m h free here.0 here.1 octets q x e apart few room)
+    (run_from C a most q r.stream here.0 x
+    (begins C a most s r m h free here.0 here.1 octets q x e apart few room)
     (omega (arith, room, all, ap length e, length_push q x))))
 
 -- ---- octets after those that were taken
 
-module _ {St : Type 0} (answer : St → Answer) (notified : St → CallEvent → St) (C : Table) (a : Answers) (st now : St)
-    (R : Rules) (p past : List ℕ) (told : now ≡ after_ends notified C st (header_ends_from R p past)) where
+module _ {St : Type 0} (answer : St → Answer) (notified : St → CallEvent → St) (C : Table)
+    (a : Answers) (st now : St)
+    (R : Rules) (p past : List ℕ) (told : now
+    ≡ after_ends notified C st (header_ends_from R p past)) where
   pub run_agrees : (rest piece q left : List ℕ) → piece ≡ past ++ rest → rest ≡ q ++ left
-      → AgreesAtEnds answer notified C st a (header_ends_from R p piece) → AgreesAtEnds answer notified C now a (header_ends_from R (p ++ past) q)
+      → AgreesAtEnds answer notified C st a (header_ends_from R p piece) →
+      AgreesAtEnds answer notified C now a (header_ends_from R (p ++ past) q)
   run_agrees rest piece q left split parts agrees =
-      let all : header_ends_from R p piece ≡ header_ends_from R p past ++ header_ends_from R (p ++ past) rest = ap (header_ends_from R p) split ∙ from_append R past p rest in
-      let behind = agrees_after answer notified C a st now (header_ends_from R p piece) (header_ends_from R p past) (header_ends_from R (p ++ past) rest) all told agrees in
-      agrees_front answer notified C a now (header_ends_from R (p ++ past) rest) (header_ends_from R (p ++ past) q) (header_ends_from R ((p ++ past) ++ q) left)
+      let all : header_ends_from R p piece ≡ header_ends_from R p past
+      ++ header_ends_from R (p ++ past) rest =
+      ap (header_ends_from R p) split ∙ from_append R past p rest in
+      let behind = agrees_after answer notified C a st now (header_ends_from R p piece)
+      (header_ends_from R p past) (header_ends_from R (p ++ past) rest) all told agrees in
+      agrees_front answer notified C a now (header_ends_from R (p ++ past) rest)
+      (header_ends_from R (p ++ past) q) (header_ends_from R ((p ++ past) ++ q) left)
       (ap (header_ends_from R (p ++ past)) parts ∙ from_append R q (p ++ past) left) behind
 
   pub step_agrees : (rest piece left : List ℕ) (x : ℕ) → piece ≡ past ++ rest → rest ≡ x ∷ left
-      → AgreesAtEnds answer notified C st a (header_ends_from R p piece) → AgreesAtEnds answer notified C now a (header_ends_at R (p ++ past) x)
+      → AgreesAtEnds answer notified C st a (header_ends_from R p piece) →
+      AgreesAtEnds answer notified C now a (header_ends_at R (p ++ past) x)
   step_agrees rest piece left x split parts agrees =
-      subst (AgreesAtEnds answer notified C now a) (from_one R (p ++ past) x) (run_agrees rest piece (x ∷ []) left split parts agrees)
+      subst (AgreesAtEnds answer notified C now a) (from_one R (p ++ past) x)
+      (run_agrees rest piece (x ∷ []) left split parts agrees)
 
-  pub told_on : (q : List ℕ) (later : St) → later ≡ after_ends notified C now (header_ends_from R (p ++ past) q)
+  pub told_on : (q : List ℕ) (later : St) →
+      later ≡ after_ends notified C now (header_ends_from R (p ++ past) q)
       → later ≡ after_ends notified C st (header_ends_from R p (past ++ q))
   told_on q later more =
-      told_after answer notified C a st now later (header_ends_from R p past) (header_ends_from R (p ++ past) q) told more
+      told_after answer notified C a st now later (header_ends_from R p past)
+      (header_ends_from R (p ++ past) q) told more
       ∙ sym (ap (after_ends notified C st) (from_append R past p q))
 
-  pub told_step : (x : ℕ) (later : St) → later ≡ after_ends notified C now (header_ends_at R (p ++ past) x)
+  pub told_step : (x : ℕ) (later : St) → later
+      ≡ after_ends notified C now (header_ends_at R (p ++ past) x)
       → later ≡ after_ends notified C st (header_ends_from R p (past ++ x ∷ []))
-  told_step x later more = told_on (x ∷ []) later (more ∙ sym (ap (after_ends notified C now) (from_one R (p ++ past) x)))
+  told_step x later more = told_on (x ∷ []) later
+      (more ∙ sym (ap (after_ends notified C now) (from_one R (p ++ past) x)))
 
-  pub told_none : (q : List ℕ) → header_ends_from R (p ++ past) q ≡ [] → now ≡ after_ends notified C st (header_ends_from R p (past ++ q))
+  pub told_none : (q : List ℕ) → header_ends_from R (p ++ past) q ≡ [] →
+      now ≡ after_ends notified C st (header_ends_from R p (past ++ q))
   told_none q none = told_on q now (sym (ap (after_ends notified C now) none))
 
 pub list_notified : (C : Table) (k l : RequestTable) (es : List HeaderEnd) → k ≡ l
     → AgreesAtEnds (λ (k : RequestTable) id. kept_operation k id) (λ k t. k) C k (by_list l) es
 list_notified C k l es same =
-    subst (λ (z : RequestTable). AgreesAtEnds (λ (k : RequestTable) id. kept_operation k id) (λ k t. k) C z (by_list l) es) (sym same) (list_answers C l es)
+    subst (λ (z : RequestTable). AgreesAtEnds (λ (k : RequestTable) id. kept_operation k id)
+    (λ k t. k) C z (by_list l) es) (sym same) (list_answers C l es)

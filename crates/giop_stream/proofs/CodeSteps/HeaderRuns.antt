@@ -1,4 +1,5 @@
--- A run of header octets before the last one, taken at once: the code does their steps, and writes nothing.
+-- A run of header octets before the last one, taken at once: the code does their steps, and writes
+-- nothing.
 use Rattle.std.proofs.Common.{◌≡◌, ℕ, suc, ◌+◌, ◌^◌, ◌<◌, ◌≤◌, List, [], ◌∷◌, ◌++◌, length, take, refl, sym, ap, subst, ◌∙◌, append_assoc, append-nil, None, arith}
 use Rattle.std.proofs.lemmas.List.{length_push}
 use Rattle.giop_sig.specs.Table.{Table}
@@ -26,12 +27,16 @@ right_first front x xs h = h 0 (omega arith)
 right_more : (front : List ℕ) (x : ℕ) (xs : List ℕ) → AreRight front (x ∷ xs) →
     AreRight (front ++ x ∷ []) xs
 right_more front x xs h =
-    λ k less. ap wrong (append_assoc front (x ∷ []) (take (k + 1) xs) ∙ ap (λ (z : List ℕ). front ++ z) (sym (take_more (k + 1) x xs)))
+    λ k less. ap wrong (append_assoc front (x ∷ []) (take (k + 1) xs)
+    ∙ ap (λ (z : List ℕ). front ++ z) (sym (take_more (k + 1) x xs)))
     ∙ h (k + 1) (omega (arith, less))
 
 -- the fields with these octets added
 abbrev pub held_all : FramingView → List ℕ → FramingView
-held_all m xs = record m { totals = record m.totals { octets = m.totals.octets + length xs }; header = m.header ++ xs }
+held_all m xs = record m {
+  totals = record m.totals { octets = m.totals.octets + length xs };
+  header = m.header ++ xs;
+}
 
 held_none : (m : FramingView) → held_all m [] ≡ m
 held_none m =
@@ -43,7 +48,11 @@ held_more : (m : FramingView) (x : ℕ) (xs : List ℕ) →
 unfolding steps.held_on
 held_more m x xs =
     let count : suc m.totals.octets + length xs ≡ m.totals.octets + length (x ∷ xs) = omega arith in
-    λ j. record m { totals = record m.totals { octets = count j }; header = append_assoc m.header (x ∷ []) xs j }
+    λ j. record m {
+      totals = record m.totals { octets = count j };
+      header =
+          append_assoc m.header (x ∷ []) xs j;
+    }
 
 -- they fit into the header that is held, and into the stream's limit
 pub record Fit (m : FramingView) (xs : List ℕ) : Type 0 where
@@ -70,23 +79,28 @@ module _ (C : Table) (l : Answers) (most : ℕ) where
   unfolding run_state
   heads_show [] m s h f = subst (λ (n : FramingView). Shows C l n s) (sym (held_none m)) h
   heads_show (x ∷ xs) m s h f =
-      let other : length (m.header ++ x ∷ []) ≡ 12 → ⊥ = λ e. omega (arith, f.few, length_push m.header x, e) in
+      let other : length (m.header ++ x ∷ []) ≡ 12 → ⊥ =
+      λ e. omega (arith, f.few, length_push m.header x, e) in
       let room : m.totals.octets < 2 ^ 48 = omega (arith, f.room) in
       let few : length m.header < 12 = omega (arith, f.few) in
       let more =
-      heads_show xs (steps.held_on m x) (held_on s (m.header ++ x ∷ [])).state (held_shows C l most m s h x f.free room few other)
+      heads_show xs (steps.held_on m x) (held_on s (m.header ++ x ∷ [])).state
+      (held_shows C l most m s h x f.free room few other)
       (fit_more m x xs f) in
       rw (held_step C l most m s h x f.free room few (right_first m.header x xs f.right) other)
-      (subst (λ (n : FramingView). Shows C l n (run_state R (held_on s (m.header ++ x ∷ [])).state xs)) (held_more m x xs) more)
+      (subst (λ (n : FramingView). Shows C l n
+      (run_state R (held_on s (m.header ++ x ∷ [])).state xs)) (held_more m x xs) more)
 
   pub heads_quiet : (xs : List ℕ) (m : FramingView) (s : State) → Shows C l m s → Fit m xs →
       run R s xs ≡ []
   unfolding run held_on
   heads_quiet [] m s h f = refl
   heads_quiet (x ∷ xs) m s h f =
-      let other : length (m.header ++ x ∷ []) ≡ 12 → ⊥ = λ e. omega (arith, f.few, length_push m.header x, e) in
+      let other : length (m.header ++ x ∷ []) ≡ 12 → ⊥ =
+      λ e. omega (arith, f.few, length_push m.header x, e) in
       let room : m.totals.octets < 2 ^ 48 = omega (arith, f.room) in
       let few : length m.header < 12 = omega (arith, f.few) in
       rw (held_step C l most m s h x f.free room few (right_first m.header x xs f.right) other)
-      (heads_quiet xs (steps.held_on m x) (held_on s (m.header ++ x ∷ [])).state (held_shows C l most m s h x f.free room few other)
+      (heads_quiet xs (steps.held_on m x) (held_on s (m.header ++ x ∷ [])).state
+      (held_shows C l most m s h x f.free room few other)
       (fit_more m x xs f))

@@ -25,14 +25,20 @@ use Rattle.giop_stream.proofs.Cuts.CutFrom.{end_message}
 
 -- ---- A call does a step: by the lines and the state of the longer stream.
 
-pub does_by : {A E : Type 0} (C : Table) (l : Answers) (most : ℕ) (p q : List ℕ) (one : Step) (ls : List Line) (result : Result A E) (before after : OutLog) (f : FramingView)
+pub does_by : {A E : Type 0} (C : Table) (l : Answers) (most : ℕ) (p q : List ℕ) (one : Step)
+    (ls : List Line) (result : Result A E) (before after : OutLog) (f : FramingView)
     → (let R = rules_by C l most in state_of R q ≡ one.state → lines R q ≡ lines R p ++ one.lines
-    → lines R q ≡ lines R p ++ ls → Writes result before after (lines_text ls) → OnOk result (Shows C l f (state_of R q))
+    → lines R q ≡ lines R p ++ ls → Writes result before after (lines_text ls) →
+    OnOk result (Shows C l f (state_of R q))
     → Does C l result before after f one)
 does_by C l most p q one ls result before after f state more grows text shows =
     let R = rules_by C l most in
     let same : one.lines ≡ ls = append_cancel_left (lines R p) one.lines ls (sym more ∙ grows) in
-    record { text = rw same text; shows = subst (λ (s : State). OnOk result (Shows C l f s)) state shows }
+    record {
+      text = rw same text;
+      shows = subst (λ (s : State). OnOk result (Shows C l f s)) state
+          shows;
+    }
 
 -- where a put failed nothing is claimed of the fields
 pub on_err : {A E : Type 0} (P : Type 0) (r : Result A E) → IsErr r → OnOk r P
@@ -45,33 +51,46 @@ pub settled_on : (m : FramingView) (n : ℕ) → (m.payload_count ≡ n → ⊥)
 unfolding settled
 settled_on m n other = rw (ne_eqb m.payload_count n other) refl
 
-pub settled_off : (m : FramingView) (n : ℕ) → m.payload_count ≡ n → settled m n ≡ record m { header = []; payload_count = 0 }
+pub settled_off : (m : FramingView) (n : ℕ) → m.payload_count ≡ n →
+    settled m n ≡ record m { header = []; payload_count = 0 }
 unfolding settled
 settled_off m n same = rw (eq-eqb m.payload_count n same) refl
 
-pub goes_on : (whole : List Message) (m : Message) → length m.payload < size m.header → end_message whole m ≡ of_parts whole (Some m) [] None
+pub goes_on : (whole : List Message) (m : Message) → length m.payload < size m.header →
+    end_message whole m ≡ of_parts whole (Some m) [] None
 unfolding end_message of_parts
 goes_on whole m less = rw (lt-ltb (length m.payload) (size m.header) less) refl
 
-pub goes_off : (whole : List Message) (m : Message) → size m.header ≤ length m.payload → end_message whole m ≡ of_parts (whole ++ m ∷ []) None [] None
+pub goes_off : (whole : List Message) (m : Message) → size m.header ≤ length m.payload →
+    end_message whole m ≡ of_parts (whole ++ m ∷ []) None [] None
 unfolding end_message of_parts
 goes_off whole m more = rw (le-ltb (length m.payload) (size m.header) more) refl
 
-pub owner_settled : (still_open : List Open) (whole : List Message) (m : Message) → length m.payload ≤ size m.header
+pub owner_settled : (still_open : List Open) (whole : List Message) (m : Message) →
+    length m.payload ≤ size m.header
     → owner_of_next_in still_open (end_message whole m).current ≡ owner_after still_open m
 unfolding end_message owner_after
 owner_settled still_open whole m fits = elim (cases_lt (length m.payload) (size m.header)) [
-  | inl less ↦ rw (lt-ltb (length m.payload) (size m.header) less, ne_eqb (length m.payload) (size m.header) (λ e. omega (arith, less, e))) refl
-  | inr more ↦ rw (le-ltb (length m.payload) (size m.header) more, eq-eqb (length m.payload) (size m.header) (omega (arith, more, fits))) refl
+  | inl less ↦ rw (
+    lt-ltb (length m.payload) (size m.header) less,
+    ne_eqb (length m.payload) (size m.header) (λ e. omega (arith, less, e)),
+  ) refl
+  | inr more ↦ rw (
+    le-ltb (length m.payload) (size m.header) more,
+    eq-eqb (length m.payload) (size m.header) (omega (arith, more, fits)),
+  ) refl
 ]
 
 -- the slots stay ready after a message's last octet
-pub ready_settled : (C : Table) (m m' : FramingView) (n place : ℕ) → m' ≡ settled m n → place ≡ m.totals.octets
+pub ready_settled : (C : Table) (m m' : FramingView) (n place : ℕ) → m' ≡ settled m n →
+    place ≡ m.totals.octets
     → AreReady C (place + 1) m.slots → AreReady C (m'.totals.octets + 1) m'.slots
 unfolding settled
 ready_settled C m m' n place e is h = rw e (go (m.payload_count == n))
   where
-    go : (b : Bool) → (let m : FramingView = if b then record m { header = []; payload_count = 0 } else m in AreReady C (m.totals.octets + 1) m.slots)
+    go : (b : Bool) → (let m : FramingView =
+        if b then record m { header = []; payload_count = 0 } else m in
+        AreReady C (m.totals.octets + 1) m.slots)
     go true = rw (← is) h
     go false = rw (← is) h
 

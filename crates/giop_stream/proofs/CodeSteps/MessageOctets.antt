@@ -50,17 +50,21 @@ use Rattle.giop_stream.proofs.CodeSteps.MessageEnds.{does_by, settled_on, settle
 -- ---- States that a stream reaches.
 
 -- with more octets
-abbrev pub reached_on : (C : Table) (l : Answers) (most : ℕ) (s : State) (q : List ℕ) → AreOctets q → IsReached C l most s → IsReached C l most (run_state (rules_by C l most) s q)
+abbrev pub reached_on : (C : Table) (l : Answers) (most : ℕ) (s : State) (q : List ℕ) →
+    AreOctets q → IsReached C l most s → IsReached C l most (run_state (rules_by C l most) s q)
 reached_on C l most s q octets r =
     let R = rules_by C l most in
     record {
       stream = r.stream ++ q;
       octets = All-append (λ x. x < 256) r.stream q r.octets octets;
-      held = ap (λ (t : State). run_state R t q) r.held ∙ sym (run_holds R (is_causal (λ number. signatures_of C (l number))) (in_turn C l) r.stream q);
+      held = ap (λ (t : State). run_state R t q) r.held
+          ∙ sym (run_holds R (is_causal (λ number. signatures_of C (l number))) (in_turn C l)
+          r.stream q);
     }
 
 -- with an equal limit of open messages
-abbrev pub reached_at : (C : Table) (l : Answers) (n most : ℕ) (s : State) → n ≡ most → IsReached C l n s → IsReached C l most s
+abbrev pub reached_at : (C : Table) (l : Answers) (n most : ℕ) (s : State) → n ≡ most →
+    IsReached C l n s → IsReached C l most s
 reached_at C l n most s same r = record {
   stream = r.stream;
   octets = r.octets;
@@ -74,23 +78,35 @@ module _ (C : Table) (l : Answers) (most : ℕ) (p : List ℕ) where
   rules = rules_by C l most
 
   abbrev pub effect_of : Message → Effect
-  effect_of n = effects rules.reading (tracked_after rules p) (events_of_octet most (tracked_after rules p).still_open n)
+  effect_of n = effects rules.reading (tracked_after rules p)
+      (events_of_octet most (tracked_after rules p).still_open n)
 
-  module _ (x : ℕ) (n : Message) (fits : length n.payload ≤ size n.header) (number : n.number ≡ suc (length (cut p).whole))
-      (adds : Adds rules p (p ++ x ∷ []) (end_message (cut p).whole n) (effect_of n).lines (effect_of n).tracked) where
-    knows_then : (slots : Slots) → SlotsRepresent C l slots (effect_of n).tracked (owner_after (effect_of n).tracked.still_open n) → SlotsRepresentStream C l most slots (p ++ x ∷ [])
+  module _ (x : ℕ) (n : Message) (fits : length n.payload ≤ size n.header)
+      (number : n.number ≡ suc (length (cut p).whole))
+      (adds : Adds rules p (p ++ x ∷ []) (end_message (cut p).whole n) (effect_of n).lines
+      (effect_of n).tracked) where
+    knows_then : (slots : Slots) → SlotsRepresent C l slots (effect_of n).tracked
+        (owner_after (effect_of n).tracked.still_open n) →
+        SlotsRepresentStream C l most slots (p ++ x ∷ [])
     unfolding tracked_after
     knows_then slots keeps =
         let p' = p ++ x ∷ [] in
-        let who : owner_after (tracked_after rules p').still_open n ≡ owner_of_next_in (open_after most p') (cut p').current =
+        let who : owner_after (tracked_after rules p').still_open n
+        ≡ owner_of_next_in (open_after most p') (cut p').current =
         sym (ap (λ (d : Cut). owner_of_next_in (open_after most p') d.current) adds.cut_is
         ∙ owner_settled (open_after most p') (cut p).whole n fits) in
-        subst (SlotsRepresent C l slots (tracked_after rules p')) who (subst (λ (d : Tracked). SlotsRepresent C l slots d (owner_after d.still_open n)) (sym adds.tracked_after) keeps)
+        subst (SlotsRepresent C l slots (tracked_after rules p')) who
+        (subst (λ (d : Tracked). SlotsRepresent C l slots d (owner_after d.still_open n))
+        (sym adds.tracked_after) keeps)
 
     pub settled_shows : (b f : FramingView) (k : ℕ) → f ≡ settled b k → b.totals.messages ≡ n.number
-        → b.totals.faults ≡ fault_count (lines rules p) + fault_count (effect_of n).lines → b.totals.octets ≡ suc (length p)
-        → b.stopped ≡ None → b.header ≡ n.header → b.payload_count ≡ length n.payload → k ≡ size n.header
-        → SlotsRepresent C l b.slots (effect_of n).tracked (owner_after (effect_of n).tracked.still_open n) → Shows C l f (state_of rules (p ++ x ∷ []))
+        → b.totals.faults ≡ fault_count (lines rules p) + fault_count (effect_of n).lines →
+        b.totals.octets ≡ suc (length p)
+        → b.stopped ≡ None → b.header ≡ n.header → b.payload_count ≡ length n.payload →
+        k ≡ size n.header
+        → SlotsRepresent C l b.slots (effect_of n).tracked
+        (owner_after (effect_of n).tracked.still_open n) →
+        Shows C l f (state_of rules (p ++ x ∷ []))
     unfolding of_parts tracked_after
     settled_shows b f k e messages faults octets stopped header payload_count sized keeps =
         let p' = p ++ x ∷ [] in
@@ -101,14 +117,18 @@ module _ (C : Table) (l : Answers) (most : ℕ) (p : List ℕ) where
           | inl less ↦
               rw (settled_on b k (λ same. omega (arith, same, payload_count, sized, less)))
               (shows_by C l most p' b (of_parts (cut p).whole (Some n) [] None)
-              (adds.cut_is ∙ goes_on (cut p).whole n less) refl totals stopped header payload_count (knows_then b.slots keeps))
+              (adds.cut_is ∙ goes_on (cut p).whole n less) refl totals stopped header payload_count
+              (knows_then b.slots keeps))
           | inr more ↦
               rw (settled_off b k (omega (arith, payload_count, sized, more, fits)))
-              (shows_by C l most p' (record b { header = []; payload_count = 0 }) (of_parts ((cut p).whole ++ n ∷ []) None [] None)
-              (adds.cut_is ∙ goes_off (cut p).whole n more) refl totals stopped refl refl (knows_then b.slots keeps))
+              (shows_by C l most p' (record b { header = []; payload_count = 0 })
+              (of_parts ((cut p).whole ++ n ∷ []) None [] None)
+              (adds.cut_is ∙ goes_off (cut p).whole n more) refl totals stopped refl refl
+              (knows_then b.slots keeps))
         ])
 
-module _ (C : Table) (l : Answers) (most : ℕ) (s : State) (reached : IsReached C l most s) (m : FramingView) (h : Shows C l m s) where
+module _ (C : Table) (l : Answers) (most : ℕ) (s : State) (reached : IsReached C l most s)
+    (m : FramingView) (h : Shows C l m s) where
   abbrev R : Rules
   R = rules_by C l most
 
@@ -125,21 +145,27 @@ module _ (C : Table) (l : Answers) (most : ℕ) (s : State) (reached : IsReached
   at_p = subst (Shows C l m) reached.held h
 
   -- a call that writes the lines of the octet and leaves its state does the step,
-  pub does_step : {A E : Type 0} (x : ℕ) (ls : List Line) (result : Result A E) (before after : OutLog) (f : FramingView)
+  pub does_step : {A E : Type 0} (x : ℕ) (ls : List Line) (result : Result A E)
+      (before after : OutLog) (f : FramingView)
       → lines R (p ++ x ∷ []) ≡ lines R p ++ ls → Writes result before after (lines_text ls)
-      → OnOk result (Shows C l f (state_of R (p ++ x ∷ []))) → Does C l result before after f (step R s x)
+      → OnOk result (Shows C l f (state_of R (p ++ x ∷ []))) →
+      Does C l result before after f (step R s x)
   does_step x ls result before after f grows text shows =
       subst (λ (t : State). Does C l result before after f (step R t x)) (sym reached.held)
       (does_by C l most p (p ++ x ∷ []) (step R (state_of R p) x) ls result before after f
-      (step_state R causal (in_turn C l) p x) (step_lines R causal (in_turn C l) p x) grows text shows)
+      (step_state R causal (in_turn C l) p x) (step_lines R causal (in_turn C l) p x) grows text
+      shows)
 
   -- and so for a run
-  pub does_run : {A E : Type 0} (q : List ℕ) (ls : List Line) (result : Result A E) (before after : OutLog) (f : FramingView)
+  pub does_run : {A E : Type 0} (q : List ℕ) (ls : List Line) (result : Result A E)
+      (before after : OutLog) (f : FramingView)
       → lines R (p ++ q) ≡ lines R p ++ ls → Writes result before after (lines_text ls)
-      → OnOk result (Shows C l f (state_of R (p ++ q))) → Does C l result before after f (runs R s q)
+      → OnOk result (Shows C l f (state_of R (p ++ q))) →
+      Does C l result before after f (runs R s q)
   does_run q ls result before after f grows text shows =
       subst (λ (t : State). Does C l result before after f (runs R t q)) (sym reached.held)
-      (does_by C l most p (p ++ q) (runs R (state_of R p) q) ls result before after f (run_holds R causal (in_turn C l) p q)
+      (does_by C l most p (p ++ q) (runs R (state_of R p) q) ls result before after f
+      (run_holds R causal (in_turn C l) p q)
       (run_lines R causal (in_turn C l) p q) grows text shows)
 
   -- ---- What follows from the fields for the stream, where the reading goes on.
@@ -173,8 +199,10 @@ module _ (C : Table) (l : Answers) (most : ℕ) (s : State) (reached : IsReached
         go : (o : Option Message) → (cut p).current ≡ o → o ≡ None
         go None e = refl
         go (Some c) e =
-            let fit = if_some (CurrentFits (length p) (cut p)) (cut p).current c e fits_at.current in
-            let same : m.header ≡ c.header = header_at ∙ ap (λ (o : Option Message). header_of o (cut p).held) e in
+            let fit = if_some (CurrentFits (length p) (cut p)) (cut p).current c e fits_at.current
+            in
+            let same : m.header ≡ c.header = header_at
+            ∙ ap (λ (o : Option Message). header_of o (cut p).held) e in
             let whole : length m.header ≡ 12 = ap length same ∙ fit.twelve in
             absurd (omega (arith, few, whole))
 
@@ -185,7 +213,8 @@ module _ (C : Table) (l : Answers) (most : ℕ) (s : State) (reached : IsReached
         go : (o : Option Message) → (cut p).current ≡ o → (c : Message) × ((cut p).current ≡ Some c)
         go (Some c) e = (c, e)
         go None e =
-            let same : m.header ≡ (cut p).held = header_at ∙ ap (λ (o : Option Message). header_of o (cut p).held) e in
+            let same : m.header ≡ (cut p).held =
+            header_at ∙ ap (λ (o : Option Message). header_of o (cut p).held) e in
             absurd (omega (arith, full, ap length same, fits_at.short))
 
   pub messages_at : m.totals.messages ≡ length (messages (cut p))
@@ -198,7 +227,8 @@ module _ (C : Table) (l : Answers) (most : ℕ) (s : State) (reached : IsReached
 
   -- ---- A header's last octet.
 
-  module _ (x : ℕ) (b : FramingView) (e : b ≡ held_on m x) (full : length b.header ≡ 12) (right : wrong b.header ≡ None)
+  module _ (x : ℕ) (b : FramingView) (e : b ≡ held_on m x) (full : length b.header ≡ 12)
+      (right : wrong b.header ≡ None)
       (free : b.stopped ≡ None) (room : b.totals.octets ≤ 2 ^ 48) where
     ran : m.stopped ≡ None
     unfolding held_on
@@ -232,7 +262,8 @@ module _ (C : Table) (l : Answers) (most : ℕ) (s : State) (reached : IsReached
     cur = no_current ran (omega (arith, length_push m.header x, full, ap length header_was))
 
     header_now : b.header ≡ (cut p).held ++ x ∷ []
-    header_now = header_was ∙ ap (λ (front : List ℕ). front ++ x ∷ []) (header_at ran ∙ ap (λ (o : Option Message). header_of o (cut p).held) cur)
+    header_now = header_was ∙ ap (λ (front : List ℕ). front ++ x ∷ [])
+        (header_at ran ∙ ap (λ (o : Option Message). header_of o (cut p).held) cur)
 
     -- the message that begins
     abbrev pub first : Message
@@ -242,11 +273,13 @@ module _ (C : Table) (l : Answers) (most : ℕ) (s : State) (reached : IsReached
     abbrev pub beginning : Effect
     beginning = effect_of C l most p first
 
-    first_adds : Adds R p (p ++ x ∷ []) (end_message (cut p).whole first) beginning.lines beginning.tracked
+    first_adds : Adds R p (p ++ x ∷ []) (end_message (cut p).whole first) beginning.lines
+        beginning.tracked
     unfolding tracked_after
     first_adds =
         begins_is R causal (in_turn C l) p x so (runs_on ran) cur
-        (within_limit (length p) (omega (arith, all_read ran, octets_was, room))) (ap wrong (sym header_now) ∙ right)
+        (within_limit (length p) (omega (arith, all_read ran, octets_was, room)))
+        (ap wrong (sym header_now) ∙ right)
         (ap length (sym header_now) ∙ full)
 
     count : length (messages (cut p)) ≡ length (cut p).whole
@@ -258,12 +291,15 @@ module _ (C : Table) (l : Answers) (most : ℕ) (s : State) (reached : IsReached
 
     pub is_first : (now : Current) → now.number ≡ b.totals.messages + 1 → now.header ≡ b.header
         → now.place ≡ b.totals.octets → now.payload_count ≡ b.payload_count
-        → IsBeforeMessage C l b.slots (tracked_after R p) (owner_of_next_in (open_after most p) (cut p).current) first now
+        → IsBeforeMessage C l b.slots (tracked_after R p)
+        (owner_of_next_in (open_after most p) (cut p).current) first now
     unfolding tracked_after
     is_first now number header at payload_count =
         let within = fits_at ran in
         record {
-          keeps = subst (λ (z : Slots). SlotsRepresent C l z (tracked_after R p) (owner_of_next_in (open_after most p) (cut p).current)) (sym slots_was) (knows_at ran);
+          keeps = subst (λ (z : Slots). SlotsRepresent C l z (tracked_after R p)
+              (owner_of_next_in (open_after most p) (cut p).current)) (sym slots_was)
+              (knows_at ran);
           rising = so.rising;
           current = record {
             number = omega (arith, number, messages_was, messages_at, count);
@@ -275,30 +311,41 @@ module _ (C : Table) (l : Answers) (most : ℕ) (s : State) (reached : IsReached
           none_come = refl;
           payload_count = payload_count ∙ none_come;
           newest = each_weaker (λ o. o.opener.number ≤ length (messages (cut p)))
-              (λ o. o.opener.number < suc (length (cut p).whole)) (λ o k. omega (arith, k, count)) (open_after most p) so.numbers;
+              (λ o. o.opener.number < suc (length (cut p).whole)) (λ o k. omega (arith, k, count))
+              (open_after most p) so.numbers;
           unknown = so.unknown (suc (length (cut p).whole)) (omega (arith, count));
         }
 
     pub begun_does : {A E : Type 0} (result : Result A E) (before after : OutLog) (f : FramingView)
-        → Writes result before after (lines_text beginning.lines) → OnOk result (Shows C l f (state_of R (p ++ x ∷ [])))
+        → Writes result before after (lines_text beginning.lines) →
+        OnOk result (Shows C l f (state_of R (p ++ x ∷ [])))
         → Does C l result before after f (step R s x)
-    begun_does result before after f text shows = does_step x beginning.lines result before after f first_adds.lines text shows
+    begun_does result before after f text shows =
+        does_step x beginning.lines result before after f first_adds.lines text shows
 
-    pub begun_shows : (b' f : FramingView) (k : ℕ) → f ≡ settled b' k → b'.totals.messages ≡ b.totals.messages + 1
-        → b'.totals.faults ≡ b.totals.faults + fault_count beginning.lines → b'.totals.octets ≡ b.totals.octets
-        → b'.stopped ≡ b.stopped → b'.header ≡ b.header → b'.payload_count ≡ b.payload_count → k ≡ size b.header
-        → SlotsRepresent C l b'.slots beginning.tracked (owner_after beginning.tracked.still_open first) → Shows C l f (state_of R (p ++ x ∷ []))
+    pub begun_shows : (b' f : FramingView) (k : ℕ) → f ≡ settled b' k →
+        b'.totals.messages ≡ b.totals.messages + 1
+        → b'.totals.faults ≡ b.totals.faults + fault_count beginning.lines →
+        b'.totals.octets ≡ b.totals.octets
+        → b'.stopped ≡ b.stopped → b'.header ≡ b.header → b'.payload_count ≡ b.payload_count →
+        k ≡ size b.header
+        → SlotsRepresent C l b'.slots beginning.tracked
+        (owner_after beginning.tracked.still_open first) →
+        Shows C l f (state_of R (p ++ x ∷ []))
     begun_shows b' f k is messages faults octets stopped header payload_count sized keeps =
         settled_shows C l most p x first (omega arith) refl first_adds b' f k is
-        (omega (arith, messages, messages_was, messages_at, count)) (omega (arith, faults, faults_was, faults_at))
-        (omega (arith, octets, octets_was, all_read ran)) (stopped ∙ free) (header ∙ header_now) (payload_count ∙ none_come)
+        (omega (arith, messages, messages_was, messages_at, count))
+        (omega (arith, faults, faults_was, faults_at))
+        (omega (arith, octets, octets_was, all_read ran)) (stopped ∙ free) (header ∙ header_now)
+        (payload_count ∙ none_come)
         (sized ∙ ap size header_now) keeps
 
   -- ---- The current message.
 
   module _ (free : m.stopped ≡ None) (c : Message) (cur : (cut p).current ≡ Some c) where
     pub current_fits : CurrentFits (length p) (cut p) c
-    current_fits = if_some (CurrentFits (length p) (cut p)) (cut p).current c cur (fits_at free).current
+    current_fits = if_some (CurrentFits (length p) (cut p)) (cut p).current c cur
+        (fits_at free).current
 
     pub header_is : m.header ≡ c.header
     header_is = header_at free ∙ ap (λ (o : Option Message). header_of o (cut p).held) cur
@@ -314,7 +361,8 @@ module _ (C : Table) (l : Answers) (most : ℕ) (s : State) (reached : IsReached
     number_is = omega (arith, current_fits.number_is, messages_at, all_messages)
 
     pub right : AreOctets c.header × (first_wrong_octet c.header ≡ None)
-    right = if_some (λ c. AreOctets c.header × (first_wrong_octet c.header ≡ None)) (cut p).current c cur (header_octets p reached.octets)
+    right = if_some (λ c. AreOctets c.header × (first_wrong_octet c.header ≡ None)) (cut p).current
+        c cur (header_octets p reached.octets)
 
     -- the number of its octets fits the counter
     pub size_few : size m.header < 2 ^ 32

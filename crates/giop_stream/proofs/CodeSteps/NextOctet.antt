@@ -1,4 +1,5 @@
--- The state of a stream, part by part; from it follows what the next octet is, and what events that octet has.
+-- The state of a stream, part by part; from it follows what the next octet is, and what events that
+-- octet has.
 use Rattle.std.proofs.Common.{inl, inr, ◌⊎◌, ◌≡◌, ℕ, suc, ◌-◌, ◌<◌, ◌≤◌, Bool, true, false, List, [], ◌∷◌, ◌++◌, length, get_or, take, refl, sym, ap, subst, ◌∙◌, Option, Some, None, arith}
 use Rattle.std.specs.Prelude.{◌==◌, ◌||◌, IfSome, option_map}
 use Rattle.std.proofs.lemmas.Bool.{lt-ltb, ne_eqb, le-leb}
@@ -44,20 +45,29 @@ shape t c tracked = record {
   owner = owner_in tracked.known tracked.still_open c.current;
 }
 
-pub state_is : (R : Rules) (p : List ℕ) (t : Totals) (c : Cut) (tracked : Tracked) → tally R p ≡ t → cut p ≡ c → tracked_after R p ≡ tracked → state_of R p ≡ shape t c tracked
+pub state_is : (R : Rules) (p : List ℕ) (t : Totals) (c : Cut) (tracked : Tracked) → tally R p ≡ t →
+    cut p ≡ c → tracked_after R p ≡ tracked → state_of R p ≡ shape t c tracked
 unfolding state_of shape tracked_after
 state_is R p t c tracked et ec es = λ j. shape (et j) (ec j) (es j)
 
-pub tally_by : (R : Rules) (p : List ℕ) (c : Cut) (a b n : ℕ) → cut p ≡ c → start_count (lines R p) ≡ a
-    → fault_count (lines R p) ≡ b → read_of p c.stop ≡ n → tally R p ≡ record { messages = a; faults = b; octets = n }
+pub tally_by : (R : Rules) (p : List ℕ) (c : Cut) (a b n : ℕ) → cut p ≡ c →
+    start_count (lines R p) ≡ a
+    → fault_count (lines R p) ≡ b → read_of p c.stop ≡ n →
+    tally R p ≡ record { messages = a; faults = b; octets = n }
 unfolding tally
-tally_by R p c a b n ec e f o = λ j. record { messages = e j; faults = f j; octets = (ap (λ (c : Cut). read_of p c.stop) ec ∙ o) j }
+tally_by R p c a b n ec e f o = λ j. record {
+  messages = e j;
+  faults = f j;
+  octets =
+      (ap (λ (c : Cut). read_of p c.stop) ec ∙ o) j;
+}
 
 pub read_all : (p : List ℕ) → (cut p).stop ≡ None → read_of p (cut p).stop ≡ length p
 unfolding read_of
 read_all p st = rw st refl
 
-read_found : (p : List ℕ) (stop : Option (ℕ × StreamFault)) (found : ℕ × StreamFault) → stop ≡ Some found → read_of p stop ≡ found.0
+read_found : (p : List ℕ) (stop : Option (ℕ × StreamFault)) (found : ℕ × StreamFault) →
+    stop ≡ Some found → read_of p stop ≡ found.0
 unfolding read_of
 read_found p stop found e = rw e refl
 
@@ -67,35 +77,45 @@ stop_faults found = refl
 
 -- ---- What the next octet is, from the state.
 
-octet_short : (held : List ℕ) (number read a b x : ℕ) → length held < 12 → octet_in None held number read a x ≡ octet_in None held number read b x
+octet_short : (held : List ℕ) (number read a b x : ℕ) → length held < 12 →
+    octet_in None held number read a x ≡ octet_in None held number read b x
 unfolding octet_in
 octet_short held number read a b x short = rw (lt-ltb (length held) 12 short) refl
 
-seen : (stop : Option (ℕ × StreamFault)) (current : Option Message) (held : List ℕ) (number number' read n x : ℕ)
-    → number ≡ number' → (stop ≡ None → read ≡ n) → (stop ≡ None → IfSome current (λ m. length m.payload < size m.header))
+seen : (stop : Option (ℕ × StreamFault)) (current : Option Message) (held : List ℕ)
+    (number number' read n x : ℕ)
+    → number ≡ number' → (stop ≡ None → read ≡ n) →
+    (stop ≡ None → IfSome current (λ m. length m.payload < size m.header))
     → (stop ≡ None → length held < 12)
     → octet_in (fault_of stop) (unless stop [] (header_of current held)) number read
-    (size (unless stop [] (header_of current held)) - unless stop 0 (left_of current)) x ≡ octet_in (fault_of stop)
+    (size (unless stop [] (header_of current held)) - unless stop 0 (left_of current)) x
+    ≡ octet_in (fault_of stop)
     (header_of current held) number' n (payload_count_of current) x
 unfolding octet_in
 seen (Some found) current held number number' read n x e r lacks short = refl
 seen None (Some m) held number number' read n x e r lacks short =
     let less = lacks refl in
-    let payload_count : size m.header - (size m.header - length m.payload) ≡ length m.payload = omega (arith, less) in
+    let payload_count : size m.header - (size m.header - length m.payload) ≡ length m.payload =
+    omega (arith, less) in
     λ j. octet_in None m.header (e j) (r refl j) (payload_count j) x
 seen None None held number number' read n x e r lacks short =
-    (λ j. octet_in None held (e j) (r refl j) (size held - 0) x) ∙ octet_short held number' n (size held - 0) 0 x (short refl)
+    (λ j. octet_in None held (e j) (r refl j) (size held - 0) x)
+    ∙ octet_short held number' n (size held - 0) 0 x (short refl)
 
-weaker : (P Q : Message → Type 0) → ((m : Message) → P m → Q m) → (o : Option Message) → IfSome o P → IfSome o Q
+weaker : (P Q : Message → Type 0) → ((m : Message) → P m → Q m) → (o : Option Message) →
+    IfSome o P → IfSome o Q
 weaker P Q h None k = tt
 weaker P Q h (Some m) k = h m k
 
-pub octet_is : (R : Rules) (p : List ℕ) (x : ℕ) → IsSound R p → octet_at (state_of R p) x ≡ octet_of (cut p) (length p) x
+pub octet_is : (R : Rules) (p : List ℕ) (x : ℕ) → IsSound R p →
+    octet_at (state_of R p) x ≡ octet_of (cut p) (length p) x
 unfolding octet_at octet_of state_of tally
 octet_is R p x sound =
-    seen (cut p).stop (cut p).current (cut p).held (start_count (lines R p)) (length (messages (cut p)))
+    seen (cut p).stop (cut p).current (cut p).held (start_count (lines R p))
+    (length (messages (cut p)))
     (read_of p (cut p).stop) (length p) x sound.starts (λ free. unfold read_of in rw free refl)
-    (λ free. weaker (CurrentFits (length p) (cut p)) (λ m. length m.payload < size m.header) (λ m k. k.lacks)
+    (λ free. weaker (CurrentFits (length p) (cut p)) (λ m. length m.payload < size m.header)
+    (λ m k. k.lacks)
     (cut p).current (sound.fits free).current) (λ free. (sound.fits free).short)
 
 -- ---- The steps outside of messages.
@@ -105,24 +125,30 @@ pub record Steps (R : Rules) (p p' : List ℕ) (one : Step) : Type 0 where
   pub lines : lines R p' ≡ lines R p ++ one.lines
 
 module _ (R : Rules) (p : List ℕ) (x : ℕ) where
-  pub behind_steps : (found : ℕ × StreamFault) → (cut p).stop ≡ Some found → Adds R p (p ++ x ∷ []) (cut p) [] (tracked_after R p)
+  pub behind_steps : (found : ℕ × StreamFault) → (cut p).stop ≡ Some found →
+      Adds R p (p ++ x ∷ []) (cut p) [] (tracked_after R p)
       → Steps R p (p ++ x ∷ []) (record { state = state_of R p; lines = [] })
   behind_steps found st adds =
       let p' = p ++ x ∷ [] in
       let ln : lines R p' ≡ lines R p = adds.lines ∙ append-nil (lines R p) in
-      let rd : read_of p' (cut p).stop ≡ read_of p (cut p).stop = read_found p' (cut p).stop found st ∙ sym (read_found p (cut p).stop found st) in
+      let rd : read_of p' (cut p).stop ≡ read_of p (cut p).stop =
+      read_found p' (cut p).stop found st ∙ sym (read_found p (cut p).stop found st) in
       let now =
-      tally_by R p' (cut p) (start_count (lines R p)) (fault_count (lines R p)) (read_of p (cut p).stop) adds.cut_is
+      tally_by R p' (cut p) (start_count (lines R p)) (fault_count (lines R p))
+      (read_of p (cut p).stop) adds.cut_is
       (ap start_count ln) (ap fault_count ln) rd in
-      let was = tally_by R p (cut p) (start_count (lines R p)) (fault_count (lines R p)) (read_of p (cut p).stop) refl refl refl refl in
+      let was = tally_by R p (cut p) (start_count (lines R p)) (fault_count (lines R p))
+      (read_of p (cut p).stop) refl refl refl refl in
       record {
-        state = state_is R p' (tally R p) (cut p) (tracked_after R p) (now ∙ sym was) adds.cut_is adds.tracked_after
+        state = state_is R p' (tally R p) (cut p) (tracked_after R p) (now ∙ sym was) adds.cut_is
+            adds.tracked_after
             ∙ sym (state_is R p (tally R p) (cut p) (tracked_after R p) refl refl refl);
         lines = adds.lines;
       }
 
   pub ends_steps : (fault : StreamFault) → (cut p).stop ≡ None
-      → Adds R p (p ++ x ∷ []) (stopped_at (suc (length p)) fault (cut p)) (stop_line (Some (suc (length p), fault)))
+      → Adds R p (p ++ x ∷ []) (stopped_at (suc (length p)) fault (cut p))
+      (stop_line (Some (suc (length p), fault)))
       (tracked_after R p) → Steps R p (p ++ x ∷ []) (ended (state_of R p) fault)
   unfolding ended shape state_of stopped_at tracked_after tally
   ends_steps fault st adds =
@@ -130,12 +156,16 @@ module _ (R : Rules) (p : List ℕ) (x : ℕ) where
       let found : ℕ × StreamFault = (suc (length p), fault) in
       let rd : suc (length p) ≡ suc (read_of p (cut p).stop) = ap suc (sym (read_all p st)) in
       let sc : start_count (lines R p') ≡ start_count (lines R p) =
-      ap start_count adds.lines ∙ (start_append (lines R p) (stop_line (Some found)) ∙ omega (arith, stop_starts found)) in
+      ap start_count adds.lines ∙ (start_append (lines R p) (stop_line (Some found))
+      ∙ omega (arith, stop_starts found)) in
       let fc : fault_count (lines R p') ≡ suc (fault_count (lines R p)) =
-      ap fault_count adds.lines ∙ (count_append (lines R p) (stop_line (Some found)) ∙ omega (arith, stop_faults found)) in
+      ap fault_count adds.lines ∙ (count_append (lines R p) (stop_line (Some found))
+      ∙ omega (arith, stop_faults found)) in
       let t =
-      tally_by R p' (stopped_at (suc (length p)) fault (cut p)) (start_count (lines R p)) (suc (fault_count (lines R p)))
-      (suc (read_of p (cut p).stop)) adds.cut_is sc fc (read_found p' (Some found) found refl ∙ rd) in
+      tally_by R p' (stopped_at (suc (length p)) fault (cut p)) (start_count (lines R p))
+      (suc (fault_count (lines R p)))
+      (suc (read_of p (cut p).stop)) adds.cut_is sc fc (read_found p' (Some found) found refl ∙ rd)
+      in
       record {
         state = state_is R p' _ (stopped_at (suc (length p)) fault (cut p))
             (tracked_after R p) t adds.cut_is adds.tracked_after;
@@ -150,31 +180,45 @@ module _ (R : Rules) (p : List ℕ) (x : ℕ) where
   held_steps front st cur adds =
       let p' = p ++ x ∷ [] in
       let ln : lines R p' ≡ lines R p = adds.lines ∙ append-nil (lines R p) in
-      let rd : length p' ≡ suc (read_of p (cut p).stop) = omega (arith, length_push p x) ∙ ap suc (sym (read_all p st)) in
+      let rd : length p' ≡ suc (read_of p (cut p).stop) =
+      omega (arith, length_push p x) ∙ ap suc (sym (read_all p st)) in
       let t =
-      tally_by R p' (of_parts (cut p).whole None front None) (start_count (lines R p)) (fault_count (lines R p))
+      tally_by R p' (of_parts (cut p).whole None front None) (start_count (lines R p))
+      (fault_count (lines R p))
       (suc (read_of p (cut p).stop)) adds.cut_is (ap start_count ln) (ap fault_count ln) rd in
-      record { state = state_is R p' _ (of_parts (cut p).whole None front None) (tracked_after R p) t adds.cut_is adds.tracked_after ∙ rw (st, cur) refl; lines = adds.lines }
+      record {
+        state = state_is R p' _ (of_parts (cut p).whole None front None) (tracked_after R p)
+            t adds.cut_is adds.tracked_after ∙ rw (st, cur) refl;
+        lines = adds.lines;
+      }
 
 -- ---- An octet of a message: its events, from the state.
 
-unmapped : (w : Now) (o : Option (List ℕ)) → option_map (λ (own : Own). own.octets) (option_map (λ xs. record { message_key = w.subject; octets = xs }) o) ≡ o
+unmapped : (w : Now) (o : Option (List ℕ)) →
+    option_map (λ (own : Own). own.octets)
+    (option_map (λ xs. record { message_key = w.subject; octets = xs }) o) ≡ o
 unmapped w None = refl
 unmapped w (Some xs) = refl
 
-pub below_open : (n : ℕ) (still_open : List Open) → Below n still_open → is_open still_open n ≡ false
+pub below_open : (n : ℕ) (still_open : List Open) → Below n still_open →
+    is_open still_open n ≡ false
 unfolding is_open
 below_open n [] h = refl
-below_open n (o ∷ still_open) h = let less = h.0 in rw (ne_eqb o.opener.number n (λ e. omega (arith, less, e))) (below_open n still_open h.1)
+below_open n (o ∷ still_open) h = let less = h.0 in
+    rw (ne_eqb o.opener.number n (λ e. omega (arith, less, e))) (below_open n still_open h.1)
 
 -- what the state gives of the message m, at its octet
 pub record Shows (R : Rules) (p : List ℕ) (m : Message) : Type 0 where
-  pub own_is : goes_past m ≡ false → is_open (open_after R.most p) m.number ≡ false → own_octets (state_of R p) (now_of m) ≡ octets_of R p m.number
-  pub name_is : length m.payload ≡ 4 → has_name m.header ≡ true → id_of (state_of R p) (now_of m) ≡ id m
-  pub past_is : 4 < length m.payload → is_fragment m.header ≡ true → other_of (state_of R p) (now_of m) ≡ opener_of (open_after R.most p) m
+  pub own_is : goes_past m ≡ false → is_open (open_after R.most p) m.number ≡ false →
+      own_octets (state_of R p) (now_of m) ≡ octets_of R p m.number
+  pub name_is : length m.payload ≡ 4 → has_name m.header ≡ true →
+      id_of (state_of R p) (now_of m) ≡ id m
+  pub past_is : 4 < length m.payload → is_fragment m.header ≡ true →
+      other_of (state_of R p) (now_of m) ≡ opener_of (open_after R.most p) m
 
 module _ (R : Rules) (p : List ℕ) (x : ℕ) (sound : IsSound R p) (alive : IsAlive R p) where
-  shows_first : (m : Message) → m.payload ≡ [] → m.number ≡ suc (length (messages (cut p))) → Shows R p m
+  shows_first : (m : Message) → m.payload ≡ [] → m.number ≡ suc (length (messages (cut p))) →
+      Shows R p m
   shows_first m none number = record {
     own_is = λ past free. rw none (sym (sound.unknown m.number (omega (arith, number))));
     name_is = λ four. absurd (let no : 0 ≡ 4 = rw none at four in omega (arith, no));
@@ -199,22 +243,31 @@ module _ (R : Rules) (p : List ℕ) (x : ℕ) (sound : IsSound R p) (alive : IsA
       )
       (unmapped (now_of was) (octets_of R p was.number))
 
-  name_held : (was : Message) → (cut p).stop ≡ None → (cut p).current ≡ Some was → length (was.payload ++ x ∷ []) ≡ 4
-      → has_name was.header ≡ true → id_of (state_of R p) (now_of (with_octet was x)) ≡ id (with_octet was x)
+  name_held : (was : Message) → (cut p).stop ≡ None → (cut p).current ≡ Some was →
+      length (was.payload ++ x ∷ []) ≡ 4
+      → has_name was.header ≡ true → id_of (state_of R p) (now_of (with_octet was x))
+      ≡ id (with_octet was x)
   unfolding id_of id
   name_held was st cur four name =
       let m = with_octet was x in
       let long = length_push was.payload x in
       let few : length was.payload < 4 = omega (arith, long, four) in
-      let low = if_some (λ m. length m.payload < 4 → Below m.number (open_after R.most p)) (cut p).current was cur (sound.early st) few in
+      let low = if_some (λ m. length m.payload < 4 → Below m.number (open_after R.most p))
+      (cut p).current was cur (sound.early st) few in
       let past : goes_past m ≡ false = past_not m (omega (arith, four)) in
       let kept_is : own_octets (state_of R p) (now_of m) ≡ Some was.payload =
-      own_held was cur past (below_open was.number (open_after R.most p) low) ∙ alive st was cur name few in
-      let last : get_or (was.payload ++ x ∷ []) (length (was.payload ++ x ∷ []) - 1) 0 ≡ x = get_or_push was.payload x 0 _ (omega (arith, long)) in
-      ap (id_by (now_of m)) kept_is ∙ rw (last, take_all 4 (was.payload ++ x ∷ []) (omega (arith, four))) refl
+      own_held was cur past (below_open was.number (open_after R.most p) low)
+      ∙ alive st was cur name few in
+      let last : get_or (was.payload ++ x ∷ []) (length (was.payload ++ x ∷ []) - 1) 0 ≡ x =
+      get_or_push was.payload x 0 _ (omega (arith, long)) in
+      ap (id_by (now_of m)) kept_is ∙ rw (
+        last,
+        take_all 4 (was.payload ++ x ∷ []) (omega (arith, four)),
+      ) refl
 
   past_held : (was : Message) → (cut p).current ≡ Some was → 4 < length (was.payload ++ x ∷ [])
-      → is_fragment was.header ≡ true → other_of (state_of R p) (now_of (with_octet was x)) ≡ opener_of (open_after R.most p)
+      → is_fragment was.header ≡ true → other_of (state_of R p) (now_of (with_octet was x))
+      ≡ opener_of (open_after R.most p)
       (with_octet was x)
   unfolding other_of state_of owner_for opener_of id
   past_held was cur long f =
@@ -228,16 +281,24 @@ module _ (R : Rules) (p : List ℕ) (x : ℕ) (sound : IsSound R p) (alive : IsA
             (length was.payload) more,
         take-append-le 4 was.payload (x ∷ []) more,
       )
-      (found_again (λ o. o.id == num (order was.header) (take 4 was.payload)) (open_after R.most p) sound.rising)
+      (found_again (λ o. o.id == num (order was.header) (take 4 was.payload)) (open_after R.most p)
+      sound.rising)
 
-  shows_next : (was : Message) → (cut p).stop ≡ None → (cut p).current ≡ Some was → Shows R p (with_octet was x)
-  shows_next was st cur = record { own_is = own_held was cur; name_is = name_held was st cur; past_is = past_held was cur }
+  shows_next : (was : Message) → (cut p).stop ≡ None → (cut p).current ≡ Some was →
+      Shows R p (with_octet was x)
+  shows_next was st cur = record {
+    own_is = own_held was cur;
+    name_is = name_held was st cur;
+    past_is = past_held was cur;
+  }
 
   pub shows : (m : Message) → (cut p).stop ≡ None → m.number ≡ suc (length (cut p).whole)
-      → (((cut p).current ≡ None) × (m.payload ≡ [])) ⊎ ((was : Message) × ((cut p).current ≡ Some was) × (m
+      → (((cut p).current ≡ None) × (m.payload ≡ []))
+      ⊎ ((was : Message) × ((cut p).current ≡ Some was) × (m
       ≡ with_octet was x)) → Shows R p m
   unfolding messages
-  shows m st number (inl (cur, none)) = shows_first m none (rw (cur, append-nil (cut p).whole) number)
+  shows m st number (inl (cur, none)) = shows_first m none
+      (rw (cur, append-nil (cut p).whole) number)
   shows m st number (inr (was, cur, is)) = subst (Shows R p) (sym is) (shows_next was st cur)
 
 pub fragment_named : (header : List ℕ) → is_fragment header ≡ true → has_name header ≡ true

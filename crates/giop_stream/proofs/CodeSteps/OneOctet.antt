@@ -1,4 +1,5 @@
--- A stream with one more octet, in each case: its cut, its lines, what is tracked of its messages, and that the invariants
+-- A stream with one more octet, in each case: its cut, its lines, what is tracked of its messages,
+-- and that the invariants
 -- stay.
 use native.Mathlib.Nat.{le_of_eq}
 use Rattle.std.proofs.Common.{inl, inr, ◌⊎◌, ◌≡◌, ℕ, suc, ◌+◌, ◌-◌, ◌<◌, ◌≤◌, Bool, true, false, List, [], ◌∷◌, ◌++◌, length, get_or, refl, sym, ap, subst, ◌∙◌, Option, Some, None, arith}
@@ -35,13 +36,14 @@ use Rattle.giop_stream.proofs.Events.Soundness.{Fits, IsSound, dealt_sound, even
 use Rattle.giop_stream.proofs.Events.StepCases.{quiet_sound, stop_starts, none_known, not_twelve, place_more, place_first, events_of_cut}
 use Rattle.giop_stream.proofs.Events.StepCases.{octets_are}
 
-pub record Adds (R : Rules) (p p' : List ℕ) (c : Cut) (ls : List Line) (tracked : Tracked) : Type 0 where
-  pub cut_is : cut p' ≡ c
-  pub lines : lines R p' ≡ lines R p ++ ls
-  pub here : Each (λ l. l.place ≡ suc (length p)) ls
-  pub rises : Rises ls
-  pub tracked_after : tracked_after R p' ≡ tracked
-  pub sound : IsSound R p'
+pub record Adds (R : Rules) (p p' : List ℕ) (c : Cut) (ls : List Line) (tracked : Tracked) : Type 0
+  where
+    pub cut_is : cut p' ≡ c
+    pub lines : lines R p' ≡ lines R p ++ ls
+    pub here : Each (λ l. l.place ≡ suc (length p)) ls
+    pub rises : Rises ls
+    pub tracked_after : tracked_after R p' ≡ tracked
+    pub sound : IsSound R p'
 
 -- an octet of the message m: its header's last one, or one more of its payload
 pub record IsOf (R : Rules) (p : List ℕ) (x : ℕ) (now : Now) : Type 0 where
@@ -50,96 +52,152 @@ pub record IsOf (R : Rules) (p : List ℕ) (x : ℕ) (now : Now) : Type 0 where
   pub fits : length m.payload ≤ size m.header
   pub number_is : m.number ≡ suc (length (cut p).whole)
   pub place_is : place m ≡ suc (length p)
-  pub from : (((cut p).current ≡ None) × (m.payload ≡ [])) ⊎ ((was : Message) × ((cut p).current ≡ Some was) × (m ≡ with_octet was x))
-  pub grows : events R.most (p ++ x ∷ []) ≡ events R.most p ++ events_of_octet R.most (open_after R.most p) m
-  pub adds : Adds R p (p ++ x ∷ []) (end_message (cut p).whole m) (effects R.reading (tracked_after R p) (events_of_octet R.most (open_after R.most p) m)).lines
-      (effects R.reading (tracked_after R p) (events_of_octet R.most (open_after R.most p) m)).tracked
+  pub from : (((cut p).current ≡ None) × (m.payload ≡ []))
+      ⊎ ((was : Message) × ((cut p).current ≡ Some was) × (m ≡ with_octet was x))
+  pub grows : events R.most (p ++ x ∷ []) ≡ events R.most p
+      ++ events_of_octet R.most (open_after R.most p) m
+  pub adds : Adds R p (p ++ x ∷ []) (end_message (cut p).whole m)
+      (effects R.reading (tracked_after R p) (events_of_octet R.most (open_after R.most p) m)).lines
+      (effects R.reading (tracked_after R p)
+      (events_of_octet R.most (open_after R.most p) m)).tracked
 
 -- the message that begins with this header, after these messages
 abbrev pub beginner : List Message → ℕ → List ℕ → Message
-beginner whole at header = record { number = suc (length whole); before = at - 12; header = header; payload = [] }
+beginner whole at header = record {
+  number = suc (length whole);
+  before = at - 12;
+  header = header;
+  payload = [];
+}
 
 abbrev pub Then : Rules → List ℕ → ℕ → Octet → Type 0
-Then R p x AfterStop = (found : ℕ × StreamFault) × ((cut p).stop ≡ Some found) × Adds R p (p ++ x ∷ []) (cut p) [] (tracked_after R p)
+Then R p x AfterStop = (found : ℕ × StreamFault) × ((cut p).stop ≡ Some found)
+    × Adds R p (p ++ x ∷ []) (cut p) [] (tracked_after R p)
 Then R p x (Ends fault) =
-    ((cut p).stop ≡ None) × Adds R p (p ++ x ∷ []) (stopped_at (suc (length p)) fault (cut p)) (stop_line (Some (suc (length p), fault))) (tracked_after R p)
-Then R p x (Held front) = ((cut p).stop ≡ None) × ((cut p).current ≡ None) × Adds R p (p ++ x ∷ []) (of_parts (cut p).whole None front None) [] (tracked_after R p)
+    ((cut p).stop ≡ None) × Adds R p (p ++ x ∷ []) (stopped_at (suc (length p)) fault (cut p))
+    (stop_line (Some (suc (length p), fault))) (tracked_after R p)
+Then R p x (Held front) = ((cut p).stop ≡ None) × ((cut p).current ≡ None)
+    × Adds R p (p ++ x ∷ []) (of_parts (cut p).whole None front None) [] (tracked_after R p)
 Then R p x (Of now) = ((cut p).stop ≡ None) × IsOf R p x now
 
 -- ---- What the next octet is, by the parts of the cut.
 
-pub octet_limit : (held : List ℕ) (number n payload_count x : ℕ) → nat_lt limit (suc n) ≡ true → octet_in None held number n payload_count x ≡ Ends StreamLimit
+pub octet_limit : (held : List ℕ) (number n payload_count x : ℕ) → nat_lt limit (suc n) ≡ true →
+    octet_in None held number n payload_count x ≡ Ends StreamLimit
 unfolding octet_in
 octet_limit held number n payload_count x e = rw e refl
 
-pub octet_front : (held : List ℕ) (number n payload_count x : ℕ) → nat_lt limit (suc n) ≡ false → length held < 12
-    → octet_in None held number n payload_count x ≡ front_is (held ++ x ∷ []) number (suc n) (wrong (held ++ x ∷ []))
+pub octet_front : (held : List ℕ) (number n payload_count x : ℕ) → nat_lt limit (suc n) ≡ false →
+    length held < 12
+    → octet_in None held number n payload_count x
+    ≡ front_is (held ++ x ∷ []) number (suc n) (wrong (held ++ x ∷ []))
 unfolding octet_in
 octet_front held number n payload_count x e short = rw (e, lt-ltb (length held) 12 short) refl
 
-pub octet_paid : (header : List ℕ) (number n payload_count x : ℕ) → nat_lt limit (suc n) ≡ false → length header ≡ 12
+pub octet_paid : (header : List ℕ) (number n payload_count x : ℕ) → nat_lt limit (suc n) ≡ false →
+    length header ≡ 12
     → octet_in None header number n payload_count x ≡ Of
-    (record { subject = record { number = number; header = header }; place = suc n; payload_count = suc payload_count; octet = x })
+    (record {
+      subject = record { number = number; header = header };
+      place = suc n;
+      payload_count =
+          suc payload_count;
+      octet = x;
+    })
 unfolding octet_in
-octet_paid header number n payload_count x e twelve = rw (e, le-ltb (length header) 12 (omega (arith, twelve))) refl
+octet_paid header number n payload_count x e twelve =
+    rw (e, le-ltb (length header) 12 (omega (arith, twelve))) refl
 
 pub front_full : (front : List ℕ) (number at : ℕ) → length front ≡ 12
     → front_is front number at None ≡ Of
-    (record { subject = record { number = suc number; header = front }; place = at; payload_count = 0; octet = 0 })
+    (record {
+      subject = record { number = suc number; header = front };
+      place = at;
+      payload_count =
+          0;
+      octet = 0;
+    })
 front_full front number at twelve = rw (eq-eqb (length front) 12 twelve) refl
 
-pub front_short : (front : List ℕ) (number at : ℕ) → (length front == 12) ≡ false → front_is front number at None ≡ Held front
+pub front_short : (front : List ℕ) (number at : ℕ) → (length front == 12) ≡ false →
+    front_is front number at None ≡ Held front
 front_short front number at e = rw e refl
 
 -- ---- The lines of an effect, in their order.
 
-now_here : (R : MessageReader) (n : ℕ) (K : OctetsByNumber) (es : List Event) → Ordered (all_lines R K es) → Each (λ e. e.place ≡ n) es
+now_here : (R : MessageReader) (n : ℕ) (K : OctetsByNumber) (es : List Event) →
+    Ordered (all_lines R K es) → Each (λ e. e.place ≡ n) es
     → Each (λ l. l.place ≡ n) (sorted_lines R K es)
 unfolding sorted_lines
 now_here R n K es h here =
-    rw (ordered_stays (all_lines R K es) h) (standing_each (λ l. l.place ≡ n) (λ i. false) (all_lines R K es) (all_lines_places R (λ k. k ≡ n) K es here))
+    rw (ordered_stays (all_lines R K es) h)
+    (standing_each (λ l. l.place ≡ n) (λ i. false) (all_lines R K es)
+    (all_lines_places R (λ k. k ≡ n) K es here))
 
-now_rises : (R : MessageReader) (K : OctetsByNumber) (es : List Event) → Fine (all_lines R K es) → Rises (sorted_lines R K es)
+now_rises : (R : MessageReader) (K : OctetsByNumber) (es : List Event) → Fine (all_lines R K es) →
+    Rises (sorted_lines R K es)
 unfolding sorted_lines
 now_rises R K es h = rw (ordered_stays (all_lines R K es) h.ordered) h.rises
 
 -- ---- The cases.
 
-module _ (R : Rules) (causal : IsCausal R.reading) (laws : IsStreamable R.reading) (p : List ℕ) (x : ℕ) (sound : IsSound R p) where
+module _ (R : Rules) (causal : IsCausal R.reading) (laws : IsStreamable R.reading) (p : List ℕ)
+    (x : ℕ) (sound : IsSound R p) where
   len : length (p ++ x ∷ []) ≡ suc (length p)
   len = omega (arith, length_push p x)
 
   -- where the octet is of no message
   idle : (c : Cut) (ls : List Line) → cut (p ++ x ∷ []) ≡ c → messages c ≡ messages (cut p)
-      → lines_of_messages R p ++ stop_line c.stop ≡ lines R p ++ ls → start_count ls ≡ 0 → Each (λ l. l.place ≡ suc (length p)) ls → Rises ls
-      → (c.stop ≡ None → (c.current ≡ None) × Fits (suc (length p)) c) → Adds R p (p ++ x ∷ []) c ls (tracked_after R p)
+      → lines_of_messages R p ++ stop_line c.stop ≡ lines R p ++ ls → start_count ls ≡ 0 →
+      Each (λ l. l.place ≡ suc (length p)) ls → Rises ls
+      → (c.stop ≡ None → (c.current ≡ None) × Fits (suc (length p)) c) →
+      Adds R p (p ++ x ∷ []) c ls (tracked_after R p)
   unfolding tracked_after events
   idle c ls ec ms same none here rises fits =
       let p' = p ++ x ∷ [] in
-      let ev : events R.most p' ≡ events R.most p = ap (events_from R.most []) (ap messages ec ∙ ms) in
+      let ev : events R.most p' ≡ events R.most p =
+      ap (events_from R.most []) (ap messages ec ∙ ms) in
       let sd = message_lines_same R causal p p' len ev sound.places in
       let ln : lines R p' ≡ lines R p ++ ls =
-      lines_stopped R p' c.stop (ap (λ (d : Cut). d.stop) ec) ∙ (ap (λ (l : List Line). l ++ stop_line c.stop) sd ∙ same) in
-      let sc : start_count (lines R p') ≡ start_count (lines R p) = ap start_count ln ∙ (start_append (lines R p) ls ∙ omega (arith, none)) in
+      lines_stopped R p' c.stop (ap (λ (d : Cut). d.stop) ec)
+      ∙ (ap (λ (l : List Line). l ++ stop_line c.stop) sd ∙ same) in
+      let sc : start_count (lines R p') ≡ start_count (lines R p) =
+      ap start_count ln ∙ (start_append (lines R p) ls ∙ omega (arith, none)) in
       record {
         cut_is = ec;
         lines = ln;
         here = here;
         rises = rises;
-        tracked_after = λ j. record { still_open = open_idle R.most p p' ev j; known = λ i. octets_idle R p p' ev sd i j };
-        sound = quiet_sound R p p' len (ap messages ec ∙ ms) ev sd sc (λ free. rw ec (fits (rw ec at free)).1)
-            (λ free. rw (ec, (fits (rw ec at free)).0) tt) (λ free. rw (ec, (fits (rw ec at free)).0) tt) sound;
+        tracked_after = λ j. record {
+          still_open = open_idle R.most p p' ev j;
+          known =
+              λ i. octets_idle R p p' ev sd i j;
+        };
+        sound = quiet_sound R p p' len (ap messages ec ∙ ms) ev sd sc
+            (λ free. rw ec (fits (rw ec at free)).1)
+            (λ free. rw (ec, (fits (rw ec at free)).0) tt)
+            (λ free. rw (ec, (fits (rw ec at free)).0) tt) sound;
       }
 
   -- where it is of the message m
   deals : (m : Message) (whole : List Message) → cut (p ++ x ∷ []) ≡ end_message whole m
-      → events R.most (p ++ x ∷ []) ≡ events R.most p ++ events_of_octet R.most (open_after R.most p) m → place m ≡ suc (length p) → m.number ≡ suc (length whole)
+      → events R.most (p ++ x ∷ []) ≡ events R.most p
+      ++ events_of_octet R.most (open_after R.most p) m → place m ≡ suc (length p) →
+      m.number ≡ suc (length whole)
       → length m.header ≡ 12 → (cut p).stop ≡ None → length (messages (cut p)) ≤ suc (length whole)
       → (length m.payload ≤ 4 → Below m.number (open_after R.most p))
-      → length (messages (cut p)) + start_count (sorted_lines R.reading (octets_of R p) (events_of_octet R.most (open_after R.most p) m)) ≡ suc
-      (length whole) → length m.payload ≤ size m.header → (has_name m.header ≡ true → IsBegun (octets_of R p) m)
-      → (length m.payload ≤ 4 → joined m.number (events R.most p) ++ joined m.number (events_of_octet R.most (open_after R.most p) m) ≡ m.payload)
-      → Adds R p (p ++ x ∷ []) (end_message whole m) (effects R.reading (tracked_after R p) (events_of_octet R.most (open_after R.most p) m)).lines (effects R.reading (tracked_after R p) (events_of_octet R.most (open_after R.most p) m)).tracked
+      → length (messages (cut p)) + start_count
+      (sorted_lines R.reading (octets_of R p) (events_of_octet R.most (open_after R.most p) m))
+      ≡ suc
+      (length whole) → length m.payload ≤ size m.header →
+      (has_name m.header ≡ true → IsBegun (octets_of R p) m)
+      → (length m.payload ≤ 4 → joined m.number (events R.most p)
+      ++ joined m.number (events_of_octet R.most (open_after R.most p) m) ≡ m.payload)
+      → Adds R p (p ++ x ∷ []) (end_message whole m)
+      (effects R.reading (tracked_after R p)
+      (events_of_octet R.most (open_after R.most p) m)).lines
+      (effects R.reading (tracked_after R p)
+      (events_of_octet R.most (open_after R.most p) m)).tracked
   unfolding tracked_after
   deals m whole ec ev pl nm twelve st more low starts fits begun grows =
       let p' = p ++ x ∷ [] in
@@ -148,40 +206,61 @@ module _ (R : Rules) (causal : IsCausal R.reading) (laws : IsStreamable R.readin
       let es = events_of_octet R.most still_open m in
       let here : Each (λ e. e.place ≡ suc (length p)) es =
       events_of_octet_each R.most (λ e. e.place ≡ suc (length p)) still_open m (λ what. pl)
-      (all_by (λ (o : Open). (what : EventKind) → place m ≡ suc (length p)) (λ o what. pl) still_open) in
+      (all_by (λ (o : Open). (what : EventKind) → place m ≡ suc (length p)) (λ o what. pl)
+      still_open) in
       let sd = message_lines_grow R causal p p' es len ev sound.places here in
       let fine = events_of_octet_fine R laws K still_open m fits begun in
-      let p1 = are_effects R.reading (record { still_open = still_open; known = K }) es fine.ordered in
+      let p1 = are_effects R.reading (record { still_open = still_open; known = K }) es fine.ordered
+      in
       let st' : (cut p').stop ≡ None = ap (λ (c : Cut). c.stop) ec ∙ settle_stop whole m in
       record {
         cut_is = ec;
         lines = lines_free R p' st' ∙ (sd ∙ rw (lines_free R p st, p1.lines) refl);
-        here = subst (Each (λ l. l.place ≡ suc (length p))) p1.lines (now_here R.reading (suc (length p)) K es fine.ordered here);
+        here = subst (Each (λ l. l.place ≡ suc (length p))) p1.lines
+            (now_here R.reading (suc (length p)) K es fine.ordered here);
         rises = subst Rises p1.lines (now_rises R.reading K es fine);
-        tracked_after = λ j. record { still_open = (open_grows R.most p p' es ev ∙ p1.still_open) j; known = λ i. (octets_grow R p p' es (sorted_lines R.reading K es) ev sd i ∙ p1.known i) j };
-        sound = dealt_sound R causal p p' whole m len ec ev pl nm twelve st more low starts grows sound;
+        tracked_after = λ j. record {
+          still_open = (open_grows R.most p p' es ev ∙ p1.still_open) j;
+          known = λ i. (octets_grow R p p' es (sorted_lines R.reading K es) ev sd i ∙ p1.known i)
+              j;
+        };
+        sound = dealt_sound R causal p p' whole m len ec ev pl nm twelve st more low starts grows
+            sound;
       }
 
-  begun_by : (was : Message) → (length was.payload ≤ 4 → joined was.number (events R.most p) ≡ was.payload) → IsBegun (octets_of R p) (with_octet was x)
+  begun_by : (was : Message) → (length was.payload ≤ 4 →
+      joined was.number (events R.most p) ≡ was.payload) →
+      IsBegun (octets_of R p) (with_octet was x)
   begun_by was begun some short xs known =
-      let same : xs ≡ was.payload = sym (octets_are R p was.number xs known) ∙ begun (omega (arith, length_push was.payload x, short)) in
+      let same : xs ≡ was.payload = sym (octets_are R p was.number xs known)
+      ∙ begun (omega (arith, length_push was.payload x, short)) in
       rw same (omega (arith, length_push was.payload x))
 
-  pub paid_events : (whole : List Message) (was : Message) (held : List ℕ) → cut p ≡ of_parts whole (Some was) held None
-      → nat_lt limit (suc (length p)) ≡ false → events R.most (p ++ x ∷ []) ≡ events R.most p ++ events_of_octet R.most (open_after R.most p) (with_octet was x)
+  pub paid_events : (whole : List Message) (was : Message) (held : List ℕ) →
+      cut p ≡ of_parts whole (Some was) held None
+      → nat_lt limit (suc (length p)) ≡ false → events R.most (p ++ x ∷ []) ≡ events R.most p
+      ++ events_of_octet R.most (open_after R.most p) (with_octet was x)
   unfolding of_parts messages open_after
   paid_events whole was held ec room =
       let m = with_octet was x in
-      let fit : Fits (length p) (of_parts whole (Some was) held None) = rw ec at (sound.fits (rw ec refl)) in
+      let fit : Fits (length p) (of_parts whole (Some was) held None) =
+      rw ec at (sound.fits (rw ec refl)) in
       let fits = fit.current in
-      let ec' : cut (p ++ x ∷ []) ≡ end_message whole m = cut_grows p x ∙ rw ec (next_payload whole was held (length p) x room) in
-      let before : events R.most p ≡ events_from R.most [] (whole ++ was ∷ []) = events_of_cut R.most p (of_parts whole (Some was) held None) ec in
-      events_of_cut R.most (p ++ x ∷ []) (end_message whole m) ec' ∙ (ap (events_from R.most []) (settled_messages whole m) ∙ rw before (events_on R.most whole was x fits.lacks))
+      let ec' : cut (p ++ x ∷ []) ≡ end_message whole m =
+      cut_grows p x ∙ rw ec (next_payload whole was held (length p) x room) in
+      let before : events R.most p ≡ events_from R.most [] (whole ++ was ∷ []) =
+      events_of_cut R.most p (of_parts whole (Some was) held None) ec in
+      events_of_cut R.most (p ++ x ∷ []) (end_message whole m) ec'
+      ∙ (ap (events_from R.most []) (settled_messages whole m)
+      ∙ rw before (events_on R.most whole was x fits.lacks))
 
-  paid_adds : (whole : List Message) (was : Message) (held : List ℕ) → cut p ≡ of_parts whole (Some was) held None → nat_lt limit (suc (length p)) ≡ false
+  paid_adds : (whole : List Message) (was : Message) (held : List ℕ) →
+      cut p ≡ of_parts whole (Some was) held None → nat_lt limit (suc (length p)) ≡ false
       → Adds R p (p ++ x ∷ []) (end_message whole (with_octet was x))
-      (effects R.reading (tracked_after R p) (events_of_octet R.most (open_after R.most p) (with_octet was x))).lines
-      (effects R.reading (tracked_after R p) (events_of_octet R.most (open_after R.most p) (with_octet was x))).tracked
+      (effects R.reading (tracked_after R p)
+      (events_of_octet R.most (open_after R.most p) (with_octet was x))).lines
+      (effects R.reading (tracked_after R p)
+      (events_of_octet R.most (open_after R.most p) (with_octet was x))).tracked
   unfolding of_parts messages open_after
   paid_adds whole was held ec room =
       let c = of_parts whole (Some was) held None in
@@ -191,19 +270,29 @@ module _ (R : Rules) (causal : IsCausal R.reading) (laws : IsStreamable R.readin
       let fits = fit.current in
       let lacks = fits.lacks in
       let long = length_push was.payload x in
-      let early : length was.payload < 4 → Below was.number (open_after R.most p) = rw ec at (sound.early st) in
-      let one : length (whole ++ was ∷ []) ≡ suc (length whole) = omega (arith, length_push whole was) in
+      let early : length was.payload < 4 → Below was.number (open_after R.most p) =
+      rw ec at (sound.early st) in
+      let one : length (whole ++ was ∷ []) ≡ suc (length whole) =
+      omega (arith, length_push whole was) in
       let count : length (messages (cut p)) ≡ suc (length whole) = rw ec one in
-      let ec' : cut (p ++ x ∷ []) ≡ end_message whole m = cut_grows p x ∙ rw ec (next_payload whole was held (length p) x room) in
+      let ec' : cut (p ++ x ∷ []) ≡ end_message whole m =
+      cut_grows p x ∙ rw ec (next_payload whole was held (length p) x room) in
       let ev = paid_events whole was held ec room in
-      let begun : length was.payload ≤ 4 → joined was.number (events R.most p) ≡ was.payload = rw ec at (sound.begun st) in
+      let begun : length was.payload ≤ 4 → joined was.number (events R.most p) ≡ was.payload =
+      rw ec at (sound.begun st) in
       let starts = none_later R (octets_of R p) (open_after R.most p) m (omega (arith, long)) in
-      deals m whole ec' ev (place_more was x (length p) fits.place_is) fits.number_is fits.twelve st (le_of_eq count)
-      (λ four. early (omega (arith, four, long))) (omega (arith, count, starts)) (omega (arith, lacks, long))
+      deals m whole ec' ev (place_more was x (length p) fits.place_is) fits.number_is fits.twelve st
+      (le_of_eq count)
+      (λ four. early (omega (arith, four, long))) (omega (arith, count, starts))
+      (omega (arith, lacks, long))
       (λ name. begun_by was begun)
-      (λ short. rw (begun (omega (arith, short, long)), own_joined R.most (open_after R.most p) was was.payload x (not_past m short)) refl)
+      (λ short. rw (
+        begun (omega (arith, short, long)),
+        own_joined R.most (open_after R.most p) was was.payload x (not_past m short),
+      ) refl)
 
-  paid : (whole : List Message) (was : Message) (held : List ℕ) → cut p ≡ of_parts whole (Some was) held None
+  paid : (whole : List Message) (was : Message) (held : List ℕ) →
+      cut p ≡ of_parts whole (Some was) held None
       → nat_lt limit (suc (length p)) ≡ false → Then R p x
       (octet_in None was.header (length (messages (cut p))) (length p) (length was.payload) x)
   unfolding of_parts messages
@@ -213,19 +302,27 @@ module _ (R : Rules) (causal : IsCausal R.reading) (laws : IsStreamable R.readin
       let fits = fit.current in
       let lacks = fits.lacks in
       let long = length_push was.payload x in
-      let one : length (whole ++ was ∷ []) ≡ suc (length whole) = omega (arith, length_push whole was) in
+      let one : length (whole ++ was ∷ []) ≡ suc (length whole) =
+      omega (arith, length_push whole was) in
       let count : length (messages (cut p)) ≡ suc (length whole) = rw ec one in
       let pl = place_more was x (length p) fits.place_is in
       let same : (cut p).whole ≡ whole = rw ec refl in
       let last : get_or (was.payload ++ x ∷ []) (length (was.payload ++ x ∷ []) - 1) 0 ≡ x =
       get_or_push was.payload x 0 (length (was.payload ++ x ∷ []) - 1) (omega (arith, long)) in
-      let payload_count : length (was.payload ++ x ∷ []) ≡ suc (length was.payload) = omega (arith, long) in
+      let payload_count : length (was.payload ++ x ∷ []) ≡ suc (length was.payload) =
+      omega (arith, long) in
       let number : was.number ≡ length (messages (cut p)) = fits.number_is ∙ sym count in
-      rw (octet_paid was.header (length (messages (cut p))) (length p) (length was.payload) x room fits.twelve) (
+      rw (octet_paid was.header (length (messages (cut p))) (length p) (length was.payload) x room
+      fits.twelve) (
         st,
         record {
           m = with_octet was x;
-          is_now = λ j. record { subject = record { number = number j; header = was.header }; place = pl j; payload_count = payload_count j; octet = last j };
+          is_now = λ j. record {
+            subject = record { number = number j; header = was.header };
+            place = pl j;
+            payload_count = payload_count j;
+            octet = last j;
+          };
           fits = omega (arith, lacks, long);
           number_is = fits.number_is ∙ ap (λ (l : List Message). suc (length l)) (sym same);
           place_is = pl;
@@ -236,23 +333,36 @@ module _ (R : Rules) (causal : IsCausal R.reading) (laws : IsStreamable R.readin
       )
 
   begins_events : (whole : List Message) (held : List ℕ) → cut p ≡ of_parts whole None held None
-      → nat_lt limit (suc (length p)) ≡ false → wrong (held ++ x ∷ []) ≡ None → length (held ++ x ∷ []) ≡ 12
-      → events R.most (p ++ x ∷ []) ≡ events R.most p ++ events_of_octet R.most (open_after R.most p) (beginner whole (suc (length p)) (held ++ x ∷ []))
+      → nat_lt limit (suc (length p)) ≡ false → wrong (held ++ x ∷ []) ≡ None →
+      length (held ++ x ∷ []) ≡ 12
+      → events R.most (p ++ x ∷ []) ≡ events R.most p
+      ++ events_of_octet R.most (open_after R.most p)
+      (beginner whole (suc (length p)) (held ++ x ∷ []))
   unfolding of_parts messages open_after header_case
   begins_events whole held ec room right twelve =
       let front = held ++ x ∷ [] in
       let m = beginner whole (suc (length p)) front in
       let number : 1 + length whole ≡ suc (length whole) = omega arith in
-      let grown : cut (p ++ x ∷ []) ≡ header_case 1 (suc (length p)) whole front (wrong front) (length front == 12) =
+      let grown : cut (p ++ x ∷ []) ≡ header_case 1 (suc (length p)) whole front (wrong front)
+      (length front == 12) =
       cut_grows p x ∙ rw ec (next_front whole held (length p) x room) in
-      let ec' : cut (p ++ x ∷ []) ≡ end_message whole m = grown ∙ rw (right, eq-eqb (length front) 12 twelve, number) refl in
-      let before : events R.most p ≡ events_from R.most [] whole = events_of_cut R.most p (of_parts whole None held None) ec ∙ ap (events_from R.most []) (append-nil whole) in
-      events_of_cut R.most (p ++ x ∷ []) (end_message whole m) ec' ∙ (ap (events_from R.most []) (settled_messages whole m) ∙ rw before (events_begin R.most whole m refl))
+      let ec' : cut (p ++ x ∷ []) ≡ end_message whole m =
+      grown ∙ rw (right, eq-eqb (length front) 12 twelve, number) refl in
+      let before : events R.most p ≡ events_from R.most [] whole =
+      events_of_cut R.most p (of_parts whole None held None) ec
+      ∙ ap (events_from R.most []) (append-nil whole) in
+      events_of_cut R.most (p ++ x ∷ []) (end_message whole m) ec'
+      ∙ (ap (events_from R.most []) (settled_messages whole m)
+      ∙ rw before (events_begin R.most whole m refl))
 
   begins_adds : (whole : List Message) (held : List ℕ) → cut p ≡ of_parts whole None held None
-      → nat_lt limit (suc (length p)) ≡ false → wrong (held ++ x ∷ []) ≡ None → length (held ++ x ∷ []) ≡ 12
-      → (let m = beginner whole (suc (length p)) (held ++ x ∷ []) in Adds R p (p ++ x ∷ []) (end_message whole m)
-      (effects R.reading (tracked_after R p) (events_of_octet R.most (open_after R.most p) m)).lines (effects R.reading (tracked_after R p) (events_of_octet R.most (open_after R.most p) m)).tracked)
+      → nat_lt limit (suc (length p)) ≡ false → wrong (held ++ x ∷ []) ≡ None →
+      length (held ++ x ∷ []) ≡ 12
+      → (let m = beginner whole (suc (length p)) (held ++ x ∷ []) in
+      Adds R p (p ++ x ∷ []) (end_message whole m)
+      (effects R.reading (tracked_after R p) (events_of_octet R.most (open_after R.most p) m)).lines
+      (effects R.reading (tracked_after R p)
+      (events_of_octet R.most (open_after R.most p) m)).tracked)
   unfolding of_parts messages open_after header_case
   begins_adds whole held ec room right twelve =
       let c = of_parts whole None held None in
@@ -264,23 +374,32 @@ module _ (R : Rules) (causal : IsCausal R.reading) (laws : IsStreamable R.readin
       let long = length_push held x in
       let none : messages c ≡ whole = append-nil whole in
       let count : length (messages (cut p)) ≡ length whole = rw (ec, none) refl in
-      let known : octets_of R p m.number ≡ Some [] = sound.unknown m.number (omega (arith, count)) in
+      let known : octets_of R p m.number ≡ Some [] =
+      sound.unknown m.number (omega (arith, count)) in
       let number : 1 + length whole ≡ suc (length whole) = omega arith in
-      let grown : cut (p ++ x ∷ []) ≡ header_case 1 (suc (length p)) whole front (wrong front) (length front == 12) =
+      let grown : cut (p ++ x ∷ []) ≡ header_case 1 (suc (length p)) whole front (wrong front)
+      (length front == 12) =
       cut_grows p x ∙ rw ec (next_front whole held (length p) x room) in
-      let ec' : cut (p ++ x ∷ []) ≡ end_message whole m = grown ∙ rw (right, eq-eqb (length front) 12 twelve, number) refl in
+      let ec' : cut (p ++ x ∷ []) ≡ end_message whole m =
+      grown ∙ rw (right, eq-eqb (length front) 12 twelve, number) refl in
       let ev = begins_events whole held ec room right twelve in
       let starts = one_first R (octets_of R p) (open_after R.most p) m [] refl known in
       let low : Below m.number (open_after R.most p) =
-      each_weaker (λ o. o.opener.number ≤ length (messages (cut p))) (λ o. o.opener.number < m.number)
+      each_weaker (λ o. o.opener.number ≤ length (messages (cut p)))
+      (λ o. o.opener.number < m.number)
       (λ o k. omega (arith, k, count)) (open_after R.most p) sound.numbers in
-      deals m whole ec' ev (place_first (length p) m refl refl (omega (arith, within, long, twelve))) refl twelve st
+      deals m whole ec' ev (place_first (length p) m refl refl
+      (omega (arith, within, long, twelve))) refl twelve st
       (omega (arith, count)) (λ four. low) (omega (arith, count, starts)) (omega arith)
       (λ name some. absurd (omega (arith, some)))
-      (λ short. rw (none_known R p m.number known, header_joined R.most m.number (open_after R.most p) m refl) refl)
+      (λ short. rw (
+        none_known R p m.number known,
+        header_joined R.most m.number (open_after R.most p) m refl,
+      ) refl)
 
   begins : (whole : List Message) (held : List ℕ) → cut p ≡ of_parts whole None held None
-      → nat_lt limit (suc (length p)) ≡ false → wrong (held ++ x ∷ []) ≡ None → length (held ++ x ∷ []) ≡ 12
+      → nat_lt limit (suc (length p)) ≡ false → wrong (held ++ x ∷ []) ≡ None →
+      length (held ++ x ∷ []) ≡ 12
       → Then R p x (front_is (held ++ x ∷ []) (length (messages (cut p))) (suc (length p)) None)
   unfolding of_parts messages
   begins whole held ec room right twelve =
@@ -290,13 +409,19 @@ module _ (R : Rules) (causal : IsCausal R.reading) (laws : IsStreamable R.readin
       let within = fit.held in
       let none : messages (of_parts whole None held None) ≡ whole = append-nil whole in
       let count : length (messages (cut p)) ≡ length whole = rw (ec, none) refl in
-      let pl = place_first (length p) (beginner whole (suc (length p)) front) refl refl (omega (arith, within, length_push held x, twelve)) in
+      let pl = place_first (length p) (beginner whole (suc (length p)) front) refl refl
+      (omega (arith, within, length_push held x, twelve)) in
       let same : (cut p).whole ≡ whole = rw ec refl in
       rw (front_full front (length (messages (cut p))) (suc (length p)) twelve) (
         st,
         record {
           m = beginner whole (suc (length p)) front;
-          is_now = λ j. record { subject = record { number = suc (sym count j); header = front }; place = pl j; payload_count = 0; octet = 0 };
+          is_now = λ j. record {
+            subject = record { number = suc (sym count j); header = front };
+            place = pl j;
+            payload_count = 0;
+            octet = 0;
+          };
           fits = omega arith;
           number_is = ap (λ (l : List Message). suc (length l)) (sym same);
           place_is = pl;
@@ -307,31 +432,37 @@ module _ (R : Rules) (causal : IsCausal R.reading) (laws : IsStreamable R.readin
       )
 
   stops : (whole : List Message) (current : Option Message) (held : List ℕ) (fault : StreamFault)
-      → cut p ≡ of_parts whole current held None → next (length p) x (cut p) ≡ stopped_at (suc (length p)) fault (cut p)
+      → cut p ≡ of_parts whole current held None →
+      next (length p) x (cut p) ≡ stopped_at (suc (length p)) fault (cut p)
       → Then R p x (Ends fault)
   unfolding of_parts stopped_at messages stop_line
   stops whole current held fault ec grown =
       let st : (cut p).stop ≡ None = rw ec refl in (
         st,
         idle (stopped_at (suc (length p)) fault (cut p)) (stop_line (Some (suc (length p), fault)))
-            (cut_grows p x ∙ grown) refl (rw (lines_free R p st) refl) (stop_starts (suc (length p), fault)) (refl, tt) (tt, tt)
+            (cut_grows p x ∙ grown) refl (rw (lines_free R p st) refl)
+            (stop_starts (suc (length p), fault)) (refl, tt) (tt, tt)
             (λ free. absurd cc),
       )
 
   fronts : (whole : List Message) (held : List ℕ) → cut p ≡ of_parts whole None held None
-      → nat_lt limit (suc (length p)) ≡ false → (w : Option StreamFault) → wrong (held ++ x ∷ []) ≡ w → (b : Bool)
+      → nat_lt limit (suc (length p)) ≡ false → (w : Option StreamFault) →
+      wrong (held ++ x ∷ []) ≡ w → (b : Bool)
       → (length (held ++ x ∷ []) == 12) ≡ b
       → Then R p x (front_is (held ++ x ∷ []) (length (messages (cut p))) (suc (length p)) w)
   unfolding of_parts header_case stopped_at messages start_count stop_line
-  fronts whole held ec room (Some fault) e b k = stops whole None held fault ec (rw ec (next_front whole held (length p) x room ∙ rw e refl))
-  fronts whole held ec room None e true k = begins whole held ec room e (eqb-true (length (held ++ x ∷ [])) 12 k)
+  fronts whole held ec room (Some fault) e b k =
+      stops whole None held fault ec (rw ec (next_front whole held (length p) x room ∙ rw e refl))
+  fronts whole held ec room None e true k =
+      begins whole held ec room e (eqb-true (length (held ++ x ∷ [])) 12 k)
   fronts whole held ec room None e false k =
       let st : (cut p).stop ≡ None = rw ec refl in
       let fit : Fits (length p) (of_parts whole None held None) = rw ec at (sound.fits st) in
       let long = length_push held x in
       let short = fit.short in
       let within = fit.held in
-      let less : length (held ++ x ∷ []) < 12 = not_twelve (length (held ++ x ∷ [])) k (omega (arith, long, short)) in
+      let less : length (held ++ x ∷ []) < 12 =
+      not_twelve (length (held ++ x ∷ [])) k (omega (arith, long, short)) in
       let grown : cut (p ++ x ∷ []) ≡ of_parts (cut p).whole None (held ++ x ∷ []) None =
       cut_grows p x ∙ rw ec (next_front whole held (length p) x room ∙ rw (e, k) refl) in
       rw (front_short (held ++ x ∷ []) (length (messages (cut p))) (suc (length p)) k) (
@@ -339,44 +470,67 @@ module _ (R : Rules) (causal : IsCausal R.reading) (laws : IsStreamable R.readin
         rw ec refl,
         idle (of_parts (cut p).whole None (held ++ x ∷ []) None) [] grown (rw ec refl)
             (rw (lines_free R p st) refl) refl tt tt
-            (λ free. (refl, record { current = tt; held = omega (arith, long, within); short = less })),
+            (λ free. (
+              refl,
+              record {
+                current = tt;
+                held = omega (arith, long, within);
+                short =
+                    less;
+              },
+            )),
       )
 
-  then_by : (whole : List Message) (current : Option Message) (held : List ℕ) (stop : Option (ℕ × StreamFault))
+  then_by : (whole : List Message) (current : Option Message) (held : List ℕ)
+      (stop : Option (ℕ × StreamFault))
       → cut p ≡ of_parts whole current held stop → (b : Bool) → nat_lt limit (suc (length p)) ≡ b
-      → Then R p x (octet_in (fault_of stop) (header_of current held) (length (messages (cut p))) (length p) (payload_count_of current) x)
+      → Then R p x (octet_in (fault_of stop) (header_of current held) (length (messages (cut p)))
+      (length p) (payload_count_of current) x)
   unfolding of_parts octet_in stopped_at start_count
   then_by whole current held (Some found) ec b e =
       let st : (cut p).stop ≡ Some found = rw ec refl in (
         found,
         st,
-        idle (cut p) [] (cut_grows p x ∙ rw ec (next_stopped whole current held found (length p) x)) refl
+        idle (cut p) [] (cut_grows p x ∙ rw ec (next_stopped whole current held found (length p) x))
+            refl
             (sym (lines_stopped R p (cut p).stop refl) ∙ sym (append-nil (lines R p))) refl tt tt
             (λ free. absurd (let no : Some found ≡ None = sym st ∙ free in cc)),
       )
   then_by whole current held None ec true e =
-      rw (octet_limit (header_of current held) (length (messages (cut p))) (length p) (payload_count_of current) x e)
-      (stops whole current held StreamLimit ec (rw ec (next_limit whole current held (length p) x e)))
+      rw (octet_limit (header_of current held) (length (messages (cut p))) (length p)
+      (payload_count_of current) x e)
+      (stops whole current held StreamLimit ec
+      (rw ec (next_limit whole current held (length p) x e)))
   then_by whole (Some was) held None ec false e = paid whole was held ec e
   then_by whole None held None ec false e =
-      let fit : Fits (length p) (of_parts whole None held None) = rw ec at (sound.fits (rw ec refl)) in
+      let fit : Fits (length p) (of_parts whole None held None) =
+      rw ec at (sound.fits (rw ec refl)) in
       rw (octet_front held (length (messages (cut p))) (length p) 0 x e fit.short)
       (fronts whole held ec e (wrong (held ++ x ∷ [])) refl (length (held ++ x ∷ []) == 12) refl)
 
   pub then_is : Then R p x (octet_of (cut p) (length p) x)
   unfolding of_parts octet_of
-  then_is = then_by (cut p).whole (cut p).current (cut p).held (cut p).stop refl (nat_lt limit (suc (length p))) refl
+  then_is = then_by (cut p).whole (cut p).current (cut p).held (cut p).stop refl
+      (nat_lt limit (suc (length p))) refl
 
   -- an octet of the current message's payload, and the last one of a header
-  pub paid_is : (was : Message) → (cut p).stop ≡ None → (cut p).current ≡ Some was → nat_lt limit (suc (length p)) ≡ false
+  pub paid_is : (was : Message) → (cut p).stop ≡ None → (cut p).current ≡ Some was →
+      nat_lt limit (suc (length p)) ≡ false
       → Adds R p (p ++ x ∷ []) (end_message (cut p).whole (with_octet was x))
-      (effects R.reading (tracked_after R p) (events_of_octet R.most (open_after R.most p) (with_octet was x))).lines
-      (effects R.reading (tracked_after R p) (events_of_octet R.most (open_after R.most p) (with_octet was x))).tracked
-  paid_is was st cur = paid_adds (cut p).whole was (cut p).held (parts_by (cut p) (Some was) None cur st)
+      (effects R.reading (tracked_after R p)
+      (events_of_octet R.most (open_after R.most p) (with_octet was x))).lines
+      (effects R.reading (tracked_after R p)
+      (events_of_octet R.most (open_after R.most p) (with_octet was x))).tracked
+  paid_is was st cur = paid_adds (cut p).whole was (cut p).held
+      (parts_by (cut p) (Some was) None cur st)
 
-  pub begins_is : (cut p).stop ≡ None → (cut p).current ≡ None → nat_lt limit (suc (length p)) ≡ false
+  pub begins_is : (cut p).stop ≡ None → (cut p).current ≡ None →
+      nat_lt limit (suc (length p)) ≡ false
       → wrong ((cut p).held ++ x ∷ []) ≡ None → length ((cut p).held ++ x ∷ []) ≡ 12
-      → (let m = beginner (cut p).whole (suc (length p)) ((cut p).held ++ x ∷ []) in Adds R p (p ++ x ∷ [])
-      (end_message (cut p).whole m) (effects R.reading (tracked_after R p) (events_of_octet R.most (open_after R.most p) m)).lines
-      (effects R.reading (tracked_after R p) (events_of_octet R.most (open_after R.most p) m)).tracked)
+      → (let m = beginner (cut p).whole (suc (length p)) ((cut p).held ++ x ∷ []) in
+      Adds R p (p ++ x ∷ [])
+      (end_message (cut p).whole m) (effects R.reading (tracked_after R p)
+      (events_of_octet R.most (open_after R.most p) m)).lines
+      (effects R.reading (tracked_after R p)
+      (events_of_octet R.most (open_after R.most p) m)).tracked)
   begins_is st cur = begins_adds (cut p).whole (cut p).held (parts_by (cut p) None None cur st)

@@ -1,4 +1,5 @@
--- Runs of payload octets, of which at most the last one ends a request id or the message: the stream with them, and that the
+-- Runs of payload octets, of which at most the last one ends a request id or the message: the
+-- stream with them, and that the
 -- code does their steps.
 use Rattle.std.proofs.Common.{◌≡◌, ◌≢◌, ℕ, suc, ◌+◌, ◌-◌, ◌^◌, ◌<◌, ◌≤◌, List, [], ◌∷◌, ◌++◌, length, get_or, refl, sym, ap, subst, ◌∙◌, append_assoc, append-nil, length-append, Option, Some, None, Result, Ok, Err, arith}
 use Rattle.std.specs.Prelude.{OnOk}
@@ -43,7 +44,8 @@ use Rattle.giop_stream.proofs.CodeSteps.MessageEnds.{goes_on}
 
 -- ---- One of them.
 
--- The next n octets are payload of m, the current message: none of them is the last of its request id or of the message.
+-- The next n octets are payload of m, the current message: none of them is the last of its request
+-- id or of the message.
 pub record Within (p : List ℕ) (m : Message) (n : ℕ) : Type 0 where
   pub free : (cut p).stop ≡ None
   pub current : (cut p).current ≡ Some m
@@ -51,12 +53,15 @@ pub record Within (p : List ℕ) (m : Message) (n : ℕ) : Type 0 where
   pub before_last : length m.payload + n < size m.header
   pub room : length p + n ≤ limit
 
-within_grows : (p : List ℕ) (m : Message) (x n : ℕ) → Within p m (suc n) → cut (p ++ x ∷ []) ≡ of_parts (cut p).whole (Some (with_octet m x)) [] None
+within_grows : (p : List ℕ) (m : Message) (x n : ℕ) → Within p m (suc n) →
+    cut (p ++ x ∷ []) ≡ of_parts (cut p).whole (Some (with_octet m x)) [] None
 within_grows p m x n h =
     cut_grows p x
     ∙ (ap (next (length p) x) (parts_by (cut p) (Some m) None h.current h.free)
-    ∙ (next_payload (cut p).whole m (cut p).held (length p) x (le-ltb limit (suc (length p)) (omega (arith, h.room)))
-    ∙ goes_on (cut p).whole (with_octet m x) (omega (arith, h.before_last, length_push m.payload x))))
+    ∙ (next_payload (cut p).whole m (cut p).held (length p) x
+    (le-ltb limit (suc (length p)) (omega (arith, h.room)))
+    ∙ goes_on (cut p).whole (with_octet m x)
+    (omega (arith, h.before_last, length_push m.payload x))))
 
 -- the next one is not the last of the request id
 not_named : (p : List ℕ) (m : Message) (x n : ℕ) → Within p m (suc n) →
@@ -65,14 +70,19 @@ not_named p m x n h e =
     let three : length m.payload ≡ 3 = omega (arith, e, length_push m.payload x) in
     omega (arith, three, h.apart (omega (arith, three)))
 
-pub within_on : (p : List ℕ) (m : Message) (x n : ℕ) → Within p m (suc n) → Within (p ++ x ∷ []) (with_octet m x) n
+pub within_on : (p : List ℕ) (m : Message) (x n : ℕ) → Within p m (suc n) →
+    Within (p ++ x ∷ []) (with_octet m x) n
 unfolding of_parts
 within_on p m x n h =
     let grown = within_grows p m x n h in
     record {
       free = ap (λ (d : Cut). d.stop) grown;
       current = ap (λ (d : Cut). d.current) grown;
-      apart = λ less. omega (arith, h.apart (omega (arith, less, length_push m.payload x)), length_push m.payload x);
+      apart = λ less. omega (
+        arith,
+        h.apart (omega (arith, less, length_push m.payload x)),
+        length_push m.payload x,
+      );
       before_last = omega (arith, h.before_last, length_push m.payload x);
       room = omega (arith, h.room, length_push p x);
     }
@@ -94,10 +104,12 @@ comes_alone most still_open m some other less =
 owner_on : (still_open : List Open) (m : Message) (x : ℕ) → length (m.payload ++ x ∷ []) ≢ 4 →
     owner_of_next still_open (with_octet m x) ≡ owner_of_next still_open m
 owner_on still_open m x other =
-    owner_elsewhere still_open (with_octet m x) (ne_eqb (length (m.payload ++ x ∷ [])) 4 other) ∙ owner_next still_open m x
+    owner_elsewhere still_open (with_octet m x) (ne_eqb (length (m.payload ++ x ∷ [])) 4 other)
+    ∙ owner_next still_open m x
 
 module _ (C : Table) (l : Answers) where
-  takes_still_open : (at : ℕ) (c : Tracked) (w : Option MessageKey) (x : ℕ) → (effect_to C l at c w (Takes x)).tracked.still_open ≡ c.still_open
+  takes_still_open : (at : ℕ) (c : Tracked) (w : Option MessageKey) (x : ℕ) →
+      (effect_to C l at c w (Takes x)).tracked.still_open ≡ c.still_open
   unfolding tracked_at changed
   takes_still_open at c None x = refl
   takes_still_open at c (Some w) x = refl
@@ -106,57 +118,77 @@ module _ (C : Table) (l : Answers) where
     at_hand : CurrentFits (length p) (cut p) m
     at_hand =
         if_some (CurrentFits (length p) (cut p)) (cut p).current m h.current
-        ((sound (rules_by C l most) (is_causal (λ number. signatures_of C (l number))) (in_turn C l) p).fits h.free).current
+        ((sound (rules_by C l most) (is_causal (λ number. signatures_of C (l number))) (in_turn C l)
+        p).fits h.free).current
 
     -- the octet's effect on the message that it belongs to
     abbrev pub taken : Effect
-    taken = effect_to C l (suc (length p)) (tracked_after (rules_by C l most) p) (owner_of_next (open_after most p) m) (Takes x)
+    taken = effect_to C l (suc (length p)) (tracked_after (rules_by C l most) p)
+        (owner_of_next (open_after most p) m) (Takes x)
 
-    octet_takes : effects (message_reader C l) (tracked_after (rules_by C l most) p) (events_of_octet most (open_after most p) (with_octet m x)) ≡ taken
+    octet_takes : effects (message_reader C l) (tracked_after (rules_by C l most) p)
+        (events_of_octet most (open_after most p) (with_octet m x)) ≡ taken
     unfolding tracked_after
     octet_takes =
         let last : get_or (m.payload ++ x ∷ []) (length (m.payload ++ x ∷ []) - 1) 0 ≡ x =
-        get_or_push m.payload x 0 (length (m.payload ++ x ∷ []) - 1) (omega (arith, length_push m.payload x)) in
+        get_or_push m.payload x 0 (length (m.payload ++ x ∷ []) - 1)
+        (omega (arith, length_push m.payload x)) in
         let alone =
-        comes_alone most (open_after most p) (with_octet m x) (omega (arith, length_push m.payload x)) (not_named p m x n h)
+        comes_alone most (open_after most p) (with_octet m x)
+        (omega (arith, length_push m.payload x)) (not_named p m x n h)
         (omega (arith, h.before_last, length_push m.payload x)) in
         rw (alone, ← owner_next (open_after most p) m x)
-        (octet_does C l (tracked_after (rules_by C l most) p) (with_octet m x) x (suc (length p)) last
+        (octet_does C l (tracked_after (rules_by C l most) p) (with_octet m x) x (suc (length p))
+        last
         (place_more m x (length p) at_hand.place_is))
 
-    pub octet_adds : Adds (rules_by C l most) p (p ++ x ∷ []) (end_message (cut p).whole (with_octet m x)) taken.lines taken.tracked
+    pub octet_adds : Adds (rules_by C l most) p (p ++ x ∷ [])
+        (end_message (cut p).whole (with_octet m x)) taken.lines taken.tracked
     octet_adds =
-        let so = sound (rules_by C l most) (is_causal (λ number. signatures_of C (l number))) (in_turn C l) p in
+        let so = sound (rules_by C l most) (is_causal (λ number. signatures_of C (l number)))
+        (in_turn C l) p in
         let room = le-ltb limit (suc (length p)) (omega (arith, h.room)) in
-        rw octet_takes at (paid_is (rules_by C l most) (is_causal (λ number. signatures_of C (l number))) (in_turn C l) p x so m h.free h.current room)
+        rw octet_takes at (paid_is (rules_by C l most)
+        (is_causal (λ number. signatures_of C (l number))) (in_turn C l) p x so m h.free
+        h.current room)
 
-    pub octet_owner : owner_of_next (open_after most (p ++ x ∷ [])) (with_octet m x) ≡ owner_of_next (open_after most p) m
+    pub octet_owner : owner_of_next (open_after most (p ++ x ∷ [])) (with_octet m x)
+        ≡ owner_of_next (open_after most p) m
     unfolding tracked_after
     octet_owner =
         let still_open : open_after most (p ++ x ∷ []) ≡ open_after most p =
         ap (λ (c : Tracked). c.still_open) octet_adds.tracked_after
-        ∙ takes_still_open (suc (length p)) (tracked_after (rules_by C l most) p) (owner_of_next (open_after most p) m) x in
-        ap (λ (open' : List Open). owner_of_next open' (with_octet m x)) still_open ∙ owner_on (open_after most p) m x (not_named p m x n h)
+        ∙ takes_still_open (suc (length p)) (tracked_after (rules_by C l most) p)
+        (owner_of_next (open_after most p) m) x in
+        ap (λ (open' : List Open). owner_of_next open' (with_octet m x)) still_open
+        ∙ owner_on (open_after most p) m x (not_named p m x n h)
 
 -- ---- All of them.
 
 -- the stream p with these octets, where m is its current message
-pub record IsRun (C : Table) (l : Answers) (most : ℕ) (p : List ℕ) (m : Message) (q : List ℕ) : Type 0 where
+pub record IsRun (C : Table) (l : Answers) (most : ℕ) (p : List ℕ) (m : Message) (q : List ℕ) : Type
+    0 where
   pub within : Within (p ++ q) (with_payload m (m.payload ++ q)) 0
   pub lines : lines (rules_by C l most) (p ++ q) ≡ lines
-      (rules_by C l most) p ++ (run_effect C l (length p) (tracked_after (rules_by C l most) p) (owner_of_next (open_after most p) m) q).lines
-  pub tracked_after : tracked_after (rules_by C l most) (p ++ q) ≡ (run_effect C l (length p) (tracked_after (rules_by C l most) p) (owner_of_next (open_after most p) m) q).tracked
-  pub owner_of_next : owner_of_next (open_after most (p ++ q)) (with_payload m (m.payload ++ q)) ≡ owner_of_next (open_after most p) m
+      (rules_by C l most) p ++ (run_effect C l (length p) (tracked_after (rules_by C l most) p)
+      (owner_of_next (open_after most p) m) q).lines
+  pub tracked_after : tracked_after (rules_by C l most) (p ++ q)
+      ≡ (run_effect C l (length p) (tracked_after (rules_by C l most) p)
+      (owner_of_next (open_after most p) m) q).tracked
+  pub owner_of_next : owner_of_next (open_after most (p ++ q)) (with_payload m (m.payload ++ q))
+      ≡ owner_of_next (open_after most p) m
 
 module _ (C : Table) (l : Answers) where
-  pub run_is : (most : ℕ) (q p : List ℕ) (m : Message) → Within p m (length q) → IsRun C l most p m q
+  pub run_is : (most : ℕ) (q p : List ℕ) (m : Message) → Within p m (length q) →
+      IsRun C l most p m q
   unfolding run_effect
   run_is most [] p m h =
       let R = rules_by C l most in
       let same = append-nil p in
       let none = append-nil m.payload in
       record {
-        within = subst (λ (z : List ℕ). Within (p ++ []) (with_payload m z) 0) (sym none) (subst (λ (r : List ℕ). Within r m 0) (sym same) h);
+        within = subst (λ (z : List ℕ). Within (p ++ []) (with_payload m z) 0) (sym none)
+            (subst (λ (r : List ℕ). Within r m 0) (sym same) h);
         lines = ap (lines R) same ∙ sym (append-nil (lines R p));
         tracked_after = ap (tracked_after R) same;
         owner_of_next = λ j. owner_of_next (open_after most (same j)) (with_payload m (none j));
@@ -166,23 +198,30 @@ module _ (C : Table) (l : Answers) where
       let p' = p ++ x ∷ [] in
       let more = run_is most q p' (with_octet m x) (within_on p m x (length q) h) in
       let all : p' ++ q ≡ p ++ x ∷ q = append_assoc p (x ∷ []) q in
-      let payload : (m.payload ++ x ∷ []) ++ q ≡ m.payload ++ x ∷ q = append_assoc m.payload (x ∷ []) q in
+      let payload : (m.payload ++ x ∷ []) ++ q ≡ m.payload ++ x ∷ q =
+      append_assoc m.payload (x ∷ []) q in
       let at : length p' ≡ suc (length p) = omega (arith, length_push p x) in
       let one = octet_adds C l most p m x (length q) h in
       let who = octet_owner C l most p m x (length q) h in
       record {
         within = subst (λ (z : List ℕ). Within (p ++ x ∷ q) (with_payload m z) 0) payload
-            (subst (λ (r : List ℕ). Within r (with_payload m ((m.payload ++ x ∷ []) ++ q)) 0) all more.within);
+            (subst (λ (r : List ℕ). Within r (with_payload m ((m.payload ++ x ∷ []) ++ q)) 0) all
+            more.within);
         lines = ap (lines R) (sym all) ∙ (more.lines
-            ∙ ((λ j. one.lines j ++ (run_effect C l (at j) (one.tracked_after j) (who j) q).lines) ∙ append_assoc (lines R p) _ _));
-        tracked_after = ap (tracked_after R) (sym all) ∙ (more.tracked_after ∙ (λ j. (run_effect C l (at j) (one.tracked_after j) (who j) q).tracked));
-        owner_of_next = (λ j. owner_of_next (open_after most (sym all j)) (with_payload m (sym payload j))) ∙ (more.owner_of_next ∙ who);
+            ∙ ((λ j. one.lines j ++ (run_effect C l (at j) (one.tracked_after j) (who j) q).lines)
+            ∙ append_assoc (lines R p) _ _));
+        tracked_after = ap (tracked_after R) (sym all)
+            ∙ (more.tracked_after ∙ (λ j. (run_effect C l (at j) (one.tracked_after j) (who j)
+            q).tracked));
+        owner_of_next = (λ j. owner_of_next (open_after most (sym all j))
+            (with_payload m (sym payload j))) ∙ (more.owner_of_next ∙ who);
       }
 
 -- ---- What the fields show with them.
 
 -- a number below 2 ^ 32 is converted as it is
-pub number_fits : {E : Type 0} (r : Result ℕ E) (n other : ℕ) → n < 2 ^ 32 → OkIff r (n < 2 ^ 32) n → result_unwrap_or r other ≡ n
+pub number_fits : {E : Type 0} (r : Result ℕ E) (n other : ℕ) → n < 2 ^ 32 →
+    OkIff r (n < 2 ^ 32) n → result_unwrap_or r other ≡ n
 number_fits (Ok k) n other less h = h.1
 number_fits (Err e) n other less h = absurd (h less)
 
@@ -190,18 +229,24 @@ number_fits (Err e) n other less h = absurd (h less)
 pub octets_are : (xs : List ℕ) → 0 < length xs → (q : List ℕ) × ((x : ℕ) × (xs ≡ q ++ x ∷ []))
 octets_are [] some = absurd (omega (arith, some))
 octets_are (x ∷ []) some = ([], (x, refl))
-octets_are (x ∷ y ∷ xs) some = let (q, (z, e)) = octets_are (y ∷ xs) (omega arith) in (x ∷ q, (z, ap (λ (zs : List ℕ). x ∷ zs) e))
+octets_are (x ∷ y ∷ xs) some = let (q, (z, e)) = octets_are (y ∷ xs) (omega arith) in
+    (x ∷ q, (z, ap (λ (zs : List ℕ). x ∷ zs) e))
 
 -- before the last of these octets none is the message's last
-before_all : (q : List ℕ) (n payload_count most : ℕ) → n ≡ suc (length q) → payload_count < most → (1 < n → payload_count + n ≤ most)
+before_all : (q : List ℕ) (n payload_count most : ℕ) → n ≡ suc (length q) → payload_count < most →
+    (1 < n → payload_count + n ≤ most)
     → payload_count + length q < most
 before_all [] n payload_count most one lacks few = omega (arith, lacks)
 before_all (y ∷ q) n payload_count most one lacks few = omega (arith, one, few (omega (arith, one)))
 
-module _ (C : Table) (l : Answers) (most : ℕ) (s : State) (reached : IsReached C l most s) (m : FramingView) (h : Shows C l m s)
-    (free : m.stopped ≡ None) (c : Message) (current : (cut reached.stream).current ≡ Some c) (octets q : List ℕ) (x : ℕ)
-    (split : octets ≡ q ++ x ∷ []) (apart : m.payload_count < 4 → m.payload_count + length octets ≤ 4)
-    (few : 1 < length octets → m.payload_count + length octets ≤ size m.header) (room : m.totals.octets + length octets ≤ 2 ^ 48) where
+module _ (C : Table) (l : Answers) (most : ℕ) (s : State) (reached : IsReached C l most s)
+    (m : FramingView) (h : Shows C l m s)
+    (free : m.stopped ≡ None) (c : Message) (current : (cut reached.stream).current ≡ Some c)
+    (octets q : List ℕ) (x : ℕ)
+    (split : octets ≡ q ++ x ∷ []) (apart : m.payload_count < 4 →
+    m.payload_count + length octets ≤ 4)
+    (few : 1 < length octets → m.payload_count + length octets ≤ size m.header)
+    (room : m.totals.octets + length octets ≤ 2 ^ 48) where
   abbrev R : Rules
   R = rules_by C l most
 
@@ -224,7 +269,12 @@ module _ (C : Table) (l : Answers) (most : ℕ) (s : State) (reached : IsReached
   header = header_is C l most s reached m h free c current
 
   lacks : m.payload_count < size m.header
-  lacks = omega (arith, (current_fits C l most s reached m h free c current).lacks, here, ap size header)
+  lacks = omega (
+    arith,
+    (current_fits C l most s reached m h free c current).lacks,
+    here,
+    ap size header,
+  )
 
   before_last : m.payload_count + length q < size m.header
   before_last = before_all q (length octets) m.payload_count (size m.header) one_more lacks few
@@ -258,12 +308,14 @@ module _ (C : Table) (l : Answers) (most : ℕ) (s : State) (reached : IsReached
   so = sound R causal (in_turn C l) p'
 
   fits : CurrentFits (length p') (cut p') c'
-  fits = if_some (CurrentFits (length p') (cut p')) (cut p').current c' run.within.current (so.fits run.within.free).current
+  fits = if_some (CurrentFits (length p') (cut p')) (cut p').current c' run.within.current
+      (so.fits run.within.free).current
 
   abbrev last_does : Effect
   last_does = effect_of C l most p' (with_octet c' x)
 
-  paid : Adds R p' (p' ++ x ∷ []) (end_message (cut p').whole (with_octet c' x)) last_does.lines last_does.tracked
+  paid : Adds R p' (p' ++ x ∷ []) (end_message (cut p').whole (with_octet c' x)) last_does.lines
+      last_does.tracked
   unfolding limit tracked_after
   paid =
       paid_is R causal (in_turn C l) p' x so c' run.within.free run.within.current
@@ -274,11 +326,15 @@ module _ (C : Table) (l : Answers) (most : ℕ) (s : State) (reached : IsReached
 
   -- ---- What the code knows.
 
-  pub run_keeps : SlotsRepresent C l m.slots (tracked_after R p) (owner_of_next (open_after most p) c)
-  run_keeps = subst (λ (o : Option Message). SlotsRepresent C l m.slots (tracked_after R p) (owner_of_next_in (open_after most p) o)) current (knows_at C l most s reached m h free)
+  pub run_keeps : SlotsRepresent C l m.slots (tracked_after R p)
+      (owner_of_next (open_after most p) c)
+  run_keeps = subst (λ (o : Option Message).
+      SlotsRepresent C l m.slots (tracked_after R p) (owner_of_next_in (open_after most p) o))
+      current (knows_at C l most s reached m h free)
 
   module _ (now : Current) (number : now.number ≡ m.totals.messages) (head : now.header ≡ m.header)
-      (place_is : now.place ≡ m.totals.octets + length octets) (payload_count : now.payload_count ≡ m.payload_count + length octets) where
+      (place_is : now.place ≡ m.totals.octets + length octets)
+      (payload_count : now.payload_count ≡ m.payload_count + length octets) where
     start : now.place - suc (length q) ≡ length p
     start = omega (arith, place_is, all, one_more)
 
@@ -293,12 +349,22 @@ module _ (C : Table) (l : Answers) (most : ℕ) (s : State) (reached : IsReached
       current = record {
         number = number_is C l most s reached m h free c current ∙ sym number;
         header = sym (head ∙ header);
-        place = omega (arith, place_more c' x (length p') fits.place_is, all, place_is, one_more, length-append p q);
+        place = omega (
+          arith,
+          place_more c' x (length p') fits.place_is,
+          all,
+          place_is,
+          one_more,
+          length-append p q,
+        );
       };
       payload_count = omega (arith, payload_count, here, one_more, length-append c.payload q);
-      newest = if_some (λ m. length m.payload < 4 → IsNewest m.number (open_after most p')) (cut p').current c' run.within.current (so.early run.within.free);
-      alive = λ name less. alive R causal (in_turn C l) p' run.within.free c' run.within.current name less;
-      says = λ name. says_id c.header (current_fits C l most s reached m h free c current).twelve (right C l most s reached m h free c current).1 name;
+      newest = if_some (λ m. length m.payload < 4 → IsNewest m.number (open_after most p'))
+          (cut p').current c' run.within.current (so.early run.within.free);
+      alive = λ name less. alive R causal (in_turn C l) p' run.within.free c' run.within.current
+          name less;
+      says = λ name. says_id c.header (current_fits C l most s reached m h free c current).twelve
+          (right C l most s reached m h free c current).1 name;
     }
 
     pub run_before : IsBeforeOctets C l m.slots (tracked_after R p) c now q x
@@ -325,30 +391,54 @@ module _ (C : Table) (l : Answers) (most : ℕ) (s : State) (reached : IsReached
         ∙ (ap (λ (ls : List Line). ls ++ (x_does (tracked_after R p')).lines) run.lines
         ∙ (append_assoc (lines R p) _ _
         ∙ (λ j. lines R p
-        ++ ((run_effect C l (sym start j) (tracked_after R p) (owner_of_next (open_after most p) c) q).lines ++ (x_does (sym ran_then j)).lines)))))
+        ++ ((run_effect C l (sym start j) (tracked_after R p) (owner_of_next (open_after most p) c)
+        q).lines ++ (x_does (sym ran_then j)).lines)))))
 
     pub run_does : {A E : Type 0} (result : Result A E) (before after : OutLog) (f : FramingView)
-        → Writes result before after (lines_text all_do.lines) → OnOk result (Shows C l f (state_of R (p ++ octets)))
+        → Writes result before after (lines_text all_do.lines) →
+        OnOk result (Shows C l f (state_of R (p ++ octets)))
         → Does C l result before after f (runs R s octets)
-    run_does result before after f text shows = does_run C l most s reached m h octets all_do.lines result before after f grows text shows
+    run_does result before after f text shows =
+        does_run C l most s reached m h octets all_do.lines result before after f grows text shows
 
-    pub run_shows : (b f : FramingView) (k : ℕ) → f ≡ settled b k → b.totals.messages ≡ m.totals.messages
+    pub run_shows : (b f : FramingView) (k : ℕ) → f ≡ settled b k →
+        b.totals.messages ≡ m.totals.messages
         → b.totals.faults ≡ m.totals.faults + fault_count all_do.lines
-        → b.totals.octets ≡ m.totals.octets + length octets → b.stopped ≡ m.stopped → b.header ≡ m.header
+        → b.totals.octets ≡ m.totals.octets + length octets → b.stopped ≡ m.stopped →
+        b.header ≡ m.header
         → b.payload_count ≡ m.payload_count + length octets → k ≡ size m.header
-        → SlotsRepresent C l b.slots all_do.tracked (owner_after all_do.tracked.still_open (with_octet c' x)) → Shows C l f (state_of R (p ++ octets))
+        → SlotsRepresent C l b.slots all_do.tracked
+        (owner_after all_do.tracked.still_open (with_octet c' x)) →
+        Shows C l f (state_of R (p ++ octets))
     unfolding tracked_after
     run_shows b f k is messages faults octets stopped head_is count sized keeps =
         let n = with_octet c' x in
-        let before = run_effect C l (now.place - suc (length q)) (tracked_after R p) (owner_of_next (open_after most p) c) q in
+        let before = run_effect C l (now.place - suc (length q)) (tracked_after R p)
+        (owner_of_next (open_after most p) c) q in
         let grown : fault_count (lines R p') ≡ fault_count (lines R p) + fault_count before.lines =
         ap fault_count (rw (← start) at run.lines) ∙ count_append (lines R p) before.lines in
-        let sum : fault_count all_do.lines ≡ fault_count before.lines + fault_count (x_does (tracked_after R p')).lines =
-        count_append before.lines (x_does (effect_before C l (tracked_after R p) c now q).tracked).lines
+        let sum : fault_count all_do.lines ≡ fault_count before.lines + fault_count
+        (x_does (tracked_after R p')).lines =
+        count_append before.lines (x_does (effect_before C l (tracked_after R p) c now
+        q).tracked).lines
         ∙ ap (λ (t : Tracked). fault_count before.lines + fault_count (x_does t).lines) ran_then in
         subst (λ (z : List ℕ). Shows C l f (state_of R z)) all_octets
-        (settled_shows C l most p' x n (omega (arith, run.within.before_last, length_push (c.payload ++ q) x)) fits.number_is paid b f k is
-        (messages ∙ sym (number_is C l most s reached m h free c current)) (omega (arith, faults, faults_at C l most s reached m h, grown, sum))
-        (omega (arith, octets, all, one_more, length-append p q)) (stopped ∙ free) (head_is ∙ header)
-        (omega (arith, count, here, one_more, length-append c.payload q, length_push (c.payload ++ q) x)) (sized ∙ ap size header)
-        (subst (λ (t : Tracked). SlotsRepresent C l b.slots (x_does t).tracked (owner_after (x_does t).tracked.still_open n)) ran_then keeps))
+        (settled_shows C l most p' x n (omega (
+          arith,
+          run.within.before_last,
+          length_push (c.payload ++ q) x,
+        )) fits.number_is paid b f k is
+        (messages ∙ sym (number_is C l most s reached m h free c current))
+        (omega (arith, faults, faults_at C l most s reached m h, grown, sum))
+        (omega (arith, octets, all, one_more, length-append p q)) (stopped ∙ free)
+        (head_is ∙ header)
+        (omega (
+          arith,
+          count,
+          here,
+          one_more,
+          length-append c.payload q,
+          length_push (c.payload ++ q) x,
+        )) (sized ∙ ap size header)
+        (subst (λ (t : Tracked). SlotsRepresent C l b.slots (x_does t).tracked
+        (owner_after (x_does t).tracked.still_open n)) ran_then keeps))

@@ -1,5 +1,7 @@
--- Octets in which no message begins, and no Reply's header and no name of an exception ends: those before the last octet of a
--- header of 12, and those of a message of which nothing more is told, or that is still in a value of its header.
+-- Octets in which no message begins, and no Reply's header and no name of an exception ends: those
+-- before the last octet of a
+-- header of 12, and those of a message of which nothing more is told, or that is still in a value
+-- of its header.
 use Rattle.std.proofs.Common.{inl, inr, ◌≡◌, ℕ, suc, ◌+◌, ◌-◌, ◌<◌, ◌≤◌, Bool, true, false, List, [], ◌∷◌, ◌++◌, length, Option, Some, None, refl, sym, ap, subst, ◌∙◌, append_assoc, append-nil, arith}
 use Rattle.std.specs.Prelude.{◌⊎◌, ◌==◌, ◌^◌, is_some, nat_lt, if◌then◌else◌}
 use Rattle.std.proofs.lemmas.Bool.{cases_lt, lt-ltb, le-ltb, ne_eqb, false≢true}
@@ -40,7 +42,8 @@ use Rattle.giop_stream.proofs.CodeSteps.HeaderEndSteps.{Heads, heads_on, owner_o
 
 pub silent_both : (xs ys : List HeaderEnd) → AreSilent xs → AreSilent ys → AreSilent (xs ++ ys)
 silent_both [] ys first more = more
-silent_both (Header_end number header n ∷ xs) ys first more = (first.0, silent_both xs ys first.1 more)
+silent_both (Header_end number header n ∷ xs) ys first more =
+    (first.0, silent_both xs ys first.1 more)
 silent_both (Exception_end number name ∷ xs) ys first more = absurd first
 
 pub silent_behind : (xs ys : List HeaderEnd) → AreSilent (xs ++ ys) → AreSilent ys
@@ -63,33 +66,50 @@ abbrev pub Settled : Tracked → Option MessageKey → ℕ → Type 0
 Settled c who n = (octets : List ℕ) → length octets ≤ n → AreSilent (owner_header_ends c who octets)
 
 -- fewer of its octets than have to come until something is told tell nothing
-given_before : (C : Table) (answer : Answer) (number : ℕ) (header s octets : List ℕ) (n : ℕ) (reply : Bool) → (kind header == 1) ≡ reply
-    → IsBelow (if reply then told_after (signatures_of C answer) header s else None) n → length octets ≤ n
+given_before : (C : Table) (answer : Answer) (number : ℕ) (header s octets : List ℕ) (n : ℕ)
+    (reply : Bool) → (kind header == 1) ≡ reply
+    → IsBelow (if reply then told_after (signatures_of C answer) header s else None) n →
+    length octets ≤ n
     → AreSilent (header_ends number header s octets)
-given_before C answer number header s octets n false e below few = others_silent number header s octets e
-given_before C answer number header s octets n true e below few = by (told_after (signatures_of C answer) header s) refl below
+given_before C answer number header s octets n false e below few =
+    others_silent number header s octets e
+given_before C answer number header s octets n true e below few =
+    by (told_after (signatures_of C answer) header s) refl below
   where
-    by : (o : Option ℕ) → told_after (signatures_of C answer) header s ≡ o → IsBelow o n → AreSilent (header_ends number header s octets)
-    by None is below = silent_none (header_ends number header s octets) (nothing_told C answer number header s octets is)
+    by : (o : Option ℕ) → told_after (signatures_of C answer) header s ≡ o → IsBelow o n →
+        AreSilent (header_ends number header s octets)
+    by None is below = silent_none (header_ends number header s octets)
+        (nothing_told C answer number header s octets is)
     by (Some most) is below =
-        silent_none (header_ends number header s octets) (nothing_told_before C answer number header s octets most is (omega (arith, few, below)))
+        silent_none (header_ends number header s octets)
+        (nothing_told_before C answer number header s octets most is
+        (omega (arith, few, below)))
 
-run_before : (C : Table) (a : Answers) (w : MessageKey) (o : Option (List ℕ)) (octets : List ℕ) (n : ℕ) → IsBelow (reply_told_after C a w o) n
+run_before : (C : Table) (a : Answers) (w : MessageKey) (o : Option (List ℕ)) (octets : List ℕ)
+    (n : ℕ) → IsBelow (reply_told_after C a w o) n
     → length octets ≤ n → AreSilent (run_header_ends w o octets)
 run_before C a w None octets n below few = tt
-run_before C a w (Some s) octets n below few = given_before C (a w.number) w.number w.header s octets n (kind w.header == 1) refl below few
+run_before C a w (Some s) octets n below few =
+    given_before C (a w.number) w.number w.header s octets n (kind w.header == 1) refl below few
 
-owner_before : (C : Table) (a : Answers) (c : Tracked) (who : Option MessageKey) (n : ℕ) → IsBelow (owner_told_after C a c who) n → Settled c who n
+owner_before : (C : Table) (a : Answers) (c : Tracked) (who : Option MessageKey) (n : ℕ) →
+    IsBelow (owner_told_after C a c who) n → Settled c who n
 owner_before C a c None n below octets few = tt
-owner_before C a c (Some w) n below octets few = run_before C a w (c.known w.number) octets n below few
+owner_before C a c (Some w) n below octets few =
+    run_before C a w (c.known w.number) octets n below few
 
 -- ---- the stream
 
 nothing_quiet : (R : Rules) (p : List ℕ) → IsQuiet R p []
 unfolding header_ends_from
-nothing_quiet R p = record { none_begin = ap (λ (z : List ℕ). length (messages (cut z))) (append-nil p); none_end = tt }
+nothing_quiet R p = record {
+  none_begin =
+      ap (λ (z : List ℕ). length (messages (cut z))) (append-nil p);
+  none_end = tt;
+}
 
--- Where n more octets are quiet: after a stream fault; before a header is complete; and in a payload, where so many of its owner
+-- Where n more octets are quiet: after a stream fault; before a header is complete; and in a
+-- payload, where so many of its owner
 -- tell nothing, and none of them ends its request id, and in the octets of a header that follow.
 abbrev IsEnded : List ℕ → Type 0
 IsEnded p = (found : ℕ × StreamFault) × ((cut p).stop ≡ Some found)
@@ -128,13 +148,16 @@ module _ (C : Table) (a : Answers) (most : ℕ) where
 
   -- ---- in a header
 
-  head_messages : (first n : ℕ) (whole : List Message) (front : List ℕ) (o : Option StreamFault) → length front < 12
+  head_messages : (first n : ℕ) (whole : List Message) (front : List ℕ) (o : Option StreamFault) →
+      length front < 12
       → messages (header_case first n whole front o (length front == 12)) ≡ whole ++ []
   unfolding header_case messages
   head_messages first n whole front (Some word) h = refl
-  head_messages first n whole front None h = rw (ne_eqb (length front) 12 (λ e. omega (arith, h, e))) refl
+  head_messages first n whole front None h =
+      rw (ne_eqb (length front) 12 (λ e. omega (arith, h, e))) refl
 
-  heads_messages : (p : List ℕ) (x k : ℕ) → Heads p (suc k) → messages (cut (p ++ x ∷ [])) ≡ messages (cut p)
+  heads_messages : (p : List ℕ) (x k : ℕ) → Heads p (suc k) →
+      messages (cut (p ++ x ∷ [])) ≡ messages (cut p)
   unfolding of_parts messages
   heads_messages p x k h = go (cut p).stop refl
     where
@@ -146,18 +169,24 @@ module _ (C : Table) (a : Answers) (most : ℕ) where
       grown o e = cut_grows p x ∙ ap (next (length p) x) (parts_by (cut p) None o h.no_current e)
 
       room : (b : Bool) → nat_lt limit (suc (length p)) ≡ b
-          → messages (next (length p) x (of_parts (cut p).whole None (cut p).held None)) ≡ (cut p).whole ++ []
-      room true e = ap (λ (c : Cut). messages c) (next_limit (cut p).whole None (cut p).held (length p) x e)
+          → messages (next (length p) x (of_parts (cut p).whole None (cut p).held None))
+          ≡ (cut p).whole ++ []
+      room true e = ap (λ (c : Cut). messages c)
+          (next_limit (cut p).whole None (cut p).held (length p) x e)
       room false e =
           ap (λ (c : Cut). messages c) (next_front (cut p).whole (cut p).held (length p) x e)
-          ∙ head_messages 1 (suc (length p)) (cut p).whole ((cut p).held ++ x ∷ []) (wrong ((cut p).held ++ x ∷ []))
+          ∙ head_messages 1 (suc (length p)) (cut p).whole ((cut p).held ++ x ∷ [])
+          (wrong ((cut p).held ++ x ∷ []))
           (omega (arith, h.few, length_push (cut p).held x))
 
-      go : (o : Option (ℕ × StreamFault)) → (cut p).stop ≡ o → messages (cut (p ++ x ∷ [])) ≡ messages (cut p)
+      go : (o : Option (ℕ × StreamFault)) → (cut p).stop ≡ o →
+          messages (cut (p ++ x ∷ [])) ≡ messages (cut p)
       go (Some found) e =
-          ap (λ (c : Cut). messages c) (grown (Some found) e ∙ next_stopped (cut p).whole None (cut p).held found (length p) x) ∙ sym before
+          ap (λ (c : Cut). messages c) (grown (Some found) e
+          ∙ next_stopped (cut p).whole None (cut p).held found (length p) x) ∙ sym before
       go None e =
-          ap (λ (c : Cut). messages c) (grown None e) ∙ (room (nat_lt limit (suc (length p))) refl ∙ sym before)
+          ap (λ (c : Cut). messages c) (grown None e)
+          ∙ (room (nat_lt limit (suc (length p))) refl ∙ sym before)
 
   heads_go : (p : List ℕ) (x n : ℕ) → Heads p (suc n) → Goes p x n
   heads_go p x n h = record {
@@ -168,9 +197,11 @@ module _ (C : Table) (a : Answers) (most : ℕ) where
 
   -- ---- in a payload
 
-  payload_messages : (p : List ℕ) (n : ℕ) (h : InPayload p n) → messages (cut p) ≡ (cut p).whole ++ h.m ∷ []
+  payload_messages : (p : List ℕ) (n : ℕ) (h : InPayload p n) → messages (cut p) ≡ (cut p).whole
+      ++ h.m ∷ []
   unfolding of_parts messages
-  payload_messages p n h = ap (λ (c : Cut). messages c) (parts_by (cut p) (Some h.m) None h.current h.free)
+  payload_messages p n h = ap (λ (c : Cut). messages c)
+      (parts_by (cut p) (Some h.m) None h.current h.free)
 
   -- the octet that is beyond the stream's limit
   past_goes : (p : List ℕ) (x n : ℕ) (h : InPayload p (suc n)) → limit < suc (length p) → Goes p x n
@@ -179,9 +210,11 @@ module _ (C : Table) (a : Answers) (most : ℕ) where
       let grown =
       cut_grows p x
       ∙ (ap (next (length p) x) (parts_by (cut p) (Some h.m) None h.current h.free)
-      ∙ next_limit (cut p).whole (Some h.m) (cut p).held (length p) x (lt-ltb limit (suc (length p)) past)) in
+      ∙ next_limit (cut p).whole (Some h.m) (cut p).held (length p) x
+      (lt-ltb limit (suc (length p)) past)) in
       record {
-        begins = ap (λ (c : Cut). length (messages c)) grown ∙ ap (λ (ms : List Message). length ms) (sym (payload_messages p (suc n) h));
+        begins = ap (λ (c : Cut). length (messages c)) grown
+            ∙ ap (λ (ms : List Message). length ms) (sym (payload_messages p (suc n) h));
         ends = silent_none (header_ends_at R p x) (at_limit R p x (omega (arith, past)));
         on = inl ((suc (length p), StreamLimit), ap (λ (c : Cut). c.stop) grown);
       }
@@ -191,18 +224,28 @@ module _ (C : Table) (a : Answers) (most : ℕ) where
     grows =
         cut_grows p x
         ∙ (ap (next (length p) x) (parts_by (cut p) (Some h.m) None h.current h.free)
-        ∙ next_payload (cut p).whole h.m (cut p).held (length p) x (le-ltb limit (suc (length p)) room))
+        ∙ next_payload (cut p).whole h.m (cut p).held (length p) x
+        (le-ltb limit (suc (length p)) room))
 
     same_count : length (messages (cut (p ++ x ∷ []))) ≡ length (messages (cut p))
     same_count =
-        let now = ap (λ (c : Cut). length (messages c)) grows ∙ ap (λ (ms : List Message). length ms) (settled_messages (cut p).whole (with_octet h.m x)) in
+        let now = ap (λ (c : Cut). length (messages c)) grows
+        ∙ ap (λ (ms : List Message). length ms)
+        (settled_messages (cut p).whole (with_octet h.m x)) in
         let before = ap (λ (ms : List Message). length ms) (payload_messages p (suc n) h) in
-        omega (arith, now, before, length_push (cut p).whole (with_octet h.m x), length_push (cut p).whole h.m)
+        omega (
+          arith,
+          now,
+          before,
+          length_push (cut p).whole (with_octet h.m x),
+          length_push (cut p).whole h.m,
+        )
 
     no_end : AreSilent (header_ends_at R p x)
     no_end =
         subst AreSilent
-        (sym (at_free R p x h.free (omega (arith, room)) ∙ ap (λ (o : Option Message). current_header_ends R p o (x ∷ [])) h.current))
+        (sym (at_free R p x h.free (omega (arith, room))
+        ∙ ap (λ (o : Option Message). current_header_ends R p o (x ∷ [])) h.current))
         (h.settled (x ∷ []) (omega arith))
 
     abbrev within : suc (length h.m.payload) < size h.m.header → Within p h.m 1
@@ -216,7 +259,8 @@ module _ (C : Table) (a : Answers) (most : ℕ) where
 
     -- those of the owner that follow tell nothing either
     still_settled : (more : suc (length h.m.payload) < size h.m.header)
-        → Settled (tracked_after R (p ++ x ∷ [])) (owner_of_next (open_after most (p ++ x ∷ [])) (with_octet h.m x)) n
+        → Settled (tracked_after R (p ++ x ∷ []))
+        (owner_of_next (open_after most (p ++ x ∷ [])) (with_octet h.m x)) n
     still_settled more q few =
         let w = within more in
         let c = tracked_after R p in
@@ -226,7 +270,8 @@ module _ (C : Table) (a : Answers) (most : ℕ) where
         let behind = (effect_to C a (suc (length p)) c who (Takes x)).tracked in
         let silent : AreSilent (owner_header_ends behind who q) =
         silent_behind (owner_header_ends c who (x ∷ [])) (owner_header_ends behind who q)
-        (subst AreSilent (owner_on C a c who x q (suc (length p))) (h.settled (x ∷ q) (omega (arith, few)))) in
+        (subst AreSilent (owner_on C a c who x q (suc (length p)))
+        (h.settled (x ∷ q) (omega (arith, few)))) in
         subst AreSilent (λ j. owner_header_ends (sym adds.tracked_after j) (sym same j) q) silent
 
     payload_goes : Goes p x n
@@ -241,13 +286,15 @@ module _ (C : Table) (a : Answers) (most : ℕ) where
               m = with_octet h.m x;
               free = w.free;
               current = w.current;
-              apart = λ less. (let all = h.apart (omega (arith, less, length_push h.m.payload x)) in omega (arith, all, length_push h.m.payload x));
+              apart = λ less. (let all = h.apart (omega (arith, less, length_push h.m.payload x)) in
+                  omega (arith, all, length_push h.m.payload x));
               settled = still_settled more;
               few = omega (arith, h.few, length_push h.m.payload x);
             }));
           }
       | inr last ↦
-          let off = grows ∙ goes_off (cut p).whole (with_octet h.m x) (omega (arith, last, length_push h.m.payload x)) in
+          let off = grows ∙ goes_off (cut p).whole (with_octet h.m x)
+          (omega (arith, last, length_push h.m.payload x)) in
           record {
             begins = same_count;
             ends = no_end;
@@ -275,8 +322,10 @@ module _ (C : Table) (a : Answers) (most : ℕ) where
       let one = goes p x (length xs) h in
       let more = all_quiet xs (p ++ x ∷ []) one.on in
       record {
-        none_begin = ap (λ (z : List ℕ). length (messages (cut z))) (sym (append_assoc p (x ∷ []) xs)) ∙ (more.none_begin ∙ one.begins);
-        none_end = silent_both (header_ends_at R p x) (header_ends_from R (p ++ x ∷ []) xs) one.ends more.none_end;
+        none_begin = ap (λ (z : List ℕ). length (messages (cut z)))
+            (sym (append_assoc p (x ∷ []) xs)) ∙ (more.none_begin ∙ one.begins);
+        none_end = silent_both (header_ends_at R p x) (header_ends_from R (p ++ x ∷ []) xs) one.ends
+            more.none_end;
       }
 
 -- ---- as many as may come in one piece
@@ -304,7 +353,8 @@ module _ (C : Table) (a : Answers) (most : ℕ) (p octets : List ℕ) where
       let who = owner_of_next (open_after most p) m in
       let told = owner_told_after C a c who in
       let fit = if_some (CurrentFits (length p) (cut p)) (cut p).current m current
-      ((sound (rules_by C a most) (is_causal (λ number. signatures_of C (a number))) (in_turn C a) p).fits free).current in
+      ((sound (rules_by C a most) (is_causal (λ number. signatures_of C (a number))) (in_turn C a)
+      p).fits free).current in
       let both = below_told told (room (length m.payload) (size m.header)) (length octets) less in
       let few = room_few (length m.payload) (size m.header) (length octets) fit.lacks both.1 in
       all_quiet C a most octets p (inr (inr (record {
@@ -320,15 +370,19 @@ module _ (C : Table) (a : Answers) (most : ℕ) (p octets : List ℕ) where
   unfolding piece_limit
   limit_quiet less = go (cut p).stop refl (cut p).current refl less
     where
-      go : (stop : Option (ℕ × StreamFault)) → (cut p).stop ≡ stop → (current : Option Message) → (cut p).current ≡ current
-          → length octets < unless stop (2 ^ 64 - 1) (limit_in C a most p current) → IsQuiet (rules_by C a most) p octets
+      go : (stop : Option (ℕ × StreamFault)) → (cut p).stop ≡ stop → (current : Option Message) →
+          (cut p).current ≡ current
+          → length octets < unless stop (2 ^ 64 - 1) (limit_in C a most p current) →
+          IsQuiet (rules_by C a most) p octets
       go (Some found) e current f less = all_quiet C a most octets p (inl (found, e))
-      go None e None f less = all_quiet C a most octets p (inr (inl (record { no_current = f; few = omega (arith, less) })))
+      go None e None f less = all_quiet C a most octets p
+          (inr (inl (record { no_current = f; few = omega (arith, less) })))
       go None e (Some m) f less = quiet_payload m e f less
 
 -- ---- the same number by the fields
 
-module _ (C : Table) (a : Answers) (most : ℕ) (s : State) (r : IsReached C a most s) (m : FramingView) (h : Shows C a m s) where
+module _ (C : Table) (a : Answers) (most : ℕ) (s : State) (r : IsReached C a most s)
+    (m : FramingView) (h : Shows C a m s) where
   abbrev pub limit_is : ℕ → Type 0
   limit_is n = piece_limit C a most r.stream ≡ n
 
@@ -341,14 +395,16 @@ module _ (C : Table) (a : Answers) (most : ℕ) (s : State) (r : IsReached C a m
 
       go : (o : Option (ℕ × StreamFault)) → (cut r.stream).stop ≡ o → limit_is (2 ^ 64 - 1)
       go (Some found) e = rw e refl
-      go None e = absurd (let no : is_some m.stopped ≡ false = ap is_some (stops ∙ ap fault_of e) in false≢true (sym no ∙ over))
+      go None e = absurd (let no : is_some m.stopped ≡ false = ap is_some (stops ∙ ap fault_of e) in
+          false≢true (sym no ∙ over))
 
   module _ (free : m.stopped ≡ None) where
     pub limit_head : length m.header < 12 → limit_is (12 - length m.header)
     unfolding piece_limit
     limit_head few =
         let none = no_current C a most s r m h free few in
-        let held = header_at C a most s r m h free ∙ ap (λ (o : Option Message). header_of o (cut r.stream).held) none in
+        let held = header_at C a most s r m h free
+        ∙ ap (λ (o : Option Message). header_of o (cut r.stream).held) none in
         rw (runs_on C a most s r m h free, none) (ap (λ (z : List ℕ). 12 - length z) (sym held))
 
     module _ (full : length m.header ≡ 12) where
@@ -358,17 +414,23 @@ module _ (C : Table) (a : Answers) (most : ℕ) (s : State) (r : IsReached C a m
       count : m.payload_count ≡ length here.0.payload
       count = come_is C a most s r m h free here.0 here.1
 
-      keeps : SlotsRepresent C a m.slots (tracked_after (rules_by C a most) r.stream) (owner_of_next (open_after most r.stream) here.0)
+      keeps : SlotsRepresent C a m.slots (tracked_after (rules_by C a most) r.stream)
+          (owner_of_next (open_after most r.stream) here.0)
       keeps =
-          subst (λ (o : Option Message). SlotsRepresent C a m.slots (tracked_after (rules_by C a most) r.stream) (owner_of_next_in (open_after most r.stream) o)) here.1
+          subst (λ (o : Option Message). SlotsRepresent C a m.slots
+          (tracked_after (rules_by C a most) r.stream)
+          (owner_of_next_in (open_after most r.stream) o)) here.1
           (knows_at C a most s r m h free)
 
       -- what the slots say of the octets that have to come until something is told
       abbrev pub SlotsSay : Option ℕ → Type 0
-      SlotsSay told = (c : Tracked) (who : Option MessageKey) → SlotsRepresent C a m.slots c who → owner_told_after C a c who ≡ told
+      SlotsSay told = (c : Tracked) (who : Option MessageKey) → SlotsRepresent C a m.slots c who →
+          owner_told_after C a c who ≡ told
 
-      pub limit_payload : (told : Option ℕ) → SlotsSay told → limit_is (up_to told (room m.payload_count (size m.header)))
+      pub limit_payload : (told : Option ℕ) → SlotsSay told →
+          limit_is (up_to told (room m.payload_count (size m.header)))
       unfolding piece_limit
       limit_payload told say =
           let header = header_is C a most s r m h free here.0 here.1 in
-          rw (runs_on C a most s r m h free, here.1, say _ _ keeps) (λ j. up_to told (room (sym count j) (size (sym header j))))
+          rw (runs_on C a most s r m h free, here.1, say _ _ keeps)
+          (λ j. up_to told (room (sym count j) (size (sym header j))))

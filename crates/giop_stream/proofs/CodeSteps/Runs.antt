@@ -31,12 +31,15 @@ use Rattle.giop_stream.proofs.SlotSteps.Performing.{text_append, performs_on}
 use Rattle.giop_stream.proofs.SlotSteps.EventsOnSlots.{Alters, IsItself, still_takes, still_alters, no_key, own_effects, slot_effects, own_has, slot_has}
 
 -- A message that is over stays so.
-pub over_stays : (S : Signatures) (header s more : List ℕ) → is_over (stage_of (message S header s)) ≡ true
+pub over_stays : (S : Signatures) (header s more : List ℕ) →
+    is_over (stage_of (message S header s)) ≡ true
     → is_over (stage_of (message S header (s ++ more))) ≡ true
 over_stays S header s more e =
-    let old : list_any is_wrong (message_lines (message S header s)) ≡ true = sym (over_where_faulted S header s) ∙ e in
+    let old : list_any is_wrong (message_lines (message S header s)) ≡ true =
+    sym (over_where_faulted S header s) ∙ e in
     over_where_faulted S header (s ++ more) ∙ (ap (list_any is_wrong) (told_more S header s more)
-    ∙ (any_append is_wrong (message_lines (message S header s)) (due S header s more) ∙ ap (λ (b : Bool). b || list_any is_wrong (due S header s more)) old))
+    ∙ (any_append is_wrong (message_lines (message S header s)) (due S header s more)
+    ∙ ap (λ (b : Bool). b || list_any is_wrong (due S header s more)) old))
 
 module _ (C : Table) (l : Answers) where
   abbrev Over : MessageKey → List ℕ → Bool
@@ -47,68 +50,96 @@ module _ (C : Table) (l : Answers) where
   then_is : (at : ℕ) (w : MessageKey) (s : List ℕ) (x : ℕ) → Over w s ≡ false
       → octets_then (message_reader C l) (event at w (Takes x)) (Some s)
       ≡ (if Over w (s ++ x ∷ []) then None else Some (s ++ x ∷ []))
-  then_is at w s x e = then_by C l at w s x ∙ ap (λ (b : Bool). if b then None else Some (s ++ x ∷ [])) (sym (octet_over (signatures_of C (l w.number)) w.header s x e))
+  then_is at w s x e = then_by C l at w s x
+      ∙ ap (λ (b : Bool). if b then None else Some (s ++ x ∷ []))
+      (sym (octet_over (signatures_of C (l w.number)) w.header s x e))
 
   count_is : (at : ℕ) (w : MessageKey) (s : List ℕ) (x : ℕ) → Over w s ≡ false
-      → fault_count (lines_of (message_reader C l) (event at w (Takes x)) (Some s)) ≡ (if Over w (s ++ x ∷ []) then 1 else 0)
-  count_is at w s x e = faults_by C l at w s x ∙ ap (λ (b : Bool). if b then 1 else 0) (sym (octet_over (signatures_of C (l w.number)) w.header s x e))
+      → fault_count (lines_of (message_reader C l) (event at w (Takes x)) (Some s))
+      ≡ (if Over w (s ++ x ∷ []) then 1 else 0)
+  count_is at w s x e = faults_by C l at w s x
+      ∙ ap (λ (b : Bool). if b then 1 else 0)
+      (sym (octet_over (signatures_of C (l w.number)) w.header s x e))
 
   -- ---- A message that is over.
 
-  pub none_run : (w : MessageKey) (o : Option (List ℕ)) (before : ℕ) (xs : List ℕ) → RepresentsMessage C l None w o → run_part C l before w o xs ≡ no_part None
+  pub none_run : (w : MessageKey) (o : Option (List ℕ)) (before : ℕ) (xs : List ℕ) →
+      RepresentsMessage C l None w o → run_part C l before w o xs ≡ no_part None
   unfolding run_part part_of
   none_run w None before [] k = refl
   none_run w None before (x ∷ xs) k =
       let e = event (suc before) w (Takes x) in
-      rw (over_lines (message_reader C l) e, over_then (message_reader C l) e) (none_run w None (suc before) xs tt)
+      rw (over_lines (message_reader C l) e, over_then (message_reader C l) e)
+      (none_run w None (suc before) xs tt)
   none_run w (Some s) before xs k = absurd k
 
   -- ---- A message that isn't over.
 
   run_text : (w : MessageKey) (xs : List ℕ) (before : ℕ) (s : List ℕ) → Over w s ≡ false
-      → lines_text (run_part C l before w (Some s) xs).lines ≡ due_text (signatures_of C (l w.number)) w.number before w.header s xs
+      → lines_text (run_part C l before w (Some s) xs).lines
+      ≡ due_text (signatures_of C (l w.number)) w.number before w.header s xs
   unfolding run_part part_of lines_text
-  run_text w [] before s e = sym (text_none (signatures_of C (l w.number)) w.number before w.header s)
+  run_text w [] before s e = sym (text_none (signatures_of C (l w.number)) w.number before w.header
+      s)
   run_text w (x ∷ xs) before s e =
       let S = signatures_of C (l w.number) in
       let ev = event (suc before) w (Takes x) in
       let first = lines_of (message_reader C l) ev (Some s) in
-      let after : List Line = (run_part C l (suc before) w (octets_then (message_reader C l) ev (Some s)) xs).lines in
+      let after : List Line = (run_part C l (suc before) w
+      (octets_then (message_reader C l) ev (Some s)) xs).lines in
       let due = due_text S w.number before w.header s (x ∷ []) in
       let more = due_text S w.number (suc before) w.header (s ++ x ∷ []) xs in
-      let both : due_text S w.number before w.header s (x ∷ xs) ≡ due ++ more = rw (add-one) at (text_both S w.number before w.header s (x ∷ []) xs) in
+      let both : due_text S w.number before w.header s (x ∷ xs) ≡ due ++ more =
+      rw (add-one) at (text_both S w.number before w.header s (x ∷ []) xs) in
       text_append first after
       ∙ (ap (λ (t : List ℕ). t ++ lines_text after) (take_text C l before w s x)
-      ∙ (ap (λ (t : List ℕ). due ++ t) (rest (run_text w xs (suc before) (s ++ x ∷ [])) (Over w (s ++ x ∷ [])) refl) ∙ sym both))
+      ∙ (ap (λ (t : List ℕ). due ++ t) (rest (run_text w xs (suc before) (s ++ x ∷ []))
+      (Over w (s ++ x ∷ [])) refl) ∙ sym both))
     where
       Rest : Option (List ℕ) → Type 0
-      Rest o = lines_text (run_part C l (suc before) w o xs).lines ≡ due_text (signatures_of C (l w.number)) w.number (suc before) w.header (s ++ x ∷ []) xs
+      Rest o = lines_text (run_part C l (suc before) w o xs).lines
+          ≡ due_text (signatures_of C (l w.number)) w.number (suc before) w.header (s ++ x ∷ []) xs
 
-      rest : (Over w (s ++ x ∷ []) ≡ false → Rest (Some (s ++ x ∷ []))) → (b : Bool) → Over w (s ++ x ∷ []) ≡ b
+      rest : (Over w (s ++ x ∷ []) ≡ false → Rest (Some (s ++ x ∷ []))) → (b : Bool) →
+          Over w (s ++ x ∷ []) ≡ b
           → Rest (octets_then (message_reader C l) (event (suc before) w (Takes x)) (Some s))
       rest ih true o =
           rw (then_is (suc before) w s x e, o, none_run w None (suc before) xs tt)
-          (sym (text_over (signatures_of C (l w.number)) w.number (suc before) w.header (s ++ x ∷ []) xs o))
+          (sym (text_over (signatures_of C (l w.number)) w.number (suc before) w.header
+          (s ++ x ∷ []) xs o))
       rest ih false o = rw (then_is (suc before) w s x e, o) (ih o)
 
   -- a message that is over after one octet is over after all of them
-  over_with : (w : MessageKey) (s xs : List ℕ) (x : ℕ) → Over w (s ++ x ∷ []) ≡ true → Over w (s ++ x ∷ xs) ≡ true
-  over_with w s xs x o = subst (λ (z : List ℕ). Over w z ≡ true) (append_assoc s (x ∷ []) xs) (over_stays (signatures_of C (l w.number)) w.header (s ++ x ∷ []) xs o)
+  over_with : (w : MessageKey) (s xs : List ℕ) (x : ℕ) → Over w (s ++ x ∷ []) ≡ true →
+      Over w (s ++ x ∷ xs) ≡ true
+  over_with w s xs x o = subst (λ (z : List ℕ). Over w z ≡ true) (append_assoc s (x ∷ []) xs)
+      (over_stays (signatures_of C (l w.number)) w.header (s ++ x ∷ []) xs o)
 
   run_then : (w : MessageKey) (xs : List ℕ) (before : ℕ) (s : List ℕ) → Over w s ≡ false
-      → (run_part C l before w (Some s) xs).octets ≡ (if Over w (s ++ xs) then None else Some (s ++ xs))
+      → (run_part C l before w (Some s) xs).octets
+      ≡ (if Over w (s ++ xs) then None else Some (s ++ xs))
   unfolding run_part part_of
   run_then w [] before s e = rw (append-nil s, e) refl
-  run_then w (x ∷ xs) before s e = go (run_then w xs (suc before) (s ++ x ∷ [])) (Over w (s ++ x ∷ [])) refl
+  run_then w (x ∷ xs) before s e = go (run_then w xs (suc before) (s ++ x ∷ []))
+      (Over w (s ++ x ∷ [])) refl
     where
       Then : Option (List ℕ) → List ℕ → Type 0
       Then o z = (run_part C l (suc before) w o xs).octets ≡ (if Over w z then None else Some z)
 
-      go : (Over w (s ++ x ∷ []) ≡ false → Then (Some (s ++ x ∷ [])) ((s ++ x ∷ []) ++ xs)) → (b : Bool)
-          → Over w (s ++ x ∷ []) ≡ b → Then (octets_then (message_reader C l) (event (suc before) w (Takes x)) (Some s))
+      go : (Over w (s ++ x ∷ []) ≡ false → Then (Some (s ++ x ∷ [])) ((s ++ x ∷ []) ++ xs)) →
+          (b : Bool)
+          → Over w (s ++ x ∷ []) ≡ b → Then (octets_then (message_reader C l)
+          (event (suc before) w (Takes x)) (Some s))
           (s ++ x ∷ xs)
-      go ih true o = rw (then_is (suc before) w s x e, o, none_run w None (suc before) xs tt, over_with w s xs x o) refl
-      go ih false o = rw (then_is (suc before) w s x e, o) (ih o ∙ ap (λ (z : List ℕ). if Over w z then None else Some z) (append_assoc s (x ∷ []) xs))
+      go ih true o = rw (
+        then_is (suc before) w s x e,
+        o,
+        none_run w None (suc before) xs tt,
+        over_with w s xs x o,
+      ) refl
+      go ih false o = rw (then_is (suc before) w s x e, o)
+          (ih o ∙ ap (λ (z : List ℕ). if Over w z then None else Some z)
+          (append_assoc s (x ∷ []) xs))
 
   run_count : (w : MessageKey) (xs : List ℕ) (before : ℕ) (s : List ℕ) → Over w s ≡ false
       → fault_count (run_part C l before w (Some s) xs).lines ≡ (if Over w (s ++ xs) then 1 else 0)
@@ -116,48 +147,76 @@ module _ (C : Table) (l : Answers) where
   run_count w [] before s e = rw (append-nil s, e) (unfold fault_count in refl)
   run_count w (x ∷ xs) before s e =
       let ev = event (suc before) w (Takes x) in
-      let after : List Line = (run_part C l (suc before) w (octets_then (message_reader C l) ev (Some s)) xs).lines in
+      let after : List Line = (run_part C l (suc before) w
+      (octets_then (message_reader C l) ev (Some s)) xs).lines in
       count_append (lines_of (message_reader C l) ev (Some s)) after
-      ∙ (ap (λ (n : ℕ). n + fault_count after) (count_is (suc before) w s x e) ∙ go (run_count w xs (suc before) (s ++ x ∷ [])) (Over w (s ++ x ∷ [])) refl)
+      ∙ (ap (λ (n : ℕ). n + fault_count after) (count_is (suc before) w s x e)
+      ∙ go (run_count w xs (suc before) (s ++ x ∷ [])) (Over w (s ++ x ∷ [])) refl)
     where
       Counts : Option (List ℕ) → List ℕ → ℕ → Type 0
-      Counts o z n = n + fault_count (run_part C l (suc before) w o xs).lines ≡ (if Over w z then 1 else 0)
+      Counts o z n = n + fault_count (run_part C l (suc before) w o xs).lines
+          ≡ (if Over w z then 1 else 0)
 
-      go : (Over w (s ++ x ∷ []) ≡ false → fault_count (run_part C l (suc before) w (Some (s ++ x ∷ [])) xs).lines
+      go : (Over w (s ++ x ∷ []) ≡ false → fault_count
+          (run_part C l (suc before) w (Some (s ++ x ∷ [])) xs).lines
           ≡ (if Over w ((s ++ x ∷ []) ++ xs) then 1 else 0))
           → (b : Bool) → Over w (s ++ x ∷ []) ≡ b
-          → Counts (octets_then (message_reader C l) (event (suc before) w (Takes x)) (Some s)) (s ++ x ∷ xs)
+          → Counts (octets_then (message_reader C l) (event (suc before) w (Takes x)) (Some s))
+          (s ++ x ∷ xs)
           (if Over w (s ++ x ∷ []) then 1 else 0)
-      go ih true o = rw (then_is (suc before) w s x e, o, none_run w None (suc before) xs tt, over_with w s xs x o) (unfold fault_count in refl)
-      go ih false o = rw (then_is (suc before) w s x e, o) (omega (arith, ih o ∙ ap (λ (z : List ℕ). if Over w z then 1 else 0) (append_assoc s (x ∷ []) xs)))
+      go ih true o = rw (
+        then_is (suc before) w s x e,
+        o,
+        none_run w None (suc before) xs tt,
+        over_with w s xs x o,
+      ) (unfold fault_count in refl)
+      go ih false o = rw (then_is (suc before) w s x e, o)
+          (omega (
+            arith,
+            ih o ∙ ap (λ (z : List ℕ). if Over w z then 1 else 0)
+                (append_assoc s (x ∷ []) xs),
+          ))
 
   -- ---- A message of which the code keeps a value.
 
   -- what a message took of these octets, whatever it follows
-  abbrev pub TellsAll : Message → Message → MessageKey → Option (List ℕ) → List ℕ → Option ℕ → Type 0
-  TellsAll m m' w o octets found = (s : List ℕ) → o ≡ Some s → Follows C l w.number w.header m s → TookAll C l w.number w.header m' s octets found
+  abbrev pub TellsAll : Message → Message → MessageKey → Option (List ℕ) → List ℕ → Option ℕ →
+      Type 0
+  TellsAll m m' w o octets found = (s : List ℕ) → o ≡ Some s → Follows C l w.number w.header m s →
+      TookAll C l w.number w.header m' s octets found
 
   -- P holds of the text that these octets add
-  abbrev pub DueOf : (List ℕ → Type 0) → Message → MessageKey → Option (List ℕ) → ℕ → List ℕ → Type 0
-  DueOf P m w o before xs = (s : List ℕ) → o ≡ Some s → Follows C l w.number w.header m s → P (due_text (signatures_of C (l w.number)) w.number before w.header s xs)
+  abbrev pub DueOf : (List ℕ → Type 0) → Message → MessageKey → Option (List ℕ) → ℕ → List ℕ →
+      Type 0
+  DueOf P m w o before xs = (s : List ℕ) → o ≡ Some s → Follows C l w.number w.header m s →
+      P (due_text (signatures_of C (l w.number)) w.number before w.header s xs)
 
-  goes : (m : Message) (w : MessageKey) (s : List ℕ) → Follows C l w.number w.header m s → Over w s ≡ false
+  goes : (m : Message) (w : MessageKey) (s : List ℕ) → Follows C l w.number w.header m s →
+      Over w s ≡ false
   goes m w s k = follows_goes C l w.number w.header m s k
 
-  faulted : (w : MessageKey) (s xs : List ℕ) (n : ℕ) → FaultedAt (signatures_of C (l w.number)) w.header s xs n → Over w (s ++ xs) ≡ true
+  faulted : (w : MessageKey) (s xs : List ℕ) (n : ℕ) →
+      FaultedAt (signatures_of C (l w.number)) w.header s xs n → Over w (s ++ xs) ≡ true
   faulted w s xs n f =
-      let all : (s ++ take n xs) ++ drop n xs ≡ s ++ xs = append_assoc s (take n xs) (drop n xs) ∙ ap (λ (z : List ℕ). s ++ z) (take-append-drop n xs) in
-      subst (λ (z : List ℕ). Over w z ≡ true) all (over_stays (signatures_of C (l w.number)) w.header (s ++ take n xs) (drop n xs) f.here)
+      let all : (s ++ take n xs) ++ drop n xs ≡ s ++ xs =
+      append_assoc s (take n xs) (drop n xs)
+      ∙ ap (λ (z : List ℕ). s ++ z) (take-append-drop n xs) in
+      subst (λ (z : List ℕ). Over w z ≡ true) all
+      (over_stays (signatures_of C (l w.number)) w.header (s ++ take n xs) (drop n xs) f.here)
 
-  pub given_text : (P : List ℕ → Type 0) (m : Message) (w : MessageKey) (o : Option (List ℕ)) (before : ℕ) (xs : List ℕ)
+  pub given_text : (P : List ℕ → Type 0) (m : Message) (w : MessageKey) (o : Option (List ℕ))
+      (before : ℕ) (xs : List ℕ)
       → RepresentsMessage C l (Some m) w o → DueOf P m w o before xs
       → P (lines_text (run_part C l before w o xs).lines)
-  given_text P m w (Some s) before xs k f = subst P (sym (run_text w xs before s (goes m w s k))) (f s refl k)
+  given_text P m w (Some s) before xs k f =
+      subst P (sym (run_text w xs before s (goes m w s k))) (f s refl k)
   given_text P m w None before xs k f = absurd k
 
   -- where none of them faults it, and where one does
-  pub given_on : {E : Type 0} (m m' : Message) (w : MessageKey) (o : Option (List ℕ)) (before : ℕ) (xs : List ℕ)
-      (found : Option ℕ) (a b : OutLog) → is_some found ≡ false → RepresentsMessage C l (Some m) w o → DueOf (Wrote a b) m w o before xs
+  pub given_on : {E : Type 0} (m m' : Message) (w : MessageKey) (o : Option (List ℕ)) (before : ℕ)
+      (xs : List ℕ)
+      (found : Option ℕ) (a b : OutLog) → is_some found ≡ false →
+      RepresentsMessage C l (Some m) w o → DueOf (Wrote a b) m w o before xs
       → TellsAll m m' w o xs found
       → DoesPart {E = E} C l one_if (Ok false) a b (Some m') w (run_part C l before w o xs)
   given_on m m' w (Some s) before xs None a b e k writes took =
@@ -172,8 +231,10 @@ module _ (C : Table) (l : Answers) where
   given_on m m' w (Some s) before xs (Some n) a b e k writes took = absurd cc
   given_on m m' w None before xs found a b e k writes took = absurd k
 
-  pub given_over : {E : Type 0} (m m' : Message) (w : MessageKey) (o : Option (List ℕ)) (before : ℕ) (xs : List ℕ)
-      (found : Option ℕ) (a b : OutLog) → is_some found ≡ true → RepresentsMessage C l (Some m) w o → DueOf (Wrote a b) m w o before xs
+  pub given_over : {E : Type 0} (m m' : Message) (w : MessageKey) (o : Option (List ℕ)) (before : ℕ)
+      (xs : List ℕ)
+      (found : Option ℕ) (a b : OutLog) → is_some found ≡ true →
+      RepresentsMessage C l (Some m) w o → DueOf (Wrote a b) m w o before xs
       → TellsAll m m' w o xs found
       → DoesPart {E = E} C l one_if (Ok true) a b None w (run_part C l before w o xs)
   given_over m m' w (Some s) before xs (Some n) a b e k writes took =
@@ -189,9 +250,16 @@ module _ (C : Table) (l : Answers) where
 
   -- ---- A run's effect on what is tracked: it changes one message alone.
 
-  run_alters : (w : MessageKey) (xs : List ℕ) (before : ℕ) (c : Tracked) → Alters c w (run_effect C l before c (Some w) xs) (run_part C l before w (c.known w.number) xs)
+  run_alters : (w : MessageKey) (xs : List ℕ) (before : ℕ) (c : Tracked) →
+      Alters c w (run_effect C l before c (Some w) xs) (run_part C l before w (c.known w.number) xs)
   unfolding run_effect run_part part_of
-  run_alters w [] before c = record { lines = refl; still_open = refl; own = refl; others = λ i h. refl }
+  run_alters w [] before c = record {
+    lines = refl;
+    still_open = refl;
+    own = refl;
+    others =
+        λ i h. refl;
+  }
   run_alters w (x ∷ xs) before c =
       let R = message_reader C l in
       let e = event (suc before) w (Takes x) in
@@ -199,61 +267,82 @@ module _ (C : Table) (l : Answers) where
       let more = run_alters w xs (suc before) (tracked_at R c e) in
       let same = ap (λ (o : Option (List ℕ)). run_part C l (suc before) w o xs) one.own in
       record {
-        lines = ap (λ (ls : List Line). lines_of R e (c.known w.number) ++ ls) (more.lines ∙ ap (λ (part : Part). part.lines) same);
+        lines = ap (λ (ls : List Line). lines_of R e (c.known w.number) ++ ls)
+            (more.lines ∙ ap (λ (part : Part). part.lines) same);
         still_open = more.still_open ∙ one.still_open;
         own = more.own ∙ ap (λ (part : Part). part.octets) same;
         others = λ i h. more.others i h ∙ one.others i h;
       }
 
-  nobody_run : (xs : List ℕ) (before : ℕ) (c : Tracked) → run_effect C l before c None xs ≡ no_effect c
+  nobody_run : (xs : List ℕ) (before : ℕ) (c : Tracked) →
+      run_effect C l before c None xs ≡ no_effect c
   unfolding run_effect
   nobody_run [] before c = refl
   nobody_run (x ∷ xs) before c = nobody_run xs (suc before) c
 
-  module _ {E : Type 0} (r : Result Bool E) (a b : OutLog) (s : Slots) (c : Tracked) (owner_of_next : Option MessageKey) (before : ℕ)
+  module _ {E : Type 0} (r : Result Bool E) (a b : OutLog) (s : Slots) (c : Tracked)
+      (owner_of_next : Option MessageKey) (before : ℕ)
       (xs : List ℕ) (h : SlotsRepresent C l s c owner_of_next) where
     -- what the run does to the message that the octets belong to
     abbrev Makes : Option Message → MessageKey → Type 0
-    Makes message w = DoesPart C l one_if r a b message w (run_part C l before w (c.known w.number) xs)
+    Makes message w = DoesPart C l one_if r a b message w
+        (run_part C l before w (c.known w.number) xs)
 
     -- what becomes of a message that is over, or of none
-    none_runs : (of : PayloadOwner) (message own' : Option Message) → IsItself of own' → message ≡ None → ((o : Option (List ℕ)) → RepresentsMessage C l message no_key o → DoesPart C l one_if r a b own' no_key (run_part C l before no_key o xs))
-        → DoesEffect C l one_if r a b (record { slots = s.slots; owner = of }) (run_effect C l before c None xs) None
+    none_runs : (of : PayloadOwner) (message own' : Option Message) → IsItself of own' →
+        message ≡ None → ((o : Option (List ℕ)) → RepresentsMessage C l message no_key o →
+        DoesPart C l one_if r a b own' no_key (run_part C l before no_key o xs))
+        → DoesEffect C l one_if r a b (record { slots = s.slots; owner = of })
+        (run_effect C l before c None xs) None
     none_runs of message own' is none f =
-        rw (nobody_run xs before c) (performs_on r a b refl (λ k. record { slots = h.slots; owner = rw (is.0, is.1) (over own' k) })
+        rw (nobody_run xs before c) (performs_on r a b refl
+        (λ k. record { slots = h.slots; owner = rw (is.0, is.1) (over own' k) })
         (rw (none_run no_key None before xs tt) at (f None (rw none tt))))
       where
         over : (own' : Option Message) → RepresentsMessage C l own' no_key None → own' ≡ None
         over None k = refl
         over (Some m) k = absurd k
 
-    pub own_runs : (of : PayloadOwner) (message own' : Option Message) → IsItself of own' → IsItself s.owner message
-        → ((w : MessageKey) (o : Option (List ℕ)) → owner_header_ends c owner_of_next xs ≡ run_header_ends w o xs → RepresentsMessage C l message w o
+    pub own_runs : (of : PayloadOwner) (message own' : Option Message) → IsItself of own' →
+        IsItself s.owner message
+        → ((w : MessageKey) (o : Option (List ℕ)) →
+        owner_header_ends c owner_of_next xs ≡ run_header_ends w o xs →
+        RepresentsMessage C l message w o
         → DoesPart C l one_if r a b own' w (run_part C l before w o xs))
-        → DoesEffect C l one_if r a b (record { slots = s.slots; owner = of }) (run_effect C l before c owner_of_next xs) owner_of_next
+        → DoesEffect C l one_if r a b (record { slots = s.slots; owner = of })
+        (run_effect C l before c owner_of_next xs) owner_of_next
     own_runs of message own' is e f =
-        own_has C l (λ who. ((w : MessageKey) (o : Option (List ℕ)) → owner_header_ends c who xs ≡ run_header_ends w o xs → RepresentsMessage C l message w o
+        own_has C l (λ who. ((w : MessageKey) (o : Option (List ℕ)) →
+        owner_header_ends c who xs ≡ run_header_ends w o xs → RepresentsMessage C l message w o
         → DoesPart C l one_if r a b own' w (run_part C l before w o xs))
-        → DoesEffect C l one_if r a b (record { slots = s.slots; owner = of }) (run_effect C l before c who xs) who) s c owner_of_next message e h
-        (λ none f. none_runs of message own' is none (λ o k. f no_key o (no_ends o (rw none at k)) k))
-        (λ w k f. own_effects C l r a b s of message own' c w _ _ is e k (run_alters w xs before c) (f w (c.known w.number) refl)) f
+        → DoesEffect C l one_if r a b (record { slots = s.slots; owner = of })
+        (run_effect C l before c who xs) who) s c owner_of_next message e h
+        (λ none f. none_runs of message own' is none
+        (λ o k. f no_key o (no_ends o (rw none at k)) k))
+        (λ w k f. own_effects C l r a b s of message own' c w _ _ is e k (run_alters w xs before c)
+        (f w (c.known w.number) refl)) f
       where
-        no_ends : (o : Option (List ℕ)) → RepresentsMessage C l None no_key o → [] ≡ run_header_ends no_key o xs
+        no_ends : (o : Option (List ℕ)) → RepresentsMessage C l None no_key o →
+            [] ≡ run_header_ends no_key o xs
         no_ends None k = refl
         no_ends (Some zs) k = absurd k
 
-    pub slot_runs : (of : PayloadOwner) (v : Contents) (message : Option Message) (k : ℕ) → index_of of ≡ Some k → index_of s.owner ≡ Some k
+    pub slot_runs : (of : PayloadOwner) (v : Contents) (message : Option Message) (k : ℕ) →
+        index_of of ≡ Some k → index_of s.owner ≡ Some k
         → option_map (λ e. e.value) (slice_get s.slots.entries k) ≡ Some v → Rising c.still_open
-        → ((w : MessageKey) → owner_of_next ≡ Some w → RepresentsMessage C l v.message w (c.known w.number) → Makes message w)
+        → ((w : MessageKey) → owner_of_next ≡ Some w →
+        RepresentsMessage C l v.message w (c.known w.number) → Makes message w)
         → DoesEffect C l one_if r a b (record {
           slots = with_value s.slots k (record v { message = message });
           owner = of;
         }) (run_effect C l before c owner_of_next xs) owner_of_next
     slot_runs of v message k is e get rising f =
-        slot_has C l (λ who. ((w : MessageKey) → who ≡ Some w → RepresentsMessage C l v.message w (c.known w.number) → Makes message w)
+        slot_has C l (λ who. ((w : MessageKey) → who ≡ Some w →
+        RepresentsMessage C l v.message w (c.known w.number) → Makes message w)
         → DoesEffect C l one_if r a b
         (record {
           slots = with_value s.slots k (record v { message = message });
           owner = of;
         }) (run_effect C l before c who xs) who) s c owner_of_next k e h
-        (λ w kept f. slot_effects C l r a b s of v message c w _ _ k is e get rising kept (run_alters w xs before c) (λ n. f w refl)) f
+        (λ w kept f. slot_effects C l r a b s of v message c w _ _ k is e get rising kept
+        (run_alters w xs before c) (λ n. f w refl)) f

@@ -27,33 +27,44 @@ use Rattle.giop_stream.proofs.Events.EventsOfOctet.{opened_each}
 
 module _ (C : Table) (a b : Answers) (all : List Event) where
   abbrev Same : Event → Type 0
-  Same e = (a e.subject.number ≡ b e.subject.number) ⊎ (header_noted e.subject.header (joined e.subject.number all) ≡ None)
+  Same e = (a e.subject.number ≡ b e.subject.number)
+      ⊎ (header_noted e.subject.header (joined e.subject.number all) ≡ None)
 
-  tells_agree : (e : Event) (so_far later : List ℕ) (what : EventKind) → joined e.subject.number all ≡ so_far ++ later → Same e
-      → lines_of_event (message_reader C a) e so_far (joined e.subject.number all) what ≡ lines_of_event (message_reader C b) e so_far (joined e.subject.number all) what
+  tells_agree : (e : Event) (so_far later : List ℕ) (what : EventKind) →
+      joined e.subject.number all ≡ so_far ++ later → Same e
+      → lines_of_event (message_reader C a) e so_far (joined e.subject.number all) what
+      ≡ lines_of_event (message_reader C b) e so_far (joined e.subject.number all) what
   unfolding lines_of_event
   tells_agree e so_far later Begins split same = refl
   tells_agree e so_far later (Takes x) split same =
-      ap (λ (rs : List TimedLine). map (λ r. line e (Said r.line_class r.text)) (filter (λ r. r.at == suc (length so_far)) rs))
-      (alike_remarks C (a e.subject.number) (b e.subject.number) e.subject.header (joined e.subject.number all) same)
+      ap (λ (rs : List TimedLine). map (λ r. line e (Said r.line_class r.text))
+      (filter (λ r. r.at == suc (length so_far)) rs))
+      (alike_remarks C (a e.subject.number) (b e.subject.number) e.subject.header
+      (joined e.subject.number all) same)
   tells_agree e so_far later (Opens id) split same = refl
   tells_agree e so_far later (Continues i) split same = refl
   tells_agree e so_far later (Cancelled j) split same = refl
   tells_agree e so_far later (Faults fault) split same = refl
   tells_agree e so_far later Closes split same =
-      ap (map (λ l. line e (Said l.0 l.1))) (alike_closes C (a e.subject.number) (b e.subject.number) e.subject.header so_far (go same))
+      ap (map (λ l. line e (Said l.0 l.1)))
+      (alike_closes C (a e.subject.number) (b e.subject.number) e.subject.header so_far
+      (go same))
     where
-      go : Same e → (a e.subject.number ≡ b e.subject.number) ⊎ (header_noted e.subject.header so_far ≡ None)
+      go : Same e → (a e.subject.number ≡ b e.subject.number)
+          ⊎ (header_noted e.subject.header so_far ≡ None)
       go (inl k) = inl k
-      go (inr k) = inr (header_noted_before e.subject.header so_far later (ap (header_noted e.subject.header) (sym split) ∙ k))
+      go (inr k) = inr (header_noted_before e.subject.header so_far later
+          (ap (header_noted e.subject.header) (sym split) ∙ k))
 
   told_agree : (past es : List Event) → past ++ es ≡ all → Each Same es
-      → lines_of_events (message_reader C a) all past es ≡ lines_of_events (message_reader C b) all past es
+      → lines_of_events (message_reader C a) all past es
+      ≡ lines_of_events (message_reader C b) all past es
   unfolding lines_of_events
   told_agree past [] is h = refl
   told_agree past (e ∷ es) is h =
       let n = e.subject.number in
-      let split : joined n all ≡ joined n past ++ joined n (e ∷ es) = ap (joined n) (sym is) ∙ joined_append n past (e ∷ es) in
+      let split : joined n all ≡ joined n past ++ joined n (e ∷ es) =
+      ap (joined n) (sym is) ∙ joined_append n past (e ∷ es) in
       let first = tells_agree e (joined n past) (joined n (e ∷ es)) e.what split h.0 in
       let rest = told_agree (past ++ e ∷ []) es (append_assoc past (e ∷ []) es ∙ is) h.1 in
       rw (first, rest) refl
@@ -96,13 +107,15 @@ module _ (C : Table) (a b : Answers) where
   OwnSame None = Unit {0}
   OwnSame (Some o) = IsSame o.message_key (Some o.octets)
 
-  kept_agree : (m : Option CodeMessage) (w : MessageKey) (o : Option (List ℕ)) → IsSame w o → RepresentsMessage C a m w o → RepresentsMessage C b m w o
+  kept_agree : (m : Option CodeMessage) (w : MessageKey) (o : Option (List ℕ)) → IsSame w o →
+      RepresentsMessage C a m w o → RepresentsMessage C b m w o
   kept_agree (Some m) w (Some xs) same k = follows_agree C a b w.number w.header xs m same k
   kept_agree None w None same k = tt
   kept_agree (Some m) w None same k = absurd k
   kept_agree None w (Some xs) same k = absurd k
 
-  slots_agree : (ks : List OpenEntry) (slots : List Slot) → Each (λ slot. IsSame slot.open_as.opener slot.octets) slots
+  slots_agree : (ks : List OpenEntry) (slots : List Slot) →
+      Each (λ slot. IsSame slot.open_as.opener slot.octets) slots
       → AreSlots C a ks slots → AreSlots C b ks slots
   slots_agree [] [] same k = tt
   slots_agree (x ∷ ks) (slot ∷ slots) same k = (
@@ -119,11 +132,13 @@ module _ (C : Table) (a b : Answers) where
 
   own_agree : (m : Option CodeMessage) (o : Option Own) → OwnSame o → IsOwn C a m o → IsOwn C b m o
   own_agree None None same k = tt
-  own_agree (Some m) (Some o) same k = follows_agree C a b o.message_key.number o.message_key.header o.octets m same k
+  own_agree (Some m) (Some o) same k = follows_agree C a b o.message_key.number o.message_key.header
+      o.octets m same k
   own_agree (Some m) None same k = absurd k
   own_agree None (Some o) same k = absurd k
 
-  pub shows_agree : (f : FramingView) (s : State) → Each (λ slot. IsSame slot.open_as.opener slot.octets) s.slots → OwnSame s.own
+  pub shows_agree : (f : FramingView) (s : State) →
+      Each (λ slot. IsSame slot.open_as.opener slot.octets) s.slots → OwnSame s.own
       → Shows C a f s → Shows C b f s
   shows_agree f s same own h = record {
     totals = h.totals;
@@ -140,7 +155,8 @@ module _ (C : Table) (a b : Answers) where
 
 -- ---- the messages that an engine keeps
 
-pub each_parts : {A : Type 0} (P : A → Type 0) (xs ys : List A) → Each P (xs ++ ys) → Each P xs × Each P ys
+pub each_parts : {A : Type 0} (P : A → Type 0) (xs ys : List A) → Each P (xs ++ ys) → Each P xs
+    × Each P ys
 each_parts P [] ys h = (tt, h)
 each_parts P (x ∷ xs) ys h =
     let rest = each_parts P xs ys h.1 in
@@ -148,16 +164,20 @@ each_parts P (x ∷ xs) ys h =
 
 module _ (P : MessageKey → Type 0) (most : ℕ) where
   -- the first event of a message is its own
-  first_own : (still_open : List Open) (m : Message) → Each (λ e. P e.subject) (events_of most still_open m) → P (message_key m)
+  first_own : (still_open : List Open) (m : Message) →
+      Each (λ e. P e.subject) (events_of most still_open m) → P (message_key m)
   unfolding events_of events_of_octet header_events own with_payload fronts
   first_own still_open m h = go m.payload h
     where
       go : (payload : List ℕ)
-          → Each (λ e. P e.subject) (flat_map (λ front. events_of_octet most still_open (with_payload m front)) (fronts payload)) → P (message_key m)
+          → Each (λ e. P e.subject) (flat_map (λ front.
+          events_of_octet most still_open (with_payload m front)) (fronts payload)) →
+          P (message_key m)
       go [] k = k.0
       go (x ∷ xs) k = k.0
 
-  pub each_own : (still_open : List Open) (ms : List Message) → Each (λ e. P e.subject) (events_from most still_open ms)
+  pub each_own : (still_open : List Open) (ms : List Message) →
+      Each (λ e. P e.subject) (events_from most still_open ms)
       → Each (λ m. P (message_key m)) ms
   unfolding events_from
   each_own still_open [] h = tt
@@ -171,13 +191,15 @@ module _ (C : Table) (a b : Answers) (most : ℕ) (p : List ℕ) (h : AnswersAgr
   R = rules_by C a most
 
   abbrev AgreeFor : MessageKey → Type 0
-  AgreeFor w = (a w.number ≡ b w.number) ⊎ (header_noted w.header (joined w.number (events most p)) ≡ None)
+  AgreeFor w = (a w.number ≡ b w.number) ⊎
+      (header_noted w.header (joined w.number (events most p)) ≡ None)
 
   same_for : (w : MessageKey) → AgreeFor w → IsSame C a b w (octets_of R p w.number)
   unfolding octets_of
   same_for w agree = go (is_over R p w.number)
     where
-      go : (over : Bool) → IsSame C a b w (if over then None else Some (joined w.number (events most p)))
+      go : (over : Bool) → IsSame C a b w (if over then None else Some
+          (joined w.number (events most p)))
       go true = tt
       go false = agree
 
@@ -187,7 +209,8 @@ module _ (C : Table) (a b : Answers) (most : ℕ) (p : List ℕ) (h : AnswersAgr
   slots_same [] k = tt
   slots_same (o ∷ os) k = (same_for o.opener k.0, slots_same os k.1)
 
-  own_same : (current : Option Message) → Each (λ m. AgreeFor (message_key m)) (option_to_list current)
+  own_same : (current : Option Message) →
+      Each (λ m. AgreeFor (message_key m)) (option_to_list current)
       → OwnSame C a b (own_in (octets_of R p) (open_after most p) current)
   unfolding own_for
   own_same None k = tt
@@ -199,19 +222,24 @@ module _ (C : Table) (a b : Answers) (most : ℕ) (p : List ℕ) (h : AnswersAgr
       kept (Some xs) s = s
 
       go : (gone : Bool) → OwnSame C a b (if gone then None
-          else option_map (λ xs. record { message_key = message_key m; octets = xs }) (octets_of R p m.number))
+          else option_map (λ xs. record { message_key = message_key m; octets = xs })
+          (octets_of R p m.number))
       go true = tt
       go false = kept (octets_of R p m.number) (same_for (message_key m) k.0)
 
-  fields_agree : (f : FramingView) → Shows C a f (state_of R p) → Shows C b f (state_of (rules_by C b most) p)
+  fields_agree : (f : FramingView) → Shows C a f (state_of R p) →
+      Shows C b f (state_of (rules_by C b most) p)
   unfolding state_of open_after events messages
   fields_agree f shows =
-      let own = each_parts (λ m. AgreeFor (message_key m)) (cut p).whole (option_to_list (cut p).current) (each_own AgreeFor most [] (messages (cut p)) h) in
+      let own = each_parts (λ m. AgreeFor (message_key m)) (cut p).whole
+      (option_to_list (cut p).current) (each_own AgreeFor most [] (messages (cut p)) h) in
       subst (Shows C b f) (state_agree C a b most p h)
-      (shows_agree C a b f (state_of R p) (slots_same (open_after most p) (opened_each AgreeFor [] (events most p) tt h))
+      (shows_agree C a b f (state_of R p) (slots_same (open_after most p)
+      (opened_each AgreeFor [] (events most p) tt h))
       (own_same (cut p).current own.1) shows)
 
-pub held_agree : (e : EngineView) (a b : Answers) (p : List ℕ) → AnswersAgree e.most p a b → HoldsBy e a p → HoldsBy e b p
+pub held_agree : (e : EngineView) (a b : Answers) (p : List ℕ) → AnswersAgree e.most p a b →
+    HoldsBy e a p → HoldsBy e b p
 held_agree e a b p h k = record {
   sound = k.sound;
   octets = k.octets;

@@ -24,41 +24,54 @@ Within n count held None = (n ≤ limit) × (12 * count + held ≤ n)
 Counted : ℕ → Cut → Type 0
 Counted n c = Within n (length (messages c)) (length c.held) c.stop
 
-settled : (n : ℕ) (whole : List Message) (m : Message) → n ≤ limit → 12 * suc (length whole) ≤ n → Counted n (end_message whole m)
+settled : (n : ℕ) (whole : List Message) (m : Message) → n ≤ limit → 12 * suc (length whole) ≤ n →
+    Counted n (end_message whole m)
 unfolding Counted end_message messages
 settled n whole m room h = go (nat_lt (length m.payload) (size m.header))
   where
-    go : (b : Bool) → Counted n (if b then record { whole = whole; current = Some m; held = []; stop = None } else record { whole = whole ++ m ∷ []; current = None; held = []; stop = None })
+    go : (b : Bool) → Counted n (if b then
+        record { whole = whole; current = Some m; held = []; stop = None } else
+        record { whole = whole ++ m ∷ []; current = None; held = []; stop = None })
     go true = (room, omega (arith, h, length_push whole m))
     go false = (room, rw (append-nil (whole ++ m ∷ [])) (omega (arith, h, length_push whole m)))
 
-fronted : (n : ℕ) (whole : List Message) (front : List ℕ) (w : Option StreamFault) (b : Bool) → (length front == 12) ≡ b → n ≤ limit → 12 * length whole + length front ≤ n
+fronted : (n : ℕ) (whole : List Message) (front : List ℕ) (w : Option StreamFault) (b : Bool) →
+    (length front == 12) ≡ b → n ≤ limit → 12 * length whole + length front ≤ n
     → Counted n (header_case 1 n whole front w b)
 unfolding Counted header_case messages
-fronted n whole front (Some word) b e room h = (omega (arith, room), rw (append-nil whole) (omega (arith, h)))
+fronted n whole front (Some word) b e room h =
+    (omega (arith, room), rw (append-nil whole) (omega (arith, h)))
 fronted n whole front None false e room h = (room, rw (append-nil whole) h)
 fronted n whole front None true e room h =
     settled n whole _ room (omega (arith, h, eqb-true (length front) 12 e))
 
-counted_free : (n x : ℕ) (whole : List Message) (current : Option Message) (held : List ℕ) → Counted n (of_parts whole current held None)
-    → nat_lt limit (suc n) ≡ false → suc n ≤ limit → Counted (suc n) (next n x (of_parts whole current held None))
+counted_free : (n x : ℕ) (whole : List Message) (current : Option Message) (held : List ℕ) →
+    Counted n (of_parts whole current held None)
+    → nat_lt limit (suc n) ≡ false → suc n ≤ limit →
+    Counted (suc n) (next n x (of_parts whole current held None))
 unfolding Counted of_parts messages
 counted_free n x whole (Some m) held h e room =
     let now = with_payload m (m.payload ++ x ∷ []) in
-    rw (next_payload whole m held n x e) (settled (suc n) whole now room (omega (arith, h.1, length_push whole m)))
+    rw (next_payload whole m held n x e) (settled (suc n) whole now room
+    (omega (arith, h.1, length_push whole m)))
 counted_free n x whole None held h e room =
     let few : 12 * length whole + length held ≤ n = rw (append-nil whole) at h.1 in
     let front = held ++ x ∷ [] in
     rw (next_front whole held n x e)
-    (fronted (suc n) whole front (wrong front) (length front == 12) refl room (omega (arith, few, length_push held x)))
+    (fronted (suc n) whole front (wrong front) (length front == 12) refl room
+    (omega (arith, few, length_push held x)))
 
-counted_next : (n x : ℕ) (whole : List Message) (current : Option Message) (held : List ℕ) (stop : Option (ℕ × StreamFault))
-    → Counted n (of_parts whole current held stop) → Counted (suc n) (next n x (of_parts whole current held stop))
+counted_next : (n x : ℕ) (whole : List Message) (current : Option Message) (held : List ℕ)
+    (stop : Option (ℕ × StreamFault))
+    → Counted n (of_parts whole current held stop) →
+    Counted (suc n) (next n x (of_parts whole current held stop))
 unfolding Counted of_parts messages
-counted_next n x whole current held (Some found) h = rw (next_stopped whole current held found n x) h
+counted_next n x whole current held (Some found) h =
+    rw (next_stopped whole current held found n x) h
 counted_next n x whole current held None h = elim (cases_lt limit (suc n)) [
   | inl past ↦
-      rw (next_limit whole current held n x (lt-ltb limit (suc n) past)) (omega (arith, h.0), omega (arith, h.1))
+      rw (next_limit whole current held n x (lt-ltb limit (suc n) past))
+      (omega (arith, h.0), omega (arith, h.1))
   | inr room ↦ counted_free n x whole current held h (le-ltb limit (suc n) room) room
 ]
 
@@ -66,7 +79,8 @@ counted_nothing : Counted 0 (cut [])
 unfolding Counted of_parts messages
 counted_nothing = rw cut_nothing (omega arith, omega arith)
 
-counted_more : (p : List ℕ) (x : ℕ) → Counted (length p) (cut p) → Counted (length (p ++ x ∷ [])) (cut (p ++ x ∷ []))
+counted_more : (p : List ℕ) (x : ℕ) → Counted (length p) (cut p) →
+    Counted (length (p ++ x ∷ [])) (cut (p ++ x ∷ []))
 unfolding of_parts
 counted_more p x h =
     let c = cut p in
@@ -76,17 +90,22 @@ counted_more p x h =
 counted : (p : List ℕ) → Counted (length p) (cut p)
 counted = by_growth (λ p. Counted (length p) (cut p)) counted_nothing counted_more
 
-read_few : (p : List ℕ) (c : Cut) (stop : Option (ℕ × StreamFault)) → Within (length p) (length (messages c)) (length c.held) stop → read_of p stop ≤ suc limit
+read_few : (p : List ℕ) (c : Cut) (stop : Option (ℕ × StreamFault)) →
+    Within (length p) (length (messages c)) (length c.held) stop → read_of p stop ≤ suc limit
 unfolding read_of
 read_few p c (Some found) h = h.0
 read_few p c None h = omega (arith, h.0)
 
-read_free : (p : List ℕ) (c : Cut) (stop : Option (ℕ × StreamFault)) → Within (length p) (length (messages c)) (length c.held) stop → stop ≡ None → read_of p stop ≤ limit
+read_free : (p : List ℕ) (c : Cut) (stop : Option (ℕ × StreamFault)) →
+    Within (length p) (length (messages c)) (length c.held) stop → stop ≡ None →
+    read_of p stop ≤ limit
 unfolding read_of
 read_free p c (Some found) h e = absurd cc
 read_free p c None h e = h.0
 
-read_many : (p : List ℕ) (c : Cut) (stop : Option (ℕ × StreamFault)) → Within (length p) (length (messages c)) (length c.held) stop → 12 * length (messages c) ≤ read_of p stop
+read_many : (p : List ℕ) (c : Cut) (stop : Option (ℕ × StreamFault)) →
+    Within (length p) (length (messages c)) (length c.held) stop →
+    12 * length (messages c) ≤ read_of p stop
 unfolding read_of
 read_many p c (Some found) h = h.1
 read_many p c None h = omega (arith, h.1)
@@ -99,6 +118,8 @@ pub octets_free : (R : Rules) (p : List ℕ) → (cut p).stop ≡ None → (tall
 unfolding tally Counted
 octets_free R p free = read_free p (cut p) (cut p).stop (counted p) free
 
-pub messages_few : (R : Rules) → IsCausal R.reading → IsStreamable R.reading → (p : List ℕ) → 12 * (tally R p).messages ≤ (tally R p).octets
+pub messages_few : (R : Rules) → IsCausal R.reading → IsStreamable R.reading → (p : List ℕ) →
+    12 * (tally R p).messages ≤ (tally R p).octets
 unfolding tally Counted
-messages_few R causal laws p = rw ((sound R causal laws p).starts) (read_many p (cut p) (cut p).stop (counted p))
+messages_few R causal laws p = rw ((sound R causal laws p).starts)
+    (read_many p (cut p) (cut p).stop (counted p))

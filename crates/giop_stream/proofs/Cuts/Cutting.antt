@@ -16,7 +16,8 @@ stopped_at n word c = record c { held = []; stop = Some (n, word) }
 
 abbrev pub next_by : ℕ → ℕ → Cut → Option (ℕ × StreamFault) → Cut
 next_by n x c (Some found) = c
-next_by n x c None = if nat_lt limit (suc n) then stopped_at (suc n) StreamLimit c else grow 1 (suc n) x c
+next_by n x c None = if nat_lt limit (suc n) then stopped_at (suc n) StreamLimit c else grow 1
+    (suc n) x c
 
 unfoldable pub next : ℕ → ℕ → Cut → Cut
 next n x c = next_by n x c c.stop
@@ -37,15 +38,30 @@ unfolding cut inner
 above_is p h = rw (lt-ltb limit (length p) h) refl
 
 unfoldable pub of_parts : List Message → Option Message → List ℕ → Option (ℕ × StreamFault) → Cut
-of_parts whole current held stop = record { whole = whole; current = current; held = held; stop = stop }
+of_parts whole current held stop = record {
+  whole = whole;
+  current = current;
+  held = held;
+  stop =
+      stop;
+}
 
-pub parts_by : (c : Cut) (current : Option Message) (found : Option (ℕ × StreamFault)) → c.current ≡ current
+pub parts_by : (c : Cut) (current : Option Message) (found : Option (ℕ × StreamFault)) →
+    c.current ≡ current
     → c.stop ≡ found → c ≡ of_parts c.whole current c.held found
 unfolding of_parts
-parts_by c current found e f = λ j. record { whole = c.whole; current = e j; held = c.held; stop = f j }
+parts_by c current found e f = λ j. record {
+  whole = c.whole;
+  current = e j;
+  held = c.held;
+  stop =
+      f j;
+}
 
-limited_stop_at : (whole : List Message) (current : Option Message) (held : List ℕ) (stop : Option (ℕ × StreamFault))
-    (n x : ℕ) → next n x (limited true (of_parts whole current held stop)) ≡ limited true (of_parts whole current held stop)
+limited_stop_at : (whole : List Message) (current : Option Message) (held : List ℕ)
+    (stop : Option (ℕ × StreamFault))
+    (n x : ℕ) → next n x (limited true (of_parts whole current held stop))
+    ≡ limited true (of_parts whole current held stop)
 unfolding limited next of_parts
 limited_stop_at whole current held (Some found) n x = refl
 limited_stop_at whole current held None n x = refl
@@ -54,11 +70,14 @@ limited_stop : (c : Cut) (n x : ℕ) → next n x (limited true c) ≡ limited t
 unfolding of_parts
 limited_stop c n x = limited_stop_at c.whole c.current c.held c.stop n x
 
-at_limit_at : (whole : List Message) (current : Option Message) (held : List ℕ) (stop : Option (ℕ × StreamFault)) (n x : ℕ)
-    → n ≡ limit → limited true (of_parts whole current held stop) ≡ next n x (of_parts whole current held stop)
+at_limit_at : (whole : List Message) (current : Option Message) (held : List ℕ)
+    (stop : Option (ℕ × StreamFault)) (n x : ℕ)
+    → n ≡ limit → limited true (of_parts whole current held stop)
+    ≡ next n x (of_parts whole current held stop)
 unfolding limited next of_parts stopped_at
 at_limit_at whole current held (Some found) n x h = refl
-at_limit_at whole current held None n x h = let k : limit < suc n = omega arith in rw (lt-ltb limit (suc n) k, h) refl
+at_limit_at whole current held None n x h = let k : limit < suc n = omega arith in
+    rw (lt-ltb limit (suc n) k, h) refl
 
 at_limit : (c : Cut) (n x : ℕ) → n ≡ limit → limited true c ≡ next n x c
 unfolding of_parts
@@ -66,10 +85,12 @@ at_limit c n x h = at_limit_at c.whole c.current c.held c.stop n x h
 
 grows_free_at : (n x : ℕ) (whole : List Message) (current : Option Message) (held : List ℕ)
     (stop : Option (ℕ × StreamFault)) → n < limit
-    → grow 1 (suc n) x (of_parts whole current held stop) ≡ next n x (of_parts whole current held stop)
+    → grow 1 (suc n) x (of_parts whole current held stop)
+    ≡ next n x (of_parts whole current held stop)
 unfolding grow next of_parts
 grows_free_at n x whole current held (Some found) h = refl
-grows_free_at n x whole current held None h = let k : suc n ≤ limit = omega arith in rw (le-ltb limit (suc n) k) refl
+grows_free_at n x whole current held None h = let k : suc n ≤ limit = omega arith in
+    rw (le-ltb limit (suc n) k) refl
 
 grows_free : (n x : ℕ) (c : Cut) → n < limit → grow 1 (suc n) x c ≡ next n x c
 unfolding of_parts
@@ -79,7 +100,8 @@ inner_same : (p : List ℕ) (x : ℕ) → limit ≤ length p → inner (p ++ x �
 unfolding inner
 inner_same p x h =
     let now : length (p ++ x ∷ []) ≡ suc (length p) = omega (arith, length_push p x) in
-    rw (now, take-append-le limit p (x ∷ []) h) (more_fuel (suc (length p)) 1 0 (take limit p) (omega (arith, length-take limit p)))
+    rw (now, take-append-le limit p (x ∷ []) h)
+    (more_fuel (suc (length p)) 1 0 (take limit p) (omega (arith, length-take limit p)))
 
 zero_is : (n : ℕ) → suc (0 + n) ≡ suc n
 zero_is n = omega arith
@@ -123,11 +145,13 @@ settle_stop whole m = go (nat_lt (length m.payload) (size m.header))
           current = Some m;
           held = [];
           stop = None;
-        } else record { whole = whole ++ m ∷ []; current = None; held = []; stop = None } in c.stop) ≡ None
+        } else record { whole = whole ++ m ∷ []; current = None; held = []; stop = None } in c.stop)
+        ≡ None
     go true = refl
     go false = refl
 
-pub settled_messages : (whole : List Message) (m : Message) → messages (end_message whole m) ≡ whole ++ m ∷ []
+pub settled_messages : (whole : List Message) (m : Message) → messages (end_message whole m) ≡ whole
+    ++ m ∷ []
 unfolding end_message messages
 settled_messages whole m = go (nat_lt (length m.payload) (size m.header))
   where
@@ -149,23 +173,28 @@ settled_messages whole m = go (nat_lt (length m.payload) (size m.header))
 
 -- ---- The next octet, from the parts of the cut.
 
-pub next_limit : (c : List Message) (current : Option Message) (held : List ℕ) (n x : ℕ) → nat_lt limit (suc n) ≡ true
+pub next_limit : (c : List Message) (current : Option Message) (held : List ℕ) (n x : ℕ) →
+    nat_lt limit (suc n) ≡ true
     → next n x (of_parts c current held None) ≡ of_parts c current [] (Some (suc n, StreamLimit))
 unfolding next of_parts stopped_at
 next_limit c current held n x k = rw k refl
 
-pub next_payload : (c : List Message) (m : Message) (held : List ℕ) (n x : ℕ) → nat_lt limit (suc n) ≡ false
-    → next n x (of_parts c (Some m) held None) ≡ end_message c (with_payload m (m.payload ++ x ∷ []))
+pub next_payload : (c : List Message) (m : Message) (held : List ℕ) (n x : ℕ) →
+    nat_lt limit (suc n) ≡ false
+    → next n x (of_parts c (Some m) held None)
+    ≡ end_message c (with_payload m (m.payload ++ x ∷ []))
 unfolding next of_parts grow
 next_payload c m held n x k = rw k refl
 
 pub next_front : (c : List Message) (held : List ℕ) (n x : ℕ) → nat_lt limit (suc n) ≡ false
-    → next n x (of_parts c None held None) ≡ header_case 1 (suc n) c (held ++ x ∷ []) (wrong (held ++ x ∷ []))
+    → next n x (of_parts c None held None)
+    ≡ header_case 1 (suc n) c (held ++ x ∷ []) (wrong (held ++ x ∷ []))
     (length (held ++ x ∷ []) == 12)
 unfolding next of_parts grow header_grows
 next_front c held n x k = rw k refl
 
-pub next_stopped : (c : List Message) (current : Option Message) (held : List ℕ) (found : ℕ × StreamFault) (n x : ℕ)
+pub next_stopped : (c : List Message) (current : Option Message) (held : List ℕ)
+    (found : ℕ × StreamFault) (n x : ℕ)
     → next n x (of_parts c current held (Some found)) ≡ of_parts c current held (Some found)
 unfolding next of_parts
 next_stopped c current held found n x = refl

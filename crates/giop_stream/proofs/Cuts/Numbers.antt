@@ -14,27 +14,38 @@ abbrev NumberedFrom : ℕ → List Message → Type 0
 NumberedFrom n [] = Unit {0}
 NumberedFrom n (m ∷ ms) = (m.number ≡ n) × NumberedFrom (suc n) ms
 
-from_cut : (fuel number before : ℕ) (xs : List ℕ) → NumberedFrom number (messages (cut_from fuel number before xs))
+from_cut : (fuel number before : ℕ) (xs : List ℕ) →
+    NumberedFrom number (messages (cut_from fuel number before xs))
 unfolding messages cut_from with_first
 from_cut zero number before xs = tt
 from_cut (suc fuel) number before xs =
-    go (from_cut fuel (suc number) (before + 12 + size (take 12 xs)) (drop (size (take 12 xs)) (drop 12 xs))) (first_wrong_octet (take 12 xs)) refl
+    go (from_cut fuel (suc number) (before + 12 + size (take 12 xs))
+    (drop (size (take 12 xs)) (drop 12 xs))) (first_wrong_octet (take 12 xs)) refl
   where
-    go : NumberedFrom (suc number) (messages (cut_from fuel (suc number) (before + 12 + size (take 12 xs)) (drop (size (take 12 xs)) (drop 12 xs))))
-        → (o : Option (ℕ × StreamFault)) → first_wrong_octet (take 12 xs) ≡ o → NumberedFrom number (messages (cut_from (suc fuel) number before xs))
-    go rest (Some found) e = subst (λ c. NumberedFrom number (messages c)) (sym (cut_wrong fuel number before xs found e)) tt
+    go : NumberedFrom (suc number) (messages
+        (cut_from fuel (suc number) (before + 12 + size (take 12 xs))
+        (drop (size (take 12 xs)) (drop 12 xs))))
+        → (o : Option (ℕ × StreamFault)) → first_wrong_octet (take 12 xs) ≡ o →
+        NumberedFrom number (messages (cut_from (suc fuel) number before xs))
+    go rest (Some found) e = subst (λ c. NumberedFrom number (messages c))
+        (sym (cut_wrong fuel number before xs found e)) tt
     go rest None e = elim (cases_lt (length xs) 12) [
-      | inl short ↦ subst (λ c. NumberedFrom number (messages c)) (sym (cut_short fuel number before xs e short)) tt
+      | inl short ↦ subst (λ c. NumberedFrom number (messages c))
+          (sym (cut_short fuel number before xs e short)) tt
       | inr long ↦ elim (cases_lt (length (drop 12 xs)) (size (take 12 xs))) [
-        | inl lacks ↦ subst (λ c. NumberedFrom number (messages c)) (sym (cut_open fuel number before xs e long lacks)) (refl, tt)
+        | inl lacks ↦ subst (λ c. NumberedFrom number (messages c))
+            (sym (cut_open fuel number before xs e long lacks)) (refl, tt)
         | inr full ↦
-            subst (λ c. NumberedFrom number (messages c)) (sym (cut_more fuel number before xs e long full))
+            subst (λ c. NumberedFrom number (messages c))
+            (sym (cut_more fuel number before xs e long full))
             (refl, rest)
       ]
     ]
 
-limited_same : (b : Bool) (whole : List Message) (current : Option Message) (held : List ℕ) (stop : Option (ℕ × StreamFault))
-    → messages (limited b (record { whole = whole; current = current; held = held; stop = stop })) ≡ whole ++ option_to_list current
+limited_same : (b : Bool) (whole : List Message) (current : Option Message) (held : List ℕ)
+    (stop : Option (ℕ × StreamFault))
+    → messages (limited b (record { whole = whole; current = current; held = held; stop = stop }))
+    ≡ whole ++ option_to_list current
 unfolding messages limited
 limited_same false whole current held stop = refl
 limited_same true whole current held (Some found) = refl
@@ -44,7 +55,8 @@ numbered : (p : List ℕ) → NumberedFrom 1 (messages (cut p))
 unfolding cut messages
 numbered p =
     let c = cut_from (suc (length p)) 1 0 (take limit p) in
-    subst (NumberedFrom 1) (sym (limited_same (nat_lt limit (length p)) c.whole c.current c.held c.stop)) (from_cut (suc (length p)) 1 0 (take limit p))
+    subst (NumberedFrom 1) (sym (limited_same (nat_lt limit (length p)) c.whole c.current c.held
+    c.stop)) (from_cut (suc (length p)) 1 0 (take limit p))
 
 -- the header of the message of a number
 pub header_of_number : List Message → ℕ → Option (List ℕ)
@@ -58,18 +70,25 @@ later : (k n : ℕ) (ms : List Message) → n < k → NumberedFrom k ms → Each
 later k n [] h from = tt
 later k n (m ∷ ms) h from = (omega (arith, h, from.0), later (suc k) n ms (omega (arith, h)) from.1)
 
-behind : (first : Message) (ms some : List Message) → Each (λ m. first.number < m.number) some → Each (IsOfNumber ms) some
+behind : (first : Message) (ms some : List Message) → Each (λ m. first.number < m.number) some →
+    Each (IsOfNumber ms) some
     → Each (IsOfNumber (first ∷ ms)) some
 unfolding header_of_number
 behind first ms [] above h = tt
-behind first ms (m ∷ some) above h =
-    (rw (ne_eqb first.number m.number (λ e. omega (arith, e, above.0))) h.0, behind first ms some above.1 h.1)
+behind first ms (m ∷ some) above h = (
+  rw (ne_eqb first.number m.number (λ e. omega (arith, e, above.0))) h.0,
+  behind first ms some above.1 h.1,
+)
 
 each_of_number : (k : ℕ) (ms : List Message) → NumberedFrom k ms → Each (IsOfNumber ms) ms
 unfolding header_of_number
 each_of_number k [] from = tt
-each_of_number k (m ∷ ms) from =
-    (rw (eq-eqb m.number m.number refl) refl, behind m ms ms (later (suc k) m.number ms (omega (arith, from.0)) from.1) (each_of_number (suc k) ms from.1))
+each_of_number k (m ∷ ms) from = (
+  rw (eq-eqb m.number m.number refl) refl,
+  behind m ms ms (later (suc k) m.number ms (omega (arith, from.0)) from.1)
+      (each_of_number (suc k) ms from.1),
+)
 
-pub own_header : (p : List ℕ) → Each (λ m. header_of_number (messages (cut p)) m.number ≡ Some m.header) (messages (cut p))
+pub own_header : (p : List ℕ) → Each (λ m.
+    header_of_number (messages (cut p)) m.number ≡ Some m.header) (messages (cut p))
 own_header p = each_of_number 1 (messages (cut p)) (numbered p)

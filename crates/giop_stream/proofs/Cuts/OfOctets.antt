@@ -16,14 +16,17 @@ abbrev pub HeaderOctets : Cut → Type 0
 HeaderOctets c = IfSome c.current (λ m. AreOctets m.header × (first_wrong_octet m.header ≡ None))
 
 from_by : (fuel number before : ℕ) (xs : List ℕ) → AreOctets xs
-    → ((number before : ℕ) (ys : List ℕ) → AreOctets ys → HeaderOctets (cut_from fuel number before ys))
-    → (o : Option (ℕ × StreamFault)) → first_wrong_octet (take 12 xs) ≡ o → HeaderOctets (cut_from (suc fuel) number before xs)
+    → ((number before : ℕ) (ys : List ℕ) → AreOctets ys →
+    HeaderOctets (cut_from fuel number before ys))
+    → (o : Option (ℕ × StreamFault)) → first_wrong_octet (take 12 xs) ≡ o →
+    HeaderOctets (cut_from (suc fuel) number before xs)
 unfolding with_first
 from_by fuel number before xs h ih (Some found) e = rw (cut_wrong fuel number before xs found e) tt
 from_by fuel number before xs h ih None e = elim (cases_lt (length xs) 12) [
   | inl short ↦ rw (cut_short fuel number before xs e short) tt
   | inr long ↦ elim (cases_lt (length (drop 12 xs)) (size (take 12 xs))) [
-    | inl lacks ↦ rw (cut_open fuel number before xs e long lacks) (All-take (λ x. x < 256) 12 xs h, e)
+    | inl lacks ↦ rw (cut_open fuel number before xs e long lacks)
+        (All-take (λ x. x < 256) 12 xs h, e)
     | inr full ↦
         let header = take 12 xs in
         rw (cut_more fuel number before xs e long full)
@@ -32,10 +35,13 @@ from_by fuel number before xs h ih None e = elim (cases_lt (length xs) 12) [
   ]
 ]
 
-from_octets : (fuel number before : ℕ) (xs : List ℕ) → AreOctets xs → HeaderOctets (cut_from fuel number before xs)
+from_octets : (fuel number before : ℕ) (xs : List ℕ) → AreOctets xs →
+    HeaderOctets (cut_from fuel number before xs)
 unfolding cut_from
 from_octets zero number before xs h = tt
-from_octets (suc fuel) number before xs h = from_by fuel number before xs h (λ n b ys k. from_octets fuel n b ys k) (first_wrong_octet (take 12 xs)) refl
+from_octets (suc fuel) number before xs h =
+    from_by fuel number before xs h (λ n b ys k. from_octets fuel n b ys k)
+    (first_wrong_octet (take 12 xs)) refl
 
 pub header_octets : (p : List ℕ) → AreOctets p → HeaderOctets (cut p)
 unfolding cut limited
@@ -57,4 +63,5 @@ header_octets p h = go (nat_lt limit (length p))
 
 pub size_fits : (header : List ℕ) → AreOctets header → length header ≡ 12 → size header < 2 ^ 32
 unfolding size
-size_fits header h twelve = num_bound-4 (order header) (drop 8 header) (All-drop (λ x. x < 256) 8 header h) (omega (arith, length-drop 8 header, twelve))
+size_fits header h twelve = num_bound-4 (order header) (drop 8 header)
+    (All-drop (λ x. x < 256) 8 header h) (omega (arith, length-drop 8 header, twelve))

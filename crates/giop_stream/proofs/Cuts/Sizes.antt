@@ -6,7 +6,9 @@ use Rattle.std.proofs.lemmas.List.{drop_all}
 use Rattle.giop_cdr.specs.Numbers.{num}
 use Rattle.giop_message.specs.Headers.{order, size}
 
-last_four : (header : List ℕ) → length header ≡ 12 → drop 8 header ≡ get_or header 8 0 ∷ get_or header 9 0 ∷ get_or header 10 0 ∷ get_or header 11 0 ∷ []
+last_four : (header : List ℕ) → length header ≡ 12 →
+    drop 8 header ≡ get_or header 8 0 ∷ get_or header 9 0 ∷ get_or header 10 0 ∷ get_or header 11 0
+    ∷ []
 last_four header h =
     drop-cons header 8 0 (omega (arith, h))
     ∙ ap (λ xs. get_or header 8 0 ∷ xs) (drop-cons header 9 0 (omega (arith, h))
@@ -15,6 +17,7 @@ last_four header h =
     ∙ ap (λ xs. get_or header 11 0 ∷ xs) (drop_all 12 header (omega (arith, h))))))
 
 pub size_is : (header : List ℕ) → length header ≡ 12
-    → size header ≡ num (order header) (get_or header 8 0 ∷ get_or header 9 0 ∷ get_or header 10 0 ∷ get_or header 11 0 ∷ [])
+    → size header ≡ num (order header) (get_or header 8 0 ∷ get_or header 9 0 ∷ get_or header 10 0 ∷
+    get_or header 11 0 ∷ [])
 unfolding size
 size_is header h = ap (num (order header)) (last_four header h)

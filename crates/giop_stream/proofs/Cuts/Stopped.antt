@@ -13,36 +13,51 @@ use Rattle.giop_stream.proofs.Cuts.Cutting.{next, parts_by, cut_grows, next_stop
 use Rattle.giop_stream.proofs.Events.AfterMoreEvents.{message_lines_same, lines_stopped}
 use Rattle.giop_stream.proofs.CodeSteps.EngineAlive.{early_events}
 
-pub cut_stays : (p : List ℕ) (x : ℕ) (found : ℕ × StreamFault) → (cut p).stop ≡ Some found → cut (p ++ x ∷ []) ≡ cut p
+pub cut_stays : (p : List ℕ) (x : ℕ) (found : ℕ × StreamFault) → (cut p).stop ≡ Some found →
+    cut (p ++ x ∷ []) ≡ cut p
 cut_stays p x found h =
     let parts = parts_by (cut p) (cut p).current (Some found) refl h in
-    cut_grows p x ∙ (ap (next (length p) x) parts ∙ (next_stopped (cut p).whole (cut p).current (cut p).held found (length p) x ∙ sym parts))
+    cut_grows p x ∙ (ap (next (length p) x) parts
+    ∙ (next_stopped (cut p).whole (cut p).current (cut p).held found (length p) x ∙ sym parts))
 
-one_stays : (R : Rules) → IsCausal R.reading → (p : List ℕ) (x : ℕ) (found : ℕ × StreamFault) → (cut p).stop ≡ Some found → lines R (p ++ x ∷ []) ≡ lines R p
+one_stays : (R : Rules) → IsCausal R.reading → (p : List ℕ) (x : ℕ) (found : ℕ × StreamFault) →
+    (cut p).stop ≡ Some found → lines R (p ++ x ∷ []) ≡ lines R p
 unfolding events
 one_stays R causal p x found h =
     let p' = p ++ x ∷ [] in
     let same = cut_stays p x found h in
-    let sd = message_lines_same R causal p p' (omega (arith, length_push p x)) (ap (λ (c : Cut). events_from R.most [] (messages c)) same) (early_events R.most p) in
-    lines_stopped R p' (Some found) (ap (λ (c : Cut). c.stop) same ∙ h) ∙ (rw sd refl ∙ sym (lines_stopped R p (Some found) h))
+    let sd = message_lines_same R causal p p' (omega (arith, length_push p x))
+    (ap (λ (c : Cut). events_from R.most [] (messages c)) same) (early_events R.most p) in
+    lines_stopped R p' (Some found) (ap (λ (c : Cut). c.stop) same ∙ h)
+    ∙ (rw sd refl ∙ sym (lines_stopped R p (Some found) h))
 
 -- the fault stays
-stop_stays : (p q : List ℕ) (found : ℕ × StreamFault) → (cut p).stop ≡ Some found → (cut (p ++ q)).stop ≡ Some found
+stop_stays : (p q : List ℕ) (found : ℕ × StreamFault) → (cut p).stop ≡ Some found →
+    (cut (p ++ q)).stop ≡ Some found
 stop_stays p [] found h = rw (append-nil p) h
-stop_stays p (x ∷ q) found h = rw (← append_assoc p (x ∷ []) q) (stop_stays (p ++ x ∷ []) q found (ap (λ (c : Cut). c.stop) (cut_stays p x found h) ∙ h))
+stop_stays p (x ∷ q) found h = rw (← append_assoc p (x ∷ []) q)
+    (stop_stays (p ++ x ∷ []) q found (ap (λ (c : Cut). c.stop) (cut_stays p x found h) ∙ h))
 
-lines_stay : (R : Rules) → IsCausal R.reading → (p q : List ℕ) (found : ℕ × StreamFault) → (cut p).stop ≡ Some found → lines R (p ++ q) ≡ lines R p
+lines_stay : (R : Rules) → IsCausal R.reading → (p q : List ℕ) (found : ℕ × StreamFault) →
+    (cut p).stop ≡ Some found → lines R (p ++ q) ≡ lines R p
 lines_stay R causal p [] found h = ap (lines R) (append-nil p)
 lines_stay R causal p (x ∷ q) found h =
     rw (← append_assoc p (x ∷ []) q) (lines_stay R causal (p ++ x ∷ []) q found
     (ap (λ (c : Cut). c.stop) (cut_stays p x found h) ∙ h) ∙ one_stays R causal p x found h)
 
-pub text_stays : (R : Rules) → IsCausal R.reading → (p q : List ℕ) (found : ℕ × StreamFault) → (cut p).stop ≡ Some found → text R (p ++ q) ≡ text R p
+pub text_stays : (R : Rules) → IsCausal R.reading → (p q : List ℕ) (found : ℕ × StreamFault) →
+    (cut p).stop ≡ Some found → text R (p ++ q) ≡ text R p
 unfolding text
 text_stays R causal p q found h = ap lines_text (lines_stay R causal p q found h)
 
-pub tally_stays : (R : Rules) → IsCausal R.reading → (p q : List ℕ) (found : ℕ × StreamFault) → (cut p).stop ≡ Some found → tally R (p ++ q) ≡ tally R p
+pub tally_stays : (R : Rules) → IsCausal R.reading → (p q : List ℕ) (found : ℕ × StreamFault) →
+    (cut p).stop ≡ Some found → tally R (p ++ q) ≡ tally R p
 unfolding tally read_of
 tally_stays R causal p q found h =
     let same = lines_stay R causal p q found h in
-    rw (stop_stays p q found h, h) (λ j. record { messages = start_count (same j); faults = fault_count (same j); octets = found.0 })
+    rw (stop_stays p q found h, h) (λ j. record {
+      messages = start_count (same j);
+      faults =
+          fault_count (same j);
+      octets = found.0;
+    })

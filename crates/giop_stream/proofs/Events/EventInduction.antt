@@ -1,4 +1,5 @@
--- Induction over the events of an octet after those of its first part: what holds of no events, of each single event and of
+-- Induction over the events of an octet after those of its first part: what holds of no events, of
+-- each single event and of
 -- lists joined holds of all of them.
 use Rattle.std.proofs.Common.{ℕ, Bool, true, false, List, [], ◌++◌, length, Option, Some, None}
 use Rattle.std.specs.Prelude.{nat_lt, nat_le, ◌==◌, if◌then◌else◌, ◌&&◌, ◌||◌}
@@ -19,7 +20,8 @@ pub record IsJoined (Q : List Event → Type 0) : Type 0 where
   pub none : Q []
   pub both : (es more : List Event) → Q es → Q more → Q (es ++ more)
 
-pub either : (Q : List Event → Type 0) (b : Bool) (es more : List Event) → Q es → Q more → Q (if b then es else more)
+pub either : (Q : List Event → Type 0) (b : Bool) (es more : List Event) → Q es → Q more →
+    Q (if b then es else more)
 either Q true es more h k = h
 either Q false es more h k = k
 
@@ -37,22 +39,27 @@ pub record HoldsOf (Q : List Event → Type 0) (now : Now) (other : Option Open)
   pub mine : (what : EventKind) → IsLater what → Q (own now what)
   pub theirs : (what : EventKind) → IsLater what → Q (event_of_open now other what)
 
-module _ (most : ℕ) (Q : List Event → Type 0) (j : IsJoined Q) (still_open : List Open) (now : Now) (id : ℕ) where
+module _ (most : ℕ) (Q : List Event → Type 0) (j : IsJoined Q) (still_open : List Open) (now : Now)
+    (id : ℕ) where
   of_opens : (other : Option Open) → HoldsOf Q now other → Q (opens most still_open now id other)
-  of_opens None h = either Q (nat_le most (length still_open)) _ _ (h.mine (Faults TooManyOpen) tt) (h.mine (Opens id) tt)
+  of_opens None h = either Q (nat_le most (length still_open)) _ _ (h.mine (Faults TooManyOpen) tt)
+      (h.mine (Opens id) tt)
   of_opens (Some o) h = h.mine (Faults IdOpen) tt
 
   of_continues : (other : Option Open) → HoldsOf Q now other → Q (continues now other)
   of_continues None h = h.mine (Faults NoOpen) tt
   of_continues (Some o) h =
       j.both (own now (Continues o.opener.number)) _ (h.mine (Continues o.opener.number) tt)
-      (either Q (same_order (order now.subject.header) (order o.opener.header)) _ _ j.none (h.theirs (Faults FragmentOrder) tt))
+      (either Q (same_order (order now.subject.header) (order o.opener.header)) _ _ j.none
+      (h.theirs (Faults FragmentOrder) tt))
 
   of_cancels : (other : Option Open) → HoldsOf Q now other → Q (cancels now other)
   of_cancels None h = j.none
-  of_cancels (Some o) h = either Q (may_be_cancelled o.opener.header) _ _ (h.theirs (Cancelled now.subject.number) tt) j.none
+  of_cancels (Some o) h = either Q (may_be_cancelled o.opener.header) _ _
+      (h.theirs (Cancelled now.subject.number) tt) j.none
 
-  pub of_id : (other : Option Open) → HoldsOf Q now other → Q (request_id_events most still_open now id other)
+  pub of_id : (other : Option Open) → HoldsOf Q now other →
+      Q (request_id_events most still_open now id other)
   unfolding request_id_events
   of_id other h =
       either Q (is_fragment now.subject.header) _ _ (of_continues other h)
@@ -62,14 +69,18 @@ module _ (most : ℕ) (Q : List Event → Type 0) (j : IsJoined Q) (still_open :
   pub of_end : (other : Option Open) → HoldsOf Q now other → Q (message_end_events now other)
   unfolding message_end_events
   of_end other h =
-      either Q (nat_lt (size now.subject.header) 4 && (is_opener now.subject.header || is_fragment now.subject.header)) _ _
+      either Q (nat_lt (size now.subject.header) 4
+      && (is_opener now.subject.header || is_fragment now.subject.header)) _ _
       (h.mine (Faults Short) tt)
       (either Q (is_opener now.subject.header) _ _ j.none
       (either Q (is_fragment now.subject.header) _ _
       (either Q (has_more now.subject.header) _ _ j.none (h.theirs Closes tt)) (h.mine Closes tt)))
 
   pub of_later : (other : Option Open) → HoldsOf Q now other
-      → Q ((if now.payload_count == 4 then request_id_events most still_open now id other else []) ++ (if now.payload_count == size now.subject.header then message_end_events now other else []))
+      → Q ((if now.payload_count == 4 then request_id_events most still_open now id other else [])
+      ++ (if now.payload_count == size now.subject.header then message_end_events now other else
+      []))
   of_later other h =
-      j.both (if now.payload_count == 4 then request_id_events most still_open now id other else []) _ (either Q (now.payload_count == 4) _ _ (of_id other h) j.none)
+      j.both (if now.payload_count == 4 then request_id_events most still_open now id other else [])
+      _ (either Q (now.payload_count == 4) _ _ (of_id other h) j.none)
       (either Q (now.payload_count == size now.subject.header) _ _ (of_end other h) j.none)

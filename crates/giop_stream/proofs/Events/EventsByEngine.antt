@@ -11,31 +11,46 @@ use Rattle.giop_stream.specs.Effects.{Tracked, Effect, lines_at, tracked_at, eff
 use Rattle.giop_stream.specs.EngineStep.{numbered}
 use Rattle.giop_stream.proofs.StreamLines.LineOrder.{unnamed}
 
--- ---- The request id and its open message matter only at the id's last octet, and in a Fragment after it.
+-- ---- The request id and its open message matter only at the id's last octet, and in a Fragment
+-- after it.
 
 or_true : (b : Bool) → (b || true) ≡ true
 or_true true = refl
 or_true false = refl
 
 module _ (most : ℕ) (still_open : List Open) (now : Now) (i j : ℕ) (o q : Option Open) where
-  at_four : now.payload_count ≡ 4 → (b : Bool) → has_name now.subject.header ≡ b → (b ≡ true → (i ≡ j) × (o ≡ q)) → events_with_id most still_open now i o ≡ events_with_id most still_open now j q
+  at_four : now.payload_count ≡ 4 → (b : Bool) → has_name now.subject.header ≡ b →
+      (b ≡ true → (i ≡ j) × (o ≡ q)) → events_with_id most still_open now i o
+      ≡ events_with_id most still_open now j q
   unfolding events_with_id payload_events request_id_events message_end_events
-  at_four four true e h = let same = h refl in λ k. events_with_id most still_open now (same.0 k) (same.1 k)
-  at_four four false e h = let none = unnamed now.subject.header e in rw (none.0, none.1, none.2) refl
+  at_four four true e h = let same = h refl in
+      λ k. events_with_id most still_open now (same.0 k) (same.1 k)
+  at_four four false e h = let none = unnamed now.subject.header e in
+      rw (none.0, none.1, none.2) refl
 
-  short_end : now.payload_count < 4 → is_fragment now.subject.header ≡ true → (b : Bool) → (now.payload_count == size now.subject.header) ≡ b
+  short_end : now.payload_count < 4 → is_fragment now.subject.header ≡ true → (b : Bool) →
+      (now.payload_count == size now.subject.header) ≡ b
       → (if b then message_end_events now o else []) ≡ (if b then message_end_events now q else [])
   unfolding message_end_events
   short_end few f true e =
       let n = eqb-true now.payload_count (size now.subject.header) e in
-      rw (lt-ltb (size now.subject.header) 4 (omega (arith, few, n)), f, or_true (is_opener now.subject.header)) refl
+      rw (
+        lt-ltb (size now.subject.header) 4 (omega (arith, few, n)),
+        f,
+        or_true (is_opener now.subject.header),
+      ) refl
   short_end few f false e = refl
 
   few_octets : now.payload_count < 4 → payload_events now o ≡ payload_events now q
   unfolding payload_events
-  few_octets few = rw (le-ltb 4 now.payload_count (omega (arith, few)), and_right (is_fragment now.subject.header) false refl) refl
+  few_octets few = rw (
+    le-ltb 4 now.payload_count (omega (arith, few)),
+    and_right (is_fragment now.subject.header) false refl,
+  ) refl
 
-  elsewhere : (now.payload_count ≡ 4 → ⊥) → (b : Bool) → is_fragment now.subject.header ≡ b → (b ≡ true → 4 < now.payload_count → o ≡ q) → events_with_id most still_open now i o ≡ events_with_id most still_open now j q
+  elsewhere : (now.payload_count ≡ 4 → ⊥) → (b : Bool) → is_fragment now.subject.header ≡ b →
+      (b ≡ true → 4 < now.payload_count → o ≡ q) →
+      events_with_id most still_open now i o ≡ events_with_id most still_open now j q
   unfolding events_with_id payload_events message_end_events
   elsewhere other false f h = rw (ne_eqb now.payload_count 4 other, f) refl
   elsewhere other true f h = elim (cases_lt 4 now.payload_count) [
@@ -44,11 +59,14 @@ module _ (most : ℕ) (still_open : List Open) (now : Now) (i j : ℕ) (o q : Op
         let less : now.payload_count < 4 = omega (arith, few, other) in
         let oct = few_octets less in
         let end = short_end less f (now.payload_count == size now.subject.header) refl in
-        rw (ne_eqb now.payload_count 4 other) (λ k. (if now.payload_count == 0 then header_events now else oct k) ++ ([] ++ end k))
+        rw (ne_eqb now.payload_count 4 other)
+        (λ k. (if now.payload_count == 0 then header_events now else oct k) ++ ([] ++ end k))
   ]
 
-  pub events_with_id_agree : (now.payload_count ≡ 4 → has_name now.subject.header ≡ true → (i ≡ j) × (o ≡ q))
-      → (4 < now.payload_count → is_fragment now.subject.header ≡ true → o ≡ q) → events_with_id most still_open now i o ≡ events_with_id most still_open now j q
+  pub events_with_id_agree : (now.payload_count ≡ 4 → has_name now.subject.header ≡ true → (i ≡ j)
+      × (o ≡ q))
+      → (4 < now.payload_count → is_fragment now.subject.header ≡ true → o ≡ q) →
+      events_with_id most still_open now i o ≡ events_with_id most still_open now j q
   events_with_id_agree h k = elim (cases_eq now.payload_count 4) [
     | inl four ↦ at_four four (has_name now.subject.header) refl (λ named. h four named)
     | inr other ↦ elsewhere other (is_fragment now.subject.header) refl (λ f past. k past f)
@@ -61,48 +79,66 @@ pub record AgreeOn (P : ℕ → Type 0) (a b : Effect) : Type 0 where
   pub still_open : a.tracked.still_open ≡ b.tracked.still_open
   pub known : (i : ℕ) → P i → a.tracked.known i ≡ b.tracked.known i
 
-pub effects_agree : (R : MessageReader) (P : ℕ → Type 0) (c d : Tracked) (es : List Event) → c.still_open ≡ d.still_open
-    → ((i : ℕ) → P i → c.known i ≡ d.known i) → Each (λ e. P e.subject.number) es → AgreeOn P (effects R c es) (effects R d es)
+pub effects_agree : (R : MessageReader) (P : ℕ → Type 0) (c d : Tracked) (es : List Event) →
+    c.still_open ≡ d.still_open
+    → ((i : ℕ) → P i → c.known i ≡ d.known i) → Each (λ e. P e.subject.number) es →
+    AgreeOn P (effects R c es) (effects R d es)
 unfolding effects
 effects_agree R P c d [] l h k = record { lines = refl; still_open = l; known = h }
 effects_agree R P c d (e ∷ es) l h k =
     let now : lines_at R c.known e ≡ lines_at R d.known e = unfold lines_at in
-    ap (λ (o : Option (List ℕ)). up_to_last_line (λ i. false) (lines_for R e o)) (h e.subject.number k.0) in
-    let more = effects_agree R P (tracked_at R c e) (tracked_at R d e) es (still_open_then l) (known_then now) k.1 in
+    ap (λ (o : Option (List ℕ)). up_to_last_line (λ i. false) (lines_for R e o))
+    (h e.subject.number k.0) in
+    let more = effects_agree R P (tracked_at R c e) (tracked_at R d e) es (still_open_then l)
+    (known_then now) k.1 in
     record { lines = λ j. now j ++ more.lines j; still_open = more.still_open; known = more.known }
   where
-    still_open_then : c.still_open ≡ d.still_open → (tracked_at R c e).still_open ≡ (tracked_at R d e).still_open
-    still_open_then l = unfold tracked_at in ap (λ (still_open : List Open). changed still_open e.subject e.what) l
+    still_open_then : c.still_open ≡ d.still_open →
+        (tracked_at R c e).still_open ≡ (tracked_at R d e).still_open
+    still_open_then l = unfold tracked_at in
+        ap (λ (still_open : List Open). changed still_open e.subject e.what) l
 
-    known_then : lines_at R c.known e ≡ lines_at R d.known e → (i : ℕ) → P i → (tracked_at R c e).known i ≡ (tracked_at R d e).known i
+    known_then : lines_at R c.known e ≡ lines_at R d.known e → (i : ℕ) → P i →
+        (tracked_at R c e).known i ≡ (tracked_at R d e).known i
     known_then now i p =
-        unfold tracked_at kept_after kept_with in λ j. if list_any (is_last_of i) (now j) then None else option_map (λ xs. xs ++ joined i (e ∷ [])) (h i p j)
+        unfold tracked_at kept_after kept_with in
+        λ j. if list_any (is_last_of i) (now j) then None else option_map
+        (λ xs. xs ++ joined i (e ∷ [])) (h i p j)
 
 -- ---- An open message is found by its number, as the numbers rise.
 
-pub found_in : (Q : Open → Type 0) (test : Open → Bool) (still_open : List Open) (o : Open) → Each Q still_open → find test still_open ≡ Some o → Q o
+pub found_in : (Q : Open → Type 0) (test : Open → Bool) (still_open : List Open) (o : Open) →
+    Each Q still_open → find test still_open ≡ Some o → Q o
 found_in Q test [] o h e = absurd cc
 found_in Q test (a ∷ still_open) o h e = go (test a) e (found_in Q test still_open o h.1)
   where
-    go : (b : Bool) → (if b then Some a else find test still_open) ≡ Some o → (find test still_open ≡ Some o → Q o) → Q o
+    go : (b : Bool) → (if b then Some a else find test still_open) ≡ Some o →
+        (find test still_open ≡ Some o → Q o) → Q o
     go true e ih = let same : a ≡ o = cc in subst Q same h.0
     go false e ih = ih e
 
-pub found_again : (test : Open → Bool) (still_open : List Open) → Rising still_open → numbered still_open (option_map (λ o. o.opener.number) (find test still_open)) ≡ find test still_open
+pub found_again : (test : Open → Bool) (still_open : List Open) → Rising still_open →
+    numbered still_open (option_map (λ o. o.opener.number) (find test still_open))
+    ≡ find test still_open
 found_again test [] h = refl
 found_again test (a ∷ still_open) h = go (test a) (found_again test still_open h.1)
   where
     later : (o : Option Open) → find test still_open ≡ o
-        → numbered still_open (option_map (λ o. o.opener.number) (find test still_open)) ≡ find test still_open
+        → numbered still_open (option_map (λ o. o.opener.number) (find test still_open))
+        ≡ find test still_open
         → numbered (a ∷ still_open) (option_map (λ o. o.opener.number) o) ≡ o
     later None e ih = refl
     later (Some o) e ih =
-        let less : a.opener.number < o.opener.number = found_in (λ o. a.opener.number < o.opener.number) test still_open o h.0 e in
+        let less : a.opener.number < o.opener.number =
+        found_in (λ o. a.opener.number < o.opener.number) test still_open o h.0 e in
         rw (ne_eqb a.opener.number o.opener.number (λ same. omega (arith, less, same)))
-        (ap (λ (q : Option Open). numbered still_open (option_map (λ o. o.opener.number) q)) (sym e) ∙ (ih ∙ e))
+        (ap (λ (q : Option Open). numbered still_open (option_map (λ o. o.opener.number) q)) (sym e)
+        ∙ (ih ∙ e))
 
-    go : (b : Bool) → numbered still_open (option_map (λ o. o.opener.number) (find test still_open)) ≡ find test still_open
-        → numbered (a ∷ still_open) (option_map (λ o. o.opener.number) (if b then Some a else find test still_open))
+    go : (b : Bool) → numbered still_open (option_map (λ o. o.opener.number) (find test still_open))
+        ≡ find test still_open
+        → numbered (a ∷ still_open) (option_map (λ o. o.opener.number)
+        (if b then Some a else find test still_open))
         ≡ (if b then Some a else find test still_open)
     go true ih = rw (eq-eqb a.opener.number a.opener.number refl) refl
     go false ih = later (find test still_open) refl ih

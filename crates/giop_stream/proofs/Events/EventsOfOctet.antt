@@ -14,67 +14,89 @@ use Rattle.giop_stream.specs.Events.{EventKind, Begins, Takes, Opens, Continues,
 use Rattle.giop_stream.proofs.Events.EventInduction.{IsJoined, either, of_header, of_later}
 use Rattle.giop_stream.proofs.Lists.{fronts_push, by_growth, each_append, each_filter}
 
-pub opened_append : (still_open : List Open) (es more : List Event) → opened still_open (es ++ more) ≡ opened (opened still_open es) more
+pub opened_append : (still_open : List Open) (es more : List Event) →
+    opened still_open (es ++ more) ≡ opened (opened still_open es) more
 unfolding opened
 opened_append still_open [] more = refl
 opened_append still_open (e ∷ es) more = opened_append (changed still_open e.subject e.what) es more
 
 pub events_from_push : (most : ℕ) (still_open : List Open) (ms : List Message) (m : Message)
-    → events_from most still_open (ms ++ m ∷ []) ≡ events_from most still_open ms ++ events_of most (opened still_open (events_from most still_open ms)) m
+    → events_from most still_open (ms ++ m ∷ []) ≡ events_from most still_open ms
+    ++ events_of most (opened still_open (events_from most still_open ms)) m
 unfolding events_from opened
 events_from_push most still_open [] m = append-nil (events_of most still_open m)
 events_from_push most still_open (first ∷ ms) m =
     let es = events_of most still_open first in
-    rw (events_from_push most (opened still_open es) ms m, opened_append still_open es (events_from most (opened still_open es) ms))
+    rw (
+      events_from_push most (opened still_open es) ms m,
+      opened_append still_open es (events_from most (opened still_open es) ms),
+    )
     (sym (append_assoc es (events_from most (opened still_open es) ms)
-    (events_of most (opened (opened still_open es) (events_from most (opened still_open es) ms)) m)))
+    (events_of most (opened (opened still_open es) (events_from most (opened still_open es) ms))
+    m)))
 
 pub events_of_push : (most : ℕ) (still_open : List Open) (m : Message) (xs : List ℕ) (x : ℕ)
-    → events_of most still_open (with_payload m (xs ++ x ∷ [])) ≡ events_of most still_open (with_payload m xs) ++ events_of_octet most still_open
+    → events_of most still_open (with_payload m (xs ++ x ∷ []))
+    ≡ events_of most still_open (with_payload m xs) ++ events_of_octet most still_open
     (with_payload m (xs ++ x ∷ []))
 unfolding events_of
 events_of_push most still_open m xs x =
-    rw (fronts_push xs x) (flat_map-append (λ front. events_of_octet most still_open (with_payload m front)) (fronts xs) ((xs ++ x ∷ []) ∷ [])
-    ∙ ap (λ (es : List Event). flat_map (λ front. events_of_octet most still_open (with_payload m front)) (fronts xs) ++ es)
+    rw (fronts_push xs x) (flat_map-append
+    (λ front. events_of_octet most still_open (with_payload m front)) (fronts xs)
+    ((xs ++ x ∷ []) ∷ [])
+    ∙ ap (λ (es : List Event). flat_map (λ front.
+    events_of_octet most still_open (with_payload m front)) (fronts xs) ++ es)
     (append-nil (events_of_octet most still_open (with_payload m (xs ++ x ∷ [])))))
 
-pub events_of_none : (most : ℕ) (still_open : List Open) (m : Message) → events_of most still_open (with_payload m []) ≡ events_of_octet most still_open (with_payload m [])
+pub events_of_none : (most : ℕ) (still_open : List Open) (m : Message) →
+    events_of most still_open (with_payload m [])
+    ≡ events_of_octet most still_open (with_payload m [])
 unfolding events_of fronts
 events_of_none most still_open m = append-nil (events_of_octet most still_open (with_payload m []))
 
 -- Events that change no open message.
-still_begins : (still_open : List Open) (subject : MessageKey) → changed still_open subject Begins ≡ still_open
+still_begins : (still_open : List Open) (subject : MessageKey) →
+    changed still_open subject Begins ≡ still_open
 unfolding changed
 still_begins still_open subject = refl
 
-still_takes : (x : ℕ) (still_open : List Open) (subject : MessageKey) → changed still_open subject (Takes x) ≡ still_open
+still_takes : (x : ℕ) (still_open : List Open) (subject : MessageKey) →
+    changed still_open subject (Takes x) ≡ still_open
 unfolding changed
 still_takes x still_open subject = refl
 
-still_continues : (i : ℕ) (still_open : List Open) (subject : MessageKey) → changed still_open subject (Continues i) ≡ still_open
+still_continues : (i : ℕ) (still_open : List Open) (subject : MessageKey) →
+    changed still_open subject (Continues i) ≡ still_open
 unfolding changed
 still_continues i still_open subject = refl
 
-pub still_faulted : (fault : FramingFault) (still_open : List Open) (subject : MessageKey) → changed still_open subject (Faults fault) ≡ still_open
+pub still_faulted : (fault : FramingFault) (still_open : List Open) (subject : MessageKey) →
+    changed still_open subject (Faults fault) ≡ still_open
 unfolding changed
 still_faulted fault still_open subject = refl
 
 quiet_about : (still_open : List Open) (now : Now) (o : Option Open) (what : EventKind)
-    → ((subject : MessageKey) → changed still_open subject what ≡ still_open) → opened still_open (event_of_open now o what) ≡ still_open
+    → ((subject : MessageKey) → changed still_open subject what ≡ still_open) →
+    opened still_open (event_of_open now o what) ≡ still_open
 unfolding event_of_open opened
 quiet_about still_open now None what h = refl
 quiet_about still_open now (Some o) what h = h o.opener
 
 pub quiet_own : (still_open : List Open) (now : Now) (what : EventKind)
-    → ((subject : MessageKey) → changed still_open subject what ≡ still_open) → opened still_open (own now what) ≡ still_open
+    → ((subject : MessageKey) → changed still_open subject what ≡ still_open) →
+    opened still_open (own now what) ≡ still_open
 unfolding own opened
 quiet_own still_open now what h = h now.subject
 
-pub quiet_both : (still_open : List Open) (es more : List Event) → opened still_open es ≡ still_open → opened still_open more ≡ still_open → opened still_open (es ++ more) ≡ still_open
+pub quiet_both : (still_open : List Open) (es more : List Event) →
+    opened still_open es ≡ still_open → opened still_open more ≡ still_open →
+    opened still_open (es ++ more) ≡ still_open
 quiet_both still_open es more h k = rw (opened_append still_open es more, h) k
 
-pub quiet_if : (still_open : List Open) (b : Bool) (es more : List Event) → (b ≡ true → opened still_open es ≡ still_open)
-    → (b ≡ false → opened still_open more ≡ still_open) → opened still_open (if b then es else more) ≡ still_open
+pub quiet_if : (still_open : List Open) (b : Bool) (es more : List Event) →
+    (b ≡ true → opened still_open es ≡ still_open)
+    → (b ≡ false → opened still_open more ≡ still_open) →
+    opened still_open (if b then es else more) ≡ still_open
 quiet_if still_open true es more h k = h refl
 quiet_if still_open false es more h k = k refl
 
@@ -82,50 +104,71 @@ pub quiet_none : (still_open : List Open) → opened still_open [] ≡ still_ope
 unfolding opened
 quiet_none still_open = refl
 
-pub quiet_header : (still_open : List Open) (now : Now) → opened still_open (header_events now) ≡ still_open
+pub quiet_header : (still_open : List Open) (now : Now) →
+    opened still_open (header_events now) ≡ still_open
 quiet_header still_open now =
-    of_header (λ es. opened still_open es ≡ still_open) (record { none = quiet_none still_open; both = quiet_both still_open }) now
-    (quiet_own still_open now Begins (still_begins still_open)) (λ fault. quiet_own still_open now (Faults fault) (still_faulted fault still_open))
+    of_header (λ es. opened still_open es ≡ still_open)
+    (record { none = quiet_none still_open; both = quiet_both still_open }) now
+    (quiet_own still_open now Begins (still_begins still_open))
+    (λ fault. quiet_own still_open now (Faults fault) (still_faulted fault still_open))
 
-pub quiet_octet : (still_open : List Open) (now : Now) (o : Option Open) → opened still_open (payload_events now o) ≡ still_open
+pub quiet_octet : (still_open : List Open) (now : Now) (o : Option Open) →
+    opened still_open (payload_events now o) ≡ still_open
 unfolding payload_events
 quiet_octet still_open now o =
     quiet_if still_open (is_fragment now.subject.header && nat_lt 4 now.payload_count) _ _
     (λ e. quiet_about still_open now o (Takes now.octet) (still_takes now.octet still_open))
     (λ e. quiet_own still_open now (Takes now.octet) (still_takes now.octet still_open))
 
-pub quiet_continues : (still_open : List Open) (now : Now) (o : Option Open) → opened still_open (continues now o) ≡ still_open
-quiet_continues still_open now None = quiet_own still_open now (Faults NoOpen) (still_faulted NoOpen still_open)
+pub quiet_continues : (still_open : List Open) (now : Now) (o : Option Open) →
+    opened still_open (continues now o) ≡ still_open
+quiet_continues still_open now None = quiet_own still_open now (Faults NoOpen)
+    (still_faulted NoOpen still_open)
 quiet_continues still_open now (Some o) =
-    quiet_both still_open _ _ (quiet_own still_open now (Continues o.opener.number) (still_continues o.opener.number still_open))
+    quiet_both still_open _ _ (quiet_own still_open now (Continues o.opener.number)
+    (still_continues o.opener.number still_open))
     (quiet_if still_open _ _ _ (λ e. quiet_none still_open)
-    (λ e. quiet_about still_open now (Some o) (Faults FragmentOrder) (still_faulted FragmentOrder still_open)))
+    (λ e. quiet_about still_open now (Some o) (Faults FragmentOrder)
+    (still_faulted FragmentOrder still_open)))
 
 -- Before the last octet of a message, and before its id or in a Fragment, nothing changes.
 pub four : (most : ℕ) (still_open : List Open) (m : Message) → (length m.payload == 4) ≡ true
-    → ((length m.payload < 4) ⊎ (is_fragment m.header ≡ true)) → opened still_open (events_at_request_id most still_open m) ≡ still_open
+    → ((length m.payload < 4) ⊎ (is_fragment m.header ≡ true)) →
+    opened still_open (events_at_request_id most still_open m) ≡ still_open
 unfolding request_id_events
 four most still_open m e (inl k) = absurd (omega (arith, eqb-true (length m.payload) 4 e))
-four most still_open m e (inr k) = rw (request_id_events, k) (quiet_continues still_open (now_of m) (opener_of still_open m))
+four most still_open m e (inr k) = rw (request_id_events, k)
+    (quiet_continues still_open (now_of m) (opener_of still_open m))
 
 pub quiet_one : (most : ℕ) (still_open : List Open) (m : Message) → length m.payload < size m.header
-    → ((length m.payload < 4) ⊎ (is_fragment m.header ≡ true)) → opened still_open (events_of_octet most still_open m) ≡ still_open
+    → ((length m.payload < 4) ⊎ (is_fragment m.header ≡ true)) →
+    opened still_open (events_of_octet most still_open m) ≡ still_open
 unfolding events_of_octet
 quiet_one most still_open m h k =
-    let third : List Event = if length m.payload == size m.header then events_at_end still_open m else [] in
-    let no_third : third ≡ [] = rw (ne_eqb (length m.payload) (size m.header) (λ e. omega arith)) refl in
-    quiet_both still_open (if length m.payload == 0 then events_at_header m else events_at_octet still_open m)
+    let third : List Event = if length m.payload == size m.header then events_at_end still_open m
+    else [] in
+    let no_third : third ≡ [] = rw (ne_eqb (length m.payload) (size m.header) (λ e. omega arith))
+    refl in
+    quiet_both still_open (if length m.payload == 0 then events_at_header m else events_at_octet
+    still_open m)
     ((if length m.payload == 4 then events_at_request_id most still_open m else []) ++ third)
-    (quiet_if still_open (length m.payload == 0) _ _ (λ e. quiet_header still_open (now_of m)) (λ e. quiet_octet still_open (now_of m) (opener_of still_open m)))
-    (quiet_both still_open (if length m.payload == 4 then events_at_request_id most still_open m else []) third
-    (quiet_if still_open (length m.payload == 4) _ _ (λ e. four most still_open m e k) (λ e. quiet_none still_open))
+    (quiet_if still_open (length m.payload == 0) _ _ (λ e. quiet_header still_open (now_of m))
+    (λ e. quiet_octet still_open (now_of m) (opener_of still_open m)))
+    (quiet_both still_open (if length m.payload == 4 then events_at_request_id most still_open m
+    else []) third
+    (quiet_if still_open (length m.payload == 4) _ _ (λ e. four most still_open m e k)
+    (λ e. quiet_none still_open))
     (ap (opened still_open) no_third ∙ quiet_none still_open))
 
-payload_run : (most : ℕ) (still_open : List Open) (m : Message) (xs : List ℕ) → length xs < size m.header
-    → ((length xs < 4) ⊎ (is_fragment m.header ≡ true)) → opened still_open (events_of most still_open (with_payload m xs)) ≡ still_open
+payload_run : (most : ℕ) (still_open : List Open) (m : Message) (xs : List ℕ) →
+    length xs < size m.header
+    → ((length xs < 4) ⊎ (is_fragment m.header ≡ true)) →
+    opened still_open (events_of most still_open (with_payload m xs)) ≡ still_open
 payload_run most still_open m =
-    by_growth (λ xs. length xs < size m.header → ((length xs < 4) ⊎ (is_fragment m.header ≡ true)) → opened still_open (events_of most still_open (with_payload m xs)) ≡ still_open)
-    (λ h k. rw (events_of_none most still_open m) (quiet_one most still_open (with_payload m []) h k))
+    by_growth (λ xs. length xs < size m.header → ((length xs < 4) ⊎ (is_fragment m.header ≡ true)) →
+    opened still_open (events_of most still_open (with_payload m xs)) ≡ still_open)
+    (λ h k. rw (events_of_none most still_open m)
+    (quiet_one most still_open (with_payload m []) h k))
     (λ xs x ih h k.
     let len = length_push xs x in
     rw (
@@ -136,14 +179,27 @@ payload_run most still_open m =
     )
     (quiet_one most still_open (with_payload m (xs ++ x ∷ [])) h k))
 
--- The events of an octet are the same by the messages that were open before its message and by those that are open now.
-free : (most : ℕ) (still_open other : List Open) (m : Message) → 4 < length m.payload → is_fragment m.header ≡ false → events_of_octet most still_open m ≡ events_of_octet most other m
+-- The events of an octet are the same by the messages that were open before its message and by
+-- those that are open now.
+free : (most : ℕ) (still_open other : List Open) (m : Message) → 4 < length m.payload →
+    is_fragment m.header ≡ false → events_of_octet most still_open m ≡ events_of_octet most other m
 unfolding events_of_octet payload_events message_end_events goes_past
 free most still_open other m h k =
-    rw (events_of_octet, events_with_id, payload_events, goes_past, message_end_events, k, ne_eqb (length m.payload) 0 (λ e. omega arith), ne_eqb (length m.payload) 4 (λ e. omega arith)) refl
+    rw (
+      events_of_octet,
+      events_with_id,
+      payload_events,
+      goes_past,
+      message_end_events,
+      k,
+      ne_eqb (length m.payload) 0 (λ e. omega arith),
+      ne_eqb (length m.payload) 4 (λ e. omega arith),
+    ) refl
 
-pub events_of_octet_same : (most : ℕ) (still_open : List Open) (m : Message) (xs : List ℕ) (x : ℕ) → length xs < size m.header
-    → events_of_octet most still_open (with_payload m (xs ++ x ∷ [])) ≡ events_of_octet most (opened still_open (events_of most still_open (with_payload m xs)))
+pub events_of_octet_same : (most : ℕ) (still_open : List Open) (m : Message) (xs : List ℕ) (x : ℕ) →
+    length xs < size m.header
+    → events_of_octet most still_open (with_payload m (xs ++ x ∷ []))
+    ≡ events_of_octet most (opened still_open (events_of most still_open (with_payload m xs)))
     (with_payload m (xs ++ x ∷ []))
 events_of_octet_same most still_open m xs x h = go (is_fragment m.header) refl
   where
@@ -151,17 +207,23 @@ events_of_octet_same most still_open m xs x h = go (is_fragment m.header) refl
     m' = with_payload m (xs ++ x ∷ [])
 
     go : (b : Bool) → is_fragment m.header ≡ b
-        → events_of_octet most still_open (with_payload m (xs ++ x ∷ [])) ≡ events_of_octet most (opened still_open (events_of most still_open (with_payload m xs)))
+        → events_of_octet most still_open (with_payload m (xs ++ x ∷ []))
+        ≡ events_of_octet most (opened still_open
+        (events_of most still_open (with_payload m xs)))
         (with_payload m (xs ++ x ∷ []))
     go true e = rw (payload_run most still_open m xs h (inr e)) refl
     go false e = elim (cases_lt (length xs) 4) [
       | inl s ↦ rw (payload_run most still_open m xs h (inl s)) refl
-      | inr l ↦ free most still_open (opened still_open (events_of most still_open (with_payload m xs))) (with_payload m (xs ++ x ∷ [])) (omega (arith, length_push xs x)) e
+      | inr l ↦ free most still_open (opened still_open
+          (events_of most still_open (with_payload m xs))) (with_payload m (xs ++ x ∷ []))
+          (omega (arith, length_push xs x)) e
     ]
 
--- What holds of the events of the message itself and of each open message holds of all events of an octet.
+-- What holds of the events of the message itself and of each open message holds of all events of an
+-- octet.
 own_each : (P : Event → Type 0) (now : Now) (what : EventKind)
-    → ((what : EventKind) → P (record { place = now.place; subject = now.subject; what = what })) → Each P (own now what)
+    → ((what : EventKind) → P (record { place = now.place; subject = now.subject; what = what })) →
+    Each P (own now what)
 unfolding own
 own_each P now what h = (h what, tt)
 
@@ -170,24 +232,34 @@ ForSome Q None = Unit {0}
 ForSome Q (Some o) = Q o
 
 About : (Event → Type 0) → Now → Open → Type 0
-About P now o = (what : EventKind) → P (record { place = now.place; subject = o.opener; what = what })
+About P now o = (what : EventKind) → P (record {
+  place = now.place;
+  subject = o.opener;
+  what =
+      what;
+})
 
-about_each : (P : Event → Type 0) (now : Now) (o : Option Open) (what : EventKind) → ForSome (About P now) o → Each P (event_of_open now o what)
+about_each : (P : Event → Type 0) (now : Now) (o : Option Open) (what : EventKind) →
+    ForSome (About P now) o → Each P (event_of_open now o what)
 unfolding event_of_open ForSome About
 about_each P now None what h = tt
 about_each P now (Some o) what h = (h what, tt)
 
-found_by : (Q : Open → Type 0) (b : Bool) (o : Open) (rest : Option Open) → Q o → ForSome Q rest → ForSome Q (if b then Some o else rest)
+found_by : (Q : Open → Type 0) (b : Bool) (o : Open) (rest : Option Open) → Q o → ForSome Q rest →
+    ForSome Q (if b then Some o else rest)
 unfolding ForSome
 found_by Q true o rest h k = h
 found_by Q false o rest h k = k
 
-found : (Q : Open → Type 0) (test : Open → Bool) (still_open : List Open) → Each Q still_open → ForSome Q (find test still_open)
+found : (Q : Open → Type 0) (test : Open → Bool) (still_open : List Open) → Each Q still_open →
+    ForSome Q (find test still_open)
 unfolding ForSome
 found Q test [] h = tt
-found Q test (o ∷ still_open) h = found_by Q (test o) o (find test still_open) h.0 (found Q test still_open h.1)
+found Q test (o ∷ still_open) h = found_by Q (test o) o (find test still_open) h.0
+    (found Q test still_open h.1)
 
-module _ (most : ℕ) (P : Event → Type 0) (still_open : List Open) (now : Now) (id : ℕ) (other : Option Open)
+module _ (most : ℕ) (P : Event → Type 0) (still_open : List Open) (now : Now) (id : ℕ)
+    (other : Option Open)
     (h : (what : EventKind) → P (record { place = now.place; subject = now.subject; what = what }))
     (k : ForSome (About P now) other) where
   mine : (what : EventKind) → Each P (own now what)
@@ -199,47 +271,78 @@ module _ (most : ℕ) (P : Event → Type 0) (still_open : List Open) (now : Now
   octet_each : Each P (payload_events now other)
   unfolding payload_events
   octet_each =
-      either (Each P) (is_fragment now.subject.header && nat_lt 4 now.payload_count) _ _ (about_each P now other (Takes now.octet) k)
+      either (Each P) (is_fragment now.subject.header && nat_lt 4 now.payload_count) _ _
+      (about_each P now other (Takes now.octet) k)
       (mine (Takes now.octet))
 
   parts_each : Each P (events_with_id most still_open now id other)
   unfolding events_with_id
   parts_each =
-      each_append P (if now.payload_count == 0 then header_events now else payload_events now other) _
-      (either (Each P) (now.payload_count == 0) _ _ (of_header (Each P) joined now (mine Begins) (λ fault. mine (Faults fault))) octet_each)
+      each_append P (if now.payload_count == 0 then header_events now else payload_events now other)
+      _
+      (either (Each P) (now.payload_count == 0) _ _
+      (of_header (Each P) joined now (mine Begins) (λ fault. mine (Faults fault))) octet_each)
       (of_later most (Each P) joined still_open now id other
-      (record { mine = λ what later. mine what; theirs = λ what later. about_each P now other what k }))
+      (record {
+        mine = λ what later. mine what;
+        theirs =
+            λ what later. about_each P now other what k;
+      }))
 
-pub events_of_octet_each : (most : ℕ) (P : Event → Type 0) (still_open : List Open) (m : Message) → ((what : EventKind) → P (record { place = place m; subject = message_key m; what = what }))
-    → Each (λ o. (what : EventKind) → P (record { place = place m; subject = o.opener; what = what })) still_open → Each P (events_of_octet most still_open m)
+pub events_of_octet_each : (most : ℕ) (P : Event → Type 0) (still_open : List Open) (m : Message) →
+    ((what : EventKind) → P (record { place = place m; subject = message_key m; what = what }))
+    → Each (λ o. (what : EventKind) → P (record {
+      place = place m;
+      subject = o.opener;
+      what =
+          what;
+    })) still_open → Each P (events_of_octet most still_open m)
 unfolding events_of_octet opener_of About
 events_of_octet_each most P still_open m h k =
-    parts_each most P still_open (now_of m) (id m) (opener_of still_open m) h (found (About P (now_of m)) (λ o. o.id == id m) still_open k)
+    parts_each most P still_open (now_of m) (id m) (opener_of still_open m) h
+    (found (About P (now_of m)) (λ o. o.id == id m) still_open k)
 
 -- After a Fragment's request id no event has the Fragment for its subject.
-module _ (most : ℕ) (P : Event → Type 0) (still_open : List Open) (now : Now) (id : ℕ) (other : Option Open)
-    (f : is_fragment now.subject.header ≡ true) (past : 4 < now.payload_count) (long : now.payload_count ≤ size now.subject.header)
+module _ (most : ℕ) (P : Event → Type 0) (still_open : List Open) (now : Now) (id : ℕ)
+    (other : Option Open)
+    (f : is_fragment now.subject.header ≡ true) (past : 4 < now.payload_count)
+    (long : now.payload_count ≤ size now.subject.header)
     (k : ForSome (About P now) other) where
   past_end : Each P (message_end_events now other)
   unfolding message_end_events
   past_end =
-      rw (message_end_events, f, le-ltb (size now.subject.header) 4 (omega (arith, past, long))) (either (Each P) (is_opener now.subject.header) [] _ tt
-      (either (Each P) (has_more now.subject.header) [] (event_of_open now other Closes) tt (about_each P now other Closes k)))
+      rw (message_end_events, f, le-ltb (size now.subject.header) 4 (omega (arith, past, long)))
+      (either (Each P) (is_opener now.subject.header) [] _ tt
+      (either (Each P) (has_more now.subject.header) [] (event_of_open now other Closes) tt
+      (about_each P now other Closes k)))
 
   past_octet : Each P (payload_events now other)
   unfolding payload_events
-  past_octet = rw (payload_events, f, lt-ltb 4 now.payload_count past) (about_each P now other (Takes now.octet) k)
+  past_octet = rw (payload_events, f, lt-ltb 4 now.payload_count past)
+      (about_each P now other (Takes now.octet) k)
 
   past_each : Each P (events_with_id most still_open now id other)
   unfolding events_with_id
   past_each =
-      rw (events_with_id, ne_eqb now.payload_count 0 (λ e. omega (arith, e, past)), ne_eqb now.payload_count 4 (λ e. omega (arith, e, past)))
+      rw (
+        events_with_id,
+        ne_eqb now.payload_count 0 (λ e. omega (arith, e, past)),
+        ne_eqb now.payload_count 4 (λ e. omega (arith, e, past)),
+      )
       (each_append P (payload_events now other) _ past_octet
-      (either (Each P) (now.payload_count == size now.subject.header) (message_end_events now other) [] past_end tt))
+      (either (Each P) (now.payload_count == size now.subject.header) (message_end_events now other)
+      [] past_end tt))
 
-pub events_of_octet_agree : (most : ℕ) (P : Event → Type 0) (still_open : List Open) (m : Message) → length m.payload ≤ size m.header
-    → (goes_past m ≡ false → (what : EventKind) → P (record { place = place m; subject = message_key m; what = what }))
-    → Each (λ o. (what : EventKind) → P (record { place = place m; subject = o.opener; what = what })) still_open → Each P (events_of_octet most still_open m)
+pub events_of_octet_agree : (most : ℕ) (P : Event → Type 0) (still_open : List Open) (m : Message) →
+    length m.payload ≤ size m.header
+    → (goes_past m ≡ false → (what : EventKind) →
+    P (record { place = place m; subject = message_key m; what = what }))
+    → Each (λ o. (what : EventKind) → P (record {
+      place = place m;
+      subject = o.opener;
+      what =
+          what;
+    })) still_open → Each P (events_of_octet most still_open m)
 unfolding events_of_octet opener_of About goes_past
 events_of_octet_agree most P still_open m long h k = go (goes_past m) refl
   where
@@ -250,38 +353,51 @@ events_of_octet_agree most P still_open m long h k = go (goes_past m) refl
     go false e = parts_each most P still_open (now_of m) (id m) (opener_of still_open m) (h e) one
     go true e =
         let both = and_parts (is_fragment m.header) (nat_lt 4 (length m.payload)) e in
-        past_each most P still_open (now_of m) (id m) (opener_of still_open m) both.0 (ltb-true 4 (length m.payload) both.1) long one
+        past_each most P still_open (now_of m) (id m) (opener_of still_open m) both.0
+        (ltb-true 4 (length m.payload) both.1) long one
 
 -- a message before its id is complete
 pub not_past : (m : Message) → has_named m ≡ false → goes_past m ≡ false
 unfolding has_named goes_past
 not_past m h = go (is_fragment m.header) refl
   where
-    go : (b : Bool) → is_fragment m.header ≡ b → (is_fragment m.header && nat_lt 4 (length m.payload)) ≡ false
+    go : (b : Bool) → is_fragment m.header ≡ b →
+        (is_fragment m.header && nat_lt 4 (length m.payload)) ≡ false
     go false e = rw e refl
-    go true e = let k : length m.payload < 4 = leb-false 4 (length m.payload) (rw e at h) in rw (e, le-ltb 4 (length m.payload) (omega arith)) refl
+    go true e = let k : length m.payload < 4 = leb-false 4 (length m.payload) (rw e at h) in
+        rw (e, le-ltb 4 (length m.payload) (omega arith)) refl
 
-pub not_named : (m : Message) (x : ℕ) → goes_past (with_payload m (m.payload ++ x ∷ [])) ≡ false → has_named m ≡ false
+pub not_named : (m : Message) (x : ℕ) → goes_past (with_payload m (m.payload ++ x ∷ [])) ≡ false →
+    has_named m ≡ false
 unfolding has_named goes_past
 not_named m x h = go (is_fragment m.header) refl
   where
-    go : (b : Bool) → is_fragment m.header ≡ b → (is_fragment m.header && nat_le 4 (length m.payload)) ≡ false
+    go : (b : Bool) → is_fragment m.header ≡ b →
+        (is_fragment m.header && nat_le 4 (length m.payload)) ≡ false
     go false e = rw e refl
     go true e =
-        let k : length (m.payload ++ x ∷ []) ≤ 4 = ltb-false 4 (length (m.payload ++ x ∷ [])) (rw e at h) in
+        let k : length (m.payload ++ x ∷ []) ≤ 4 =
+        ltb-false 4 (length (m.payload ++ x ∷ [])) (rw e at h) in
         rw (e, lt-leb 4 (length m.payload) (omega (arith, length_push m.payload x))) refl
 
--- What holds of the open messages and of the subjects of these events holds of the open messages after them.
-changed_each : (P : MessageKey → Type 0) (still_open : List Open) (subject : MessageKey) (what : EventKind) → Each (λ o. P o.opener) still_open
+-- What holds of the open messages and of the subjects of these events holds of the open messages
+-- after them.
+changed_each : (P : MessageKey → Type 0) (still_open : List Open) (subject : MessageKey)
+    (what : EventKind) → Each (λ o. P o.opener) still_open
     → P subject → Each (λ o. P o.opener) (changed still_open subject what)
 unfolding changed
-changed_each P still_open subject (Opens i) h w = each_append (λ o. P o.opener) still_open _ h (w, tt)
-changed_each P still_open subject Closes h w = each_filter (λ o. P o.opener) (λ o. not (o.opener.number == subject.number)) still_open h
-changed_each P still_open subject (Cancelled j) h w = each_filter (λ o. P o.opener) (λ o. not (o.opener.number == subject.number)) still_open h
+changed_each P still_open subject (Opens i) h w =
+    each_append (λ o. P o.opener) still_open _ h (w, tt)
+changed_each P still_open subject Closes h w =
+    each_filter (λ o. P o.opener) (λ o. not (o.opener.number == subject.number)) still_open h
+changed_each P still_open subject (Cancelled j) h w =
+    each_filter (λ o. P o.opener) (λ o. not (o.opener.number == subject.number)) still_open h
 changed_each P still_open subject _ h w = h
 
-pub opened_each : (P : MessageKey → Type 0) (still_open : List Open) (es : List Event) → Each (λ o. P o.opener) still_open
+pub opened_each : (P : MessageKey → Type 0) (still_open : List Open) (es : List Event) →
+    Each (λ o. P o.opener) still_open
     → Each (λ e. P e.subject) es → Each (λ o. P o.opener) (opened still_open es)
 unfolding opened
 opened_each P still_open [] h k = h
-opened_each P still_open (e ∷ es) h k = opened_each P (changed still_open e.subject e.what) es (changed_each P still_open e.subject e.what h k.0) k.1
+opened_each P still_open (e ∷ es) h k = opened_each P (changed still_open e.subject e.what) es
+    (changed_each P still_open e.subject e.what h k.0) k.1

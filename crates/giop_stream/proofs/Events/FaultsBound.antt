@@ -1,4 +1,5 @@
--- How many faults a stream can have: each message one at most, and the stream itself one, a stream fault or a truncated end.
+-- How many faults a stream can have: each message one at most, and the stream itself one, a stream
+-- fault or a truncated end.
 use Rattle.std.proofs.Common.{inl, inr, ◌≡◌, ℕ, zero, suc, ◌+◌, ◌<◌, ◌≤◌, Bool, true, false, List, [], ◌∷◌, ◌++◌, length, take, drop, refl, sym, ap, ◌∙◌, Option, Some, None, arith}
 use Rattle.std.specs.Prelude.{◌==◌, ◌||◌, nat_lt, if◌then◌else◌, flat_map}
 use Rattle.std.specs.List.{filter, AllByRecursion as Each}
@@ -25,7 +26,8 @@ abbrev IsNumber : ℕ → ℕ → Type 0
 IsNumber n i = (0 < i) × (i ≤ n)
 
 abbrev Numbered : ℕ → Cut → Type 0
-Numbered first c = Each (λ m. (first ≤ m.number) × (m.number < first + length (messages c))) (messages c)
+Numbered first c = Each (λ m. (first ≤ m.number) × (m.number < first + length (messages c)))
+    (messages c)
 
 numbered_first : (first : ℕ) (m : Message) (c : Cut) → m.number ≡ first → Numbered (suc first) c
     → Numbered first (with_first m c)
@@ -34,12 +36,14 @@ numbered_first first m c number h =
     let count = length (messages c) in (
       (omega (arith, number), omega (arith, number)),
       each_weaker (λ k. (suc first ≤ k.number) × (k.number < suc first + count))
-          (λ k. (first ≤ k.number) × (k.number < first + suc count)) (λ k j. (omega (arith, j.0), omega (arith, j.1))) (messages c) h,
+          (λ k. (first ≤ k.number) × (k.number < first + suc count))
+          (λ k j. (omega (arith, j.0), omega (arith, j.1))) (messages c) h,
     )
 
 numbered_by : (fuel first before : ℕ) (xs : List ℕ)
     → ((first before : ℕ) (ys : List ℕ) → Numbered first (cut_from fuel first before ys))
-    → (o : Option (ℕ × StreamFault)) → first_wrong_octet (take 12 xs) ≡ o → Numbered first (cut_from (suc fuel) first before xs)
+    → (o : Option (ℕ × StreamFault)) → first_wrong_octet (take 12 xs) ≡ o →
+    Numbered first (cut_from (suc fuel) first before xs)
 unfolding messages
 numbered_by fuel first before xs ih (Some found) e = rw (cut_wrong fuel first before xs found e) tt
 numbered_by fuel first before xs ih None e = elim (cases_lt (length xs) 12) [
@@ -49,14 +53,21 @@ numbered_by fuel first before xs ih None e = elim (cases_lt (length xs) 12) [
     | inr full ↦
         let header = take 12 xs in
         let left = drop (size header) (drop 12 xs) in
-        let m : Message = record { number = first; before = before; header = header; payload = take (size header) (drop 12 xs) } in
+        let m : Message = record {
+          number = first;
+          before = before;
+          header = header;
+          payload =
+              take (size header) (drop 12 xs);
+        } in
         let more : Cut = cut_from fuel (suc first) (before + 12 + size header) left in
         rw (cut_more fuel first before xs e long full)
         (numbered_first first m more refl (ih (suc first) (before + 12 + size header) left))
   ]
 ]
 
-numbered_from : (fuel first before : ℕ) (xs : List ℕ) → Numbered first (cut_from fuel first before xs)
+numbered_from : (fuel first before : ℕ) (xs : List ℕ) →
+    Numbered first (cut_from fuel first before xs)
 unfolding cut_from messages
 numbered_from zero first before xs = tt
 numbered_from (suc fuel) first before xs =
@@ -89,20 +100,26 @@ module _ (most : ℕ) (P : ℕ → Type 0) where
   abbrev Live : List Open → Type 0
   Live still_open = Each (λ o. P o.opener.number) still_open
 
-  events_of_each : (still_open : List Open) (m : Message) → P m.number → Live still_open → Named (events_of most still_open m)
+  events_of_each : (still_open : List Open) (m : Message) → P m.number → Live still_open →
+      Named (events_of most still_open m)
   unfolding events_of
   events_of_each still_open m h k = go (fronts m.payload)
     where
       here : (front : List ℕ) → Named (events_of_octet most still_open (with_payload m front))
       here front =
-          events_of_octet_each most (λ e. P e.subject.number) still_open (with_payload m front) (λ what. h)
-          (each_weaker (λ o. P o.opener.number) (λ o. (what : EventKind) → P o.opener.number) (λ o j what. j) still_open k)
+          events_of_octet_each most (λ e. P e.subject.number) still_open (with_payload m front)
+          (λ what. h)
+          (each_weaker (λ o. P o.opener.number) (λ o. (what : EventKind) → P o.opener.number)
+          (λ o j what. j) still_open k)
 
-      go : (fs : List (List ℕ)) → Named (flat_map (λ front. events_of_octet most still_open (with_payload m front)) fs)
+      go : (fs : List (List ℕ)) → Named (flat_map
+          (λ front. events_of_octet most still_open (with_payload m front)) fs)
       go [] = tt
-      go (front ∷ fs) = each_append (λ e. P e.subject.number) (events_of_octet most still_open (with_payload m front)) _ (here front) (go fs)
+      go (front ∷ fs) = each_append (λ e. P e.subject.number)
+          (events_of_octet most still_open (with_payload m front)) _ (here front) (go fs)
 
-  events_each : (still_open : List Open) (ms : List Message) → Live still_open → Each (λ m. P m.number) ms
+  events_each : (still_open : List Open) (ms : List Message) → Live still_open →
+      Each (λ m. P m.number) ms
       → Named (events_from most still_open ms)
   unfolding events_from
   events_each still_open [] h k = tt
@@ -131,26 +148,35 @@ one_said n e h Rest text = one_line n e h (Said Rest text) (λ no. absurd cc)
 one_said n e h Fault text = one_line n e h (Said Fault text) (λ yes. refl)
 one_said n e h End text = one_line n e h (Said End text) (λ no. absurd cc)
 
-one_each : (R : MessageReader) (n : ℕ) (e : Event) → IsNumber n e.subject.number → (so_far all : List ℕ) (what : EventKind)
+one_each : (R : MessageReader) (n : ℕ) (e : Event) → IsNumber n e.subject.number →
+    (so_far all : List ℕ) (what : EventKind)
     → Each (IsOne n) (lines_of_event R e so_far all what)
 unfolding lines_of_event
-one_each R n e h so_far all Begins = (one_line n e h (Started e.subject.header) (λ no. absurd cc), tt)
+one_each R n e h so_far all Begins = (
+  one_line n e h (Started e.subject.header) (λ no. absurd cc),
+  tt,
+)
 one_each R n e h so_far all (Takes x) =
-    each_map (IsOne n) (λ r. line e (Said r.line_class r.text)) (λ r. one_said n e h r.line_class r.text)
+    each_map (IsOne n) (λ r. line e (Said r.line_class r.text))
+    (λ r. one_said n e h r.line_class r.text)
     (filter (λ r. r.at == suc (length so_far)) (R.reads e.subject.number e.subject.header all))
 one_each R n e h so_far all (Opens id) = tt
-one_each R n e h so_far all (Continues i) = (one_line n e h (ContinuesMessage i) (λ no. absurd cc), tt)
+one_each R n e h so_far all (Continues i) =
+    (one_line n e h (ContinuesMessage i) (λ no. absurd cc), tt)
 one_each R n e h so_far all (Cancelled j) = (one_line n e h (CancelledBy j) (λ no. absurd cc), tt)
 one_each R n e h so_far all (Faults fault) = (one_line n e h (Faulted fault) (λ yes. refl), tt)
 one_each R n e h so_far all Closes =
-    each_map (IsOne n) (λ l. line e (Said l.0 l.1)) (λ l. one_said n e h l.0 l.1) (R.closes e.subject.number e.subject.header so_far)
+    each_map (IsOne n) (λ l. line e (Said l.0 l.1)) (λ l. one_said n e h l.0 l.1)
+    (R.closes e.subject.number e.subject.header so_far)
 
-lines_each : (R : MessageReader) (n : ℕ) (all past es : List Event) → Each (λ e. IsNumber n e.subject.number) es
+lines_each : (R : MessageReader) (n : ℕ) (all past es : List Event) →
+    Each (λ e. IsNumber n e.subject.number) es
     → Each (IsOne n) (lines_of_events R all past es)
 unfolding lines_of_events
 lines_each R n all past [] h = tt
 lines_each R n all past (e ∷ es) h =
-    each_append (IsOne n) _ (lines_of_events R all (past ++ e ∷ []) es) (one_each R n e h.0 _ _ e.what)
+    each_append (IsOne n) _ (lines_of_events R all (past ++ e ∷ []) es)
+    (one_each R n e h.0 _ _ e.what)
     (lines_each R n all (past ++ e ∷ []) es h.1)
 
 order_each : (P : Line → Type 0) (n : ℕ) (ls : List Line) → Each P ls → Each P (in_order n ls)
@@ -182,7 +208,8 @@ module _ (f g : ℕ → Bool) (more : (i : ℕ) → f i ≡ true → g i ≡ tru
   fewer_free : (n : ℕ) → free g n ≤ free f n
   unfolding free
   fewer_free zero = omega arith
-  fewer_free (suc n) = let one = one_fewer (f (suc n)) (g (suc n)) (more (suc n)) in omega (arith, one, fewer_free n)
+  fewer_free (suc n) = let one = one_fewer (f (suc n)) (g (suc n)) (more (suc n)) in
+      omega (arith, one, fewer_free n)
 
   -- fewer, where one of them is over that wasn't
   less_free : (k n : ℕ) → IsNumber n k → f k ≡ false → g k ≡ true → free g n < free f n
@@ -202,7 +229,8 @@ faults_free : (n : ℕ) (over : ℕ → Bool) (ls : List Line) → Each (IsOne n
     → fault_count (up_to_last_line over ls) ≤ free over n
 unfolding up_to_last_line fault_count is_last_of
 faults_free n over [] h = omega arith
-faults_free n over (l ∷ ls) h = go (over l.number) (is_fault l.content) refl refl (λ f. faults_free n f ls h.1)
+faults_free n over (l ∷ ls) h = go (over l.number) (is_fault l.content) refl refl
+    (λ f. faults_free n f ls h.1)
   where
     then_over : ℕ → Bool
     then_over i = over i || is_last_of i l
@@ -212,28 +240,39 @@ faults_free n over (l ∷ ls) h = go (over l.number) (is_fault l.content) refl r
 
     go : (b c : Bool) → over l.number ≡ b → is_fault l.content ≡ c
         → ((f : ℕ → Bool) → fault_count (up_to_last_line f ls) ≤ free f n)
-        → fault_count (if b then up_to_last_line over ls else l ∷ up_to_last_line then_over ls) ≤ free over n
+        → fault_count (if b then up_to_last_line over ls else l ∷ up_to_last_line then_over ls) ≤
+        free over n
     go true c e k ih = ih over
     go false true e k ih =
-        let last : then_over l.number ≡ true = rw (e, eq-eqb l.number l.number refl, h.0.last k) refl in
-        rw k (omega (arith, ih then_over, less_free over then_over more l.number n h.0.number e last))
+        let last : then_over l.number ≡ true =
+        rw (e, eq-eqb l.number l.number refl, h.0.last k) refl in
+        rw k (omega (
+          arith,
+          ih then_over,
+          less_free over then_over more l.number n h.0.number e
+              last,
+        ))
     go false false e k ih = rw k (omega (arith, ih then_over, fewer_free over then_over more n))
 
 -- ---- Of a stream.
 
-numbers : (p : List ℕ) → Each (λ m. IsNumber (length (messages (cut p))) m.number) (messages (cut p))
+numbers : (p : List ℕ) → Each (λ m. IsNumber (length (messages (cut p))) m.number)
+    (messages (cut p))
 numbers p =
     let n = length (messages (cut p)) in
     each_weaker (λ m. (1 ≤ m.number) × (m.number < 1 + n)) (λ m. IsNumber n m.number)
     (λ m h. (omega (arith, h.0), omega (arith, h.1))) (messages (cut p)) (numbered p)
 
-said_few : (R : Rules) (p : List ℕ) → fault_count (lines_of_messages R p) ≤ length (messages (cut p))
+said_few : (R : Rules) (p : List ℕ) → fault_count (lines_of_messages R p) ≤ length
+    (messages (cut p))
 unfolding lines_of_messages events
 said_few R p =
     let n = length (messages (cut p)) in
     let all = lines_of_events R.reading (events R.most p) [] (events R.most p) in
-    let ones = lines_each R.reading n (events R.most p) [] (events R.most p) (events_each R.most (IsNumber n) [] (messages (cut p)) tt (numbers p)) in
-    let most = faults_free n (λ i. false) (in_order (length p) all) (order_each (IsOne n) (length p) all ones) in
+    let ones = lines_each R.reading n (events R.most p) [] (events R.most p)
+    (events_each R.most (IsNumber n) [] (messages (cut p)) tt (numbers p)) in
+    let most = faults_free n (λ i. false) (in_order (length p) all)
+    (order_each (IsOne n) (length p) all ones) in
     omega (arith, most, all_free n)
 
 -- the stream's own fault
@@ -246,9 +285,15 @@ unfolding fault_count stop_line stop_count
 stop_faults None = refl
 stop_faults (Some found) = refl
 
-lines_few : (R : Rules) (p : List ℕ) → fault_count (lines R p) ≤ length (messages (cut p)) + stop_count (cut p).stop
+lines_few : (R : Rules) (p : List ℕ) → fault_count (lines R p) ≤ length (messages (cut p)) +
+    stop_count (cut p).stop
 unfolding lines
-lines_few R p = omega (arith, count_append (lines_of_messages R p) (stop_line (cut p).stop), said_few R p, stop_faults (cut p).stop)
+lines_few R p = omega (
+  arith,
+  count_append (lines_of_messages R p) (stop_line (cut p).stop),
+  said_few R p,
+  stop_faults (cut p).stop,
+)
 
 pub one_stop : (stop : Option (ℕ × StreamFault)) → stop_count stop ≤ 1
 unfolding stop_count
@@ -270,14 +315,15 @@ one_end None current held = go (is_inside current held None)
     go true = omega arith
     go false = omega arith
 
-module _ (R : Rules) (causal : IsCausal R.reading) (laws : IsStreamable R.reading) (p : List ℕ) where
-  pub tally_faults : (tally R p).faults ≤ (tally R p).messages + stop_count (cut p).stop
-  unfolding tally
-  tally_faults = omega (arith, lines_few R p, (sound R causal laws p).starts)
+module _ (R : Rules) (causal : IsCausal R.reading) (laws : IsStreamable R.reading) (p : List ℕ)
+  where
+    pub tally_faults : (tally R p).faults ≤ (tally R p).messages + stop_count (cut p).stop
+    unfolding tally
+    tally_faults = omega (arith, lines_few R p, (sound R causal laws p).starts)
 
-  pub faults_few : (cut p).stop ≡ None → (tally R p).faults ≤ (tally R p).messages
-  faults_few free = omega (arith, tally_faults, free_stop (cut p).stop free)
+    pub faults_few : (cut p).stop ≡ None → (tally R p).faults ≤ (tally R p).messages
+    faults_few free = omega (arith, tally_faults, free_stop (cut p).stop free)
 
-  pub all_faults : (final R p).faults ≤ suc (final R p).messages
-  unfolding final is_truncated
-  all_faults = omega (arith, tally_faults, one_end (cut p).stop (cut p).current (cut p).held)
+    pub all_faults : (final R p).faults ≤ suc (final R p).messages
+    unfolding final is_truncated
+    all_faults = omega (arith, tally_faults, one_end (cut p).stop (cut p).current (cut p).held)

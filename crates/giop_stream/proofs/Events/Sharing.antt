@@ -18,13 +18,19 @@ IsSilent i es = joined i es ≡ []
 
 silent_both : (i : ℕ) → IsJoined (IsSilent i)
 unfolding IsSilent joined
-silent_both i = record { none = refl; both = λ es more h k. joined_append i es more ∙ rw (h, k) refl }
+silent_both i = record {
+  none = refl;
+  both =
+      λ es more h k. joined_append i es more ∙ rw (h, k) refl;
+}
 
-own_is : (i : ℕ) (now : Now) (what : EventKind) → joined i (own now what) ≡ (if now.subject.number == i then octet what else [])
+own_is : (i : ℕ) (now : Now) (what : EventKind) →
+    joined i (own now what) ≡ (if now.subject.number == i then octet what else [])
 unfolding joined own
 own_is i now what = append-nil (if now.subject.number == i then octet what else [])
 
-about_is : (i : ℕ) (now : Now) (o : Option Open) (what : EventKind) → joined i (event_of_open now o what) ≡ continued i o (octet what)
+about_is : (i : ℕ) (now : Now) (o : Option Open) (what : EventKind) →
+    joined i (event_of_open now o what) ≡ continued i o (octet what)
 unfolding joined event_of_open continued
 about_is i now None what = refl
 about_is i now (Some o) what = append-nil (if o.opener.number == i then octet what else [])
@@ -37,10 +43,12 @@ silent_own : (i : ℕ) (now : Now) (what : EventKind) → octet what ≡ [] → 
 unfolding IsSilent
 silent_own i now what h = own_is i now what ∙ rw h (both_empty (now.subject.number == i))
 
-silent_about : (i : ℕ) (now : Now) (o : Option Open) (what : EventKind) → octet what ≡ [] → IsSilent i (event_of_open now o what)
+silent_about : (i : ℕ) (now : Now) (o : Option Open) (what : EventKind) → octet what ≡ [] →
+    IsSilent i (event_of_open now o what)
 unfolding IsSilent continued
 silent_about i now None what h = about_is i now None what
-silent_about i now (Some o) what h = about_is i now (Some o) what ∙ rw h (both_empty (o.opener.number == i))
+silent_about i now (Some o) what h = about_is i now (Some o) what
+    ∙ rw h (both_empty (o.opener.number == i))
 
 silent : (what : EventKind) → IsLater what → octet what ≡ []
 unfolding octet
@@ -51,28 +59,36 @@ silent _ h = refl
 silent_header : (i : ℕ) (now : Now) → joined i (header_events now) ≡ []
 unfolding IsSilent octet
 silent_header i now =
-    of_header (IsSilent i) (silent_both i) now (silent_own i now Begins refl) (λ fault. silent_own i now (Faults fault) refl)
+    of_header (IsSilent i) (silent_both i) now (silent_own i now Begins refl)
+    (λ fault. silent_own i now (Faults fault) refl)
 
 -- One more octet of a message: what it gives to message i.
 events_of_octet_is : (most : ℕ) (i : ℕ) (still_open : List Open) (m : Message) (first : List Event)
-    → (if length m.payload == 0 then events_at_header m else events_at_octet still_open m) ≡ first → joined i (events_of_octet most still_open m) ≡ joined i first
+    → (if length m.payload == 0 then events_at_header m else events_at_octet still_open m) ≡ first →
+    joined i (events_of_octet most still_open m) ≡ joined i first
 unfolding events_of_octet IsSilent
 events_of_octet_is most i still_open m first h =
-    joined_append i (if length m.payload == 0 then events_at_header m else events_at_octet still_open m) _
+    joined_append i (if length m.payload == 0 then events_at_header m else events_at_octet
+    still_open m) _
     ∙ rw (
       h,
-      of_later most (IsSilent i) (silent_both i) still_open (now_of m) (id m) (opener_of still_open m) (record {
-        mine = λ what later. silent_own i (now_of m) what (silent what later);
-        theirs = λ what later. silent_about i (now_of m) (opener_of still_open m) what (silent what later);
-      }),
+      of_later most (IsSilent i) (silent_both i) still_open (now_of m) (id m)
+          (opener_of still_open m) (record {
+            mine = λ what later. silent_own i (now_of m) what (silent what later);
+            theirs = λ what later. silent_about i (now_of m) (opener_of still_open m) what
+                (silent what later);
+          }),
     ) (append-nil (joined i first))
 
-pub header_joined : (most : ℕ) (i : ℕ) (still_open : List Open) (m : Message) → m.payload ≡ [] → joined i (events_of_octet most still_open m) ≡ []
-header_joined most i still_open m h = events_of_octet_is most i still_open m (events_at_header m) (rw h refl) ∙ silent_header i (now_of m)
+pub header_joined : (most : ℕ) (i : ℕ) (still_open : List Open) (m : Message) → m.payload ≡ [] →
+    joined i (events_of_octet most still_open m) ≡ []
+header_joined most i still_open m h = events_of_octet_is most i still_open m (events_at_header m)
+    (rw h refl) ∙ silent_header i (now_of m)
 
 -- what one more octet of m adds to the share of i
 unfoldable pub more_of : ℕ → List Open → Message → ℕ → List ℕ
-more_of i still_open m x = if goes_past m then continued i (opener_of still_open m) (x ∷ []) else (if m.number == i then x ∷ [] else [])
+more_of i still_open m x = if goes_past m then continued i (opener_of still_open m) (x ∷ []) else
+    (if m.number == i then x ∷ [] else [])
 
 takes_if : (i : ℕ) (now : Now) (o : Option Open) (x : ℕ) (b : Bool)
     → joined i (if b then event_of_open now o (Takes x) else own now (Takes x))
@@ -82,27 +98,35 @@ takes_if i now o x true = about_is i now o (Takes x)
 takes_if i now o x false = own_is i now (Takes x)
 
 pub octet_joined : (most : ℕ) (i : ℕ) (still_open : List Open) (m : Message) (xs : List ℕ) (x : ℕ)
-    → joined i (events_of_octet most still_open (with_payload m (xs ++ x ∷ []))) ≡ more_of i still_open (with_payload m (xs ++ x ∷ [])) x
+    → joined i (events_of_octet most still_open (with_payload m (xs ++ x ∷ [])))
+    ≡ more_of i still_open (with_payload m (xs ++ x ∷ [])) x
 unfolding more_of payload_events goes_past
 octet_joined most i still_open m xs x =
     let m' = with_payload m (xs ++ x ∷ []) in
-    let first : (if length m'.payload == 0 then events_at_header m' else events_at_octet still_open m') ≡ events_at_octet still_open m' =
+    let first : (if length m'.payload == 0 then events_at_header m' else events_at_octet still_open
+    m') ≡ events_at_octet still_open m' =
     rw (ne_eqb (length (xs ++ x ∷ [])) 0 (λ e. omega (arith, length_push xs x))) refl in
-    let same : get_or (xs ++ x ∷ []) (length (xs ++ x ∷ []) - 1) 0 ≡ x = get_or_push xs x 0 (length (xs ++ x ∷ []) - 1) (omega (arith, length_push xs x)) in
+    let same : get_or (xs ++ x ∷ []) (length (xs ++ x ∷ []) - 1) 0 ≡ x =
+    get_or_push xs x 0 (length (xs ++ x ∷ []) - 1) (omega (arith, length_push xs x)) in
     events_of_octet_is most i still_open m' (events_at_octet still_open m') first
-    ∙ (takes_if i (now_of m') (opener_of still_open m') (now_of m').octet (goes_past m') ∙ rw same refl)
+    ∙ (takes_if i (now_of m') (opener_of still_open m') (now_of m').octet (goes_past m')
+    ∙ rw same refl)
 
 -- an octet that does not come after a Fragment's request id
-pub own_joined : (most : ℕ) (still_open : List Open) (m : Message) (xs : List ℕ) (x : ℕ) → goes_past (with_payload m (xs ++ x ∷ [])) ≡ false
+pub own_joined : (most : ℕ) (still_open : List Open) (m : Message) (xs : List ℕ) (x : ℕ) →
+    goes_past (with_payload m (xs ++ x ∷ [])) ≡ false
     → joined m.number (events_of_octet most still_open (with_payload m (xs ++ x ∷ []))) ≡ x ∷ []
 unfolding more_of
-own_joined most still_open m xs x h = octet_joined most m.number still_open m xs x ∙ rw (h, eq-eqb m.number m.number refl) refl
+own_joined most still_open m xs x h = octet_joined most m.number still_open m xs x
+    ∙ rw (h, eq-eqb m.number m.number refl) refl
 
-cases_append : (b : Bool) (xs ys : List ℕ) → (if b then xs ++ ys else []) ≡ (if b then xs else []) ++ (if b then ys else [])
+cases_append : (b : Bool) (xs ys : List ℕ) → (if b then xs ++ ys else []) ≡ (if b then xs else [])
+    ++ (if b then ys else [])
 cases_append true xs ys = refl
 cases_append false xs ys = refl
 
-continued_append : (i : ℕ) (o : Option Open) (xs ys : List ℕ) → continued i o (xs ++ ys) ≡ continued i o xs ++ continued i o ys
+continued_append : (i : ℕ) (o : Option Open) (xs ys : List ℕ) →
+    continued i o (xs ++ ys) ≡ continued i o xs ++ continued i o ys
 unfolding continued
 continued_append i None xs ys = refl
 continued_append i (Some o) xs ys = cases_append (o.opener.number == i) xs ys
@@ -113,12 +137,14 @@ continued_none i None = refl
 continued_none i (Some o) = both_empty (o.opener.number == i)
 
 same_opener : (still_open : List Open) (m : Message) (xs : List ℕ) (x : ℕ) → 4 ≤ length xs
-    → opener_of still_open (with_payload m (xs ++ x ∷ [])) ≡ opener_of still_open (with_payload m xs)
+    → opener_of still_open (with_payload m (xs ++ x ∷ []))
+    ≡ opener_of still_open (with_payload m xs)
 unfolding opener_of id
 same_opener still_open m xs x h = rw (take-append-le 4 xs (x ∷ []) h) refl
 
 share_grows : (i : ℕ) (still_open : List Open) (m : Message) (xs : List ℕ) (x : ℕ)
-    → share i still_open (with_payload m (xs ++ x ∷ [])) ≡ share i still_open (with_payload m xs) ++ more_of i still_open
+    → share i still_open (with_payload m (xs ++ x ∷ [])) ≡ share i still_open (with_payload m xs)
+    ++ more_of i still_open
     (with_payload m (xs ++ x ∷ [])) x
 unfolding share more_of goes_past
 share_grows i still_open m xs x = go (is_fragment m.header) refl
@@ -133,7 +159,8 @@ share_grows i still_open m xs x = go (is_fragment m.header) refl
     was = opener_of still_open (with_payload m xs)
 
     go : (b : Bool) → is_fragment m.header ≡ b
-        → share i still_open (with_payload m (xs ++ x ∷ [])) ≡ share i still_open (with_payload m xs) ++ more_of i still_open
+        → share i still_open (with_payload m (xs ++ x ∷ []))
+        ≡ share i still_open (with_payload m xs) ++ more_of i still_open
         (with_payload m (xs ++ x ∷ [])) x
     go false f = rw (share, more_of, goes_past, f) (cases_append (m.number == i) xs (x ∷ []))
     go true f = elim (cases_lt (length xs) 4) [
@@ -170,22 +197,29 @@ share_grows i still_open m xs x = go (is_fragment m.header) refl
             lt-ltb 4
                 (length (xs ++ x ∷ [])) (omega (arith, length_push xs x)),
           )
-          (sym (append_assoc (mine (take 4 xs)) (continued i was (drop 4 xs)) (continued i was (x ∷ []))))
+          (sym (append_assoc (mine (take 4 xs)) (continued i was (drop 4 xs))
+          (continued i was (x ∷ []))))
     ]
 
-share_none : (i : ℕ) (still_open : List Open) (m : Message) → share i still_open (with_payload m []) ≡ []
+share_none : (i : ℕ) (still_open : List Open) (m : Message) →
+    share i still_open (with_payload m []) ≡ []
 unfolding share
 share_none i still_open m = none_of (is_fragment m.header)
   where
     none_of : (b : Bool) → (if b then (if m.number == i then [] else []) ++ continued i
         (opener_of still_open (with_payload m [])) [] else (if m.number == i then [] else [])) ≡ []
-    none_of true = rw (both_empty (m.number == i)) (continued_none i (opener_of still_open (with_payload m [])))
+    none_of true = rw (both_empty (m.number == i))
+        (continued_none i (opener_of still_open (with_payload m [])))
     none_of false = both_empty (m.number == i)
 
-one_joined : (most : ℕ) (i : ℕ) (still_open : List Open) (m : Message) → joined i (events_of most still_open m) ≡ share i still_open m
-one_joined most i still_open m = by_growth (λ xs. joined i (events_of most still_open (with_payload m xs)) ≡ share i still_open (with_payload m xs))
+one_joined : (most : ℕ) (i : ℕ) (still_open : List Open) (m : Message) →
+    joined i (events_of most still_open m) ≡ share i still_open m
+one_joined most i still_open m = by_growth
+    (λ xs. joined i (events_of most still_open (with_payload m xs))
+    ≡ share i still_open (with_payload m xs))
     (rw (events_of_none most still_open m, share_none i still_open m)
-    (events_of_octet_is most i still_open (with_payload m []) (events_at_header (with_payload m [])) refl ∙ silent_header i (now_of (with_payload m []))))
+    (events_of_octet_is most i still_open (with_payload m []) (events_at_header (with_payload m []))
+    refl ∙ silent_header i (now_of (with_payload m []))))
     (λ xs x ih. rw (
       events_of_push most still_open m xs x,
       joined_append i (events_of most still_open (with_payload m xs))
@@ -195,13 +229,20 @@ one_joined most i still_open m = by_growth (λ xs. joined i (events_of most stil
     ) (sym (share_grows i still_open m xs x)))
     m.payload
 
-from_joined : (most : ℕ) (i : ℕ) (still_open : List Open) (ms : List Message) → joined i (events_from most still_open ms) ≡ shares most i still_open ms
+from_joined : (most : ℕ) (i : ℕ) (still_open : List Open) (ms : List Message) →
+    joined i (events_from most still_open ms) ≡ shares most i still_open ms
 unfolding events_from shares IsSilent
 from_joined most i still_open [] = (silent_both i).none
 from_joined most i still_open (m ∷ ms) =
-    joined_append i (events_of most still_open m) (events_from most (opened still_open (events_of most still_open m)) ms)
-    ∙ rw (one_joined most i still_open m, from_joined most i (opened still_open (events_of most still_open m)) ms) refl
+    joined_append i (events_of most still_open m)
+    (events_from most (opened still_open (events_of most still_open m)) ms)
+    ∙ rw (
+      one_joined most i still_open m,
+      from_joined most i
+          (opened still_open (events_of most still_open m)) ms,
+    ) refl
 
-pub joined_is : (most : ℕ) (p : List ℕ) (i : ℕ) → joined i (events most p) ≡ shares most i [] (messages (cut p))
+pub joined_is : (most : ℕ) (p : List ℕ) (i : ℕ) →
+    joined i (events most p) ≡ shares most i [] (messages (cut p))
 unfolding events
 joined_is most p i = from_joined most i [] (messages (cut p))

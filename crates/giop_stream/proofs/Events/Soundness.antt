@@ -1,4 +1,5 @@
--- The invariants of a stream, kept by each octet: where its events are, how its messages are numbered, which may be open, and
+-- The invariants of a stream, kept by each octet: where its events are, how its messages are
+-- numbered, which may be open, and
 -- what has come of the current one.
 use Rattle.std.proofs.Common.{inl, ◌≡◌, ℕ, suc, ◌+◌, ◌<◌, ◌≤◌, Bool, true, false, List, [], ◌∷◌, ◌++◌, length, refl, sym, ap, subst, ◌∙◌, append_assoc, Some, None, arith}
 use Rattle.std.specs.Prelude.{nat_lt, if◌then◌else◌, IfSome}
@@ -50,11 +51,14 @@ pub record IsSound (R : Rules) (p : List ℕ) : Type 0 where
   pub starts : start_count (lines R p) ≡ length (messages (cut p))
   pub fits : (cut p).stop ≡ None → Fits (length p) (cut p)
   pub rising : Rising (open_after R.most p)
-  pub early : (cut p).stop ≡ None → IfSome (cut p).current (λ m. length m.payload < 4 → Below m.number (open_after R.most p))
+  pub early : (cut p).stop ≡ None → IfSome (cut p).current
+      (λ m. length m.payload < 4 → Below m.number (open_after R.most p))
   pub still_open : AreSound R.most (open_after R.most p)
-  pub begun : (cut p).stop ≡ None → IfSome (cut p).current (λ m. length m.payload ≤ 4 → joined m.number (events R.most p) ≡ m.payload)
+  pub begun : (cut p).stop ≡ None → IfSome (cut p).current
+      (λ m. length m.payload ≤ 4 → joined m.number (events R.most p) ≡ m.payload)
 
-settled_fits : (n : ℕ) (whole : List Message) (m : Message) → place m ≡ n → m.number ≡ suc (length whole) → length m.header ≡ 12 → Fits n (end_message whole m)
+settled_fits : (n : ℕ) (whole : List Message) (m : Message) → place m ≡ n →
+    m.number ≡ suc (length whole) → length m.header ≡ 12 → Fits n (end_message whole m)
 unfolding end_message
 settled_fits n whole m h k t = go (nat_lt (length m.payload) (size m.header)) refl
   where
@@ -80,11 +84,15 @@ settled_fits n whole m h k t = go (nat_lt (length m.payload) (size m.header)) re
         }
     go false e = record { current = tt; held = omega arith; short = omega arith }
 
-settled_length : (whole : List Message) (m : Message) → length (messages (end_message whole m)) ≡ suc (length whole)
+settled_length : (whole : List Message) (m : Message) →
+    length (messages (end_message whole m)) ≡ suc (length whole)
 settled_length whole m = rw (settled_messages whole m) (omega (arith, length_push whole m))
 
-settled_early : (most : ℕ) (whole : List Message) (m : Message) (still_open : List Open) → (length m.payload ≤ 4 → Below m.number still_open)
-    → IfSome (end_message whole m).current (λ m. length m.payload < 4 → Below m.number (opened still_open (events_of_octet most still_open m)))
+settled_early : (most : ℕ) (whole : List Message) (m : Message) (still_open : List Open) →
+    (length m.payload ≤ 4 → Below m.number still_open)
+    → IfSome (end_message whole m).current
+    (λ m. length m.payload < 4 → Below m.number
+    (opened still_open (events_of_octet most still_open m)))
 unfolding end_message
 settled_early most whole m still_open h = go (nat_lt (length m.payload) (size m.header)) refl
   where
@@ -94,9 +102,12 @@ settled_early most whole m still_open h = go (nat_lt (length m.payload) (size m.
           current = Some m;
           held = [];
           stop = None;
-        } else record { whole = whole ++ m ∷ []; current = None; held = []; stop = None } in IfSome c.current
-        (λ m. length m.payload < 4 → Below m.number (opened still_open (events_of_octet most still_open m))))
-    go true e = λ short. rw (quiet_one most still_open m (ltb-true (length m.payload) (size m.header) e) (inl short)) (h (omega arith))
+        } else record { whole = whole ++ m ∷ []; current = None; held = []; stop = None } in
+        IfSome c.current
+        (λ m. length m.payload < 4 → Below m.number
+        (opened still_open (events_of_octet most still_open m))))
+    go true e = λ short. rw (quiet_one most still_open m
+        (ltb-true (length m.payload) (size m.header) e) (inl short)) (h (omega arith))
     go false e = tt
 
 pub settled_current : (whole : List Message) (m : Message) (P Q : Message → Type 0) → (P m → Q m)
@@ -110,12 +121,14 @@ settled_current whole m P Q h = go (nat_lt (length m.payload) (size m.header))
           current = Some m;
           held = [];
           stop = None;
-        } else record { whole = whole ++ m ∷ []; current = None; held = []; stop = None } in IfSome c.current P
+        } else record { whole = whole ++ m ∷ []; current = None; held = []; stop = None } in
+        IfSome c.current P
         → IfSome c.current Q)
     go true = h
     go false = λ t. tt
 
-pub settled_if : (whole : List Message) (m : Message) (Q : Message → Type 0) → Q m → IfSome (end_message whole m).current Q
+pub settled_if : (whole : List Message) (m : Message) (Q : Message → Type 0) → Q m →
+    IfSome (end_message whole m).current Q
 unfolding end_message
 settled_if whole m Q h = go (nat_lt (length m.payload) (size m.header))
   where
@@ -125,21 +138,30 @@ settled_if whole m Q h = go (nat_lt (length m.payload) (size m.header))
           current = Some m;
           held = [];
           stop = None;
-        } else record { whole = whole ++ m ∷ []; current = None; held = []; stop = None } in IfSome c.current Q)
+        } else record { whole = whole ++ m ∷ []; current = None; held = []; stop = None } in
+        IfSome c.current Q)
     go true = h
     go false = tt
 
-still_unknown : (K : OctetsByNumber) (es : List Event) (ls : List Line) (i : ℕ) → K i ≡ Some [] → joined i es ≡ []
+still_unknown : (K : OctetsByNumber) (es : List Event) (ls : List Line) (i : ℕ) → K i ≡ Some [] →
+    joined i es ≡ []
     → list_any (is_last_of i) ls ≡ false → kept_after (kept_with K es) ls i ≡ Some []
 unfolding kept_after kept_with
 still_unknown K es ls i h k j = rw (j, h, k) refl
 
-pub dealt_sound : (R : Rules) → IsCausal R.reading → (p p' : List ℕ) (whole : List Message) (m : Message)
-    → length p' ≡ suc (length p) → cut p' ≡ end_message whole m → events R.most p' ≡ events R.most p ++ events_of_octet R.most (open_after R.most p) m
-    → place m ≡ suc (length p) → m.number ≡ suc (length whole) → length m.header ≡ 12 → (cut p).stop ≡ None
-    → length (messages (cut p)) ≤ suc (length whole) → (length m.payload ≤ 4 → Below m.number (open_after R.most p))
-    → length (messages (cut p)) + start_count (sorted_lines R.reading (octets_of R p) (events_of_octet R.most (open_after R.most p) m)) ≡ suc (length whole)
-    → (length m.payload ≤ 4 → joined m.number (events R.most p) ++ joined m.number (events_of_octet R.most (open_after R.most p) m) ≡ m.payload)
+pub dealt_sound : (R : Rules) → IsCausal R.reading →
+    (p p' : List ℕ) (whole : List Message) (m : Message)
+    → length p' ≡ suc (length p) → cut p' ≡ end_message whole m → events R.most p' ≡ events R.most p
+    ++ events_of_octet R.most (open_after R.most p) m
+    → place m ≡ suc (length p) → m.number ≡ suc (length whole) → length m.header ≡ 12 →
+    (cut p).stop ≡ None
+    → length (messages (cut p)) ≤ suc (length whole) →
+    (length m.payload ≤ 4 → Below m.number (open_after R.most p))
+    → length (messages (cut p)) + start_count
+    (sorted_lines R.reading (octets_of R p) (events_of_octet R.most (open_after R.most p) m))
+    ≡ suc (length whole)
+    → (length m.payload ≤ 4 → joined m.number (events R.most p)
+    ++ joined m.number (events_of_octet R.most (open_after R.most p) m) ≡ m.payload)
     → IsSound R p → IsSound R p'
 dealt_sound R causal p p' whole m len ec ev pl nm twelve st more low starts grows sound =
     let still_open = open_after R.most p in
@@ -150,7 +172,8 @@ dealt_sound R causal p p' whole m len ec ev pl nm twelve st more low starts grow
     let count : length (messages (cut p')) ≡ all = rw ec (settled_length whole m) in
     let here : Each (λ e. e.place ≡ suc (length p)) es =
     events_of_octet_each R.most (λ e. e.place ≡ suc (length p)) still_open m (λ what. pl)
-    (all_by (λ (o : Open). (what : EventKind) → place m ≡ suc (length p)) (λ o what. pl) still_open) in
+    (all_by (λ (o : Open). (what : EventKind) → place m ≡ suc (length p)) (λ o what. pl) still_open)
+    in
     let old : Each (λ o. o.opener.number ≤ all) still_open =
     each_weaker (λ o. o.opener.number ≤ length (messages (cut p))) (λ o. o.opener.number ≤ all)
     (λ o h. omega arith) still_open sound.numbers in
@@ -160,26 +183,37 @@ dealt_sound R causal p p' whole m len ec ev pl nm twelve st more low starts grow
     (each_weaker (λ o. o.opener.number ≤ all) _ (λ o h what. h) still_open old) in
     let sd = message_lines_grow R causal p p' es len ev sound.places here in
     let now_free : (cut p').stop ≡ None = rw ec (settle_stop whole m) in
-    let ln : lines R p' ≡ lines R p ++ ls = lines_free R p' now_free ∙ (sd ∙ rw (lines_free R p st) refl) in
-    let sc : start_count (lines R p') ≡ start_count (lines R p) + start_count ls = ap start_count ln ∙ start_append (lines R p) ls in
+    let ln : lines R p' ≡ lines R p ++ ls =
+    lines_free R p' now_free ∙ (sd ∙ rw (lines_free R p st) refl) in
+    let sc : start_count (lines R p') ≡ start_count (lines R p) + start_count ls =
+    ap start_count ln ∙ start_append (lines R p) ls in
     let opens = open_grows R.most p p' es ev in
     record {
       places = rw (ev, len) (each_append (λ e. e.place ≤ suc (length p)) (events R.most p) es
-          (each_weaker (λ e. e.place ≤ length p) (λ e. e.place ≤ suc (length p)) (λ e h. omega arith) (events R.most p) sound.places)
-          (each_weaker (λ e. e.place ≡ suc (length p)) (λ e. e.place ≤ suc (length p)) (λ e h. omega arith) es here));
-      numbers = rw (count, open_grows R.most p p' es ev) (opened_each (λ subject. subject.number ≤ all) still_open es old owner_of_next);
+          (each_weaker (λ e. e.place ≤ length p) (λ e. e.place ≤ suc (length p))
+          (λ e h. omega arith) (events R.most p) sound.places)
+          (each_weaker (λ e. e.place ≡ suc (length p)) (λ e. e.place ≤ suc (length p))
+          (λ e h. omega arith) es here));
+      numbers = rw (count, open_grows R.most p p' es ev)
+          (opened_each (λ subject. subject.number ≤ all) still_open es old owner_of_next);
       unknown = λ i h.
-          let below : Each (λ e. e.subject.number < i) es = each_weaker (λ e. e.subject.number ≤ all) (λ e. e.subject.number < i) (λ e k. omega arith) es owner_of_next in
+          let below : Each (λ e. e.subject.number < i) es =
+          each_weaker (λ e. e.subject.number ≤ all) (λ e. e.subject.number < i)
+          (λ e k. omega arith) es owner_of_next in
           octets_grow R p p' es ls ev sd i
-          ∙ still_unknown K es ls i (sound.unknown i (omega arith)) (none_joined i es below) (none_last i ls (now_each R.reading (λ k. k < i) K es below));
+          ∙ still_unknown K es ls i (sound.unknown i (omega arith)) (none_joined i es below)
+          (none_last i ls (now_each R.reading (λ k. k < i) K es below));
       starts = sc ∙ (rw (sound.starts) starts ∙ sym count);
       fits = λ st. rw (ec, len) (settled_fits (suc (length p)) whole m pl nm twelve);
-      rising = rw (open_grows R.most p p' es ev) (rising_events R.most still_open m sound.rising (λ four. low (omega arith)));
+      rising = rw (open_grows R.most p p' es ev)
+          (rising_events R.most still_open m sound.rising (λ four. low (omega arith)));
       early = λ st.
           let grows = open_grows R.most p p' es ev in
-          rw ec (settled_current whole m (λ m. length m.payload < 4 → Below m.number (opened still_open (events_of_octet R.most still_open m)))
+          rw ec (settled_current whole m (λ m. length m.payload < 4 →
+          Below m.number (opened still_open (events_of_octet R.most still_open m)))
           (λ m. length m.payload < 4 → Below m.number (open_after R.most p'))
-          (λ k short. subst (Below m.number) (sym grows) (k short)) (settled_early R.most whole m still_open low));
+          (λ k short. subst (Below m.number) (sym grows) (k short))
+          (settled_early R.most whole m still_open low));
       still_open = rw opens (record {
         few = few_events R.most still_open m sound.still_open.few;
         differ = differ_events R.most still_open m sound.still_open.differ;
@@ -190,28 +224,39 @@ dealt_sound R causal p p' whole m len ec ev pl nm twelve st more low starts grow
           (λ short. joined_append m.number (events R.most p) es ∙ grows short));
     }
   where
-    now_each : (R : MessageReader) (P : ℕ → Type 0) (known : OctetsByNumber) (es : List Event) → Each (λ e. P e.subject.number) es
+    now_each : (R : MessageReader) (P : ℕ → Type 0) (known : OctetsByNumber) (es : List Event) →
+        Each (λ e. P e.subject.number) es
         → Each (λ l. P l.number) (sorted_lines R known es)
     now_each R P known es h = unfold sorted_lines in written_each R P known es h
 
 -- The events and the open messages, where a message has one more octet.
-pub events_on : (most : ℕ) (whole : List Message) (m : Message) (x : ℕ) → length m.payload < size m.header
-    → (let es = events_from most [] (whole ++ m ∷ []) in let m' = with_payload m (m.payload ++ x ∷ []) in events_from most []
+pub events_on : (most : ℕ) (whole : List Message) (m : Message) (x : ℕ) →
+    length m.payload < size m.header
+    → (let es = events_from most [] (whole ++ m ∷ []) in let m' =
+    with_payload m (m.payload ++ x ∷ []) in events_from most []
     (whole ++ m' ∷ []) ≡ es ++ events_of_octet most (opened [] es) m')
 events_on most whole m x h =
     let m' = with_payload m (m.payload ++ x ∷ []) in
     let first = events_from most [] whole in
     let still_open = opened [] first in
-    let es : events_from most [] (whole ++ m ∷ []) ≡ first ++ events_of most still_open m = events_from_push most [] whole m in
+    let es : events_from most [] (whole ++ m ∷ []) ≡ first ++ events_of most still_open m =
+    events_from_push most [] whole m in
     rw (es, opened_append [] first (events_of most still_open m))
-    (events_from_push most [] whole m' ∙ (rw (events_of_push most still_open m m.payload x, events_of_octet_same most still_open m m.payload x h)
-    (sym (append_assoc first (events_of most still_open m) (events_of_octet most (opened still_open (events_of most still_open m)) m')))))
+    (events_from_push most [] whole m' ∙ (rw (
+      events_of_push most still_open m m.payload x,
+      events_of_octet_same most still_open m m.payload x h,
+    )
+    (sym (append_assoc first (events_of most still_open m)
+    (events_of_octet most (opened still_open (events_of most still_open m)) m')))))
 
 pub events_begin : (most : ℕ) (whole : List Message) (m : Message) → m.payload ≡ []
-    → events_from most [] (whole ++ m ∷ []) ≡ events_from most [] whole ++ events_of_octet most (opened [] (events_from most [] whole)) m
+    → events_from most [] (whole ++ m ∷ []) ≡ events_from most [] whole
+    ++ events_of_octet most (opened [] (events_from most [] whole)) m
 events_begin most whole m h =
     let first = events_from most [] whole in
     let still_open = opened [] first in
     let empty : m ≡ with_payload m [] = λ j. record m { payload = h j } in
-    let one : events_of most still_open m ≡ events_of_octet most still_open m = ap (events_of most still_open) empty ∙ (events_of_none most still_open m ∙ ap (events_of_octet most still_open) (sym empty)) in
+    let one : events_of most still_open m ≡ events_of_octet most still_open m =
+    ap (events_of most still_open) empty
+    ∙ (events_of_none most still_open m ∙ ap (events_of_octet most still_open) (sym empty)) in
     events_from_push most [] whole m ∙ ap (λ (es : List Event). first ++ es) one

@@ -15,13 +15,19 @@ use Rattle.giop_stream.proofs.Events.EventsKeep.{Below}
 use Rattle.giop_stream.proofs.Events.AfterMoreEvents.{octets_idle, open_idle}
 use Rattle.giop_stream.proofs.Events.Soundness.{Fits, IsSound}
 
-pub quiet_sound : (R : Rules) → (p p' : List ℕ) → length p' ≡ suc (length p) → messages (cut p') ≡ messages (cut p)
-    → events R.most p' ≡ events R.most p → lines_of_messages R p' ≡ lines_of_messages R p → start_count (lines R p') ≡ start_count (lines R p)
+pub quiet_sound : (R : Rules) → (p p' : List ℕ) → length p' ≡ suc (length p) →
+    messages (cut p') ≡ messages (cut p)
+    → events R.most p' ≡ events R.most p → lines_of_messages R p' ≡ lines_of_messages R p →
+    start_count (lines R p') ≡ start_count (lines R p)
     → ((cut p').stop ≡ None → Fits (suc (length p)) (cut p'))
-    → ((cut p').stop ≡ None → IfSome (cut p').current (λ m. length m.payload < 4 → Below m.number (open_after R.most p')))
-    → ((cut p').stop ≡ None → IfSome (cut p').current (λ m. length m.payload ≤ 4 → joined m.number (events R.most p') ≡ m.payload)) → IsSound R p → IsSound R p'
+    → ((cut p').stop ≡ None → IfSome (cut p').current
+    (λ m. length m.payload < 4 → Below m.number (open_after R.most p')))
+    → ((cut p').stop ≡ None → IfSome (cut p').current
+    (λ m. length m.payload ≤ 4 → joined m.number (events R.most p') ≡ m.payload)) →
+    IsSound R p → IsSound R p'
 quiet_sound R p p' len ms ev sd sc fits early begun sound = record {
-  places = rw (ev, len) (each_weaker (λ e. e.place ≤ length p) (λ e. e.place ≤ suc (length p)) (λ e h. omega arith) (events R.most p) sound.places);
+  places = rw (ev, len) (each_weaker (λ e. e.place ≤ length p) (λ e. e.place ≤ suc (length p))
+      (λ e h. omega arith) (events R.most p) sound.places);
   numbers = rw (ms, open_idle R.most p p' ev) sound.numbers;
   unknown = λ i h. octets_idle R p p' ev sd i ∙ sound.unknown i (rw ms at h);
   starts = sc ∙ (sound.starts ∙ ap length (sym ms));
@@ -32,7 +38,8 @@ quiet_sound R p p' len ms ev sd sc fits early begun sound = record {
   begun = begun;
 }
 
-pub events_of_cut : (most : ℕ) (p : List ℕ) (c : Cut) → cut p ≡ c → events most p ≡ events_from most [] (messages c)
+pub events_of_cut : (most : ℕ) (p : List ℕ) (c : Cut) → cut p ≡ c →
+    events most p ≡ events_from most [] (messages c)
 unfolding events
 events_of_cut most p c e = rw e refl
 
@@ -40,34 +47,45 @@ pub stop_starts : (found : ℕ × StreamFault) → start_count (stop_line (Some 
 unfolding start_count stop_line
 stop_starts found = refl
 
-pub place_more : (m : Message) (x n : ℕ) → place m ≡ n → place (with_payload m (m.payload ++ x ∷ [])) ≡ suc n
+pub place_more : (m : Message) (x n : ℕ) → place m ≡ n →
+    place (with_payload m (m.payload ++ x ∷ [])) ≡ suc n
 unfolding place
 place_more m x n h = omega (arith, length_push m.payload x)
 
 -- a message of which the empty list is kept has no joined octets
-pub none_known : (R : Rules) (p : List ℕ) (i : ℕ) → octets_of R p i ≡ Some [] → joined i (events R.most p) ≡ []
+pub none_known : (R : Rules) (p : List ℕ) (i : ℕ) → octets_of R p i ≡ Some [] →
+    joined i (events R.most p) ≡ []
 unfolding octets_of
 none_known R p i h = go (is_over R p i) h
   where
-    go : (b : Bool) → (if b then None else Some (joined i (events R.most p))) ≡ Some [] → joined i (events R.most p) ≡ []
+    go : (b : Bool) → (if b then None else Some (joined i (events R.most p))) ≡ Some [] →
+        joined i (events R.most p) ≡ []
     go true k = absurd cc
     go false k = cc
 
 -- the last octet of a header
-pub place_first : (n : ℕ) (m : Message) → m.before ≡ suc n - 12 → m.payload ≡ [] → 11 ≤ n → place m ≡ suc n
+pub place_first : (n : ℕ) (m : Message) → m.before ≡ suc n - 12 → m.payload ≡ [] → 11 ≤ n →
+    place m ≡ suc n
 unfolding place
 place_first n m h k j = rw k (omega arith)
 
 pub not_twelve : (n : ℕ) → (n == 12) ≡ false → n ≤ 12 → n < 12
-not_twelve n h k = elim (cases_eq n 12) [ inl e ↦ absurd (let t : (n == 12) ≡ true = eq-eqb n 12 e in cc) | inr other ↦ omega arith ]
+not_twelve n h k = elim (cases_eq n 12) [
+  | inl e ↦ absurd
+      (let t : (n == 12) ≡ true = eq-eqb n 12 e in cc)
+  | inr other ↦ omega arith
+]
 
-pub octets_are : (R : Rules) (p : List ℕ) (i : ℕ) (xs : List ℕ) → octets_of R p i ≡ Some xs → joined i (events R.most p) ≡ xs
+pub octets_are : (R : Rules) (p : List ℕ) (i : ℕ) (xs : List ℕ) → octets_of R p i ≡ Some xs →
+    joined i (events R.most p) ≡ xs
 unfolding octets_of
 octets_are R p i xs h = go (is_over R p i) h
   where
-    go : (b : Bool) → (if b then None else Some (joined i (events R.most p))) ≡ Some xs → joined i (events R.most p) ≡ xs
+    go : (b : Bool) → (if b then None else Some (joined i (events R.most p))) ≡ Some xs →
+        joined i (events R.most p) ≡ xs
     go true k = absurd cc
     go false k = cc
 
-pub if_some : (P : Message → Type 0) (o : Option Message) (m : Message) → o ≡ Some m → IfSome o P → P m
+pub if_some : (P : Message → Type 0) (o : Option Message) (m : Message) → o ≡ Some m → IfSome o P →
+    P m
 if_some P o m e h = rw e at h

@@ -1,4 +1,5 @@
--- The first messages (all but 1.2 Fragments) that are not over are the open ones and the current one that are not over.
+-- The first messages (all but 1.2 Fragments) that are not over are the open ones and the current
+-- one that are not over.
 use Rattle.std.proofs.Common.{inl, inr, ◌⊎◌, ◌≡◌, ℕ, suc, ◌<◌, ◌≤◌, Bool, true, false, cond, not, List, [], ◌∷◌, ◌++◌, length, map, refl, sym, ap, subst, ◌∙◌, Option, Some, None, arith}
 use Rattle.std.specs.Prelude.{nat_lt, if◌then◌else◌, ◌||◌, IfSome}
 use Rattle.std.specs.List.{filter, list_any, AllByRecursion as Each}
@@ -37,59 +38,78 @@ tail_now still_open None = []
 tail_now still_open (Some m) = tail_of still_open m
 
 pub record IsComplete (R : Rules) (p : List ℕ) : Type 0 where
-  pub kept : alive (is_over R p) (first_messages (messages (cut p))) ≡ alive (is_over R p) (numbers_of (open_after R.most p) ++ tail_now (open_after R.most p) (cut p).current)
-  pub named : IfSome (cut p).current (λ m. is_opener m.header ≡ true → 4 ≤ length m.payload → Known (is_over R p) (open_after R.most p) m)
+  pub kept : alive (is_over R p) (first_messages (messages (cut p)))
+      ≡ alive (is_over R p) (numbers_of (open_after R.most p)
+      ++ tail_now (open_after R.most p) (cut p).current)
+  pub named : IfSome (cut p).current (λ m. is_opener m.header ≡ true → 4 ≤ length m.payload →
+      Known (is_over R p) (open_after R.most p) m)
 
-over_same : (R : Rules) (p p' : List ℕ) → lines_of_messages R p' ≡ lines_of_messages R p → is_over R p' ≡ is_over R p
+over_same : (R : Rules) (p p' : List ℕ) → lines_of_messages R p' ≡ lines_of_messages R p →
+    is_over R p' ≡ is_over R p
 unfolding is_over
 over_same R p p' sd = λ j i. list_any (is_last_of i) (sd j)
 
-complete_quiet : (R : Rules) (p p' : List ℕ) → messages (cut p') ≡ messages (cut p) → (cut p').current ≡ (cut p).current
-    → events R.most p' ≡ events R.most p → lines_of_messages R p' ≡ lines_of_messages R p → IsComplete R p → IsComplete R p'
+complete_quiet : (R : Rules) (p p' : List ℕ) → messages (cut p') ≡ messages (cut p) →
+    (cut p').current ≡ (cut p).current
+    → events R.most p' ≡ events R.most p → lines_of_messages R p' ≡ lines_of_messages R p →
+    IsComplete R p → IsComplete R p'
 complete_quiet R p p' ms cur ev sd complete = record {
   kept = rw (ms, cur, open_idle R.most p p' ev, over_same R p p' sd) complete.kept;
   named = rw (cur, open_idle R.most p p' ev, over_same R p p' sd) complete.named;
 }
 
-less_by : (a b : Bool) (i : ℕ) (xs ys : List ℕ) (test : ℕ → Bool) → test i ≡ (not b) → xs ≡ filter test ys
+less_by : (a b : Bool) (i : ℕ) (xs ys : List ℕ) (test : ℕ → Bool) → test i ≡ (not b) →
+    xs ≡ filter test ys
     → cond (not (a || b)) (i ∷ xs) xs ≡ filter test (cond (not a) (i ∷ ys) ys)
 less_by true b i xs ys test h k = k
 less_by false true i xs ys test h k = rw h k
 less_by false false i xs ys test h k = rw h (ap (λ (zs : List ℕ). i ∷ zs) k)
 
-alive_less : (over more : ℕ → Bool) (xs : List ℕ) → alive (λ i. over i || more i) xs ≡ filter (λ i. not (more i)) (alive over xs)
+alive_less : (over more : ℕ → Bool) (xs : List ℕ) →
+    alive (λ i. over i || more i) xs ≡ filter (λ i. not (more i)) (alive over xs)
 unfolding alive
 alive_less over more [] = refl
 alive_less over more (i ∷ xs) =
-    less_by (over i) (more i) i (alive (λ i. over i || more i) xs) (alive over xs) (λ i. not (more i)) refl (alive_less over more xs)
+    less_by (over i) (more i) i (alive (λ i. over i || more i) xs) (alive over xs)
+    (λ i. not (more i)) refl (alive_less over more xs)
 
 head_of : Message → List ℕ
 head_of m = if is_fragment m.header then [] else m.number ∷ []
 
-heads_push : (ms : List Message) (m : Message) → first_messages (ms ++ m ∷ []) ≡ first_messages ms ++ head_of m
+heads_push : (ms : List Message) (m : Message) → first_messages (ms ++ m ∷ []) ≡ first_messages ms
+    ++ head_of m
 unfolding first_messages head_of
 heads_push ms m =
     rw (
       filter-append (λ m. not (is_fragment m.header)) ms (m ∷ []),
       map-append (λ m. m.number)
-          (filter (λ m. not (is_fragment m.header)) ms) (cond (not (is_fragment m.header)) (m ∷ []) []),
+          (filter (λ m. not (is_fragment m.header)) ms)
+          (cond (not (is_fragment m.header)) (m ∷ []) []),
     )
     (ap (λ (xs : List ℕ). map (λ m. m.number) (filter (λ m. not (is_fragment m.header)) ms) ++ xs)
     (go (is_fragment m.header)))
   where
-    go : (b : Bool) → map (λ m. m.number) (cond (not b) (m ∷ []) []) ≡ (if b then [] else m.number ∷ [])
+    go : (b : Bool) → map (λ m. m.number) (cond (not b) (m ∷ []) [])
+        ≡ (if b then [] else m.number ∷ [])
     go true = refl
     go false = refl
 
-known_tail : (over : ℕ → Bool) (still_open : List Open) (m : Message) → (is_fragment m.header ≡ false → Known over still_open m) → alive over (tail_of still_open m) ≡ []
+known_tail : (over : ℕ → Bool) (still_open : List Open) (m : Message) →
+    (is_fragment m.header ≡ false → Known over still_open m) →
+    alive over (tail_of still_open m) ≡ []
 unfolding tail_of Known alive
 known_tail over still_open m h = go (is_fragment m.header) refl
   where
     go : (b : Bool) → is_fragment m.header ≡ b → alive over (tail_of still_open m) ≡ []
     go true f = rw f refl
-    go false f = elim (h f) [ inl o ↦ rw (f, o) refl | inr d ↦ dead_tail over m (is_fragment m.header || is_open still_open m.number) d ]
+    go false f = elim (h f) [
+      | inl o ↦ rw (f, o) refl
+      | inr d ↦ dead_tail over m
+          (is_fragment m.header || is_open still_open m.number) d
+    ]
 
-pub alive_append : (over : ℕ → Bool) (xs ys : List ℕ) → alive over (xs ++ ys) ≡ alive over xs ++ alive over ys
+pub alive_append : (over : ℕ → Bool) (xs ys : List ℕ) → alive over (xs ++ ys) ≡ alive over xs
+    ++ alive over ys
 unfolding alive
 alive_append over xs ys = filter-append (λ i. not (over i)) xs ys
 
@@ -97,7 +117,8 @@ pub alive_none : (over : ℕ → Bool) → alive over [] ≡ []
 unfolding alive
 alive_none over = refl
 
-alive_same : (over over' more : ℕ → Bool) (xs ys : List ℕ) → ((i : ℕ) → over' i ≡ (over i || more i))
+alive_same : (over over' more : ℕ → Bool) (xs ys : List ℕ) →
+    ((i : ℕ) → over' i ≡ (over i || more i))
     → alive over xs ≡ alive over ys → alive over' xs ≡ alive over' ys
 alive_same over over' more xs ys h k =
     let mix : over' ≡ (λ i. over i || more i) = λ j i. h i j in
@@ -105,7 +126,8 @@ alive_same over over' more xs ys h k =
 
 settled_kept : (over : ℕ → Bool) (whole : List Message) (m : Message) (still_open : List Open)
     → (size m.header ≤ length m.payload → is_fragment m.header ≡ false → Known over still_open m)
-    → alive over (base still_open m) ≡ alive over (numbers_of still_open ++ tail_now still_open (end_message whole m).current)
+    → alive over (base still_open m) ≡ alive over
+    (numbers_of still_open ++ tail_now still_open (end_message whole m).current)
 unfolding end_message base tail_now
 settled_kept over whole m still_open h = go (nat_lt (length m.payload) (size m.header)) refl
   where
@@ -117,28 +139,40 @@ settled_kept over whole m still_open h = go (nat_lt (length m.payload) (size m.h
           current = Some m;
           held = [];
           stop = None;
-        } else record { whole = whole ++ m ∷ []; current = None; held = []; stop = None } in c.current))
+        } else record { whole = whole ++ m ∷ []; current = None; held = []; stop = None } in
+        c.current))
     go true e = refl
     go false e =
-        let none = known_tail over still_open m (h (ltb-false (length m.payload) (size m.header) e)) in
-        alive_append over (numbers_of still_open) (tail_of still_open m) ∙ (rw none (sym (alive_append over (numbers_of still_open) [] ∙ rw (alive_none over) refl)))
+        let none = known_tail over still_open m (h (ltb-false (length m.payload) (size m.header) e))
+        in
+        alive_append over (numbers_of still_open) (tail_of still_open m)
+        ∙ (rw none (sym (alive_append over (numbers_of still_open) []
+        ∙ rw (alive_none over) refl)))
 
-known_later : (over over' more : ℕ → Bool) (still_open : List Open) (m : Message) → ((i : ℕ) → over' i ≡ (over i || more i)) → Known over still_open m → Known over' still_open m
+known_later : (over over' more : ℕ → Bool) (still_open : List Open) (m : Message) →
+    ((i : ℕ) → over' i ≡ (over i || more i)) → Known over still_open m → Known over' still_open m
 unfolding Known
 known_later over over' more still_open m h (inl o) = inl o
-known_later over over' more still_open m h (inr d) = inr (h m.number ∙ or_left (over m.number) (more m.number) d)
+known_later over over' more still_open m h (inr d) =
+    inr (h m.number ∙ or_left (over m.number) (more m.number) d)
 
-stays_is : (over : ℕ → Bool) (m : Message) (still_open : List Open) (es : List Event) → Stays over m still_open es
+stays_is : (over : ℕ → Bool) (m : Message) (still_open : List Open) (es : List Event) →
+    Stays over m still_open es
     → alive over (base (opened still_open es) m) ≡ alive over (base still_open m)
 unfolding Stays
 stays_is over m still_open es h = h
 
-complete_deal : (R : Rules) → IsCausal R.reading → IsEnding R.reading → (p p' : List ℕ) (whole : List Message) (m : Message)
-    → length p' ≡ suc (length p) → cut p' ≡ end_message whole m → events R.most p' ≡ events R.most p ++ events_of_octet R.most (open_after R.most p) m
+complete_deal : (R : Rules) → IsCausal R.reading → IsEnding R.reading →
+    (p p' : List ℕ) (whole : List Message) (m : Message)
+    → length p' ≡ suc (length p) → cut p' ≡ end_message whole m → events R.most p' ≡ events R.most p
+    ++ events_of_octet R.most (open_after R.most p) m
     → Each (λ e. e.place ≤ length p) (events R.most p) → place m ≡ suc (length p)
-    → length m.payload ≤ size m.header → (length m.payload ≡ 4 → Below m.number (open_after R.most p))
-    → alive (is_over R p) (first_messages whole ++ head_of m) ≡ alive (is_over R p) (base (open_after R.most p) m)
-    → (is_opener m.header ≡ true → 4 < length m.payload → Known (is_over R p) (open_after R.most p) m)
+    → length m.payload ≤ size m.header → (length m.payload ≡ 4 →
+    Below m.number (open_after R.most p))
+    → alive (is_over R p) (first_messages whole ++ head_of m)
+    ≡ alive (is_over R p) (base (open_after R.most p) m)
+    → (is_opener m.header ≡ true → 4 < length m.payload →
+    Known (is_over R p) (open_after R.most p) m)
     → IsComplete R p'
 complete_deal R causal ending p p' whole m len ec ev old pl fits low start known =
     let still_open = open_after R.most p in
@@ -146,55 +180,80 @@ complete_deal R causal ending p p' whole m len ec ev old pl fits low start known
     let ls = sorted_lines R.reading (octets_of R p) es in
     let here : Each (λ e. e.place ≡ suc (length p)) es =
     events_of_octet_each R.most (λ e. e.place ≡ suc (length p)) still_open m (λ what. pl)
-    (all_by (λ (o : Open). (what : EventKind) → place m ≡ suc (length p)) (λ o what. pl) still_open) in
+    (all_by (λ (o : Open). (what : EventKind) → place m ≡ suc (length p)) (λ o what. pl) still_open)
+    in
     let sd = message_lines_grow R causal p p' es len ev old here in
     let over = is_over R p' in
     let d : Each (Dead over) es = dead R ending p p' es sd in
-    let mix : (i : ℕ) → over i ≡ (is_over R p i || list_any (is_last_of i) ls) = λ i. is_over_grows R p p' ls i sd in
+    let mix : (i : ℕ) → over i ≡ (is_over R p i || list_any (is_last_of i) ls) =
+    λ i. is_over_grows R p p' ls i sd in
     let after : is_opener m.header ≡ true → 4 < length m.payload → Known over still_open m =
-    λ o long. known_later (is_over R p) over (λ i. list_any (is_last_of i) ls) still_open m mix (known o long) in
-    let ms : first_messages (messages (cut p')) ≡ first_messages whole ++ head_of m = rw (ec, settled_messages whole m) (heads_push whole m) in
+    λ o long. known_later (is_over R p) over (λ i. list_any (is_last_of i) ls) still_open m mix
+    (known o long) in
+    let ms : first_messages (messages (cut p')) ≡ first_messages whole ++ head_of m =
+    rw (ec, settled_messages whole m) (heads_push whole m) in
     let one : alive over (first_messages whole ++ head_of m) ≡ alive over (base still_open m) =
-    alive_same (is_over R p) over (λ i. list_any (is_last_of i) ls) (first_messages whole ++ head_of m) (base still_open m) mix start in
+    alive_same (is_over R p) over (λ i. list_any (is_last_of i) ls)
+    (first_messages whole ++ head_of m) (base still_open m) mix start in
     let two = stays_events R.most over m still_open low d in
-    let three = settled_kept over whole m (opened still_open es) (λ full f. done_known R.most over m still_open f (omega arith) after d) in
-    let named' : IfSome (end_message whole m).current (λ m. is_opener m.header ≡ true → 4 ≤ length m.payload → Known over (opened still_open es) m) =
-    settled_if whole m (λ m. is_opener m.header ≡ true → 4 ≤ length m.payload → Known over (opened still_open es) m)
+    let three = settled_kept over whole m (opened still_open es)
+    (λ full f. done_known R.most over m still_open f (omega arith) after d) in
+    let named' : IfSome (end_message whole m).current
+    (λ m. is_opener m.header ≡ true → 4 ≤ length m.payload →
+    Known over (opened still_open es) m) =
+    settled_if whole m (λ m. is_opener m.header ≡ true → 4 ≤ length m.payload →
+    Known over (opened still_open es) m)
     (λ o long. opener_known R.most over m still_open o long fits (after o) d) in
     record {
-      kept = rw (ms, ec, open_grows R.most p p' es ev) (one ∙ (sym (stays_is over m still_open es two) ∙ three));
+      kept = rw (ms, ec, open_grows R.most p p' es ev)
+          (one ∙ (sym (stays_is over m still_open es two) ∙ three));
       named = rw (ec, open_grows R.most p p' es ev) named';
     }
 
-known_same : (over : ℕ → Bool) (still_open : List Open) (m : Message) (xs : List ℕ) → Known over still_open m → Known over still_open (with_payload m xs)
+known_same : (over : ℕ → Bool) (still_open : List Open) (m : Message) (xs : List ℕ) →
+    Known over still_open m → Known over still_open (with_payload m xs)
 unfolding Known
 known_same over still_open m xs h = h
 
-first_base : (over : ℕ → Bool) (still_open : List Open) (hs : List ℕ) (m : Message) → Below m.number still_open
-    → alive over hs ≡ alive over (numbers_of still_open) → alive over (hs ++ head_of m) ≡ alive over (base still_open m)
+first_base : (over : ℕ → Bool) (still_open : List Open) (hs : List ℕ) (m : Message) →
+    Below m.number still_open
+    → alive over hs ≡ alive over (numbers_of still_open) →
+    alive over (hs ++ head_of m) ≡ alive over (base still_open m)
 unfolding base tail_of head_of
-first_base over still_open hs m low h = rw (not_open still_open m.number low) (go (is_fragment m.header))
+first_base over still_open hs m low h = rw (not_open still_open m.number low)
+    (go (is_fragment m.header))
   where
-    go : (b : Bool) → alive over (hs ++ (if b then [] else m.number ∷ [])) ≡ alive over (numbers_of still_open ++ (if b || false then [] else m.number ∷ []))
+    go : (b : Bool) → alive over (hs ++ (if b then [] else m.number ∷ []))
+        ≡ alive over (numbers_of still_open ++ (if b || false then [] else m.number ∷ []))
     go true = alive_append over hs [] ∙ rw h (sym (alive_append over (numbers_of still_open) []))
-    go false = alive_append over hs (m.number ∷ []) ∙ rw h (sym (alive_append over (numbers_of still_open) (m.number ∷ [])))
+    go false = alive_append over hs (m.number ∷ [])
+        ∙ rw h (sym (alive_append over (numbers_of still_open) (m.number ∷ [])))
 
 -- what is needed of the message m that the octet belongs to
 record Ready (R : Rules) (p : List ℕ) (m : Message) : Type 0 where
-  start : alive (is_over R p) (first_messages (cut p).whole ++ head_of m) ≡ alive (is_over R p) (base (open_after R.most p) m)
+  start : alive (is_over R p) (first_messages (cut p).whole ++ head_of m)
+      ≡ alive (is_over R p) (base (open_after R.most p) m)
   low : length m.payload ≡ 4 → Below m.number (open_after R.most p)
-  known : is_opener m.header ≡ true → 4 < length m.payload → Known (is_over R p) (open_after R.most p) m
+  known : is_opener m.header ≡ true → 4 < length m.payload →
+      Known (is_over R p) (open_after R.most p) m
 
-module _ (R : Rules) (causal : IsCausal R.reading) (ending : IsEnding R.reading) (p : List ℕ) (x : ℕ) (sound : IsSound R p) (complete : IsComplete R p) where
-  ready_first : (m : Message) → (cut p).current ≡ None → m.payload ≡ [] → m.number ≡ suc (length (cut p).whole) → Ready R p m
+module _ (R : Rules) (causal : IsCausal R.reading) (ending : IsEnding R.reading) (p : List ℕ)
+    (x : ℕ) (sound : IsSound R p) (complete : IsComplete R p) where
+  ready_first : (m : Message) → (cut p).current ≡ None → m.payload ≡ [] →
+      m.number ≡ suc (length (cut p).whole) → Ready R p m
   unfolding messages tail_now
   ready_first m cur none number =
-      let count : length (messages (cut p)) ≡ length (cut p).whole = rw cur (ap length (append-nil (cut p).whole)) in
+      let count : length (messages (cut p)) ≡ length (cut p).whole =
+      rw cur (ap length (append-nil (cut p).whole)) in
       let low : Below m.number (open_after R.most p) =
-      each_weaker (λ o. o.opener.number ≤ length (messages (cut p))) (λ o. o.opener.number < m.number)
+      each_weaker (λ o. o.opener.number ≤ length (messages (cut p)))
+      (λ o. o.opener.number < m.number)
       (λ o k. omega (arith, k, count, number)) (open_after R.most p) sound.numbers in
-      let kept : alive (is_over R p) (first_messages ((cut p).whole ++ [])) ≡ alive (is_over R p) (numbers_of (open_after R.most p) ++ []) = rw cur at complete.kept in
-      let kept' : alive (is_over R p) (first_messages (cut p).whole) ≡ alive (is_over R p) (numbers_of (open_after R.most p)) = simp append-nil at kept in
+      let kept : alive (is_over R p) (first_messages ((cut p).whole ++ []))
+      ≡ alive (is_over R p) (numbers_of (open_after R.most p) ++ []) =
+      rw cur at complete.kept in
+      let kept' : alive (is_over R p) (first_messages (cut p).whole)
+      ≡ alive (is_over R p) (numbers_of (open_after R.most p)) = simp append-nil at kept in
       record {
         start = first_base (is_over R p) (open_after R.most p)
             (first_messages (cut p).whole) m low kept';
@@ -202,23 +261,29 @@ module _ (R : Rules) (causal : IsCausal R.reading) (ending : IsEnding R.reading)
         known = λ o past. absurd (omega (arith, past, ap length none));
       }
 
-  ready_next : (was : Message) → (cut p).stop ≡ None → (cut p).current ≡ Some was → Ready R p (with_octet was x)
+  ready_next : (was : Message) → (cut p).stop ≡ None → (cut p).current ≡ Some was →
+      Ready R p (with_octet was x)
   unfolding messages head_of base tail_of tail_now
   ready_next was st cur =
-      let kept : alive (is_over R p) (first_messages ((cut p).whole ++ was ∷ [])) ≡ alive (is_over R p)
+      let kept : alive (is_over R p) (first_messages ((cut p).whole ++ was ∷ []))
+      ≡ alive (is_over R p)
       (numbers_of (open_after R.most p) ++ tail_of (open_after R.most p) was) =
       rw cur at complete.kept in
-      let named : is_opener was.header ≡ true → 4 ≤ length was.payload → Known (is_over R p) (open_after R.most p) was = rw cur at complete.named in
-      let early = if_some (λ m. length m.payload < 4 → Below m.number (open_after R.most p)) (cut p).current was cur (sound.early st) in
+      let named : is_opener was.header ≡ true → 4 ≤ length was.payload →
+      Known (is_over R p) (open_after R.most p) was = rw cur at complete.named in
+      let early = if_some (λ m. length m.payload < 4 → Below m.number (open_after R.most p))
+      (cut p).current was cur (sound.early st) in
       let long = length_push was.payload x in
       record {
         start = rw (heads_push (cut p).whole was) at kept;
         low = λ four. early (omega (arith, long, four));
-        known = λ o past. known_same (is_over R p) (open_after R.most p) was (was.payload ++ x ∷ []) (named o (omega (arith, long, past)));
+        known = λ o past. known_same (is_over R p) (open_after R.most p) was (was.payload ++ x ∷ [])
+            (named o (omega (arith, long, past)));
       }
 
   ready : (m : Message) → (cut p).stop ≡ None → m.number ≡ suc (length (cut p).whole)
-      → (((cut p).current ≡ None) × (m.payload ≡ [])) ⊎ ((was : Message) × ((cut p).current ≡ Some was) × (m
+      → (((cut p).current ≡ None) × (m.payload ≡ []))
+      ⊎ ((was : Message) × ((cut p).current ≡ Some was) × (m
       ≡ with_octet was x)) → Ready R p m
   ready m st number (inl (cur, none)) = ready_first m cur none number
   ready m st number (inr (was, cur, is)) = subst (Ready R p) (sym is) (ready_next was st cur)
@@ -226,10 +291,12 @@ module _ (R : Rules) (causal : IsCausal R.reading) (ending : IsEnding R.reading)
   len : length (p ++ x ∷ []) ≡ suc (length p)
   len = omega (arith, length_push p x)
 
-  idle : (c : Cut) → cut (p ++ x ∷ []) ≡ c → messages c ≡ messages (cut p) → c.current ≡ (cut p).current → IsComplete R (p ++ x ∷ [])
+  idle : (c : Cut) → cut (p ++ x ∷ []) ≡ c → messages c ≡ messages (cut p) →
+      c.current ≡ (cut p).current → IsComplete R (p ++ x ∷ [])
   unfolding events
   idle c e ms cur =
-      let ev = ap (λ (d : Cut). events_from R.most [] (messages d)) e ∙ ap (events_from R.most []) ms in
+      let ev = ap (λ (d : Cut). events_from R.most [] (messages d)) e
+      ∙ ap (events_from R.most []) ms in
       complete_quiet R p (p ++ x ∷ []) (ap messages e ∙ ms) (ap (λ (d : Cut). d.current) e ∙ cur) ev
       (message_lines_same R causal p (p ++ x ∷ []) len ev sound.places) complete
 
@@ -241,12 +308,19 @@ module _ (R : Rules) (causal : IsCausal R.reading) (ending : IsEnding R.reading)
   complete_then (Of now) h =
       let one = h.1 in
       let r = ready one.m h.0 one.number_is one.from in
-      complete_deal R causal ending p (p ++ x ∷ []) (cut p).whole one.m len one.adds.cut_is one.grows sound.places one.place_is one.fits r.low r.start r.known
+      complete_deal R causal ending p (p ++ x ∷ []) (cut p).whole one.m len one.adds.cut_is
+      one.grows sound.places one.place_is one.fits r.low r.start r.known
 
 complete_start : (R : Rules) → IsComplete R []
 unfolding of_parts messages first_messages tail_now numbers_of
-complete_start R = record { kept = rw (cut_nothing, open_nothing R.most) refl; named = rw cut_nothing tt }
+complete_start R = record {
+  kept = rw (cut_nothing, open_nothing R.most) refl;
+  named =
+      rw cut_nothing tt;
+}
 
-pub complete : (R : Rules) → IsCausal R.reading → IsStreamable R.reading → IsEnding R.reading → (p : List ℕ) → IsComplete R p
+pub complete : (R : Rules) → IsCausal R.reading → IsStreamable R.reading → IsEnding R.reading →
+    (p : List ℕ) → IsComplete R p
 complete R causal laws ending = by_growth (IsComplete R) (complete_start R)
-    (λ p x h. let so = sound R causal laws p in complete_then R causal ending p x so h _ (then_is R causal laws p x so))
+    (λ p x h. let so = sound R causal laws p in
+    complete_then R causal ending p x so h _ (then_is R causal laws p x so))

@@ -1,4 +1,5 @@
--- Through the events of an octet the numbers of the open messages and the current one stay, but for those that are over
+-- Through the events of an octet the numbers of the open messages and the current one stay, but for
+-- those that are over
 -- after it.
 use Rattle.std.proofs.Common.{inl, inr, ◌⊎◌, ◌≡◌, ℕ, ◌<◌, ◌≤◌, Bool, true, false, List, [], ◌∷◌, ◌++◌, length, map, refl, ap, ◌∙◌, Option, Some, None, arith}
 use Rattle.std.specs.Prelude.{nat_lt, nat_le, ◌==◌, if◌then◌else◌, ◌||◌, ◌&&◌}
@@ -19,34 +20,45 @@ use Rattle.giop_stream.proofs.StreamLines.FirstMessages.{numbers_of, tail_of, ba
 
 -- The numbers that are not over stay through these events.
 unfoldable pub Stays : (ℕ → Bool) → Message → List Open → List Event → Type 0
-Stays over m still_open es = alive over (base (opened still_open es) m) ≡ alive over (base still_open m)
+Stays over m still_open es = alive over (base (opened still_open es) m)
+    ≡ alive over (base still_open m)
 
-stays_quiet : (over : ℕ → Bool) (m : Message) (still_open : List Open) (es : List Event) → opened still_open es ≡ still_open → Stays over m still_open es
+stays_quiet : (over : ℕ → Bool) (m : Message) (still_open : List Open) (es : List Event) →
+    opened still_open es ≡ still_open → Stays over m still_open es
 unfolding Stays
 stays_quiet over m still_open es h = rw h refl
 
-stays_if : (over : ℕ → Bool) (m : Message) (still_open : List Open) (b : Bool) (es more : List Event)
-    → (b ≡ true → Each (Dead over) es → Stays over m still_open es) → (b ≡ false → Each (Dead over) more → Stays over m still_open more)
+stays_if : (over : ℕ → Bool) (m : Message) (still_open : List Open) (b : Bool)
+    (es more : List Event)
+    → (b ≡ true → Each (Dead over) es → Stays over m still_open es) →
+    (b ≡ false → Each (Dead over) more → Stays over m still_open more)
     → Each (Dead over) (if b then es else more) → Stays over m still_open (if b then es else more)
 stays_if over m still_open true es more h k d = h refl d
 stays_if over m still_open false es more h k d = k refl d
 
-stays_closes : (over : ℕ → Bool) (m : Message) (still_open : List Open) → Each (Dead over) (own (now_of m) Closes) → Stays over m still_open (own (now_of m) Closes)
+stays_closes : (over : ℕ → Bool) (m : Message) (still_open : List Open) →
+    Each (Dead over) (own (now_of m) Closes) → Stays over m still_open (own (now_of m) Closes)
 unfolding own Dead is_final Stays opened changed without
 stays_closes over m still_open d = removed over m.number still_open m (d.0 refl)
 
-stays_about : (over : ℕ → Bool) (m : Message) (still_open : List Open) (o : Option Open) (what : EventKind)
-    → ((subject : MessageKey) → changed still_open subject what ≡ without subject.number still_open) → is_final what ≡ true
-    → Each (Dead over) (event_of_open (now_of m) o what) → Stays over m still_open (event_of_open (now_of m) o what)
+stays_about : (over : ℕ → Bool) (m : Message) (still_open : List Open) (o : Option Open)
+    (what : EventKind)
+    → ((subject : MessageKey) → changed still_open subject what
+    ≡ without subject.number still_open) → is_final what ≡ true
+    → Each (Dead over) (event_of_open (now_of m) o what) →
+    Stays over m still_open (event_of_open (now_of m) o what)
 unfolding event_of_open Dead Stays opened
 stays_about over m still_open None what c f d = refl
-stays_about over m still_open (Some o) what c f d = rw (c o.opener) (removed over o.opener.number still_open m (d.0 f))
+stays_about over m still_open (Some o) what c f d =
+    rw (c o.opener) (removed over o.opener.number still_open m (d.0 f))
 
-close_removes : (still_open : List Open) (subject : MessageKey) → changed still_open subject Closes ≡ without subject.number still_open
+close_removes : (still_open : List Open) (subject : MessageKey) →
+    changed still_open subject Closes ≡ without subject.number still_open
 unfolding changed without
 close_removes still_open subject = refl
 
-cancel_removes : (still_open : List Open) (j : ℕ) (subject : MessageKey) → changed still_open subject (Cancelled j) ≡ without subject.number still_open
+cancel_removes : (still_open : List Open) (j : ℕ) (subject : MessageKey) →
+    changed still_open subject (Cancelled j) ≡ without subject.number still_open
 unfolding changed without
 cancel_removes still_open j subject = refl
 
@@ -58,63 +70,91 @@ final_cancelled : (j : ℕ) → is_final (Cancelled j) ≡ true
 unfolding is_final
 final_cancelled j = refl
 
-stays_end : (over : ℕ → Bool) (before still_open : List Open) (m : Message) → Each (Dead over) (events_at_end before m) → Stays over m still_open (events_at_end before m)
+stays_end : (over : ℕ → Bool) (before still_open : List Open) (m : Message) →
+    Each (Dead over) (events_at_end before m) → Stays over m still_open (events_at_end before m)
 unfolding message_end_events
 stays_end over before still_open m =
-    stays_if over m still_open (nat_lt (size m.header) 4 && (is_opener m.header || is_fragment m.header))
+    stays_if over m still_open (nat_lt (size m.header) 4
+    && (is_opener m.header || is_fragment m.header))
     (own (now_of m) (Faults Short)) _
-    (λ e d. stays_quiet over m still_open _ (quiet_own still_open (now_of m) (Faults Short) (still_faulted Short still_open)))
-    (λ e. stays_if over m still_open (is_opener m.header) [] _ (λ k d. stays_quiet over m still_open [] (quiet_none still_open))
+    (λ e d. stays_quiet over m still_open _
+    (quiet_own still_open (now_of m) (Faults Short) (still_faulted Short still_open)))
+    (λ e. stays_if over m still_open (is_opener m.header) [] _
+    (λ k d. stays_quiet over m still_open [] (quiet_none still_open))
     (λ k. stays_if over m still_open (is_fragment m.header) _ (own (now_of m) Closes)
-    (λ j. stays_if over m still_open (has_more m.header) [] (event_of_open (now_of m) (opener_of before m) Closes)
+    (λ j. stays_if over m still_open (has_more m.header) []
+    (event_of_open (now_of m) (opener_of before m) Closes)
     (λ i d. stays_quiet over m still_open [] (quiet_none still_open))
-    (λ i d. stays_about over m still_open (opener_of before m) Closes (close_removes still_open) final_closes d))
+    (λ i d. stays_about over m still_open (opener_of before m) Closes (close_removes still_open)
+    final_closes d))
     (λ j d. stays_closes over m still_open d)))
 
 pub not_open : (still_open : List Open) (n : ℕ) → Below n still_open → is_open still_open n ≡ false
 unfolding is_open
 not_open [] n h = refl
-not_open (o ∷ still_open) n h = let less = h.0 in rw (ne_eqb o.opener.number n (λ e. omega arith)) (not_open still_open n h.1)
+not_open (o ∷ still_open) n h = let less = h.0 in
+    rw (ne_eqb o.opener.number n (λ e. omega arith)) (not_open still_open n h.1)
 
-open_last : (still_open : List Open) (o : Open) → is_open (still_open ++ o ∷ []) o.opener.number ≡ true
+open_last : (still_open : List Open) (o : Open) →
+    is_open (still_open ++ o ∷ []) o.opener.number ≡ true
 unfolding is_open
-open_last still_open o = any_right (λ a. a.opener.number == o.opener.number) still_open (o ∷ []) (rw (eq-eqb o.opener.number o.opener.number refl) refl)
+open_last still_open o = any_right (λ a. a.opener.number == o.opener.number) still_open (o ∷ [])
+    (rw (eq-eqb o.opener.number o.opener.number refl) refl)
 
-stays_opens : (over : ℕ → Bool) (m : Message) (still_open : List Open) → is_fragment m.header ≡ false → Below m.number still_open → Stays over m still_open (own (now_of m) (Opens (id m)))
+stays_opens : (over : ℕ → Bool) (m : Message) (still_open : List Open) →
+    is_fragment m.header ≡ false → Below m.number still_open →
+    Stays over m still_open (own (now_of m) (Opens (id m)))
 unfolding Stays own opened changed base tail_of numbers_of
 stays_opens over m still_open f low =
     let o : Open = record { id = id m; opener = record { number = m.number; header = m.header } } in
     let now : is_open (still_open ++ o ∷ []) m.number ≡ true = open_last still_open o in
-    rw (f, now, not_open still_open m.number low, map-append (λ o. o.opener.number) still_open (o ∷ []))
+    rw (
+      f,
+      now,
+      not_open still_open m.number low,
+      map-append (λ o. o.opener.number) still_open (o ∷ []),
+    )
     (ap (alive over) (append-nil (map (λ o. o.opener.number) still_open ++ m.number ∷ [])))
 
-stays_opening : (most : ℕ) (over : ℕ → Bool) (m : Message) (still_open : List Open) → Below m.number still_open → is_fragment m.header ≡ false
+stays_opening : (most : ℕ) (over : ℕ → Bool) (m : Message) (still_open : List Open) →
+    Below m.number still_open → is_fragment m.header ≡ false
     → (o : Option Open) → Stays over m still_open (opens most still_open (now_of m) (id m) o)
 stays_opening most over m still_open low f (Some other) =
-    stays_quiet over m still_open _ (quiet_own still_open (now_of m) (Faults IdOpen) (still_faulted IdOpen still_open))
+    stays_quiet over m still_open _ (quiet_own still_open (now_of m) (Faults IdOpen)
+    (still_faulted IdOpen still_open))
 stays_opening most over m still_open low f None = pick (nat_le most (length still_open))
   where
-    pick : (b : Bool) → Stays over m still_open (if b then own (now_of m) (Faults TooManyOpen) else own (now_of m) (Opens (id m)))
-    pick true = stays_quiet over m still_open _ (quiet_own still_open (now_of m) (Faults TooManyOpen) (still_faulted TooManyOpen still_open))
+    pick : (b : Bool) → Stays over m still_open
+        (if b then own (now_of m) (Faults TooManyOpen) else own (now_of m) (Opens (id m)))
+    pick true = stays_quiet over m still_open _
+        (quiet_own still_open (now_of m) (Faults TooManyOpen)
+        (still_faulted TooManyOpen still_open))
     pick false = stays_opens over m still_open f low
 
 stays_cancels : (over : ℕ → Bool) (m : Message) (still_open : List Open) (o : Option Open)
     → Each (Dead over) (cancels (now_of m) o) → Stays over m still_open (cancels (now_of m) o)
 stays_cancels over m still_open None d = stays_quiet over m still_open [] (quiet_none still_open)
 stays_cancels over m still_open (Some o) d =
-    stays_if over m still_open (may_be_cancelled o.opener.header) (event_of_open (now_of m) (Some o) (Cancelled m.number)) []
-    (λ e k. stays_about over m still_open (Some o) (Cancelled m.number) (cancel_removes still_open m.number)
-    (final_cancelled m.number) k) (λ e k. stays_quiet over m still_open [] (quiet_none still_open)) d
+    stays_if over m still_open (may_be_cancelled o.opener.header)
+    (event_of_open (now_of m) (Some o) (Cancelled m.number)) []
+    (λ e k. stays_about over m still_open (Some o) (Cancelled m.number)
+    (cancel_removes still_open m.number)
+    (final_cancelled m.number) k) (λ e k. stays_quiet over m still_open [] (quiet_none still_open))
+    d
 
-stays_id : (most : ℕ) (over : ℕ → Bool) (m : Message) (still_open : List Open) → Below m.number still_open → Each (Dead over) (events_at_request_id most still_open m) → Stays over m still_open (events_at_request_id most still_open m)
+stays_id : (most : ℕ) (over : ℕ → Bool) (m : Message) (still_open : List Open) →
+    Below m.number still_open → Each (Dead over) (events_at_request_id most still_open m) →
+    Stays over m still_open (events_at_request_id most still_open m)
 unfolding request_id_events
 stays_id most over m still_open low =
     let other = opener_of still_open m in
     stays_if over m still_open (is_fragment m.header) (continues (now_of m) other) _
     (λ e d. stays_quiet over m still_open _ (quiet_continues still_open (now_of m) other))
-    (λ f. stays_if over m still_open (is_opener m.header) (opens most still_open (now_of m) (id m) other) _
+    (λ f. stays_if over m still_open (is_opener m.header)
+    (opens most still_open (now_of m) (id m) other) _
     (λ e d. stays_opening most over m still_open low f other)
-    (λ e. stays_if over m still_open (is_cancel m.header) (cancels (now_of m) other) [] (λ k. stays_cancels over m still_open other)
+    (λ e. stays_if over m still_open (is_cancel m.header) (cancels (now_of m) other) []
+    (λ k. stays_cancels over m still_open other)
     (λ k d. stays_quiet over m still_open [] (quiet_none still_open))))
 
 each_left : {A : Type 0} (P : A → Type 0) (xs ys : List A) → Each P (xs ++ ys) → Each P xs
@@ -125,37 +165,48 @@ each_right : {A : Type 0} (P : A → Type 0) (xs ys : List A) → Each P (xs ++ 
 each_right P [] ys h = h
 each_right P (x ∷ xs) ys h = each_right P xs ys h.1
 
-stays_both : (over : ℕ → Bool) (m : Message) (still_open : List Open) (es more : List Event) → Stays over m still_open es
+stays_both : (over : ℕ → Bool) (m : Message) (still_open : List Open) (es more : List Event) →
+    Stays over m still_open es
     → Stays over m (opened still_open es) more → Stays over m still_open (es ++ more)
 unfolding Stays
 stays_both over m still_open es more h k = rw (opened_append still_open es more) (k ∙ h)
 
-pub stays_events : (most : ℕ) (over : ℕ → Bool) (m : Message) (still_open : List Open) → (length m.payload ≡ 4 → Below m.number still_open)
-    → Each (Dead over) (events_of_octet most still_open m) → Stays over m still_open (events_of_octet most still_open m)
+pub stays_events : (most : ℕ) (over : ℕ → Bool) (m : Message) (still_open : List Open) →
+    (length m.payload ≡ 4 → Below m.number still_open)
+    → Each (Dead over) (events_of_octet most still_open m) →
+    Stays over m still_open (events_of_octet most still_open m)
 unfolding events_of_octet
 stays_events most over m still_open low d =
-    let first = if length m.payload == 0 then events_at_header m else events_at_octet still_open m in
+    let first = if length m.payload == 0 then events_at_header m else events_at_octet still_open m
+    in
     let second = if length m.payload == 4 then events_at_request_id most still_open m else [] in
     let third = if length m.payload == size m.header then events_at_end still_open m else [] in
     let still : opened still_open first ≡ still_open =
-    quiet_if still_open (length m.payload == 0) (events_at_header m) (events_at_octet still_open m) (λ e. quiet_header still_open (now_of m))
+    quiet_if still_open (length m.payload == 0) (events_at_header m) (events_at_octet still_open m)
+    (λ e. quiet_header still_open (now_of m))
     (λ e. quiet_octet still_open (now_of m) (opener_of still_open m)) in
-    let rest : Each (Dead over) (second ++ third) = each_right (Dead over) first (second ++ third) d in
+    let rest : Each (Dead over) (second ++ third) =
+    each_right (Dead over) first (second ++ third) d in
     let two : Stays over m still_open second =
     stays_if over m still_open (length m.payload == 4) (events_at_request_id most still_open m) []
     (λ e. stays_id most over m still_open (low (eqb-true (length m.payload) 4 e)))
-    (λ e k. stays_quiet over m still_open [] (quiet_none still_open)) (each_left (Dead over) second third rest) in
+    (λ e k. stays_quiet over m still_open [] (quiet_none still_open))
+    (each_left (Dead over) second third rest) in
     let three : Stays over m (opened still_open second) third =
-    stays_if over m (opened still_open second) (length m.payload == size m.header) (events_at_end still_open m) []
+    stays_if over m (opened still_open second) (length m.payload == size m.header)
+    (events_at_end still_open m) []
     (λ e. stays_end over still_open (opened still_open second) m)
-    (λ e k. stays_quiet over m (opened still_open second) [] (quiet_none (opened still_open second)))
+    (λ e k. stays_quiet over m (opened still_open second) []
+    (quiet_none (opened still_open second)))
     (each_right (Dead over) second third rest) in
-    stays_both over m still_open first (second ++ third) (stays_quiet over m still_open first still) (rw still (stays_both over m still_open second third two three))
+    stays_both over m still_open first (second ++ third) (stays_quiet over m still_open first still)
+    (rw still (stays_both over m still_open second third two three))
 
 -- A first message (no 1.2 Fragment) is open or over once it has its last octet.
 opener_kind : (h : List ℕ) → may_be_fragmented h ≡ true → (kind h == 7) ≡ false
 unfolding may_be_fragmented
-opener_kind h e = ne_eqb (kind h) 7 (λ seven. absurd (let no : may_be_fragmented h ≡ false = rw (may_be_fragmented, seven) refl in cc))
+opener_kind h e = ne_eqb (kind h) 7 (λ seven.
+    absurd (let no : may_be_fragmented h ≡ false = rw (may_be_fragmented, seven) refl in cc))
 
 opener_no_fragment : (h : List ℕ) → is_opener h ≡ true → is_fragment h ≡ false
 unfolding is_opener is_fragment
@@ -166,7 +217,8 @@ opener_no_fragment h e =
 unfoldable pub Known : (ℕ → Bool) → List Open → Message → Type 0
 Known over still_open m = (is_open still_open m.number ≡ true) ⊎ (over m.number ≡ true)
 
-dead_own : (over : ℕ → Bool) (m : Message) (what : EventKind) → is_final what ≡ true → Each (Dead over) (own (now_of m) what) → over m.number ≡ true
+dead_own : (over : ℕ → Bool) (m : Message) (what : EventKind) → is_final what ≡ true →
+    Each (Dead over) (own (now_of m) what) → over m.number ≡ true
 unfolding own Dead
 dead_own over m what f d = d.0 f
 
@@ -174,11 +226,16 @@ final_faulted : (fault : FramingFault) → is_final (Faults fault) ≡ true
 unfolding is_final
 final_faulted fault = refl
 
-opens_known : (over : ℕ → Bool) (m : Message) (still_open : List Open) → Known over (opened still_open (own (now_of m) (Opens (id m)))) m
+opens_known : (over : ℕ → Bool) (m : Message) (still_open : List Open) →
+    Known over (opened still_open (own (now_of m) (Opens (id m)))) m
 unfolding Known opened own changed
-opens_known over m still_open = inl (open_last still_open (record { id = id m; opener = record { number = m.number; header = m.header } }))
+opens_known over m still_open = inl (open_last still_open
+    (record { id = id m; opener = record { number = m.number; header = m.header } }))
 
-known_opens : (most : ℕ) (over : ℕ → Bool) (m : Message) (still_open : List Open) → Each (Dead over) (opens most still_open (now_of m) (id m) (opener_of still_open m)) → Known over (opened still_open (opens most still_open (now_of m) (id m) (opener_of still_open m))) m
+known_opens : (most : ℕ) (over : ℕ → Bool) (m : Message) (still_open : List Open) →
+    Each (Dead over) (opens most still_open (now_of m) (id m) (opener_of still_open m)) →
+    Known over (opened still_open (opens most still_open (now_of m) (id m)
+    (opener_of still_open m))) m
 unfolding Known
 known_opens most over m still_open = go (opener_of still_open m)
   where
@@ -187,24 +244,36 @@ known_opens most over m still_open = go (opener_of still_open m)
     go (Some other) d = inr (dead_own over m (Faults IdOpen) (final_faulted IdOpen) d)
     go None d = pick (nat_le most (length still_open)) d
       where
-        pick : (b : Bool) → Each (Dead over) (if b then own (now_of m) (Faults TooManyOpen) else own (now_of m) (Opens (id m)))
-            → Known over (opened still_open (if b then own (now_of m) (Faults TooManyOpen) else own (now_of m) (Opens (id m)))) m
+        pick : (b : Bool) → Each (Dead over)
+            (if b then own (now_of m) (Faults TooManyOpen) else own (now_of m) (Opens (id m)))
+            → Known over (opened still_open (if b then own (now_of m) (Faults TooManyOpen) else own
+            (now_of m) (Opens (id m)))) m
         pick true d = inr (dead_own over m (Faults TooManyOpen) (final_faulted TooManyOpen) d)
         pick false d = opens_known over m still_open
 
-opener_end : (still_open : List Open) (m : Message) → is_opener m.header ≡ true → 4 ≤ size m.header → events_at_end still_open m ≡ []
+opener_end : (still_open : List Open) (m : Message) → is_opener m.header ≡ true →
+    4 ≤ size m.header → events_at_end still_open m ≡ []
 unfolding message_end_events
 opener_end still_open m o h = rw (message_end_events, o, le-ltb (size m.header) 4 h) refl
 
-head_end : (still_open : List Open) (m : Message) → is_opener m.header ≡ false → is_fragment m.header ≡ false → events_at_end still_open m ≡ own (now_of m) Closes
+head_end : (still_open : List Open) (m : Message) → is_opener m.header ≡ false →
+    is_fragment m.header ≡ false → events_at_end still_open m ≡ own (now_of m) Closes
 unfolding message_end_events
-head_end still_open m o f = rw (message_end_events, o, f, and_right (nat_lt (size m.header) 4) false refl) refl
+head_end still_open m o f = rw (
+  message_end_events,
+  o,
+  f,
+  and_right (nat_lt (size m.header) 4) false refl,
+) refl
 
-short_end : (still_open : List Open) (m : Message) → is_opener m.header ≡ true → size m.header < 4 → events_at_end still_open m ≡ own (now_of m) (Faults Short)
+short_end : (still_open : List Open) (m : Message) → is_opener m.header ≡ true → size m.header < 4 →
+    events_at_end still_open m ≡ own (now_of m) (Faults Short)
 unfolding message_end_events
 short_end still_open m o h = rw (message_end_events, o, lt-ltb (size m.header) 4 h) refl
 
-opener_id : (most : ℕ) (still_open : List Open) (m : Message) → is_opener m.header ≡ true → events_at_request_id most still_open m ≡ opens most still_open (now_of m) (id m) (opener_of still_open m)
+opener_id : (most : ℕ) (still_open : List Open) (m : Message) → is_opener m.header ≡ true →
+    events_at_request_id most still_open m
+    ≡ opens most still_open (now_of m) (id m) (opener_of still_open m)
 unfolding request_id_events
 opener_id most still_open m o = rw (request_id_events, o, opener_no_fragment m.header o) refl
 
@@ -216,62 +285,91 @@ third_none still_open m o h = go (length m.payload == size m.header)
     go true = opener_end still_open m o h
     go false = refl
 
-first_quiet : (still_open : List Open) (m : Message) → opened still_open (if length m.payload == 0 then events_at_header m else events_at_octet still_open m) ≡ still_open
-first_quiet still_open m = quiet_if still_open (length m.payload == 0) (events_at_header m) (events_at_octet still_open m) (λ e. quiet_header still_open (now_of m)) (λ e. quiet_octet still_open (now_of m) (opener_of still_open m))
+first_quiet : (still_open : List Open) (m : Message) →
+    opened still_open (if length m.payload == 0 then events_at_header m else events_at_octet
+    still_open m) ≡ still_open
+first_quiet still_open m = quiet_if still_open (length m.payload == 0) (events_at_header m)
+    (events_at_octet still_open m) (λ e. quiet_header still_open (now_of m))
+    (λ e. quiet_octet still_open (now_of m) (opener_of still_open m))
 
 -- the open messages after the three parts of an octet's events
 after_parts : (most : ℕ) (still_open : List Open) (m : Message) (second third : List Event)
     → (if length m.payload == 4 then events_at_request_id most still_open m else []) ≡ second
     → (if length m.payload == size m.header then events_at_end still_open m else []) ≡ third
-    → opened still_open (events_of_octet most still_open m) ≡ opened (opened still_open second) third
+    → opened still_open (events_of_octet most still_open m)
+    ≡ opened (opened still_open second) third
 unfolding events_of_octet
 after_parts most still_open m second third h k =
-    let first = if length m.payload == 0 then events_at_header m else events_at_octet still_open m in
-    opened_append still_open first _ ∙ rw (first_quiet still_open m, h, k) (opened_append still_open second third)
+    let first = if length m.payload == 0 then events_at_header m else events_at_octet still_open m
+    in
+    opened_append still_open first _ ∙ rw (first_quiet still_open m, h, k)
+    (opened_append still_open second third)
 
-dead_parts : (most : ℕ) (over : ℕ → Bool) (still_open : List Open) (m : Message) (second third : List Event)
+dead_parts : (most : ℕ) (over : ℕ → Bool) (still_open : List Open) (m : Message)
+    (second third : List Event)
     → (if length m.payload == 4 then events_at_request_id most still_open m else []) ≡ second
-    → (if length m.payload == size m.header then events_at_end still_open m else []) ≡ third → Each (Dead over) (events_of_octet most still_open m)
+    → (if length m.payload == size m.header then events_at_end still_open m else []) ≡ third →
+    Each (Dead over) (events_of_octet most still_open m)
     → Each (Dead over) (second ++ third)
 unfolding events_of_octet
 dead_parts most over still_open m second third h k d =
-    let rest = each_right (Dead over) (if length m.payload == 0 then events_at_header m else events_at_octet still_open m) _ d in
+    let rest = each_right (Dead over) (if length m.payload == 0 then events_at_header m else
+    events_at_octet still_open m) _ d in
     rw (h, k) at rest
 
-second_none : (most : ℕ) (still_open : List Open) (m : Message) → 4 < length m.payload → (if length m.payload == 4 then events_at_request_id most still_open m else []) ≡ []
+second_none : (most : ℕ) (still_open : List Open) (m : Message) → 4 < length m.payload →
+    (if length m.payload == 4 then events_at_request_id most still_open m else []) ≡ []
 second_none most still_open m h = rw (ne_eqb (length m.payload) 4 (λ e. omega arith)) refl
 
-pub opener_known : (most : ℕ) (over : ℕ → Bool) (m : Message) (still_open : List Open) → is_opener m.header ≡ true → 4 ≤ length m.payload
+pub opener_known : (most : ℕ) (over : ℕ → Bool) (m : Message) (still_open : List Open) →
+    is_opener m.header ≡ true → 4 ≤ length m.payload
     → length m.payload ≤ size m.header → (4 < length m.payload → Known over still_open m)
-    → Each (Dead over) (events_of_octet most still_open m) → Known over (opened still_open (events_of_octet most still_open m)) m
+    → Each (Dead over) (events_of_octet most still_open m) →
+    Known over (opened still_open (events_of_octet most still_open m)) m
 unfolding opened
 opener_known most over m still_open o long fits before d = elim (cases_lt 4 (length m.payload)) [
   | inl past ↦
-      let none : (if length m.payload == size m.header then events_at_end still_open m else []) ≡ [] = third_none still_open m o (omega arith) in
-      rw (after_parts most still_open m [] [] (second_none most still_open m past) none) (before past)
+      let none : (if length m.payload == size m.header then events_at_end still_open m else [])
+      ≡ [] = third_none still_open m o (omega arith) in
+      rw (after_parts most still_open m [] [] (second_none most still_open m past) none)
+      (before past)
   | inr least ↦
       let now : length m.payload ≡ 4 = omega arith in
-      let two : (if length m.payload == 4 then events_at_request_id most still_open m else []) ≡ opens most still_open (now_of m) (id m) (opener_of still_open m) = rw (eq-eqb (length m.payload) 4 now) (opener_id most still_open m o) in
-      let none : (if length m.payload == size m.header then events_at_end still_open m else []) ≡ [] = third_none still_open m o (omega arith) in
-      let dead_two = each_left (Dead over) (opens most still_open (now_of m) (id m) (opener_of still_open m)) [] (dead_parts most over still_open m (opens most still_open (now_of m) (id m) (opener_of still_open m)) [] two none d) in
-      rw (after_parts most still_open m (opens most still_open (now_of m) (id m) (opener_of still_open m)) [] two none) (known_opens most over m still_open dead_two)
+      let two : (if length m.payload == 4 then events_at_request_id most still_open m else [])
+      ≡ opens most still_open (now_of m) (id m) (opener_of still_open m) =
+      rw (eq-eqb (length m.payload) 4 now) (opener_id most still_open m o) in
+      let none : (if length m.payload == size m.header then events_at_end still_open m else [])
+      ≡ [] = third_none still_open m o (omega arith) in
+      let dead_two = each_left (Dead over) (opens most still_open (now_of m) (id m)
+      (opener_of still_open m)) [] (dead_parts most over still_open m
+      (opens most still_open (now_of m) (id m) (opener_of still_open m)) [] two none d) in
+      rw (after_parts most still_open m (opens most still_open (now_of m) (id m)
+      (opener_of still_open m)) [] two none) (known_opens most over m still_open dead_two)
 ]
 
-pub done_known : (most : ℕ) (over : ℕ → Bool) (m : Message) (still_open : List Open) → is_fragment m.header ≡ false
-    → length m.payload ≡ size m.header → (is_opener m.header ≡ true → 4 < length m.payload → Known over still_open m)
-    → Each (Dead over) (events_of_octet most still_open m) → Known over (opened still_open (events_of_octet most still_open m)) m
+pub done_known : (most : ℕ) (over : ℕ → Bool) (m : Message) (still_open : List Open) →
+    is_fragment m.header ≡ false
+    → length m.payload ≡ size m.header → (is_opener m.header ≡ true → 4 < length m.payload →
+    Known over still_open m)
+    → Each (Dead over) (events_of_octet most still_open m) →
+    Known over (opened still_open (events_of_octet most still_open m)) m
 unfolding events_of_octet Known
 done_known most over m still_open f full before d = go (is_opener m.header) refl
   where
     last : (es : List Event) → events_at_end still_open m ≡ es → Each (Dead over) es
     last es h =
-        let rest = each_right (Dead over) (if length m.payload == 0 then events_at_header m else events_at_octet still_open m) _ d in
-        let third = each_right (Dead over) (if length m.payload == 4 then events_at_request_id most still_open m else []) _ rest in
+        let rest = each_right (Dead over) (if length m.payload == 0 then events_at_header m else
+        events_at_octet still_open m) _ d in
+        let third = each_right (Dead over) (if length m.payload == 4 then events_at_request_id most
+        still_open m else []) _ rest in
         rw (eq-eqb (length m.payload) (size m.header) full, h) at third
 
-    go : (b : Bool) → is_opener m.header ≡ b → Known over (opened still_open (events_of_octet most still_open m)) m
-    go false o = inr (dead_own over m Closes final_closes (last (own (now_of m) Closes) (head_end still_open m o f)))
+    go : (b : Bool) → is_opener m.header ≡ b →
+        Known over (opened still_open (events_of_octet most still_open m)) m
+    go false o = inr (dead_own over m Closes final_closes
+        (last (own (now_of m) Closes) (head_end still_open m o f)))
     go true o = elim (cases_lt (size m.header) 4) [
-      | inl short ↦ inr (dead_own over m (Faults Short) (final_faulted Short) (last (own (now_of m) (Faults Short)) (short_end still_open m o short)))
+      | inl short ↦ inr (dead_own over m (Faults Short) (final_faulted Short)
+          (last (own (now_of m) (Faults Short)) (short_end still_open m o short)))
       | inr long ↦ opener_known most over m still_open o (omega arith) (omega arith) (before o) d
     ]

@@ -1,4 +1,5 @@
--- The fields of any stream's engine are in the ranges of a checkpoint's fixed part, so that a load takes them.
+-- The fields of any stream's engine are in the ranges of a checkpoint's fixed part, so that a load
+-- takes them.
 use Rattle.std.proofs.Common.{◌≡◌, ℕ, ◌+◌, ◌*◌, ◌-◌, ◌^◌, ◌<◌, ◌≤◌, Bool, true, false, List, [], ◌∷◌, ◌++◌, length, refl, sym, ◌∙◌, Option, Some, None, arith}
 use Rattle.std.specs.Prelude.{nat_lt, if◌then◌else◌, IfSome}
 use Rattle.std.proofs.lemmas.Bool.{ltb-true, ltb-false}
@@ -38,11 +39,13 @@ use Rattle.giop_stream.proofs.Events.FaultsBound.{stop_count, one_stop, tally_fa
 
 -- ---- The ranges of the place and the owner.
 
-among : (b : Bool) (k many more : ℕ) → nat_lt k many ≡ b → IsAmong (many + more) (if b then Some k else None)
+among : (b : Bool) (k many more : ℕ) → nat_lt k many ≡ b →
+    IsAmong (many + more) (if b then Some k else None)
 among true k many more e = omega (arith, ltb-true k many e)
 among false k many more e = tt
 
-owner_among : (i : Option ℕ) (own : Option CodeMessage) (many : ℕ) → IsAmong (many + count_own own) (owner_of i own many)
+owner_among : (i : Option ℕ) (own : Option CodeMessage) (many : ℕ) →
+    IsAmong (many + count_own own) (owner_of i own many)
 owner_among None None many = tt
 owner_among None (Some m) many = omega arith
 owner_among (Some k) own many = among (nat_lt k many) k many (count_own own) refl
@@ -52,8 +55,10 @@ record IsHeader (header : List ℕ) : Type 0 where
   most : length header ≤ 12
   small : length header ≡ 12 → size header < 2 ^ 32
 
-place_by : (b : Bool) (header : List ℕ) (payload_count : ℕ) → IsHeader header → nat_lt (length header) 12 ≡ b
-    → PlaceHasRange (if b then Header (record { items = header }) else Payload header (size header - payload_count))
+place_by : (b : Bool) (header : List ℕ) (payload_count : ℕ) → IsHeader header →
+    nat_lt (length header) 12 ≡ b
+    → PlaceHasRange (if b then Header (record { items = header }) else Payload header
+    (size header - payload_count))
 place_by true header payload_count h e = omega (arith, ltb-true (length header) 12 e)
 place_by false header payload_count h e =
     let twelve : length header ≡ 12 = omega (arith, h.most, ltb-false (length header) 12 e) in
@@ -62,7 +67,8 @@ place_by false header payload_count h e =
 place_range : (stopped : Option StreamFault) (header : List ℕ) (payload_count : ℕ) → IsHeader header
     → PlaceHasRange (place_of stopped header payload_count)
 place_range (Some fault) header payload_count h = tt
-place_range None header payload_count h = place_by (nat_lt (length header) 12) header payload_count h refl
+place_range None header payload_count h =
+    place_by (nat_lt (length header) 12) header payload_count h refl
 
 one_own : (own : Option CodeMessage) → count_own own ≤ 1
 one_own None = omega arith
@@ -74,7 +80,8 @@ abbrev Late : Option (ℕ × StreamFault) → Type 0
 Late None = Unit {0}
 Late (Some found) = 0 < found.0
 
-read_late : (p : List ℕ) (stop : Option (ℕ × StreamFault)) → Late stop → stop_count stop ≤ read_of p stop
+read_late : (p : List ℕ) (stop : Option (ℕ × StreamFault)) → Late stop →
+    stop_count stop ≤ read_of p stop
 unfolding read_of stop_count
 read_late p None h = omega arith
 read_late p (Some found) h = omega (arith, h)
@@ -84,20 +91,35 @@ read_late p (Some found) h = omega (arith, h)
 IsWithin : ℕ → List ℕ → Type 0
 IsWithin n header = IsHeader header × (length header ≤ n)
 
-header_fits : (n : ℕ) (c : Cut) → Fits n c → HeaderOctets c → IsWithin n (header_of c.current c.held)
+header_fits : (n : ℕ) (c : Cut) → Fits n c → HeaderOctets c →
+    IsWithin n (header_of c.current c.held)
 unfolding IsWithin place
 header_fits n c fits octets = go c.current fits.current octets
   where
-    go : (o : Option Message) → IfSome o (CurrentFits n c) → IfSome o (λ m. AreOctets m.header × (first_wrong_octet m.header ≡ None))
+    go : (o : Option Message) → IfSome o (CurrentFits n c) →
+        IfSome o (λ m. AreOctets m.header × (first_wrong_octet m.header ≡ None))
         → IsWithin n (header_of o c.held)
-    go None f h =
-        (record { most = omega (arith, fits.short); small = λ no. absurd (omega (arith, fits.short, no)) }, fits.held)
+    go None f h = (
+      record {
+        most = omega (arith, fits.short);
+        small =
+            λ no. absurd (omega (arith, fits.short, no));
+      },
+      fits.held,
+    )
     go (Some m) f h =
-        let within : length m.header ≤ n = omega (arith, f.twelve, f.place_is) in
-        (record { most = omega (arith, f.twelve); small = λ twelve. size_fits m.header h.0 twelve }, within)
+        let within : length m.header ≤ n = omega (arith, f.twelve, f.place_is) in (
+          record {
+            most = omega (arith, f.twelve);
+            small =
+                λ twelve. size_fits m.header h.0 twelve;
+          },
+          within,
+        )
 
 module _ (R : Rules) (causal : IsCausal R.reading) (laws : IsStreamable R.reading) where
-  late_by : (p : List ℕ) (x : ℕ) (o : Octet) → Then R p x o → Late (cut p).stop → Late (cut (p ++ x ∷ [])).stop
+  late_by : (p : List ℕ) (x : ℕ) (o : Octet) → Then R p x o → Late (cut p).stop →
+      Late (cut (p ++ x ∷ [])).stop
   unfolding stopped_at of_parts
   late_by p x AfterStop h ih = rw h.2.cut_is ih
   late_by p x (Ends fault) h ih = rw h.1.cut_is (omega arith)
@@ -107,14 +129,23 @@ module _ (R : Rules) (causal : IsCausal R.reading) (laws : IsStreamable R.readin
   late : (p : List ℕ) → Late (cut p).stop
   unfolding of_parts
   late = by_growth (λ p. Late (cut p).stop) (rw cut_nothing tt)
-      (λ p x. late_by p x (octet_of (cut p) (length p) x) (then_is R causal laws p x (sound R causal laws p)))
+      (λ p x. late_by p x (octet_of (cut p) (length p) x)
+      (then_is R causal laws p x (sound R causal laws p)))
 
   module _ (p : List ℕ) (octets : AreOctets p) where
     held_by : (stop : Option (ℕ × StreamFault)) → (cut p).stop ≡ stop
         → IsWithin (read_of p stop) (unless stop [] (header_of (cut p).current (cut p).held))
     unfolding IsWithin read_of
-    held_by (Some found) e = (record { most = omega arith; small = λ no. absurd (omega (arith, no)) }, omega arith)
-    held_by None e = header_fits (length p) (cut p) ((sound R causal laws p).fits e) (header_octets p octets)
+    held_by (Some found) e = (
+      record {
+        most = omega arith;
+        small =
+            λ no. absurd (omega (arith, no));
+      },
+      omega arith,
+    )
+    held_by None e = header_fits (length p) (cut p) ((sound R causal laws p).fits e)
+        (header_octets p octets)
 
     header_within : IsWithin (tally R p).octets (state_of R p).held
     unfolding tally state_of
@@ -125,7 +156,12 @@ module _ (R : Rules) (causal : IsCausal R.reading) (laws : IsStreamable R.readin
   late_octets p = read_late p (cut p).stop (late p)
 
   few_faults : (p : List ℕ) → (tally R p).faults ≤ 3 * (tally R p).octets
-  few_faults p = omega (arith, tally_faults R causal laws p, messages_few R causal laws p, late_octets p)
+  few_faults p = omega (
+    arith,
+    tally_faults R causal laws p,
+    messages_few R causal laws p,
+    late_octets p,
+  )
 
 -- ---- The stream that a checkpoint spells.
 
@@ -140,7 +176,8 @@ pub record AreTotals (m : FramingView) : Type 0 where
   pub faults : m.totals.faults ≤ 3 * m.totals.octets
   pub held : length m.header ≤ m.totals.octets
 
-module _ (octets p : List ℕ) (C : Table) (l : RequestTable) (most : ℕ) (s : Spells octets C l most p) where
+module _ (octets p : List ℕ) (C : Table) (l : RequestTable) (most : ℕ)
+    (s : Spells octets C l most p) where
   abbrev R : Rules
   R = rules C l most
 
@@ -162,7 +199,8 @@ module _ (octets p : List ℕ) (C : Table) (l : RequestTable) (most : ℕ) (s : 
   unfolding state_of
   few_slots =
       let K = octets_of R p in
-      let many = are_as_many C (by_list l) s.memory.slots.slots.entries (slots_of K (open_after most p)) s.shows.slots in
+      let many = are_as_many C (by_list l) s.memory.slots.slots.entries
+      (slots_of K (open_after most p)) s.shows.slots in
       omega (arith, many, slots_many K (open_after most p), few_open most p)
 
   header_is : IsWithin s.memory.totals.octets s.memory.header
@@ -188,7 +226,14 @@ module _ (octets p : List ℕ) (C : Table) (l : RequestTable) (most : ℕ) (s : 
         records = omega (arith, few_slots, s.limit, one_own (current_of m.slots.owner));
         octets = rw totals_are (omega (arith, few));
         messages = rw totals_are (omega (arith, few, twelfth));
-        faults = rw totals_are (omega (arith, few, twelfth, tally_faults R causal laws p, one_stop (cut p).stop));
+        faults = rw totals_are (omega (
+          arith,
+          few,
+          twelfth,
+          tally_faults R causal laws p,
+          one_stop (cut p).stop,
+        ));
         place = place_range m.stopped m.header m.payload_count header_is.0;
-        owner = owner_among (index_of m.slots.owner) (current_of m.slots.owner) (length m.slots.slots.entries);
+        owner = owner_among (index_of m.slots.owner) (current_of m.slots.owner)
+            (length m.slots.slots.entries);
       }

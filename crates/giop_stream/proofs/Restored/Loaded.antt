@@ -27,10 +27,12 @@ use Rattle.giop_stream.proofs.Restored.SavedSizes.{entries_range}
 
 -- ---- the fields of a record
 
-number_in : (first : FirstRecord) (e : Entry) → IsEntry first e → first.«record».number ≡ e.record_is.number
+number_in : (first : FirstRecord) (e : Entry) → IsEntry first e →
+    first.«record».number ≡ e.record_is.number
 number_in first e entry = ap (λ (r : Record). r.number) entry.own
 
-header_in : (first : FirstRecord) (e : Entry) → IsEntry first e → first.«record».header ≡ e.record_is.header
+header_in : (first : FirstRecord) (e : Entry) → IsEntry first e →
+    first.«record».header ≡ e.record_is.header
 header_in first e entry = ap (λ (r : Record). r.header) entry.own
 
 standing_in : (first : FirstRecord) (e : Entry) → IsEntry first e →
@@ -62,7 +64,8 @@ current_none (Some m) id e = cc
 
 -- ---- a message
 
--- a message is restored from this record's octets, and follows every stream that the stored one follows
+-- a message is restored from this record's octets, and follows every stream that the stored one
+-- follows
 abbrev pub Restores : Table → ℕ → FirstRecord → Option Message → Type 0
 Restores C octets first found =
     (m : Message) (l : Answers) (n : ℕ) (h xs : List ℕ) → IsReady C (octets + 1) (Some m) →
@@ -72,7 +75,8 @@ Restores C octets first found =
 
 module _ (C : Table) (l : Answers) (first : FirstRecord) where
   -- the record is this entry of an open message, which represents these octets
-  record IsOf (e : Entry) (w : MessageKey) (message : Option Message) (message_octets : Option (List ℕ)) (id : ℕ) : Type 0 where
+  record IsOf (e : Entry) (w : MessageKey) (message : Option Message)
+      (message_octets : Option (List ℕ)) (id : ℕ) : Type 0 where
     entry : IsEntry first e
     record_kind : first.«record».record_kind ≡ standing_of message id
     stored : IsStored message e
@@ -82,7 +86,8 @@ module _ (C : Table) (l : Answers) (first : FirstRecord) where
 
   -- such a message is restored
   abbrev IsAgain : MessageKey → Option Message → Option (List ℕ) → Type 0
-  IsAgain w found message_octets = (is_some found ≡ true) × RepresentsMessage C l found w message_octets
+  IsAgain w found message_octets = (is_some found ≡ true)
+      × RepresentsMessage C l found w message_octets
 
   is_again : (w : MessageKey) (xs : List ℕ) (found : Option Message) →
       IsSomeAnd found (λ m. Follows C l w.number w.header m xs) → IsAgain w found (Some xs)
@@ -91,38 +96,50 @@ module _ (C : Table) (l : Answers) (first : FirstRecord) where
 
   -- a message that is over: no frames, and zeros for its octets
   abbrev IsNothing : MessageKey → Option (List ℕ) → Type 0
-  IsNothing w message_octets = (first.frames.now ≡ []) × (first.message ≡ replicate 224 0) × RepresentsMessage C l None w message_octets
+  IsNothing w message_octets = (first.frames.now ≡ []) × (first.message ≡ replicate 224 0)
+      × RepresentsMessage C l None w message_octets
 
-  over_by : (e : Entry) (w : MessageKey) (message : Option Message) (message_octets : Option (List ℕ)) (kid id : ℕ) →
-      IsOf e w message message_octets kid → first.«record».record_kind ≡ record_kinds.Over id → (kid ≡ id) × IsNothing w message_octets
-  over_by e w None None kid id is over =
-      (over_id kid id (sym is.record_kind ∙ over), (is.entry.frames ∙ is.stored.1, is.entry.message ∙ is.stored.0, tt))
+  over_by : (e : Entry) (w : MessageKey) (message : Option Message)
+      (message_octets : Option (List ℕ)) (kid id : ℕ) →
+      IsOf e w message message_octets kid → first.«record».record_kind ≡ record_kinds.Over id →
+      (kid ≡ id) × IsNothing w message_octets
+  over_by e w None None kid id is over = (
+    over_id kid id (sym is.record_kind ∙ over),
+    (is.entry.frames ∙ is.stored.1, is.entry.message ∙ is.stored.0, tt),
+  )
   over_by e w None (Some xs) kid id is over = absurd is.kept
-  over_by e w (Some m) message_octets kid id is over = absurd (open_not_over kid id (sym is.record_kind ∙ over))
+  over_by e w (Some m) message_octets kid id is over =
+      absurd (open_not_over kid id (sym is.record_kind ∙ over))
 
 module _ (C : Table) (l : Answers) (octets : ℕ) (first : FirstRecord) where
   pub current_again : (o : Own) (found : Option Message) → IsCurrentEntry C l (octets + 1) first o →
       Restores C octets first found → (is_some found ≡ true) × IsOwn C l found (Some o)
   current_again o found is again =
-      framing_view found (again is.message l o.message_key.number o.message_key.header o.octets is.ready
+      framing_view found (again is.message l o.message_key.number o.message_key.header o.octets
+      is.ready
       (sym is.entry_is.number_is ∙ sym (number_in first is.entry is.read))
       (sym is.entry_is.header_is ∙ sym (header_in first is.entry is.read))
       (stored_in is.message is.entry first is.entry_is.message is.read) is.own_is)
     where
-      framing_view : (r : Option Message) → IsSomeAnd r (λ m. Follows C l o.message_key.number o.message_key.header m o.octets) →
+      framing_view : (r : Option Message) →
+          IsSomeAnd r (λ m. Follows C l o.message_key.number o.message_key.header m o.octets) →
           (is_some r ≡ true) × IsOwn C l r (Some o)
       framing_view None h = absurd h
       framing_view (Some x) h = (refl, h)
 
-  open_by : (e : Entry) (w : MessageKey) (found message : Option Message) (message_octets : Option (List ℕ)) (kid id : ℕ) →
-      IsOf C l first e w message message_octets kid → first.«record».record_kind ≡ record_kinds.Open id →
-      IsReady C (octets + 1) message → Restores C octets first found → (kid ≡ id) × IsAgain C l first w found message_octets
+  open_by : (e : Entry) (w : MessageKey) (found message : Option Message)
+      (message_octets : Option (List ℕ)) (kid id : ℕ) →
+      IsOf C l first e w message message_octets kid →
+      first.«record».record_kind ≡ record_kinds.Open id →
+      IsReady C (octets + 1) message → Restores C octets first found → (kid ≡ id)
+      × IsAgain C l first w found message_octets
   open_by e w found None message_octets kid id is opened ready again =
       absurd (over_not_open kid id (sym is.record_kind ∙ opened))
   open_by e w found (Some m) None kid id is opened ready again = absurd is.kept
   open_by e w found (Some m) (Some xs) kid id is opened ready again = (
     open_id kid id (sym is.record_kind ∙ opened),
-    is_again C l first w xs found (again m l w.number w.header xs ready (is.kept.same_number ∙ is.number)
+    is_again C l first w xs found (again m l w.number w.header xs ready
+        (is.kept.same_number ∙ is.number)
         (is.kept.same_header ∙ is.header) (stored_in m e first is.stored is.entry) is.kept),
   )
 
@@ -134,13 +151,17 @@ module _ (C : Table) (l : Answers) (at : ℕ) (first : FirstRecord) (held : Held
     record_kind = standing_in first is.entry is.read ∙ is.entry_is.record_kind;
     stored = is.entry_is.message;
     kept = is.slot_is.message;
-    number = sym is.slot_is.number ∙ sym is.entry_is.number ∙ sym (number_in first is.entry is.read);
-    header = sym is.slot_is.header ∙ sym is.entry_is.header ∙ sym (header_in first is.entry is.read);
+    number = sym is.slot_is.number ∙ sym is.entry_is.number
+        ∙ sym (number_in first is.entry is.read);
+    header = sym is.slot_is.header ∙ sym is.entry_is.header
+        ∙ sym (header_in first is.entry is.read);
   }
 
   -- the slot made from a record, where its message represents the same octets
-  slot_again : (id : ℕ) (found : Option Message) (is : IsOpenEntry C l at first held) → is.kept.key ≡ id →
-      RepresentsMessage C l found held.open_as.opener held.octets → IsSlot C l (pushed first id found) held
+  slot_again : (id : ℕ) (found : Option Message) (is : IsOpenEntry C l at first held) →
+      is.kept.key ≡ id →
+      RepresentsMessage C l found held.open_as.opener held.octets →
+      IsSlot C l (pushed first id found) held
   slot_again id found is same kept = record {
     number = number_in first is.entry is.read ∙ is.entry_is.number ∙ is.slot_is.number;
     header = header_in first is.entry is.read ∙ is.entry_is.header ∙ is.slot_is.header;
@@ -148,23 +169,30 @@ module _ (C : Table) (l : Answers) (at : ℕ) (first : FirstRecord) (held : Held
     message = kept;
   }
 
-  pub over_again : (id : ℕ) → IsOpenEntry C l at first held → first.«record».record_kind ≡ record_kinds.Over id →
-      (first.frames.now ≡ []) × (first.message ≡ replicate 224 0) × IsSlot C l (pushed first id None) held
+  pub over_again : (id : ℕ) → IsOpenEntry C l at first held →
+      first.«record».record_kind ≡ record_kinds.Over id →
+      (first.frames.now ≡ []) × (first.message ≡ replicate 224 0)
+      × IsSlot C l (pushed first id None) held
   over_again id is over =
-      let made = over_by C l first is.entry held.open_as.opener is.kept.value.message held.octets is.kept.key id (of_slot is) over in
+      let made = over_by C l first is.entry held.open_as.opener is.kept.value.message held.octets
+      is.kept.key id (of_slot is) over in
       (made.1.0, made.1.1, slot_again id None is made.0 made.1.2)
 
   -- ---- which message a record is of: an open one or the current one
 
-  pub open_not_current : IsOpenEntry C l at first held → first.«record».record_kind ≡ record_kinds.Current → ⊥
+  pub open_not_current : IsOpenEntry C l at first held →
+      first.«record».record_kind ≡ record_kinds.Current → ⊥
   open_not_current is e =
-      current_none is.kept.value.message is.kept.key (sym is.entry_is.record_kind ∙ sym (standing_in first is.entry is.read) ∙ e)
+      current_none is.kept.value.message is.kept.key
+      (sym is.entry_is.record_kind ∙ sym (standing_in first is.entry is.read) ∙ e)
 
-pub open_again : (C : Table) (l : Answers) (octets : ℕ) (first : FirstRecord) (held : Held) (id : ℕ) (found : Option Message) →
+pub open_again : (C : Table) (l : Answers) (octets : ℕ) (first : FirstRecord) (held : Held) (id : ℕ)
+    (found : Option Message) →
     IsOpenEntry C l (octets + 1) first held → first.«record».record_kind ≡ record_kinds.Open id →
     Restores C octets first found → (is_some found ≡ true) × IsSlot C l (pushed first id found) held
 open_again C l octets first held id found is opened again =
-    let made = open_by C l octets first is.entry held.open_as.opener found is.kept.value.message held.octets is.kept.key id
+    let made = open_by C l octets first is.entry held.open_as.opener found is.kept.value.message
+    held.octets is.kept.key id
     (of_slot C l (octets + 1) first held is) opened is.ready again in
     (made.1.0, slot_again C l (octets + 1) first held id found is made.0 made.1.1)
 
@@ -172,11 +200,15 @@ module _ (C : Table) (l : Answers) (at : ℕ) (first : FirstRecord) (o : Own) (i
   standing_now : IsCurrentEntry C l at first o → record_kinds.Current ≡ first.«record».record_kind
   standing_now is = sym (standing_in first is.entry is.read ∙ is.entry_is.standing_is)
 
-  pub current_not_open : IsCurrentEntry C l at first o → first.«record».record_kind ≡ record_kinds.Open id → ⊥
-  current_not_open is e = let never : record_kinds.Current ≡ record_kinds.Open id = standing_now is ∙ e in cc
+  pub current_not_open : IsCurrentEntry C l at first o →
+      first.«record».record_kind ≡ record_kinds.Open id → ⊥
+  current_not_open is e = let never : record_kinds.Current ≡ record_kinds.Open id =
+      standing_now is ∙ e in cc
 
-  pub current_not_over : IsCurrentEntry C l at first o → first.«record».record_kind ≡ record_kinds.Over id → ⊥
-  current_not_over is e = let never : record_kinds.Current ≡ record_kinds.Over id = standing_now is ∙ e in cc
+  pub current_not_over : IsCurrentEntry C l at first o →
+      first.«record».record_kind ≡ record_kinds.Over id → ⊥
+  current_not_over is e = let never : record_kinds.Current ≡ record_kinds.Over id =
+      standing_now is ∙ e in cc
 
 -- ---- the open messages that were added
 
@@ -186,17 +218,26 @@ module _ (C : Table) (l : Answers) where
       HasAdded C l before after (held ∷ [])
   added_one before after kept held put is = record { kept = kept ∷ []; are = (is, tt); put = put }
 
-  added_none : (before after : Slots) → after.slots.entries ≡ before.slots.entries → HasAdded C l before after []
-  added_none before after same = record { kept = []; are = tt; put = same ∙ sym (append-nil before.slots.entries) }
+  added_none : (before after : Slots) → after.slots.entries ≡ before.slots.entries →
+      HasAdded C l before after []
+  added_none before after same = record {
+    kept = [];
+    are = tt;
+    put =
+        same ∙ sym (append-nil before.slots.entries);
+  }
 
-  slots_join : (ks more : List OpenEntry) (hs others : List Held) → AreSlots C l ks hs → AreSlots C l more others →
+  slots_join : (ks more : List OpenEntry) (hs others : List Held) → AreSlots C l ks hs →
+      AreSlots C l more others →
       AreSlots C l (ks ++ more) (hs ++ others)
   slots_join [] more [] others are also = also
   slots_join [] more (h ∷ hs) others are also = absurd are
   slots_join (k ∷ ks) more [] others are also = absurd are
-  slots_join (k ∷ ks) more (h ∷ hs) others are also = (are.0, slots_join ks more hs others are.1 also)
+  slots_join (k ∷ ks) more (h ∷ hs) others are also =
+      (are.0, slots_join ks more hs others are.1 also)
 
-  added_more : (before mid after : Slots) (h : Held) (hs : List Held) → HasAdded C l before mid (h ∷ []) →
+  added_more : (before mid after : Slots) (h : Held) (hs : List Held) →
+      HasAdded C l before mid (h ∷ []) →
       HasAdded C l mid after hs → HasAdded C l before after (h ∷ hs)
   added_more before mid after h hs one more = record {
     kept = one.kept ++ more.kept;
@@ -221,10 +262,12 @@ module _ (C : Table) (l : Answers) where
 -- the record that was read first is this entry's, and these are the octets after it
 abbrev pub IsRead : FirstRecord → Entry → List ℕ → Type 0
 IsRead first e rest =
-    (first.«record» ≡ e.record_is) × (first.message ≡ e.message) × (first.frames.now ≡ e.frames) × (first.rest.now ≡ rest)
+    (first.«record» ≡ e.record_is) × (first.message ≡ e.message) × (first.frames.now ≡ e.frames)
+    × (first.rest.now ≡ rest)
 
 -- it is the entry of an open message
-pub record FrontOpen (C : Table) (l : Answers) (at count : ℕ) (first : FirstRecord) (held : List Held) (own : Option Own)
+pub record FrontOpen (C : Table) (l : Answers) (at count : ℕ) (first : FirstRecord)
+    (held : List Held) (own : Option Own)
     : Type 0 where
   pub here : Held
   pub others : List Held
@@ -233,7 +276,8 @@ pub record FrontOpen (C : Table) (l : Answers) (at count : ℕ) (first : FirstRe
   pub left : AreLeft C l at (count - 1) first.rest.now others own
 
 -- or of the current one
-pub record FrontOwn (C : Table) (l : Answers) (at count : ℕ) (first : FirstRecord) (held : List Held) (own : Option Own)
+pub record FrontOwn (C : Table) (l : Answers) (at count : ℕ) (first : FirstRecord)
+    (held : List Held) (own : Option Own)
     : Type 0 where
   pub here : Own
   pub no_held : held ≡ []
@@ -242,7 +286,8 @@ pub record FrontOwn (C : Table) (l : Answers) (at count : ℕ) (first : FirstRec
   pub last : count - 1 ≡ 0
 
 -- what is left to read, by its parts
-record Parts (C : Table) (l : Answers) (at count : ℕ) (octets : List ℕ) (kept : List OpenEntry) (held : List Held)
+record Parts (C : Table) (l : Answers) (at count : ℕ) (octets : List ℕ) (kept : List OpenEntry)
+    (held : List Held)
     (current : Option Message) (own : Option Own) (entries : List Entry) : Type 0 where
   entries_are : AreEntries kept current entries
   count_is : count ≡ length entries
@@ -265,42 +310,56 @@ module _ (C : Table) (l : Answers) (at count : ℕ) (octets : List ℕ) where
     own_ready = left.own_ready;
   }
 
-  pub front_found : (held : List Held) (own : Option Own) → AreLeft C l at count octets held own → (count ≡ 0 → ⊥) →
+  pub front_found : (held : List Held) (own : Option Own) → AreLeft C l at count octets held own →
+      (count ≡ 0 → ⊥) →
       ((e : Entry) (rest : List ℕ) → EntryHasRange e → octets ≡ entry_octets e ++ rest → ⊥) → ⊥
   front_found held own left some read =
-      go left.entries left.count_is left.octets_are (entries_range left.kept left.current left.entries left.entries_are)
+      go left.entries left.count_is left.octets_are
+      (entries_range left.kept left.current left.entries left.entries_are)
     where
-      go : (es : List Entry) → count ≡ length es → octets ≡ flat_map entry_octets es → Each EntryHasRange es → ⊥
+      go : (es : List Entry) → count ≡ length es → octets ≡ flat_map entry_octets es →
+          Each EntryHasRange es → ⊥
       go [] many spelled range = some many
       go (e ∷ es) many spelled range = read e (flat_map entry_octets es) range.0 spelled
 
-  none_by : (slots : Slots) → slots.owner ≡ owners.Current None → count ≡ 0 → (kept : List OpenEntry) (held : List Held)
+  none_by : (slots : Slots) → slots.owner ≡ owners.Current None → count ≡ 0 →
+      (kept : List OpenEntry) (held : List Held)
       (current : Option Message) (own : Option Own) (entries : List Entry) →
       Parts C l at count octets kept held current own entries →
       HasAdded C l slots slots held × IsCurrentOwner C l slots.owner own
-  none_by slots bare none [] [] None own [] is =
-      (added_none C l slots slots refl, subst (λ of. IsCurrentOwner C l of own) (sym bare) (refl, is.own_is))
+  none_by slots bare none [] [] None own [] is = (
+    added_none C l slots slots refl,
+    subst (λ of. IsCurrentOwner C l of own) (sym bare)
+        (refl, is.own_is),
+  )
   none_by slots bare none [] [] None own (e ∷ es) is = absurd is.entries_are
   none_by slots bare none [] [] (Some m) own [] is = absurd is.entries_are
   none_by slots bare none [] [] (Some m) own (e ∷ es) is = absurd (omega (arith, none, is.count_is))
   none_by slots bare none [] (h ∷ hs) current own es is = absurd is.slots_are
   none_by slots bare none (k ∷ ks) [] current own es is = absurd is.slots_are
   none_by slots bare none (k ∷ ks) (h ∷ hs) current own [] is = absurd is.entries_are
-  none_by slots bare none (k ∷ ks) (h ∷ hs) current own (e ∷ es) is = absurd (omega (arith, none, is.count_is))
+  none_by slots bare none (k ∷ ks) (h ∷ hs) current own (e ∷ es) is =
+      absurd (omega (arith, none, is.count_is))
 
-  pub all_none : (slots : Slots) (held : List Held) (own : Option Own) → AreLeft C l at count octets held own →
-      count ≡ 0 → slots.owner ≡ owners.Current None → HasAdded C l slots slots held × IsCurrentOwner C l slots.owner own
+  pub all_none : (slots : Slots) (held : List Held) (own : Option Own) →
+      AreLeft C l at count octets held own →
+      count ≡ 0 → slots.owner ≡ owners.Current None → HasAdded C l slots slots held
+      × IsCurrentOwner C l slots.owner own
   all_none slots held own left none bare =
       none_by slots bare none left.kept held left.current own left.entries (parts_of held own left)
 
   module _ (first : FirstRecord) (some : count ≡ 0 → ⊥)
-      (read : (e : Entry) (rest : List ℕ) → EntryHasRange e → octets ≡ entry_octets e ++ rest → IsRead first e rest) where
-    entry_read : (e : Entry) (es : List Entry) → EntryHasRange e → octets ≡ flat_map entry_octets (e ∷ es) → IsEntry first e
+      (read : (e : Entry) (rest : List ℕ) → EntryHasRange e → octets ≡ entry_octets e ++ rest →
+      IsRead first e rest) where
+    entry_read : (e : Entry) (es : List Entry) → EntryHasRange e →
+        octets ≡ flat_map entry_octets (e ∷ es) → IsEntry first e
     entry_read e es range spelled =
-        let is : IsRead first e (flat_map entry_octets es) = read e (flat_map entry_octets es) range spelled in
+        let is : IsRead first e (flat_map entry_octets es) =
+        read e (flat_map entry_octets es) range spelled in
         record { own = is.0; message = is.1; frames = is.2 }
 
-    front_own : (m : Message) (o : Own) (e : Entry) (es : List Entry) → Parts C l at count octets [] [] (Some m) (Some o) (e ∷ es) →
+    front_own : (m : Message) (o : Own) (e : Entry) (es : List Entry) →
+        Parts C l at count octets [] [] (Some m) (Some o) (e ∷ es) →
         FrontOwn C l at count first [] (Some o)
     front_own m o e es is =
         let none : length es ≡ 0 = ap length is.entries_are.1 in
@@ -319,8 +378,10 @@ module _ (C : Table) (l : Answers) (at count : ℕ) (octets : List ℕ) where
           last = omega (arith, is.count_is, none);
         }
 
-    front_open : (k : OpenEntry) (ks : List OpenEntry) (h : Held) (hs : List Held) (current : Option Message) (own : Option Own)
-        (e : Entry) (es : List Entry) → Parts C l at count octets (k ∷ ks) (h ∷ hs) current own (e ∷ es) →
+    front_open : (k : OpenEntry) (ks : List OpenEntry) (h : Held) (hs : List Held)
+        (current : Option Message) (own : Option Own)
+        (e : Entry) (es : List Entry) → Parts C l at count octets (k ∷ ks) (h ∷ hs) current own
+        (e ∷ es) →
         FrontOpen C l at count first (h ∷ hs) own
     front_open k ks h hs current own e es is = record {
       here = h;
@@ -348,7 +409,8 @@ module _ (C : Table) (l : Answers) (at count : ℕ) (octets : List ℕ) where
       };
     }
 
-    front_by : (kept : List OpenEntry) (held : List Held) (current : Option Message) (own : Option Own) (entries : List Entry) →
+    front_by : (kept : List OpenEntry) (held : List Held) (current : Option Message)
+        (own : Option Own) (entries : List Entry) →
         Parts C l at count octets kept held current own entries →
         FrontOpen C l at count first held own ⊎ FrontOwn C l at count first held own
     front_by [] [] None own [] is = absurd (some is.count_is)
@@ -359,11 +421,13 @@ module _ (C : Table) (l : Answers) (at count : ℕ) (octets : List ℕ) where
     front_by [] (h ∷ hs) current own es is = absurd is.slots_are
     front_by (k ∷ ks) [] current own es is = absurd is.slots_are
     front_by (k ∷ ks) (h ∷ hs) current own [] is = absurd is.entries_are
-    front_by (k ∷ ks) (h ∷ hs) current own (e ∷ es) is = inl (front_open k ks h hs current own e es is)
+    front_by (k ∷ ks) (h ∷ hs) current own (e ∷ es) is =
+        inl (front_open k ks h hs current own e es is)
 
     pub front_is : (held : List Held) (own : Option Own) → AreLeft C l at count octets held own →
         FrontOpen C l at count first held own ⊎ FrontOwn C l at count first held own
-    front_is held own left = front_by left.kept held left.current own left.entries (parts_of held own left)
+    front_is held own left = front_by left.kept held left.current own left.entries
+        (parts_of held own left)
 
 -- ---- all records
 
@@ -372,14 +436,18 @@ false_not_true e = cc
 
 -- all that was left was added
 abbrev pub IsAll : Table → Answers → Bool → Slots → Slots → List Held → Option Own → Type 0
-IsAll C l result before after held own = (result ≡ true) × HasAdded C l before after held × IsCurrentOwner C l after.owner own
+IsAll C l result before after held own =
+    (result ≡ true) × HasAdded C l before after held × IsCurrentOwner C l after.owner own
 
-room_here : (n most : ℕ) (held : List Held) (h : Held) (hs : List Held) → n + length held ≤ most → held ≡ h ∷ hs →
+room_here : (n most : ℕ) (held : List Held) (h : Held) (hs : List Held) → n + length held ≤ most →
+    held ≡ h ∷ hs →
     n + suc (length hs) ≤ most
 room_here n most held h hs room e = omega (arith, room, ap length e)
 
-module _ (C : Table) (l : Answers) (at count : ℕ) (first : FirstRecord) (before mid : Slots) (added : Bool)
-    (slot : (held : Held) → IsOpenEntry C l at first held → length before.slots.entries < before.slots.most →
+module _ (C : Table) (l : Answers) (at count : ℕ) (first : FirstRecord) (before mid : Slots)
+    (added : Bool)
+    (slot : (held : Held) → IsOpenEntry C l at first held →
+    length before.slots.entries < before.slots.most →
     (added ≡ true) × HasAdded C l before mid (held ∷ []) × (mid.owner ≡ before.owner))
     (current : (own : Own) → IsCurrentEntry C l at first own →
     (added ≡ true) × (mid.slots ≡ before.slots) × IsCurrentOwner C l mid.owner (Some own)) where
@@ -388,7 +456,8 @@ module _ (C : Table) (l : Answers) (at count : ℕ) (first : FirstRecord) (befor
       length before.slots.entries + length held ≤ before.slots.most →
       (added ≡ true) × HasAddedFirst C l at count before mid first.rest.now held own
   first_added held own (inl f) room =
-      let few = room_here (length before.slots.entries) before.slots.most held f.here f.others room f.held_are in
+      let few = room_here (length before.slots.entries) before.slots.most held f.here f.others room
+      f.held_are in
       let one = slot f.here f.is (omega (arith, few)) in (
         one.0,
         inl (record {
@@ -413,20 +482,28 @@ module _ (C : Table) (l : Answers) (at count : ℕ) (first : FirstRecord) (befor
         }),
       )
 
-module _ (C : Table) (l : Answers) (at count : ℕ) (before mid after : Slots) (rest : List ℕ) (result : Bool)
+module _ (C : Table) (l : Answers) (at count : ℕ) (before mid after : Slots) (rest : List ℕ)
+    (result : Bool)
     (same_most : mid.slots.most ≡ before.slots.most)
     (none : count - 1 ≡ 0 → (result ≡ true) × (after ≡ mid))
     (again : (hs : List Held) (o : Option Own) → AreLeft C l at (count - 1) rest hs o →
-    length mid.slots.entries + length hs ≤ mid.slots.most → mid.owner ≡ owners.Current None → IsAll C l result mid after hs o) where
-  all_again : (held : List Held) (own : Option Own) → HasAddedFirst C l at count before mid rest held own →
-      length before.slots.entries + length held ≤ before.slots.most → before.owner ≡ owners.Current None → IsAll C l result before after held own
+    length mid.slots.entries + length hs ≤ mid.slots.most → mid.owner ≡ owners.Current None →
+    IsAll C l result mid after hs o) where
+  all_again : (held : List Held) (own : Option Own) →
+      HasAddedFirst C l at count before mid rest held own →
+      length before.slots.entries + length held ≤ before.slots.most →
+      before.owner ≡ owners.Current None → IsAll C l result before after held own
   all_again held own (inl f) room bare =
-      let few = room_here (length before.slots.entries) before.slots.most held f.here f.others room f.held_are in
+      let few = room_here (length before.slots.entries) before.slots.most held f.here f.others room
+      f.held_are in
       let space : length mid.slots.entries + length f.others ≤ mid.slots.most =
       omega (arith, few, same_most, added_long C l before mid f.here f.added) in
       let more = again f.others own f.left space (f.same_owner ∙ bare) in
-      let all = added_more C l before mid after f.here f.others f.added more.1 in
-      (more.0, subst (λ (hs : List Held). HasAdded C l before after hs) (sym f.held_are) all, more.2)
+      let all = added_more C l before mid after f.here f.others f.added more.1 in (
+        more.0,
+        subst (λ (hs : List Held). HasAdded C l before after hs) (sym f.held_are) all,
+        more.2,
+      )
   all_again held own (inr f) room bare =
       let done = none f.last in
       let same : after.slots ≡ before.slots = ap (λ (s : Slots). s.slots) done.1 ∙ f.same in
@@ -437,40 +514,52 @@ module _ (C : Table) (l : Answers) (at count : ℕ) (before mid after : Slots) (
             (subst (λ (s : Slots). IsCurrentOwner C l s.owner (Some f.here)) (sym done.1) f.is),
       )
 
--- Up to `mid` these records were added, and so many are left, in `rest`: whatever adds those has added all.
+-- Up to `mid` these records were added, and so many are left, in `rest`: whatever adds those has
+-- added all.
 abbrev pub Completes : Table → Answers → ℕ → ℕ → List ℕ → Slots → Slots → ℕ → List ℕ → Type 0
 Completes C l at count octets before mid left rest =
     (result : Bool) (after : Slots) → (left ≡ 0 → (result ≡ true) × (after ≡ mid)) →
     ((hs : List Held) (o : Option Own) → AreLeft C l at left rest hs o →
-    length mid.slots.entries + length hs ≤ mid.slots.most → mid.owner ≡ owners.Current None → IsAll C l result mid after hs o) →
+    length mid.slots.entries + length hs ≤ mid.slots.most → mid.owner ≡ owners.Current None →
+    IsAll C l result mid after hs o) →
     (held : List Held) (own : Option Own) → AreLeft C l at count octets held own →
-    length before.slots.entries + length held ≤ before.slots.most → before.owner ≡ owners.Current None →
+    length before.slots.entries + length held ≤ before.slots.most →
+    before.owner ≡ owners.Current None →
     IsAll C l result before after held own
 
 module _ (C : Table) (l : Answers) (at count : ℕ) (octets : List ℕ) (before : Slots) where
   pub none_yet : Completes C l at count octets before before count octets
   none_yet result after none again held own left room bare = again held own left room bare
 
-  module _ (mid : Slots) (left : ℕ) (rest : List ℕ) (before_here : Completes C l at count octets before mid left rest) where
-    pub one_more : (next : Slots) (behind : List ℕ) → (left ≡ 0 → ⊥) → next.slots.most ≡ mid.slots.most →
+  module _ (mid : Slots) (left : ℕ) (rest : List ℕ)
+      (before_here : Completes C l at count octets before mid left rest) where
+    pub one_more : (next : Slots) (behind : List ℕ) → (left ≡ 0 → ⊥) →
+        next.slots.most ≡ mid.slots.most →
         ((hs : List Held) (o : Option Own) → AreLeft C l at left rest hs o →
         length mid.slots.entries + length hs ≤ mid.slots.most → mid.owner ≡ owners.Current None →
         HasAddedFirst C l at left mid next behind hs o) →
         Completes C l at count octets before next (left - 1) behind
     one_more next behind some same_most first result after none again =
         before_here result after (λ z. absurd (some z))
-        (λ hs o are room bare. all_again C l at left mid next after behind result same_most none again hs o (first hs o are room bare) room bare)
+        (λ hs o are room bare. all_again C l at left mid next after behind result same_most none
+        again hs o (first hs o are room bare) room bare)
 
-    pub no_more : left ≡ 0 → (held : List Held) (own : Option Own) → AreLeft C l at count octets held own →
-        length before.slots.entries + length held ≤ before.slots.most → before.owner ≡ owners.Current None → IsAll C l true before mid held own
+    pub no_more : left ≡ 0 → (held : List Held) (own : Option Own) →
+        AreLeft C l at count octets held own →
+        length before.slots.entries + length held ≤ before.slots.most →
+        before.owner ≡ owners.Current None → IsAll C l true before mid held own
     no_more none =
         before_here true mid (λ z. (refl, refl))
-        (λ hs o are room bare. let made = all_none C l at left rest mid hs o are none bare in (refl, made.0, made.1))
+        (λ hs o are room bare. let made = all_none C l at left rest mid hs o are none bare in
+        (refl, made.0, made.1))
 
-    pub not_one : (left ≡ 0 → ⊥) → ((hs : List Held) (o : Option Own) → AreLeft C l at left rest hs o →
-        length mid.slots.entries + length hs ≤ mid.slots.most → mid.owner ≡ owners.Current None → ⊥) →
+    pub not_one : (left ≡ 0 → ⊥) → ((hs : List Held) (o : Option Own) →
+        AreLeft C l at left rest hs o →
+        length mid.slots.entries + length hs ≤ mid.slots.most → mid.owner ≡ owners.Current None →
+        ⊥) →
         (held : List Held) (own : Option Own) → AreLeft C l at count octets held own →
-        length before.slots.entries + length held ≤ before.slots.most → before.owner ≡ owners.Current None → ⊥
+        length before.slots.entries + length held ≤ before.slots.most →
+        before.owner ≡ owners.Current None → ⊥
     not_one some fails held own are room bare =
         let all : IsAll C l false before mid held own = before_here false mid (λ z. absurd (some z))
         (λ hs o here space none. absurd (fails hs o here space none)) held own are room bare in

@@ -1,4 +1,5 @@
--- The fields of an engine that are read from a checkpoint's fixed part show the same state as those that were written.
+-- The fields of an engine that are read from a checkpoint's fixed part show the same state as those
+-- that were written.
 use Rattle.std.proofs.Common.{◌≡◌, ℕ, ◌+◌, ◌-◌, ◌*◌, ◌^◌, ◌<◌, ◌≤◌, Bool, true, false, List, [], ◌++◌, length, flat_map, arith, Option, Some, None, refl, sym, ap, ◌∙◌, subst}
 use Rattle.std.specs.Prelude.{nat_lt, if◌then◌else◌}
 use Rattle.std.proofs.lemmas.Bool.{lt-ltb, le-ltb}
@@ -34,9 +35,11 @@ use Rattle.giop_stream.proofs.Restored.SavedSizes.{entries_count}
 
 -- ---- after the fixed part the records are left to read, and there is room for them
 
-pub spells_left : (octets p : List ℕ) (C : Table) (l : RequestTable) (most : ℕ) (s : Spells octets C l most p) (fixed : Fixed) (records : List ℕ) →
+pub spells_left : (octets p : List ℕ) (C : Table) (l : RequestTable) (most : ℕ)
+    (s : Spells octets C l most p) (fixed : Fixed) (records : List ℕ) →
     fixed ≡ fixed_of C l s.memory → records ≡ flat_map entry_octets s.entries →
-    AreLeft C (by_list l) (fixed.octets + 1) fixed.records records (state_of (rules C l most) p).slots
+    AreLeft C (by_list l) (fixed.octets + 1) fixed.records records
+    (state_of (rules C l most) p).slots
     (state_of (rules C l most) p).own
 unfolding fixed_of
 spells_left octets p C l most s fixed records is are =
@@ -45,10 +48,12 @@ spells_left octets p C l most s fixed records is are =
       current = current_of s.memory.slots.owner;
       entries = s.entries;
       entries_are = s.entries_are;
-      count_is = sym (entries_count s.memory.slots.slots.entries (current_of s.memory.slots.owner) s.entries s.entries_are);
+      count_is = sym (entries_count s.memory.slots.slots.entries (current_of s.memory.slots.owner)
+          s.entries s.entries_are);
       octets_are = are;
       slots_are = s.shows.slots;
-      own_is = own_shown C (by_list l) s.memory.slots.owner (state_of (rules C l most) p) s.shows.owner;
+      own_is = own_shown C (by_list l) s.memory.slots.owner (state_of (rules C l most) p)
+          s.shows.owner;
       each_ready = s.ready.each_ready;
       own_ready = s.ready.current_ready;
     })
@@ -61,30 +66,40 @@ spells_left octets p C l most s fixed records is are =
 pub room_for : (R : Rules) (p : List ℕ) (bare : Slots) → bare.slots.entries ≡ [] →
     length bare.slots.entries + length (state_of R p).slots ≤ R.most
 unfolding state_of
-room_for R p bare none = omega (arith, ap length none, slots_many (octets_of R p) (open_after R.most p), few_open R.most p)
+room_for R p bare none = omega (
+  arith,
+  ap length none,
+  slots_many (octets_of R p) (open_after R.most p),
+  few_open R.most p,
+)
 
 -- the fixed part has the limit of open messages that the stream was read with
-pub limit_is : (octets p : List ℕ) (C : Table) (l : RequestTable) (most : ℕ) (s : Spells octets C l most p) (fixed : Fixed) →
+pub limit_is : (octets p : List ℕ) (C : Table) (l : RequestTable) (most : ℕ)
+    (s : Spells octets C l most p) (fixed : Fixed) →
     fixed ≡ fixed_of C l s.memory → fixed.most_open ≡ most
 unfolding fixed_of
 limit_is octets p C l most s fixed is = ap (λ (f : Fixed). f.most_open) is ∙ s.limit
 
 -- ---- where the stream stands: in a header, in a payload or stopped
 
-behind_none : (found : Option (ℕ × StreamFault)) (held : List ℕ) (fault : StreamFault) → fault_of found ≡ Some fault →
+behind_none : (found : Option (ℕ × StreamFault)) (held : List ℕ) (fault : StreamFault) →
+    fault_of found ≡ Some fault →
     unless found [] held ≡ []
 behind_none None held fault e = absurd cc
 behind_none (Some found) held fault e = refl
 
-held_behind : (R : Rules) (p : List ℕ) (fault : StreamFault) → (state_of R p).stop ≡ Some fault → (state_of R p).held ≡ []
+held_behind : (R : Rules) (p : List ℕ) (fault : StreamFault) → (state_of R p).stop ≡ Some fault →
+    (state_of R p).held ≡ []
 unfolding state_of
 held_behind R p fault e = behind_none (cut p).stop _ fault e
 
 -- in a header that is incomplete, or in a payload
 abbrev running_place : Bool → List ℕ → ℕ → Place
-running_place b header payload_count = if b then Header (record { items = header }) else Payload header (size header - payload_count)
+running_place b header payload_count = if b then Header (record { items = header }) else Payload
+    header (size header - payload_count)
 
-stop_by : (b : Bool) (header : List ℕ) (payload_count : ℕ) → fields.stop_in (running_place b header payload_count) ≡ None
+stop_by : (b : Bool) (header : List ℕ) (payload_count : ℕ) →
+    fields.stop_in (running_place b header payload_count) ≡ None
 stop_by true header payload_count = refl
 stop_by false header payload_count = refl
 
@@ -93,7 +108,8 @@ stop_again : (stopped : Option StreamFault) (header : List ℕ) (payload_count :
 stop_again (Some fault) header payload_count = refl
 stop_again None header payload_count = stop_by (nat_lt (length header) 12) header payload_count
 
-header_by : (b : Bool) (header : List ℕ) (payload_count : ℕ) → fields.header_in (running_place b header payload_count) ≡ header
+header_by : (b : Bool) (header : List ℕ) (payload_count : ℕ) →
+    fields.header_in (running_place b header payload_count) ≡ header
 header_by true header payload_count = refl
 header_by false header payload_count = refl
 
@@ -101,10 +117,12 @@ header_by false header payload_count = refl
 abbrev IsBehind : Option StreamFault → List ℕ → Type 0
 IsBehind stopped header = (fault : StreamFault) → stopped ≡ Some fault → header ≡ []
 
-header_again : (stopped : Option StreamFault) (header : List ℕ) (payload_count : ℕ) → IsBehind stopped header →
+header_again : (stopped : Option StreamFault) (header : List ℕ) (payload_count : ℕ) →
+    IsBehind stopped header →
     fields.header_in (place_of stopped header payload_count) ≡ header
 header_again (Some fault) header payload_count behind = sym (behind fault refl)
-header_again None header payload_count behind = header_by (nat_lt (length header) 12) header payload_count
+header_again None header payload_count behind =
+    header_by (nat_lt (length header) 12) header payload_count
 
 -- how many payload octets have come, from how many are still to come
 abbrev payload_count_of : Bool → List ℕ → ℕ → ℕ
@@ -113,25 +131,33 @@ payload_count_of b header left = if b then 0 else size header - left
 twice : (n k : ℕ) → n - (n - (n - k)) ≡ n - k
 twice n k = omega arith
 
-come_by : (b : Bool) (header : List ℕ) (left payload_count : ℕ) → payload_count ≡ payload_count_of b header left →
+come_by : (b : Bool) (header : List ℕ) (left payload_count : ℕ) →
+    payload_count ≡ payload_count_of b header left →
     fields.payload_count_in (running_place b header payload_count) ≡ payload_count
 come_by true header left payload_count e = sym e
 come_by false header left payload_count e = rw e (twice (size header) left)
 
-come_again : (stopped : Option StreamFault) (header : List ℕ) (left payload_count : ℕ) → IsBehind stopped header →
-    payload_count ≡ payload_count_of (nat_lt (length header) 12) header left → fields.payload_count_in (place_of stopped header payload_count) ≡ payload_count
+come_again : (stopped : Option StreamFault) (header : List ℕ) (left payload_count : ℕ) →
+    IsBehind stopped header →
+    payload_count ≡ payload_count_of (nat_lt (length header) 12) header left →
+    fields.payload_count_in (place_of stopped header payload_count) ≡ payload_count
 come_again (Some fault) header left payload_count behind e =
-    sym (e ∙ ap (λ (xs : List ℕ). payload_count_of (nat_lt (length xs) 12) xs left) (behind fault refl))
-come_again None header left payload_count behind e = come_by (nat_lt (length header) 12) header left payload_count e
+    sym (e ∙ ap (λ (xs : List ℕ). payload_count_of (nat_lt (length xs) 12) xs left)
+    (behind fault refl))
+come_again None header left payload_count behind e =
+    come_by (nat_lt (length header) 12) header left payload_count e
 
 -- ---- the owner of the payload
 
 -- Where the current message was loaded, the owner that is loaded shows this state too.
-owner_again : (C : Table) (l : Answers) (i : Option ℕ) (own : Option Message) (made : PayloadOwner) (many : ℕ) (s : State) → many ≡ length s.slots →
+owner_again : (C : Table) (l : Answers) (i : Option ℕ) (own : Option Message) (made : PayloadOwner)
+    (many : ℕ) (s : State) → many ≡ length s.slots →
     IsOwner C l i own s → IsCurrentOwner C l made s.own →
-    (let of = fields.owner_by (owner_of i own many) many made in IsOwner C l (index_of of) (current_of of) s)
+    (let of = fields.owner_by (owner_of i own many) many made in
+    IsOwner C l (index_of of) (current_of of) s)
 owner_again C l None None made many s long is current = rw current.0 (current.1, is.1)
-owner_again C l None (Some m) made many s long is current = rw (le-ltb many many (omega arith), current.0) (current.1, is.1)
+owner_again C l None (Some m) made many s long is current =
+    rw (le-ltb many many (omega arith), current.0) (current.1, is.1)
 owner_again C l (Some k) own made many s long is current =
     let low : k < many = omega (arith, long, slice_get_within s.slots k is.1.0 is.1.1) in
     rw (lt-ltb k many low, lt-ltb k many low) is
@@ -140,7 +166,12 @@ owner_again C l (Some k) own made many s long is current =
 
 -- the fields as they are read from the fixed part
 pub record IsReadAs (m : FramingView) (fixed : Fixed) (made : Slots) : Type 0 where
-  pub totals : m.totals ≡ record { messages = fixed.messages; faults = fixed.faults; octets = fixed.octets }
+  pub totals : m.totals ≡ record {
+    messages = fixed.messages;
+    faults = fixed.faults;
+    octets =
+        fixed.octets;
+  }
   pub stopped : m.stopped ≡ fields.stop_in fixed.place
   pub header : m.header ≡ fields.header_in fixed.place
   pub payload_count : m.payload_count ≡ fields.payload_count_in fixed.place
@@ -154,13 +185,16 @@ pub record MayBe (fixed : Fixed) (stop : Option StreamFault) (long : ℕ) : Type
   pub faults : fixed.faults ≤ 3 * fixed.octets
   pub held : long ≤ fixed.octets
 
-added_all : (C : Table) (l : Answers) (bare slots : Slots) (held : List Held) → bare.slots.entries ≡ [] →
+added_all : (C : Table) (l : Answers) (bare slots : Slots) (held : List Held) →
+    bare.slots.entries ≡ [] →
     HasAdded C l bare slots held → AreSlots C l slots.slots.entries held
 added_all C l bare slots held none added =
-    let kept : slots.slots.entries ≡ added.kept = added.put ∙ ap (λ (xs : List OpenEntry). xs ++ added.kept) none in
+    let kept : slots.slots.entries ≡ added.kept =
+    added.put ∙ ap (λ (xs : List OpenEntry). xs ++ added.kept) none in
     subst (λ (xs : List OpenEntry). AreSlots C l xs held) (sym kept) added.are
 
-module _ (octets p : List ℕ) (C : Table) (l : RequestTable) (most : ℕ) (s : Spells octets C l most p) where
+module _ (octets p : List ℕ) (C : Table) (l : RequestTable) (most : ℕ)
+    (s : Spells octets C l most p) where
   state : State
   state = state_of (rules C l most) p
 
@@ -168,62 +202,82 @@ module _ (octets p : List ℕ) (C : Table) (l : RequestTable) (most : ℕ) (s : 
   unfolding state
   behind fault e = s.shows.header ∙ held_behind (rules C l most) p fault (sym s.shows.stopped ∙ e)
 
-  come_is : s.memory.payload_count ≡ payload_count_of (nat_lt (length s.memory.header) 12) s.memory.header state.left
+  come_is : s.memory.payload_count ≡ payload_count_of (nat_lt (length s.memory.header) 12)
+      s.memory.header state.left
   unfolding state payload_count_in
   come_is =
       s.shows.payload_count
-      ∙ ap (λ (xs : List ℕ). payload_count_of (nat_lt (length xs) 12) xs (state_of (rules C l most) p).left) (sym s.shows.header)
+      ∙ ap (λ (xs : List ℕ). payload_count_of (nat_lt (length xs) 12) xs
+      (state_of (rules C l most) p).left) (sym s.shows.header)
 
-  owner_is : (many : ℕ) (made : PayloadOwner) → many ≡ length state.slots → IsCurrentOwner C (by_list l) made state.own →
-      (let of = fields.owner_by (owner_of (index_of s.memory.slots.owner) (current_of s.memory.slots.owner) (length s.memory.slots.slots.entries)) many made in
+  owner_is : (many : ℕ) (made : PayloadOwner) → many ≡ length state.slots →
+      IsCurrentOwner C (by_list l) made state.own →
+      (let of = fields.owner_by (owner_of (index_of s.memory.slots.owner)
+      (current_of s.memory.slots.owner) (length s.memory.slots.slots.entries)) many made in
       IsOwner C (by_list l) (index_of of) (current_of of) state)
   unfolding state
   owner_is many made long own =
-      let kept = are_as_many C (by_list l) s.memory.slots.slots.entries (state_of (rules C l most) p).slots s.shows.slots in
+      let kept = are_as_many C (by_list l) s.memory.slots.slots.entries
+      (state_of (rules C l most) p).slots s.shows.slots in
       let same : many ≡ length s.memory.slots.slots.entries = long ∙ sym kept in
-      rw same (owner_again C (by_list l) (index_of s.memory.slots.owner) (current_of s.memory.slots.owner) made (length s.memory.slots.slots.entries) state kept s.shows.owner own)
+      rw same (owner_again C (by_list l) (index_of s.memory.slots.owner)
+      (current_of s.memory.slots.owner) made (length s.memory.slots.slots.entries) state kept
+      s.shows.owner own)
 
   module _ (m : FramingView) (bare slots : Slots) (none : bare.slots.entries ≡ []) where
-    shows_fixed : IsReadAs m (fixed_of C l s.memory) slots → HasAdded C (by_list l) bare slots state.slots →
+    shows_fixed : IsReadAs m (fixed_of C l s.memory) slots →
+        HasAdded C (by_list l) bare slots state.slots →
         IsCurrentOwner C (by_list l) slots.owner state.own → Shows C (by_list l) m state
     unfolding state fixed_of
     shows_fixed is added own =
         let all = added_all C (by_list l) bare slots state.slots none added in
         record {
           totals = is.totals ∙ s.shows.totals;
-          stopped = is.stopped ∙ stop_again s.memory.stopped s.memory.header s.memory.payload_count ∙ s.shows.stopped;
-          header = is.header ∙ header_again s.memory.stopped s.memory.header s.memory.payload_count behind ∙ s.shows.header;
+          stopped = is.stopped ∙ stop_again s.memory.stopped s.memory.header s.memory.payload_count
+              ∙ s.shows.stopped;
+          header = is.header ∙ header_again s.memory.stopped s.memory.header s.memory.payload_count
+              behind ∙ s.shows.header;
           payload_count = is.payload_count
-              ∙ come_again s.memory.stopped s.memory.header state.left s.memory.payload_count behind come_is
+              ∙ come_again s.memory.stopped s.memory.header state.left s.memory.payload_count behind
+              come_is
               ∙ s.shows.payload_count;
-          slots = subst (λ (xs : List OpenEntry). AreSlots C (by_list l) xs state.slots) (sym (ap (λ s. s.entries) is.slots)) all;
-          owner = subst (λ of. IsOwner C (by_list l) (index_of of) (current_of of) state) (sym is.owner)
-              (owner_is (length slots.slots.entries) slots.owner (are_as_many C (by_list l) slots.slots.entries state.slots all) own);
+          slots = subst (λ (xs : List OpenEntry). AreSlots C (by_list l) xs state.slots)
+              (sym (ap (λ s. s.entries) is.slots)) all;
+          owner = subst (λ of. IsOwner C (by_list l) (index_of of) (current_of of) state)
+              (sym is.owner)
+              (owner_is (length slots.slots.entries) slots.owner
+              (are_as_many C (by_list l) slots.slots.entries state.slots all) own);
         }
 
     pub shows_again : (fixed : Fixed) → fixed ≡ fixed_of C l s.memory → IsReadAs m fixed slots →
         HasAdded C (by_list l) bare slots (state_of (rules C l most) p).slots →
-        IsCurrentOwner C (by_list l) slots.owner (state_of (rules C l most) p).own → Shows C (by_list l) m (state_of (rules C l most) p)
+        IsCurrentOwner C (by_list l) slots.owner (state_of (rules C l most) p).own →
+        Shows C (by_list l) m (state_of (rules C l most) p)
     unfolding state
-    shows_again fixed e is added own = shows_fixed (subst (λ (f : Fixed). IsReadAs m f slots) e is) added own
+    shows_again fixed e is added own = shows_fixed (subst (λ (f : Fixed). IsReadAs m f slots) e is)
+        added own
 
   module _ (stop : Option StreamFault) (long : ℕ) where
     totals_fixed : stop ≡ fields.stop_in (fixed_of C l s.memory).place →
-        long ≡ length (fields.header_in (fixed_of C l s.memory).place) → MayBe (fixed_of C l s.memory) stop long
+        long ≡ length (fields.header_in (fixed_of C l s.memory).place) →
+        MayBe (fixed_of C l s.memory) stop long
     unfolding fixed_of
     totals_fixed stopped same =
         let may : AreTotals s.memory = may_be_again octets p C l most s in
         let held = header_again s.memory.stopped s.memory.header s.memory.payload_count behind in
         record {
-          running = λ e. may.running (sym (stop_again s.memory.stopped s.memory.header s.memory.payload_count) ∙ sym stopped ∙ e);
+          running = λ e. may.running (sym (stop_again s.memory.stopped s.memory.header
+              s.memory.payload_count) ∙ sym stopped ∙ e);
           messages = may.messages;
           faults = may.faults;
           held = omega (arith, may.held, same, ap length held);
         }
 
-    pub totals_again : (fixed : Fixed) → fixed ≡ fixed_of C l s.memory → stop ≡ fields.stop_in fixed.place →
+    pub totals_again : (fixed : Fixed) → fixed ≡ fixed_of C l s.memory →
+        stop ≡ fields.stop_in fixed.place →
         long ≡ length (fields.header_in fixed.place) → MayBe fixed stop long
     totals_again fixed e = subst P (sym e) totals_fixed
       where
         P : Fixed → Type 0
-        P f = stop ≡ fields.stop_in f.place → long ≡ length (fields.header_in f.place) → MayBe f stop long
+        P f = stop ≡ fields.stop_in f.place → long ≡ length (fields.header_in f.place) →
+            MayBe f stop long

@@ -27,16 +27,19 @@ use Rattle.giop_stream.proofs.Restored.LoadRanges.{few_slots}
 use Rattle.giop_stream.proofs.Restored.SavedSizes.{HasRoom, whole_long, whole_within}
 use Rattle.giop_stream.specs.Checkpoint.{standing_of, IsHeld, IsStored, IsOpen, IsMessageRecord, IsCurrent, IsPutOne, IsPut, AreOpen, AreEntries, fixed_of, checkpoint_octets, IsPutWhole, Puts, PutsSuch, Spells, Saves}
 
-pub flat_append : (xs ys : List Entry) → flat_map entry_octets (xs ++ ys) ≡ flat_map entry_octets xs ++ flat_map entry_octets ys
+pub flat_append : (xs ys : List Entry) → flat_map entry_octets (xs ++ ys) ≡ flat_map entry_octets xs
+    ++ flat_map entry_octets ys
 flat_append [] ys = refl
 flat_append (x ∷ xs) ys =
-    ap (λ (zs : List ℕ). entry_octets x ++ zs) (flat_append xs ys) ∙ sym (append_assoc (entry_octets x) (flat_map entry_octets xs) (flat_map entry_octets ys))
+    ap (λ (zs : List ℕ). entry_octets x ++ zs) (flat_append xs ys)
+    ∙ sym (append_assoc (entry_octets x) (flat_map entry_octets xs) (flat_map entry_octets ys))
 
 pub flat_one : (e : Entry) → flat_map entry_octets (e ∷ []) ≡ entry_octets e
 flat_one e = append-nil (entry_octets e)
 
 -- the entries with one open message more
-pub entries_push : (slots : List OpenEntry) (slot : OpenEntry) (es : List Entry) (e : Entry) → AreOpen slots es → IsOpen slot e
+pub entries_push : (slots : List OpenEntry) (slot : OpenEntry) (es : List Entry) (e : Entry) →
+    AreOpen slots es → IsOpen slot e
     → AreOpen (slots ++ slot ∷ []) (es ++ e ∷ [])
 entries_push [] slot [] e are is = (is, tt)
 entries_push [] slot (f ∷ es) e are is = absurd are
@@ -44,27 +47,33 @@ entries_push (s ∷ slots) slot [] e are is = absurd are
 entries_push (s ∷ slots) slot (f ∷ es) e are is = (are.0, entries_push slots slot es e are.1 is)
 
 -- and with the current one at the end
-pub entries_own : (slots : List OpenEntry) (m : Message) (es : List Entry) (e : Entry) → AreOpen slots es → IsCurrent m e → AreEntries slots (Some m) (es ++ e ∷ [])
+pub entries_own : (slots : List OpenEntry) (m : Message) (es : List Entry) (e : Entry) →
+    AreOpen slots es → IsCurrent m e → AreEntries slots (Some m) (es ++ e ∷ [])
 entries_own [] m [] e are is = (is, refl)
 entries_own [] m (f ∷ es) e are is = absurd are
 entries_own (s ∷ slots) m [] e are is = absurd are
 entries_own (s ∷ slots) m (f ∷ es) e are is = (are.0, entries_own slots m es e are.1 is)
 
-pub put_more : (slots : List OpenEntry) (slot : OpenEntry) (before between after : List ℕ) → IsPut before between (AreOpen slots) → IsPutOne between after (IsOpen slot)
+pub put_more : (slots : List OpenEntry) (slot : OpenEntry) (before between after : List ℕ) →
+    IsPut before between (AreOpen slots) → IsPutOne between after (IsOpen slot)
     → IsPut before after (AreOpen (slots ++ slot ∷ []))
 put_more slots slot before between after some one = record {
   entries = some.entries ++ one.entry ∷ [];
   are = entries_push slots slot some.entries one.entry some.are one.is;
-  put = then before between after (flat_map entry_octets some.entries) (entry_octets one.entry) some.put one.put
+  put = then before between after (flat_map entry_octets some.entries) (entry_octets one.entry)
+      some.put one.put
       ∙ ap (λ (xs : List ℕ). before ++ xs) (sym
       (flat_append some.entries (one.entry ∷ [])
       ∙ ap (λ (xs : List ℕ). flat_map entry_octets some.entries ++ xs) (flat_one one.entry)));
 }
 
 -- a message that is over is written as zeros, after the record's own octets
-pub over_is : (slot : OpenEntry) (r : Record) (before between after : List ℕ) → slot.value.message ≡ None → RecordHasRange r
-    → r.frames ≡ 0 → r.record_kind ≡ record_kinds.Over slot.key → r.number ≡ slot.value.number → r.header ≡ slot.value.header
-    → between ≡ before ++ own_octets r → after ≡ between ++ replicate 224 0 → IsPutOne before after (IsOpen slot)
+pub over_is : (slot : OpenEntry) (r : Record) (before between after : List ℕ) →
+    slot.value.message ≡ None → RecordHasRange r
+    → r.frames ≡ 0 → r.record_kind ≡ record_kinds.Over slot.key → r.number ≡ slot.value.number →
+    r.header ≡ slot.value.header
+    → between ≡ before ++ own_octets r → after ≡ between ++ replicate 224 0 →
+    IsPutOne before after (IsOpen slot)
 over_is slot r before between after none range few record_kind number header put zeros = record {
   entry = record { record_is = r; message = replicate 224 0; frames = [] };
   is = record {
@@ -78,19 +87,22 @@ over_is slot r before between after none range few record_kind number header put
       ∙ ap (λ (xs : List ℕ). before ++ xs) (sym (append-nil (own_octets r ++ replicate 224 0)));
 }
   where
-    stored_over : (m : Option Message) → m ≡ None → IsStored m (record { record_is = r; message = replicate 224 0; frames = [] })
+    stored_over : (m : Option Message) → m ≡ None →
+        IsStored m (record { record_is = r; message = replicate 224 0; frames = [] })
     stored_over None e = (refl, refl)
     stored_over (Some m) e = absurd (let no : Some m ≡ None = e in cc)
 
 -- a message that isn't over
 pub open_is : (slot : OpenEntry) (m : Message) (before after : List ℕ) → slot.value.message ≡ Some m
-    → IsPutOne before after (IsMessageRecord (record_kinds.Open slot.key) slot.value.number slot.value.header m)
+    → IsPutOne before after (IsMessageRecord (record_kinds.Open slot.key) slot.value.number
+    slot.value.header m)
     → IsPutOne before after (IsOpen slot)
 open_is slot m before after some put = record {
   entry = put.entry;
   is = record {
     range = put.is.range;
-    record_kind = put.is.standing_is ∙ ap (λ (n : Option Message). standing_of n slot.key) (sym some);
+    record_kind = put.is.standing_is ∙ ap (λ (n : Option Message). standing_of n slot.key)
+        (sym some);
     number = put.is.number_is;
     header = put.is.header_is;
     message = stored_kept slot.value.message some;
@@ -106,21 +118,26 @@ open_is slot m before after some put = record {
     stored_kept (Some n) e = subst (λ x. IsHeld x put.entry) (sym (some_is n m e)) put.is.message
 
 -- an entry's three parts, written one after the other
-pub kept_put : (before a b after : List ℕ) (e : Entry) → a ≡ before ++ own_octets e.record_is → b ≡ a ++ e.message
+pub kept_put : (before a b after : List ℕ) (e : Entry) → a ≡ before ++ own_octets e.record_is →
+    b ≡ a ++ e.message
     → after ≡ b ++ e.frames → after ≡ before ++ entry_octets e
 kept_put before a b after e first second third =
-    then before b after (own_octets e.record_is ++ e.message) e.frames (then before a b (own_octets e.record_is) e.message first second) third
+    then before b after (own_octets e.record_is ++ e.message) e.frames
+    (then before a b (own_octets e.record_is) e.message first second) third
 
-pub ready_fits : (C : Table) (at : ℕ) (o : Option Message) (m : Message) → o ≡ Some m → IsReady C at o → Fits C m
+pub ready_fits : (C : Table) (at : ℕ) (o : Option Message) (m : Message) → o ≡ Some m →
+    IsReady C at o → Fits C m
 ready_fits C at None m e ready = absurd (let no : None ≡ Some m = e in cc)
-ready_fits C at (Some n) m e ready = let P : Message → Type 0 = λ x. Fits C x in subst P (same n m e) ready.0
+ready_fits C at (Some n) m e ready = let P : Message → Type 0 = λ x. Fits C x in
+    subst P (same n m e) ready.0
   where
     same : (x y : Message) → Some x ≡ Some y → x ≡ y
     same x y e = cc
 
 -- ---- the whole checkpoint
 
-pub whole_is : (C : Table) (l : RequestTable) (m : FramingView) (fixed after : List ℕ) → current_of m.slots.owner ≡ None → fixed ≡ fixed_octets Third (fixed_of C l m)
+pub whole_is : (C : Table) (l : RequestTable) (m : FramingView) (fixed after : List ℕ) →
+    current_of m.slots.owner ≡ None → fixed ≡ fixed_octets Third (fixed_of C l m)
     → IsPut fixed after (AreOpen m.slots.slots.entries) → IsPutWhole Third C l m after
 unfolding checkpoint_octets
 whole_is C l m fixed after none e p = record {
@@ -133,16 +150,20 @@ whole_is C l m fixed after none e p = record {
     own_none None e = p.are
     own_none (Some x) e = absurd (let no : Some x ≡ None = e in cc)
 
-pub whole_own : (C : Table) (l : RequestTable) (m : FramingView) (x : Message) (fixed between after : List ℕ) → current_of m.slots.owner ≡ Some x
+pub whole_own : (C : Table) (l : RequestTable) (m : FramingView) (x : Message)
+    (fixed between after : List ℕ) → current_of m.slots.owner ≡ Some x
     → fixed ≡ fixed_octets Third (fixed_of C l m)
-    → IsPut fixed between (AreOpen m.slots.slots.entries) → IsPutOne between after (IsCurrent x) → IsPutWhole Third C l m after
+    → IsPut fixed between (AreOpen m.slots.slots.entries) → IsPutOne between after (IsCurrent x) →
+    IsPutWhole Third C l m after
 unfolding checkpoint_octets
 whole_own C l m x fixed between after some e p one = record {
   entries = p.entries ++ one.entry ∷ [];
   are = own_some (current_of m.slots.owner) some;
   put = one.put
-      ∙ ap (λ (xs : List ℕ). xs ++ entry_octets one.entry) (p.put ∙ ap (λ (xs : List ℕ). xs ++ flat_map entry_octets p.entries) e)
-      ∙ append_assoc (fixed_octets Third (fixed_of C l m)) (flat_map entry_octets p.entries) (entry_octets one.entry)
+      ∙ ap (λ (xs : List ℕ). xs ++ entry_octets one.entry)
+      (p.put ∙ ap (λ (xs : List ℕ). xs ++ flat_map entry_octets p.entries) e)
+      ∙ append_assoc (fixed_octets Third (fixed_of C l m)) (flat_map entry_octets p.entries)
+      (entry_octets one.entry)
       ∙ ap (λ (xs : List ℕ). fixed_octets Third (fixed_of C l m) ++ xs)
       (sym (flat_append p.entries (one.entry ∷ [])
       ∙ ap (λ (xs : List ℕ). flat_map entry_octets p.entries ++ xs) (flat_one one.entry)));
@@ -151,32 +172,45 @@ whole_own C l m x fixed between after some e p one = record {
     same : (y : Message) → Some y ≡ Some x → y ≡ x
     same y e = cc
 
-    own_some : (o : Option Message) → o ≡ Some x → AreEntries m.slots.slots.entries o (p.entries ++ one.entry ∷ [])
+    own_some : (o : Option Message) → o ≡ Some x →
+        AreEntries m.slots.slots.entries o (p.entries ++ one.entry ∷ [])
     own_some None e = absurd (let no : None ≡ Some x = e in cc)
     own_some (Some y) e =
-        let P : Message → Type 0 = λ z. AreEntries m.slots.slots.entries (Some z) (p.entries ++ one.entry ∷ []) in
-        subst P (sym (same y e)) (entries_own m.slots.slots.entries x p.entries one.entry p.are one.is)
+        let P : Message → Type 0 = λ z. AreEntries m.slots.slots.entries (Some z)
+        (p.entries ++ one.entry ∷ []) in
+        subst P (sym (same y e)) (entries_own m.slots.slots.entries x p.entries one.entry p.are
+        one.is)
 
 -- ---- the loop over the open messages
 
-pub put_read : (slots : List OpenEntry) (i : ℕ) (slot : OpenEntry) (before between after : List ℕ) → i < length slots
-    → slot ≡ get_or slots i slot → IsPut before between (AreOpen (take i slots)) → IsPutOne between after (IsOpen slot)
+pub put_read : (slots : List OpenEntry) (i : ℕ) (slot : OpenEntry) (before between after : List ℕ) →
+    i < length slots
+    → slot ≡ get_or slots i slot → IsPut before between (AreOpen (take i slots)) →
+    IsPutOne between after (IsOpen slot)
     → IsPut before after (AreOpen (take (i + 1) slots))
 put_read slots i slot before between after low is some one =
     let P : List OpenEntry → Type 0 = λ xs. IsPut before after (AreOpen xs) in
-    subst P (ap (λ (x : OpenEntry). take i slots ++ x ∷ []) is ∙ sym (take_at_read slots i slot low).1) (put_more (take i slots) slot before between after some one)
+    subst P (ap (λ (x : OpenEntry). take i slots ++ x ∷ []) is
+    ∙ sym (take_at_read slots i slot low).1)
+    (put_more (take i slots) slot before between after some one)
 
-pub ready_at : (C : Table) (at : ℕ) (slots : List OpenEntry) (i : ℕ) (slot : OpenEntry) → i < length slots
-    → slot ≡ get_or slots i slot → Each (λ s. IsReady C at s.value.message) slots → IsReady C at slot.value.message
-ready_at C at slots i slot low is ready = let P : OpenEntry → Type 0 = λ s. IsReady C at s.value.message in subst P (sym is) (read slots i low ready)
+pub ready_at : (C : Table) (at : ℕ) (slots : List OpenEntry) (i : ℕ) (slot : OpenEntry) →
+    i < length slots
+    → slot ≡ get_or slots i slot → Each (λ s. IsReady C at s.value.message) slots →
+    IsReady C at slot.value.message
+ready_at C at slots i slot low is ready = let P : OpenEntry → Type 0 =
+    λ s. IsReady C at s.value.message in subst P (sym is) (read slots i low ready)
   where
-    read : (xs : List OpenEntry) (j : ℕ) → j < length xs → Each (λ s. IsReady C at s.value.message) xs → IsReady C at (get_or xs j slot).value.message
+    read : (xs : List OpenEntry) (j : ℕ) → j < length xs →
+        Each (λ s. IsReady C at s.value.message) xs → IsReady C at (get_or xs j slot).value.message
     read [] j low ready = absurd (omega (arith, low))
     read (x ∷ xs) zero low ready = ready.0
     read (x ∷ xs) (suc j) low ready = read xs j (omega (arith, low)) ready.1
 
-pub current_is : (m : Message) (number : ℕ) (header before after : List ℕ) → number ≡ m.number → header ≡ m.header
-    → IsPutOne before after (IsMessageRecord record_kinds.Current number header m) → IsPutOne before after (IsCurrent m)
+pub current_is : (m : Message) (number : ℕ) (header before after : List ℕ) → number ≡ m.number →
+    header ≡ m.header
+    → IsPutOne before after (IsMessageRecord record_kinds.Current number header m) →
+    IsPutOne before after (IsCurrent m)
 current_is m number header before after n h put = record {
   entry = put.entry;
   is = record {
@@ -196,50 +230,72 @@ pub put_none_yet : (a : OutLog) → Puts (Ok 0) a a []
 put_none_yet a = record { written = wrote-nil a; count = refl }
 
 -- a record that was composed by itself, after others
-pub put_behind : (none front octets items : List ℕ) (Is : Entry → Type 0) → none ≡ [] → octets ≡ items → IsPutOne none items Is
+pub put_behind : (none front octets items : List ℕ) (Is : Entry → Type 0) → none ≡ [] →
+    octets ≡ items → IsPutOne none items Is
     → IsPutOne front (front ++ octets) Is
 put_behind none front octets items Is e value one = record {
   entry = one.entry;
   is = one.is;
-  put = ap (λ (xs : List ℕ). front ++ xs) (value ∙ one.put ∙ ap (λ (xs : List ℕ). xs ++ entry_octets one.entry) e);
+  put = ap (λ (xs : List ℕ). front ++ xs)
+      (value ∙ one.put ∙ ap (λ (xs : List ℕ). xs ++ entry_octets one.entry) e);
 }
 
 -- the records of all the open messages
-pub puts_all : (slots : List OpenEntry) (i : ℕ) (result : Result ℕ OutFault) (before after : OutLog) (front : List ℕ) → length slots ≤ i
+pub puts_all : (slots : List OpenEntry) (i : ℕ) (result : Result ℕ OutFault) (before after : OutLog)
+    (front : List ℕ) → length slots ≤ i
     → PutsSuch result before after (λ octets. IsPut front octets (AreOpen (take i slots)))
     → PutsSuch result before after (λ octets. IsPut front octets (AreOpen slots))
 puts_all slots i result before after front high some =
-    let P : List OpenEntry → Type 0 = λ xs. PutsSuch result before after (λ octets. IsPut front octets (AreOpen xs)) in subst P (take_all i slots high) some
+    let P : List OpenEntry → Type 0 = λ xs.
+    PutsSuch result before after (λ octets. IsPut front octets (AreOpen xs)) in
+    subst P (take_all i slots high) some
 
-pub ok_within : (r : Result ℕ OutFault) (a b : ℕ) → a ≤ b → IfOk r (λ n. n ≤ a) → IfOk r (λ n. n ≤ b)
+pub ok_within : (r : Result ℕ OutFault) (a b : ℕ) → a ≤ b → IfOk r (λ n. n ≤ a) →
+    IfOk r (λ n. n ≤ b)
 ok_within (Ok n) a b h c = omega (arith, h, c)
 ok_within (Err f) a b h c = tt
 
 -- a put had failed before the call
-pub puts_failed : (w r : Result ℕ OutFault) (before after : OutLog) (front octets : List ℕ) (f : OutFault) → w ≡ Err f
+pub puts_failed : (w r : Result ℕ OutFault) (before after : OutLog) (front octets : List ℕ)
+    (f : OutFault) → w ≡ Err f
     → IsErr r → Puts w before after front → Puts r before after (front ++ octets)
-puts_failed (Ok n) r before after front octets f e is puts = absurd (let no : Ok n ≡ Err f = e in cc)
+puts_failed (Ok n) r before after front octets f e is puts =
+    absurd (let no : Ok n ≡ Err f = e in cc)
 puts_failed (Err h) (Ok n) before after front octets f e is puts = absurd (false≢true is)
-puts_failed (Err h) (Err i) before after front octets f e is puts = record { written = front-append before after front octets puts.written; count = tt }
+puts_failed (Err h) (Err i) before after front octets f e is puts =
+    record { written = front-append before after front octets puts.written; count = tt }
 
 -- a put fails in the call
-pub puts_stopped : (w r : Result ℕ OutFault) (before between after : OutLog) (front octets : List ℕ) (n : ℕ) → w ≡ Ok n
-    → IsErr r → Puts w before between front → WroteFront between after octets → Puts r before after (front ++ octets)
-puts_stopped (Err h) r before between after front octets n e is puts front_is = absurd (let no : Err h ≡ Ok n = e in cc)
-puts_stopped (Ok m) (Ok k) before between after front octets n e is puts front_is = absurd (false≢true is)
+pub puts_stopped : (w r : Result ℕ OutFault) (before between after : OutLog) (front octets : List ℕ)
+    (n : ℕ) → w ≡ Ok n
+    → IsErr r → Puts w before between front → WroteFront between after octets →
+    Puts r before after (front ++ octets)
+puts_stopped (Err h) r before between after front octets n e is puts front_is =
+    absurd (let no : Err h ≡ Ok n = e in cc)
+puts_stopped (Ok m) (Ok k) before between after front octets n e is puts front_is =
+    absurd (false≢true is)
 puts_stopped (Ok m) (Err i) before between after front octets n e is puts front_is =
-    record { written = wrote-front before between after front octets puts.written front_is; count = tt }
+    record {
+      written = wrote-front before between after front octets puts.written front_is;
+      count =
+          tt;
+    }
 
 -- ---- an engine's checkpoint
 
-pub saved_is : (e v : EngineView) (p octets : List ℕ) (result : Result ℕ Stop) (before after : OutLog) → e ≡ v
-    → v.stream.slots.slots.most ≡ v.most → Holds e p → IsPutWhole Third v.table v.request_table v.stream octets
+pub saved_is : (e v : EngineView) (p octets : List ℕ) (result : Result ℕ Stop)
+    (before after : OutLog) → e ≡ v
+    → v.stream.slots.slots.most ≡ v.most → Holds e p →
+    IsPutWhole Third v.table v.request_table v.stream octets
     → HasRoom Third v.table v.request_table v.stream → StopWrites result before after octets
-    → IfOk result (λ n. n ≡ length octets) → Saves result before after e.table e.request_table e.most p
+    → IfOk result (λ n. n ≡ length octets) →
+    Saves result before after e.table e.request_table e.most p
 saved_is e v p octets result before after same limit holds put room written count =
-    let whole = subst (λ x. IsPutWhole Third x.table x.request_table x.stream octets) (sym same) put in
+    let whole = subst (λ x. IsPutWhole Third x.table x.request_table x.stream octets) (sym same) put
+    in
     let here = subst (λ x. HasRoom Third x.table x.request_table x.stream) (sym same) room in
-    let limit_here = subst (λ (x : EngineView). x.stream.slots.slots.most ≡ x.most) (sym same) limit in
+    let limit_here = subst (λ (x : EngineView). x.stream.slots.slots.most ≡ x.most) (sym same) limit
+    in
     let size = whole_long Third e.table e.request_table e.stream octets whole here in
     let spells : Spells octets e.table e.request_table e.most p = record {
       layout = Third;
@@ -261,5 +317,10 @@ saved_is e v p octets result before after same limit holds put room written coun
       written = written;
       count = count;
       size = size;
-      within = omega (arith, size, whole_within Third e.table e.request_table e.stream e.most octets whole here few);
+      within = omega (
+        arith,
+        size,
+        whole_within Third e.table e.request_table e.stream e.most octets
+            whole here few,
+      );
     }

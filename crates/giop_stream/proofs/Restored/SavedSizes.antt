@@ -20,7 +20,8 @@ use Rattle.giop_stream.specs.Checkpoint.{IsStored, AreEntries, fixed_of, count_o
 
 -- ---- records
 
-pub entry_long : (e : Entry) → EntryHasRange e → length (entry_octets e) ≡ 256 + FRAME_SIZE * e.record_is.frames
+pub entry_long : (e : Entry) → EntryHasRange e →
+    length (entry_octets e) ≡ 256 + FRAME_SIZE * e.record_is.frames
 entry_long e h =
     omega (
       arith,
@@ -31,24 +32,29 @@ entry_long e h =
       h.frames,
     )
 
-entries_long : (es : List Entry) → Each EntryHasRange es → length (flat_map entry_octets es) ≡ entries_size es
+entries_long : (es : List Entry) → Each EntryHasRange es →
+    length (flat_map entry_octets es) ≡ entries_size es
 entries_long [] h = refl
 entries_long (e ∷ es) h =
     let here : ℕ = 256 + FRAME_SIZE * e.record_is.frames in
     length-append (entry_octets e) (flat_map entry_octets es)
-    ∙ (ap (λ n. n + length (flat_map entry_octets es)) (entry_long e h.0) ∙ ap (λ n. here + n) (entries_long es h.1))
+    ∙ (ap (λ n. n + length (flat_map entry_octets es)) (entry_long e h.0)
+    ∙ ap (λ n. here + n) (entries_long es h.1))
 
 more_within : (w n here rest : ℕ) → here ≤ w → rest ≤ n * w → here + rest ≤ suc n * w
 more_within w n here rest one others = omega (arith, one, others, suc-mul n w)
 
-entries_within : (d : ℕ) (es : List Entry) → Each (λ e. e.record_is.frames ≤ d) es → entries_size es ≤ length es * (256 + FRAME_SIZE * d)
+entries_within : (d : ℕ) (es : List Entry) → Each (λ e. e.record_is.frames ≤ d) es →
+    entries_size es ≤ length es * (256 + FRAME_SIZE * d)
 entries_within d [] h = omega arith
 entries_within d (e ∷ es) h =
-    more_within (256 + FRAME_SIZE * d) (length es) (256 + FRAME_SIZE * e.record_is.frames) (entries_size es) (omega (arith, h.0)) (entries_within d es h.1)
+    more_within (256 + FRAME_SIZE * d) (length es) (256 + FRAME_SIZE * e.record_is.frames)
+    (entries_size es) (omega (arith, h.0)) (entries_within d es h.1)
 
 -- ---- the records of the messages
 
-pub entries_count : (slots : List OpenEntry) (own : Option Message) (es : List Entry) → AreEntries slots own es → length es ≡ length slots + count_own own
+pub entries_count : (slots : List OpenEntry) (own : Option Message) (es : List Entry) →
+    AreEntries slots own es → length es ≡ length slots + count_own own
 entries_count [] None [] are = refl
 entries_count [] None (e ∷ es) are = absurd are
 entries_count [] (Some m) [] are = absurd are
@@ -56,22 +62,28 @@ entries_count [] (Some m) (e ∷ es) are = ap (λ (xs : List Entry). suc (length
 entries_count (slot ∷ slots) own [] are = absurd are
 entries_count (slot ∷ slots) own (e ∷ es) are = omega (arith, entries_count slots own es are.1)
 
-pub entries_range : (slots : List OpenEntry) (own : Option Message) (es : List Entry) → AreEntries slots own es → Each EntryHasRange es
+pub entries_range : (slots : List OpenEntry) (own : Option Message) (es : List Entry) →
+    AreEntries slots own es → Each EntryHasRange es
 entries_range [] None [] are = tt
 entries_range [] None (e ∷ es) are = absurd are
 entries_range [] (Some m) [] are = absurd are
 entries_range [] (Some m) (e ∷ []) are = (are.0.range, tt)
-entries_range [] (Some m) (e ∷ f ∷ es) are = absurd (let none : suc (length es) ≡ 0 = ap length are.1 in omega (arith, none))
+entries_range [] (Some m) (e ∷ f ∷ es) are =
+    absurd (let none : suc (length es) ≡ 0 = ap length are.1 in omega (arith, none))
 entries_range (slot ∷ slots) own [] are = absurd are
 entries_range (slot ∷ slots) own (e ∷ es) are = (are.0.range, entries_range slots own es are.1)
 
-stored_shallow : (C : Table) (at : ℕ) (m : Option Message) (e : Entry) → EntryHasRange e → IsReady C at m → IsStored m e →
+stored_shallow : (C : Table) (at : ℕ) (m : Option Message) (e : Entry) → EntryHasRange e →
+    IsReady C at m → IsStored m e →
     e.record_is.frames ≤ depth_of C.types
-stored_shallow C at None e range ready is = let none : length e.frames ≡ 0 = ap length is.1 in omega (arith, none, range.frames)
+stored_shallow C at None e range ready is = let none : length e.frames ≡ 0 = ap length is.1 in
+    omega (arith, none, range.frames)
 stored_shallow C at (Some m) e range ready is = is.shallow C ready.0
 
-entries_shallow : (C : Table) (at : ℕ) (slots : List OpenEntry) (own : Option Message) (es : List Entry) → AreEntries slots own es →
-    Each (λ s. IsReady C at s.value.message) slots → IsReady C at own → Each (λ e. e.record_is.frames ≤ depth_of C.types) es
+entries_shallow : (C : Table) (at : ℕ) (slots : List OpenEntry) (own : Option Message)
+    (es : List Entry) → AreEntries slots own es →
+    Each (λ s. IsReady C at s.value.message) slots → IsReady C at own →
+    Each (λ e. e.record_is.frames ≤ depth_of C.types) es
 entries_shallow C at [] None [] are each ready = tt
 entries_shallow C at [] None (e ∷ es) are each ready = absurd are
 entries_shallow C at [] (Some m) [] are each ready = absurd are
@@ -79,8 +91,10 @@ entries_shallow C at [] (Some m) (e ∷ []) are each ready = (are.0.message.shal
 entries_shallow C at [] (Some m) (e ∷ f ∷ es) are each ready =
     absurd (let none : suc (length es) ≡ 0 = ap length are.1 in omega (arith, none))
 entries_shallow C at (slot ∷ slots) own [] are each ready = absurd are
-entries_shallow C at (slot ∷ slots) own (e ∷ es) are each ready =
-    (stored_shallow C at slot.value.message e are.0.range each.0 are.0.message, entries_shallow C at slots own es are.1 each.1 ready)
+entries_shallow C at (slot ∷ slots) own (e ∷ es) are each ready = (
+  stored_shallow C at slot.value.message e are.0.range each.0 are.0.message,
+  entries_shallow C at slots own es are.1 each.1 ready,
+)
 
 one_own : (own : Option Message) → count_own own ≤ 1
 one_own None = omega arith
@@ -88,13 +102,15 @@ one_own (Some m) = omega arith
 
 -- ---- a checkpoint
 
--- the code's fields have a fixed part of 96 octets, a limit that the layout can hold, and messages that fit the table
+-- the code's fields have a fixed part of 96 octets, a limit that the layout can hold, and messages
+-- that fit the table
 pub record HasRoom (layout : Layout) (C : Table) (l : RequestTable) (m : FramingView) : Type 0 where
   pub fixed : length (fixed_octets layout (fixed_of C l m)) ≡ 96
   pub allows : OpenHasRange layout m.slots.slots.most
   pub ready : AreReady C (m.totals.octets + 1) m.slots
 
-pub whole_long : (layout : Layout) (C : Table) (l : RequestTable) (m : FramingView) (written : List ℕ) (whole : IsPutWhole layout C l m written) →
+pub whole_long : (layout : Layout) (C : Table) (l : RequestTable) (m : FramingView)
+    (written : List ℕ) (whole : IsPutWhole layout C l m written) →
     HasRoom layout C l m → length written ≡ 96 + entries_size whole.entries
 unfolding checkpoint_octets
 whole_long layout C l m written whole room =
@@ -103,21 +119,28 @@ whole_long layout C l m written whole room =
       arith,
       length-append (fixed_octets layout (fixed_of C l m)) (flat_map entry_octets whole.entries),
       room.fixed,
-      entries_long whole.entries (entries_range m.slots.slots.entries (current_of m.slots.owner) whole.entries whole.are),
+      entries_long whole.entries (entries_range m.slots.slots.entries (current_of m.slots.owner)
+          whole.entries whole.are),
     )
 
 many_within : (n most w sum : ℕ) → n ≤ most + 1 → sum ≤ n * w → sum ≤ (most + 1) * w
 many_within n most w sum few within = omega (arith, within, mul-le-mul_right w few)
 
-pub whole_within : (layout : Layout) (C : Table) (l : RequestTable) (m : FramingView) (most : ℕ) (written : List ℕ) (whole : IsPutWhole layout C l m written) →
-    HasRoom layout C l m → length m.slots.slots.entries ≤ most → 96 + entries_size whole.entries ≤ checkpoint_limit most (depth_of C.types)
+pub whole_within : (layout : Layout) (C : Table) (l : RequestTable) (m : FramingView) (most : ℕ)
+    (written : List ℕ) (whole : IsPutWhole layout C l m written) →
+    HasRoom layout C l m → length m.slots.slots.entries ≤ most →
+    96 + entries_size whole.entries ≤ checkpoint_limit most (depth_of C.types)
 unfolding checkpoint_limit
 whole_within layout C l m most written whole room few =
-    let many = entries_count m.slots.slots.entries (current_of m.slots.owner) whole.entries whole.are in
-    let shallow = entries_shallow C (m.totals.octets + 1) m.slots.slots.entries (current_of m.slots.owner) whole.entries whole.are
+    let many = entries_count m.slots.slots.entries (current_of m.slots.owner) whole.entries
+    whole.are in
+    let shallow = entries_shallow C (m.totals.octets + 1) m.slots.slots.entries
+    (current_of m.slots.owner) whole.entries whole.are
     room.ready.each_ready room.ready.current_ready in
     omega (
       arith,
-      many_within (length whole.entries) most (256 + FRAME_SIZE * depth_of C.types) (entries_size whole.entries)
-          (omega (arith, many, few, one_own (current_of m.slots.owner))) (entries_within (depth_of C.types) whole.entries shallow),
+      many_within (length whole.entries) most (256 + FRAME_SIZE * depth_of C.types)
+          (entries_size whole.entries)
+          (omega (arith, many, few, one_own (current_of m.slots.owner)))
+          (entries_within (depth_of C.types) whole.entries shallow),
     )

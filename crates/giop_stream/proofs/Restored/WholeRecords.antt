@@ -28,7 +28,8 @@ first_of : (e : Entry) (rest : List ℕ) → get_or (entry_octets e ++ rest) 0 0
 unfolding own_octets kind_octets
 first_of e rest = refl
 
-pub records_are : (es : List Entry) → Each EntryHasRange es → AreRecords (length es) (flat_map entry_octets es)
+pub records_are : (es : List Entry) → Each EntryHasRange es →
+    AreRecords (length es) (flat_map entry_octets es)
 records_are [] h = refl
 records_are (e ∷ es) h =
     let rest : List ℕ = flat_map entry_octets es in
@@ -42,11 +43,13 @@ records_are (e ∷ es) h =
 
 -- ---- a checkpoint
 
-fixed_counts : (C : Table) (l : RequestTable) (m : FramingView) → (fixed_of C l m).counts ≡ counts_of C l
+fixed_counts : (C : Table) (l : RequestTable) (m : FramingView) →
+    (fixed_of C l m).counts ≡ counts_of C l
 unfolding fixed_of
 fixed_counts C l m = refl
 
-module _ (octets p : List ℕ) (C : Table) (l : RequestTable) (most : ℕ) (s : Spells octets C l most p) where
+module _ (octets p : List ℕ) (C : Table) (l : RequestTable) (most : ℕ)
+    (s : Spells octets C l most p) where
   fixed_records : AreRecords (fixed_of C l s.memory).records (flat_map entry_octets s.entries)
   unfolding fixed_of
   fixed_records =
@@ -56,17 +59,20 @@ module _ (octets p : List ℕ) (C : Table) (l : RequestTable) (most : ℕ) (s : 
       subst P (entries_count slots own s.entries s.entries_are)
       (records_are s.entries (entries_range slots own s.entries s.entries_are))
 
-  fixed_front : octets ≡ fixed_octets s.layout (fixed_of C l s.memory) ++ flat_map entry_octets s.entries
+  fixed_front : octets ≡ fixed_octets s.layout (fixed_of C l s.memory)
+      ++ flat_map entry_octets s.entries
   unfolding checkpoint_octets
   fixed_front = s.octets_are
 
   -- what holds of every fixed part and records in their ranges holds of these
   pub parts_read : (P : Fixed → List ℕ → Type 0) (counts : Counts) → counts ≡ counts_of C l →
-      ((layout : Layout) (f : Fixed) (records : List ℕ) → f.counts ≡ counts → HasRange layout f → AreRecords f.records records →
+      ((layout : Layout) (f : Fixed) (records : List ℕ) → f.counts ≡ counts → HasRange layout f →
+      AreRecords f.records records →
       octets ≡ fixed_octets layout f ++ records → P f records) →
       P (fixed_of C l s.memory) (flat_map entry_octets s.entries)
   parts_read P counts same again =
-      again s.layout (fixed_of C l s.memory) (flat_map entry_octets s.entries) (fixed_counts C l s.memory ∙ sym same)
+      again s.layout (fixed_of C l s.memory) (flat_map entry_octets s.entries)
+      (fixed_counts C l s.memory ∙ sym same)
       (fixed_range octets p C l most s) fixed_records fixed_front
 
 -- ---- octets that are no checkpoint
@@ -84,13 +90,15 @@ refused_is c s refusals.OutOfMemory (inr never) = absurd never.1
 refused_is c s refusals.State (inl never) = absurd never
 refused_is c s refusals.State (inr never) = (never.0, inl never.1)
 
-pub refused_state : (c now : Counts) (s : List ℕ) (f : Fixed) (records : List ℕ) → c ≡ now → Passes c s f records →
+pub refused_state : (c now : Counts) (s : List ℕ) (f : Fixed) (records : List ℕ) → c ≡ now →
+    Passes c s f records →
     IsRefused now s refusals.State
 refused_state c now s f records same passes =
     let whole = subst (λ xs. AreRecords f.records xs) passes.rest passes.lengths in
     subst (λ x. IsRefused x s refusals.State) same (passes.ours, inr (f, passes.state, whole))
 
-pub refused_memory : (c now : Counts) (s : List ℕ) (f : Fixed) (records : List ℕ) → c ≡ now → Passes c s f records →
+pub refused_memory : (c now : Counts) (s : List ℕ) (f : Fixed) (records : List ℕ) → c ≡ now →
+    Passes c s f records →
     IsRefused now s refusals.OutOfMemory
 refused_memory c now s f records same passes =
     let whole = subst (λ xs. AreRecords f.records xs) passes.rest passes.lengths in
@@ -104,8 +112,11 @@ open_by Third n h = h
 
 pub passed_open : (c : Counts) (s : List ℕ) (f : Fixed) (records : List ℕ) → Passes c s f records →
     (1 ≤ f.most_open) × (f.most_open ≤ most_open)
-passed_open c s f records passes = open_by passes.state.layout f.most_open passes.state.range.most_open
+passed_open c s f records passes = open_by passes.state.layout f.most_open
+    passes.state.range.most_open
 
-pub allowed_is : (c now : Counts) (s : List ℕ) (f : Fixed) (records : List ℕ) (n : ℕ) → c ≡ now → Passes c s f records → n ≡ f.most_open →
+pub allowed_is : (c now : Counts) (s : List ℕ) (f : Fixed) (records : List ℕ) (n : ℕ) → c ≡ now →
+    Passes c s f records → n ≡ f.most_open →
     Allows now s n
-allowed_is c now s f records n same passes is = subst (λ x. Allows x s n) same (f, passes.state, sym is)
+allowed_is c now s f records n same passes is =
+    subst (λ x. Allows x s n) same (f, passes.state, sym is)

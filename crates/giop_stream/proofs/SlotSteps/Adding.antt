@@ -13,7 +13,8 @@ use Rattle.giop_stream.proofs.CodeSteps.EngineLaws.{run_lines}
 use Rattle.giop_stream.proofs.SlotSteps.Performing.{text_append}
 
 -- the text of the lines that are added
-added_by : (R : Rules) (p q : List ℕ) (ls : List Line) → lines R (p ++ q) ≡ lines R p ++ ls → added R p q ≡ lines_text ls
+added_by : (R : Rules) (p q : List ℕ) (ls : List Line) → lines R (p ++ q) ≡ lines R p ++ ls →
+    added R p q ≡ lines_text ls
 unfolding added text
 added_by R p q ls e =
     ap (λ (all : List Line). drop (length (lines_text (lines R p))) (lines_text all)) e
@@ -21,10 +22,12 @@ added_by R p q ls e =
     ∙ drop-append_seam (lines_text (lines R p)) (lines_text ls))
 
 -- and those are the lines of a run
-pub added_run : (R : Rules) → IsCausal R.reading → IsStreamable R.reading → (p q : List ℕ) → added R p q ≡ lines_text (run R (state_of R p) q)
+pub added_run : (R : Rules) → IsCausal R.reading → IsStreamable R.reading → (p q : List ℕ) →
+    added R p q ≡ lines_text (run R (state_of R p) q)
 added_run R causal laws p q = added_by R p q (run R (state_of R p) q) (run_lines R causal laws p q)
 
-pub added_text : (R : Rules) → IsCausal R.reading → IsStreamable R.reading → (p q : List ℕ) → drop (length (text R p)) (text R (p ++ q)) ≡ lines_text (run R (state_of R p) q)
+pub added_text : (R : Rules) → IsCausal R.reading → IsStreamable R.reading → (p q : List ℕ) →
+    drop (length (text R p)) (text R (p ++ q)) ≡ lines_text (run R (state_of R p) q)
 unfolding added
 added_text R causal laws p q = added_run R causal laws p q
 

@@ -57,27 +57,32 @@ cancel_named header f = rw f (go (is_opener header) (is_fragment header))
 -- ---- A message that becomes open has no line.
 
 module _ (C : Table) (l : Answers) where
-  pub opens_lines : (c : Tracked) (m : Message) (at i : ℕ) → (one_effect (message_reader C l) c at (message_key m) (Opens i)).lines ≡ []
+  pub opens_lines : (c : Tracked) (m : Message) (at i : ℕ) →
+      (one_effect (message_reader C l) c at (message_key m) (Opens i)).lines ≡ []
   unfolding lines_of lines_for lines_of_event up_to_last_line
   opens_lines c m at i = go (c.known m.number)
     where
-      go : (o : Option (List ℕ)) → lines_of (message_reader C l) (event at (message_key m) (Opens i)) o ≡ []
+      go : (o : Option (List ℕ)) → lines_of (message_reader C l)
+          (event at (message_key m) (Opens i)) o ≡ []
       go None = refl
       go (Some xs) = refl
 
 -- ---- The owner of the octets after the request id.
 
-pub owner_fragment : (still_open : List Open) (m : Message) → is_fragment m.header ≡ true → owner_after_id still_open m ≡ opener_key (opener_of still_open m)
+pub owner_fragment : (still_open : List Open) (m : Message) → is_fragment m.header ≡ true →
+    owner_after_id still_open m ≡ opener_key (opener_of still_open m)
 unfolding owner_after_id
 owner_fragment still_open m f = rw f refl
 
-pub owner_other : (still_open : List Open) (m : Message) → is_fragment m.header ≡ false → owner_after_id still_open m ≡ Some (message_key m)
+pub owner_other : (still_open : List Open) (m : Message) → is_fragment m.header ≡ false →
+    owner_after_id still_open m ≡ Some (message_key m)
 unfolding owner_after_id
 owner_other still_open m f = rw f refl
 
 -- ---- The slot of an open message.
 
-pub opener_slot : (C : Table) (l : Answers) (s : Slots) (c : Tracked) (owner : Option MessageKey) → SlotsRepresent C l s c owner
+pub opener_slot : (C : Table) (l : Answers) (s : Slots) (c : Tracked) (owner : Option MessageKey) →
+    SlotsRepresent C l s c owner
     → (k : ℕ) (o : Open) (v : Contents) → slice_get c.still_open k ≡ Some o
     → option_map (λ e. e.value) (slice_get s.slots.entries k) ≡ Some v
     → (v.number ≡ o.opener.number) × (v.header ≡ o.opener.header)
@@ -86,89 +91,122 @@ opener_slot C l s c owner keeps k o v here e =
     let is = open_slot C l s there.0 c owner k o keeps here there.1 in
     (rw there.2 at is.number, rw there.2 at is.header)
 
-module _ (C : Table) (l : Answers) (s : Slots) (c : Tracked) (m : Message) (now : Current) (i : ℕ) (h : IsAtRequestId C l s c m now i) where
+module _ (C : Table) (l : Answers) (s : Slots) (c : Tracked) (m : Message) (now : Current) (i : ℕ)
+    (h : IsAtRequestId C l s c m now i) where
   -- ---- The search.
 
-  opener_is : has_name m.header ≡ true → opener_of c.still_open m ≡ find (λ o. o.id == i) c.still_open
+  opener_is : has_name m.header ≡ true → opener_of c.still_open m
+      ≡ find (λ o. o.id == i) c.still_open
   unfolding opener_of
   opener_is name = ap (λ (n : ℕ). find (λ (o : Open). o.id == n) c.still_open) (h.id_is name)
 
-  pub misses : has_name m.header ≡ true → (r : Option ℕ) → r ≡ position_from (λ slot. slot.key == i) 0 s.slots.entries
+  pub misses : has_name m.header ≡ true → (r : Option ℕ) →
+      r ≡ position_from (λ slot. slot.key == i) 0 s.slots.entries
       → is_some r ≡ false → opener_of c.still_open m ≡ None
   misses name None e n = opener_is name ∙ none_open C l s.slots.entries c i h.keeps.slots (sym e)
   misses name (Some k) e n = absurd cc
 
-  pub finds : has_name m.header ≡ true → (k : ℕ) → Some k ≡ position_from (λ slot. slot.key == i) 0 s.slots.entries → IsFound c m k
+  pub finds : has_name m.header ≡ true → (k : ℕ) →
+      Some k ≡ position_from (λ slot. slot.key == i) 0 s.slots.entries → IsFound c m k
   finds name k e =
       let f = one_open C l s.slots.entries c i k h.keeps.slots (sym e) in
       record { o = f.o; here = f.here; is = opener_is name ∙ f.is }
 
-  pub hits : has_name m.header ≡ true → (r : Option ℕ) → r ≡ position_from (λ slot. slot.key == i) 0 s.slots.entries
+  pub hits : has_name m.header ≡ true → (r : Option ℕ) →
+      r ≡ position_from (λ slot. slot.key == i) 0 s.slots.entries
       → is_some r ≡ true → (o : Open) × (opener_of c.still_open m ≡ Some o)
   hits name None e n = absurd cc
   hits name (Some k) e n = let f = finds name k e in (f.o, f.is)
 
   pub as_many : length s.slots.entries ≡ length c.still_open
-  as_many = are_as_many C l s.slots.entries (slots_of c.known c.still_open) h.keeps.slots ∙ slots_many c.known c.still_open
+  as_many = are_as_many C l s.slots.entries (slots_of c.known c.still_open) h.keeps.slots
+      ∙ slots_many c.known c.still_open
 
   -- ---- A message that opens.
 
-  pub twice : (r : Option ℕ) → r ≡ position_from (λ slot. slot.key == i) 0 s.slots.entries → is_some r ≡ true
+  pub twice : (r : Option ℕ) → r ≡ position_from (λ slot. slot.key == i) 0 s.slots.entries →
+      is_some r ≡ true
       → is_fragment m.header ≡ false → is_opener m.header ≡ true
-      → effects (message_reader C l) c (events_at_request_id s.slots.most c.still_open m) ≡ one_effect (message_reader C l) c now.place (message_key m) (Faults IdOpen)
-  twice r e n f g = let o = hits (opener_named m.header g) r e n in opener_twice (rules_by C l s.slots.most) c c.still_open m o.0 f g o.1 ∙ rw h.current.place refl
+      → effects (message_reader C l) c (events_at_request_id s.slots.most c.still_open m)
+      ≡ one_effect (message_reader C l) c now.place (message_key m) (Faults IdOpen)
+  twice r e n f g = let o = hits (opener_named m.header g) r e n in
+      opener_twice (rules_by C l s.slots.most) c c.still_open m o.0 f g o.1
+      ∙ rw h.current.place refl
 
-  pub no_room : (r : Option ℕ) → r ≡ position_from (λ slot. slot.key == i) 0 s.slots.entries → is_some r ≡ false
-      → s.slots.most ≤ length s.slots.entries → is_fragment m.header ≡ false → is_opener m.header ≡ true
-      → effects (message_reader C l) c (events_at_request_id s.slots.most c.still_open m) ≡ one_effect (message_reader C l) c now.place (message_key m) (Faults TooManyOpen)
+  pub no_room : (r : Option ℕ) → r ≡ position_from (λ slot. slot.key == i) 0 s.slots.entries →
+      is_some r ≡ false
+      → s.slots.most ≤ length s.slots.entries → is_fragment m.header ≡ false →
+      is_opener m.header ≡ true
+      → effects (message_reader C l) c (events_at_request_id s.slots.most c.still_open m)
+      ≡ one_effect (message_reader C l) c now.place (message_key m) (Faults TooManyOpen)
   no_room r e n full f g =
       let many = as_many in
       let room : s.slots.most ≤ length c.still_open = omega (arith, many, full) in
-      opener_no_room (rules_by C l s.slots.most) c c.still_open m f g (misses (opener_named m.header g) r e n) room ∙ rw h.current.place refl
+      opener_no_room (rules_by C l s.slots.most) c c.still_open m f g
+      (misses (opener_named m.header g) r e n) room ∙ rw h.current.place refl
 
-  pub opens_one : (r : Option ℕ) → r ≡ position_from (λ slot. slot.key == i) 0 s.slots.entries → is_some r ≡ false
-      → length s.slots.entries < s.slots.most → is_fragment m.header ≡ false → is_opener m.header ≡ true
-      → effects (message_reader C l) c (events_at_request_id s.slots.most c.still_open m) ≡ one_effect (message_reader C l) c now.place (message_key m) (Opens i)
+  pub opens_one : (r : Option ℕ) → r ≡ position_from (λ slot. slot.key == i) 0 s.slots.entries →
+      is_some r ≡ false
+      → length s.slots.entries < s.slots.most → is_fragment m.header ≡ false →
+      is_opener m.header ≡ true
+      → effects (message_reader C l) c (events_at_request_id s.slots.most c.still_open m)
+      ≡ one_effect (message_reader C l) c now.place (message_key m) (Opens i)
   opens_one r e n few f g =
       let many = as_many in
       let room : length c.still_open < s.slots.most = omega (arith, many, few) in
-      opener_opens (rules_by C l s.slots.most) c c.still_open m f g (misses (opener_named m.header g) r e n) room
+      opener_opens (rules_by C l s.slots.most) c c.still_open m f g
+      (misses (opener_named m.header g) r e n) room
       ∙ rw (h.current.place, h.id_is (opener_named m.header g)) refl
 
   -- ---- A Fragment.
 
   pub unknown : is_fragment m.header ≡ true → opener_of c.still_open m ≡ None
-      → effects (message_reader C l) c (events_at_request_id s.slots.most c.still_open m) ≡ one_effect (message_reader C l) c now.place (message_key m) (Faults NoOpen)
-  unknown f e = fragment_unknown (rules_by C l s.slots.most) c c.still_open m f e ∙ rw h.current.place refl
+      → effects (message_reader C l) c (events_at_request_id s.slots.most c.still_open m)
+      ≡ one_effect (message_reader C l) c now.place (message_key m) (Faults NoOpen)
+  unknown f e = fragment_unknown (rules_by C l s.slots.most) c c.still_open m f e
+      ∙ rw h.current.place refl
 
   -- ---- A CancelRequest.
 
-  pub misses_all : (r : Option ℕ) → r ≡ position_from (λ slot. slot.key == i) 0 s.slots.entries → is_some r ≡ false
+  pub misses_all : (r : Option ℕ) → r ≡ position_from (λ slot. slot.key == i) 0 s.slots.entries →
+      is_some r ≡ false
       → is_fragment m.header ≡ false → is_opener m.header ≡ false → is_cancel m.header ≡ true
-      → effects (message_reader C l) c (events_at_request_id s.slots.most c.still_open m) ≡ no_effect c
-  misses_all r e n f g b = cancel_misses (rules_by C l s.slots.most) c c.still_open m f g b (misses (cancel_named m.header b) r e n)
+      → effects (message_reader C l) c (events_at_request_id s.slots.most c.still_open m)
+      ≡ no_effect c
+  misses_all r e n f g b = cancel_misses (rules_by C l s.slots.most) c c.still_open m f g b
+      (misses (cancel_named m.header b) r e n)
 
   -- whether the open message that is found may be cancelled
   pub header_may : (o : Open) (v : Contents) (k : ℕ) (r : Bool) → slice_get c.still_open k ≡ Some o
-      → option_map (λ e. e.value) (slice_get s.slots.entries k) ≡ Some v → may_be_cancelled v.header ≡ r
+      → option_map (λ e. e.value) (slice_get s.slots.entries k) ≡ Some v →
+      may_be_cancelled v.header ≡ r
       → may_be_cancelled o.opener.header ≡ r
-  header_may o v k r here e may = let kept = opener_slot C l s c (Some (message_key m)) h.keeps k o v here e in rw (← kept.1) may
+  header_may o v k r here e may = let kept =
+      opener_slot C l s c (Some (message_key m)) h.keeps k o v here e in rw (← kept.1) may
 
-  pub spares : (o : Open) → is_fragment m.header ≡ false → is_opener m.header ≡ false → is_cancel m.header ≡ true
+  pub spares : (o : Open) → is_fragment m.header ≡ false → is_opener m.header ≡ false →
+      is_cancel m.header ≡ true
       → opener_of c.still_open m ≡ Some o → may_be_cancelled o.opener.header ≡ false
-      → effects (message_reader C l) c (events_at_request_id s.slots.most c.still_open m) ≡ no_effect c
+      → effects (message_reader C l) c (events_at_request_id s.slots.most c.still_open m)
+      ≡ no_effect c
   spares o f g b e j = cancel_spares (rules_by C l s.slots.most) c c.still_open m o f g b e j
 
-  pub cancels_one : (o : Open) → is_fragment m.header ≡ false → is_opener m.header ≡ false → is_cancel m.header ≡ true
+  pub cancels_one : (o : Open) → is_fragment m.header ≡ false → is_opener m.header ≡ false →
+      is_cancel m.header ≡ true
       → opener_of c.still_open m ≡ Some o → may_be_cancelled o.opener.header ≡ true
-      → effects (message_reader C l) c (events_at_request_id s.slots.most c.still_open m) ≡ one_effect (message_reader C l) c now.place o.opener (Cancelled now.number)
-  cancels_one o f g b e j = cancel_closes (rules_by C l s.slots.most) c c.still_open m o f g b e j ∙ rw (h.current.place, h.current.number) refl
+      → effects (message_reader C l) c (events_at_request_id s.slots.most c.still_open m)
+      ≡ one_effect (message_reader C l) c now.place o.opener (Cancelled now.number)
+  cancels_one o f g b e j = cancel_closes (rules_by C l s.slots.most) c c.still_open m o f g b e j
+      ∙ rw (h.current.place, h.current.number) refl
 
   -- ---- Any message.
 
   pub header_is : (says : List ℕ → Bool) (r : Bool) → says now.header ≡ r → says m.header ≡ r
   header_is says r e = ap says h.current.header ∙ e
 
-  pub no_name : is_fragment now.header ≡ false → is_opener now.header ≡ false → is_cancel now.header ≡ false
-      → effects (message_reader C l) c (events_at_request_id s.slots.most c.still_open m) ≡ no_effect c
-  no_name f g b = other_id (rules_by C l s.slots.most) c c.still_open m (header_is is_fragment false f) (header_is is_opener false g) (header_is is_cancel false b)
+  pub no_name : is_fragment now.header ≡ false → is_opener now.header ≡ false →
+      is_cancel now.header ≡ false
+      → effects (message_reader C l) c (events_at_request_id s.slots.most c.still_open m)
+      ≡ no_effect c
+  no_name f g b = other_id (rules_by C l s.slots.most) c c.still_open m
+      (header_is is_fragment false f) (header_is is_opener false g) (header_is is_cancel false b)

@@ -20,11 +20,16 @@ unfolding effects
 effects_none R c = refl
 
 effects_one : (R : MessageReader) (c : Tracked) (at : ℕ) (subject : MessageKey) (what : EventKind)
-    → effects R c (record { place = at; subject = subject; what = what } ∷ []) ≡ one_effect R c at subject what
+    → effects R c (record { place = at; subject = subject; what = what } ∷ [])
+    ≡ one_effect R c at subject what
 unfolding effects lines_at lines_of
 effects_one R c at subject what =
     let e : Event = record { place = at; subject = subject; what = what } in
-    λ j. record { tracked = tracked_at R c e; lines = append-nil (lines_of R e (c.known subject.number)) j }
+    λ j. record {
+      tracked = tracked_at R c e;
+      lines =
+          append-nil (lines_of R e (c.known subject.number)) j;
+    }
 
 pub effects_append : (R : MessageReader) (c : Tracked) (es fs : List Event)
     → effects R c (es ++ fs) ≡ record {
@@ -39,13 +44,15 @@ effects_append R c (e ∷ es) fs =
     (λ j. record {
       tracked = (effects R (effects R (tracked_at R c e) es).tracked fs).tracked;
       lines = back (lines_at R c.known e)
-          (effects R (tracked_at R c e) es).lines (effects R (effects R (tracked_at R c e) es).tracked fs).lines j;
+          (effects R (tracked_at R c e) es).lines
+          (effects R (effects R (tracked_at R c e) es).tracked fs).lines j;
     })
   where
     back : (xs ys zs : List Line) → xs ++ (ys ++ zs) ≡ (xs ++ ys) ++ zs
     back xs ys zs = sym (append_assoc xs ys zs)
 
-pub effects_own : (R : MessageReader) (c : Tracked) (m : Message) (what : EventKind) → effects R c (own (now_of m) what) ≡ one_effect R c (place m) (message_key m) what
+pub effects_own : (R : MessageReader) (c : Tracked) (m : Message) (what : EventKind) →
+    effects R c (own (now_of m) what) ≡ one_effect R c (place m) (message_key m) what
 unfolding own
 effects_own R c m what = effects_one R c (place m) (message_key m) what
 
@@ -54,64 +61,99 @@ pub effects_about : (R : MessageReader) (c : Tracked) (m : Message) (o : Open) (
 unfolding event_of_open
 effects_about R c m o what = effects_one R c (place m) o.opener what
 
-pub effects_nobody : (R : MessageReader) (c : Tracked) (m : Message) (what : EventKind) → effects R c (event_of_open (now_of m) None what) ≡ no_effect c
+pub effects_nobody : (R : MessageReader) (c : Tracked) (m : Message) (what : EventKind) →
+    effects R c (event_of_open (now_of m) None what) ≡ no_effect c
 unfolding event_of_open
 effects_nobody R c m what = effects_none R c
 
 -- ---- A header's last octet.
 
-began : (R : MessageReader) (m : Message) (xs : List ℕ) → lines_of R (record { place = place m; subject = message_key m; what = Begins }) (Some xs) ≡ starts m ∷ []
+began : (R : MessageReader) (m : Message) (xs : List ℕ) →
+    lines_of R (record { place = place m; subject = message_key m; what = Begins }) (Some xs)
+    ≡ starts m ∷ []
 unfolding lines_of lines_for lines_of_event line up_to_last_line
 began R m xs = refl
 
-begins_first : (R : MessageReader) (c : Tracked) (m : Message) (xs : List ℕ) (es : List Event) → c.known m.number ≡ Some xs
-    → effects R c (own (now_of m) Begins ++ es) ≡ record { tracked = (effects R c es).tracked; lines = starts m ∷ (effects R c es).lines }
+begins_first : (R : MessageReader) (c : Tracked) (m : Message) (xs : List ℕ) (es : List Event) →
+    c.known m.number ≡ Some xs
+    → effects R c (own (now_of m) Begins ++ es) ≡
+    record { tracked = (effects R c es).tracked; lines = starts m ∷ (effects R c es).lines }
 begins_first R c m xs es k =
     effects_append R c (own (now_of m) Begins) es
-    ∙ rw (effects_own R c m Begins, tracked_begins R c (record { place = place m; subject = message_key m; what = Begins }) refl, k, began R m xs) refl
+    ∙ rw (
+      effects_own R c m Begins,
+      tracked_begins R c
+          (record { place = place m; subject = message_key m; what = Begins }) refl,
+      k,
+      began R m xs,
+    )
+    refl
 
-pub header_begins : (R : MessageReader) (c : Tracked) (m : Message) (xs : List ℕ) → c.known m.number ≡ Some xs
-    → refused m.header ≡ None → effects R c (events_at_header m) ≡ record { tracked = c; lines = starts m ∷ [] }
+pub header_begins : (R : MessageReader) (c : Tracked) (m : Message) (xs : List ℕ) →
+    c.known m.number ≡ Some xs
+    → refused m.header ≡ None → effects R c (events_at_header m) ≡
+    record { tracked = c; lines = starts m ∷ [] }
 unfolding header_events
 header_begins R c m xs k e = rw e (begins_first R c m xs [] k ∙ rw (effects_none R c) refl)
 
-pub header_refused : (R : MessageReader) (c : Tracked) (m : Message) (xs : List ℕ) (fault : FramingFault) → c.known m.number ≡ Some xs → refused m.header ≡ Some fault
-    → (let fault_events = one_effect R c (place m) (message_key m) (Faults fault) in effects R c (events_at_header m)
+pub header_refused : (R : MessageReader) (c : Tracked) (m : Message) (xs : List ℕ)
+    (fault : FramingFault) → c.known m.number ≡ Some xs → refused m.header ≡ Some fault
+    → (let fault_events = one_effect R c (place m) (message_key m) (Faults fault) in
+    effects R c (events_at_header m)
     ≡ record { tracked = fault_events.tracked; lines = starts m ∷ fault_events.lines })
 unfolding header_events
-header_refused R c m xs fault k e = rw e (begins_first R c m xs (own (now_of m) (Faults fault)) k ∙ rw (effects_own R c m (Faults fault)) refl)
+header_refused R c m xs fault k e = rw e
+    (begins_first R c m xs (own (now_of m) (Faults fault)) k
+    ∙ rw (effects_own R c m (Faults fault)) refl)
 
 -- ---- An octet of a payload.
 
-pub octet_own : (R : MessageReader) (c : Tracked) (still_open : List Open) (m : Message) → goes_past m ≡ false
-    → effects R c (events_at_octet still_open m) ≡ one_effect R c (place m) (message_key m) (Takes (get_or m.payload (length m.payload - 1) 0))
-unfolding payload_events goes_past
-octet_own R c still_open m h = rw h (effects_own R c m (Takes (get_or m.payload (length m.payload - 1) 0)))
-
-pub octet_passed : (R : MessageReader) (c : Tracked) (still_open : List Open) (m : Message) (o : Open) → goes_past m ≡ true
-    → opener_of still_open m ≡ Some o → effects R c (events_at_octet still_open m) ≡ one_effect R c (place m) o.opener
+pub octet_own : (R : MessageReader) (c : Tracked) (still_open : List Open) (m : Message) →
+    goes_past m ≡ false
+    → effects R c (events_at_octet still_open m)
+    ≡ one_effect R c (place m) (message_key m)
     (Takes (get_or m.payload (length m.payload - 1) 0))
 unfolding payload_events goes_past
-octet_passed R c still_open m o h e = rw (h, e) (effects_about R c m o (Takes (get_or m.payload (length m.payload - 1) 0)))
+octet_own R c still_open m h = rw h (effects_own R c m
+    (Takes (get_or m.payload (length m.payload - 1) 0)))
 
-pub octet_lost : (R : MessageReader) (c : Tracked) (still_open : List Open) (m : Message) → goes_past m ≡ true → opener_of still_open m ≡ None
+pub octet_passed : (R : MessageReader) (c : Tracked) (still_open : List Open) (m : Message)
+    (o : Open) → goes_past m ≡ true
+    → opener_of still_open m ≡ Some o → effects R c (events_at_octet still_open m)
+    ≡ one_effect R c (place m) o.opener
+    (Takes (get_or m.payload (length m.payload - 1) 0))
+unfolding payload_events goes_past
+octet_passed R c still_open m o h e = rw (h, e)
+    (effects_about R c m o (Takes (get_or m.payload (length m.payload - 1) 0)))
+
+pub octet_lost : (R : MessageReader) (c : Tracked) (still_open : List Open) (m : Message) →
+    goes_past m ≡ true → opener_of still_open m ≡ None
     → effects R c (events_at_octet still_open m) ≡ no_effect c
 unfolding payload_events goes_past
-octet_lost R c still_open m h e = rw (h, e) (effects_nobody R c m (Takes (get_or m.payload (length m.payload - 1) 0)))
+octet_lost R c still_open m h e = rw (h, e)
+    (effects_nobody R c m (Takes (get_or m.payload (length m.payload - 1) 0)))
 
 -- ---- The request id of a Fragment.
 
-pub fragment_unknown : (R : Rules) (c : Tracked) (still_open : List Open) (m : Message) → is_fragment m.header ≡ true
-    → opener_of still_open m ≡ None → effects R.reading c (events_at_request_id R.most still_open m) ≡ one_effect R.reading c (place m) (message_key m) (Faults NoOpen)
+pub fragment_unknown : (R : Rules) (c : Tracked) (still_open : List Open) (m : Message) →
+    is_fragment m.header ≡ true
+    → opener_of still_open m ≡ None → effects R.reading c (events_at_request_id R.most still_open m)
+    ≡ one_effect R.reading c (place m) (message_key m) (Faults NoOpen)
 unfolding request_id_events
 fragment_unknown R c still_open m f e = rw (f, e) (effects_own R.reading c m (Faults NoOpen))
 
 went_on : (R : MessageReader) (m : Message) (o : Open) (xs : List ℕ)
-    → lines_of R (record { place = place m; subject = message_key m; what = Continues o.opener.number }) (Some xs) ≡ goes_on m o ∷ []
+    → lines_of R (record {
+      place = place m;
+      subject = message_key m;
+      what =
+          Continues o.opener.number;
+    }) (Some xs) ≡ goes_on m o ∷ []
 unfolding lines_of lines_for lines_of_event line up_to_last_line
 went_on R m o xs = refl
 
-goes_first : (R : MessageReader) (c : Tracked) (m : Message) (o : Open) (xs : List ℕ) (es : List Event) → c.known m.number ≡ Some xs
+goes_first : (R : MessageReader) (c : Tracked) (m : Message) (o : Open) (xs : List ℕ)
+    (es : List Event) → c.known m.number ≡ Some xs
     → effects R c (own (now_of m) (Continues o.opener.number) ++ es)
     ≡ record { tracked = (effects R c es).tracked; lines = goes_on m o ∷ (effects R c es).lines }
 goes_first R c m o xs es k =
@@ -119,69 +161,96 @@ goes_first R c m o xs es k =
     ∙ rw (
       effects_own R c m (Continues o.opener.number),
       tracked_stays R c
-          (record { place = place m; subject = message_key m; what = Continues o.opener.number }) o.opener.number refl,
+          (record { place = place m; subject = message_key m; what = Continues o.opener.number })
+          o.opener.number refl,
       k,
       went_on R m o xs,
     ) refl
 
-pub fragment_in_order : (R : Rules) (c : Tracked) (still_open : List Open) (m : Message) (o : Open) (xs : List ℕ)
+pub fragment_in_order : (R : Rules) (c : Tracked) (still_open : List Open) (m : Message) (o : Open)
+    (xs : List ℕ)
     → is_fragment m.header ≡ true → opener_of still_open m ≡ Some o → c.known m.number ≡ Some xs
     → same_order (order m.header) (order o.opener.header) ≡ true
-    → effects R.reading c (events_at_request_id R.most still_open m) ≡ record { tracked = c; lines = goes_on m o ∷ [] }
+    → effects R.reading c (events_at_request_id R.most still_open m) ≡
+    record { tracked = c; lines = goes_on m o ∷ [] }
 unfolding request_id_events
-fragment_in_order R c still_open m o xs f e k s = rw (f, e, s) (goes_first R.reading c m o xs [] k ∙ rw (effects_none R.reading c) refl)
+fragment_in_order R c still_open m o xs f e k s =
+    rw (f, e, s) (goes_first R.reading c m o xs [] k ∙ rw (effects_none R.reading c) refl)
 
-pub fragment_out_of_order : (R : Rules) (c : Tracked) (still_open : List Open) (m : Message) (o : Open) (xs : List ℕ)
+pub fragment_out_of_order : (R : Rules) (c : Tracked) (still_open : List Open) (m : Message)
+    (o : Open) (xs : List ℕ)
     → is_fragment m.header ≡ true → opener_of still_open m ≡ Some o → c.known m.number ≡ Some xs
     → same_order (order m.header) (order o.opener.header) ≡ false
-    → (let fault = one_effect R.reading c (place m) o.opener (Faults FragmentOrder) in effects R.reading c (events_at_request_id R.most still_open m)
+    → (let fault = one_effect R.reading c (place m) o.opener (Faults FragmentOrder) in
+    effects R.reading c (events_at_request_id R.most still_open m)
     ≡ record { tracked = fault.tracked; lines = goes_on m o ∷ fault.lines })
 unfolding request_id_events
 fragment_out_of_order R c still_open m o xs f e k s =
-    rw (f, e, s) (goes_first R.reading c m o xs (event_of_open (now_of m) (Some o) (Faults FragmentOrder)) k ∙ rw (effects_about R.reading c m o (Faults FragmentOrder)) refl)
+    rw (f, e, s) (goes_first R.reading c m o xs
+    (event_of_open (now_of m) (Some o) (Faults FragmentOrder)) k
+    ∙ rw (effects_about R.reading c m o (Faults FragmentOrder)) refl)
 
 -- ---- The request id of a message that has fragments.
 
-pub opener_twice : (R : Rules) (c : Tracked) (still_open : List Open) (m : Message) (o : Open) → is_fragment m.header ≡ false
+pub opener_twice : (R : Rules) (c : Tracked) (still_open : List Open) (m : Message) (o : Open) →
+    is_fragment m.header ≡ false
     → is_opener m.header ≡ true → opener_of still_open m ≡ Some o
-    → effects R.reading c (events_at_request_id R.most still_open m) ≡ one_effect R.reading c (place m) (message_key m) (Faults IdOpen)
+    → effects R.reading c (events_at_request_id R.most still_open m)
+    ≡ one_effect R.reading c (place m) (message_key m) (Faults IdOpen)
 unfolding request_id_events
 opener_twice R c still_open m o f h e = rw (f, h, e) (effects_own R.reading c m (Faults IdOpen))
 
-pub opener_no_room : (R : Rules) (c : Tracked) (still_open : List Open) (m : Message) → is_fragment m.header ≡ false
+pub opener_no_room : (R : Rules) (c : Tracked) (still_open : List Open) (m : Message) →
+    is_fragment m.header ≡ false
     → is_opener m.header ≡ true → opener_of still_open m ≡ None → R.most ≤ length still_open
-    → effects R.reading c (events_at_request_id R.most still_open m) ≡ one_effect R.reading c (place m) (message_key m) (Faults TooManyOpen)
+    → effects R.reading c (events_at_request_id R.most still_open m)
+    ≡ one_effect R.reading c (place m) (message_key m) (Faults TooManyOpen)
 unfolding request_id_events
-opener_no_room R c still_open m f h e n = rw (f, h, e, le-leb R.most (length still_open) n) (effects_own R.reading c m (Faults TooManyOpen))
+opener_no_room R c still_open m f h e n =
+    rw (f, h, e, le-leb R.most (length still_open) n)
+    (effects_own R.reading c m (Faults TooManyOpen))
 
-pub opener_opens : (R : Rules) (c : Tracked) (still_open : List Open) (m : Message) → is_fragment m.header ≡ false
+pub opener_opens : (R : Rules) (c : Tracked) (still_open : List Open) (m : Message) →
+    is_fragment m.header ≡ false
     → is_opener m.header ≡ true → opener_of still_open m ≡ None → length still_open < R.most
-    → effects R.reading c (events_at_request_id R.most still_open m) ≡ one_effect R.reading c (place m) (message_key m) (Opens (id m))
+    → effects R.reading c (events_at_request_id R.most still_open m)
+    ≡ one_effect R.reading c (place m) (message_key m) (Opens (id m))
 unfolding request_id_events
-opener_opens R c still_open m f h e n = rw (f, h, e, lt-leb R.most (length still_open) n) (effects_own R.reading c m (Opens (id m)))
+opener_opens R c still_open m f h e n = rw (f, h, e, lt-leb R.most (length still_open) n)
+    (effects_own R.reading c m (Opens (id m)))
 
 -- ---- The request id of a CancelRequest.
 
-pub cancel_closes : (R : Rules) (c : Tracked) (still_open : List Open) (m : Message) (o : Open) → is_fragment m.header ≡ false
+pub cancel_closes : (R : Rules) (c : Tracked) (still_open : List Open) (m : Message) (o : Open) →
+    is_fragment m.header ≡ false
     → is_opener m.header ≡ false → is_cancel m.header ≡ true → opener_of still_open m ≡ Some o
-    → may_be_cancelled o.opener.header ≡ true → effects R.reading c (events_at_request_id R.most still_open m) ≡ one_effect R.reading c (place m) o.opener (Cancelled m.number)
+    → may_be_cancelled o.opener.header ≡ true →
+    effects R.reading c (events_at_request_id R.most still_open m)
+    ≡ one_effect R.reading c (place m) o.opener (Cancelled m.number)
 unfolding request_id_events
-cancel_closes R c still_open m o f g h e s = rw (f, g, h, e, s) (effects_about R.reading c m o (Cancelled m.number))
+cancel_closes R c still_open m o f g h e s =
+    rw (f, g, h, e, s) (effects_about R.reading c m o (Cancelled m.number))
 
-pub cancel_spares : (R : Rules) (c : Tracked) (still_open : List Open) (m : Message) (o : Open) → is_fragment m.header ≡ false
+pub cancel_spares : (R : Rules) (c : Tracked) (still_open : List Open) (m : Message) (o : Open) →
+    is_fragment m.header ≡ false
     → is_opener m.header ≡ false → is_cancel m.header ≡ true → opener_of still_open m ≡ Some o
-    → may_be_cancelled o.opener.header ≡ false → effects R.reading c (events_at_request_id R.most still_open m) ≡ no_effect c
+    → may_be_cancelled o.opener.header ≡ false →
+    effects R.reading c (events_at_request_id R.most still_open m) ≡ no_effect c
 unfolding request_id_events
 cancel_spares R c still_open m o f g h e s = rw (f, g, h, e, s) (effects_none R.reading c)
 
-pub cancel_misses : (R : Rules) (c : Tracked) (still_open : List Open) (m : Message) → is_fragment m.header ≡ false
-    → is_opener m.header ≡ false → is_cancel m.header ≡ true → opener_of still_open m ≡ None → effects R.reading c (events_at_request_id R.most still_open m) ≡ no_effect c
+pub cancel_misses : (R : Rules) (c : Tracked) (still_open : List Open) (m : Message) →
+    is_fragment m.header ≡ false
+    → is_opener m.header ≡ false → is_cancel m.header ≡ true → opener_of still_open m ≡ None →
+    effects R.reading c (events_at_request_id R.most still_open m) ≡ no_effect c
 unfolding request_id_events
 cancel_misses R c still_open m f g h e = rw (f, g, h, e) (effects_none R.reading c)
 
 -- ---- The request id of any other message.
 
-pub other_id : (R : Rules) (c : Tracked) (still_open : List Open) (m : Message) → is_fragment m.header ≡ false
-    → is_opener m.header ≡ false → is_cancel m.header ≡ false → effects R.reading c (events_at_request_id R.most still_open m) ≡ no_effect c
+pub other_id : (R : Rules) (c : Tracked) (still_open : List Open) (m : Message) →
+    is_fragment m.header ≡ false
+    → is_opener m.header ≡ false → is_cancel m.header ≡ false →
+    effects R.reading c (events_at_request_id R.most still_open m) ≡ no_effect c
 unfolding request_id_events
 other_id R c still_open m f g h = rw (f, g, h) (effects_none R.reading c)

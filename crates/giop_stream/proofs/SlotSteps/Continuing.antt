@@ -1,4 +1,5 @@
--- A Fragment that continues an open message, as the code does it: at its request id, and where the last octet of its header
+-- A Fragment that continues an open message, as the code does it: at its request id, and where the
+-- last octet of its header
 -- and its request id come together.
 use Rattle.std.proofs.Common.{◌≡◌, ℕ, suc, ◌-◌, ◌<◌, ◌≤◌, Bool, true, false, List, [], ◌∷◌, ◌++◌, length, take, refl, sym, ap, subst, ◌∙◌, Option, Some, None, Result, arith}
 use Rattle.std.specs.Prelude.{◌==◌}
@@ -45,56 +46,85 @@ use Rattle.giop_stream.proofs.SlotSteps.Parts.{first, second, third, first_still
 
 -- ---- At the request id.
 
-pub goes_faults : (m : Message) (o : Open) (ls : List Line) → fault_count (goes_on m o ∷ ls) ≡ fault_count ls
+pub goes_faults : (m : Message) (o : Open) (ls : List Line) →
+    fault_count (goes_on m o ∷ ls) ≡ fault_count ls
 unfolding fault_count
 goes_faults m o ls = refl
 
 -- what the code knows of a message at its request id, where that is a Fragment's
-pub continuing : (C : Table) (l : Answers) (s : Slots) (c : Tracked) (m : Message) (now : Current) (i : ℕ) → IsAtRequestId C l s c m now i
+pub continuing : (C : Table) (l : Answers) (s : Slots) (c : Tracked) (m : Message) (now : Current)
+    (i : ℕ) → IsAtRequestId C l s c m now i
     → is_fragment m.header ≡ true → IsContinuing C l s c (Some (message_key m)) m now
-continuing C l s c m now i h f = record { keeps = h.keeps; rising = h.rising; current = h.current; alive = h.alive (fragment_named m.header f) }
+continuing C l s c m now i h f = record {
+  keeps = h.keeps;
+  rising = h.rising;
+  current = h.current;
+  alive = h.alive (fragment_named m.header f);
+}
 
-module _ (C : Table) (l : Answers) (s : Slots) (c : Tracked) (owner : Option MessageKey) (m : Message) (now : Current) (h : IsContinuing C l s c owner m now) where
-  pub in_order : (o : Open) → is_fragment m.header ≡ true → opener_of c.still_open m ≡ Some o → same_order (order m.header) (order o.opener.header) ≡ true
-      → effects (message_reader C l) c (events_at_request_id s.slots.most c.still_open m) ≡ line_effect (goes_on m o) (no_effect c)
-  in_order o f e same = fragment_in_order (rules_by C l s.slots.most) c c.still_open m o h.alive.0 f e h.alive.1 same
+module _ (C : Table) (l : Answers) (s : Slots) (c : Tracked) (owner : Option MessageKey)
+    (m : Message) (now : Current) (h : IsContinuing C l s c owner m now) where
+  pub in_order : (o : Open) → is_fragment m.header ≡ true → opener_of c.still_open m ≡ Some o →
+      same_order (order m.header) (order o.opener.header) ≡ true
+      → effects (message_reader C l) c (events_at_request_id s.slots.most c.still_open m)
+      ≡ line_effect (goes_on m o) (no_effect c)
+  in_order o f e same = fragment_in_order (rules_by C l s.slots.most) c c.still_open m o h.alive.0 f
+      e h.alive.1 same
 
-  pub out_of_order : (o : Open) → is_fragment m.header ≡ true → opener_of c.still_open m ≡ Some o → same_order (order m.header) (order o.opener.header) ≡ false
-      → effects (message_reader C l) c (events_at_request_id s.slots.most c.still_open m) ≡ line_effect (goes_on m o) (one_effect (message_reader C l) c now.place o.opener (Faults FragmentOrder))
+  pub out_of_order : (o : Open) → is_fragment m.header ≡ true → opener_of c.still_open m ≡ Some o →
+      same_order (order m.header) (order o.opener.header) ≡ false
+      → effects (message_reader C l) c (events_at_request_id s.slots.most c.still_open m)
+      ≡ line_effect (goes_on m o) (one_effect (message_reader C l) c now.place o.opener
+      (Faults FragmentOrder))
   out_of_order o f e other =
-      fragment_out_of_order (rules_by C l s.slots.most) c c.still_open m o h.alive.0 f e h.alive.1 other ∙ rw h.current.place refl
+      fragment_out_of_order (rules_by C l s.slots.most) c c.still_open m o h.alive.0 f e h.alive.1
+      other ∙ rw h.current.place refl
 
   -- the line of a Fragment, as the code writes it
-  pub goes_text : (o : Open) (number : ℕ) → o.opener.number ≡ number → line_text (goes_on m o) ≡ continues_line now.number number
+  pub goes_text : (o : Open) (number : ℕ) → o.opener.number ≡ number →
+      line_text (goes_on m o) ≡ continues_line now.number number
   goes_text o number e = rw (h.current.number, e) refl
 
   -- which is the first of its lines
   pub goes_first : (o : Open) → is_fragment m.header ≡ true → opener_of c.still_open m ≡ Some o
-      → BeginsSo (goes_on m o) (effects (message_reader C l) c (events_at_request_id s.slots.most c.still_open m)).lines
+      → BeginsSo (goes_on m o) (effects (message_reader C l) c
+      (events_at_request_id s.slots.most c.still_open m)).lines
   goes_first o f e = go (same_order (order m.header) (order o.opener.header)) refl
     where
-      go : (b : Bool) → same_order (order m.header) (order o.opener.header) ≡ b → BeginsSo (goes_on m o) (effects (message_reader C l) c (events_at_request_id s.slots.most c.still_open m)).lines
+      go : (b : Bool) → same_order (order m.header) (order o.opener.header) ≡ b →
+          BeginsSo (goes_on m o) (effects (message_reader C l) c
+          (events_at_request_id s.slots.most c.still_open m)).lines
       go true same = record { more = _; is = ap (λ (p : Effect). p.lines) (in_order o f e same) }
-      go false other = record { more = _; is = ap (λ (p : Effect). p.lines) (out_of_order o f e other) }
+      go false other = record {
+        more = _;
+        is =
+            ap (λ (p : Effect). p.lines) (out_of_order o f e other);
+      }
 
-  pub orders : (o : Open) (a b : Order) (header : List ℕ) (r : Bool) → a ≡ order now.header → b ≡ order header
-      → header ≡ o.opener.header → same_order a b ≡ r → same_order (order m.header) (order o.opener.header) ≡ r
+  pub orders : (o : Open) (a b : Order) (header : List ℕ) (r : Bool) → a ≡ order now.header →
+      b ≡ order header
+      → header ≡ o.opener.header → same_order a b ≡ r →
+      same_order (order m.header) (order o.opener.header) ≡ r
   orders o a b header r e f g same = rw (h.current.header, ← g, ← e, ← f) same
 
 -- ---- What is said of a request id's octets.
 
 module _ (C : Table) (l : Answers) (number : ℕ) (header : List ℕ) (says : SaysId header) where
   -- of those before the last one nothing,
-  pub few_due : (xs : List ℕ) (x : ℕ) → length xs < 3 → due (message_reader C l) number header xs x ≡ []
+  pub few_due : (xs : List ℕ) (x : ℕ) → length xs < 3 →
+      due (message_reader C l) number header xs x ≡ []
   unfolding signatures_of
   few_due xs x few =
-      rw (few_said (λ n. signatures_of C (l n)) number header says.0 says.1 says.2 (xs ++ x ∷ []) (omega (arith, few, length_push xs x))) refl
+      rw (few_said (λ n. signatures_of C (l n)) number header says.0 says.1 says.2 (xs ++ x ∷ [])
+      (omega (arith, few, length_push xs x))) refl
 
   -- and of that the number that they spell
   pub four_due : (xs : List ℕ) (x : ℕ) → length xs ≡ 3
-      → due (message_reader C l) number header xs x ≡ request_id_said (num (order header) (take 4 (xs ++ x ∷ []))) ∷ []
+      → due (message_reader C l) number header xs x
+      ≡ request_id_said (num (order header) (take 4 (xs ++ x ∷ []))) ∷ []
   unfolding signatures_of
-  four_due (a ∷ b ∷ c ∷ []) x three = rw (four_said (λ n. signatures_of C (l n)) number header says.0 says.1 says.2 a b c x) refl
+  four_due (a ∷ b ∷ c ∷ []) x three = rw (four_said (λ n. signatures_of C (l n)) number header
+      says.0 says.1 says.2 a b c x) refl
   four_due [] x three = absurd (omega (arith, three))
   four_due (a ∷ []) x three = absurd (omega (arith, three))
   four_due (a ∷ b ∷ []) x three = absurd (omega (arith, three))
@@ -102,23 +132,37 @@ module _ (C : Table) (l : Answers) (number : ℕ) (header : List ℕ) (says : Sa
 
 -- the line of a request id
 abbrev pub id_line : ℕ → ℕ → ℕ → Line
-id_line at number i = record { place = at; number = number; content = Said Value (request_id_text i) }
+id_line at number i = record {
+  place = at;
+  number = number;
+  content =
+      Said Value (request_id_text i);
+}
 
-pub said_faults : (at number i : ℕ) (ls : List Line) → fault_count (id_line at number i ∷ ls) ≡ fault_count ls
+pub said_faults : (at number i : ℕ) (ls : List Line) →
+    fault_count (id_line at number i ∷ ls) ≡ fault_count ls
 unfolding fault_count
 said_faults at number i ls = refl
 
--- Slots where no message owns the octets do not change with what is kept of a message that isn't open.
-pub owned_by_none : (C : Table) (l : Answers) (s : Slots) (c c' : Tracked) → slots_at c' ≡ slots_at c → SlotsRepresent C l s c None → SlotsRepresent C l s c' None
-owned_by_none C l s c c' same h = record { slots = subst (AreSlots C l s.slots.entries) (sym same) h.slots; owner = go (index_of s.owner) h.owner }
+-- Slots where no message owns the octets do not change with what is kept of a message that isn't
+-- open.
+pub owned_by_none : (C : Table) (l : Answers) (s : Slots) (c c' : Tracked) →
+    slots_at c' ≡ slots_at c → SlotsRepresent C l s c None → SlotsRepresent C l s c' None
+owned_by_none C l s c c' same h = record {
+  slots =
+      subst (AreSlots C l s.slots.entries) (sym same) h.slots;
+  owner = go (index_of s.owner) h.owner;
+}
   where
-    go : (k : Option ℕ) → PayloadBelongs C l k (current_of s.owner) c None → PayloadBelongs C l k (current_of s.owner) c' None
+    go : (k : Option ℕ) → PayloadBelongs C l k (current_of s.owner) c None →
+        PayloadBelongs C l k (current_of s.owner) c' None
     go (Some k) h = absurd h
     go None h = h
 
 -- ---- The last octet of a header, and a request id.
 
-module _ (C : Table) (l : Answers) (s : Slots) (c : Tracked) (m : Message) (now : Current) (x : ℕ) (found : Continuation)
+module _ (C : Table) (l : Answers) (s : Slots) (c : Tracked) (m : Message) (now : Current) (x : ℕ)
+    (found : Continuation)
     (h : IsBeforeContinuation C l s c m now x found) where
   abbrev pub R : Rules
   R = rules_by C l s.slots.most
@@ -138,36 +182,48 @@ module _ (C : Table) (l : Answers) (s : Slots) (c : Tracked) (m : Message) (now 
 
   apart : IsNotOpen m.number c.still_open
   apart =
-      each_weaker {A = Open} (λ o. o.opener.number < m.number) (λ o. o.opener.number ≡ m.number → ⊥) (λ o less same. omega (arith, less, same)) c.still_open (h.before.newest few)
+      each_weaker {A = Open} (λ o. o.opener.number < m.number) (λ o. o.opener.number ≡ m.number → ⊥)
+      (λ o less same. omega (arith, less, same)) c.still_open (h.before.newest few)
 
   alive : c.known m.number ≡ Some m.payload
   alive = h.before.alive (fragment_named m.header h.fragment) few
 
   -- its last octet is taken by the Fragment itself
   taken : first R c m' ≡ one_effect (message_reader C l) c now.place (message_key m) (Takes x)
-  taken = takes_at C l s.slots.most c m now x h.before ∙ ap (λ (w : Option MessageKey). effect_to C l now.place c w (Takes x)) (owner_early c.still_open m few)
+  taken = takes_at C l s.slots.most c m now x h.before
+      ∙ ap (λ (w : Option MessageKey). effect_to C l now.place c w (Takes x))
+      (owner_early c.still_open m few)
 
   -- and says the request id
   pub first_lines : (first R c m').lines ≡ id_line now.place m.number found.id ∷ []
   unfolding id
   first_lines =
       ap (λ (p : Effect). p.lines) taken
-      ∙ (ap (λ (o : Option (List ℕ)). lines_of (message_reader C l) (event now.place (message_key m) (Takes x)) o) alive
+      ∙ (ap (λ (o : Option (List ℕ)). lines_of (message_reader C l)
+      (event now.place (message_key m) (Takes x)) o) alive
       ∙ (take_lines C l now.place (message_key m) m.payload x
-      ∙ (ap (reader_lines now.place m.number) (four_due C l m.number m.header (h.before.says (fragment_named m.header h.fragment)) m.payload x h.three)
+      ∙ (ap (reader_lines now.place m.number)
+      (four_due C l m.number m.header (h.before.says (fragment_named m.header h.fragment))
+      m.payload x h.three)
       ∙ ap (λ (i : ℕ). id_line now.place m.number i ∷ []) h.spells)))
 
   keeps : SlotsRepresent C l s c' None
   keeps =
       owned_by_none C l s c c'
-      (ap (λ (p : Effect). slots_at p.tracked) taken ∙ slots_stay (message_reader C l) c (event now.place (message_key m) (Takes x)) refl apart) h.keeps
+      (ap (λ (p : Effect). slots_at p.tracked) taken
+      ∙ slots_stay (message_reader C l) c (event now.place (message_key m) (Takes x)) refl
+      apart) h.keeps
 
   pub continues_at : IsContinuing C l s c' None m' now
   continues_at = record {
     keeps = keeps;
     rising = rw (first_still_open R c m') h.before.rising;
     current = h.before.current;
-    alive = (m.payload ++ x ∷ [], known_is C l s.slots.most c m now x h.before few (fragment_named m.header h.fragment));
+    alive = (
+      m.payload ++ x ∷ [],
+      known_is C l s.slots.most c m now x h.before few
+          (fragment_named m.header h.fragment),
+    );
   }
 
   pub opener_at : OpenAt c' found.id found.index
@@ -177,21 +233,25 @@ module _ (C : Table) (l : Answers) (s : Slots) (c : Tracked) (m : Message) (now 
   unfolding opener_of
   opener_is = ap (λ (i : ℕ). find (λ (o : Open). o.id == i) c'.still_open) h.spells ∙ opener_at.is
 
-  pub ids_are : id_events s.slots.most c'.still_open m' ≡ events_at_request_id s.slots.most c'.still_open m'
+  pub ids_are : id_events s.slots.most c'.still_open m'
+      ≡ events_at_request_id s.slots.most c'.still_open m'
   unfolding id_events
   ids_are = rw (eq-eqb (length m'.payload) 4 four) refl
 
   -- from then on the octets belong to the message that it continues
   owner_is : owner_of_next c'.still_open m' ≡ Some opener_at.o.opener
-  owner_is = owner_at_id c'.still_open m' four ∙ (owner_fragment c'.still_open m' h.fragment ∙ ap opener_key opener_is)
+  owner_is = owner_at_id c'.still_open m' four
+      ∙ (owner_fragment c'.still_open m' h.fragment ∙ ap opener_key opener_is)
 
-  pub behind_id : (s' : Slots) → SlotsRepresent C l s' (second R c m').tracked (Some opener_at.o.opener) → IsAtOctet C l s' (second R c m').tracked m' now
+  pub behind_id : (s' : Slots) → SlotsRepresent C l s' (second R c m').tracked
+      (Some opener_at.o.opener) → IsAtOctet C l s' (second R c m').tracked m' now
   behind_id s' k = named_at C l s.slots.most c m now x h.before s' (rw owner_is k)
 
   pub starts_text : line_text (starts (with_payload m [])) ≡ start_line now.number now.header
   starts_text = rw (h.before.current.number, h.before.current.header) refl
 
-  pub said_text : line_text (id_line now.place m.number found.id) ≡ numbered_line now.number (request_id_text found.id)
+  pub said_text : line_text (id_line now.place m.number found.id)
+      ≡ numbered_line now.number (request_id_text found.id)
   said_text = rw h.before.current.number refl
 
   -- ---- What they do.
@@ -199,21 +259,28 @@ module _ (C : Table) (l : Answers) (s : Slots) (c : Tracked) (m : Message) (now 
   abbrev pub rest_lines : List Line
   rest_lines = (second R c m').lines ++ (third R c m').lines
 
-  parts : effects (message_reader C l) c (events_of_octet s.slots.most c.still_open m') ≡ then_effect (first R c m') (then_effect (second R c m') (third R c m'))
+  parts : effects (message_reader C l) c (events_of_octet s.slots.most c.still_open m')
+      ≡ then_effect (first R c m') (then_effect (second R c m') (third R c m'))
   parts = in_parts R c m' (some_come C l s.slots.most c m now x h.before)
 
   -- the line of the request id is the first of its last octet
-  pub all_lines : (effects (message_reader C l) c (events_of_octet s.slots.most c.still_open m')).lines ≡ id_line now.place m.number found.id ∷ rest_lines
-  all_lines = ap (λ (p : Effect). p.lines) parts ∙ ap (λ (ls : List Line). ls ++ rest_lines) first_lines
+  pub all_lines : (effects (message_reader C l) c
+      (events_of_octet s.slots.most c.still_open m')).lines
+      ≡ id_line now.place m.number found.id ∷ rest_lines
+  all_lines = ap (λ (p : Effect). p.lines) parts
+      ∙ ap (λ (ls : List Line). ls ++ rest_lines) first_lines
 
   -- what the code does at the request id, and behind it
   pub second_does : {A E : Type 0} (n : A → ℕ) (r : Result A E) (a b : OutLog) (s' : Slots)
-      → DoesEffect C l n r a b s' (effects (message_reader C l) c' (events_at_request_id s.slots.most c'.still_open m')) (Some opener_at.o.opener)
+      → DoesEffect C l n r a b s' (effects (message_reader C l) c'
+      (events_at_request_id s.slots.most c'.still_open m')) (Some opener_at.o.opener)
       → DoesEffect C l n r a b s' (second R c m') (Some opener_at.o.opener)
   second_does n r a b s' p = rw ids_are p
 
-  pub leaves : (s' : Slots) → SlotsRepresent C l s' (third R c m').tracked (owner_after (second R c m').tracked.still_open m')
-      → (let effect = effects (message_reader C l) c (events_of_octet s.slots.most c.still_open m') in
+  pub leaves : (s' : Slots) → SlotsRepresent C l s' (third R c m').tracked
+      (owner_after (second R c m').tracked.still_open m')
+      → (let effect = effects (message_reader C l) c (events_of_octet s.slots.most c.still_open m')
+      in
       SlotsRepresent C l s' effect.tracked (owner_after effect.tracked.still_open m'))
   leaves s' k = rw (parts, ← third_owner R c m') k
 

@@ -19,25 +19,30 @@ use Rattle.giop_stream.proofs.SlotSteps.Cases.{effects_none, effects_own, effect
 
 -- ---- The owner of the octets.
 
-pub owner_early : (still_open : List Open) (m : Message) → length m.payload < 4 → owner_of_next still_open m ≡ Some (message_key m)
+pub owner_early : (still_open : List Open) (m : Message) → length m.payload < 4 →
+    owner_of_next still_open m ≡ Some (message_key m)
 unfolding owner_of_next has_named
 owner_early still_open m few = rw (lt-leb 4 (length m.payload) few) (go (is_fragment m.header))
   where
-    go : (b : Bool) → (if b && false then opener_key (opener_of still_open m) else Some (message_key m)) ≡ Some (message_key m)
+    go : (b : Bool) → (if b && false then opener_key (opener_of still_open m) else Some
+        (message_key m)) ≡ Some (message_key m)
     go true = refl
     go false = refl
 
-pub owner_plain : (still_open : List Open) (m : Message) → is_fragment m.header ≡ false → owner_of_next still_open m ≡ Some (message_key m)
+pub owner_plain : (still_open : List Open) (m : Message) → is_fragment m.header ≡ false →
+    owner_of_next still_open m ≡ Some (message_key m)
 unfolding owner_of_next has_named
 owner_plain still_open m f = rw f refl
 
-pub owner_passed : (still_open : List Open) (m : Message) → is_fragment m.header ≡ true → 4 ≤ length m.payload → owner_of_next still_open m ≡ opener_key (opener_of still_open m)
+pub owner_passed : (still_open : List Open) (m : Message) → is_fragment m.header ≡ true →
+    4 ≤ length m.payload → owner_of_next still_open m ≡ opener_key (opener_of still_open m)
 unfolding owner_of_next has_named
 owner_passed still_open m f many = rw (f, le-leb 4 (length m.payload) many) refl
 
 -- ---- The cases of the last octet.
 
-followed_by : (o f more : Bool) (xs ys : List Event) → (o || (f && more)) ≡ true → (if o then [] else if f then (if more then [] else xs) else ys) ≡ []
+followed_by : (o f more : Bool) (xs ys : List Event) → (o || (f && more)) ≡ true →
+    (if o then [] else if f then (if more then [] else xs) else ys) ≡ []
 followed_by true f more xs ys e = refl
 followed_by false true true xs ys e = refl
 followed_by false true false xs ys e = absurd cc
@@ -58,16 +63,20 @@ long_by n o e = ltb-false n 4 (go (nat_lt n 4) o e)
     go true false e = absurd cc
     go false o e = refl
 
-module _ (C : Table) (l : Answers) (s : Slots) (c : Tracked) (m : Message) (now : Current) (h : IsAtOctet C l s c m now) where
+module _ (C : Table) (l : Answers) (s : Slots) (c : Tracked) (m : Message) (now : Current)
+    (h : IsAtOctet C l s c m now) where
   header_at : (says : List ℕ → Bool) (r : Bool) → r ≡ says now.header → says m.header ≡ r
   header_at says r e = ap says h.current.header ∙ sym e
 
   pub ends_short : true ≡ is_short now.header
-      → effects (message_reader C l) c (events_at_end c.still_open m) ≡ one_effect (message_reader C l) c now.place (message_key m) (Faults Short)
+      → effects (message_reader C l) c (events_at_end c.still_open m)
+      ≡ one_effect (message_reader C l) c now.place (message_key m) (Faults Short)
   unfolding message_end_events is_short
-  ends_short e = let b = header_at is_short true e in rw b (effects_own (message_reader C l) c m (Faults Short) ∙ rw h.current.place refl)
+  ends_short e = let b = header_at is_short true e in
+      rw b (effects_own (message_reader C l) c m (Faults Short) ∙ rw h.current.place refl)
 
-  pub own_short : true ≡ is_short now.header → length m.payload ≡ size m.header → owner_of_next c.still_open m ≡ Some (message_key m)
+  pub own_short : true ≡ is_short now.header → length m.payload ≡ size m.header →
+      owner_of_next c.still_open m ≡ Some (message_key m)
   unfolding is_short
   own_short e last =
       let b = and_parts _ _ (header_at is_short true e) in
@@ -75,7 +84,8 @@ module _ (C : Table) (l : Answers) (s : Slots) (c : Tracked) (m : Message) (now 
       let less : length m.payload < 4 = omega (arith, few, last) in
       owner_early c.still_open m less
 
-  pub ends_followed : false ≡ is_short now.header → true ≡ is_followed now.header → effects (message_reader C l) c (events_at_end c.still_open m) ≡ no_effect c
+  pub ends_followed : false ≡ is_short now.header → true ≡ is_followed now.header →
+      effects (message_reader C l) c (events_at_end c.still_open m) ≡ no_effect c
   unfolding message_end_events is_short is_followed
   ends_followed e k =
       let short = header_at is_short false e in
@@ -83,32 +93,44 @@ module _ (C : Table) (l : Answers) (s : Slots) (c : Tracked) (m : Message) (now 
       rw (
         short,
         followed_by (is_opener m.header) (is_fragment m.header) (has_more m.header)
-            (event_of_open (now_of m) (opener_of c.still_open m) Closes) (own (now_of m) Closes) follows,
+            (event_of_open (now_of m) (opener_of c.still_open m) Closes) (own (now_of m) Closes)
+            follows,
       ) (effects_none (message_reader C l) c)
 
   ends_last : false ≡ is_short now.header → false ≡ is_followed now.header
-      → events_at_end c.still_open m ≡ (if is_fragment m.header then event_of_open (now_of m) (opener_of c.still_open m) Closes else own (now_of m) Closes)
+      → events_at_end c.still_open m ≡ (if is_fragment m.header then event_of_open (now_of m)
+      (opener_of c.still_open m) Closes else own (now_of m) Closes)
   unfolding message_end_events is_short is_followed
   ends_last e k =
       let short = header_at is_short false e in
       let last = header_at is_followed false k in
-      rw short (last_by (is_opener m.header) (is_fragment m.header) (has_more m.header) (event_of_open (now_of m) (opener_of c.still_open m) Closes) (own (now_of m) Closes) last)
+      rw short (last_by (is_opener m.header) (is_fragment m.header) (has_more m.header)
+      (event_of_open (now_of m) (opener_of c.still_open m) Closes) (own (now_of m) Closes) last)
 
-  long_enough : false ≡ is_short now.header → is_fragment m.header ≡ true → length m.payload ≡ size m.header → 4 ≤ length m.payload
+  long_enough : false ≡ is_short now.header → is_fragment m.header ≡ true →
+      length m.payload ≡ size m.header → 4 ≤ length m.payload
   unfolding is_short
   long_enough e f last =
-      let short : (nat_lt (size m.header) 4 && (is_opener m.header || is_fragment m.header)) ≡ false = header_at is_short false e in
+      let short : (nat_lt (size m.header) 4 && (is_opener m.header || is_fragment m.header))
+      ≡ false = header_at is_short false e in
       let long : 4 ≤ size m.header = long_by (size m.header) (is_opener m.header) (rw f at short) in
       omega (arith, long, last)
 
-  about_does : (r : Option Open) → effects (message_reader C l) c (event_of_open (now_of m) r Closes) ≡ effect_to C l now.place c (opener_key r) Closes
+  about_does : (r : Option Open) → effects (message_reader C l) c
+      (event_of_open (now_of m) r Closes) ≡ effect_to C l now.place c (opener_key r) Closes
   about_does None = effects_nobody (message_reader C l) c m Closes
   about_does (Some o) = effects_about (message_reader C l) c m o Closes ∙ rw h.current.place refl
 
-  pub ends_closed : false ≡ is_short now.header → false ≡ is_followed now.header → length m.payload ≡ size m.header
-      → effects (message_reader C l) c (events_at_end c.still_open m) ≡ effect_to C l now.place c (owner_of_next c.still_open m) Closes
+  pub ends_closed : false ≡ is_short now.header → false ≡ is_followed now.header →
+      length m.payload ≡ size m.header
+      → effects (message_reader C l) c (events_at_end c.still_open m)
+      ≡ effect_to C l now.place c (owner_of_next c.still_open m) Closes
   ends_closed e k last = go (is_fragment m.header) refl
     where
-      go : (f : Bool) → is_fragment m.header ≡ f → effects (message_reader C l) c (events_at_end c.still_open m) ≡ effect_to C l now.place c (owner_of_next c.still_open m) Closes
-      go true f = rw (ends_last e k, owner_passed c.still_open m f (long_enough e f last), f) (about_does (opener_of c.still_open m))
-      go false f = rw (ends_last e k, owner_plain c.still_open m f, f) (effects_own (message_reader C l) c m Closes ∙ rw h.current.place refl)
+      go : (f : Bool) → is_fragment m.header ≡ f →
+          effects (message_reader C l) c (events_at_end c.still_open m)
+          ≡ effect_to C l now.place c (owner_of_next c.still_open m) Closes
+      go true f = rw (ends_last e k, owner_passed c.still_open m f (long_enough e f last), f)
+          (about_does (opener_of c.still_open m))
+      go false f = rw (ends_last e k, owner_plain c.still_open m f, f)
+          (effects_own (message_reader C l) c m Closes ∙ rw h.current.place refl)

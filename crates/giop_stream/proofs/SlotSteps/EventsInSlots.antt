@@ -11,90 +11,122 @@ use Rattle.giop_stream.specs.Effects.{Tracked, tracked_at, lines_of, octets_then
 use Rattle.giop_stream.proofs.Lists.{each_weaker, filter_keeps}
 use Rattle.giop_stream.proofs.SlotSteps.OneSlotChanges.{own_then, others_then, slot_at, no_slot, slot_gone, slot_comes}
 
-stays_still_open : (still_open : List Open) (subject : MessageKey) (what : EventKind) → stays what ≡ true → changed still_open subject what ≡ still_open
+stays_still_open : (still_open : List Open) (subject : MessageKey) (what : EventKind) →
+    stays what ≡ true → changed still_open subject what ≡ still_open
 unfolding changed
 stays_still_open still_open subject (Opens i) h = absurd cc
 stays_still_open still_open subject (Cancelled j) h = absurd cc
 stays_still_open still_open subject Closes h = absurd cc
 stays_still_open still_open subject _ h = refl
 
-goes_still_open : (still_open : List Open) (subject : MessageKey) (what : EventKind) → goes what ≡ true
-    → changed still_open subject what ≡ filter (λ o. not (o.opener.number == subject.number)) still_open
+goes_still_open : (still_open : List Open) (subject : MessageKey) (what : EventKind) →
+    goes what ≡ true
+    → changed still_open subject what ≡ filter (λ o. not (o.opener.number == subject.number))
+    still_open
 unfolding changed
 goes_still_open still_open subject (Cancelled j) h = refl
 goes_still_open still_open subject Closes h = refl
 goes_still_open still_open subject _ h = absurd cc
 
-still_open_at : (R : MessageReader) (c : Tracked) (e : Event) → (tracked_at R c e).still_open ≡ changed c.still_open e.subject e.what
+still_open_at : (R : MessageReader) (c : Tracked) (e : Event) →
+    (tracked_at R c e).still_open ≡ changed c.still_open e.subject e.what
 unfolding tracked_at
 still_open_at R c e = refl
 
 -- an event that opens and closes nothing changes the slot of its message, where that is open
-pub slot_stays : (R : MessageReader) (c : Tracked) (e : Event) (k : ℕ) (o : Open) → stays e.what ≡ true → Rising c.still_open
+pub slot_stays : (R : MessageReader) (c : Tracked) (e : Event) (k : ℕ) (o : Open) →
+    stays e.what ≡ true → Rising c.still_open
     → slice_get c.still_open k ≡ Some o → e.subject ≡ o.opener
-    → slots_at (tracked_at R c e) ≡ slice_set (slots_at c) k (record { open_as = o; octets = octets_then R e (c.known o.opener.number) })
+    → slots_at (tracked_at R c e) ≡ slice_set (slots_at c) k
+    (record { open_as = o; octets = octets_then R e (c.known o.opener.number) })
 slot_stays R c e k o h rising here w =
     let number : o.opener.number ≡ e.subject.number = ap (λ (t : MessageKey). t.number) (sym w) in
     let now : (tracked_at R c e).known o.opener.number ≡ octets_then R e (c.known o.opener.number) =
-    ap (tracked_at R c e).known number ∙ (own_then R c e ∙ ap (λ (n : ℕ). octets_then R e (c.known n)) (sym number)) in
+    ap (tracked_at R c e).known number ∙ (own_then R c e
+    ∙ ap (λ (n : ℕ). octets_then R e (c.known n)) (sym number)) in
     rw (still_open_at R c e, stays_still_open c.still_open e.subject e.what h, ← now)
-    (slot_at (tracked_at R c e).known c.known c.still_open k o rising here (λ i other. others_then R c e i (λ same. other (same ∙ sym number))))
+    (slot_at (tracked_at R c e).known c.known c.still_open k o rising here
+    (λ i other. others_then R c e i (λ same. other (same ∙ sym number))))
 
 -- and no slot where it isn't
-pub slots_stay : (R : MessageReader) (c : Tracked) (e : Event) → stays e.what ≡ true → IsNotOpen e.subject.number c.still_open → slots_at (tracked_at R c e) ≡ slots_at c
+pub slots_stay : (R : MessageReader) (c : Tracked) (e : Event) → stays e.what ≡ true →
+    IsNotOpen e.subject.number c.still_open → slots_at (tracked_at R c e) ≡ slots_at c
 slots_stay R c e h apart =
     rw (still_open_at R c e, stays_still_open c.still_open e.subject e.what h)
-    (no_slot (tracked_at R c e).known c.known c.still_open e.subject.number apart (λ i other. others_then R c e i other))
+    (no_slot (tracked_at R c e).known c.known c.still_open e.subject.number apart
+    (λ i other. others_then R c e i other))
 
 -- an event that closes a message removes its slot
-pub slot_leaves : (R : MessageReader) (c : Tracked) (e : Event) (k : ℕ) (o : Open) → goes e.what ≡ true → Rising c.still_open
-    → slice_get c.still_open k ≡ Some o → e.subject ≡ o.opener → slots_at (tracked_at R c e) ≡ remove (slots_at c) k
+pub slot_leaves : (R : MessageReader) (c : Tracked) (e : Event) (k : ℕ) (o : Open) →
+    goes e.what ≡ true → Rising c.still_open
+    → slice_get c.still_open k ≡ Some o → e.subject ≡ o.opener →
+    slots_at (tracked_at R c e) ≡ remove (slots_at c) k
 slot_leaves R c e k o h rising here w =
     let number : o.opener.number ≡ e.subject.number = ap (λ (t : MessageKey). t.number) (sym w) in
-    let still_open : (tracked_at R c e).still_open ≡ filter (λ a. not (a.opener.number == o.opener.number)) c.still_open =
+    let still_open : (tracked_at R c e).still_open
+    ≡ filter (λ a. not (a.opener.number == o.opener.number)) c.still_open =
     still_open_at R c e ∙ (goes_still_open c.still_open e.subject e.what h
     ∙ ap (λ (n : ℕ). filter (λ a. not (a.opener.number == n)) c.still_open) (sym number)) in
     ap (slots_of (tracked_at R c e).known) still_open
-    ∙ slot_gone (tracked_at R c e).known c.known c.still_open k o rising here (λ i other. others_then R c e i (λ same. other (same ∙ sym number)))
+    ∙ slot_gone (tracked_at R c e).known c.known c.still_open k o rising here
+    (λ i other. others_then R c e i (λ same. other (same ∙ sym number)))
 
-none_there : (still_open : List Open) (n : ℕ) → IsNotOpen n still_open → filter (λ o. not (o.opener.number == n)) still_open ≡ still_open
+none_there : (still_open : List Open) (n : ℕ) → IsNotOpen n still_open →
+    filter (λ o. not (o.opener.number == n)) still_open ≡ still_open
 none_there still_open n h =
     filter_keeps (λ o. not (o.opener.number == n)) still_open
     (each_weaker {A = Open} (λ o. o.opener.number ≡ n → ⊥) (λ o. not (o.opener.number == n) ≡ true)
     (λ o j. rw (ne_eqb o.opener.number n j) refl) still_open h)
 
 -- and no slot where the message isn't open
-pub slots_left : (R : MessageReader) (c : Tracked) (e : Event) → goes e.what ≡ true → IsNotOpen e.subject.number c.still_open → slots_at (tracked_at R c e) ≡ slots_at c
+pub slots_left : (R : MessageReader) (c : Tracked) (e : Event) → goes e.what ≡ true →
+    IsNotOpen e.subject.number c.still_open → slots_at (tracked_at R c e) ≡ slots_at c
 slots_left R c e h apart =
-    rw (still_open_at R c e, goes_still_open c.still_open e.subject e.what h, none_there c.still_open e.subject.number apart)
-    (no_slot (tracked_at R c e).known c.known c.still_open e.subject.number apart (λ i other. others_then R c e i other))
+    rw (
+      still_open_at R c e,
+      goes_still_open c.still_open e.subject e.what h,
+      none_there c.still_open e.subject.number apart,
+    )
+    (no_slot (tracked_at R c e).known c.known c.still_open e.subject.number apart
+    (λ i other. others_then R c e i other))
 
 -- an event without an octet, and without a last line of its message
-opens_then : (R : MessageReader) (e : Event) (i : ℕ) (o : Option (List ℕ)) → e.what ≡ Opens i → octets_then R e o ≡ o
+opens_then : (R : MessageReader) (e : Event) (i : ℕ) (o : Option (List ℕ)) → e.what ≡ Opens i →
+    octets_then R e o ≡ o
 unfolding octets_then lines_of lines_for lines_of_event up_to_last_line octet
 opens_then R e i None h = refl
 opens_then R e i (Some xs) h = rw h (ap Some (append-nil xs))
 
-opens_still_open : (still_open : List Open) (subject : MessageKey) (what : EventKind) (i : ℕ) → what ≡ Opens i
+opens_still_open : (still_open : List Open) (subject : MessageKey) (what : EventKind) (i : ℕ) →
+    what ≡ Opens i
     → changed still_open subject what ≡ still_open ++ record { id = i; opener = subject } ∷ []
 unfolding changed
 opens_still_open still_open subject what i h = rw h refl
 
 -- an event that opens a message adds a slot
-pub slot_opens : (R : MessageReader) (c : Tracked) (e : Event) (i : ℕ) → e.what ≡ Opens i → IsNotOpen e.subject.number c.still_open
+pub slot_opens : (R : MessageReader) (c : Tracked) (e : Event) (i : ℕ) → e.what ≡ Opens i →
+    IsNotOpen e.subject.number c.still_open
     → slots_at (tracked_at R c e)
-    ≡ slots_at c ++ record { open_as = record { id = i; opener = e.subject }; octets = c.known e.subject.number } ∷ []
+    ≡ slots_at c ++ record {
+      open_as = record { id = i; opener = e.subject };
+      octets =
+          c.known e.subject.number;
+    } ∷ []
 slot_opens R c e i h apart =
     let o : Open = record { id = i; opener = e.subject } in
-    let now : (tracked_at R c e).known e.subject.number ≡ c.known e.subject.number = own_then R c e ∙ opens_then R e i (c.known e.subject.number) h in
+    let now : (tracked_at R c e).known e.subject.number ≡ c.known e.subject.number =
+    own_then R c e ∙ opens_then R e i (c.known e.subject.number) h in
     let others =
     each_weaker {A = Open} (λ a. a.opener.number ≡ e.subject.number → ⊥)
     (λ a. (tracked_at R c e).known a.opener.number ≡ c.known a.opener.number)
     (λ a j. others_then R c e a.opener.number j) c.still_open apart in
-    ap (slots_of (tracked_at R c e).known) (still_open_at R c e ∙ opens_still_open c.still_open e.subject e.what i h)
-    ∙ (slot_comes (tracked_at R c e).known c.known c.still_open o others ∙ ap (λ (xs : Option (List ℕ)). slots_at c ++ record { open_as = o; octets = xs } ∷ []) now)
+    ap (slots_of (tracked_at R c e).known)
+    (still_open_at R c e ∙ opens_still_open c.still_open e.subject e.what i h)
+    ∙ (slot_comes (tracked_at R c e).known c.known c.still_open o others
+    ∙ ap (λ (xs : Option (List ℕ)). slots_at c ++ record { open_as = o; octets = xs } ∷ []) now)
 
-quiet_then : (R : MessageReader) (e : Event) (n : ℕ) (o : Option (List ℕ)) → e.what ≡ Continues n → octets_then R e o ≡ o
+quiet_then : (R : MessageReader) (e : Event) (n : ℕ) (o : Option (List ℕ)) → e.what ≡ Continues n →
+    octets_then R e o ≡ o
 unfolding octets_then lines_of lines_for lines_of_event line up_to_last_line octet is_last_of
 quiet_then R e n None h = refl
 quiet_then R e n (Some xs) h = rw h (go (e.subject.number == e.subject.number))
@@ -104,7 +136,8 @@ quiet_then R e n (Some xs) h = rw h (go (e.subject.number == e.subject.number))
     go false = ap Some (append-nil xs)
 
 -- a Fragment that continues a message changes nothing
-pub tracked_stays : (R : MessageReader) (c : Tracked) (e : Event) (n : ℕ) → e.what ≡ Continues n → tracked_at R c e ≡ c
+pub tracked_stays : (R : MessageReader) (c : Tracked) (e : Event) (n : ℕ) → e.what ≡ Continues n →
+    tracked_at R c e ≡ c
 unfolding changed
 tracked_stays R c e n h = λ j. record { still_open = still_open j; known = λ i. known i j }
   where
@@ -119,7 +152,8 @@ tracked_stays R c e n h = λ j. record { still_open = still_open j; known = λ i
           | inr other ↦ others_then R c e i other
         ]
 
-begins_then : (R : MessageReader) (e : Event) (o : Option (List ℕ)) → e.what ≡ Begins → octets_then R e o ≡ o
+begins_then : (R : MessageReader) (e : Event) (o : Option (List ℕ)) → e.what ≡ Begins →
+    octets_then R e o ≡ o
 unfolding octets_then lines_of lines_for lines_of_event line up_to_last_line octet is_last_of
 begins_then R e None h = refl
 begins_then R e (Some xs) h = rw h (go (e.subject.number == e.subject.number))
@@ -129,7 +163,8 @@ begins_then R e (Some xs) h = rw h (go (e.subject.number == e.subject.number))
     go false = ap Some (append-nil xs)
 
 -- nor does a message that begins
-pub tracked_begins : (R : MessageReader) (c : Tracked) (e : Event) → e.what ≡ Begins → tracked_at R c e ≡ c
+pub tracked_begins : (R : MessageReader) (c : Tracked) (e : Event) → e.what ≡ Begins →
+    tracked_at R c e ≡ c
 unfolding changed
 tracked_begins R c e h = λ j. record { still_open = still_open j; known = λ i. known i j }
   where

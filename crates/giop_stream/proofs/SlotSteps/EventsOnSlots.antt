@@ -35,7 +35,8 @@ no_key = record { number = 0; header = [] }
 -- ---- An event that opens and closes nothing.
 
 abbrev pub IsStill : EventKind → Type 0
-IsStill what = (still_open : List Open) (subject : MessageKey) → changed still_open subject what ≡ still_open
+IsStill what = (still_open : List Open) (subject : MessageKey) →
+    changed still_open subject what ≡ still_open
 
 pub still_takes : (x : ℕ) → IsStill (Takes x)
 unfolding changed
@@ -65,7 +66,9 @@ pub record Alters (c : Tracked) (w : MessageKey) (effect : Effect) (part : Part)
 -- ---- An open message is removed.
 
 abbrev pub IsGone : EventKind → Type 0
-IsGone what = (still_open : List Open) (subject : MessageKey) → changed still_open subject what ≡ filter (λ o. not (o.opener.number == subject.number)) still_open
+IsGone what = (still_open : List Open) (subject : MessageKey) →
+    changed still_open subject what ≡ filter (λ o. not (o.opener.number == subject.number))
+    still_open
 
 pub gone_closes : IsGone Closes
 unfolding changed
@@ -75,7 +78,8 @@ pub gone_cancelled : (j : ℕ) → IsGone (Cancelled j)
 unfolding changed
 gone_cancelled j still_open subject = refl
 
-none_there : (still_open : List Open) (n : ℕ) → Each (λ o. o.opener.number ≡ n → ⊥) still_open → filter (λ o. not (o.opener.number == n)) still_open ≡ still_open
+none_there : (still_open : List Open) (n : ℕ) → Each (λ o. o.opener.number ≡ n → ⊥) still_open →
+    filter (λ o. not (o.opener.number == n)) still_open ≡ still_open
 none_there still_open n h =
     filter_keeps (λ o. not (o.opener.number == n)) still_open
     (each_weaker {A = Open} (λ o. o.opener.number ≡ n → ⊥) (λ o. not (o.opener.number == n) ≡ true)
@@ -85,58 +89,89 @@ none_there still_open n h =
 
 module _ (C : Table) (l : Answers) where
   pub still_alters : (at : ℕ) (c : Tracked) (w : MessageKey) (what : EventKind) → IsStill what
-      → Alters c w (one_effect (message_reader C l) c at w what) (part_of (message_reader C l) (event at w what) (c.known w.number))
+      → Alters c w (one_effect (message_reader C l) c at w what)
+      (part_of (message_reader C l) (event at w what) (c.known w.number))
   unfolding tracked_at part_of
   still_alters at c w what still =
       let R = message_reader C l in
       let e = event at w what in
-      record { lines = refl; still_open = still c.still_open w; own = own_then R c e; others = λ i h. others_then R c e i h }
+      record {
+        lines = refl;
+        still_open = still c.still_open w;
+        own = own_then R c e;
+        others =
+            λ i h. others_then R c e i h;
+      }
 
   -- the current message isn't open, and this is kept of it
-  own_parts : (s : Slots) (c : Tracked) (w : MessageKey) (message : Option Message) → IsItself s.owner message → SlotsRepresent C l s c (Some w)
+  own_parts : (s : Slots) (c : Tracked) (w : MessageKey) (message : Option Message) →
+      IsItself s.owner message → SlotsRepresent C l s c (Some w)
       → IsNotOpen w.number c.still_open × RepresentsMessage C l message w (c.known w.number)
   own_parts s c w message e h = rw (e.0, e.1) at h.owner
 
   -- a message that isn't open is no open one
-  no_index : (Q : Option ℕ → Type 0) (i : Option ℕ) (message : Option Message) (c : Tracked) (w : MessageKey) → IsNotOpen w.number c.still_open
-      → PayloadBelongs C l i message c (Some w) → (RepresentsMessage C l message w (c.known w.number) → Q None) → Q i
+  no_index : (Q : Option ℕ → Type 0) (i : Option ℕ) (message : Option Message) (c : Tracked)
+      (w : MessageKey) → IsNotOpen w.number c.still_open
+      → PayloadBelongs C l i message c (Some w) →
+      (RepresentsMessage C l message w (c.known w.number) → Q None) → Q i
   no_index Q None message c w apart h f = f h.1
   no_index Q (Some k) message c w apart h f =
-      absurd (at_index (λ o. o.opener.number ≡ w.number → ⊥) c.still_open k h.0 h.1 apart (ap (λ (t : MessageKey). t.number) h.2))
+      absurd (at_index (λ o. o.opener.number ≡ w.number → ⊥) c.still_open k h.0 h.1 apart
+      (ap (λ (t : MessageKey). t.number) h.2))
 
-  pub current_kept : (s : Slots) (c : Tracked) (w : MessageKey) → IsNotOpen w.number c.still_open → SlotsRepresent C l s c (Some w)
+  pub current_kept : (s : Slots) (c : Tracked) (w : MessageKey) → IsNotOpen w.number c.still_open →
+      SlotsRepresent C l s c (Some w)
       → RepresentsMessage C l (current_of s.owner) w (c.known w.number)
   current_kept s c w apart h =
-      no_index (λ i. RepresentsMessage C l (current_of s.owner) w (c.known w.number)) (index_of s.owner) (current_of s.owner) c w apart h.owner (λ k. k)
+      no_index (λ i. RepresentsMessage C l (current_of s.owner) w (c.known w.number))
+      (index_of s.owner) (current_of s.owner) c w apart h.owner (λ k. k)
 
-  own_now : (s : Slots) (of : PayloadOwner) (own' : Option Message) (c : Tracked) (w : MessageKey) (effect : Effect) (part : Part) → IsItself of own' → Alters c w effect part
-      → AreSlots C l s.slots.entries (slots_of c.known c.still_open) → IsNotOpen w.number c.still_open
-      → RepresentsMessage C l own' w part.octets → SlotsRepresent C l (record { slots = s.slots; owner = of }) effect.tracked (Some w)
+  own_now : (s : Slots) (of : PayloadOwner) (own' : Option Message) (c : Tracked) (w : MessageKey)
+      (effect : Effect) (part : Part) → IsItself of own' → Alters c w effect part
+      → AreSlots C l s.slots.entries (slots_of c.known c.still_open) →
+      IsNotOpen w.number c.still_open
+      → RepresentsMessage C l own' w part.octets →
+      SlotsRepresent C l (record { slots = s.slots; owner = of }) effect.tracked (Some w)
   own_now s of own' c w effect part is alters slots apart kept = record {
-    slots = rw (alters.still_open, no_slot effect.tracked.known c.known c.still_open w.number apart alters.others) slots;
+    slots = rw (
+      alters.still_open,
+      no_slot effect.tracked.known c.known c.still_open w.number apart
+          alters.others,
+    ) slots;
     owner = rw (is.0, is.1) (rw alters.still_open apart, rw alters.own kept);
   }
 
-  place_of : (s : Slots) (c : Tracked) (w : MessageKey) (k : ℕ) → index_of s.owner ≡ Some k → SlotsRepresent C l s c (Some w) → Place c w k
+  place_of : (s : Slots) (c : Tracked) (w : MessageKey) (k : ℕ) → index_of s.owner ≡ Some k →
+      SlotsRepresent C l s c (Some w) → Place c w k
   place_of s c w k e h = let p = parts in record { slot = p.0; here = p.1; is = p.2 }
     where
       parts : (o : Open) × (slice_get c.still_open k ≡ Some o) × (o.opener ≡ w)
       parts = rw e at h.owner
 
-  slot_here : (s : Slots) (c : Tracked) (w : MessageKey) (k : ℕ) (x : OpenEntry) → SlotsRepresent C l s c (Some w) → (p : Place c w k)
-      → slice_get s.slots.entries k ≡ Some x → IsSlot C l x (record { open_as = p.slot; octets = c.known w.number })
+  slot_here : (s : Slots) (c : Tracked) (w : MessageKey) (k : ℕ) (x : OpenEntry) →
+      SlotsRepresent C l s c (Some w) → (p : Place c w k)
+      → slice_get s.slots.entries k ≡ Some x →
+      IsSlot C l x (record { open_as = p.slot; octets = c.known w.number })
   slot_here s c w k x h p e =
       let number : p.slot.opener.number ≡ w.number = ap (λ (t : MessageKey). t.number) p.is in
       let one =
       slot_of C l s.slots.entries (slots_of c.known c.still_open) k x
-      (record { open_as = p.slot; octets = c.known p.slot.opener.number }) h.slots e (slots_get c k p.slot p.here) in
+      (record { open_as = p.slot; octets = c.known p.slot.opener.number }) h.slots e
+      (slots_get c k p.slot p.here) in
       subst (λ (n : ℕ). IsSlot C l x (record { open_as = p.slot; octets = c.known n })) number one
 
-  slot_now : (s : Slots) (of : PayloadOwner) (x : OpenEntry) (message : Option Message) (c : Tracked) (w : MessageKey) (effect : Effect) (part : Part)
-      (k : ℕ) → index_of of ≡ Some k → Alters c w effect part → Rising c.still_open → SlotsRepresent C l s c (Some w)
-      → index_of s.owner ≡ Some k → slice_get s.slots.entries k ≡ Some x → RepresentsMessage C l message w part.octets
+  slot_now : (s : Slots) (of : PayloadOwner) (x : OpenEntry) (message : Option Message)
+      (c : Tracked) (w : MessageKey) (effect : Effect) (part : Part)
+      (k : ℕ) → index_of of ≡ Some k → Alters c w effect part → Rising c.still_open →
+      SlotsRepresent C l s c (Some w)
+      → index_of s.owner ≡ Some k → slice_get s.slots.entries k ≡ Some x →
+      RepresentsMessage C l message w part.octets
       → SlotsRepresent C l (record {
-        slots = record { most = s.slots.most; entries = slice_set s.slots.entries k (with_message x message) };
+        slots = record {
+          most = s.slots.most;
+          entries =
+              slice_set s.slots.entries k (with_message x message);
+        };
         owner = of;
       }) effect.tracked (Some w)
   slot_now s of x message c w effect part k is alters rising h e get kept =
@@ -144,30 +179,40 @@ module _ (C : Table) (l : Answers) where
       let number : p.slot.opener.number ≡ w.number = ap (λ (t : MessageKey). t.number) p.is in
       let was = slot_here s c w k x h p get in
       let slot : Slot = record { open_as = p.slot; octets = part.octets } in
-      let new : IsSlot C l (with_message x message) slot = record { number = was.number; header = was.header; id = was.id; message = rw p.is kept } in
-      let slots' = slot_at effect.tracked.known c.known c.still_open k p.slot rising p.here (λ i other. alters.others i (λ same. other (same ∙ sym number))) in
-      let later : effect.tracked.known p.slot.opener.number ≡ part.octets = ap effect.tracked.known number ∙ alters.own in
+      let new : IsSlot C l (with_message x message) slot =
+      record { number = was.number; header = was.header; id = was.id; message = rw p.is kept }
+      in
+      let slots' = slot_at effect.tracked.known c.known c.still_open k p.slot rising p.here
+      (λ i other. alters.others i (λ same. other (same ∙ sym number))) in
+      let later : effect.tracked.known p.slot.opener.number ≡ part.octets =
+      ap effect.tracked.known number ∙ alters.own in
       record {
-        slots = rw (alters.still_open, slots', later) (set_slot C l s.slots.entries (slots_of c.known c.still_open) k (with_message x message) slot h.slots new);
+        slots = rw (alters.still_open, slots', later)
+            (set_slot C l s.slots.entries (slots_of c.known c.still_open) k (with_message x message)
+            slot h.slots new);
         owner = rw is (p.slot, rw alters.still_open p.here, p.is);
       }
 
   -- ---- A call that does a part of an effect, on the owner of the octets.
 
   -- the owner is the current message, or there is none
-  pub own_has : (Q : Option MessageKey → Type 0) (s : Slots) (c : Tracked) (owner_of_next : Option MessageKey) (message : Option Message)
+  pub own_has : (Q : Option MessageKey → Type 0) (s : Slots) (c : Tracked)
+      (owner_of_next : Option MessageKey) (message : Option Message)
       → IsItself s.owner message → SlotsRepresent C l s c owner_of_next → (message ≡ None → Q None)
       → ((w : MessageKey) → SlotsRepresent C l s c (Some w) → Q (Some w)) → Q owner_of_next
   own_has Q s c None message e h none f = none (rw (e.0, e.1) at h.owner)
   own_has Q s c (Some w) message e h none f = f w h
 
-  pub slot_has : (Q : Option MessageKey → Type 0) (s : Slots) (c : Tracked) (owner_of_next : Option MessageKey) (k : ℕ)
-      → index_of s.owner ≡ Some k → SlotsRepresent C l s c owner_of_next → ((w : MessageKey) → SlotsRepresent C l s c (Some w) → Q (Some w)) → Q owner_of_next
+  pub slot_has : (Q : Option MessageKey → Type 0) (s : Slots) (c : Tracked)
+      (owner_of_next : Option MessageKey) (k : ℕ)
+      → index_of s.owner ≡ Some k → SlotsRepresent C l s c owner_of_next →
+      ((w : MessageKey) → SlotsRepresent C l s c (Some w) → Q (Some w)) → Q owner_of_next
   slot_has Q s c None k e h f = absurd (rw e at h.owner)
   slot_has Q s c (Some w) k e h f = f w h
 
   -- the owner is the open message of this slot
-  in_slot : (s : Slots) (x : OpenEntry) (c : Tracked) (w : MessageKey) (k : ℕ) → index_of s.owner ≡ Some k
+  in_slot : (s : Slots) (x : OpenEntry) (c : Tracked) (w : MessageKey) (k : ℕ) →
+      index_of s.owner ≡ Some k
       → slice_get s.slots.entries k ≡ Some x → SlotsRepresent C l s c (Some w)
       → (w.number ≡ x.value.number) × RepresentsMessage C l x.value.message w (c.known w.number)
   in_slot s x c w k e get h =
@@ -177,20 +222,25 @@ module _ (C : Table) (l : Answers) where
       (sym number ∙ sym was.number, rw p.is at was.message)
 
   module _ {A E : Type 0} {n : A → ℕ} (r : Result A E) (a b : OutLog) where
-    pub own_effects : (s : Slots) (of : PayloadOwner) (message own' : Option Message) (c : Tracked) (w : MessageKey) (effect : Effect) (part : Part)
+    pub own_effects : (s : Slots) (of : PayloadOwner) (message own' : Option Message) (c : Tracked)
+        (w : MessageKey) (effect : Effect) (part : Part)
         → IsItself of own'
         → IsItself s.owner message → SlotsRepresent C l s c (Some w) → Alters c w effect part
         → (RepresentsMessage C l message w (c.known w.number) → DoesPart C l n r a b own' w part)
         → DoesEffect C l n r a b (record { slots = s.slots; owner = of }) effect (Some w)
     own_effects s of message own' c w effect part is e h alters f =
         let now = own_parts s c w message e h in
-        performs_on r a b alters.lines (λ k. own_now s of own' c w effect part is alters h.slots now.0 k) (f now.1)
+        performs_on r a b alters.lines (λ k.
+        own_now s of own' c w effect part is alters h.slots now.0 k) (f now.1)
 
     -- the owner is an open message
-    pub slot_effects : (s : Slots) (of : PayloadOwner) (v : Contents) (message : Option Message) (c : Tracked) (w : MessageKey) (effect : Effect)
-        (part : Part) (k : ℕ) → index_of of ≡ Some k → index_of s.owner ≡ Some k → option_map (λ e. e.value) (slice_get s.slots.entries k) ≡ Some v
+    pub slot_effects : (s : Slots) (of : PayloadOwner) (v : Contents) (message : Option Message)
+        (c : Tracked) (w : MessageKey) (effect : Effect)
+        (part : Part) (k : ℕ) → index_of of ≡ Some k → index_of s.owner ≡ Some k →
+        option_map (λ e. e.value) (slice_get s.slots.entries k) ≡ Some v
         → Rising c.still_open → SlotsRepresent C l s c (Some w) → Alters c w effect part
-        → (w.number ≡ v.number → RepresentsMessage C l v.message w (c.known w.number) → DoesPart C l n r a b message w part)
+        → (w.number ≡ v.number → RepresentsMessage C l v.message w (c.known w.number) →
+        DoesPart C l n r a b message w part)
         → DoesEffect C l n r a b (record {
           slots = with_value s.slots k (record v { message = message });
           owner = of;
@@ -205,12 +255,15 @@ module _ (C : Table) (l : Answers) where
         (f (rw there.2 at was.0) (rw there.2 at was.1))
 
   -- the message that represents the owner of the octets
-  pub own_kept : (s : Slots) (c : Tracked) (w : MessageKey) (message : Option Message) → IsItself s.owner message → SlotsRepresent C l s c (Some w)
+  pub own_kept : (s : Slots) (c : Tracked) (w : MessageKey) (message : Option Message) →
+      IsItself s.owner message → SlotsRepresent C l s c (Some w)
       → RepresentsMessage C l message w (c.known w.number)
   own_kept s c w message e h = (own_parts s c w message e h).1
 
-  pub slot_kept : (s : Slots) (v : Contents) (c : Tracked) (w : MessageKey) (k : ℕ) → index_of s.owner ≡ Some k
-      → option_map (λ e. e.value) (slice_get s.slots.entries k) ≡ Some v → SlotsRepresent C l s c (Some w)
+  pub slot_kept : (s : Slots) (v : Contents) (c : Tracked) (w : MessageKey) (k : ℕ) →
+      index_of s.owner ≡ Some k
+      → option_map (λ e. e.value) (slice_get s.slots.entries k) ≡ Some v →
+      SlotsRepresent C l s c (Some w)
       → RepresentsMessage C l v.message w (c.known w.number)
   slot_kept s v c w k e get h =
       let there = entry_there s.slots.entries k v get in
@@ -218,67 +271,96 @@ module _ (C : Table) (l : Answers) where
       rw there.2 at was.1
 
   -- an open owner has a slot
-  pub no_slot_says : {A : Type 0} (s : Slots) (c : Tracked) (owner_of_next : Option MessageKey) (k : ℕ) → index_of s.owner ≡ Some k
+  pub no_slot_says : {A : Type 0} (s : Slots) (c : Tracked) (owner_of_next : Option MessageKey)
+      (k : ℕ) → index_of s.owner ≡ Some k
       → (k < length s.slots.entries → ⊥) → SlotsRepresent C l s c owner_of_next → A
   no_slot_says s c None k e n h = absurd (rw e at h.owner)
   no_slot_says s c (Some w) k e n h =
       let p = place_of s c w k e h in
       absurd (n (no_more_slots C l s.slots.entries (slots_of c.known c.still_open) k
-      (record { open_as = p.slot; octets = c.known p.slot.opener.number }) h.slots (slots_get c k p.slot p.here)))
+      (record { open_as = p.slot; octets = c.known p.slot.opener.number }) h.slots
+      (slots_get c k p.slot p.here)))
 
-  pub begin_keeps : (s : Slots) (m : Message) (c : Tracked) (owner_of_next : Option MessageKey) (w : MessageKey) (number : ℕ) (header : List ℕ)
-      → SlotsRepresent C l s c owner_of_next → Follows C l number header m [] → w.number ≡ number → w.header ≡ header
+  pub begin_keeps : (s : Slots) (m : Message) (c : Tracked) (owner_of_next : Option MessageKey)
+      (w : MessageKey) (number : ℕ) (header : List ℕ)
+      → SlotsRepresent C l s c owner_of_next → Follows C l number header m [] → w.number ≡ number →
+      w.header ≡ header
       → c.known w.number ≡ Some [] → Each (λ o. o.opener.number ≡ w.number → ⊥) c.still_open
       → SlotsRepresent C l (record { slots = s.slots; owner = owners.Current (Some m) }) c (Some w)
-  begin_keeps s m c owner_of_next w number header h e n f known apart = record { slots = h.slots; owner = (apart, rw known kept) }
+  begin_keeps s m c owner_of_next w number header h e n f known apart =
+      record { slots = h.slots; owner = (apart, rw known kept) }
     where
       kept : RepresentsMessage C l (Some m) w (Some [])
       kept = rw (n, f) e
 
   -- an event without a line and without an octet
-  opens_then : (at : ℕ) (w : MessageKey) (i : ℕ) (o : Option (List ℕ)) → octets_then (message_reader C l) (event at w (Opens i)) o ≡ o
+  opens_then : (at : ℕ) (w : MessageKey) (i : ℕ) (o : Option (List ℕ)) →
+      octets_then (message_reader C l) (event at w (Opens i)) o ≡ o
   unfolding octets_then lines_of lines_for lines_of_event up_to_last_line octet
   opens_then at w i None = refl
   opens_then at w i (Some xs) = ap Some (append-nil xs)
 
   opened_still_open : (at : ℕ) (c : Tracked) (w : MessageKey) (i : ℕ)
-      → (tracked_at (message_reader C l) c (event at w (Opens i))).still_open ≡ c.still_open ++ record { id = i; opener = w } ∷ []
+      → (tracked_at (message_reader C l) c (event at w (Opens i))).still_open ≡ c.still_open
+      ++ record { id = i; opener = w } ∷ []
   unfolding tracked_at changed
   opened_still_open at c w i = refl
 
   -- a message becomes open, as the code does it
-  pub open_keeps : (s : Slots) (slots' : Entries Contents) (c : Tracked) (w : MessageKey) (at number : ℕ) (header : List ℕ) (i : ℕ) (message : Option Message) (k : ℕ)
-      → slots'.entries ≡ s.slots.entries ++ open_entry i number header message ∷ [] → message ≡ current_of s.owner → k ≡ length s.slots.entries
-      → SlotsRepresent C l s c (Some w) → IsNotOpen w.number c.still_open → w.number ≡ number → w.header ≡ header
-      → SlotsRepresent C l (record { slots = slots'; owner = owners.Open (Some k) }) (tracked_at (message_reader C l) c (event at w (Opens i))) (Some w)
+  pub open_keeps : (s : Slots) (slots' : Entries Contents) (c : Tracked) (w : MessageKey)
+      (at number : ℕ) (header : List ℕ) (i : ℕ) (message : Option Message) (k : ℕ)
+      → slots'.entries ≡ s.slots.entries ++ open_entry i number header message ∷ [] →
+      message ≡ current_of s.owner → k ≡ length s.slots.entries
+      → SlotsRepresent C l s c (Some w) → IsNotOpen w.number c.still_open → w.number ≡ number →
+      w.header ≡ header
+      → SlotsRepresent C l (record { slots = slots'; owner = owners.Open (Some k) })
+      (tracked_at (message_reader C l) c (event at w (Opens i))) (Some w)
   open_keeps s slots' c w at number header i message k items is long h apart n f =
       let ev = event at w (Opens i) in
       let o : Open = record { id = i; opener = w } in
       let known : (tracked_at (message_reader C l) c ev).known w.number ≡ c.known w.number =
       own_then (message_reader C l) c ev ∙ opens_then at w i (c.known w.number) in
-      let same : Each (λ a. (tracked_at (message_reader C l) c ev).known a.opener.number ≡ c.known a.opener.number) c.still_open =
+      let same : Each (λ a. (tracked_at (message_reader C l) c ev).known a.opener.number
+      ≡ c.known a.opener.number) c.still_open =
       each_weaker (λ a. a.opener.number ≡ w.number → ⊥)
       (λ a. (tracked_at (message_reader C l) c ev).known a.opener.number ≡ c.known a.opener.number)
       (λ a j. others_then (message_reader C l) c ev a.opener.number j) c.still_open apart in
-      let many : length s.slots.entries ≡ length c.still_open = are_as_many C l s.slots.entries (slots_of c.known c.still_open) h.slots ∙ slots_many c.known c.still_open in
+      let many : length s.slots.entries ≡ length c.still_open =
+      are_as_many C l s.slots.entries (slots_of c.known c.still_open) h.slots
+      ∙ slots_many c.known c.still_open in
       record {
-        slots = rw (items, opened_still_open at c w i, slot_comes (tracked_at (message_reader C l) c ev).known c.known c.still_open o same, known)
+        slots = rw (
+          items,
+          opened_still_open at c w i,
+          slot_comes (tracked_at (message_reader C l) c ev).known c.known c.still_open o same,
+          known,
+        )
             (push_slot C l s.slots.entries (slots_of c.known c.still_open)
             (open_entry i number header message)
             (record { open_as = o; octets = c.known w.number }) h.slots
-            (record { number = sym n; header = sym f; id = refl; message = rw is (current_kept s c w apart h) }));
+            (record {
+              number = sym n;
+              header = sym f;
+              id = refl;
+              message =
+                  rw is (current_kept s c w apart h);
+            }));
         owner = (o, rw (opened_still_open at c w i, long, many) (get_last c.still_open o), refl);
       }
 
   gone_still_open : (at : ℕ) (c : Tracked) (w : MessageKey) (what : EventKind) → IsGone what
-      → (tracked_at (message_reader C l) c (event at w what)).still_open ≡ filter (λ o. not (o.opener.number == w.number)) c.still_open
+      → (tracked_at (message_reader C l) c (event at w what)).still_open
+      ≡ filter (λ o. not (o.opener.number == w.number)) c.still_open
   unfolding tracked_at
   gone_still_open at c w what h = h c.still_open w
 
   -- the slots stay where a message that isn't open closes
-  own_gone : (c : Tracked) (w : MessageKey) (at : ℕ) (what : EventKind) (ks : List OpenEntry) → IsGone what
-      → Each (λ o. o.opener.number ≡ w.number → ⊥) c.still_open → AreSlots C l ks (slots_of c.known c.still_open)
-      → AreSlots C l ks (slots_of (tracked_at (message_reader C l) c (event at w what)).known (tracked_at (message_reader C l) c (event at w what)).still_open)
+  own_gone : (c : Tracked) (w : MessageKey) (at : ℕ) (what : EventKind) (ks : List OpenEntry) →
+      IsGone what
+      → Each (λ o. o.opener.number ≡ w.number → ⊥) c.still_open →
+      AreSlots C l ks (slots_of c.known c.still_open)
+      → AreSlots C l ks (slots_of (tracked_at (message_reader C l) c (event at w what)).known
+      (tracked_at (message_reader C l) c (event at w what)).still_open)
   own_gone c w at what ks gone apart h =
       let e = event at w what in
       rw (
@@ -290,9 +372,12 @@ module _ (C : Table) (l : Answers) where
       ) h
 
   -- and lose this one where its message closes
-  pub slot_goes : (c : Tracked) (k : ℕ) (o : Open) (at : ℕ) (what : EventKind) (ks : List OpenEntry) → IsGone what
-      → Rising c.still_open → slice_get c.still_open k ≡ Some o → AreSlots C l ks (slots_of c.known c.still_open)
-      → AreSlots C l (remove ks k) (slots_of (tracked_at (message_reader C l) c (event at o.opener what)).known
+  pub slot_goes : (c : Tracked) (k : ℕ) (o : Open) (at : ℕ) (what : EventKind)
+      (ks : List OpenEntry) → IsGone what
+      → Rising c.still_open → slice_get c.still_open k ≡ Some o →
+      AreSlots C l ks (slots_of c.known c.still_open)
+      → AreSlots C l (remove ks k) (slots_of
+      (tracked_at (message_reader C l) c (event at o.opener what)).known
       (tracked_at (message_reader C l) c (event at o.opener what)).still_open)
   slot_goes c k o at what ks gone rising here h =
       let e = event at o.opener what in
@@ -305,22 +390,36 @@ module _ (C : Table) (l : Answers) where
 
   -- a call that closes a message
   module _ {A E : Type 0} {n : A → ℕ} (r : Result A E) (a b : OutLog) (at : ℕ) where
-    pub own_closes : (s : Slots) (of : PayloadOwner) (message : Option Message) (c : Tracked) (owner_of_next : Option MessageKey) → IsItself of None
+    pub own_closes : (s : Slots) (of : PayloadOwner) (message : Option Message) (c : Tracked)
+        (owner_of_next : Option MessageKey) → IsItself of None
         → IsItself s.owner message → SlotsRepresent C l s c owner_of_next
-        → ((w : MessageKey) (o : Option (List ℕ)) → RepresentsMessage C l message w o → WritesLines n r a b (lines_of (message_reader C l) (event at w Closes) o))
-        → DoesEffect C l n r a b (record { slots = s.slots; owner = of }) (effect_to C l at c owner_of_next Closes) None
+        → ((w : MessageKey) (o : Option (List ℕ)) → RepresentsMessage C l message w o →
+        WritesLines n r a b (lines_of (message_reader C l) (event at w Closes) o))
+        → DoesEffect C l n r a b (record { slots = s.slots; owner = of })
+        (effect_to C l at c owner_of_next Closes) None
     own_closes s of message c None is e h f =
-        performs_on r a b (sym (over_lines (message_reader C l) (event at no_key Closes))) (λ k. record { slots = h.slots; owner = rw (is.0, is.1) refl })
+        performs_on r a b (sym (over_lines (message_reader C l) (event at no_key Closes)))
+        (λ k. record { slots = h.slots; owner = rw (is.0, is.1) refl })
         (f no_key None (rw (rw (e.0, e.1) at h.owner) tt))
     own_closes s of message c (Some w) is e h f =
         let now = own_parts s c w message e h in
-        performs_on r a b refl (λ k. record { slots = own_gone c w at Closes s.slots.entries gone_closes now.0 h.slots; owner = rw (is.0, is.1) refl }) (f w (c.known w.number) now.1)
+        performs_on r a b refl (λ k. record {
+          slots =
+              own_gone c w at Closes s.slots.entries gone_closes now.0 h.slots;
+          owner =
+              rw (is.0, is.1) refl;
+        }) (f w (c.known w.number) now.1)
 
-    pub slot_closes : (s : Slots) (of : PayloadOwner) (x : OpenEntry) (slots' : Entries Contents) (c : Tracked) (owner_of_next : Option MessageKey) (k : ℕ)
-        → IsItself of None → index_of s.owner ≡ Some k → slice_get s.slots.entries k ≡ Some x → slots'.entries ≡ remove s.slots.entries k
+    pub slot_closes : (s : Slots) (of : PayloadOwner) (x : OpenEntry) (slots' : Entries Contents)
+        (c : Tracked) (owner_of_next : Option MessageKey) (k : ℕ)
+        → IsItself of None → index_of s.owner ≡ Some k → slice_get s.slots.entries k ≡ Some x →
+        slots'.entries ≡ remove s.slots.entries k
         → Rising c.still_open → SlotsRepresent C l s c owner_of_next
-        → ((w : MessageKey) → RepresentsMessage C l x.value.message w (c.known w.number) → WritesLines n r a b (lines_of (message_reader C l) (event at w Closes) (c.known w.number)))
-        → DoesEffect C l n r a b (record { slots = slots'; owner = of }) (effect_to C l at c owner_of_next Closes) None
+        → ((w : MessageKey) → RepresentsMessage C l x.value.message w (c.known w.number) →
+        WritesLines n r a b (lines_of (message_reader C l) (event at w Closes)
+        (c.known w.number)))
+        → DoesEffect C l n r a b (record { slots = slots'; owner = of })
+        (effect_to C l at c owner_of_next Closes) None
     slot_closes s of x slots' c None k is e get items rising h f = absurd (rw e at h.owner)
     slot_closes s of x slots' c (Some w) k is e get items rising h f =
         let p = place_of s c w k e h in
@@ -331,31 +430,47 @@ module _ (C : Table) (l : Answers) where
         })
         (f w (in_slot s x c w k e get h).1)
 
-  pub open_slot : (s : Slots) (x : OpenEntry) (c : Tracked) (owner_of_next : Option MessageKey) (k : ℕ) (o : Open) → SlotsRepresent C l s c owner_of_next
+  pub open_slot : (s : Slots) (x : OpenEntry) (c : Tracked) (owner_of_next : Option MessageKey)
+      (k : ℕ) (o : Open) → SlotsRepresent C l s c owner_of_next
       → slice_get c.still_open k ≡ Some o → slice_get s.slots.entries k ≡ Some x
       → IsSlot C l x (record { open_as = o; octets = c.known o.opener.number })
   open_slot s x c owner_of_next k o h here e =
-      slot_of C l s.slots.entries (slots_of c.known c.still_open) k x (record { open_as = o; octets = c.known o.opener.number }) h.slots e (slots_get c k o here)
+      slot_of C l s.slots.entries (slots_of c.known c.still_open) k x
+      (record { open_as = o; octets = c.known o.opener.number }) h.slots e
+      (slots_get c k o here)
 
-  pub open_there : {A : Type 0} (s : Slots) (c : Tracked) (owner_of_next : Option MessageKey) (k : ℕ) (o : Open)
-      → (k < length s.slots.entries → ⊥) → SlotsRepresent C l s c owner_of_next → slice_get c.still_open k ≡ Some o → A
+  pub open_there : {A : Type 0} (s : Slots) (c : Tracked) (owner_of_next : Option MessageKey)
+      (k : ℕ) (o : Open)
+      → (k < length s.slots.entries → ⊥) → SlotsRepresent C l s c owner_of_next →
+      slice_get c.still_open k ≡ Some o → A
   open_there s c owner_of_next k o n h here =
       absurd (n (no_more_slots C l s.slots.entries (slots_of c.known c.still_open) k
       (record { open_as = o; octets = c.known o.opener.number }) h.slots (slots_get c k o here)))
 
-  pub cancel_keeps : (s : Slots) (slots' : Entries Contents) (c : Tracked) (w : MessageKey) (k : ℕ) (o : Open) (at j : ℕ)
-      → SlotsRepresent C l s c (Some w) → IsNotOpen w.number c.still_open → slice_get c.still_open k ≡ Some o → Rising c.still_open
+  pub cancel_keeps : (s : Slots) (slots' : Entries Contents) (c : Tracked) (w : MessageKey) (k : ℕ)
+      (o : Open) (at j : ℕ)
+      → SlotsRepresent C l s c (Some w) → IsNotOpen w.number c.still_open →
+      slice_get c.still_open k ≡ Some o → Rising c.still_open
       → slots'.entries ≡ remove s.slots.entries k
-      → SlotsRepresent C l (record { slots = slots'; owner = s.owner }) (tracked_at (message_reader C l) c (event at o.opener (Cancelled j))) (Some w)
+      → SlotsRepresent C l (record { slots = slots'; owner = s.owner })
+      (tracked_at (message_reader C l) c (event at o.opener (Cancelled j))) (Some w)
   cancel_keeps s slots' c w k o at j h free here rising items =
       let ev = event at o.opener (Cancelled j) in
       let after = tracked_at (message_reader C l) c ev in
-      let apart : o.opener.number ≡ w.number → ⊥ = at_index (λ a. a.opener.number ≡ w.number → ⊥) c.still_open k o here free in
+      let apart : o.opener.number ≡ w.number → ⊥ =
+      at_index (λ a. a.opener.number ≡ w.number → ⊥) c.still_open k o here free in
       let others : IsNotOpen w.number after.still_open =
       rw (gone_still_open at c o.opener (Cancelled j) (gone_cancelled j))
-      (each_filter (λ a. a.opener.number ≡ w.number → ⊥) (λ a. not (a.opener.number == o.opener.number)) c.still_open free) in
+      (each_filter (λ a. a.opener.number ≡ w.number → ⊥)
+      (λ a. not (a.opener.number == o.opener.number)) c.still_open free) in
       record {
-        slots = rw items (slot_goes c k o at (Cancelled j) s.slots.entries (gone_cancelled j) rising here h.slots);
-        owner = no_index (λ i. PayloadBelongs C l i (current_of s.owner) after (Some w)) (index_of s.owner) (current_of s.owner) c w free h.owner
-            (λ k. (others, rw (others_then (message_reader C l) c ev w.number (λ same. apart (sym same))) k));
+        slots = rw items (slot_goes c k o at (Cancelled j) s.slots.entries (gone_cancelled j) rising
+            here h.slots);
+        owner = no_index (λ i. PayloadBelongs C l i (current_of s.owner) after (Some w))
+            (index_of s.owner) (current_of s.owner) c w free h.owner
+            (λ k. (
+              others,
+              rw (others_then (message_reader C l) c ev w.number
+                  (λ same. apart (sym same))) k,
+            ));
       }

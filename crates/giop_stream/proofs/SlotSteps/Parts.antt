@@ -1,4 +1,5 @@
--- A payload octet in three parts, as the code does it: its owner takes it, then the request id's events, then the end's.
+-- A payload octet in three parts, as the code does it: its owner takes it, then the request id's
+-- events, then the end's.
 use Rattle.std.proofs.Common.{inl, inr, append-nil, append_assoc, length-append, suc, ◌≡◌, ℕ, ◌+◌, ◌-◌, ◌<◌, ◌≤◌, Bool, true, false, List, [], ◌∷◌, ◌++◌, length, get_or, refl, sym, ap, ◌∙◌, Option, Some, None, arith}
 use Rattle.std.specs.Prelude.{◌==◌, if◌then◌else◌}
 use Rattle.std.proofs.lemmas.Bool.{ne_eqb, eqb-true, le-leb, lt-ltb, cases_lt}
@@ -28,45 +29,59 @@ use Rattle.giop_stream.proofs.SlotSteps.AfterOctet.{owner_own}
 
 -- ---- The open messages between the parts.
 
-pub effects_still_open : (R : MessageReader) (c : Tracked) (es : List Event) → (effects R c es).tracked.still_open ≡ opened c.still_open es
+pub effects_still_open : (R : MessageReader) (c : Tracked) (es : List Event) →
+    (effects R c es).tracked.still_open ≡ opened c.still_open es
 unfolding effects opened tracked_at
 effects_still_open R c [] = refl
 effects_still_open R c (e ∷ es) = effects_still_open R (tracked_at R c e) es
 
 -- a Fragment's request id opens and closes nothing
-fragment_still : (most : ℕ) (still_open : List Open) (m : Message) → is_fragment m.header ≡ true → opened still_open (id_events most still_open m) ≡ still_open
+fragment_still : (most : ℕ) (still_open : List Open) (m : Message) → is_fragment m.header ≡ true →
+    opened still_open (id_events most still_open m) ≡ still_open
 unfolding id_events request_id_events opened
 fragment_still most still_open m f = go (length m.payload == 4)
   where
-    go : (b : Bool) → opened still_open (if b then events_at_request_id most still_open m else []) ≡ still_open
+    go : (b : Bool) → opened still_open (if b then events_at_request_id most still_open m else [])
+        ≡ still_open
     go true = rw f (quiet_continues still_open (now_of m) (opener_of still_open m))
     go false = refl
 
 -- so that the end has the same events after it
-plain_end : (still_open still_open' : List Open) (m : Message) → is_fragment m.header ≡ false → end_events still_open' m ≡ end_events still_open m
+plain_end : (still_open still_open' : List Open) (m : Message) → is_fragment m.header ≡ false →
+    end_events still_open' m ≡ end_events still_open m
 unfolding end_events message_end_events
 plain_end still_open still_open' m f = rw f refl
 
-end_same : (most : ℕ) (still_open : List Open) (m : Message) → end_events (opened still_open (id_events most still_open m)) m ≡ end_events still_open m
+end_same : (most : ℕ) (still_open : List Open) (m : Message) →
+    end_events (opened still_open (id_events most still_open m)) m ≡ end_events still_open m
 end_same most still_open m = go (is_fragment m.header) refl
   where
-    go : (f : Bool) → is_fragment m.header ≡ f → end_events (opened still_open (id_events most still_open m)) m ≡ end_events still_open m
+    go : (f : Bool) → is_fragment m.header ≡ f →
+        end_events (opened still_open (id_events most still_open m)) m ≡ end_events still_open m
     go true f = ap (λ (open' : List Open). end_events open' m) (fragment_still most still_open m f)
     go false f = plain_end still_open (opened still_open (id_events most still_open m)) m f
 
 -- and the next octets have the same owner
-owner_same : (most : ℕ) (still_open : List Open) (m : Message) → owner_of_next (opened still_open (id_events most still_open m)) m ≡ owner_of_next still_open m
+owner_same : (most : ℕ) (still_open : List Open) (m : Message) →
+    owner_of_next (opened still_open (id_events most still_open m)) m ≡ owner_of_next still_open m
 owner_same most still_open m = go (is_fragment m.header) refl
   where
-    go : (f : Bool) → is_fragment m.header ≡ f → owner_of_next (opened still_open (id_events most still_open m)) m ≡ owner_of_next still_open m
-    go true f = ap (λ (open' : List Open). owner_of_next open' m) (fragment_still most still_open m f)
-    go false f = owner_plain (opened still_open (id_events most still_open m)) m f ∙ sym (owner_plain still_open m f)
+    go : (f : Bool) → is_fragment m.header ≡ f →
+        owner_of_next (opened still_open (id_events most still_open m)) m
+        ≡ owner_of_next still_open m
+    go true f = ap (λ (open' : List Open). owner_of_next open' m)
+        (fragment_still most still_open m f)
+    go false f = owner_plain (opened still_open (id_events most still_open m)) m f
+        ∙ sym (owner_plain still_open m f)
 
-rising_id : (most : ℕ) (still_open : List Open) (m : Message) → Rising still_open → (length m.payload ≡ 4 → IsNewest m.number still_open) → Rising (opened still_open (id_events most still_open m))
+rising_id : (most : ℕ) (still_open : List Open) (m : Message) → Rising still_open →
+    (length m.payload ≡ 4 → IsNewest m.number still_open) →
+    Rising (opened still_open (id_events most still_open m))
 unfolding id_events opened opened_by
 rising_id most still_open m r newest = go (length m.payload == 4) refl
   where
-    go : (b : Bool) → (length m.payload == 4) ≡ b → Rising (opened still_open (if b then events_at_request_id most still_open m else []))
+    go : (b : Bool) → (length m.payload == 4) ≡ b →
+        Rising (opened still_open (if b then events_at_request_id most still_open m else []))
     go true e =
         kept_id most Rising still_open m (record {
           fewer = rising_filter;
@@ -88,28 +103,49 @@ module _ (R : Rules) (c : Tracked) (m : Message) where
   third = effects R.reading second.tracked (end_events second.tracked.still_open m)
 
   pub first_still_open : first.tracked.still_open ≡ c.still_open
-  first_still_open = effects_still_open R.reading c (events_at_octet c.still_open m) ∙ quiet_octet c.still_open (now_of m) (opener_of c.still_open m)
+  first_still_open = effects_still_open R.reading c (events_at_octet c.still_open m)
+      ∙ quiet_octet c.still_open (now_of m) (opener_of c.still_open m)
 
-  second_still_open : second.tracked.still_open ≡ opened c.still_open (id_events R.most c.still_open m)
-  second_still_open = effects_still_open R.reading first.tracked (id_events R.most first.tracked.still_open m) ∙ ap (λ (still_open : List Open). opened still_open (id_events R.most still_open m)) first_still_open
+  second_still_open : second.tracked.still_open
+      ≡ opened c.still_open (id_events R.most c.still_open m)
+  second_still_open = effects_still_open R.reading first.tracked
+      (id_events R.most first.tracked.still_open m)
+      ∙ ap (λ (still_open : List Open). opened still_open (id_events R.most still_open m))
+      first_still_open
 
-  parts : (length m.payload ≡ 0 → ⊥) → events_of_octet R.most c.still_open m ≡ events_at_octet c.still_open m ++ (id_events R.most c.still_open m ++ end_events c.still_open m)
+  parts : (length m.payload ≡ 0 → ⊥) → events_of_octet R.most c.still_open m
+      ≡ events_at_octet c.still_open m ++ (id_events R.most c.still_open m
+      ++ end_events c.still_open m)
   unfolding events_of_octet id_events end_events
   parts some = rw (ne_eqb (length m.payload) 0 some) refl
 
-  pub in_parts : (length m.payload ≡ 0 → ⊥) → effects R.reading c (events_of_octet R.most c.still_open m) ≡ then_effect first (then_effect second third)
+  pub in_parts : (length m.payload ≡ 0 → ⊥) →
+      effects R.reading c (events_of_octet R.most c.still_open m)
+      ≡ then_effect first (then_effect second third)
   in_parts some =
-      let ids : id_events R.most c.still_open m ≡ id_events R.most first.tracked.still_open m = ap (λ (still_open : List Open). id_events R.most still_open m) (sym first_still_open) in
-      let ends : end_events c.still_open m ≡ end_events second.tracked.still_open m = sym (ap (λ (still_open : List Open). end_events still_open m) second_still_open ∙ end_same R.most c.still_open m) in
-      ap (effects R.reading c) (parts some ∙ (ap (λ (es : List Event). events_at_octet c.still_open m ++ (es ++ end_events c.still_open m)) ids
-      ∙ ap (λ (es : List Event). events_at_octet c.still_open m ++ (id_events R.most first.tracked.still_open m ++ es)) ends))
-      ∙ (effects_append R.reading c (events_at_octet c.still_open m) (id_events R.most first.tracked.still_open m ++ end_events second.tracked.still_open m)
-      ∙ rw (effects_append R.reading first.tracked (id_events R.most first.tracked.still_open m) (end_events second.tracked.still_open m)) refl)
+      let ids : id_events R.most c.still_open m ≡ id_events R.most first.tracked.still_open m =
+      ap (λ (still_open : List Open). id_events R.most still_open m) (sym first_still_open) in
+      let ends : end_events c.still_open m ≡ end_events second.tracked.still_open m =
+      sym (ap (λ (still_open : List Open). end_events still_open m) second_still_open
+      ∙ end_same R.most c.still_open m) in
+      ap (effects R.reading c) (parts some ∙
+      (ap (λ (es : List Event). events_at_octet c.still_open m
+      ++ (es ++ end_events c.still_open m)) ids
+      ∙ ap (λ (es : List Event). events_at_octet c.still_open m
+      ++ (id_events R.most first.tracked.still_open m ++ es)) ends))
+      ∙ (effects_append R.reading c (events_at_octet c.still_open m)
+      (id_events R.most first.tracked.still_open m ++ end_events second.tracked.still_open m)
+      ∙ rw (effects_append R.reading first.tracked (id_events R.most first.tracked.still_open m)
+      (end_events second.tracked.still_open m)) refl)
 
-  pub second_owner : owner_of_next first.tracked.still_open m ≡ owner_of_next second.tracked.still_open m
-  second_owner = ap (λ (still_open : List Open). owner_of_next still_open m) first_still_open ∙ (sym (owner_same R.most c.still_open m) ∙ ap (λ (still_open : List Open). owner_of_next still_open m) (sym second_still_open))
+  pub second_owner : owner_of_next first.tracked.still_open m
+      ≡ owner_of_next second.tracked.still_open m
+  second_owner = ap (λ (still_open : List Open). owner_of_next still_open m) first_still_open
+      ∙ (sym (owner_same R.most c.still_open m)
+      ∙ ap (λ (still_open : List Open). owner_of_next still_open m) (sym second_still_open))
 
-  pub second_rising : Rising c.still_open → (length m.payload ≡ 4 → IsNewest m.number c.still_open) → Rising second.tracked.still_open
+  pub second_rising : Rising c.still_open →
+      (length m.payload ≡ 4 → IsNewest m.number c.still_open) → Rising second.tracked.still_open
   second_rising r newest = rw second_still_open (rising_id R.most c.still_open m r newest)
 
   -- the owner after the message's last octet is nobody, whatever is open
@@ -118,48 +154,76 @@ module _ (R : Rules) (c : Tracked) (m : Message) where
   third_owner = go (length m.payload == size m.header) refl
     where
       go : (b : Bool) → (length m.payload == size m.header) ≡ b
-          → (if b then None else owner_of_next second.tracked.still_open m) ≡ (if b then None else owner_of_next third.tracked.still_open m)
+          → (if b then None else owner_of_next second.tracked.still_open m)
+          ≡ (if b then None else owner_of_next third.tracked.still_open m)
       go true e = refl
-      go false e = ap (λ (still_open : List Open). owner_of_next still_open m) (sym (effects_still_open R.reading second.tracked (end_events second.tracked.still_open m) ∙ rw e refl))
+      go false e = ap (λ (still_open : List Open). owner_of_next still_open m)
+          (sym (effects_still_open R.reading second.tracked (end_events second.tracked.still_open m)
+          ∙ rw e refl))
 
 -- ---- The owner of the octet that comes.
 
-same_opener : (still_open : List Open) (m : Message) (x : ℕ) → 4 ≤ length m.payload → opener_of still_open (with_octet m x) ≡ opener_of still_open m
+same_opener : (still_open : List Open) (m : Message) (x : ℕ) → 4 ≤ length m.payload →
+    opener_of still_open (with_octet m x) ≡ opener_of still_open m
 unfolding opener_of id
 same_opener still_open m x many = rw (take-append-le 4 m.payload (x ∷ []) many) refl
 
-pub owner_next : (still_open : List Open) (m : Message) (x : ℕ) → owner_of_octet still_open (with_octet m x) ≡ owner_of_next still_open m
+pub owner_next : (still_open : List Open) (m : Message) (x : ℕ) →
+    owner_of_octet still_open (with_octet m x) ≡ owner_of_next still_open m
 unfolding owner_of_octet owner_of_next has_named goes_past
 owner_next still_open m x = elim (cases_lt (length m.payload) 4) [
-  | inl few ↦ unfold owner_of_next owner_of_octet in owner_own still_open (with_octet m x) (omega (arith, length_push m.payload x)) ∙ sym (owner_early still_open m few)
+  | inl few ↦ unfold owner_of_next owner_of_octet in
+      owner_own still_open (with_octet m x) (omega (arith, length_push m.payload x))
+      ∙ sym (owner_early still_open m few)
   | inr many ↦
       let past : 4 < length (m.payload ++ x ∷ []) = omega (arith, length_push m.payload x) in
-      rw (lt-ltb 4 (length (m.payload ++ x ∷ [])) past, le-leb 4 (length m.payload) (omega arith), same_opener still_open m x (omega arith)) refl
+      rw (
+        lt-ltb 4 (length (m.payload ++ x ∷ [])) past,
+        le-leb 4 (length m.payload) (omega arith),
+        same_opener still_open m x (omega arith),
+      ) refl
 ]
 
 module _ (C : Table) (l : Answers) where
   pub in_turn : IsStreamable (message_reader C l)
-  in_turn = record { named = is_named C l; ordered = is_ordered (λ number. signatures_of C (l number)); closing = is_closing (λ number. signatures_of C (l number)) }
+  in_turn = record {
+    named = is_named C l;
+    ordered =
+        is_ordered (λ number. signatures_of C (l number));
+    closing =
+        is_closing (λ number. signatures_of C (l number));
+  }
 
-  about_takes : (c : Tracked) (m : Message) (x at : ℕ) (r : Option Open) → goes_past m ≡ true → opener_of c.still_open m ≡ r
+  about_takes : (c : Tracked) (m : Message) (x at : ℕ) (r : Option Open) → goes_past m ≡ true →
+      opener_of c.still_open m ≡ r
       → get_or m.payload (length m.payload - 1) 0 ≡ x → place m ≡ at
-      → effects (message_reader C l) c (events_at_octet c.still_open m) ≡ effect_to C l at c (opener_key r) (Takes x)
-  about_takes c m x at None past e last here = octet_lost (message_reader C l) c c.still_open m past e
-  about_takes c m x at (Some o) past e last here = octet_passed (message_reader C l) c c.still_open m o past e ∙ rw (last, here) refl
+      → effects (message_reader C l) c (events_at_octet c.still_open m)
+      ≡ effect_to C l at c (opener_key r) (Takes x)
+  about_takes c m x at None past e last here =
+      octet_lost (message_reader C l) c c.still_open m past e
+  about_takes c m x at (Some o) past e last here =
+      octet_passed (message_reader C l) c c.still_open m o past e ∙ rw (last, here) refl
 
-  pub octet_does : (c : Tracked) (m : Message) (x at : ℕ) → get_or m.payload (length m.payload - 1) 0 ≡ x → place m ≡ at
-      → effects (message_reader C l) c (events_at_octet c.still_open m) ≡ effect_to C l at c (owner_of_octet c.still_open m) (Takes x)
+  pub octet_does : (c : Tracked) (m : Message) (x at : ℕ) →
+      get_or m.payload (length m.payload - 1) 0 ≡ x → place m ≡ at
+      → effects (message_reader C l) c (events_at_octet c.still_open m)
+      ≡ effect_to C l at c (owner_of_octet c.still_open m) (Takes x)
   unfolding owner_of_octet
   octet_does c m x at last here = go (goes_past m) refl
     where
-      go : (b : Bool) → goes_past m ≡ b → effects (message_reader C l) c (events_at_octet c.still_open m) ≡ effect_to C l at c
-          (if goes_past m then opener_key (opener_of c.still_open m) else Some (message_key m)) (Takes x)
+      go : (b : Bool) → goes_past m ≡ b → effects (message_reader C l) c
+          (events_at_octet c.still_open m) ≡ effect_to C l at c
+          (if goes_past m then opener_key (opener_of c.still_open m) else Some (message_key m))
+          (Takes x)
       go true past = rw past (about_takes c m x at (opener_of c.still_open m) past refl last here)
-      go false own = rw own (octet_own (message_reader C l) c c.still_open m own ∙ rw (last, here) refl)
+      go false own = rw own (octet_own (message_reader C l) c c.still_open m own
+          ∙ rw (last, here) refl)
 
-module _ (C : Table) (l : Answers) (most : ℕ) (c : Tracked) (m : Message) (now : Current) (x : ℕ) (h : IsBeforeOctet c m now x) where
+module _ (C : Table) (l : Answers) (most : ℕ) (c : Tracked) (m : Message) (now : Current) (x : ℕ)
+    (h : IsBeforeOctet c m now x) where
   last_is : get_or (m.payload ++ x ∷ []) (length (m.payload ++ x ∷ []) - 1) 0 ≡ x
-  last_is = get_or_push m.payload x 0 (length (m.payload ++ x ∷ []) - 1) (omega (arith, length_push m.payload x))
+  last_is = get_or_push m.payload x 0 (length (m.payload ++ x ∷ []) - 1)
+      (omega (arith, length_push m.payload x))
 
   pub some_come : length (m.payload ++ x ∷ []) ≡ 0 → ⊥
   some_come e = omega (arith, length_push m.payload x, e)
@@ -168,34 +232,50 @@ module _ (C : Table) (l : Answers) (most : ℕ) (c : Tracked) (m : Message) (now
   unfolding place
   some_place = omega (arith, h.current.place)
 
-  pub takes_at : first (rules_by C l most) c (with_octet m x) ≡ effect_to C l now.place c (owner_of_next c.still_open m) (Takes x)
-  takes_at = rw (← owner_next c.still_open m x) (octet_does C l c (with_octet m x) x now.place last_is h.current.place)
+  pub takes_at : first (rules_by C l most) c (with_octet m x)
+      ≡ effect_to C l now.place c (owner_of_next c.still_open m) (Takes x)
+  takes_at = rw (← owner_next c.still_open m x)
+      (octet_does C l c (with_octet m x) x now.place last_is h.current.place)
 
   -- which is a run of one octet
-  pub takes_effect : first (rules_by C l most) c (with_octet m x) ≡ run_effect C l (now.place - 1) c (owner_of_next c.still_open m) (x ∷ [])
+  pub takes_effect : first (rules_by C l most) c (with_octet m x)
+      ≡ run_effect C l (now.place - 1) c (owner_of_next c.still_open m) (x ∷ [])
   unfolding run_effect
   takes_effect =
       let effect = effect_to C l now.place c (owner_of_next c.still_open m) (Takes x) in
-      takes_at ∙ rw some_place (λ j. record { tracked = effect.tracked; lines = sym (append-nil effect.lines) j })
+      takes_at ∙ rw some_place (λ j. record {
+        tracked = effect.tracked;
+        lines =
+            sym (append-nil effect.lines) j;
+      })
 
   pub known_is : length m.payload < 4 → has_name m.header ≡ true
-      → (first (rules_by C l most) c (with_octet m x)).tracked.known m.number ≡ Some (m.payload ++ x ∷ [])
+      → (first (rules_by C l most) c (with_octet m x)).tracked.known m.number
+      ≡ Some (m.payload ++ x ∷ [])
   known_is few name =
-      let w : owner_of_octet c.still_open (with_octet m x) ≡ Some (message_key m) = owner_own c.still_open (with_octet m x) (omega (arith, length_push m.payload x)) in
-      let tracked : (first (rules_by C l most) c (with_octet m x)).tracked ≡ tracked_at (message_reader C l) c (event now.place (message_key m) (Takes x)) =
-      ap (λ (p : Effect). p.tracked) (octet_does C l c (with_octet m x) x now.place last_is h.current.place)
+      let w : owner_of_octet c.still_open (with_octet m x) ≡ Some (message_key m) =
+      owner_own c.still_open (with_octet m x) (omega (arith, length_push m.payload x)) in
+      let tracked : (first (rules_by C l most) c (with_octet m x)).tracked
+      ≡ tracked_at (message_reader C l) c (event now.place (message_key m) (Takes x)) =
+      ap (λ (p : Effect). p.tracked) (octet_does C l c (with_octet m x) x now.place last_is
+      h.current.place)
       ∙ ap (λ (v : Option MessageKey). (effect_to C l now.place c v (Takes x)).tracked) w in
       ap (λ (d : Tracked). d.known m.number) tracked
       ∙ (own_then (message_reader C l) c (event now.place (message_key m) (Takes x))
-      ∙ rw (h.alive name few) (named_then (message_reader C l) (in_turn C l) now.place (message_key m) m.payload x name few))
+      ∙ rw (h.alive name few) (named_then (message_reader C l) (in_turn C l) now.place
+      (message_key m) m.payload x name few))
 
-  pub taken_here : (s' : Slots) → SlotsRepresent C l s' (first (rules_by C l most) c (with_octet m x)).tracked (owner_of_next c.still_open m)
-      → IsAfterTake C l s' (first (rules_by C l most) c (with_octet m x)).tracked (with_octet m x) now
+  pub taken_here : (s' : Slots) → SlotsRepresent C l s'
+      (first (rules_by C l most) c (with_octet m x)).tracked (owner_of_next c.still_open m)
+      → IsAfterTake C l s' (first (rules_by C l most) c (with_octet m x)).tracked (with_octet m x)
+      now
   taken_here s' k =
       let R = rules_by C l most in
       let m' = with_octet m x in
       let still_open : (first R c m').tracked.still_open ≡ c.still_open = first_still_open R c m' in
-      let w : owner_of_octet (first R c m').tracked.still_open m' ≡ owner_of_next c.still_open m = ap (λ (open' : List Open). owner_of_octet open' m') still_open ∙ owner_next c.still_open m x in
+      let w : owner_of_octet (first R c m').tracked.still_open m' ≡ owner_of_next c.still_open m =
+      ap (λ (open' : List Open). owner_of_octet open' m') still_open
+      ∙ owner_next c.still_open m x in
       record {
         keeps = rw w k;
         rising = rw still_open h.rising;
@@ -209,24 +289,30 @@ module _ (C : Table) (l : Answers) (most : ℕ) (c : Tracked) (m : Message) (now
   pub come_is : length (m.payload ++ x ∷ []) ≡ now.payload_count
   come_is = omega (arith, length_push m.payload x, h.payload_count)
 
-  pub named_at : (s' : Slots) → SlotsRepresent C l s' (second (rules_by C l most) c (with_octet m x)).tracked
-      (owner_of_next (first (rules_by C l most) c (with_octet m x)).tracked.still_open (with_octet m x))
-      → IsAtOctet C l s' (second (rules_by C l most) c (with_octet m x)).tracked (with_octet m x) now
+  pub named_at : (s' : Slots) → SlotsRepresent C l s'
+      (second (rules_by C l most) c (with_octet m x)).tracked
+      (owner_of_next (first (rules_by C l most) c (with_octet m x)).tracked.still_open
+      (with_octet m x))
+      → IsAtOctet C l s' (second (rules_by C l most) c (with_octet m x)).tracked (with_octet m x)
+      now
   named_at s' k =
       let R = rules_by C l most in
       let m' = with_octet m x in
       record {
         keeps = rw (← second_owner R c m') k;
-        rising = second_rising R c m' h.rising (λ four. h.newest (omega (arith, length_push m.payload x, four)));
+        rising = second_rising R c m' h.rising
+            (λ four. h.newest (omega (arith, length_push m.payload x, four)));
         current = h.current;
       }
 
 -- ---- Octets that only add to contents, and one behind them.
 
 -- a run is its first octets, and then the others
-run_both : (C : Table) (l : Answers) (q : List ℕ) (before : ℕ) (c : Tracked) (w : Option MessageKey) (r : List ℕ)
+run_both : (C : Table) (l : Answers) (q : List ℕ) (before : ℕ) (c : Tracked) (w : Option MessageKey)
+    (r : List ℕ)
     → run_effect C l before c w (q ++ r)
-    ≡ (let ran = run_effect C l before c w q in then_effect ran (run_effect C l (before + length q) ran.tracked w r))
+    ≡ (let ran = run_effect C l before c w q in
+    then_effect ran (run_effect C l (before + length q) ran.tracked w r))
 unfolding run_effect
 run_both C l [] before c w r = let same : before + 0 ≡ before = omega arith in rw same refl
 run_both C l (x ∷ q) before c w r =
@@ -237,7 +323,8 @@ run_both C l (x ∷ q) before c w r =
     ∙ (λ j. let more = run_effect C l (at j) ran.tracked w r in
     record { tracked = more.tracked; lines = sym (append_assoc one.lines ran.lines more.lines) j })
 
-module _ (C : Table) (l : Answers) (most : ℕ) (s : Slots) (c : Tracked) (m : Message) (now : Current) (q : List ℕ) (x : ℕ)
+module _ (C : Table) (l : Answers) (most : ℕ) (s : Slots) (c : Tracked) (m : Message)
+    (now : Current) (q : List ℕ) (x : ℕ)
     (h : IsBeforeOctets C l s c m now q x) where
   abbrev ran : Effect
   ran = effect_before C l c m now q
@@ -247,10 +334,16 @@ module _ (C : Table) (l : Answers) (most : ℕ) (s : Slots) (c : Tracked) (m : M
 
   room : suc (length q) ≤ now.place
   unfolding place
-  room = omega (arith, h.last.current.place, length-append m.payload q, length_push (m.payload ++ q) x)
+  room = omega (
+    arith,
+    h.last.current.place,
+    length-append m.payload q,
+    length_push (m.payload ++ q) x,
+  )
 
   -- the owner takes all of them in one run
-  pub takes_run : (octets : List ℕ) (before : ℕ) → octets ≡ q ++ x ∷ [] → before ≡ now.place - length octets
+  pub takes_run : (octets : List ℕ) (before : ℕ) → octets ≡ q ++ x ∷ [] →
+      before ≡ now.place - length octets
       → run_effect C l before c (owner_of_next c.still_open m) octets
       ≡ then_effect ran (first (rules_by C l most) ran.tracked (with_octet at_last x))
   takes_run octets before split is =
@@ -259,5 +352,8 @@ module _ (C : Table) (l : Answers) (most : ℕ) (s : Slots) (c : Tracked) (m : M
       let count : length (q ++ x ∷ []) ≡ suc (length q) = omega (arith, length_push q x) in
       let here : before ≡ start = is ∙ ap (λ (n : ℕ). now.place - n) (ap length split ∙ count) in
       let behind : start + length q ≡ now.place - 1 = omega (arith, room) in
-      rw (split, here) (run_both C l q start c w (x ∷ []) ∙ (λ j. then_effect ran (run_effect C l (behind j) ran.tracked (sym h.same_owner j) (x ∷ [])))
-      ∙ ap (λ (e : Effect). then_effect ran e) (sym (takes_effect C l most ran.tracked at_last now x h.last)))
+      rw (split, here) (run_both C l q start c w (x ∷ [])
+      ∙ (λ j. then_effect ran (run_effect C l (behind j) ran.tracked (sym h.same_owner j)
+      (x ∷ [])))
+      ∙ ap (λ (e : Effect). then_effect ran e)
+      (sym (takes_effect C l most ran.tracked at_last now x h.last)))

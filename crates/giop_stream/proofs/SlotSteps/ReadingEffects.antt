@@ -1,4 +1,5 @@
--- The lines of a message's events when it is read by a table, and that the calls of a message write them.
+-- The lines of a message's events when it is read by a table, and that the calls of a message write
+-- them.
 use Rattle.std.proofs.Common.{inl, inr, ◌⊎◌, ◌≡◌, ℕ, suc, Bool, true, false, List, [], ◌∷◌, ◌++◌, length, map, refl, sym, ap, subst, ◌∙◌, Option, Some, None, Result, Ok, Err}
 use Rattle.std.specs.Prelude.{◌||◌, if◌then◌else◌, is_some, IfOk}
 use Rattle.std.specs.List.{list_any}
@@ -26,23 +27,34 @@ use Rattle.giop_stream.specs.DoesEffect.{WritesLines, one_if}
 -- ---- Lines that a reader gives.
 
 abbrev pub reader_lines : ℕ → ℕ → List TimedLine → List Line
-reader_lines at number rs = map (λ r. record { place = at; number = number; content = Said r.line_class r.text }) rs
+reader_lines at number rs = map (λ r. record {
+  place = at;
+  number = number;
+  content =
+      Said r.line_class r.text;
+}) rs
 
 abbrev close_lines : ℕ → ℕ → List (LineClass × List ℕ) → List Line
-close_lines at number cs = map (λ c. record { place = at; number = number; content = Said c.0 c.1 }) cs
+close_lines at number cs = map (λ c. record { place = at; number = number; content = Said c.0 c.1 })
+    cs
 
-said_is : (at number : ℕ) (rs : List TimedLine) → lines_text (reader_lines at number rs) ≡ numbered_lines at number rs
+said_is : (at number : ℕ) (rs : List TimedLine) →
+    lines_text (reader_lines at number rs) ≡ numbered_lines at number rs
 unfolding lines_text numbered_lines
 said_is at number [] = refl
-said_is at number (r ∷ rs) = ap (λ (t : List ℕ). line_class_text at number r.line_class r.text ++ t) (said_is at number rs)
+said_is at number (r ∷ rs) = ap (λ (t : List ℕ). line_class_text at number r.line_class r.text ++ t)
+    (said_is at number rs)
 
-closed_is : (at number : ℕ) (cs : List (LineClass × List ℕ)) → lines_text (close_lines at number cs) ≡ closes_text number at cs
+closed_is : (at number : ℕ) (cs : List (LineClass × List ℕ)) →
+    lines_text (close_lines at number cs) ≡ closes_text number at cs
 unfolding lines_text closes_text
 closed_is at number [] = refl
-closed_is at number (c ∷ cs) = ap (λ (t : List ℕ). line_class_text at number c.0 c.1 ++ t) (closed_is at number cs)
+closed_is at number (c ∷ cs) = ap (λ (t : List ℕ). line_class_text at number c.0 c.1 ++ t)
+    (closed_is at number cs)
 
 -- two lines of one octet are a value and its call, or a value and a fault
-two_values : (s t : LineClass) → AreInLineOrder (s ∷ t ∷ []) → (s ≡ Value) × ((t ≡ Call) ⊎ (t ≡ Fault))
+two_values : (s t : LineClass) → AreInLineOrder (s ∷ t ∷ []) → (s ≡ Value)
+    × ((t ≡ Call) ⊎ (t ≡ Fault))
 two_values s t (inl e) = absurd cc
 two_values s t (inr (inl e)) = absurd cc
 two_values s t (inr (inr (inl e))) = (cc, inl cc)
@@ -77,50 +89,66 @@ few_at_close a b c more (inl e) = absurd cc
 few_at_close a b c more (inr (inl e)) = absurd cc
 few_at_close a b c more (inr (inr e)) = absurd cc
 
-turn_stands : (at n : ℕ) (rs : List TimedLine) → AreInLineOrder (map (λ r. r.line_class) rs) → up_to_last_line (λ i. false) (reader_lines at n rs) ≡ reader_lines at n rs
+turn_stands : (at n : ℕ) (rs : List TimedLine) → AreInLineOrder (map (λ r. r.line_class) rs) →
+    up_to_last_line (λ i. false) (reader_lines at n rs) ≡ reader_lines at n rs
 unfolding up_to_last_line is_last_of
-turn_stands at n (r ∷ s ∷ []) h = let e = two_values r.line_class s.line_class h in rw (e.0, eq-eqb n n refl) refl
-turn_stands at n (r ∷ s ∷ t ∷ rs) h = absurd (few_in_turn r.line_class s.line_class t.line_class (map (λ r. r.line_class) rs) h)
+turn_stands at n (r ∷ s ∷ []) h = let e = two_values r.line_class s.line_class h in
+    rw (e.0, eq-eqb n n refl) refl
+turn_stands at n (r ∷ s ∷ t ∷ rs) h = absurd
+    (few_in_turn r.line_class s.line_class t.line_class (map (λ r. r.line_class) rs) h)
 turn_stands at n _ h = refl
 
-one_fault : (at n : ℕ) (s : LineClass) (text : List ℕ) → fault_count (record { place = at; number = n; content = Said s text } ∷ []) ≡ (if is_fault s || false then 1 else 0)
+one_fault : (at n : ℕ) (s : LineClass) (text : List ℕ) →
+    fault_count (record { place = at; number = n; content = Said s text } ∷ [])
+    ≡ (if is_fault s || false then 1 else 0)
 unfolding fault_count
 one_fault at n Value text = refl
 one_fault at n _ text = refl
 
-turn_faults : (at n : ℕ) (rs : List TimedLine) → AreInLineOrder (map (λ r. r.line_class) rs) → fault_count (reader_lines at n rs) ≡ (if list_any (λ r. is_fault r.line_class) rs then 1 else 0)
+turn_faults : (at n : ℕ) (rs : List TimedLine) → AreInLineOrder (map (λ r. r.line_class) rs) →
+    fault_count (reader_lines at n rs) ≡ (if list_any (λ r. is_fault r.line_class) rs then 1 else 0)
 unfolding fault_count
 turn_faults at n [] h = refl
 turn_faults at n (r ∷ []) h = unfold fault_count in one_fault at n r.line_class r.text
 turn_faults at n (r ∷ s ∷ []) h = go (two_values r.line_class s.line_class h)
   where
-    go : (r.line_class ≡ Value) × ((s.line_class ≡ Call) ⊎ (s.line_class ≡ Fault)) → fault_count (reader_lines at n (r ∷ s ∷ [])) ≡ (if list_any (λ r. is_fault r.line_class) (r ∷ s ∷ []) then 1 else 0)
+    go : (r.line_class ≡ Value) × ((s.line_class ≡ Call) ⊎ (s.line_class ≡ Fault)) →
+        fault_count (reader_lines at n (r ∷ s ∷ []))
+        ≡ (if list_any (λ r. is_fault r.line_class) (r ∷ s ∷ []) then 1 else 0)
     go (e, inl c) = rw (e, c) refl
     go (e, inr c) = rw (e, c) refl
-turn_faults at n (r ∷ s ∷ t ∷ rs) h = absurd (few_in_turn r.line_class s.line_class t.line_class (map (λ r. r.line_class) rs) h)
+turn_faults at n (r ∷ s ∷ t ∷ rs) h = absurd
+    (few_in_turn r.line_class s.line_class t.line_class (map (λ r. r.line_class) rs) h)
 
 one_last : (s : LineClass) → AreInLineOrder (s ∷ []) → is_last s ≡ is_fault s
 one_last End h = absurd (no_end h)
 one_last _ h = refl
 
-turn_last : (at n : ℕ) (rs : List TimedLine) → AreInLineOrder (map (λ r. r.line_class) rs) → list_any (is_last_of n) (reader_lines at n rs) ≡ list_any (λ r. is_fault r.line_class) rs
+turn_last : (at n : ℕ) (rs : List TimedLine) → AreInLineOrder (map (λ r. r.line_class) rs) →
+    list_any (is_last_of n) (reader_lines at n rs) ≡ list_any (λ r. is_fault r.line_class) rs
 unfolding is_last_of
 turn_last at n [] h = refl
-turn_last at n (r ∷ []) h = rw (eq-eqb n n refl) (ap (λ (b : Bool). b || false) (one_last r.line_class h))
+turn_last at n (r ∷ []) h = rw (eq-eqb n n refl)
+    (ap (λ (b : Bool). b || false) (one_last r.line_class h))
 turn_last at n (r ∷ s ∷ []) h = go (two_values r.line_class s.line_class h)
   where
-    go : (r.line_class ≡ Value) × ((s.line_class ≡ Call) ⊎ (s.line_class ≡ Fault)) → list_any (is_last_of n) (reader_lines at n (r ∷ s ∷ [])) ≡ list_any (λ r. is_fault r.line_class) (r ∷ s ∷ [])
+    go : (r.line_class ≡ Value) × ((s.line_class ≡ Call) ⊎ (s.line_class ≡ Fault)) →
+        list_any (is_last_of n) (reader_lines at n (r ∷ s ∷ []))
+        ≡ list_any (λ r. is_fault r.line_class) (r ∷ s ∷ [])
     go (e, inl c) = rw (e, c, eq-eqb n n refl) refl
     go (e, inr c) = rw (e, c, eq-eqb n n refl) refl
-turn_last at n (r ∷ s ∷ t ∷ rs) h = absurd (few_in_turn r.line_class s.line_class t.line_class (map (λ r. r.line_class) rs) h)
+turn_last at n (r ∷ s ∷ t ∷ rs) h = absurd
+    (few_in_turn r.line_class s.line_class t.line_class (map (λ r. r.line_class) rs) h)
 
-close_stands : (at n : ℕ) (cs : List (LineClass × List ℕ)) → AtClose (map (λ c. c.0) cs) → up_to_last_line (λ i. false) (close_lines at n cs) ≡ close_lines at n cs
+close_stands : (at n : ℕ) (cs : List (LineClass × List ℕ)) → AtClose (map (λ c. c.0) cs) →
+    up_to_last_line (λ i. false) (close_lines at n cs) ≡ close_lines at n cs
 unfolding up_to_last_line is_last_of
 close_stands at n (c ∷ d ∷ []) h = let e = two_closes c.0 d.0 h in rw (e.0, eq-eqb n n refl) refl
 close_stands at n (c ∷ d ∷ e ∷ cs) h = absurd (few_at_close c.0 d.0 e.0 (map (λ c. c.0) cs) h)
 close_stands at n _ h = refl
 
-close_faults : (at n : ℕ) (cs : List (LineClass × List ℕ)) → AtClose (map (λ c. c.0) cs) → fault_count (close_lines at n cs) ≡ (if list_any (λ c. is_fault c.0) cs then 1 else 0)
+close_faults : (at n : ℕ) (cs : List (LineClass × List ℕ)) → AtClose (map (λ c. c.0) cs) →
+    fault_count (close_lines at n cs) ≡ (if list_any (λ c. is_fault c.0) cs then 1 else 0)
 unfolding fault_count
 close_faults at n [] h = refl
 close_faults at n (c ∷ []) h = unfold fault_count in one_fault at n c.0 c.1
@@ -146,16 +174,24 @@ module _ (R : MessageReader) where
   unfolding octets_then
   over_then e = rw (over_lines e) refl
 
-  faulted_lines : (at : ℕ) (w : MessageKey) (fault : FramingFault) (xs : List ℕ) → lines_of R (event at w (Faults fault)) (Some xs) ≡ record { place = at; number = w.number; content = Faulted fault } ∷ []
+  faulted_lines : (at : ℕ) (w : MessageKey) (fault : FramingFault) (xs : List ℕ) →
+      lines_of R (event at w (Faults fault)) (Some xs) ≡
+      record { place = at; number = w.number; content = Faulted fault } ∷ []
   unfolding lines_of lines_for lines_of_event line up_to_last_line
   faulted_lines at w fault xs = refl
 
-  faulted_then : (w : MessageKey) (o : Option (List ℕ)) (at : ℕ) (fault : FramingFault) → octets_then R (event at w (Faults fault)) o ≡ None
+  faulted_then : (w : MessageKey) (o : Option (List ℕ)) (at : ℕ) (fault : FramingFault) →
+      octets_then R (event at w (Faults fault)) o ≡ None
   unfolding octets_then is_last_of
-  faulted_then w (Some xs) at fault = rw (faulted_lines at w fault xs, eq-eqb w.number w.number refl) refl
+  faulted_then w (Some xs) at fault = rw (
+    faulted_lines at w fault xs,
+    eq-eqb w.number w.number refl,
+  ) refl
   faulted_then w None at fault = over_then (event at w (Faults fault))
 
-  cancelled_lines : (at : ℕ) (w : MessageKey) (j : ℕ) (xs : List ℕ) → lines_of R (event at w (Cancelled j)) (Some xs) ≡ record { place = at; number = w.number; content = CancelledBy j } ∷ []
+  cancelled_lines : (at : ℕ) (w : MessageKey) (j : ℕ) (xs : List ℕ) →
+      lines_of R (event at w (Cancelled j)) (Some xs) ≡
+      record { place = at; number = w.number; content = CancelledBy j } ∷ []
   unfolding lines_of lines_for lines_of_event line up_to_last_line
   cancelled_lines at w j xs = refl
 
@@ -163,54 +199,99 @@ module _ (C : Table) (l : Answers) where
   abbrev pub R_of : MessageReader
   R_of = message_reader C l
 
-  in_turn : (number : ℕ) (header xs : List ℕ) (x : ℕ) → AreInLineOrder (map (λ r. r.line_class) (due R_of number header xs x))
-  in_turn number header xs x = (is_ordered (λ number. signatures_of C (l number))).ordered number header (xs ++ x ∷ []) (suc (length xs))
+  in_turn : (number : ℕ) (header xs : List ℕ) (x : ℕ) →
+      AreInLineOrder (map (λ r. r.line_class) (due R_of number header xs x))
+  in_turn number header xs x = (is_ordered (λ number. signatures_of C (l number))).ordered number
+      header (xs ++ x ∷ []) (suc (length xs))
 
-  at_close : (number : ℕ) (header xs : List ℕ) → AtClose (map (λ c. c.0) (R_of.closes number header xs))
-  at_close number header xs = (is_closing (λ number. signatures_of C (l number))).closed number header xs
+  at_close : (number : ℕ) (header xs : List ℕ) →
+      AtClose (map (λ c. c.0) (R_of.closes number header xs))
+  at_close number header xs = (is_closing (λ number. signatures_of C (l number))).closed number
+      header xs
 
-  pub take_lines : (at : ℕ) (w : MessageKey) (xs : List ℕ) (x : ℕ) → lines_of R_of (event at w (Takes x)) (Some xs) ≡ reader_lines at w.number (due R_of w.number w.header xs x)
+  pub take_lines : (at : ℕ) (w : MessageKey) (xs : List ℕ) (x : ℕ) →
+      lines_of R_of (event at w (Takes x)) (Some xs)
+      ≡ reader_lines at w.number (due R_of w.number w.header xs x)
   unfolding lines_of lines_for lines_of_event line
-  take_lines at w xs x = rw (one_octet at w x) (turn_stands at w.number (due R_of w.number w.header xs x) (in_turn w.number w.header xs x))
+  take_lines at w xs x = rw (one_octet at w x)
+      (turn_stands at w.number (due R_of w.number w.header xs x) (in_turn w.number w.header xs x))
 
-  closing_lines : (at : ℕ) (w : MessageKey) (xs : List ℕ) → lines_of R_of (event at w Closes) (Some xs) ≡ close_lines at w.number (R_of.closes w.number w.header xs)
+  closing_lines : (at : ℕ) (w : MessageKey) (xs : List ℕ) →
+      lines_of R_of (event at w Closes) (Some xs)
+      ≡ close_lines at w.number (R_of.closes w.number w.header xs)
   unfolding lines_of lines_for lines_of_event line
-  closing_lines at w xs = close_stands at w.number (R_of.closes w.number w.header xs) (at_close w.number w.header xs)
+  closing_lines at w xs = close_stands at w.number (R_of.closes w.number w.header xs)
+      (at_close w.number w.header xs)
 
   -- ---- An octet.
 
   abbrev pub Faulty : MessageKey → List ℕ → ℕ → Bool
   Faulty w xs x = list_any (λ r. is_fault r.line_class) (due R_of w.number w.header xs x)
 
-  pub take_text : (before : ℕ) (w : MessageKey) (xs : List ℕ) (x : ℕ) → lines_text (lines_of R_of (event (suc before) w (Takes x)) (Some xs)) ≡ due_text (signatures_of C (l w.number)) w.number before w.header xs (x ∷ [])
+  pub take_text : (before : ℕ) (w : MessageKey) (xs : List ℕ) (x : ℕ) →
+      lines_text (lines_of R_of (event (suc before) w (Takes x)) (Some xs))
+      ≡ due_text (signatures_of C (l w.number)) w.number before w.header xs (x ∷ [])
   take_text before w xs x =
-      ap lines_text (take_lines (suc before) w xs x) ∙ (said_is (suc before) w.number (due R_of w.number w.header xs x) ∙ sym (octet_text (signatures_of C (l w.number)) w.number before w.header xs x))
+      ap lines_text (take_lines (suc before) w xs x)
+      ∙ (said_is (suc before) w.number (due R_of w.number w.header xs x)
+      ∙ sym (octet_text (signatures_of C (l w.number)) w.number before w.header xs x))
 
-  pub then_by : (at : ℕ) (w : MessageKey) (xs : List ℕ) (x : ℕ) → octets_then R_of (event at w (Takes x)) (Some xs) ≡ (if Faulty w xs x then None else Some (xs ++ x ∷ []))
+  pub then_by : (at : ℕ) (w : MessageKey) (xs : List ℕ) (x : ℕ) →
+      octets_then R_of (event at w (Takes x)) (Some xs)
+      ≡ (if Faulty w xs x then None else Some (xs ++ x ∷ []))
   unfolding octets_then octet
-  then_by at w xs x = rw (take_lines at w xs x, turn_last at w.number (due R_of w.number w.header xs x) (in_turn w.number w.header xs x)) refl
+  then_by at w xs x = rw (
+    take_lines at w xs x,
+    turn_last at w.number (due R_of w.number w.header xs x) (in_turn w.number w.header xs x),
+  ) refl
 
-  pub faults_by : (at : ℕ) (w : MessageKey) (xs : List ℕ) (x : ℕ) → fault_count (lines_of R_of (event at w (Takes x)) (Some xs)) ≡ (if Faulty w xs x then 1 else 0)
-  faults_by at w xs x = rw (take_lines at w xs x) (turn_faults at w.number (due R_of w.number w.header xs x) (in_turn w.number w.header xs x))
+  pub faults_by : (at : ℕ) (w : MessageKey) (xs : List ℕ) (x : ℕ) →
+      fault_count (lines_of R_of (event at w (Takes x)) (Some xs))
+      ≡ (if Faulty w xs x then 1 else 0)
+  faults_by at w xs x = rw (take_lines at w xs x)
+      (turn_faults at w.number (due R_of w.number w.header xs x) (in_turn w.number w.header xs x))
 
   -- ---- A close.
 
-  close_text : (P : List ℕ → Type 0) (w : MessageKey) (at : ℕ) (xs : List ℕ) → P (closing_text w.number at (close (stage_of (message (signatures_of C (l w.number)) w.header xs))))
+  close_text : (P : List ℕ → Type 0) (w : MessageKey) (at : ℕ) (xs : List ℕ) →
+      P (closing_text w.number at (close (stage_of
+      (message (signatures_of C (l w.number)) w.header xs))))
       → P (lines_text (lines_of R_of (event at w Closes) (Some xs)))
   close_text P w at xs p =
-      let text : lines_text (lines_of R_of (event at w Closes) (Some xs)) ≡ closing_text w.number at (close (stage_of (message (signatures_of C (l w.number)) w.header xs))) =
-      ap lines_text (closing_lines at w xs) ∙ (closed_is at w.number (R_of.closes w.number w.header xs) ∙ sym (close_is (signatures_of C (l w.number)) w.number at w.header xs)) in
+      let text : lines_text (lines_of R_of (event at w Closes) (Some xs))
+      ≡ closing_text w.number at (close (stage_of
+      (message (signatures_of C (l w.number)) w.header xs))) =
+      ap lines_text (closing_lines at w xs)
+      ∙ (closed_is at w.number (R_of.closes w.number w.header xs)
+      ∙ sym (close_is (signatures_of C (l w.number)) w.number at w.header xs)) in
       subst P (sym text) p
 
-  close_by : (at : ℕ) (w : MessageKey) (xs : List ℕ) → fault_count (lines_of R_of (event at w Closes) (Some xs)) ≡ one_if (is_short (close (stage_of (message (signatures_of C (l w.number)) w.header xs))))
-  close_by at w xs = rw (closing_lines at w xs, close_short (signatures_of C (l w.number)) w.header xs) (close_faults at w.number (R_of.closes w.number w.header xs) (at_close w.number w.header xs))
+  close_by : (at : ℕ) (w : MessageKey) (xs : List ℕ) →
+      fault_count (lines_of R_of (event at w Closes) (Some xs))
+      ≡ one_if (is_short (close (stage_of (message (signatures_of C (l w.number)) w.header xs))))
+  close_by at w xs = rw (
+    closing_lines at w xs,
+    close_short (signatures_of C (l w.number)) w.header xs,
+  )
+      (close_faults at w.number (R_of.closes w.number w.header xs) (at_close w.number w.header xs))
 
-  pub close_writes : {E : Type 0} (m : Message) (w : MessageKey) (o : Option (List ℕ)) (at : ℕ) (r : Result Bool E) (a b : OutLog) → RepresentsMessage C l (Some m) w o
-      → ((number : ℕ) (header s : List ℕ) → Follows C l number header m s → Writes r a b (closing_text number at (close (stage_of (message (signatures_of C (l number)) header s)))))
-      → IfOk r (λ short. (kept : Answers) (number : ℕ) (header s : List ℕ) → Follows C kept number header m s → short ≡ is_short (close (stage_of (message (signatures_of C (kept number)) header s))))
+  pub close_writes : {E : Type 0} (m : Message) (w : MessageKey) (o : Option (List ℕ)) (at : ℕ)
+      (r : Result Bool E) (a b : OutLog) → RepresentsMessage C l (Some m) w o
+      → ((number : ℕ) (header s : List ℕ) → Follows C l number header m s →
+      Writes r a b (closing_text number at
+      (close (stage_of (message (signatures_of C (l number)) header s)))))
+      → IfOk r (λ short. (kept : Answers) (number : ℕ) (header s : List ℕ) →
+      Follows C kept number header m s → short
+      ≡ is_short (close (stage_of (message (signatures_of C (kept number)) header s))))
       → WritesLines one_if r a b (lines_of R_of (event at w Closes) o)
   close_writes m w None at r a b k text short = absurd k
-  close_writes m w (Some xs) at (Err e) a b k text short = record { text = close_text (WroteFront a b) w at xs (text w.number w.header xs k); faults = tt; kept = tt }
+  close_writes m w (Some xs) at (Err e) a b k text short =
+      record {
+        text = close_text (WroteFront a b) w at xs (text w.number w.header xs k);
+        faults =
+            tt;
+        kept = tt;
+      }
   close_writes m w (Some xs) at (Ok answer) a b k text short = record {
     text = close_text (Wrote a b) w at xs (text w.number w.header xs k);
     faults = close_by at w xs ∙ ap one_if (sym (short l w.number w.header xs k));
@@ -219,38 +300,63 @@ module _ (C : Table) (l : Answers) where
 
   -- ---- A framing fault, a cancel, and events of a message that is over.
 
-  pub no_lines : (w : MessageKey) (o : Option (List ℕ)) (e : Event) → RepresentsMessage C l None w o → lines_of R_of e o ≡ []
+  pub no_lines : (w : MessageKey) (o : Option (List ℕ)) (e : Event) →
+      RepresentsMessage C l None w o → lines_of R_of e o ≡ []
   no_lines w None e k = over_lines R_of e
   no_lines w (Some xs) e k = absurd k
 
-  pub over_part : (w : MessageKey) (o : Option (List ℕ)) (e : Event) → RepresentsMessage C l None w o → part_of R_of e o ≡ no_part None
+  pub over_part : (w : MessageKey) (o : Option (List ℕ)) (e : Event) →
+      RepresentsMessage C l None w o → part_of R_of e o ≡ no_part None
   unfolding part_of
   over_part w None e k = λ j. record { octets = over_then R_of e j; lines = over_lines R_of e j }
   over_part w (Some xs) e k = absurd k
 
-  pub faulted_part : (message : Option Message) (w : MessageKey) (o : Option (List ℕ)) (at : ℕ) (fault : FramingFault) → is_some message ≡ true → RepresentsMessage C l message w o
-      → part_of R_of (event at w (Faults fault)) o ≡ record { octets = None; lines = record { place = at; number = w.number; content = Faulted fault } ∷ [] }
+  pub faulted_part : (message : Option Message) (w : MessageKey) (o : Option (List ℕ)) (at : ℕ)
+      (fault : FramingFault) → is_some message ≡ true → RepresentsMessage C l message w o
+      → part_of R_of (event at w (Faults fault)) o ≡
+      record {
+        octets = None;
+        lines = record {
+          place = at;
+          number = w.number;
+          content =
+              Faulted fault;
+        } ∷ [];
+      }
   unfolding part_of
-  faulted_part (Some m) w (Some xs) at fault h k = λ j. record { octets = faulted_then R_of w (Some xs) at fault j; lines = faulted_lines R_of at w fault xs j }
+  faulted_part (Some m) w (Some xs) at fault h k =
+      λ j. record {
+        octets = faulted_then R_of w (Some xs) at fault j;
+        lines =
+            faulted_lines R_of at w fault xs j;
+      }
   faulted_part (Some m) w None at fault h k = absurd k
   faulted_part None w o at fault h k = absurd cc
 
-  pub cancel_says : (message : Option Message) (w : MessageKey) (o : Option (List ℕ)) (at j : ℕ) → is_some message ≡ true → RepresentsMessage C l message w o
-      → lines_of R_of (event at w (Cancelled j)) o ≡ record { place = at; number = w.number; content = CancelledBy j } ∷ []
+  pub cancel_says : (message : Option Message) (w : MessageKey) (o : Option (List ℕ)) (at j : ℕ) →
+      is_some message ≡ true → RepresentsMessage C l message w o
+      → lines_of R_of (event at w (Cancelled j)) o ≡
+      record { place = at; number = w.number; content = CancelledBy j } ∷ []
   cancel_says (Some m) w (Some xs) at j h k = cancelled_lines R_of at w j xs
   cancel_says (Some m) w None at j h k = absurd k
   cancel_says None w o at j h k = absurd cc
 
-pub faulted_text : (at number : ℕ) (fault : FramingFault) (w : MessageKey) → w.number ≡ number → line_text (record { place = at; number = w.number; content = Faulted fault }) ≡ fault_line number (framing_fault_word fault) at
+pub faulted_text : (at number : ℕ) (fault : FramingFault) (w : MessageKey) → w.number ≡ number →
+    line_text (record { place = at; number = w.number; content = Faulted fault })
+    ≡ fault_line number (framing_fault_word fault) at
 faulted_text at number fault w e = ap (λ (n : ℕ). fault_line n (framing_fault_word fault) at) e
 
-pub faulted_one : (at number : ℕ) (fault : FramingFault) → fault_count (record { place = at; number = number; content = Faulted fault } ∷ []) ≡ 1
+pub faulted_one : (at number : ℕ) (fault : FramingFault) →
+    fault_count (record { place = at; number = number; content = Faulted fault } ∷ []) ≡ 1
 unfolding fault_count
 faulted_one at number fault = refl
 
-pub cancelled_text : (at number j : ℕ) (w : MessageKey) → w.number ≡ number → line_text (record { place = at; number = w.number; content = CancelledBy j }) ≡ cancelled_line number j
+pub cancelled_text : (at number j : ℕ) (w : MessageKey) → w.number ≡ number →
+    line_text (record { place = at; number = w.number; content = CancelledBy j })
+    ≡ cancelled_line number j
 cancelled_text at number j w e = ap (λ (n : ℕ). cancelled_line n j) e
 
-pub cancelled_none : (at number j : ℕ) → fault_count (record { place = at; number = number; content = CancelledBy j } ∷ []) ≡ 0
+pub cancelled_none : (at number j : ℕ) →
+    fault_count (record { place = at; number = number; content = CancelledBy j } ∷ []) ≡ 0
 unfolding fault_count
 cancelled_none at number j = refl

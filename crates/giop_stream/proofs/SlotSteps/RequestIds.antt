@@ -1,4 +1,5 @@
--- The GIOP header of a message that is known by its request id begins with it: its first four octets are the id.
+-- The GIOP header of a message that is known by its request id begins with it: its first four
+-- octets are the id.
 use Rattle.std.proofs.Common.{inl, inr, ◌≡◌, ℕ, zero, suc, ◌<◌, Bool, true, false, List, [], ◌∷◌, length, take, refl, sym, subst, ◌∙◌, Option, Some, None, arith}
 use Rattle.std.specs.Prelude.{◌==◌, ◌&&◌, ◌||◌, IfSome, nat_lt}
 use Rattle.std.proofs.lemmas.Bool.{and_parts, cases_lt, eqb-true, ltb-true, ne_eqb, false≢true}
@@ -24,10 +25,12 @@ behind : (x : List ℕ) (fs : List (List ℕ)) → first_wrong (x ∷ fs) ≡ No
 unfolding first_wrong
 behind x fs h = go (wrong x) refl h
   where
-    go : (o : Option StreamFault) → wrong x ≡ o → first_wrong (x ∷ fs) ≡ None → first_wrong fs ≡ None
+    go : (o : Option StreamFault) → wrong x ≡ o → first_wrong (x ∷ fs) ≡ None →
+        first_wrong fs ≡ None
     go None e h = rw e at h
     go (Some fault) e h =
-        absurd (let no : first_wrong (x ∷ fs) ≡ Some (length x, fault) = rw e refl in let never : Some (length x, fault) ≡ None = sym no ∙ h in cc)
+        absurd (let no : first_wrong (x ∷ fs) ≡ Some (length x, fault) = rw e refl in
+        let never : Some (length x, fault) ≡ None = sym no ∙ h in cc)
 
 right_here : (x : List ℕ) (fs : List (List ℕ)) → first_wrong (x ∷ fs) ≡ None → wrong x ≡ None
 unfolding first_wrong
@@ -36,7 +39,8 @@ right_here x fs h = go (wrong x) refl
     go : (o : Option StreamFault) → wrong x ≡ o → wrong x ≡ None
     go None e = e
     go (Some fault) e =
-        absurd (let no : first_wrong (x ∷ fs) ≡ Some (length x, fault) = rw e refl in let never : Some (length x, fault) ≡ None = sym no ∙ h in cc)
+        absurd (let no : first_wrong (x ∷ fs) ≡ Some (length x, fault) = rw e refl in
+        let never : Some (length x, fault) ≡ None = sym no ∙ h in cc)
 
 version : (a b c d e f : ℕ) → wrong (a ∷ b ∷ c ∷ d ∷ e ∷ f ∷ []) ≡ None → f < 3
 unfolding wrong
@@ -46,7 +50,8 @@ version a b c d e f w = ltb-true f 3 (go (nat_lt f 3) w)
     go true h = refl
     go false h = absurd cc
 
-minor_few : (header : List ℕ) → length header ≡ 12 → first_wrong_octet header ≡ None → minor header < 3
+minor_few : (header : List ℕ) → length header ≡ 12 → first_wrong_octet header ≡ None →
+    minor header < 3
 unfolding first_wrong_octet fronts minor
 minor_few (a ∷ b ∷ c ∷ d ∷ e ∷ f ∷ g ∷ more) twelve h =
     let two = behind (a ∷ []) _ (behind [] _ h) in
@@ -96,22 +101,27 @@ module _ (header : List ℕ) (few : minor header < 3) where
   opener_type : is_opener header ≡ true → HasType (minor header) (kind header)
   unfolding is_opener may_be_fragmented
   opener_type h =
-      typed (minor header) (kind header) few (kind_few (kind header) (and_parts ((minor header == 2) && has_more header) (may_be_fragmented header) h).1)
+      typed (minor header) (kind header) few
+      (kind_few (kind header) (and_parts ((minor header == 2) && has_more header)
+      (may_be_fragmented header) h).1)
 
   fragment_type : is_fragment header ≡ true → HasType (minor header) (kind header)
   unfolding is_fragment
   fragment_type h =
       let both = and_parts (minor header == 2) (kind header == 7) h in
-      subst (λ v. HasType v (kind header)) (sym (eqb-true (minor header) 2 both.0)) (subst (HasType 2) (sym (eqb-true (kind header) 7 both.1)) (_, refl))
+      subst (λ v. HasType v (kind header)) (sym (eqb-true (minor header) 2 both.0))
+      (subst (HasType 2) (sym (eqb-true (kind header) 7 both.1)) (_, refl))
 
   cancel_type : is_cancel header ≡ true → HasType (minor header) (kind header)
   unfolding is_cancel
-  cancel_type h = let two = eqb-true (kind header) 2 h in typed (minor header) (kind header) few (omega (arith, two))
+  cancel_type h = let two = eqb-true (kind header) 2 h in
+      typed (minor header) (kind header) few (omega (arith, two))
 
   has_type : has_name header ≡ true → HasType (minor header) (kind header)
   has_type h = go (is_opener header) (is_fragment header) refl refl h
     where
-      go : (a b : Bool) → is_opener header ≡ a → is_fragment header ≡ b → (a || b || is_cancel header) ≡ true → HasType (minor header) (kind header)
+      go : (a b : Bool) → is_opener header ≡ a → is_fragment header ≡ b →
+          (a || b || is_cancel header) ≡ true → HasType (minor header) (kind header)
       go true b e f n = opener_type e
       go false true e f n = fragment_type f
       go false false e f n = cancel_type n
@@ -119,10 +129,15 @@ module _ (header : List ℕ) (few : minor header < 3) where
 id_first : (o : Option Ty) (T : Ty) → o ≡ Some T → IfSome o BeginsWithId → BeginsWithId T
 id_first o T e h = rw e at h
 
-pub says_id : (header : List ℕ) → length header ≡ 12 → first_wrong_octet header ≡ None → has_name header ≡ true → SaysId header
+pub says_id : (header : List ℕ) → length header ≡ 12 → first_wrong_octet header ≡ None →
+    has_name header ≡ true → SaysId header
 says_id header twelve right name =
-    let type = has_type header (minor_few header twelve right) name in
-    (type.0, type.1, id_first (header_type (minor header) (kind header)) type.0 type.1 (begins_with_id header name))
+    let type = has_type header (minor_few header twelve right) name in (
+      type.0,
+      type.1,
+      id_first (header_type (minor header) (kind header)) type.0 type.1
+          (begins_with_id header name),
+    )
 
 -- so has a Fragment's, whatever else is in it
 pub fragment_says : (header : List ℕ) → is_fragment header ≡ true → SaysId header
@@ -132,8 +147,12 @@ fragment_says header f =
     let two = eqb-true (minor header) 2 both.0 in
     let few : minor header < 3 = omega (arith, two) in
     let name : has_name header ≡ true = fragment_named header f in
-    let type = fragment_type header few f in
-    (type.0, type.1, id_first (header_type (minor header) (kind header)) type.0 type.1 (begins_with_id header name))
+    let type = fragment_type header few f in (
+      type.0,
+      type.1,
+      id_first (header_type (minor header) (kind header)) type.0 type.1
+          (begins_with_id header name),
+    )
   where
     fragment_named : (header : List ℕ) → is_fragment header ≡ true → has_name header ≡ true
     fragment_named header f = rw f (go (is_opener header) (is_cancel header))
@@ -145,14 +164,18 @@ fragment_says header f =
 -- ---- The request id that is read from its first four octets.
 
 pub id_is_id : (C : Table) (l : Answers) (m : Message) → length m.payload ≡ 4 → SaysId m.header
-    → first_request_id (message_lines (message (signatures_of C (l m.number)) m.header m.payload)) ≡ Some (id m)
+    → first_request_id (message_lines (message (signatures_of C (l m.number)) m.header m.payload))
+    ≡ Some (id m)
 unfolding id signatures_of
 id_is_id C l m four says = go m.payload four
   where
-    go : (xs : List ℕ) → length xs ≡ 4 → first_request_id (message_lines (message (signatures_of C (l m.number)) m.header xs)) ≡ Some (num (order m.header) (take 4 xs))
+    go : (xs : List ℕ) → length xs ≡ 4 → first_request_id
+        (message_lines (message (signatures_of C (l m.number)) m.header xs))
+        ≡ Some (num (order m.header) (take 4 xs))
     go [] e = absurd (omega (arith, e))
     go (a ∷ []) e = absurd (omega (arith, e))
     go (a ∷ b ∷ []) e = absurd (omega (arith, e))
     go (a ∷ b ∷ c ∷ []) e = absurd (omega (arith, e))
-    go (a ∷ b ∷ c ∷ d ∷ []) e = id_is_said (signatures_of C (l m.number)) m.header says.0 says.1 says.2 a b c d []
+    go (a ∷ b ∷ c ∷ d ∷ []) e = id_is_said (signatures_of C (l m.number)) m.header says.0 says.1
+        says.2 a b c d []
     go (a ∷ b ∷ c ∷ d ∷ x ∷ xs) e = absurd (omega (arith, e))

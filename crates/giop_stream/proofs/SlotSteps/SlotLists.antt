@@ -1,4 +1,5 @@
--- Lists of slots: those of the code against those of the specs, one by one; and which are ready for an octet.
+-- Lists of slots: those of the code against those of the specs, one by one; and which are ready for
+-- an octet.
 use Rattle.std.proofs.Common.{◌≡◌, ℕ, zero, suc, ◌<◌, ◌≤◌, List, [], ◌∷◌, ◌++◌, length, get_or, refl, ap, Option, Some, None, arith}
 use Rattle.std.specs.Prelude.{slice_get, slice_set, option_map}
 use Rattle.std.specs.List.{remove, AllByRecursion as Each}
@@ -13,21 +14,26 @@ use Rattle.giop_stream.specs.Effects.{Tracked}
 use Rattle.giop_stream.specs.SlotsRepresent.{OpenEntry, with_message, IsReady, IsSlot, AreSlots}
 
 pub slots_get : (c : Tracked) (k : ℕ) (o : Open) → slice_get c.still_open k ≡ Some o
-    → slice_get (slots_of c.known c.still_open) k ≡ Some (record { open_as = o; octets = c.known o.opener.number })
+    → slice_get (slots_of c.known c.still_open) k
+    ≡ Some (record { open_as = o; octets = c.known o.opener.number })
 unfolding slots_of
 slots_get c k o e = go c.still_open k e
   where
     go : (still_open : List Open) (k : ℕ) → slice_get still_open k ≡ Some o
-        → slice_get (slots_of c.known still_open) k ≡ Some (record { open_as = o; octets = c.known o.opener.number })
+        → slice_get (slots_of c.known still_open) k
+        ≡ Some (record { open_as = o; octets = c.known o.opener.number })
     go [] k e = absurd cc
-    go (a ∷ still_open) zero e = let same : a ≡ o = cc in ap (λ (b : Open). Some (record { open_as = b; octets = c.known b.opener.number })) same
+    go (a ∷ still_open) zero e = let same : a ≡ o = cc in
+        ap (λ (b : Open). Some (record { open_as = b; octets = c.known b.opener.number })) same
     go (a ∷ still_open) (suc k) e = go still_open k e
 
-pub get_last : (still_open : List Open) (o : Open) → slice_get (still_open ++ o ∷ []) (length still_open) ≡ Some o
+pub get_last : (still_open : List Open) (o : Open) →
+    slice_get (still_open ++ o ∷ []) (length still_open) ≡ Some o
 get_last [] o = refl
 get_last (a ∷ still_open) o = get_last still_open o
 
-pub slots_many : (K : OctetsByNumber) (still_open : List Open) → length (slots_of K still_open) ≡ length still_open
+pub slots_many : (K : OctetsByNumber) (still_open : List Open) →
+    length (slots_of K still_open) ≡ length still_open
 unfolding slots_of
 slots_many K [] = refl
 slots_many K (o ∷ still_open) = ap suc (slots_many K still_open)
@@ -35,50 +41,60 @@ slots_many K (o ∷ still_open) = ap suc (slots_many K still_open)
 -- ---- A value among the entries of the table of open messages.
 
 -- the entry that holds it
-pub entry_there : (ks : List OpenEntry) (k : ℕ) (v : Contents) → option_map (λ e. e.value) (slice_get ks k) ≡ Some v
+pub entry_there : (ks : List OpenEntry) (k : ℕ) (v : Contents) →
+    option_map (λ e. e.value) (slice_get ks k) ≡ Some v
     → (x : OpenEntry) × (slice_get ks k ≡ Some x) × (x.value ≡ v)
 entry_there [] k v e = absurd cc
 entry_there (y ∷ ks) zero v e = (y, refl, (let same : y.value ≡ v = cc in same))
 entry_there (y ∷ ks) (suc k) v e = entry_there ks k v e
 
 -- the entry with this id and this value
-pub entry_is : (ks : List OpenEntry) (k : ℕ) (x : OpenEntry) → option_map (λ e. e.key) (slice_get ks k) ≡ Some x.key
+pub entry_is : (ks : List OpenEntry) (k : ℕ) (x : OpenEntry) →
+    option_map (λ e. e.key) (slice_get ks k) ≡ Some x.key
     → option_map (λ e. e.value) (slice_get ks k) ≡ Some x.value → x ≡ get_or ks k x
 entry_is [] k x i v = absurd cc
 entry_is (y ∷ ks) zero x i v =
     let id : y.key ≡ x.key = cc in
     let value : y.value ≡ x.value = cc in
-    let same : record { key = x.key; value = x.value } ≡ record { key = y.key; value = y.value } = rw (id, value) refl in
+    let same : record { key = x.key; value = x.value } ≡ record { key = y.key; value = y.value } =
+    rw (id, value) refl in
     same
 entry_is (y ∷ ks) (suc k) x i v = entry_is ks k x i v
 
-pub value_at : (ks : List OpenEntry) (k : ℕ) (v : Contents) (d : OpenEntry) → option_map (λ e. e.value) (slice_get ks k) ≡ Some v
+pub value_at : (ks : List OpenEntry) (k : ℕ) (v : Contents) (d : OpenEntry) →
+    option_map (λ e. e.value) (slice_get ks k) ≡ Some v
     → (get_or ks k d).value ≡ v
 value_at [] k v d e = absurd cc
 value_at (y ∷ ks) zero v d e = let same : y.value ≡ v = cc in same
 value_at (y ∷ ks) (suc k) v d e = value_at ks k v d e
 
-pub none_behind : (ks : List OpenEntry) (k : ℕ) → None ≡ option_map (λ e. e.value) (slice_get ks k) → k < length ks → ⊥
+pub none_behind : (ks : List OpenEntry) (k : ℕ) →
+    None ≡ option_map (λ e. e.value) (slice_get ks k) → k < length ks → ⊥
 none_behind [] k e l = omega (arith, l)
 none_behind (y ∷ ks) zero e l = let no : None ≡ Some y.value = e in cc
 none_behind (y ∷ ks) (suc k) e l = none_behind ks k e (omega (arith, l))
 
 -- that entry with another message in it
-pub revalued_set : (ks : List OpenEntry) (k : ℕ) (x : OpenEntry) (message : Option Message) → slice_get ks k ≡ Some x
+pub revalued_set : (ks : List OpenEntry) (k : ℕ) (x : OpenEntry) (message : Option Message) →
+    slice_get ks k ≡ Some x
     → revalued ks k (with_message x message).value ≡ slice_set ks k (with_message x message)
 revalued_set [] k x message e = refl
 revalued_set (y ∷ ks) zero x message e = let same : y ≡ x = cc in rw same refl
-revalued_set (y ∷ ks) (suc k) x message e = ap (λ (more : List OpenEntry). y ∷ more) (revalued_set ks k x message e)
+revalued_set (y ∷ ks) (suc k) x message e =
+    ap (λ (more : List OpenEntry). y ∷ more) (revalued_set ks k x message e)
 
 module _ (C : Table) (l : Answers) where
-  pub slot_of : (ks : List OpenEntry) (ss : List Slot) (k : ℕ) (x : OpenEntry) (s : Slot) → AreSlots C l ks ss
+  pub slot_of : (ks : List OpenEntry) (ss : List Slot) (k : ℕ) (x : OpenEntry) (s : Slot) →
+      AreSlots C l ks ss
       → slice_get ks k ≡ Some x → slice_get ss k ≡ Some s → IsSlot C l x s
   slot_of [] ss k x s h e f = absurd cc
   slot_of (y ∷ ks) [] k x s h e f = absurd cc
-  slot_of (y ∷ ks) (t ∷ ss) zero x s h e f = let a : y ≡ x = cc in let b : t ≡ s = cc in rw (← a, ← b) h.0
+  slot_of (y ∷ ks) (t ∷ ss) zero x s h e f = let a : y ≡ x = cc in let b : t ≡ s = cc in
+      rw (← a, ← b) h.0
   slot_of (y ∷ ks) (t ∷ ss) (suc k) x s h e f = slot_of ks ss k x s h.1 e f
 
-  pub set_slot : (ks : List OpenEntry) (ss : List Slot) (k : ℕ) (x : OpenEntry) (s : Slot) → AreSlots C l ks ss
+  pub set_slot : (ks : List OpenEntry) (ss : List Slot) (k : ℕ) (x : OpenEntry) (s : Slot) →
+      AreSlots C l ks ss
       → IsSlot C l x s → AreSlots C l (slice_set ks k x) (slice_set ss k s)
   set_slot [] [] k x s h i = tt
   set_slot [] (t ∷ ss) k x s h i = absurd h
@@ -86,27 +102,32 @@ module _ (C : Table) (l : Answers) where
   set_slot (y ∷ ks) (t ∷ ss) zero x s h i = (i, h.1)
   set_slot (y ∷ ks) (t ∷ ss) (suc k) x s h i = (h.0, set_slot ks ss k x s h.1 i)
 
-  pub no_more_slots : (ks : List OpenEntry) (ss : List Slot) (k : ℕ) (s : Slot) → AreSlots C l ks ss → slice_get ss k ≡ Some s → k < length ks
+  pub no_more_slots : (ks : List OpenEntry) (ss : List Slot) (k : ℕ) (s : Slot) →
+      AreSlots C l ks ss → slice_get ss k ≡ Some s → k < length ks
   no_more_slots [] [] k s h e = absurd cc
   no_more_slots [] (t ∷ ss) k s h e = absurd h
   no_more_slots (y ∷ ks) [] k s h e = absurd h
   no_more_slots (y ∷ ks) (t ∷ ss) zero s h e = omega arith
-  no_more_slots (y ∷ ks) (t ∷ ss) (suc k) s h e = let less = no_more_slots ks ss k s h.1 e in omega arith
+  no_more_slots (y ∷ ks) (t ∷ ss) (suc k) s h e = let less = no_more_slots ks ss k s h.1 e in
+      omega arith
 
-  pub are_as_many : (ks : List OpenEntry) (ss : List Slot) → AreSlots C l ks ss → length ks ≡ length ss
+  pub are_as_many : (ks : List OpenEntry) (ss : List Slot) → AreSlots C l ks ss →
+      length ks ≡ length ss
   are_as_many [] [] h = refl
   are_as_many [] (s ∷ ss) h = absurd h
   are_as_many (k ∷ ks) [] h = absurd h
   are_as_many (k ∷ ks) (s ∷ ss) h = ap suc (are_as_many ks ss h.1)
 
-  pub push_slot : (ks : List OpenEntry) (ss : List Slot) (x : OpenEntry) (s : Slot) → AreSlots C l ks ss → IsSlot C l x s
+  pub push_slot : (ks : List OpenEntry) (ss : List Slot) (x : OpenEntry) (s : Slot) →
+      AreSlots C l ks ss → IsSlot C l x s
       → AreSlots C l (ks ++ x ∷ []) (ss ++ s ∷ [])
   push_slot [] [] x s h i = (i, tt)
   push_slot [] (t ∷ ss) x s h i = absurd h
   push_slot (k ∷ ks) [] x s h i = absurd h
   push_slot (k ∷ ks) (t ∷ ss) x s h i = (h.0, push_slot ks ss x s h.1 i)
 
-  pub remove_slot : (ks : List OpenEntry) (ss : List Slot) (k : ℕ) → AreSlots C l ks ss → AreSlots C l (remove ks k) (remove ss k)
+  pub remove_slot : (ks : List OpenEntry) (ss : List Slot) (k : ℕ) → AreSlots C l ks ss →
+      AreSlots C l (remove ks k) (remove ss k)
   remove_slot [] [] zero h = tt
   remove_slot [] [] (suc k) h = tt
   remove_slot [] (s ∷ ss) k h = absurd h
@@ -116,27 +137,38 @@ module _ (C : Table) (l : Answers) where
 
 -- ---- Slots that are ready for an octet.
 
-pub later_ready : (C : Table) (n n' : ℕ) (message : Option Message) → n ≤ n' → IsReady C n message → IsReady C n' message
+pub later_ready : (C : Table) (n n' : ℕ) (message : Option Message) → n ≤ n' → IsReady C n message →
+    IsReady C n' message
 later_ready C n n' None less h = tt
 later_ready C n n' (Some m) less h = (h.0, omega (arith, h.1))
 
-pub all_later : (C : Table) (n n' : ℕ) (ks : List OpenEntry) → n ≤ n' → Each (λ slot. IsReady C n slot.value.message) ks → Each (λ slot. IsReady C n' slot.value.message) ks
+pub all_later : (C : Table) (n n' : ℕ) (ks : List OpenEntry) → n ≤ n' →
+    Each (λ slot. IsReady C n slot.value.message) ks →
+    Each (λ slot. IsReady C n' slot.value.message) ks
 all_later C n n' [] less h = tt
-all_later C n n' (k ∷ ks) less h = (later_ready C n n' k.value.message less h.0, all_later C n n' ks less h.1)
+all_later C n n' (k ∷ ks) less h = (
+  later_ready C n n' k.value.message less h.0,
+  all_later C n n' ks less h.1,
+)
 
-pub ready_at : (C : Table) (n : ℕ) (ks : List OpenEntry) (k : ℕ) (v : Contents) → option_map (λ e. e.value) (slice_get ks k) ≡ Some v
+pub ready_at : (C : Table) (n : ℕ) (ks : List OpenEntry) (k : ℕ) (v : Contents) →
+    option_map (λ e. e.value) (slice_get ks k) ≡ Some v
     → Each (λ slot. IsReady C n slot.value.message) ks → IsReady C n v.message
 ready_at C n [] k v e hs = absurd cc
 ready_at C n (y ∷ ks) zero v e hs = let same : y.value ≡ v = cc in rw same at hs.0
 ready_at C n (y ∷ ks) (suc k) v e hs = ready_at C n ks k v e hs.1
 
-pub value_ready : (C : Table) (n : ℕ) (ks : List OpenEntry) (k : ℕ) (v : Contents) → IsReady C n v.message
-    → Each (λ slot. IsReady C n slot.value.message) ks → Each (λ slot. IsReady C n slot.value.message) (revalued ks k v)
+pub value_ready : (C : Table) (n : ℕ) (ks : List OpenEntry) (k : ℕ) (v : Contents) →
+    IsReady C n v.message
+    → Each (λ slot. IsReady C n slot.value.message) ks →
+    Each (λ slot. IsReady C n slot.value.message) (revalued ks k v)
 value_ready C n [] k v h hs = tt
 value_ready C n (y ∷ ks) zero v h hs = (h, hs.1)
 value_ready C n (y ∷ ks) (suc k) v h hs = (hs.0, value_ready C n ks k v h hs.1)
 
-pub push_ready : (C : Table) (n : ℕ) (ks : List OpenEntry) (x : OpenEntry) → IsReady C n x.value.message
-    → Each (λ slot. IsReady C n slot.value.message) ks → Each (λ slot. IsReady C n slot.value.message) (ks ++ x ∷ [])
+pub push_ready : (C : Table) (n : ℕ) (ks : List OpenEntry) (x : OpenEntry) →
+    IsReady C n x.value.message
+    → Each (λ slot. IsReady C n slot.value.message) ks →
+    Each (λ slot. IsReady C n slot.value.message) (ks ++ x ∷ [])
 push_ready C n [] x h hs = (h, tt)
 push_ready C n (y ∷ ks) x h hs = (hs.0, push_ready C n ks x h hs.1)

@@ -1,4 +1,5 @@
--- The lines of all events of one octet together; Ordering shows that they are those of one event after the other.
+-- The lines of all events of one octet together; Ordering shows that they are those of one event
+-- after the other.
 use Rattle.std.specs.Prelude.{false, List, [], ◌∷◌, ◌++◌}
 use Rattle.giop_message.specs.MessageReader.{MessageReader}
 use Rattle.giop_stream.specs.Events.{Event}
@@ -8,7 +9,8 @@ use Rattle.giop_stream.specs.Effects.{lines_for, kept_with}
 
 unfoldable pub all_lines : MessageReader → OctetsByNumber → List Event → List Line
 all_lines R known [] = []
-all_lines R known (e ∷ es) = lines_for R e (known e.subject.number) ++ all_lines R (kept_with known (e ∷ [])) es
+all_lines R known (e ∷ es) = lines_for R e (known e.subject.number)
+    ++ all_lines R (kept_with known (e ∷ [])) es
 
 -- those that are written, in the order of their classes
 unfoldable pub sorted_lines : MessageReader → OctetsByNumber → List Event → List Line

@@ -1,4 +1,5 @@
--- A message that begins with its request id is not over before that is complete: its octets are kept until then.
+-- A message that begins with its request id is not over before that is complete: its octets are
+-- kept until then.
 use Rattle.std.proofs.Common.{◌≡◌, ℕ, suc, ◌<◌, ◌≤◌, Bool, true, false, List, [], ◌∷◌, ◌++◌, length, refl, sym, ap, ◌∙◌, append-nil, Some, None, arith}
 use Rattle.std.specs.Prelude.{nat_lt, ◌==◌, ◌&&◌, ◌||◌, if◌then◌else◌, map}
 use Rattle.std.specs.List.{list_any, AllByRecursion as Each}
@@ -19,7 +20,8 @@ use Rattle.giop_stream.proofs.Cuts.Start.{cut_nothing}
 
 -- ---- A value ends no message.
 
-value_last : (e : Event) (s : LineClass) (text : List ℕ) (i : ℕ) → s ≡ Value → is_last_of i (line e (Said s text)) ≡ false
+value_last : (e : Event) (s : LineClass) (text : List ℕ) (i : ℕ) → s ≡ Value →
+    is_last_of i (line e (Said s text)) ≡ false
 unfolding is_last_of line
 value_last e s text i h = rw h (go (e.subject.number == i))
   where
@@ -27,44 +29,56 @@ value_last e s text i h = rw h (go (e.subject.number == i))
     go true = refl
     go false = refl
 
-values_last : {A : Type 0} (e : Event) (f : A → LineClass) (g : A → List ℕ) (i : ℕ) (xs : List A) → Each (λ a. f a ≡ Value) xs
+values_last : {A : Type 0} (e : Event) (f : A → LineClass) (g : A → List ℕ) (i : ℕ) (xs : List A) →
+    Each (λ a. f a ≡ Value) xs
     → list_any (is_last_of i) (map (λ a. line e (Said (f a) (g a))) xs) ≡ false
 values_last e f g i [] h = refl
 values_last e f g i (x ∷ xs) h = rw (value_last e (f x) (g x) i h.0) (values_last e f g i xs h.1)
 
 stand_by : (i : ℕ) (l : Line) (ls : List Line) (f : ℕ → Bool) (a b c : Bool) → is_last_of i l ≡ a
     → list_any (is_last_of i) ls ≡ b → (a || b) ≡ false
-    → ((f : ℕ → Bool) → list_any (is_last_of i) ls ≡ false → list_any (is_last_of i) (up_to_last_line f ls) ≡ false)
-    → list_any (is_last_of i) (if c then up_to_last_line f ls else l ∷ up_to_last_line (λ j. f j || is_last_of j l) ls) ≡ false
+    → ((f : ℕ → Bool) → list_any (is_last_of i) ls ≡ false →
+    list_any (is_last_of i) (up_to_last_line f ls) ≡ false)
+    → list_any (is_last_of i) (if c then up_to_last_line f ls else l ∷ up_to_last_line
+    (λ j. f j || is_last_of j l) ls) ≡ false
 stand_by i l ls f true b c e k j ih = absurd cc
 stand_by i l ls f false true c e k j ih = absurd cc
 stand_by i l ls f false false true e k j ih = ih f k
 stand_by i l ls f false false false e k j ih = rw e (ih (λ j. f j || is_last_of j l) k)
 
-stand_last : (i : ℕ) (ls : List Line) (f : ℕ → Bool) → list_any (is_last_of i) ls ≡ false → list_any (is_last_of i) (up_to_last_line f ls) ≡ false
+stand_last : (i : ℕ) (ls : List Line) (f : ℕ → Bool) → list_any (is_last_of i) ls ≡ false →
+    list_any (is_last_of i) (up_to_last_line f ls) ≡ false
 unfolding up_to_last_line
 stand_last i [] f h = refl
-stand_last i (l ∷ ls) f h = stand_by i l ls f (is_last_of i l) (list_any (is_last_of i) ls) (f l.number) refl refl h (λ g k. stand_last i ls g k)
+stand_last i (l ∷ ls) f h = stand_by i l ls f (is_last_of i l) (list_any (is_last_of i) ls)
+    (f l.number) refl refl h (λ g k. stand_last i ls g k)
 
-one_octet : (at : ℕ) (w : MessageKey) (x : ℕ) → joined w.number (record { place = at; subject = w; what = Takes x } ∷ []) ≡ x ∷ []
+one_octet : (at : ℕ) (w : MessageKey) (x : ℕ) →
+    joined w.number (record { place = at; subject = w; what = Takes x } ∷ []) ≡ x ∷ []
 unfolding joined octet
 one_octet at w x = rw (eq-eqb w.number w.number refl) refl
 
-takes_last : (R : MessageReader) → IsStreamable R → (at : ℕ) (w : MessageKey) (xs : List ℕ) (x : ℕ) → has_name w.header ≡ true
-    → length xs < 4 → list_any (is_last_of w.number) (lines_of R (record { place = at; subject = w; what = Takes x }) (Some xs))
+takes_last : (R : MessageReader) → IsStreamable R →
+    (at : ℕ) (w : MessageKey) (xs : List ℕ) (x : ℕ) → has_name w.header ≡ true
+    → length xs < 4 → list_any (is_last_of w.number)
+    (lines_of R (record { place = at; subject = w; what = Takes x }) (Some xs))
     ≡ false
 unfolding lines_of lines_for lines_of_event
 takes_last R laws at w xs x name short =
     let e : Event = record { place = at; subject = w; what = Takes x } in
     rw (one_octet at w x)
-    (stand_last w.number (map (λ r. line e (Said r.line_class r.text)) (due R w.number w.header xs x)) (λ i. false)
+    (stand_last w.number (map (λ r. line e (Said r.line_class r.text))
+    (due R w.number w.header xs x)) (λ i. false)
     (values_last e (λ r. r.line_class) (λ r. r.text) w.number (due R w.number w.header xs x)
-    (each_filter (λ r. r.line_class ≡ Value) (λ r. r.at == suc (length xs)) (R.reads w.number w.header (xs ++ x ∷ []))
+    (each_filter (λ r. r.line_class ≡ Value) (λ r. r.at == suc (length xs))
+    (R.reads w.number w.header (xs ++ x ∷ []))
     (laws.named.named w.number w.header (xs ++ x ∷ []) name (omega (arith, length_push xs x))))))
 
 -- an octet of a request id is kept
-pub named_then : (R : MessageReader) → IsStreamable R → (at : ℕ) (w : MessageKey) (xs : List ℕ) (x : ℕ) → has_name w.header ≡ true
-    → length xs < 4 → octets_then R (record { place = at; subject = w; what = Takes x }) (Some xs) ≡ Some (xs ++ x ∷ [])
+pub named_then : (R : MessageReader) → IsStreamable R →
+    (at : ℕ) (w : MessageKey) (xs : List ℕ) (x : ℕ) → has_name w.header ≡ true
+    → length xs < 4 → octets_then R (record { place = at; subject = w; what = Takes x }) (Some xs)
+    ≡ Some (xs ++ x ∷ [])
 unfolding octets_then octet
 named_then R laws at w xs x name short = rw (takes_last R laws at w xs x name short) refl
 
@@ -72,10 +86,13 @@ named_then R laws at w xs x name short = rw (takes_last R laws at w xs x name sh
 
 pub not_past : (m : Message) → length m.payload ≤ 4 → goes_past m ≡ false
 unfolding goes_past
-not_past m h = and_right (is_fragment m.header) (nat_lt 4 (length m.payload)) (le-ltb 4 (length m.payload) h)
+not_past m h = and_right (is_fragment m.header) (nat_lt 4 (length m.payload))
+    (le-ltb 4 (length m.payload) h)
 
-pub early_octet : (most : ℕ) (still_open : List Open) (m : Message) → 0 < length m.payload → length m.payload < 4
-    → length m.payload < size m.header → events_of_octet most still_open m ≡ events_at_octet still_open m
+pub early_octet : (most : ℕ) (still_open : List Open) (m : Message) → 0 < length m.payload →
+    length m.payload < 4
+    → length m.payload < size m.header → events_of_octet most still_open m
+    ≡ events_at_octet still_open m
 unfolding events_of_octet
 early_octet most still_open m some few lacks =
     rw (
@@ -86,7 +103,8 @@ early_octet most still_open m some few lacks =
           (length m.payload) (size m.header) (λ e. omega arith),
     ) (append-nil (events_at_octet still_open m))
 
-pub first_octet : (most : ℕ) (still_open : List Open) (m : Message) → length m.payload ≡ 0 → 0 < size m.header → events_of_octet most still_open m ≡ events_at_header m
+pub first_octet : (most : ℕ) (still_open : List Open) (m : Message) → length m.payload ≡ 0 →
+    0 < size m.header → events_of_octet most still_open m ≡ events_at_header m
 unfolding events_of_octet
 first_octet most still_open m none some =
     rw (
@@ -100,13 +118,15 @@ first_octet most still_open m none some =
 -- the octets of the current message are kept while its request id is incomplete
 abbrev pub IsAlive : Rules → List ℕ → Type 0
 IsAlive R p =
-    (cut p).stop ≡ None → (m : Message) → (cut p).current ≡ Some m → has_name m.header ≡ true → length m.payload < 4 → octets_of R p m.number ≡ Some m.payload
+    (cut p).stop ≡ None → (m : Message) → (cut p).current ≡ Some m → has_name m.header ≡ true →
+    length m.payload < 4 → octets_of R p m.number ≡ Some m.payload
 
 pub record Settled (whole : List Message) (m m' : Message) : Type 0 where
   pub same : m' ≡ m
   pub lacks : length m.payload < size m.header
 
-pub settled_is : (whole : List Message) (m m' : Message) → (end_message whole m).current ≡ Some m' → Settled whole m m'
+pub settled_is : (whole : List Message) (m m' : Message) → (end_message whole m).current ≡ Some m' →
+    Settled whole m m'
 unfolding end_message
 settled_is whole m m' h = go (nat_lt (length m.payload) (size m.header)) refl h
   where
@@ -116,11 +136,13 @@ settled_is whole m m' h = go (nat_lt (length m.payload) (size m.header)) refl h
           current = Some m;
           held = [];
           stop = None;
-        } else record { whole = whole ++ m ∷ []; current = None; held = []; stop = None } in c.current)
+        } else record { whole = whole ++ m ∷ []; current = None; held = []; stop = None } in
+        c.current)
         ≡ Some m' → Settled whole m m'
     go true e k = record { same = cc; lacks = ltb-true (length m.payload) (size m.header) e }
     go false e k = absurd cc
 
 pub alive_start : (R : Rules) → IsAlive R []
 unfolding of_parts
-alive_start R st m cur name few = absurd (let no : None ≡ Some m = sym (ap (λ (c : Cut). c.current) cut_nothing) ∙ cur in cc)
+alive_start R st m cur name few = absurd
+    (let no : None ≡ Some m = sym (ap (λ (c : Cut). c.current) cut_nothing) ∙ cur in cc)

@@ -1,4 +1,5 @@
--- Within which classes the lines of each kind of event are, those of lists of events, and those of each part of an octet.
+-- Within which classes the lines of each kind of event are, those of lists of events, and those of
+-- each part of an octet.
 use Rattle.std.proofs.Common.{◌≡◌, ℕ, suc, ◌<◌, ◌≤◌, Bool, true, false, List, [], ◌∷◌, ◌++◌, length, refl, sym, subst, append_assoc, Option, Some, None, arith}
 use Rattle.std.specs.Prelude.{nat_lt, nat_le, ◌==◌, if◌then◌else◌, ◌&&◌, ◌||◌}
 use Rattle.std.specs.List.{filter}
@@ -21,7 +22,8 @@ use Rattle.giop_stream.proofs.StreamLines.Spans.{Spans, spans_none, spans_wider,
 -- ---- The lines of one event.
 
 unfoldable pub Tells : MessageReader → ℕ → ℕ → EventKind → Type 0
-Tells R lo hi what = (e : Event) (so_far all : List ℕ) → Spans lo hi (lines_of_event R e so_far all what)
+Tells R lo hi what = (e : Event) (so_far all : List ℕ) →
+    Spans lo hi (lines_of_event R e so_far all what)
 
 pub event_lines_begins : (R : MessageReader) → Tells R 0 0 Begins
 unfolding Tells lines_of_event line
@@ -46,30 +48,42 @@ event_lines_faulted R fault e so_far all = spans_one 5 _ refl
 pub event_lines_takes : (R : MessageReader) → IsOrdered R → (x : ℕ) → Tells R 1 7 (Takes x)
 unfolding Tells lines_of_event
 event_lines_takes R ordered x e so_far all =
-    class_spans 1 7 e (λ r. r.line_class) (λ r. r.text) (filter (λ r. r.at == suc (length so_far)) (R.reads e.subject.number e.subject.header all)) (turn_spans _ (ordered.ordered e.subject.number e.subject.header all (suc (length so_far))))
+    class_spans 1 7 e (λ r. r.line_class) (λ r. r.text)
+    (filter (λ r. r.at == suc (length so_far)) (R.reads e.subject.number e.subject.header all))
+    (turn_spans _ (ordered.ordered e.subject.number e.subject.header all (suc (length so_far))))
 
 event_lines_closes : (R : MessageReader) → IsClosing R → Tells R 6 8 Closes
 unfolding Tells lines_of_event
-event_lines_closes R closing e so_far all = class_spans 6 8 e (λ l. l.0) (λ l. l.1) (R.closes e.subject.number e.subject.header so_far) (close_spans _ (closing.closed e.subject.number e.subject.header so_far))
+event_lines_closes R closing e so_far all =
+    class_spans 6 8 e (λ l. l.0) (λ l. l.1) (R.closes e.subject.number e.subject.header so_far)
+    (close_spans _ (closing.closed e.subject.number e.subject.header so_far))
 
 -- ---- The lines of events, whatever is kept.
 
 unfoldable pub Always : MessageReader → ℕ → ℕ → List Event → Type 0
 Always R lo hi es = (K : OctetsByNumber) → Spans lo hi (all_lines R K es)
 
-all_lines_join : (R : MessageReader) (K : OctetsByNumber) (es fs : List Event) → (L : OctetsByNumber) × (all_lines R K (es ++ fs) ≡ all_lines R K es ++ all_lines R L fs)
+all_lines_join : (R : MessageReader) (K : OctetsByNumber) (es fs : List Event) →
+    (L : OctetsByNumber) × (all_lines R K (es ++ fs) ≡ all_lines R K es ++ all_lines R L fs)
 unfolding all_lines
 all_lines_join R K [] fs = (K, refl)
 all_lines_join R K (e ∷ es) fs =
-    let more = all_lines_join R (kept_with K (e ∷ [])) es fs in
-    (more.0, rw more.1 (sym (append_assoc (lines_for R e (K e.subject.number)) (all_lines R (kept_with K (e ∷ [])) es) (all_lines R more.0 fs))))
+    let more = all_lines_join R (kept_with K (e ∷ [])) es fs in (
+      more.0,
+      rw more.1 (sym (append_assoc (lines_for R e (K e.subject.number))
+          (all_lines R (kept_with K (e ∷ [])) es) (all_lines R more.0 fs))),
+    )
 
 -- two lists of events whose lines rise, one after the other
-pub join_spans : (R : MessageReader) (K : OctetsByNumber) (a b c d : ℕ) (es fs : List Event) → b < c → a ≤ c → b ≤ d → Spans a b (all_lines R K es) → Always R c d fs → Spans a d (all_lines R K (es ++ fs))
+pub join_spans : (R : MessageReader) (K : OctetsByNumber) (a b c d : ℕ) (es fs : List Event) →
+    b < c → a ≤ c → b ≤ d → Spans a b (all_lines R K es) → Always R c d fs →
+    Spans a d (all_lines R K (es ++ fs))
 unfolding Always
-join_spans R K a b c d es fs h k i s t = let both = all_lines_join R K es fs in rw both.1 (spans_join a b c d (all_lines R K es) (all_lines R both.0 fs) h k i s (t both.0))
+join_spans R K a b c d es fs h k i s t = let both = all_lines_join R K es fs in
+    rw both.1 (spans_join a b c d (all_lines R K es) (all_lines R both.0 fs) h k i s (t both.0))
 
-pub always_join : (R : MessageReader) (a b c d : ℕ) (es fs : List Event) → b < c → a ≤ c → b ≤ d → Always R a b es → Always R c d fs → Always R a d (es ++ fs)
+pub always_join : (R : MessageReader) (a b c d : ℕ) (es fs : List Event) → b < c → a ≤ c → b ≤ d →
+    Always R a b es → Always R c d fs → Always R a d (es ++ fs)
 unfolding Always
 always_join R a b c d es fs h k i s t K = join_spans R K a b c d es fs h k i (s K) t
 
@@ -77,41 +91,53 @@ pub always_none : (R : MessageReader) (lo hi : ℕ) → Always R lo hi []
 unfolding Always all_lines
 always_none R lo hi K = spans_none lo hi
 
-pub always_if : (R : MessageReader) (lo hi : ℕ) (b : Bool) (es fs : List Event) → Always R lo hi es → Always R lo hi fs → Always R lo hi (if b then es else fs)
+pub always_if : (R : MessageReader) (lo hi : ℕ) (b : Bool) (es fs : List Event) →
+    Always R lo hi es → Always R lo hi fs → Always R lo hi (if b then es else fs)
 always_if R lo hi true es fs h k = h
 always_if R lo hi false es fs h k = k
 
-always_wider : (R : MessageReader) (a b lo hi : ℕ) (es : List Event) → a ≤ lo → hi ≤ b → Always R lo hi es → Always R a b es
+always_wider : (R : MessageReader) (a b lo hi : ℕ) (es : List Event) → a ≤ lo → hi ≤ b →
+    Always R lo hi es → Always R a b es
 unfolding Always
 always_wider R a b lo hi es h k s K = spans_wider a b lo hi (all_lines R K es) h k (s K)
 
-kept_spans : (R : MessageReader) (lo hi : ℕ) (e : Event) (o : Option (List ℕ)) → Tells R lo hi e.what → Spans lo hi (lines_for R e o)
+kept_spans : (R : MessageReader) (lo hi : ℕ) (e : Event) (o : Option (List ℕ)) →
+    Tells R lo hi e.what → Spans lo hi (lines_for R e o)
 unfolding Tells lines_for
 kept_spans R lo hi e None h = spans_none lo hi
 kept_spans R lo hi e (Some xs) h = h e xs (xs ++ joined e.subject.number (e ∷ []))
 
-pub always_one : (R : MessageReader) (lo hi : ℕ) (e : Event) → Tells R lo hi e.what → Always R lo hi (e ∷ [])
+pub always_one : (R : MessageReader) (lo hi : ℕ) (e : Event) → Tells R lo hi e.what →
+    Always R lo hi (e ∷ [])
 unfolding Always all_lines
-always_one R lo hi e h K = subst (Spans lo hi) (sym (append-nil (lines_for R e (K e.subject.number)))) (kept_spans R lo hi e (K e.subject.number) h)
+always_one R lo hi e h K = subst (Spans lo hi)
+    (sym (append-nil (lines_for R e (K e.subject.number))))
+    (kept_spans R lo hi e (K e.subject.number) h)
 
-pub always_own : (R : MessageReader) (lo hi : ℕ) (now : Now) (what : EventKind) → Tells R lo hi what → Always R lo hi (own now what)
+pub always_own : (R : MessageReader) (lo hi : ℕ) (now : Now) (what : EventKind) →
+    Tells R lo hi what → Always R lo hi (own now what)
 unfolding own
-always_own R lo hi now what h = always_one R lo hi (record { place = now.place; subject = now.subject; what = what }) h
+always_own R lo hi now what h = always_one R lo hi
+    (record { place = now.place; subject = now.subject; what = what }) h
 
-always_about : (R : MessageReader) (lo hi : ℕ) (now : Now) (o : Option Open) (what : EventKind) → Tells R lo hi what → Always R lo hi (event_of_open now o what)
+always_about : (R : MessageReader) (lo hi : ℕ) (now : Now) (o : Option Open) (what : EventKind) →
+    Tells R lo hi what → Always R lo hi (event_of_open now o what)
 unfolding event_of_open
 always_about R lo hi now None what h = always_none R lo hi
-always_about R lo hi now (Some o) what h = always_one R lo hi (record { place = now.place; subject = o.opener; what = what }) h
+always_about R lo hi now (Some o) what h =
+    always_one R lo hi (record { place = now.place; subject = o.opener; what = what }) h
 
 -- ---- The parts of an octet.
 
-always_faulted : (R : MessageReader) (now : Now) (fault : FramingFault) → Always R 5 5 (own now (Faults fault))
+always_faulted : (R : MessageReader) (now : Now) (fault : FramingFault) →
+    Always R 5 5 (own now (Faults fault))
 always_faulted R now fault = always_own R 5 5 now (Faults fault) (event_lines_faulted R fault)
 
 pub always_header : (R : MessageReader) (now : Now) → Always R 0 5 (header_events now)
 unfolding header_events
 always_header R now =
-    always_join R 0 0 5 5 (own now Begins) (fault_events now (refused now.subject.header)) (omega arith) (omega arith) (omega arith)
+    always_join R 0 0 5 5 (own now Begins) (fault_events now (refused now.subject.header))
+    (omega arith) (omega arith) (omega arith)
     (always_own R 0 0 now Begins (event_lines_begins R)) (go (refused now.subject.header))
   where
     go : (w : Option FramingFault) → Always R 5 5 (fault_events now w)
@@ -122,20 +148,27 @@ always_header R now =
 
 module _ (R : Rules) (now : Now) where
   faulted : (fault : FramingFault) → Always R.reading 3 5 (own now (Faults fault))
-  faulted fault = always_wider R.reading 3 5 5 5 (own now (Faults fault)) (omega arith) (omega arith) (always_faulted R.reading now fault)
+  faulted fault = always_wider R.reading 3 5 5 5 (own now (Faults fault)) (omega arith)
+      (omega arith) (always_faulted R.reading now fault)
 
-  always_opens : (still_open : List Open) (id : ℕ) (o : Option Open) → Always R.reading 3 5 (opens R.most still_open now id o)
+  always_opens : (still_open : List Open) (id : ℕ) (o : Option Open) →
+      Always R.reading 3 5 (opens R.most still_open now id o)
   always_opens still_open id (Some other) = faulted IdOpen
   always_opens still_open id None =
-      always_if R.reading 3 5 (nat_le R.most (length still_open)) _ _ (faulted TooManyOpen) (always_own R.reading 3 5 now (Opens id) (event_lines_opens R.reading id 3 5))
+      always_if R.reading 3 5 (nat_le R.most (length still_open)) _ _ (faulted TooManyOpen)
+      (always_own R.reading 3 5 now (Opens id) (event_lines_opens R.reading id 3 5))
 
   always_continues : (o : Option Open) → Always R.reading 3 5 (continues now o)
   always_continues None = faulted NoOpen
   always_continues (Some o) =
-      always_join R.reading 3 3 5 5 (own now (Continues o.opener.number)) _ (omega arith) (omega arith) (omega arith)
-      (always_own R.reading 3 3 now (Continues o.opener.number) (event_lines_continues R.reading o.opener.number))
-      (always_if R.reading 5 5 (same_order (order now.subject.header) (order o.opener.header)) [] _ (always_none R.reading 5 5)
-      (always_about R.reading 5 5 now (Some o) (Faults FragmentOrder) (event_lines_faulted R.reading FragmentOrder)))
+      always_join R.reading 3 3 5 5 (own now (Continues o.opener.number)) _ (omega arith)
+      (omega arith) (omega arith)
+      (always_own R.reading 3 3 now (Continues o.opener.number)
+      (event_lines_continues R.reading o.opener.number))
+      (always_if R.reading 5 5 (same_order (order now.subject.header) (order o.opener.header)) [] _
+      (always_none R.reading 5 5)
+      (always_about R.reading 5 5 now (Some o) (Faults FragmentOrder)
+      (event_lines_faulted R.reading FragmentOrder)))
 
   always_cancels : (o : Option Open) → Always R.reading 3 5 (cancels now o)
   always_cancels None = always_none R.reading 3 5
@@ -143,57 +176,76 @@ module _ (R : Rules) (now : Now) where
       let gone : List Event = event_of_open now (Some o) (Cancelled now.subject.number) in
       always_if R.reading 3 5 (may_be_cancelled o.opener.header) gone []
       (always_wider R.reading 3 5 4 4 gone (omega arith) (omega arith)
-      (always_about R.reading 4 4 now (Some o) (Cancelled now.subject.number) (event_lines_cancelled R.reading now.subject.number)))
+      (always_about R.reading 4 4 now (Some o) (Cancelled now.subject.number)
+      (event_lines_cancelled R.reading now.subject.number)))
       (always_none R.reading 3 5)
 
-  always_id : (still_open : List Open) (id : ℕ) (o : Option Open) → Always R.reading 3 5 (request_id_events R.most still_open now id o)
+  always_id : (still_open : List Open) (id : ℕ) (o : Option Open) →
+      Always R.reading 3 5 (request_id_events R.most still_open now id o)
   unfolding request_id_events
   always_id still_open id o =
       always_if R.reading 3 5 (is_fragment now.subject.header) _ _ (always_continues o)
       (always_if R.reading 3 5 (is_opener now.subject.header) _ _ (always_opens still_open id o)
-      (always_if R.reading 3 5 (is_cancel now.subject.header) _ [] (always_cancels o) (always_none R.reading 3 5)))
+      (always_if R.reading 3 5 (is_cancel now.subject.header) _ [] (always_cancels o)
+      (always_none R.reading 3 5)))
 
 -- a message that ends before the request id that it needs
 abbrev pub ends_short : Message → Bool
 ends_short m = nat_lt (size m.header) 4 && (is_opener m.header || is_fragment m.header)
 
 -- where it doesn't, the joined message may close
-pub always_close : (R : MessageReader) → IsClosing R → (still_open : List Open) (m : Message) → ends_short m ≡ false → Always R 6 8 (events_at_end still_open m)
+pub always_close : (R : MessageReader) → IsClosing R → (still_open : List Open) (m : Message) →
+    ends_short m ≡ false → Always R 6 8 (events_at_end still_open m)
 unfolding message_end_events
 always_close R closing still_open m long =
     let other = opener_of still_open m in
     rw long
     (always_if R 6 8 (is_opener m.header) [] _ (always_none R 6 8)
     (always_if R 6 8 (is_fragment m.header) _ (own (now_of m) Closes)
-    (always_if R 6 8 (has_more m.header) [] (event_of_open (now_of m) other Closes) (always_none R 6 8)
+    (always_if R 6 8 (has_more m.header) [] (event_of_open (now_of m) other Closes)
+    (always_none R 6 8)
     (always_about R 6 8 (now_of m) other Closes (event_lines_closes R closing)))
     (always_own R 6 8 (now_of m) Closes (event_lines_closes R closing))))
 
-always_short : (R : MessageReader) (still_open : List Open) (m : Message) → ends_short m ≡ true → Always R 5 5 (events_at_end still_open m)
+always_short : (R : MessageReader) (still_open : List Open) (m : Message) → ends_short m ≡ true →
+    Always R 5 5 (events_at_end still_open m)
 unfolding message_end_events
 always_short R still_open m short = rw short (always_faulted R (now_of m) Short)
 
-pub always_end : (R : MessageReader) → IsClosing R → (still_open : List Open) (m : Message) → Always R 5 8 (events_at_end still_open m)
+pub always_end : (R : MessageReader) → IsClosing R → (still_open : List Open) (m : Message) →
+    Always R 5 8 (events_at_end still_open m)
 always_end R closing still_open m = go (ends_short m) refl
   where
     go : (b : Bool) → ends_short m ≡ b → Always R 5 8 (events_at_end still_open m)
-    go true short = always_wider R 5 8 5 5 (events_at_end still_open m) (omega arith) (omega arith) (always_short R still_open m short)
-    go false long = always_wider R 5 8 6 8 (events_at_end still_open m) (omega arith) (omega arith) (always_close R closing still_open m long)
+    go true short = always_wider R 5 8 5 5 (events_at_end still_open m) (omega arith) (omega arith)
+        (always_short R still_open m short)
+    go false long = always_wider R 5 8 6 8 (events_at_end still_open m) (omega arith) (omega arith)
+        (always_close R closing still_open m long)
 
 long_enough : (m : Message) → 4 ≤ size m.header → ends_short m ≡ false
 long_enough m h = rw (le-ltb (size m.header) 4 h) refl
 
 -- the parts after the first one
-pub always_later : (R : Rules) → IsClosing R.reading → (still_open : List Open) (m : Message) → length m.payload ≤ size m.header
-    → Always R.reading 3 8 ((if length m.payload == 4 then events_at_request_id R.most still_open m else []) ++ (if length m.payload == size m.header then events_at_end still_open m else []))
+pub always_later : (R : Rules) → IsClosing R.reading → (still_open : List Open) (m : Message) →
+    length m.payload ≤ size m.header
+    → Always R.reading 3 8 ((if length m.payload == 4 then events_at_request_id R.most still_open m
+    else []) ++ (if length m.payload == size m.header then events_at_end still_open m else []))
 always_later R closing still_open m fits = go (length m.payload == 4) refl
   where
-    go : (b : Bool) → (length m.payload == 4) ≡ b → Always R.reading 3 8 ((if b then events_at_request_id R.most still_open m else []) ++ (if length m.payload == size m.header then events_at_end still_open m else []))
+    go : (b : Bool) → (length m.payload == 4) ≡ b →
+        Always R.reading 3 8 ((if b then events_at_request_id R.most still_open m else [])
+        ++ (if length m.payload == size m.header then events_at_end still_open m else []))
     go true e =
         let four = eqb-true (length m.payload) 4 e in
-        always_join R.reading 3 5 6 8 (events_at_request_id R.most still_open m) (if length m.payload == size m.header then events_at_end still_open m else []) (omega arith) (omega arith) (omega arith)
+        always_join R.reading 3 5 6 8 (events_at_request_id R.most still_open m)
+        (if length m.payload == size m.header then events_at_end still_open m else [])
+        (omega arith) (omega arith) (omega arith)
         (always_id R (now_of m) still_open (id m) (opener_of still_open m))
-        (always_if R.reading 6 8 (length m.payload == size m.header) (events_at_end still_open m) [] (always_close R.reading closing still_open m (long_enough m (omega arith))) (always_none R.reading 6 8))
+        (always_if R.reading 6 8 (length m.payload == size m.header) (events_at_end still_open m) []
+        (always_close R.reading closing still_open m (long_enough m (omega arith)))
+        (always_none R.reading 6 8))
     go false e =
-        always_wider R.reading 3 8 5 8 (if length m.payload == size m.header then events_at_end still_open m else []) (omega arith) (omega arith)
-        (always_if R.reading 5 8 (length m.payload == size m.header) (events_at_end still_open m) [] (always_end R.reading closing still_open m) (always_none R.reading 5 8))
+        always_wider R.reading 3 8 5 8 (if length m.payload == size m.header then events_at_end
+        still_open m else []) (omega arith) (omega arith)
+        (always_if R.reading 5 8 (length m.payload == size m.header) (events_at_end still_open m) []
+        (always_end R.reading closing still_open m) (always_none R.reading 5 8))

@@ -8,13 +8,17 @@ use Rattle.giop_stream.specs.Pieces.{fed}
 use Rattle.giop_stream.proofs.SlotSteps.Adding.{added_nil}
 use Rattle.giop_stream.proofs.StreamLines.MoreOctets.{added_both}
 
-pub fed_together : (R : Rules) → IsCausal R.reading → IsStreamable R.reading → (p : List ℕ) (pieces : List (List ℕ)) → fed R p pieces ≡ added R p (concat pieces)
+pub fed_together : (R : Rules) → IsCausal R.reading → IsStreamable R.reading →
+    (p : List ℕ) (pieces : List (List ℕ)) → fed R p pieces ≡ added R p (concat pieces)
 unfolding fed
 fed_together R causal laws p [] = sym (added_nil R p)
 fed_together R causal laws p (piece ∷ pieces) =
-    ap (λ (z : List ℕ). added R p piece ++ z) (fed_together R causal laws (p ++ piece) pieces) ∙ sym (added_both R causal laws p piece (concat pieces))
+    ap (λ (z : List ℕ). added R p piece ++ z) (fed_together R causal laws (p ++ piece) pieces)
+    ∙ sym (added_both R causal laws p piece (concat pieces))
 
-pub fed_alike : (R : Rules) → IsCausal R.reading → IsStreamable R.reading → (p : List ℕ) (pieces others : List (List ℕ))
+pub fed_alike : (R : Rules) → IsCausal R.reading → IsStreamable R.reading →
+    (p : List ℕ) (pieces others : List (List ℕ))
     → concat pieces ≡ concat others → fed R p pieces ≡ fed R p others
 fed_alike R causal laws p pieces others same =
-    fed_together R causal laws p pieces ∙ (ap (added R p) same ∙ sym (fed_together R causal laws p others))
+    fed_together R causal laws p pieces ∙ (ap (added R p) same
+    ∙ sym (fed_together R causal laws p others))

@@ -17,24 +17,30 @@ use Rattle.giop_stream.proofs.Lists.{each_weaker, any_append}
 of_rank : List Line → ℕ → List Line
 of_rank ls n = filter (λ l. rank (class_of l.content) == n) ls
 
-any_left : {A : Type 0} (t : A → Bool) (xs ys : List A) → list_any t xs ≡ true → list_any t (xs ++ ys) ≡ true
+any_left : {A : Type 0} (t : A → Bool) (xs ys : List A) → list_any t xs ≡ true →
+    list_any t (xs ++ ys) ≡ true
 any_left t xs ys h = rw (any_append t xs ys) (or_left (list_any t xs) (list_any t ys) h)
 
-pub any_right : {A : Type 0} (t : A → Bool) (xs ys : List A) → list_any t ys ≡ true → list_any t (xs ++ ys) ≡ true
+pub any_right : {A : Type 0} (t : A → Bool) (xs ys : List A) → list_any t ys ≡ true →
+    list_any t (xs ++ ys) ≡ true
 any_right t xs ys h = rw (any_append t xs ys) (or_right (list_any t xs) (list_any t ys) h)
 
-class_by : (t : Line → Bool) (g : ℕ → List Line) (n : ℕ) (d : Class) (cs : List Class) (b : Bool) → (n == rank d) ≡ b
+class_by : (t : Line → Bool) (g : ℕ → List Line) (n : ℕ) (d : Class) (cs : List Class) (b : Bool) →
+    (n == rank d) ≡ b
     → (b || list_any (λ c. n == rank c) cs) ≡ true → list_any t (g n) ≡ true
     → (list_any (λ c. n == rank c) cs ≡ true → list_any t (flat_map (λ c. g (rank c)) cs) ≡ true)
     → list_any t (g (rank d) ++ flat_map (λ c. g (rank c)) cs) ≡ true
 class_by t g n d cs true e h k ih =
-    any_left t (g (rank d)) (flat_map (λ c. g (rank c)) cs) (subst (λ (m : ℕ). list_any t (g m) ≡ true) (eqb-true n (rank d) e) k)
+    any_left t (g (rank d)) (flat_map (λ c. g (rank c)) cs)
+    (subst (λ (m : ℕ). list_any t (g m) ≡ true) (eqb-true n (rank d) e) k)
 class_by t g n d cs false e h k ih = any_right t (g (rank d)) (flat_map (λ c. g (rank c)) cs) (ih h)
 
-any_class : (t : Line → Bool) (g : ℕ → List Line) (n : ℕ) (cs : List Class) → list_any (λ c. n == rank c) cs ≡ true
+any_class : (t : Line → Bool) (g : ℕ → List Line) (n : ℕ) (cs : List Class) →
+    list_any (λ c. n == rank c) cs ≡ true
     → list_any t (g n) ≡ true → list_any t (flat_map (λ c. g (rank c)) cs) ≡ true
 any_class t g n [] h k = absurd cc
-any_class t g n (d ∷ cs) h k = class_by t g n d cs (n == rank d) refl h k (λ j. any_class t g n cs j k)
+any_class t g n (d ∷ cs) h k = class_by t g n d cs (n == rank d) refl h k
+    (λ j. any_class t g n cs j k)
 
 known_class : (c : Class) → list_any (λ d. rank c == rank d) classes ≡ true
 unfolding classes
@@ -52,10 +58,12 @@ ranked_here t l ls h = record {
   at = rank (class_of l.content);
   known = known_class (class_of l.content);
   found = rw (eq-eqb (rank (class_of l.content)) (rank (class_of l.content)) refl)
-      (or_left (t l) (list_any t (filter (λ k. rank (class_of k.content) == rank (class_of l.content)) ls)) h);
+      (or_left (t l) (list_any t (filter (λ k.
+      rank (class_of k.content) == rank (class_of l.content)) ls)) h);
 }
 
-ranked_by : (t : Line → Bool) (l : Line) (ls : List Line) (b : Bool) → list_any t ls ≡ true → list_any t (cond b (l ∷ ls) ls) ≡ true
+ranked_by : (t : Line → Bool) (l : Line) (ls : List Line) (b : Bool) → list_any t ls ≡ true →
+    list_any t (cond b (l ∷ ls) ls) ≡ true
 ranked_by t l ls true h = or_right (t l) (list_any t ls) h
 ranked_by t l ls false h = h
 
@@ -71,28 +79,38 @@ ranked_more t l ls r =
 
 ranked : (t : Line → Bool) (ls : List Line) → list_any t ls ≡ true → Ranked t ls
 ranked t [] h = absurd cc
-ranked t (l ∷ ls) h = elim (or_cases (t l) (list_any t ls) h) [ inl a ↦ ranked_here t l ls a | inr b ↦ ranked_more t l ls (ranked t ls b) ]
+ranked t (l ∷ ls) h = elim (or_cases (t l) (list_any t ls) h)
+    [ inl a ↦ ranked_here t l ls a | inr b ↦ ranked_more t l ls (ranked t ls b) ]
 
-any_by_class : (t : Line → Bool) (ls : List Line) → list_any t ls ≡ true → list_any t (by_class ls) ≡ true
+any_by_class : (t : Line → Bool) (ls : List Line) → list_any t ls ≡ true →
+    list_any t (by_class ls) ≡ true
 unfolding by_class of_rank
-any_by_class t ls h = let r = ranked t ls h in any_class t (λ n. filter (λ l. rank (class_of l.content) == n) ls) r.at classes r.known r.found
+any_by_class t ls h = let r = ranked t ls h in
+    any_class t (λ n. filter (λ l. rank (class_of l.content) == n) ls) r.at classes r.known r.found
 
 -- It is written, where its message was not over before.
-stand_by : (i : ℕ) (f : ℕ → Bool) (l : Line) (ls : List Line) (b c : Bool) → f i ≡ false → f l.number ≡ b
+stand_by : (i : ℕ) (f : ℕ → Bool) (l : Line) (ls : List Line) (b c : Bool) → f i ≡ false →
+    f l.number ≡ b
     → is_last_of i l ≡ c → (c || list_any (is_last_of i) ls) ≡ true
-    → ((g : ℕ → Bool) → g i ≡ false → list_any (is_last_of i) ls ≡ true → list_any (is_last_of i) (up_to_last_line g ls) ≡ true)
-    → list_any (is_last_of i) (if b then up_to_last_line f ls else l ∷ up_to_last_line (λ j. f j || is_last_of j l) ls) ≡ true
+    → ((g : ℕ → Bool) → g i ≡ false → list_any (is_last_of i) ls ≡ true →
+    list_any (is_last_of i) (up_to_last_line g ls) ≡ true)
+    → list_any (is_last_of i) (if b then up_to_last_line f ls else l ∷ up_to_last_line
+    (λ j. f j || is_last_of j l) ls) ≡ true
 unfolding is_last_of
 stand_by i f l ls true true free e k h ih =
-    absurd (let same : l.number ≡ i = eqb-true l.number i (and_parts (l.number == i) _ k).0 in let no : f l.number ≡ f i = ap f same in cc)
+    absurd (let same : l.number ≡ i = eqb-true l.number i (and_parts (l.number == i) _ k).0 in
+    let no : f l.number ≡ f i = ap f same in cc)
 stand_by i f l ls true false free e k h ih = ih f free h
 stand_by i f l ls false true free e k h ih = rw k refl
-stand_by i f l ls false false free e k h ih = or_right (is_last_of i l) _ (ih (λ j. f j || is_last_of j l) (rw (free, k) refl) h)
+stand_by i f l ls false false free e k h ih =
+    or_right (is_last_of i l) _ (ih (λ j. f j || is_last_of j l) (rw (free, k) refl) h)
 
-last_stands : (i : ℕ) (f : ℕ → Bool) (ls : List Line) → f i ≡ false → list_any (is_last_of i) ls ≡ true → list_any (is_last_of i) (up_to_last_line f ls) ≡ true
+last_stands : (i : ℕ) (f : ℕ → Bool) (ls : List Line) → f i ≡ false →
+    list_any (is_last_of i) ls ≡ true → list_any (is_last_of i) (up_to_last_line f ls) ≡ true
 unfolding up_to_last_line
 last_stands i f [] free h = absurd cc
-last_stands i f (l ∷ ls) free h = stand_by i f l ls (f l.number) (is_last_of i l) free refl refl h (λ g k j. last_stands i g ls k j)
+last_stands i f (l ∷ ls) free h = stand_by i f l ls (f l.number) (is_last_of i l) free refl refl h
+    (λ g k j. last_stands i g ls k j)
 
 -- A framing fault, a cancel and a close each write such a line, unless the message is over.
 unfoldable pub is_final : EventKind → Bool
@@ -101,55 +119,77 @@ is_final (Cancelled j) = true
 is_final (Faults fault) = true
 is_final _ = false
 
-any_weaker : {A : Type 0} (p q : A → Bool) → ((x : A) → p x ≡ true → q x ≡ true) → (xs : List A) → list_any p xs ≡ true → list_any q xs ≡ true
+any_weaker : {A : Type 0} (p q : A → Bool) → ((x : A) → p x ≡ true → q x ≡ true) → (xs : List A) →
+    list_any p xs ≡ true → list_any q xs ≡ true
 any_weaker p q f [] h = absurd cc
 any_weaker {A} p q f (x ∷ xs) h =
-    elim (or_cases (p x) (list_any p xs) h) [ inl a ↦ or_left (q x) (list_any q xs) (f x a) | inr b ↦ or_right (q x) (list_any q xs) (any_weaker p q f xs b) ]
+    elim (or_cases (p x) (list_any p xs) h) [
+      | inl a ↦ or_left (q x) (list_any q xs) (f x a)
+      | inr b ↦ or_right (q x) (list_any q xs)
+          (any_weaker p q f xs b)
+    ]
 
-any_map : {A B : Type 0} (t : B → Bool) (f : A → B) (xs : List A) → list_any (λ x. t (f x)) xs ≡ list_any t (map f xs)
+any_map : {A B : Type 0} (t : B → Bool) (f : A → B) (xs : List A) →
+    list_any (λ x. t (f x)) xs ≡ list_any t (map f xs)
 any_map t f [] = refl
 any_map t f (x ∷ xs) = ap (λ (b : Bool). t (f x) || b) (any_map t f xs)
 
-said_last : (e : Event) (s : LineClass) (text : List ℕ) → is_last s ≡ true → is_last_of e.subject.number (line e (Said s text)) ≡ true
+said_last : (e : Event) (s : LineClass) (text : List ℕ) → is_last s ≡ true →
+    is_last_of e.subject.number (line e (Said s text)) ≡ true
 unfolding is_last_of line
 said_last e s text h = rw (eq-eqb e.subject.number e.subject.number refl) h
 
-event_lines_final : (R : MessageReader) → IsEnding R → (e : Event) (so_far all : List ℕ) (what : EventKind) → is_final what ≡ true
+event_lines_final : (R : MessageReader) → IsEnding R →
+    (e : Event) (so_far all : List ℕ) (what : EventKind) → is_final what ≡ true
     → list_any (is_last_of e.subject.number) (lines_of_event R e so_far all what) ≡ true
 unfolding lines_of_event is_final is_last_of line
 event_lines_final R ending e so_far all Closes h =
-    rw (← any_map (is_last_of e.subject.number) (λ l. line e (Said l.0 l.1)) (R.closes e.subject.number e.subject.header so_far))
-    (any_weaker (λ l. is_last l.0) (λ l. is_last_of e.subject.number (line e (Said l.0 l.1))) (λ l. said_last e l.0 l.1)
-    (R.closes e.subject.number e.subject.header so_far) (ending.ends e.subject.number e.subject.header so_far))
-event_lines_final R ending e so_far all (Cancelled j) h = rw (eq-eqb e.subject.number e.subject.number refl) refl
-event_lines_final R ending e so_far all (Faults fault) h = rw (eq-eqb e.subject.number e.subject.number refl) refl
+    rw (← any_map (is_last_of e.subject.number) (λ l. line e (Said l.0 l.1))
+    (R.closes e.subject.number e.subject.header so_far))
+    (any_weaker (λ l. is_last l.0) (λ l. is_last_of e.subject.number (line e (Said l.0 l.1)))
+    (λ l. said_last e l.0 l.1)
+    (R.closes e.subject.number e.subject.header so_far)
+    (ending.ends e.subject.number e.subject.header so_far))
+event_lines_final R ending e so_far all (Cancelled j) h =
+    rw (eq-eqb e.subject.number e.subject.number refl) refl
+event_lines_final R ending e so_far all (Faults fault) h =
+    rw (eq-eqb e.subject.number e.subject.number refl) refl
 event_lines_final R ending e so_far all _ h = absurd cc
 
-kept_final : (R : MessageReader) → IsEnding R → (e : Event) (o : Option (List ℕ)) (xs : List ℕ) → o ≡ Some xs
+kept_final : (R : MessageReader) → IsEnding R → (e : Event) (o : Option (List ℕ)) (xs : List ℕ) →
+    o ≡ Some xs
     → is_final e.what ≡ true → list_any (is_last_of e.subject.number) (lines_for R e o) ≡ true
 unfolding lines_for
 kept_final R ending e None xs k h = absurd cc
-kept_final R ending e (Some ys) xs k h = event_lines_final R ending e ys (ys ++ joined e.subject.number (e ∷ [])) e.what h
+kept_final R ending e (Some ys) xs k h =
+    event_lines_final R ending e ys (ys ++ joined e.subject.number (e ∷ [])) e.what h
 
 Ends : MessageReader → OctetsByNumber → List Event → Event → Type 0
-Ends R K es e = is_final e.what ≡ true → (xs : List ℕ) → K e.subject.number ≡ Some xs → list_any (is_last_of e.subject.number) (all_lines R K es) ≡ true
+Ends R K es e = is_final e.what ≡ true → (xs : List ℕ) → K e.subject.number ≡ Some xs →
+    list_any (is_last_of e.subject.number) (all_lines R K es) ≡ true
 
-with_some : (K : OctetsByNumber) (e : Event) (i : ℕ) (xs : List ℕ) → K i ≡ Some xs → kept_with K (e ∷ []) i ≡ Some (xs ++ joined i (e ∷ []))
+with_some : (K : OctetsByNumber) (e : Event) (i : ℕ) (xs : List ℕ) → K i ≡ Some xs →
+    kept_with K (e ∷ []) i ≡ Some (xs ++ joined i (e ∷ []))
 unfolding kept_with
 with_some K e i xs h = rw h refl
 
-ends_first : (R : MessageReader) → IsEnding R → (K : OctetsByNumber) (e : Event) (es : List Event) → Ends R K (e ∷ es) e
+ends_first : (R : MessageReader) → IsEnding R → (K : OctetsByNumber) (e : Event) (es : List Event) →
+    Ends R K (e ∷ es) e
 unfolding Ends all_lines
 ends_first R ending K e es h xs k =
-    any_left (is_last_of e.subject.number) (lines_for R e (K e.subject.number)) (all_lines R (kept_with K (e ∷ [])) es) (kept_final R ending e (K e.subject.number) xs k h)
+    any_left (is_last_of e.subject.number) (lines_for R e (K e.subject.number))
+    (all_lines R (kept_with K (e ∷ [])) es) (kept_final R ending e (K e.subject.number) xs k h)
 
-ends_more : (R : MessageReader) (K : OctetsByNumber) (e : Event) (es : List Event) (d : Event) → Ends R (kept_with K (e ∷ [])) es d → Ends R K (e ∷ es) d
+ends_more : (R : MessageReader) (K : OctetsByNumber) (e : Event) (es : List Event) (d : Event) →
+    Ends R (kept_with K (e ∷ [])) es d → Ends R K (e ∷ es) d
 unfolding Ends all_lines
 ends_more R K e es d f h xs k =
-    any_right (is_last_of d.subject.number) (lines_for R e (K e.subject.number)) (all_lines R (kept_with K (e ∷ [])) es)
+    any_right (is_last_of d.subject.number) (lines_for R e (K e.subject.number))
+    (all_lines R (kept_with K (e ∷ [])) es)
     (f h (xs ++ joined d.subject.number (e ∷ [])) (with_some K e d.subject.number xs k))
 
-all_end : (R : MessageReader) → IsEnding R → (K : OctetsByNumber) (es : List Event) → Each (Ends R K es) es
+all_end : (R : MessageReader) → IsEnding R → (K : OctetsByNumber) (es : List Event) →
+    Each (Ends R K es) es
 all_end R ending K [] = tt
 all_end R ending K (e ∷ es) = (
   ends_first R ending K e es,
@@ -157,19 +197,22 @@ all_end R ending K (e ∷ es) = (
       (λ d. ends_more R K e es d) es (all_end R ending (kept_with K (e ∷ [])) es),
 )
 
-pub is_over_grows : (R : Rules) (p p' : List ℕ) (ls : List Line) (i : ℕ) → lines_of_messages R p' ≡ lines_of_messages R p ++ ls
+pub is_over_grows : (R : Rules) (p p' : List ℕ) (ls : List Line) (i : ℕ) →
+    lines_of_messages R p' ≡ lines_of_messages R p ++ ls
     → is_over R p' i ≡ (is_over R p i || list_any (is_last_of i) ls)
 unfolding is_over
 is_over_grows R p p' ls i sd = rw sd (any_append (is_last_of i) (lines_of_messages R p) ls)
 
-pub octets_known : (R : Rules) (p : List ℕ) (i : ℕ) → is_over R p i ≡ false → octets_of R p i ≡ Some (joined i (events R.most p))
+pub octets_known : (R : Rules) (p : List ℕ) (i : ℕ) → is_over R p i ≡ false →
+    octets_of R p i ≡ Some (joined i (events R.most p))
 unfolding octets_of
 octets_known R p i h = rw h refl
 
 unfoldable pub Dead : (ℕ → Bool) → Event → Type 0
 Dead over e = is_final e.what ≡ true → over e.subject.number ≡ true
 
-dead_by : (R : Rules) (p p' : List ℕ) (es : List Event) → lines_of_messages R p' ≡ lines_of_messages R p ++ sorted_lines R.reading (octets_of R p) es
+dead_by : (R : Rules) (p p' : List ℕ) (es : List Event) →
+    lines_of_messages R p' ≡ lines_of_messages R p ++ sorted_lines R.reading (octets_of R p) es
     → (e : Event) → Ends R.reading (octets_of R p) es e → Dead (is_over R p') e
 unfolding Ends Dead sorted_lines
 dead_by R p p' es sd e ends h = go (is_over R p i) refl
@@ -186,5 +229,7 @@ dead_by R p p' es sd e ends h = go (is_over R p i) refl
         (any_by_class (is_last_of i) (all_lines R.reading (octets_of R p) es) uttered))
 
 pub dead : (R : Rules) → IsEnding R.reading → (p p' : List ℕ) (es : List Event)
-    → lines_of_messages R p' ≡ lines_of_messages R p ++ sorted_lines R.reading (octets_of R p) es → Each (Dead (is_over R p')) es
-dead R ending p p' es sd = each_weaker (Ends R.reading (octets_of R p) es) (Dead (is_over R p')) (dead_by R p p' es sd) es (all_end R.reading ending (octets_of R p) es)
+    → lines_of_messages R p' ≡ lines_of_messages R p ++ sorted_lines R.reading (octets_of R p) es →
+    Each (Dead (is_over R p')) es
+dead R ending p p' es sd = each_weaker (Ends R.reading (octets_of R p) es) (Dead (is_over R p'))
+    (dead_by R p p' es sd) es (all_end R.reading ending (octets_of R p) es)

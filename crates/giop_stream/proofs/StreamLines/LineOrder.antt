@@ -1,4 +1,5 @@
--- The lines of an octet are in the order of their classes: those that the message's reader gives, those of the request id,
+-- The lines of an octet are in the order of their classes: those that the message's reader gives,
+-- those of the request id,
 -- those of the close.
 use Rattle.std.proofs.Common.{inl, inr, ◌⊎◌, ◌≡◌, ℕ, suc, ◌<◌, ◌≤◌, Bool, true, false, List, [], ◌∷◌, ◌++◌, length, map, refl, sym, subst, Option, Some, None, arith}
 use Rattle.std.specs.Prelude.{nat_lt, ◌==◌, if◌then◌else◌, ◌||◌, option_map}
@@ -27,29 +28,41 @@ unfolding joined octet
 one_octet e x h = rw (eq-eqb e.subject.number e.subject.number refl, h) refl
 
 -- Of two faults of one message the second is not written.
-two_faults : (d e : Event) (t u : List ℕ) → d.subject.number ≡ e.subject.number → Fine (line d (Said Fault t) ∷ line e (Said Fault u) ∷ [])
+two_faults : (d e : Event) (t u : List ℕ) → d.subject.number ≡ e.subject.number →
+    Fine (line d (Said Fault t) ∷ line e (Said Fault u) ∷ [])
 unfolding line up_to_last_line is_last_of
-two_faults d e t u same = record { ordered = omega arith; rises = rw (eq-eqb d.subject.number e.subject.number same) (tt, tt) }
+two_faults d e t u same = record {
+  ordered = omega arith;
+  rises =
+      rw (eq-eqb d.subject.number e.subject.number same) (tt, tt);
+}
 
 -- The lines of two events d and e, each from its own list.
-module _ {A B : Type 0} (d e : Event) (f : A → LineClass) (g : A → List ℕ) (f' : B → LineClass) (g' : B → List ℕ) where
+module _ {A B : Type 0} (d e : Event) (f : A → LineClass) (g : A → List ℕ) (f' : B → LineClass)
+    (g' : B → List ℕ) where
   abbrev both_give_lines : List A → List B → List Line
-  both_give_lines xs ys = map (λ a. line d (Said (f a) (g a))) xs ++ map (λ b. line e (Said (f' b) (g' b))) ys
+  both_give_lines xs ys = map (λ a. line d (Said (f a) (g a))) xs
+      ++ map (λ b. line e (Said (f' b) (g' b))) ys
 
   abbrev sayings : List A → List B → List LineClass
   sayings xs ys = map f xs ++ map f' ys
 
-  pair_each : (P : ℕ → Type 0) (xs : List A) (ys : List B) → Each (λ s. P (class_rank s)) (sayings xs ys)
+  pair_each : (P : ℕ → Type 0) (xs : List A) (ys : List B) →
+      Each (λ s. P (class_rank s)) (sayings xs ys)
       → Each (λ l. P (rank_of l)) (both_give_lines xs ys)
   pair_each P [] ys h = reader_classes_each P e f' g' ys h
   pair_each P (x ∷ xs) ys h = (subst P (sym (rank_said d (f x) (g x))) h.0, pair_each P xs ys h.1)
 
-  pair_rises : (xs : List A) (ys : List B) → LineClassesRise (sayings xs ys) → Rises (both_give_lines xs ys)
+  pair_rises : (xs : List A) (ys : List B) → LineClassesRise (sayings xs ys) →
+      Rises (both_give_lines xs ys)
   pair_rises [] ys h = reader_classes_rise e f' g' ys h
-  pair_rises (x ∷ xs) ys h =
-      (rw (rank_said d (f x) (g x)) (pair_each (λ n. class_rank (f x) < n) xs ys h.0), pair_rises xs ys h.1)
+  pair_rises (x ∷ xs) ys h = (
+    rw (rank_said d (f x) (g x)) (pair_each (λ n. class_rank (f x) < n) xs ys h.0),
+    pair_rises xs ys h.1,
+  )
 
-  faults_fine : (xs : List A) (ys : List B) → d.subject.number ≡ e.subject.number → map f xs ≡ Fault ∷ [] → map f' ys ≡ Fault ∷ []
+  faults_fine : (xs : List A) (ys : List B) → d.subject.number ≡ e.subject.number →
+      map f xs ≡ Fault ∷ [] → map f' ys ≡ Fault ∷ []
       → Fine (both_give_lines xs ys)
   faults_fine [] ys same h k = absurd cc
   faults_fine (x ∷ []) [] same h k = absurd cc
@@ -61,7 +74,8 @@ module _ {A B : Type 0} (d e : Event) (f : A → LineClass) (g : A → List ℕ)
   faults_fine (x ∷ x' ∷ xs) ys same h k = absurd cc
 
   pair_fine : (xs : List A) (ys : List B) → d.subject.number ≡ e.subject.number
-      → LineClassesRise (sayings xs ys) ⊎ ((map f xs ≡ Fault ∷ []) × (map f' ys ≡ Fault ∷ [])) → Fine (both_give_lines xs ys)
+      → LineClassesRise (sayings xs ys) ⊎ ((map f xs ≡ Fault ∷ []) × (map f' ys ≡ Fault ∷ [])) →
+      Fine (both_give_lines xs ys)
   pair_fine xs ys same (inl h) = fine_of _ (pair_rises xs ys h)
   pair_fine xs ys same (inr h) = faults_fine xs ys same h.0 h.1
 
@@ -73,7 +87,8 @@ event at subject what = record { place = at; subject = subject; what = what }
 
 module _ (R : MessageReader) (laws : IsStreamable R) where
   pair_by : (at : ℕ) (subject : MessageKey) (x : ℕ) (o : Option (List ℕ))
-      → (let take = event at subject (Takes x) in let more = option_map (λ xs. xs ++ joined subject.number (take ∷ [])) o in
+      → (let take = event at subject (Takes x) in let more =
+      option_map (λ xs. xs ++ joined subject.number (take ∷ [])) o in
       Fine (lines_for R take o ++ lines_for R (event at subject Closes) more))
   unfolding lines_for lines_of_event
   pair_by at subject x None = fine_none
@@ -82,29 +97,37 @@ module _ (R : MessageReader) (laws : IsStreamable R) where
       let number = subject.number in
       let header = subject.header in
       rw (one_octet (event at subject (Takes x)) x refl)
-      (pair_fine (event at subject (Takes x)) (event at subject Closes) (λ r. r.line_class) (λ r. r.text) (λ l. l.0) (λ l. l.1)
+      (pair_fine (event at subject (Takes x)) (event at subject Closes) (λ r. r.line_class)
+      (λ r. r.text) (λ l. l.0) (λ l. l.1)
       (due R number header xs x) (R.closes number header all) refl
-      (both_say _ _ (laws.ordered.ordered number header all (suc (length xs))) (laws.closing.closed number header all)
+      (both_say _ _ (laws.ordered.ordered number header all (suc (length xs)))
+      (laws.closing.closed number header all)
       (laws.closing.over number header xs x) (laws.closing.one_rest number header xs x)))
 
-  pair_fine_at : (K : OctetsByNumber) (at : ℕ) (subject : MessageKey) (x : ℕ) → Fine (all_lines R K (event at subject (Takes x) ∷ event at subject Closes ∷ []))
+  pair_fine_at : (K : OctetsByNumber) (at : ℕ) (subject : MessageKey) (x : ℕ) →
+      Fine (all_lines R K (event at subject (Takes x) ∷ event at subject Closes ∷ []))
   unfolding all_lines kept_with
   pair_fine_at K at subject x = rw (append-nil) (pair_by at subject x (K subject.number))
 
-  takes_alone : (K : OctetsByNumber) (at : ℕ) (subject : MessageKey) (x : ℕ) → Fine (all_lines R K (event at subject (Takes x) ∷ []))
+  takes_alone : (K : OctetsByNumber) (at : ℕ) (subject : MessageKey) (x : ℕ) →
+      Fine (all_lines R K (event at subject (Takes x) ∷ []))
   unfolding Always
-  takes_alone K at subject x = fine_of _ (always_one R 1 7 (event at subject (Takes x)) (event_lines_takes R laws.ordered x) K).rises
+  takes_alone K at subject x = fine_of _ (always_one R 1 7 (event at subject (Takes x))
+      (event_lines_takes R laws.ordered x) K).rises
 
   -- the octet of a message, and perhaps its close
-  takes_then : (K : OctetsByNumber) (now : Now) (x : ℕ) (b : Bool) (es : List Event) → (es ≡ []) ⊎ (es ≡ own now Closes)
+  takes_then : (K : OctetsByNumber) (now : Now) (x : ℕ) (b : Bool) (es : List Event) → (es ≡ [])
+      ⊎ (es ≡ own now Closes)
       → Fine (all_lines R K (own now (Takes x) ++ (if b then es else [])))
   unfolding own
   takes_then K now x false es h = takes_alone K now.place now.subject x
   takes_then K now x true es (inl h) = rw h (takes_alone K now.place now.subject x)
   takes_then K now x true es (inr h) = rw h (pair_fine_at K now.place now.subject x)
 
-  passes_then : (K : OctetsByNumber) (now : Now) (o : Option Open) (x : ℕ) (b : Bool) (es : List Event)
-      → (es ≡ []) ⊎ (es ≡ event_of_open now o Closes) → Fine (all_lines R K (event_of_open now o (Takes x) ++ (if b then es else [])))
+  passes_then : (K : OctetsByNumber) (now : Now) (o : Option Open) (x : ℕ) (b : Bool)
+      (es : List Event)
+      → (es ≡ []) ⊎ (es ≡ event_of_open now o Closes) →
+      Fine (all_lines R K (event_of_open now o (Takes x) ++ (if b then es else [])))
   unfolding event_of_open all_lines
   passes_then K now None x false es h = fine_none
   passes_then K now None x true es (inl h) = rw h fine_none
@@ -114,8 +137,10 @@ module _ (R : MessageReader) (laws : IsStreamable R) where
   passes_then K now (Some o) x true es (inr h) = rw h (pair_fine_at K now.place o.opener x)
 
   -- the first octets of a message that begins with its request id
-  named_takes : (at : ℕ) (subject : MessageKey) (x : ℕ) (o : Option (List ℕ)) → has_name subject.header ≡ true
-      → ((xs : List ℕ) → o ≡ Some xs → length xs < 4) → Spans 1 1 (lines_for R (event at subject (Takes x)) o)
+  named_takes : (at : ℕ) (subject : MessageKey) (x : ℕ) (o : Option (List ℕ)) →
+      has_name subject.header ≡ true
+      → ((xs : List ℕ) → o ≡ Some xs → length xs < 4) →
+      Spans 1 1 (lines_for R (event at subject (Takes x)) o)
   unfolding lines_for lines_of_event
   named_takes at subject x None k few = spans_none 1 1
   named_takes at subject x (Some xs) k few =
@@ -124,37 +149,48 @@ module _ (R : MessageReader) (laws : IsStreamable R) where
       let number = subject.number in
       let header = subject.header in
       rw (one_octet (event at subject (Takes x)) x refl)
-      (class_spans 1 1 (event at subject (Takes x)) (λ r. r.line_class) (λ r. r.text) (due R number header xs x)
-      (value_spans (λ r. r.line_class) (due R number header xs x) (laws.ordered.ordered number header all (suc (length xs)))
-      (each_filter (λ r. r.line_class ≡ Value) (λ r. r.at == suc (length xs)) (R.reads number header all)
+      (class_spans 1 1 (event at subject (Takes x)) (λ r. r.line_class) (λ r. r.text)
+      (due R number header xs x)
+      (value_spans (λ r. r.line_class) (due R number header xs x)
+      (laws.ordered.ordered number header all (suc (length xs)))
+      (each_filter (λ r. r.line_class ≡ Value) (λ r. r.at == suc (length xs))
+      (R.reads number header all)
       (laws.named.named number header all k (omega (arith, length_push xs x))))))
 
 -- ---- All events of an octet.
 
-at_end_owner : (still_open : List Open) (m : Message) → ends_short m ≡ false → is_fragment m.header ≡ false
+at_end_owner : (still_open : List Open) (m : Message) → ends_short m ≡ false →
+    is_fragment m.header ≡ false
     → (events_at_end still_open m ≡ []) ⊎ (events_at_end still_open m ≡ own (now_of m) Closes)
 unfolding message_end_events
 at_end_owner still_open m short f = go (is_opener m.header) refl
   where
-    go : (b : Bool) → is_opener m.header ≡ b → (events_at_end still_open m ≡ []) ⊎ (events_at_end still_open m ≡ own (now_of m) Closes)
+    go : (b : Bool) → is_opener m.header ≡ b → (events_at_end still_open m ≡ [])
+        ⊎ (events_at_end still_open m ≡ own (now_of m) Closes)
     go true e = inl (rw (message_end_events, short, e) refl)
     go false e = inr (rw (message_end_events, short, e, f) refl)
 
-at_end_past : (still_open : List Open) (m : Message) → ends_short m ≡ false → is_fragment m.header ≡ true
-    → (events_at_end still_open m ≡ []) ⊎ (events_at_end still_open m ≡ event_of_open (now_of m) (opener_of still_open m) Closes)
+at_end_past : (still_open : List Open) (m : Message) → ends_short m ≡ false →
+    is_fragment m.header ≡ true
+    → (events_at_end still_open m ≡ []) ⊎ (events_at_end still_open m
+    ≡ event_of_open (now_of m) (opener_of still_open m) Closes)
 unfolding message_end_events
 at_end_past still_open m short f = go (is_opener m.header) (has_more m.header) refl refl
   where
-    go : (b c : Bool) → is_opener m.header ≡ b → has_more m.header ≡ c → (events_at_end still_open m ≡ []) ⊎ (events_at_end still_open m ≡ event_of_open (now_of m) (opener_of still_open m) Closes)
+    go : (b c : Bool) → is_opener m.header ≡ b → has_more m.header ≡ c →
+        (events_at_end still_open m ≡ []) ⊎ (events_at_end still_open m
+        ≡ event_of_open (now_of m) (opener_of still_open m) Closes)
     go true c e k = inl (rw (message_end_events, short, e) refl)
     go false true e k = inl (rw (message_end_events, short, e, f, k) refl)
     go false false e k = inr (rw (message_end_events, short, e, f, k) refl)
 
 pub not_past : (m : Message) → length m.payload ≤ 4 → goes_past m ≡ false
 unfolding goes_past
-not_past m h = and_right (is_fragment m.header) (nat_lt 4 (length m.payload)) (le-ltb 4 (length m.payload) h)
+not_past m h = and_right (is_fragment m.header) (nat_lt 4 (length m.payload))
+    (le-ltb 4 (length m.payload) h)
 
-pub unnamed : (header : List ℕ) → has_name header ≡ false → (is_opener header ≡ false) × (is_fragment header ≡ false) × (is_cancel header ≡ false)
+pub unnamed : (header : List ℕ) → has_name header ≡ false → (is_opener header ≡ false)
+    × (is_fragment header ≡ false) × (is_cancel header ≡ false)
 unnamed header h = go (is_opener header) (is_fragment header) (is_cancel header) h
   where
     go : (a b c : Bool) → (a || b || c) ≡ false → (a ≡ false) × (b ≡ false) × (c ≡ false)
@@ -163,23 +199,30 @@ unnamed header h = go (is_opener header) (is_fragment header) (is_cancel header)
     go false false true h = absurd cc
     go false false false h = (refl, refl, refl)
 
-unnamed_id : (most : ℕ) (still_open : List Open) (m : Message) → has_name m.header ≡ false → events_at_request_id most still_open m ≡ []
+unnamed_id : (most : ℕ) (still_open : List Open) (m : Message) → has_name m.header ≡ false →
+    events_at_request_id most still_open m ≡ []
 unfolding request_id_events
-unnamed_id most still_open m h = let parts = unnamed m.header h in rw (request_id_events, parts.0, parts.1, parts.2) refl
+unnamed_id most still_open m h = let parts = unnamed m.header h in
+    rw (request_id_events, parts.0, parts.1, parts.2) refl
 
 -- a message without a request id, or with at least 4 octets, is not too short
 not_short : (m : Message) → (has_name m.header ≡ false) ⊎ (4 ≤ size m.header) → ends_short m ≡ false
-not_short m (inl h) = let parts = unnamed m.header h in rw (parts.0, parts.1) (and_right (nat_lt (size m.header) 4) false refl)
+not_short m (inl h) = let parts = unnamed m.header h in
+    rw (parts.0, parts.1) (and_right (nat_lt (size m.header) 4) false refl)
 not_short m (inr h) = rw (le-ltb (size m.header) 4 h) refl
 
 -- the header's last octet
-short_begins : (R : MessageReader) (m : Message) → ends_short m ≡ true → Always R 0 0 (events_at_header m)
+short_begins : (R : MessageReader) (m : Message) → ends_short m ≡ true →
+    Always R 0 0 (events_at_header m)
 unfolding header_events own
 short_begins R m short =
-    let named : has_name m.header ≡ true = rw ((and_parts (nat_lt (size m.header) 4) (is_opener m.header || is_fragment m.header) short).1) refl in
+    let named : has_name m.header ≡ true =
+    rw ((and_parts (nat_lt (size m.header) 4) (is_opener m.header || is_fragment m.header)
+    short).1) refl in
     rw (named_accepted m.header named) (always_own R 0 0 (now_of m) Begins (event_lines_begins R))
 
-module _ (R : Rules) (laws : IsStreamable R.reading) (K : OctetsByNumber) (still_open : List Open) (m : Message) where
+module _ (R : Rules) (laws : IsStreamable R.reading) (K : OctetsByNumber) (still_open : List Open)
+    (m : Message) where
   abbrev x : ℕ
   x = (now_of m).octet
 
@@ -194,14 +237,18 @@ module _ (R : Rules) (laws : IsStreamable R.reading) (K : OctetsByNumber) (still
       → Spans 1 1 (all_lines R.reading K (own (now_of m) (Takes x)))
   unfolding own all_lines
   own_named k some short begun =
-      subst (Spans 1 1) (sym (append-nil (lines_for R.reading (event (place m) (message_key m) (Takes x)) (K m.number))))
-      (named_takes R.reading laws (place m) (message_key m) x (K m.number) k (λ xs e. let less = begun some short xs e in omega arith))
+      subst (Spans 1 1) (sym (append-nil (lines_for R.reading
+      (event (place m) (message_key m) (Takes x)) (K m.number))))
+      (named_takes R.reading laws (place m) (message_key m) x (K m.number) k
+      (λ xs e. let less = begun some short xs e in omega arith))
 
   -- an octet of a message that does not begin with its request id, or one after the request id
-  plain_octet : 0 < length m.payload → (has_name m.header ≡ false) ⊎ (4 < length m.payload) → length m.payload ≤ size m.header → IsFine
+  plain_octet : 0 < length m.payload → (has_name m.header ≡ false) ⊎ (4 < length m.payload) →
+      length m.payload ≤ size m.header → IsFine
   unfolding events_of_octet
   plain_octet some h fits =
-      rw (events_of_octet, events_with_id, ne_eqb (length m.payload) 0 (λ e. omega arith), second) (go (is_fragment m.header) refl)
+      rw (events_of_octet, events_with_id, ne_eqb (length m.payload) 0 (λ e. omega arith), second)
+      (go (is_fragment m.header) refl)
     where
       second : (if length m.payload == 4 then events_at_request_id R.most still_open m else []) ≡ []
       second = elim h [
@@ -216,41 +263,66 @@ module _ (R : Rules) (laws : IsStreamable R.reading) (K : OctetsByNumber) (still
       long : ends_short m ≡ false
       long = not_short m (elim h [ inl k ↦ inl k | inr k ↦ inr (omega arith) ])
 
-      go : (b : Bool) → is_fragment m.header ≡ b → Fine (all_lines R.reading K (events_at_octet still_open m ++ close))
+      go : (b : Bool) → is_fragment m.header ≡ b →
+          Fine (all_lines R.reading K (events_at_octet still_open m ++ close))
       go false f = unfold payload_events goes_past in
-          rw (f) (takes_then R.reading laws K (now_of m) x (length m.payload == size m.header) (events_at_end still_open m) (at_end_owner still_open m long f))
+          rw (f) (takes_then R.reading laws K (now_of m) x (length m.payload == size m.header)
+          (events_at_end still_open m) (at_end_owner still_open m long f))
       go true f = unfold payload_events goes_past in
-          let past : 4 < length m.payload = elim h [ inl k ↦ absurd (let no = (unnamed m.header k).1 in cc) | inr k ↦ k ] in
+          let past : 4 < length m.payload = elim h
+          [ inl k ↦ absurd (let no = (unnamed m.header k).1 in cc) | inr k ↦ k ] in
           rw (f, lt-ltb 4 (length m.payload) past)
-          (passes_then R.reading laws K (now_of m) (opener_of still_open m) x (length m.payload == size m.header) (events_at_end still_open m)
+          (passes_then R.reading laws K (now_of m) (opener_of still_open m) x
+          (length m.payload == size m.header) (events_at_end still_open m)
           (at_end_past still_open m long f))
 
   -- an octet of a request id
-  named_octet : 0 < length m.payload → has_name m.header ≡ true → length m.payload ≤ 4 → length m.payload ≤ size m.header
+  named_octet : 0 < length m.payload → has_name m.header ≡ true → length m.payload ≤ 4 →
+      length m.payload ≤ size m.header
       → IsBegun K m → IsFine
   unfolding events_of_octet payload_events goes_past
   named_octet some h short fits begun =
-      rw (events_of_octet, events_with_id, payload_events, ne_eqb (length m.payload) 0 (λ e. omega arith), not_past m short)
-      (fine_of _ (join_spans R.reading K 1 1 3 8 (own (now_of m) (Takes x)) _ (omega arith) (omega arith) (omega arith)
+      rw (
+        events_of_octet,
+        events_with_id,
+        payload_events,
+        ne_eqb (length m.payload) 0 (λ e. omega arith),
+        not_past m short,
+      )
+      (fine_of _ (join_spans R.reading K 1 1 3 8 (own (now_of m) (Takes x)) _ (omega arith)
+      (omega arith) (omega arith)
       (own_named h some short begun) (always_later R laws.closing still_open m fits)).rises)
 
-  first_rises : (b : Bool) → ends_short m ≡ b → Rises (all_lines R.reading K (events_at_header m ++ close))
+  first_rises : (b : Bool) → ends_short m ≡ b →
+      Rises (all_lines R.reading K (events_at_header m ++ close))
   unfolding Always
   first_rises true short =
-      (always_join R.reading 0 0 5 8 (events_at_header m) close (omega arith) (omega arith) (omega arith) (short_begins R.reading m short)
-      (always_if R.reading 5 8 (length m.payload == size m.header) (events_at_end still_open m) [] (always_end R.reading laws.closing still_open m) (always_none R.reading 5 8)) K).rises
+      (always_join R.reading 0 0 5 8 (events_at_header m) close (omega arith) (omega arith)
+      (omega arith) (short_begins R.reading m short)
+      (always_if R.reading 5 8 (length m.payload == size m.header) (events_at_end still_open m) []
+      (always_end R.reading laws.closing still_open m) (always_none R.reading 5 8)) K).rises
   first_rises false long =
-      (always_join R.reading 0 5 6 8 (events_at_header m) close (omega arith) (omega arith) (omega arith) (always_header R.reading (now_of m))
-      (always_if R.reading 6 8 (length m.payload == size m.header) (events_at_end still_open m) [] (always_close R.reading laws.closing still_open m long) (always_none R.reading 6 8)) K).rises
+      (always_join R.reading 0 5 6 8 (events_at_header m) close (omega arith) (omega arith)
+      (omega arith) (always_header R.reading (now_of m))
+      (always_if R.reading 6 8 (length m.payload == size m.header) (events_at_end still_open m) []
+      (always_close R.reading laws.closing still_open m long) (always_none R.reading 6 8))
+      K).rises
 
   first_octet : length m.payload ≡ 0 → IsFine
   unfolding events_of_octet
   first_octet none =
-      rw (events_of_octet, events_with_id, eq-eqb (length m.payload) 0 none, ne_eqb (length m.payload) 4 (λ e. omega arith))
+      rw (
+        events_of_octet,
+        events_with_id,
+        eq-eqb (length m.payload) 0 none,
+        ne_eqb (length m.payload) 4 (λ e. omega arith),
+      )
       (fine_of _ (first_rises (ends_short m) refl))
 
   -- The lines of an octet are in order, and no two of those that are written have one class.
-  pub events_of_octet_fine : length m.payload ≤ size m.header → (has_name m.header ≡ true → IsBegun K m) → Fine (all_lines R.reading K (events_of_octet R.most still_open m))
+  pub events_of_octet_fine : length m.payload ≤ size m.header →
+      (has_name m.header ≡ true → IsBegun K m) →
+      Fine (all_lines R.reading K (events_of_octet R.most still_open m))
   events_of_octet_fine fits begun = elim (cases_eq (length m.payload) 0) [
     | inl none ↦ first_octet none
     | inr some ↦ elim (cases_lt 4 (length m.payload)) [

@@ -17,27 +17,33 @@ use Rattle.giop_stream.proofs.Lists.{filter_keeps, filter_drops, filter_swap, ea
 -- The octets of a message in a longer list of events.
 pub joined_append : (i : ℕ) (es fs : List Event) → joined i (es ++ fs) ≡ joined i es ++ joined i fs
 unfolding joined
-joined_append i es fs = flat_map-append (λ e. if e.subject.number == i then octet e.what else []) es fs
+joined_append i es fs = flat_map-append (λ e. if e.subject.number == i then octet e.what else []) es
+    fs
 
 joined_own : (e : Event) → joined e.subject.number (e ∷ []) ≡ octet e.what
 unfolding joined
 joined_own e = rw (eq-eqb e.subject.number e.subject.number refl) (append-nil (octet e.what))
 
 -- The lines of an event depend only on the octets up to it.
-event_lines_early : (R : MessageReader) → IsCausal R → (e : Event) (so_far more : List ℕ) (what : EventKind)
-    → lines_of_event R e so_far ((so_far ++ octet what) ++ more) what ≡ lines_of_event R e so_far (so_far ++ octet what) what
+event_lines_early : (R : MessageReader) → IsCausal R →
+    (e : Event) (so_far more : List ℕ) (what : EventKind)
+    → lines_of_event R e so_far ((so_far ++ octet what) ++ more) what
+    ≡ lines_of_event R e so_far (so_far ++ octet what) what
 unfolding lines_of_event octet
 event_lines_early R causal e so_far more (Takes x) =
     ap (map (λ r. line e (Said r.line_class r.text)))
-    (causal.earlier e.subject.number e.subject.header (so_far ++ x ∷ []) more (suc (length so_far)) (omega (arith, length_push so_far x)))
+    (causal.earlier e.subject.number e.subject.header (so_far ++ x ∷ []) more (suc (length so_far))
+    (omega (arith, length_push so_far x)))
 event_lines_early R causal e so_far more _ = refl
 
 -- The lines of events, each by the octets up to it.
 unfoldable pub lines_so_far : MessageReader → List Event → List Event → List Line
 lines_so_far R past [] = []
-lines_so_far R past (e ∷ es) = lines_of_event R e (joined e.subject.number past) (joined e.subject.number past ++ octet e.what) e.what ++ lines_so_far R (past ++ e ∷ []) es
+lines_so_far R past (e ∷ es) = lines_of_event R e (joined e.subject.number past)
+    (joined e.subject.number past ++ octet e.what) e.what ++ lines_so_far R (past ++ e ∷ []) es
 
-pub lines_by_past : (R : MessageReader) → IsCausal R → (all past es : List Event) → past ++ es ≡ all → lines_of_events R all past es ≡ lines_so_far R past es
+pub lines_by_past : (R : MessageReader) → IsCausal R → (all past es : List Event) → past
+    ++ es ≡ all → lines_of_events R all past es ≡ lines_so_far R past es
 unfolding lines_of_events lines_so_far
 lines_by_past R causal all past [] h = refl
 lines_by_past R causal all past (e ∷ es) h =
@@ -46,22 +52,28 @@ lines_by_past R causal all past (e ∷ es) h =
     let octets : joined i all ≡ (joined i past ++ octet e.what) ++ joined i es =
     ap (joined i) (sym split) ∙ (joined_append i (past ++ e ∷ []) es
     ∙ rw (joined_append i past (e ∷ []), joined_own e) refl) in
-    let first : lines_of_event R e (joined i past) (joined i all) e.what ≡ lines_of_event R e (joined i past)
+    let first : lines_of_event R e (joined i past) (joined i all) e.what
+    ≡ lines_of_event R e (joined i past)
     (joined i past ++ octet e.what) e.what =
     rw octets (event_lines_early R causal e (joined i past) (joined i es) e.what) in
     rw (first, lines_by_past R causal all (past ++ e ∷ []) es split) refl
 
-lines_so_far_append : (R : MessageReader) (past es fs : List Event) → lines_so_far R past (es ++ fs) ≡ lines_so_far R past es ++ lines_so_far R (past ++ es) fs
+lines_so_far_append : (R : MessageReader) (past es fs : List Event) →
+    lines_so_far R past (es ++ fs) ≡ lines_so_far R past es ++ lines_so_far R (past ++ es) fs
 unfolding lines_so_far
 lines_so_far_append R past [] fs = rw append-nil refl
 lines_so_far_append R past (e ∷ es) fs =
-    let first = lines_of_event R e (joined e.subject.number past) (joined e.subject.number past ++ octet e.what) e.what in
+    let first = lines_of_event R e (joined e.subject.number past)
+    (joined e.subject.number past ++ octet e.what) e.what in
     rw (lines_so_far_append R (past ++ e ∷ []) es fs, append_assoc past (e ∷ []) es)
-    (sym (append_assoc first (lines_so_far R (past ++ e ∷ []) es) (lines_so_far R (past ++ e ∷ es) fs)))
+    (sym (append_assoc first (lines_so_far R (past ++ e ∷ []) es)
+    (lines_so_far R (past ++ e ∷ es) fs)))
 
 -- More events at the end add lines at the end.
-pub lines_grow : (R : MessageReader) → IsCausal R → (es fs : List Event) → lines_of_events R (es ++ fs) [] (es ++ fs) ≡ lines_of_events R es [] es ++ lines_so_far R es fs
-lines_grow R causal es fs = lines_by_past R causal (es ++ fs) [] (es ++ fs) refl ∙ (lines_so_far_append R [] es fs ∙ rw (lines_by_past R causal es [] es refl) refl)
+pub lines_grow : (R : MessageReader) → IsCausal R → (es fs : List Event) →
+    lines_of_events R (es ++ fs) [] (es ++ fs) ≡ lines_of_events R es [] es ++ lines_so_far R es fs
+lines_grow R causal es fs = lines_by_past R causal (es ++ fs) [] (es ++ fs) refl
+    ∙ (lines_so_far_append R [] es fs ∙ rw (lines_by_past R causal es [] es refl) refl)
 
 -- Each line of an event has its place and its message.
 IsOf : Event → Line → Type 0
@@ -71,26 +83,32 @@ line_of : (e : Event) (content : Content) → IsOf e (line e content)
 unfolding IsOf line
 line_of e content = (refl, refl)
 
-event_lines_of : (R : MessageReader) (e : Event) (so_far all : List ℕ) (what : EventKind) → Each (IsOf e) (lines_of_event R e so_far all what)
+event_lines_of : (R : MessageReader) (e : Event) (so_far all : List ℕ) (what : EventKind) →
+    Each (IsOf e) (lines_of_event R e so_far all what)
 unfolding lines_of_event
 event_lines_of R e so_far all Begins = (line_of e (Started e.subject.header), tt)
 event_lines_of R e so_far all (Takes x) =
-    each_map (IsOf e) (λ r. line e (Said r.line_class r.text)) (λ r. line_of e (Said r.line_class r.text))
+    each_map (IsOf e) (λ r. line e (Said r.line_class r.text))
+    (λ r. line_of e (Said r.line_class r.text))
     (filter (λ r. r.at == suc (length so_far)) (R.reads e.subject.number e.subject.header all))
 event_lines_of R e so_far all (Opens id) = tt
 event_lines_of R e so_far all (Continues i) = (line_of e (ContinuesMessage i), tt)
 event_lines_of R e so_far all (Cancelled j) = (line_of e (CancelledBy j), tt)
 event_lines_of R e so_far all (Faults fault) = (line_of e (Faulted fault), tt)
-event_lines_of R e so_far all Closes = each_map (IsOf e) (λ l. line e (Said l.0 l.1)) (λ l. line_of e (Said l.0 l.1)) (R.closes e.subject.number e.subject.header so_far)
+event_lines_of R e so_far all Closes = each_map (IsOf e) (λ l. line e (Said l.0 l.1))
+    (λ l. line_of e (Said l.0 l.1)) (R.closes e.subject.number e.subject.header so_far)
 
-pub lines_so_far_each : (R : MessageReader) (P : ℕ → Type 0) (past es : List Event) → Each (λ e. P e.place) es → Each (λ l. P l.place) (lines_so_far R past es)
+pub lines_so_far_each : (R : MessageReader) (P : ℕ → Type 0) (past es : List Event) →
+    Each (λ e. P e.place) es → Each (λ l. P l.place) (lines_so_far R past es)
 unfolding lines_so_far IsOf
 lines_so_far_each R P past [] h = tt
 lines_so_far_each R P past (e ∷ es) h =
-    let first = lines_of_event R e (joined e.subject.number past) (joined e.subject.number past ++ octet e.what) e.what in
+    let first = lines_of_event R e (joined e.subject.number past)
+    (joined e.subject.number past ++ octet e.what) e.what in
     each_append (λ l. P l.place) first (lines_so_far R (past ++ e ∷ []) es)
     (each_weaker (IsOf e) (λ l. P l.place) (λ l k. subst P (sym k.0) h.0) first
-    (event_lines_of R e (joined e.subject.number past) (joined e.subject.number past ++ octet e.what) e.what))
+    (event_lines_of R e (joined e.subject.number past)
+    (joined e.subject.number past ++ octet e.what) e.what))
     (lines_so_far_each R P (past ++ e ∷ []) es h.1)
 
 -- The order of the lines.
@@ -98,18 +116,24 @@ pub by_class_none : by_class [] ≡ []
 unfolding by_class classes
 by_class_none = refl
 
-earlier_none : (n k : ℕ) (ls : List Line) → Each (λ l. l.place ≤ n) ls → n < k → filter (λ l. l.place == k) ls ≡ []
+earlier_none : (n k : ℕ) (ls : List Line) → Each (λ l. l.place ≤ n) ls → n < k →
+    filter (λ l. l.place == k) ls ≡ []
 earlier_none n k ls h m =
-    filter_drops (λ l. l.place == k) ls (each_weaker (λ l. l.place ≤ n) (λ l. (l.place == k) ≡ false) (λ l j. ne_eqb l.place k (λ e. omega arith)) ls h)
+    filter_drops (λ l. l.place == k) ls (each_weaker (λ l. l.place ≤ n)
+    (λ l. (l.place == k) ≡ false) (λ l j. ne_eqb l.place k (λ e. omega arith)) ls h)
 
-later_none : (n k : ℕ) (ls : List Line) → Each (λ l. l.place ≡ suc n) ls → k ≤ n → filter (λ l. l.place == k) ls ≡ []
+later_none : (n k : ℕ) (ls : List Line) → Each (λ l. l.place ≡ suc n) ls → k ≤ n →
+    filter (λ l. l.place == k) ls ≡ []
 later_none n k ls h m =
-    filter_drops (λ l. l.place == k) ls (each_weaker (λ l. l.place ≡ suc n) (λ l. (l.place == k) ≡ false) (λ l j. ne_eqb l.place k (λ e. omega arith)) ls h)
+    filter_drops (λ l. l.place == k) ls (each_weaker (λ l. l.place ≡ suc n)
+    (λ l. (l.place == k) ≡ false) (λ l j. ne_eqb l.place k (λ e. omega arith)) ls h)
 
 now_all : (n : ℕ) (ls : List Line) → Each (λ l. l.place ≡ n) ls → filter (λ l. l.place == n) ls ≡ ls
-now_all n ls h = filter_keeps (λ l. l.place == n) ls (each_weaker (λ l. l.place ≡ n) (λ l. (l.place == n) ≡ true) (λ l j. eq-eqb l.place n j) ls h)
+now_all n ls h = filter_keeps (λ l. l.place == n) ls
+    (each_weaker (λ l. l.place ≡ n) (λ l. (l.place == n) ≡ true) (λ l j. eq-eqb l.place n j) ls h)
 
-in_order_same : (k n : ℕ) (old new : List Line) → Each (λ l. l.place ≡ suc n) new → k ≤ n → in_order k (old ++ new) ≡ in_order k old
+in_order_same : (k n : ℕ) (old new : List Line) → Each (λ l. l.place ≡ suc n) new → k ≤ n →
+    in_order k (old ++ new) ≡ in_order k old
 unfolding in_order
 in_order_same zero n old new h m = refl
 in_order_same (suc k) n old new h m =
@@ -121,7 +145,8 @@ in_order_same (suc k) n old new h m =
       append-nil (filter (λ l. l.place == suc k) old),
     ) refl
 
-pub in_order_grows : (n : ℕ) (old new : List Line) → Each (λ l. l.place ≤ n) old → Each (λ l. l.place ≡ suc n) new
+pub in_order_grows : (n : ℕ) (old new : List Line) → Each (λ l. l.place ≤ n) old →
+    Each (λ l. l.place ≡ suc n) new
     → in_order (suc n) (old ++ new) ≡ in_order n old ++ by_class new
 unfolding in_order
 in_order_grows n old new h k =
@@ -133,18 +158,22 @@ in_order_grows n old new h k =
       now_all (suc n) new k,
     ) refl
 
-pub in_order_idle : (n : ℕ) (old : List Line) → Each (λ l. l.place ≤ n) old → in_order (suc n) old ≡ in_order n old
+pub in_order_idle : (n : ℕ) (old : List Line) → Each (λ l. l.place ≤ n) old →
+    in_order (suc n) old ≡ in_order n old
 unfolding in_order
-in_order_idle n old h = rw (earlier_none n (suc n) old h (omega arith), by_class_none) (append-nil (in_order n old))
+in_order_idle n old h = rw (earlier_none n (suc n) old h (omega arith), by_class_none)
+    (append-nil (in_order n old))
 
 filter_classes : (q : Line → Bool) (ls : List Line) (cs : List Class)
-    → filter q (flat_map (λ c. filter (has_class c) ls) cs) ≡ flat_map (λ c. filter (has_class c) (filter q ls)) cs
+    → filter q (flat_map (λ c. filter (has_class c) ls) cs)
+    ≡ flat_map (λ c. filter (has_class c) (filter q ls)) cs
 filter_classes q ls [] = refl
 filter_classes q ls (c ∷ cs) =
     filter-append q (filter (has_class c) ls) (flat_map (λ c. filter (has_class c) ls) cs)
     ∙ rw (filter_classes q ls cs, filter_swap q (has_class c) ls) refl
 
-by_class_filter : (q : Line → Bool) (ls : List Line) → filter q (by_class ls) ≡ by_class (filter q ls)
+by_class_filter : (q : Line → Bool) (ls : List Line) →
+    filter q (by_class ls) ≡ by_class (filter q ls)
 unfolding by_class
 by_class_filter q ls = filter_classes q ls classes
 
@@ -157,126 +186,167 @@ or_or : (a b c : Bool) → ((a || b) || c) ≡ (a || (b || c))
 or_or true b c = refl
 or_or false b c = refl
 
-standing_same : (f g : ℕ → Bool) (ls : List Line) → ((i : ℕ) → f i ≡ g i) → up_to_last_line f ls ≡ up_to_last_line g ls
+standing_same : (f g : ℕ → Bool) (ls : List Line) → ((i : ℕ) → f i ≡ g i) →
+    up_to_last_line f ls ≡ up_to_last_line g ls
 standing_same f g ls h = ap (λ (t : ℕ → Bool). up_to_last_line t ls) (λ j i. h i j)
 
-standing_skips : (f : ℕ → Bool) (l : Line) (ls : List Line) → f l.number ≡ true → up_to_last_line f (l ∷ ls) ≡ up_to_last_line f ls
+standing_skips : (f : ℕ → Bool) (l : Line) (ls : List Line) → f l.number ≡ true →
+    up_to_last_line f (l ∷ ls) ≡ up_to_last_line f ls
 unfolding up_to_last_line
 standing_skips f l ls e = rw (up_to_last_line, e) refl
 
-standing_keeps : (f : ℕ → Bool) (l : Line) (ls : List Line) → f l.number ≡ false → up_to_last_line f (l ∷ ls) ≡ l ∷ up_to_last_line (λ i. f i || is_last_of i l) ls
+standing_keeps : (f : ℕ → Bool) (l : Line) (ls : List Line) → f l.number ≡ false →
+    up_to_last_line f (l ∷ ls) ≡ l ∷ up_to_last_line (λ i. f i || is_last_of i l) ls
 unfolding up_to_last_line
 standing_keeps f l ls e = rw (up_to_last_line, e) refl
 
 append_by : (f : ℕ → Bool) (l : Line) (xs ys : List Line) (b : Bool) → f l.number ≡ b
-    → ((f : ℕ → Bool) → up_to_last_line f (xs ++ ys) ≡ up_to_last_line f xs ++ up_to_last_line (λ i. f i || list_any (is_last_of i) (up_to_last_line f xs)) ys)
-    → up_to_last_line f (l ∷ xs ++ ys) ≡ up_to_last_line f (l ∷ xs) ++ up_to_last_line (λ i. f i || list_any (is_last_of i) (up_to_last_line f (l ∷ xs))) ys
+    → ((f : ℕ → Bool) → up_to_last_line f (xs ++ ys) ≡ up_to_last_line f xs
+    ++ up_to_last_line (λ i. f i || list_any (is_last_of i) (up_to_last_line f xs)) ys)
+    → up_to_last_line f (l ∷ xs ++ ys) ≡ up_to_last_line f (l ∷ xs)
+    ++ up_to_last_line (λ i. f i || list_any (is_last_of i) (up_to_last_line f (l ∷ xs))) ys
 append_by f l xs ys true e ih = rw (standing_skips f l (xs ++ ys) e, standing_skips f l xs e) (ih f)
 append_by f l xs ys false e ih =
     rw (standing_keeps f l (xs ++ ys) e, standing_keeps f l xs e)
     (ap (λ (zs : List Line). l ∷ zs) (ih (λ i. f i || is_last_of i l)
     ∙ ap (λ (zs : List Line). up_to_last_line (λ i. f i || is_last_of i l) xs ++ zs)
-    (standing_same (λ i. (f i || is_last_of i l) || list_any (is_last_of i) (up_to_last_line (λ i. f i || is_last_of i l) xs))
-    (λ i. f i || (is_last_of i l || list_any (is_last_of i) (up_to_last_line (λ i. f i || is_last_of i l) xs))) ys
-    (λ i. or_or (f i) (is_last_of i l) (list_any (is_last_of i) (up_to_last_line (λ i. f i || is_last_of i l) xs))))))
+    (standing_same (λ i. (f i || is_last_of i l)
+    || list_any (is_last_of i) (up_to_last_line (λ i. f i || is_last_of i l) xs))
+    (λ i. f i || (is_last_of i l || list_any (is_last_of i)
+    (up_to_last_line (λ i. f i || is_last_of i l) xs))) ys
+    (λ i. or_or (f i) (is_last_of i l) (list_any (is_last_of i)
+    (up_to_last_line (λ i. f i || is_last_of i l) xs))))))
 
 pub standing_append : (f : ℕ → Bool) (xs ys : List Line)
-    → up_to_last_line f (xs ++ ys) ≡ up_to_last_line f xs ++ up_to_last_line (λ i. f i || list_any (is_last_of i) (up_to_last_line f xs)) ys
+    → up_to_last_line f (xs ++ ys) ≡ up_to_last_line f xs
+    ++ up_to_last_line (λ i. f i || list_any (is_last_of i) (up_to_last_line f xs)) ys
 unfolding up_to_last_line
 standing_append f [] ys = standing_same f (λ i. f i || false) ys (λ i. sym (or_false (f i)))
 standing_append f (l ∷ xs) ys = append_by f l xs ys (f l.number) refl (λ g. standing_append g xs ys)
 
-drops_by : (over orig f : ℕ → Bool) (l : Line) (ls : List Line) → ((i : ℕ) → over i ≡ (orig i || f i))
-    → ((over f : ℕ → Bool) → ((i : ℕ) → over i ≡ (orig i || f i)) → up_to_last_line over ls ≡ up_to_last_line f (filter (λ l. not (orig l.number)) ls))
+drops_by : (over orig f : ℕ → Bool) (l : Line) (ls : List Line) →
+    ((i : ℕ) → over i ≡ (orig i || f i))
+    → ((over f : ℕ → Bool) → ((i : ℕ) → over i ≡ (orig i || f i)) →
+    up_to_last_line over ls ≡ up_to_last_line f (filter (λ l. not (orig l.number)) ls))
     → (a b : Bool) → orig l.number ≡ a → f l.number ≡ b
     → up_to_last_line over (l ∷ ls) ≡ up_to_last_line f (filter (λ l. not (orig l.number)) (l ∷ ls))
-drops_by over orig f l ls h ih true b e k = rw e (standing_skips over l ls (h l.number ∙ rw e refl) ∙ ih over f h)
+drops_by over orig f l ls h ih true b e k =
+    rw e (standing_skips over l ls (h l.number ∙ rw e refl) ∙ ih over f h)
 drops_by over orig f l ls h ih false true e k =
-    rw e (standing_skips over l ls (h l.number ∙ rw (e, k) refl) ∙ (ih over f h ∙ sym (standing_skips f l (filter (λ l. not (orig l.number)) ls) k)))
+    rw e (standing_skips over l ls (h l.number ∙ rw (e, k) refl)
+    ∙ (ih over f h ∙ sym (standing_skips f l (filter (λ l. not (orig l.number)) ls) k)))
 drops_by over orig f l ls h ih false false e k =
     rw e (standing_keeps over l ls (h l.number ∙ rw (e, k) refl)
-    ∙ (ap (λ (zs : List Line). l ∷ zs) (ih (λ i. over i || is_last_of i l) (λ i. f i || is_last_of i l) (λ i. rw (h i) (or_or (orig i) (f i) (is_last_of i l))))
+    ∙ (ap (λ (zs : List Line). l ∷ zs) (ih (λ i. over i || is_last_of i l)
+    (λ i. f i || is_last_of i l) (λ i. rw (h i) (or_or (orig i) (f i) (is_last_of i l))))
     ∙ sym (standing_keeps f l (filter (λ l. not (orig l.number)) ls) k)))
 
 -- Lines of messages that were over before are never written.
-pub standing_drops : (over orig f : ℕ → Bool) (ls : List Line) → ((i : ℕ) → over i ≡ (orig i || f i))
+pub standing_drops : (over orig f : ℕ → Bool) (ls : List Line) →
+    ((i : ℕ) → over i ≡ (orig i || f i))
     → up_to_last_line over ls ≡ up_to_last_line f (filter (λ l. not (orig l.number)) ls)
 unfolding up_to_last_line
 standing_drops over orig f [] h = refl
-standing_drops over orig f (l ∷ ls) h = drops_by over orig f l ls h (λ o g k. standing_drops o orig g ls k) (orig l.number) (f l.number) refl refl
+standing_drops over orig f (l ∷ ls) h = drops_by over orig f l ls h
+    (λ o g k. standing_drops o orig g ls k) (orig l.number) (f l.number) refl refl
 
 -- The lines of several events: those of the messages that are not over, by what is kept of them.
 unfoldable pub keeping : (ℕ → Bool) → List Event → OctetsByNumber
 keeping over past i = if over i then None else Some (joined i past)
 
-with_one : (over : ℕ → Bool) (past : List Event) (e : Event) (i : ℕ) → kept_with (keeping over past) (e ∷ []) i ≡ keeping over (past ++ e ∷ []) i
+with_one : (over : ℕ → Bool) (past : List Event) (e : Event) (i : ℕ) →
+    kept_with (keeping over past) (e ∷ []) i ≡ keeping over (past ++ e ∷ []) i
 unfolding kept_with keeping
 with_one over past e i = go (over i)
   where
-    go : (b : Bool) → option_map (λ xs. xs ++ joined i (e ∷ [])) (if b then None else Some (joined i past))
+    go : (b : Bool) → option_map (λ xs. xs ++ joined i (e ∷ []))
+        (if b then None else Some (joined i past))
         ≡ (if b then None else Some (joined i (past ++ e ∷ [])))
     go true = refl
     go false = ap Some (sym (joined_append i past (e ∷ [])))
 
-all_lines_same : (R : MessageReader) (f g : OctetsByNumber) (es : List Event) → ((i : ℕ) → f i ≡ g i) → all_lines R f es ≡ all_lines R g es
+all_lines_same : (R : MessageReader) (f g : OctetsByNumber) (es : List Event) →
+    ((i : ℕ) → f i ≡ g i) → all_lines R f es ≡ all_lines R g es
 all_lines_same R f g es h = ap (λ (k : OctetsByNumber). all_lines R k es) (λ j i. h i j)
 
-one_by : (R : MessageReader) (over : ℕ → Bool) (past : List Event) (e : Event) (b : Bool) → over e.subject.number ≡ b
+one_by : (R : MessageReader) (over : ℕ → Bool) (past : List Event) (e : Event) (b : Bool) →
+    over e.subject.number ≡ b
     → filter (λ l. not (over l.number)) (lines_of_event R e (joined e.subject.number past)
-    (joined e.subject.number past ++ octet e.what) e.what) ≡ lines_for R e (keeping over past e.subject.number)
+    (joined e.subject.number past ++ octet e.what) e.what)
+    ≡ lines_for R e (keeping over past e.subject.number)
 unfolding lines_for keeping IsOf
 one_by R over past e true k =
-    let ls = lines_of_event R e (joined e.subject.number past) (joined e.subject.number past ++ octet e.what) e.what in
+    let ls = lines_of_event R e (joined e.subject.number past)
+    (joined e.subject.number past ++ octet e.what) e.what in
     filter_drops (λ l. not (over l.number)) ls
     (each_weaker (IsOf e) (λ l. not (over l.number) ≡ false) (λ l h. rw (h.1, k) refl) ls
-    (event_lines_of R e (joined e.subject.number past) (joined e.subject.number past ++ octet e.what) e.what))
+    (event_lines_of R e (joined e.subject.number past)
+    (joined e.subject.number past ++ octet e.what) e.what))
     ∙ rw (keeping, k) refl
 one_by R over past e false k =
-    let ls = lines_of_event R e (joined e.subject.number past) (joined e.subject.number past ++ octet e.what) e.what in
+    let ls = lines_of_event R e (joined e.subject.number past)
+    (joined e.subject.number past ++ octet e.what) e.what in
     filter_keeps (λ l. not (over l.number)) ls
     (each_weaker (IsOf e) (λ l. not (over l.number) ≡ true) (λ l h. rw (h.1, k) refl) ls
-    (event_lines_of R e (joined e.subject.number past) (joined e.subject.number past ++ octet e.what) e.what))
+    (event_lines_of R e (joined e.subject.number past)
+    (joined e.subject.number past ++ octet e.what) e.what))
     ∙ rw (keeping, k, lines_for, joined_own e) refl
 
 pub all_lines_so_far : (R : MessageReader) (over : ℕ → Bool) (past es : List Event)
-    → filter (λ l. not (over l.number)) (lines_so_far R past es) ≡ all_lines R (keeping over past) es
+    → filter (λ l. not (over l.number)) (lines_so_far R past es)
+    ≡ all_lines R (keeping over past) es
 unfolding lines_so_far all_lines
 all_lines_so_far R over past [] = refl
 all_lines_so_far R over past (e ∷ es) =
     filter_append_at R over past e es
-    ∙ rw (one_by R over past e (over e.subject.number) refl, all_lines_so_far R over (past ++ e ∷ []) es)
+    ∙ rw (
+      one_by R over past e (over e.subject.number) refl,
+      all_lines_so_far R over (past ++ e ∷ []) es,
+    )
     (ap (λ (ls : List Line). lines_for R e (keeping over past e.subject.number) ++ ls)
     (all_lines_same R (keeping over (past ++ e ∷ [])) (kept_with (keeping over past) (e ∷ [])) es
     (λ i. sym (with_one over past e i))))
   where
-    filter_append_at : (R : MessageReader) (over : ℕ → Bool) (past : List Event) (e : Event) (es : List Event)
-        → filter (λ l. not (over l.number)) (lines_so_far R past (e ∷ es)) ≡ filter (λ l. not (over l.number))
-        (lines_of_event R e (joined e.subject.number past) (joined e.subject.number past ++ octet e.what) e.what) ++ filter
+    filter_append_at : (R : MessageReader) (over : ℕ → Bool) (past : List Event) (e : Event)
+        (es : List Event)
+        → filter (λ l. not (over l.number)) (lines_so_far R past (e ∷ es))
+        ≡ filter (λ l. not (over l.number))
+        (lines_of_event R e (joined e.subject.number past)
+        (joined e.subject.number past ++ octet e.what) e.what) ++ filter
         (λ l. not (over l.number)) (lines_so_far R (past ++ e ∷ []) es)
     filter_append_at R over past e es =
         filter-append (λ l. not (over l.number))
-        (lines_of_event R e (joined e.subject.number past) (joined e.subject.number past ++ octet e.what) e.what)
+        (lines_of_event R e (joined e.subject.number past)
+        (joined e.subject.number past ++ octet e.what) e.what)
         (lines_so_far R (past ++ e ∷ []) es)
 
 -- The lines depend only on what is kept of the events' subjects.
-pub all_lines_agree : (R : MessageReader) (f g : OctetsByNumber) (es : List Event) → Each (λ e. f e.subject.number ≡ g e.subject.number) es → all_lines R f es ≡ all_lines R g es
+pub all_lines_agree : (R : MessageReader) (f g : OctetsByNumber) (es : List Event) →
+    Each (λ e. f e.subject.number ≡ g e.subject.number) es → all_lines R f es ≡ all_lines R g es
 unfolding all_lines kept_with
 all_lines_agree R f g [] h = refl
 all_lines_agree R f g (e ∷ es) h =
     rw h.0 (ap (λ (ls : List Line). lines_for R e (g e.subject.number) ++ ls)
     (all_lines_agree R (kept_with f (e ∷ [])) (kept_with g (e ∷ [])) es
-    (each_weaker (λ d. f d.subject.number ≡ g d.subject.number) (λ d. kept_with f (e ∷ []) d.subject.number ≡ kept_with g (e ∷ []) d.subject.number)
+    (each_weaker (λ d. f d.subject.number ≡ g d.subject.number)
+    (λ d. kept_with f (e ∷ []) d.subject.number ≡ kept_with g (e ∷ []) d.subject.number)
     (λ d k. ap (option_map (λ xs. xs ++ joined d.subject.number (e ∷ []))) k) es h.1)))
 
 -- The new lines that are written are those of the effects.
 pub standing_all_lines : (R : MessageReader) (over : ℕ → Bool) (past es : List Event)
-    → up_to_last_line over (by_class (lines_so_far R past es)) ≡ up_to_last_line (λ i. false) (by_class (all_lines R (keeping over past) es))
+    → up_to_last_line over (by_class (lines_so_far R past es))
+    ≡ up_to_last_line (λ i. false) (by_class (all_lines R (keeping over past) es))
 standing_all_lines R over past es =
-    standing_drops over over (λ i. false) (by_class (lines_so_far R past es)) (λ i. sym (or_false (over i)))
-    ∙ rw (by_class_filter (λ l. not (over l.number)) (lines_so_far R past es), all_lines_so_far R over past es) refl
+    standing_drops over over (λ i. false) (by_class (lines_so_far R past es))
+    (λ i. sym (or_false (over i)))
+    ∙ rw (
+      by_class_filter (λ l. not (over l.number)) (lines_so_far R past es),
+      all_lines_so_far R over past es,
+    ) refl
 
 -- What holds of the events' subjects holds of the lines' messages,
-pub event_lines_number : (R : MessageReader) (P : ℕ → Type 0) (e : Event) (o : Option (List ℕ)) → P e.subject.number → Each (λ l. P l.number) (lines_for R e o)
+pub event_lines_number : (R : MessageReader) (P : ℕ → Type 0) (e : Event) (o : Option (List ℕ)) →
+    P e.subject.number → Each (λ l. P l.number) (lines_for R e o)
 unfolding lines_for IsOf
 event_lines_number R P e None h = tt
 event_lines_number R P e (Some xs) h =
@@ -285,7 +355,8 @@ event_lines_number R P e (Some xs) h =
     (event_lines_of R e xs (xs ++ joined e.subject.number (e ∷ [])) e.what)
 
 -- and what holds of the events' places of the lines' places.
-event_lines_place : (R : MessageReader) (P : ℕ → Type 0) (e : Event) (o : Option (List ℕ)) → P e.place → Each (λ l. P l.place) (lines_for R e o)
+event_lines_place : (R : MessageReader) (P : ℕ → Type 0) (e : Event) (o : Option (List ℕ)) →
+    P e.place → Each (λ l. P l.place) (lines_for R e o)
 unfolding lines_for IsOf
 event_lines_place R P e None h = tt
 event_lines_place R P e (Some xs) h =
@@ -293,47 +364,62 @@ event_lines_place R P e (Some xs) h =
     (lines_of_event R e xs (xs ++ joined e.subject.number (e ∷ [])) e.what)
     (event_lines_of R e xs (xs ++ joined e.subject.number (e ∷ [])) e.what)
 
-pub all_lines_places : (R : MessageReader) (P : ℕ → Type 0) (known : OctetsByNumber) (es : List Event) → Each (λ e. P e.place) es → Each (λ l. P l.place) (all_lines R known es)
+pub all_lines_places : (R : MessageReader) (P : ℕ → Type 0) (known : OctetsByNumber)
+    (es : List Event) → Each (λ e. P e.place) es → Each (λ l. P l.place) (all_lines R known es)
 unfolding all_lines
 all_lines_places R P known [] h = tt
 all_lines_places R P known (e ∷ es) h =
-    each_append (λ l. P l.place) (lines_for R e (known e.subject.number)) (all_lines R (kept_with known (e ∷ [])) es)
-    (event_lines_place R P e (known e.subject.number) h.0) (all_lines_places R P (kept_with known (e ∷ [])) es h.1)
+    each_append (λ l. P l.place) (lines_for R e (known e.subject.number))
+    (all_lines R (kept_with known (e ∷ [])) es)
+    (event_lines_place R P e (known e.subject.number) h.0)
+    (all_lines_places R P (kept_with known (e ∷ [])) es h.1)
 
-all_lines_each : (R : MessageReader) (P : ℕ → Type 0) (known : OctetsByNumber) (es : List Event) → Each (λ e. P e.subject.number) es → Each (λ l. P l.number) (all_lines R known es)
+all_lines_each : (R : MessageReader) (P : ℕ → Type 0) (known : OctetsByNumber) (es : List Event) →
+    Each (λ e. P e.subject.number) es → Each (λ l. P l.number) (all_lines R known es)
 unfolding all_lines
 all_lines_each R P known [] h = tt
 all_lines_each R P known (e ∷ es) h =
-    each_append (λ l. P l.number) (lines_for R e (known e.subject.number)) (all_lines R (kept_with known (e ∷ [])) es)
-    (event_lines_number R P e (known e.subject.number) h.0) (all_lines_each R P (kept_with known (e ∷ [])) es h.1)
+    each_append (λ l. P l.number) (lines_for R e (known e.subject.number))
+    (all_lines R (kept_with known (e ∷ [])) es)
+    (event_lines_number R P e (known e.subject.number) h.0)
+    (all_lines_each R P (kept_with known (e ∷ [])) es h.1)
 
-pub classes_each : (P : Line → Type 0) (ls : List Line) (cs : List Class) → Each P ls → Each P (flat_map (λ c. filter (has_class c) ls) cs)
+pub classes_each : (P : Line → Type 0) (ls : List Line) (cs : List Class) → Each P ls →
+    Each P (flat_map (λ c. filter (has_class c) ls) cs)
 classes_each P ls [] h = tt
 classes_each P ls (c ∷ cs) h =
-    each_append P (filter (has_class c) ls) (flat_map (λ c. filter (has_class c) ls) cs) (each_filter P (has_class c) ls h) (classes_each P ls cs h)
+    each_append P (filter (has_class c) ls) (flat_map (λ c. filter (has_class c) ls) cs)
+    (each_filter P (has_class c) ls h) (classes_each P ls cs h)
 
-stands_by : (P : Line → Type 0) (b : Bool) (l : Line) (one two : List Line) → P l → Each P one → Each P two → Each P (if b then one else l ∷ two)
+stands_by : (P : Line → Type 0) (b : Bool) (l : Line) (one two : List Line) → P l → Each P one →
+    Each P two → Each P (if b then one else l ∷ two)
 stands_by P true l one two h j k = j
 stands_by P false l one two h j k = (h, k)
 
-pub standing_each : (P : Line → Type 0) (over : ℕ → Bool) (ls : List Line) → Each P ls → Each P (up_to_last_line over ls)
+pub standing_each : (P : Line → Type 0) (over : ℕ → Bool) (ls : List Line) → Each P ls →
+    Each P (up_to_last_line over ls)
 unfolding up_to_last_line
 standing_each P over [] h = tt
 standing_each P over (l ∷ ls) h =
-    stands_by P (over l.number) l (up_to_last_line over ls) (up_to_last_line (λ i. over i || is_last_of i l) ls) h.0
+    stands_by P (over l.number) l (up_to_last_line over ls)
+    (up_to_last_line (λ i. over i || is_last_of i l) ls) h.0
     (standing_each P over ls h.1) (standing_each P (λ i. over i || is_last_of i l) ls h.1)
 
-pub written_each : (R : MessageReader) (P : ℕ → Type 0) (known : OctetsByNumber) (es : List Event) → Each (λ e. P e.subject.number) es
+pub written_each : (R : MessageReader) (P : ℕ → Type 0) (known : OctetsByNumber) (es : List Event) →
+    Each (λ e. P e.subject.number) es
     → Each (λ l. P l.number) (up_to_last_line (λ i. false) (by_class (all_lines R known es)))
 unfolding by_class
 written_each R P known es h =
-    standing_each (λ l. P l.number) (λ i. false) _ (classes_each (λ l. P l.number) (all_lines R known es) classes (all_lines_each R P known es h))
+    standing_each (λ l. P l.number) (λ i. false) _
+    (classes_each (λ l. P l.number) (all_lines R known es) classes
+    (all_lines_each R P known es h))
 
 none_last_by : (i : ℕ) (l : Line) → l.number < i → is_last_of i l ≡ false
 unfolding is_last_of
 none_last_by i l h = rw (ne_eqb l.number i (λ e. omega arith)) refl
 
-pub none_last : (i : ℕ) (ls : List Line) → Each (λ l. l.number < i) ls → list_any (is_last_of i) ls ≡ false
+pub none_last : (i : ℕ) (ls : List Line) → Each (λ l. l.number < i) ls →
+    list_any (is_last_of i) ls ≡ false
 none_last i [] h = refl
 none_last i (l ∷ ls) h = rw (none_last_by i l h.0, none_last i ls h.1) refl
 

@@ -21,32 +21,41 @@ unfolding added
 added_from R p q z e = ap (drop (length (text R p))) e ∙ drop-append_seam (text R p) z
 
 -- the text of a stream, then what more octets add
-pub text_adds : (R : Rules) → IsCausal R.reading → IsStreamable R.reading → (p q : List ℕ) → text R (p ++ q) ≡ text R p ++ added R p q
-text_adds R causal laws p q = run_text R causal laws p q ∙ ap (λ (z : List ℕ). text R p ++ z) (sym (added_run R causal laws p q))
+pub text_adds : (R : Rules) → IsCausal R.reading → IsStreamable R.reading → (p q : List ℕ) →
+    text R (p ++ q) ≡ text R p ++ added R p q
+text_adds R causal laws p q = run_text R causal laws p q
+    ∙ ap (λ (z : List ℕ). text R p ++ z) (sym (added_run R causal laws p q))
 
 -- what q and then r add
-pub added_both : (R : Rules) → IsCausal R.reading → IsStreamable R.reading → (p q r : List ℕ) → added R p (q ++ r) ≡ added R p q ++ added R (p ++ q) r
+pub added_both : (R : Rules) → IsCausal R.reading → IsStreamable R.reading → (p q r : List ℕ) →
+    added R p (q ++ r) ≡ added R p q ++ added R (p ++ q) r
 added_both R causal laws p q r =
     added_from R p (q ++ r) (added R p q ++ added R (p ++ q) r)
     (ap (text R) (sym (append_assoc p q r))
-    ∙ (text_adds R causal laws (p ++ q) r ∙ (ap (λ (z : List ℕ). z ++ added R (p ++ q) r) (text_adds R causal laws p q)
+    ∙ (text_adds R causal laws (p ++ q) r ∙
+    (ap (λ (z : List ℕ). z ++ added R (p ++ q) r) (text_adds R causal laws p q)
     ∙ append_assoc (text R p) (added R p q) (added R (p ++ q) r))))
 
 -- ---- A run, and then another.
 
-pub run_state_on : (R : Rules) (s : State) (q r : List ℕ) → run_state R s (q ++ r) ≡ run_state R (run_state R s q) r
+pub run_state_on : (R : Rules) (s : State) (q r : List ℕ) →
+    run_state R s (q ++ r) ≡ run_state R (run_state R s q) r
 unfolding run_state
 run_state_on R s [] r = refl
 run_state_on R s (x ∷ q) r = run_state_on R (step R s x).state q r
 
-run_on : (R : Rules) (s : State) (q r : List ℕ) → run R s (q ++ r) ≡ run R s q ++ run R (run_state R s q) r
+run_on : (R : Rules) (s : State) (q r : List ℕ) → run R s (q ++ r) ≡ run R s q
+    ++ run R (run_state R s q) r
 unfolding run run_state
 run_on R s [] r = refl
 run_on R s (x ∷ q) r =
-    rw (run_on R (step R s x).state q r) (sym (append_assoc (step R s x).lines (run R (step R s x).state q) (run R (run_state R (step R s x).state q) r)))
+    rw (run_on R (step R s x).state q r) (sym (append_assoc (step R s x).lines
+    (run R (step R s x).state q) (run R (run_state R (step R s x).state q) r)))
 
-pub run_text_on : (R : Rules) (s : State) (q r : List ℕ) → lines_text (run R s (q ++ r)) ≡ lines_text (run R s q) ++ lines_text (run R (run_state R s q) r)
-run_text_on R s q r = ap lines_text (run_on R s q r) ∙ text_append (run R s q) (run R (run_state R s q) r)
+pub run_text_on : (R : Rules) (s : State) (q r : List ℕ) →
+    lines_text (run R s (q ++ r)) ≡ lines_text (run R s q) ++ lines_text (run R (run_state R s q) r)
+run_text_on R s q r = ap lines_text (run_on R s q r)
+    ∙ text_append (run R s q) (run R (run_state R s q) r)
 
 pub one_run : (R : Rules) (s : State) (x : ℕ) → runs R s (x ∷ []) ≡ step R s x
 unfolding run run_state
@@ -59,24 +68,31 @@ first_of [] x e = absurd cc
 first_of (y ∷ xs) x e = let same : y ≡ x = cc in ap (λ (z : ℕ). z ∷ xs) same
 
 -- the octets taken so far, with one more run of them
-pub further : (octets_taken rest q left piece : List ℕ) → piece ≡ octets_taken ++ rest → rest ≡ q ++ left → piece ≡ (octets_taken ++ q) ++ left
-further octets_taken rest q left piece e f = e ∙ (ap (λ (z : List ℕ). octets_taken ++ z) f ∙ sym (append_assoc octets_taken q left))
+pub further : (octets_taken rest q left piece : List ℕ) → piece ≡ octets_taken ++ rest → rest ≡ q
+    ++ left → piece ≡ (octets_taken ++ q) ++ left
+further octets_taken rest q left piece e f =
+    e ∙ (ap (λ (z : List ℕ). octets_taken ++ z) f ∙ sym (append_assoc octets_taken q left))
 
 -- they are octets
-pub octets_come : (octets_taken left piece : List ℕ) → piece ≡ octets_taken ++ left → AreOctets piece → AreOctets octets_taken
+pub octets_come : (octets_taken left piece : List ℕ) → piece ≡ octets_taken ++ left →
+    AreOctets piece → AreOctets octets_taken
 octets_come octets_taken left piece e h =
     let front : take (length octets_taken) piece ≡ octets_taken =
-    ap (take (length octets_taken)) e ∙ (take-append-le (length octets_taken) octets_taken left (omega arith)
+    ap (take (length octets_taken)) e ∙ (take-append-le (length octets_taken) octets_taken left
+    (omega arith)
     ∙ take_all (length octets_taken) octets_taken (omega arith)) in
     subst AreOctets front (All-take (λ x. x < 256) (length octets_taken) piece h)
 
 -- the text so far is a front of the piece's text
-pub run_within : (R : Rules) (s : State) (octets_taken q left piece : List ℕ) → piece ≡ (octets_taken ++ q) ++ left
+pub run_within : (R : Rules) (s : State) (octets_taken q left piece : List ℕ) →
+    piece ≡ (octets_taken ++ q) ++ left
     → (more : List ℕ) × (lines_text (run R s piece)
-    ≡ (lines_text (run R s octets_taken) ++ lines_text (run R (run_state R s octets_taken) q)) ++ more)
+    ≡ (lines_text (run R s octets_taken) ++ lines_text (run R (run_state R s octets_taken) q))
+    ++ more)
 run_within R s octets_taken q left piece e = (
   lines_text (run R (run_state R s (octets_taken ++ q)) left),
   ap (λ (z : List ℕ). lines_text (run R s z)) e
-      ∙ (run_text_on R s (octets_taken ++ q) left ∙ ap (λ (z : List ℕ). z ++ lines_text (run R (run_state R s (octets_taken ++ q)) left))
+      ∙ (run_text_on R s (octets_taken ++ q) left
+      ∙ ap (λ (z : List ℕ). z ++ lines_text (run R (run_state R s (octets_taken ++ q)) left))
       (run_text_on R s octets_taken q)),
 )

@@ -19,21 +19,25 @@ use Rattle.giop_stream.proofs.CodeSteps.EngineAlive.{sound}
 
 -- ---- Among lines whose classes rise, each class has one line at most.
 
-passed : (test : Line → Bool) (n : ℕ) → ((l : Line) → test l ≡ true → rank_of l ≡ n) → (k : Line) → n < rank_of k → test k ≡ false
+passed : (test : Line → Bool) (n : ℕ) → ((l : Line) → test l ≡ true → rank_of l ≡ n) → (k : Line) →
+    n < rank_of k → test k ≡ false
 passed test n h k less = go (test k) refl
   where
     go : (b : Bool) → test k ≡ b → b ≡ false
     go true e = absurd (let same = h k e in omega arith)
     go false e = refl
 
-one_at_most : (test : Line → Bool) (n : ℕ) → ((l : Line) → test l ≡ true → rank_of l ≡ n) → (ls : List Line) → Rises ls → length (filter test ls) ≤ 1
+one_at_most : (test : Line → Bool) (n : ℕ) → ((l : Line) → test l ≡ true → rank_of l ≡ n) →
+    (ls : List Line) → Rises ls → length (filter test ls) ≤ 1
 one_at_most test n h [] r = omega arith
 one_at_most test n h (l ∷ ls) r = go (test l) refl (one_at_most test n h ls r.1)
   where
     none : rank_of l ≡ n → filter test ls ≡ []
-    none same = filter_drops test ls (each_weaker (λ k. rank_of l < rank_of k) (λ k. test k ≡ false) (λ k less. passed test n h k (omega arith)) ls r.0)
+    none same = filter_drops test ls (each_weaker (λ k. rank_of l < rank_of k) (λ k. test k ≡ false)
+        (λ k less. passed test n h k (omega arith)) ls r.0)
 
-    go : (b : Bool) → test l ≡ b → length (filter test ls) ≤ 1 → length (cond b (l ∷ filter test ls) (filter test ls)) ≤ 1
+    go : (b : Bool) → test l ≡ b → length (filter test ls) ≤ 1 →
+        length (cond b (l ∷ filter test ls) (filter test ls)) ≤ 1
     go true e later = rw (none (h l e)) (omega arith)
     go false e later = later
 
@@ -45,7 +49,8 @@ record More (R : Rules) (p : List ℕ) (x : ℕ) : Type 0 where
   here : Each (λ l. l.place ≡ suc (length p)) more
   rises : Rises more
 
-more_of : (R : Rules) (p : List ℕ) (x : ℕ) (c : Cut) (ls : List Line) (tracked : Tracked) → Adds R p (p ++ x ∷ []) c ls tracked → More R p x
+more_of : (R : Rules) (p : List ℕ) (x : ℕ) (c : Cut) (ls : List Line) (tracked : Tracked) →
+    Adds R p (p ++ x ∷ []) c ls tracked → More R p x
 more_of R p x c ls tracked h = record { more = ls; grows = h.lines; here = h.here; rises = h.rises }
 
 more_by : (R : Rules) (p : List ℕ) (x : ℕ) (o : Octet) → Then R p x o → More R p x
@@ -68,7 +73,8 @@ is_ranked k c l h = eqb-true (rank_of l) (rank c) (and_parts (l.place == k) (has
 elsewhere : (k : ℕ) (c : Class) (l : Line) → (l.place ≡ k → ⊥) → is_at k c l ≡ false
 elsewhere k c l h = rw (ne_eqb l.place k h) refl
 
-apart_more : (R : Rules) → IsCausal R.reading → IsStreamable R.reading → (p : List ℕ) (x : ℕ) → Apart R p → Apart R (p ++ x ∷ [])
+apart_more : (R : Rules) → IsCausal R.reading → IsStreamable R.reading → (p : List ℕ) (x : ℕ) →
+    Apart R p → Apart R (p ++ x ∷ [])
 apart_more R causal laws p x h =
     let a = more_by R p x _ (then_is R causal laws p x (sound R causal laws p)) in
     let old = lines R p in
@@ -77,7 +83,8 @@ apart_more R causal laws p x h =
     record {
       places = rw (a.grows, grown) (each_append (λ l. l.place ≤ suc n) old a.more
           (each_weaker (λ l. l.place ≤ n) (λ l. l.place ≤ suc n) (λ l k. omega arith) old h.places)
-          (each_weaker (λ l. l.place ≡ suc n) (λ l. l.place ≤ suc n) (λ l k. omega arith) a.more a.here));
+          (each_weaker (λ l. l.place ≡ suc n) (λ l. l.place ≤ suc n) (λ l k. omega arith) a.more
+          a.here));
       one = λ k c. rw (a.grows, filter-append (is_at k c) old a.more) (elim (cases_eq k (suc n)) [
         | inl now ↦
             rw (filter_drops (is_at k c) old
@@ -96,8 +103,14 @@ apart_more R causal laws p x h =
     }
 
 apart_start : (R : Rules) → Apart R []
-apart_start R = record { places = rw (lines_nothing R) tt; one = λ k c. rw (lines_nothing R) (omega arith) }
+apart_start R = record {
+  places = rw (lines_nothing R) tt;
+  one =
+      λ k c. rw (lines_nothing R) (omega arith);
+}
 
-pub one_of_class : (R : Rules) → IsCausal R.reading → IsStreamable R.reading → (p : List ℕ) (k : ℕ) (c : Class)
+pub one_of_class : (R : Rules) → IsCausal R.reading → IsStreamable R.reading →
+    (p : List ℕ) (k : ℕ) (c : Class)
     → length (filter (λ l. (l.place == k) && has_class c l) (lines R p)) ≤ 1
-one_of_class R causal laws p = (by_growth (Apart R) (apart_start R) (λ p x. apart_more R causal laws p x) p).one
+one_of_class R causal laws p = (by_growth (Apart R) (apart_start R)
+    (λ p x. apart_more R causal laws p x) p).one

@@ -1,4 +1,5 @@
--- Where the lines of an octet come in the order of their classes, its events may be taken one after the other.
+-- Where the lines of an octet come in the order of their classes, its events may be taken one after
+-- the other.
 use Rattle.std.proofs.Common.{◌≡◌, ℕ, ◌<◌, ◌≤◌, Bool, true, false, cond, not, List, [], ◌∷◌, ◌++◌, refl, sym, ap, ◌∙◌, append_assoc, Option, Some, None, arith}
 use Rattle.std.specs.Prelude.{◌==◌, if◌then◌else◌, ◌||◌, flat_map, option_map}
 use Rattle.std.specs.List.{filter, list_any, AllByRecursion as Each}
@@ -30,9 +31,14 @@ Rises (l ∷ ls) = Each (λ k. rank_of l < rank_of k) ls × Rises ls
 
 pub rises_ordered : (ls : List Line) → Rises ls → Ordered ls
 rises_ordered [] h = tt
-rises_ordered (l ∷ ls) h = (each_weaker (λ k. rank_of l < rank_of k) (λ k. rank_of l ≤ rank_of k) (λ k i. omega arith) ls h.0, rises_ordered ls h.1)
+rises_ordered (l ∷ ls) h = (
+  each_weaker (λ k. rank_of l < rank_of k) (λ k. rank_of l ≤ rank_of k)
+      (λ k i. omega arith) ls h.0,
+  rises_ordered ls h.1,
+)
 
-rises_if : (b : Bool) (l : Line) (one two : List Line) → Each (λ k. rank_of l < rank_of k) two → Rises one → Rises two → Rises (if b then one else l ∷ two)
+rises_if : (b : Bool) (l : Line) (one two : List Line) → Each (λ k. rank_of l < rank_of k) two →
+    Rises one → Rises two → Rises (if b then one else l ∷ two)
 rises_if true l one two h j k = j
 rises_if false l one two h j k = (h, k)
 
@@ -42,7 +48,8 @@ rises_standing over [] h = tt
 rises_standing over (l ∷ ls) h =
     let later : ℕ → Bool = λ i. over i || is_last_of i l in
     rises_if (over l.number) l (up_to_last_line over ls) (up_to_last_line later ls)
-    (standing_each (λ k. rank_of l < rank_of k) later ls h.0) (rises_standing over ls h.1) (rises_standing later ls h.1)
+    (standing_each (λ k. rank_of l < rank_of k) later ls h.0) (rises_standing over ls h.1)
+    (rises_standing later ls h.1)
 
 -- in order, and no two of one class among those that are written
 pub record Fine (ls : List Line) : Type 0 where
@@ -60,40 +67,53 @@ Rise (c ∷ cs) = Each (λ d. rank c < rank d) cs × Rise cs
 has_false : (c : Class) (l : Line) → (rank_of l ≡ rank c → ⊥) → has_class c l ≡ false
 has_false c l h = ne_eqb (rank_of l) (rank c) h
 
-lower_none : (c : Class) (l : Line) (ls : List Line) → rank c < rank_of l → Each (λ k. rank_of l ≤ rank_of k) ls → filter (has_class c) ls ≡ []
+lower_none : (c : Class) (l : Line) (ls : List Line) → rank c < rank_of l →
+    Each (λ k. rank_of l ≤ rank_of k) ls → filter (has_class c) ls ≡ []
 lower_none c l ls h k =
-    filter_drops (has_class c) ls (each_weaker (λ k. rank_of l ≤ rank_of k) (λ k. has_class c k ≡ false) (λ k j. has_false c k (λ e. omega arith)) ls k)
+    filter_drops (has_class c) ls (each_weaker (λ k. rank_of l ≤ rank_of k)
+    (λ k. has_class c k ≡ false) (λ k j. has_false c k (λ e. omega arith)) ls k)
 
 higher_none : (cs : List Class) (l : Line) (ls : List Line) → Each (λ d. rank_of l < rank d) cs
     → flat_map (λ c. filter (has_class c) (l ∷ ls)) cs ≡ flat_map (λ c. filter (has_class c) ls) cs
 higher_none [] l ls h = refl
-higher_none (c ∷ cs) l ls h = let less = h.0 in rw (has_false c l (λ e. omega arith), higher_none cs l ls h.1) refl
+higher_none (c ∷ cs) l ls h = let less = h.0 in
+    rw (has_false c l (λ e. omega arith), higher_none cs l ls h.1) refl
 
-member_rank : (n : ℕ) (c : Class) (cs : List Class) → Each (λ d. rank c < rank d) cs → list_any (λ d. n == rank d) cs ≡ true → rank c < n
+member_rank : (n : ℕ) (c : Class) (cs : List Class) → Each (λ d. rank c < rank d) cs →
+    list_any (λ d. n == rank d) cs ≡ true → rank c < n
 member_rank n c [] h k = absurd cc
 member_rank n c (d ∷ cs) h k = go (n == rank d) refl k (member_rank n c cs h.1)
   where
-    go : (b : Bool) → (n == rank d) ≡ b → (b || list_any (λ d. n == rank d) cs) ≡ true → (list_any (λ d. n == rank d) cs ≡ true → rank c < n) → rank c < n
+    go : (b : Bool) → (n == rank d) ≡ b → (b || list_any (λ d. n == rank d) cs) ≡ true →
+        (list_any (λ d. n == rank d) cs ≡ true → rank c < n) → rank c < n
     go true e j ih = let same = eqb-true n (rank d) e in let less = h.0 in omega arith
     go false e j ih = ih j
 
-first_by : (c : Class) (cs : List Class) (l : Line) (ls : List Line) (b : Bool) → (rank_of l == rank c) ≡ b
+first_by : (c : Class) (cs : List Class) (l : Line) (ls : List Line) (b : Bool) →
+    (rank_of l == rank c) ≡ b
     → Each (λ k. rank_of l ≤ rank_of k) ls → Each (λ d. rank c < rank d) cs
     → (b || list_any (λ d. rank_of l == rank d) cs) ≡ true
-    → (list_any (λ d. rank_of l == rank d) cs ≡ true → flat_map (λ c. filter (has_class c) (l ∷ ls)) cs ≡ l ∷ flat_map (λ c. filter (has_class c) ls) cs)
-    → cond b (l ∷ filter (has_class c) ls) (filter (has_class c) ls) ++ flat_map (λ c. filter (has_class c) (l ∷ ls)) cs
+    → (list_any (λ d. rank_of l == rank d) cs ≡ true →
+    flat_map (λ c. filter (has_class c) (l ∷ ls)) cs
+    ≡ l ∷ flat_map (λ c. filter (has_class c) ls) cs)
+    → cond b (l ∷ filter (has_class c) ls) (filter (has_class c) ls)
+    ++ flat_map (λ c. filter (has_class c) (l ∷ ls)) cs
     ≡ l ∷ (filter (has_class c) ls ++ flat_map (λ c. filter (has_class c) ls) cs)
 first_by c cs l ls true e h r m ih =
     let same = eqb-true (rank_of l) (rank c) e in
-    rw (higher_none cs l ls (each_weaker (λ d. rank c < rank d) (λ d. rank_of l < rank d) (λ d k. omega arith) cs r)) refl
+    rw (higher_none cs l ls (each_weaker (λ d. rank c < rank d) (λ d. rank_of l < rank d)
+    (λ d k. omega arith) cs r)) refl
 first_by c cs l ls false e h r m ih =
     let less = member_rank (rank_of l) c cs r m in
     rw (lower_none c l ls less h, ih m) refl
 
-first_stays : (cs : List Class) (l : Line) (ls : List Line) → Rise cs → Each (λ k. rank_of l ≤ rank_of k) ls → list_any (λ d. rank_of l == rank d) cs ≡ true
-    → flat_map (λ c. filter (has_class c) (l ∷ ls)) cs ≡ l ∷ flat_map (λ c. filter (has_class c) ls) cs
+first_stays : (cs : List Class) (l : Line) (ls : List Line) → Rise cs →
+    Each (λ k. rank_of l ≤ rank_of k) ls → list_any (λ d. rank_of l == rank d) cs ≡ true
+    → flat_map (λ c. filter (has_class c) (l ∷ ls)) cs
+    ≡ l ∷ flat_map (λ c. filter (has_class c) ls) cs
 first_stays [] l ls r h m = absurd cc
-first_stays (c ∷ cs) l ls r h m = first_by c cs l ls (rank_of l == rank c) refl h r.0 m (λ k. first_stays cs l ls r.1 h k)
+first_stays (c ∷ cs) l ls r h m = first_by c cs l ls (rank_of l == rank c) refl h r.0 m
+    (λ k. first_stays cs l ls r.1 h k)
 
 a_class : (c : Class) → list_any (λ d. rank c == rank d) classes ≡ true
 unfolding classes
@@ -112,13 +132,15 @@ no_lines (c ∷ cs) = no_lines cs
 pub ordered_stays : (ls : List Line) → Ordered ls → by_class ls ≡ ls
 unfolding by_class
 ordered_stays [] h = no_lines classes
-ordered_stays (l ∷ ls) h = first_stays classes l ls classes_rise h.0 (a_class (class_of l.content)) ∙ ap (λ (ks : List Line). l ∷ ks) (ordered_stays ls h.1)
+ordered_stays (l ∷ ls) h = first_stays classes l ls classes_rise h.0 (a_class (class_of l.content))
+    ∙ ap (λ (ks : List Line). l ∷ ks) (ordered_stays ls h.1)
 
 pub ordered_right : (xs ys : List Line) → Ordered (xs ++ ys) → Ordered ys
 ordered_right [] ys h = h
 ordered_right (x ∷ xs) ys h = ordered_right xs ys h.1
 
-filtered_by : (q : Line → Bool) (l : Line) (ls : List Line) (b : Bool) → Each (λ k. rank_of l ≤ rank_of k) ls
+filtered_by : (q : Line → Bool) (l : Line) (ls : List Line) (b : Bool) →
+    Each (λ k. rank_of l ≤ rank_of k) ls
     → Ordered (filter q ls) → Ordered (cond b (l ∷ filter q ls) (filter q ls))
 filtered_by q l ls true h k = (each_filter (λ k. rank_of l ≤ rank_of k) q ls h, k)
 filtered_by q l ls false h k = k
@@ -133,27 +155,33 @@ ordered_filter q (l ∷ ls) h = filtered_by q l ls (q l) h.0 (ordered_filter q l
 restricted : (ℕ → Bool) → OctetsByNumber → OctetsByNumber
 restricted over K i = if over i then None else K i
 
-kept_filter : (R : MessageReader) (over : ℕ → Bool) (e : Event) (o : Option (List ℕ)) (b : Bool) → over e.subject.number ≡ b
+kept_filter : (R : MessageReader) (over : ℕ → Bool) (e : Event) (o : Option (List ℕ)) (b : Bool) →
+    over e.subject.number ≡ b
     → filter (λ l. not (over l.number)) (lines_for R e o) ≡ lines_for R e (if b then None else o)
 unfolding lines_for
 kept_filter R over e o true h =
     filter_drops (λ l. not (over l.number)) (lines_for R e o)
-    (each_weaker (λ l. over l.number ≡ true) (λ l. not (over l.number) ≡ false) (λ l k. rw k refl) (lines_for R e o)
+    (each_weaker (λ l. over l.number ≡ true) (λ l. not (over l.number) ≡ false) (λ l k. rw k refl)
+    (lines_for R e o)
     (event_lines_number R (λ n. over n ≡ true) e o h))
 kept_filter R over e o false h =
     filter_keeps (λ l. not (over l.number)) (lines_for R e o)
-    (each_weaker (λ l. over l.number ≡ false) (λ l. not (over l.number) ≡ true) (λ l k. rw k refl) (lines_for R e o)
+    (each_weaker (λ l. over l.number ≡ false) (λ l. not (over l.number) ≡ true) (λ l k. rw k refl)
+    (lines_for R e o)
     (event_lines_number R (λ n. over n ≡ false) e o h))
 
-restricted_with : (over : ℕ → Bool) (K : OctetsByNumber) (es : List Event) (i : ℕ) → restricted over (kept_with K es) i ≡ kept_with (restricted over K) es i
+restricted_with : (over : ℕ → Bool) (K : OctetsByNumber) (es : List Event) (i : ℕ) →
+    restricted over (kept_with K es) i ≡ kept_with (restricted over K) es i
 unfolding restricted kept_with
 restricted_with over K es i = go (over i)
   where
-    go : (b : Bool) → (if b then None else option_map (λ xs. xs ++ joined i es) (K i)) ≡ option_map (λ xs. xs ++ joined i es) (if b then None else K i)
+    go : (b : Bool) → (if b then None else option_map (λ xs. xs ++ joined i es) (K i))
+        ≡ option_map (λ xs. xs ++ joined i es) (if b then None else K i)
     go true = refl
     go false = refl
 
-same_all_lines : (R : MessageReader) (f g : OctetsByNumber) (es : List Event) → ((i : ℕ) → f i ≡ g i) → all_lines R f es ≡ all_lines R g es
+same_all_lines : (R : MessageReader) (f g : OctetsByNumber) (es : List Event) →
+    ((i : ℕ) → f i ≡ g i) → all_lines R f es ≡ all_lines R g es
 same_all_lines R f g es h = ap (λ (k : OctetsByNumber). all_lines R k es) (λ j i. h i j)
 
 all_lines_filter : (R : MessageReader) (over : ℕ → Bool) (K : OctetsByNumber) (es : List Event)
@@ -161,18 +189,25 @@ all_lines_filter : (R : MessageReader) (over : ℕ → Bool) (K : OctetsByNumber
 unfolding all_lines restricted
 all_lines_filter R over K [] = refl
 all_lines_filter R over K (e ∷ es) =
-    filter-append (λ l. not (over l.number)) (lines_for R e (K e.subject.number)) (all_lines R (kept_with K (e ∷ [])) es)
-    ∙ rw (kept_filter R over e (K e.subject.number) (over e.subject.number) refl, all_lines_filter R over (kept_with K (e ∷ [])) es)
-    (ap (λ (ls : List Line). lines_for R e (if over e.subject.number then None else K e.subject.number) ++ ls)
+    filter-append (λ l. not (over l.number)) (lines_for R e (K e.subject.number))
+    (all_lines R (kept_with K (e ∷ [])) es)
+    ∙ rw (
+      kept_filter R over e (K e.subject.number) (over e.subject.number) refl,
+      all_lines_filter R over (kept_with K (e ∷ [])) es,
+    )
+    (ap (λ (ls : List Line). lines_for R e
+    (if over e.subject.number then None else K e.subject.number) ++ ls)
     (same_all_lines R (λ i. if over i then None else kept_with K (e ∷ []) i)
-    (kept_with (λ i. if over i then None else K i) (e ∷ [])) es (λ i. restricted_with over K (e ∷ []) i)))
+    (kept_with (λ i. if over i then None else K i) (e ∷ [])) es
+    (λ i. restricted_with over K (e ∷ []) i)))
 
 -- ---- The effects, one event after the other.
 
 pub record AreEffects (R : MessageReader) (c : Tracked) (es : List Event) : Type 0 where
   pub lines : sorted_lines R c.known es ≡ (effects R c es).lines
   pub still_open : opened c.still_open es ≡ (effects R c es).tracked.still_open
-  pub known : (i : ℕ) → kept_after (kept_with c.known es) (sorted_lines R c.known es) i ≡ (effects R c es).tracked.known i
+  pub known : (i : ℕ) → kept_after (kept_with c.known es) (sorted_lines R c.known es) i
+      ≡ (effects R c es).tracked.known i
 
 nothing_kept : (o : Option (List ℕ)) → option_map (λ xs. xs ++ []) o ≡ o
 nothing_kept None = refl
@@ -180,7 +215,8 @@ nothing_kept (Some xs) = ap Some (append-nil xs)
 
 kept_by : (a b : Bool) (o : Option (List ℕ)) (xs ys : List ℕ)
     → (if a || b then None else option_map (λ zs. zs ++ (xs ++ ys)) o)
-    ≡ (if b then None else option_map (λ zs. zs ++ ys) (if a then None else option_map (λ zs. zs ++ xs) o))
+    ≡ (if b then None else option_map (λ zs. zs ++ ys)
+    (if a then None else option_map (λ zs. zs ++ xs) o))
 kept_by true true o xs ys = refl
 kept_by true false o xs ys = refl
 kept_by false true o xs ys = refl
@@ -192,23 +228,29 @@ or_none true = refl
 or_none false = refl
 
 -- the lines of the first event, then those of the others by what is kept after it
-split_lines : (R : MessageReader) (K : OctetsByNumber) (e : Event) (es : List Event) → Ordered (all_lines R K (e ∷ es))
-    → sorted_lines R K (e ∷ es) ≡ lines_at R K e ++ sorted_lines R (kept_after (kept_with K (e ∷ [])) (lines_at R K e)) es
+split_lines : (R : MessageReader) (K : OctetsByNumber) (e : Event) (es : List Event) →
+    Ordered (all_lines R K (e ∷ es))
+    → sorted_lines R K (e ∷ es) ≡ lines_at R K e
+    ++ sorted_lines R (kept_after (kept_with K (e ∷ [])) (lines_at R K e)) es
 unfolding sorted_lines lines_at all_lines kept_after restricted
 split_lines R K e es h =
     let A = lines_for R e (K e.subject.number) in
     let B = all_lines R (kept_with K (e ∷ [])) es in
     let over : ℕ → Bool = λ i. list_any (is_last_of i) (up_to_last_line (λ i. false) A) in
-    let later : all_lines R (λ i. if over i then None else kept_with K (e ∷ []) i) es ≡ filter (λ l. not (over l.number)) B =
+    let later : all_lines R (λ i. if over i then None else kept_with K (e ∷ []) i) es
+    ≡ filter (λ l. not (over l.number)) B =
     sym (all_lines_filter R over (kept_with K (e ∷ [])) es) in
-    let sorted : by_class (filter (λ l. not (over l.number)) B) ≡ filter (λ l. not (over l.number)) B =
+    let sorted : by_class (filter (λ l. not (over l.number)) B)
+    ≡ filter (λ l. not (over l.number)) B =
     ordered_stays (filter (λ l. not (over l.number)) B)
     (ordered_filter (λ l. not (over l.number)) B (ordered_right A B h)) in
     rw (ordered_stays (A ++ B) h, later, sorted)
-    (standing_append (λ i. false) A B ∙ ap (λ (ls : List Line). up_to_last_line (λ i. false) A ++ ls)
+    (standing_append (λ i. false) A B ∙ ap (λ (ls : List Line). up_to_last_line (λ i. false) A
+    ++ ls)
     (standing_drops over over (λ i. false) B (λ i. or_none (over i))))
 
-later_ordered : (R : MessageReader) (K : OctetsByNumber) (e : Event) (es : List Event) → Ordered (all_lines R K (e ∷ es))
+later_ordered : (R : MessageReader) (K : OctetsByNumber) (e : Event) (es : List Event) →
+    Ordered (all_lines R K (e ∷ es))
     → Ordered (all_lines R (kept_after (kept_with K (e ∷ [])) (lines_at R K e)) es)
 unfolding all_lines kept_after restricted
 later_ordered R K e es h =
@@ -225,17 +267,29 @@ nothing_else : (K : OctetsByNumber) (i : ℕ) → kept_after (kept_with K []) []
 unfolding kept_after kept_with joined
 nothing_else K i = nothing_kept (K i)
 
-pub are_effects : (R : MessageReader) (c : Tracked) (es : List Event) → Ordered (all_lines R c.known es) → AreEffects R c es
+pub are_effects : (R : MessageReader) (c : Tracked) (es : List Event) →
+    Ordered (all_lines R c.known es) → AreEffects R c es
 unfolding effects opened tracked_at
-are_effects R c [] h = record { lines = nothing_now R c.known; still_open = refl; known = λ i. rw (nothing_now R c.known) (nothing_else c.known i) }
+are_effects R c [] h = record {
+  lines = nothing_now R c.known;
+  still_open = refl;
+  known =
+      λ i. rw (nothing_now R c.known) (nothing_else c.known i);
+}
 are_effects R c (e ∷ es) h =
     let now = tracked_at R c e in
     let ih = are_effects R now es (later_ordered R c.known e es h) in
     let split = split_lines R c.known e es h in
-    record { lines = split ∙ rw ih.lines refl; still_open = ih.still_open; known = λ i. rw split (one i) ∙ ih.known i }
+    record {
+      lines = split ∙ rw ih.lines refl;
+      still_open = ih.still_open;
+      known =
+          λ i. rw split (one i) ∙ ih.known i;
+    }
   where
     one : (i : ℕ) → kept_after (kept_with c.known (e ∷ es))
-        (lines_at R c.known e ++ sorted_lines R (kept_after (kept_with c.known (e ∷ [])) (lines_at R c.known e)) es) i ≡ kept_after
+        (lines_at R c.known e ++ sorted_lines R
+        (kept_after (kept_with c.known (e ∷ [])) (lines_at R c.known e)) es) i ≡ kept_after
         (kept_with (kept_after (kept_with c.known (e ∷ [])) (lines_at R c.known e)) es)
         (sorted_lines R (kept_after (kept_with c.known (e ∷ [])) (lines_at R c.known e)) es) i
     one i = unfold kept_after kept_with in
@@ -245,5 +299,6 @@ are_effects R c (e ∷ es) h =
           joined_append i (e ∷ []) es,
         )
         (kept_by (list_any (is_last_of i) (lines_at R c.known e))
-        (list_any (is_last_of i) (sorted_lines R (kept_after (kept_with c.known (e ∷ [])) (lines_at R c.known e)) es)) (c.known i)
+        (list_any (is_last_of i) (sorted_lines R
+        (kept_after (kept_with c.known (e ∷ [])) (lines_at R c.known e)) es)) (c.known i)
         (joined i (e ∷ [])) (joined i es))

@@ -1,4 +1,5 @@
--- What is written from a checkpoint on, together with what was written before, is the whole text; and how many octets a
+-- What is written from a checkpoint on, together with what was written before, is the whole text;
+-- and how many octets a
 -- checkpoint has at most.
 use Rattle.std.proofs.Common.{◌≡◌, Bool, true, false, ℕ, ◌≤◌, List, [], ◌++◌, length, refl, sym, ap, subst, ◌∙◌, append_assoc, append-nil, length-drop, arith}
 use Rattle.std.specs.Prelude.{◌≢◌, Result, Ok, Err, IfOk, IfErr}
@@ -34,12 +35,15 @@ remains R causal laws p q =
     ∙ ap (λ (xs : List ℕ). xs ++ closing R (p ++ q)) (sym (text_adds R causal laws p q))
 
 -- the finish, after what follows the front was written
-pub going_on : {A : Type 0} (R : Rules) (p q : List ℕ) (x y z : OutLog) (ended : Result A Stop) → Wrote x y (added R p q) →
+pub going_on : {A : Type 0} (R : Rules) (p q : List ℕ) (x y z : OutLog) (ended : Result A Stop) →
+    Wrote x y (added R p q) →
     StopWrites ended y z (closing R (p ++ q)) → IfErr ended (λ why. why ≢ stop.Failed) →
     StopWrites ended x z (remaining R p q)
 unfolding remaining
-going_on R p q x y z (Ok t) wrote ends sound = wrote-append x y z (added R p q) (closing R (p ++ q)) wrote ends
-going_on R p q x y z (Err (stop.Out f)) wrote ends sound = wrote-front x y z (added R p q) (closing R (p ++ q)) wrote ends
+going_on R p q x y z (Ok t) wrote ends sound =
+    wrote-append x y z (added R p q) (closing R (p ++ q)) wrote ends
+going_on R p q x y z (Err (stop.Out f)) wrote ends sound =
+    wrote-front x y z (added R p q) (closing R (p ++ q)) wrote ends
 going_on R p q x y z (Err stop.Failed) wrote ends sound = absurd (sound refl)
 
 -- a put failed before the end
@@ -47,33 +51,40 @@ pub stopped_before : (A B : Type 0) (R : Rules) (p q : List ℕ) (x y : OutLog) 
     StopWrites {A = A} (Err why) x y (added R p q) → why ≢ stop.Failed →
     StopWrites {A = B} (Err why) x y (remaining R p q)
 unfolding remaining
-stopped_before A B R p q x y (stop.Out f) front sound = front-append x y (added R p q) (closing R (p ++ q)) front
+stopped_before A B R p q x y (stop.Out f) front sound =
+    front-append x y (added R p q) (closing R (p ++ q)) front
 stopped_before A B R p q x y stop.Failed front sound = absurd (sound refl)
 
 -- a call of an engine that isn't failed never answers that it was
-pub never_failed : {A : Type 0} (r : Result A Stop) (failed : Bool) → (r ≡ Err stop.Failed → failed ≡ true) →
+pub never_failed : {A : Type 0} (r : Result A Stop) (failed : Bool) →
+    (r ≡ Err stop.Failed → failed ≡ true) →
     failed ≡ false → IfErr r (λ why. why ≢ stop.Failed)
 never_failed (Ok x) failed only sound = tt
 never_failed (Err why) failed only sound = λ is. false≢true (sym sound ∙ only (ap Err is))
 
-pub leaves_sound : (A : Type 0) (why : Stop) (before after : EngineView) → Leaves {A = A} (Err why) before after →
+pub leaves_sound : (A : Type 0) (why : Stop) (before after : EngineView) →
+    Leaves {A = A} (Err why) before after →
     before.failed ≡ false → why ≢ stop.Failed
 leaves_sound A (stop.Out f) before after leaves sound = λ is. absurd cc
 leaves_sound A stop.Failed before after leaves sound = λ is. false≢true (sym sound ∙ leaves.0)
 
 -- the rules of an engine with this table and list, in which so many messages may be open
-pub rules_is : (e : EngineView) (C : Table) (l : RequestTable) (n : ℕ) → e.table ≡ C → e.request_table ≡ l → e.most ≡ n →
+pub rules_is : (e : EngineView) (C : Table) (l : RequestTable) (n : ℕ) → e.table ≡ C →
+    e.request_table ≡ l → e.most ≡ n →
     rules_of e ≡ rules C l n
 rules_is e C l n table request_table most = rw (table, request_table, most) refl
 
 -- what was written by these rules was written by equal ones
-pub closing_by : {A : Type 0} (ended : Result A Stop) (x y : OutLog) (Q R : Rules) (p : List ℕ) → Q ≡ R →
+pub closing_by : {A : Type 0} (ended : Result A Stop) (x y : OutLog) (Q R : Rules) (p : List ℕ) →
+    Q ≡ R →
     StopWrites ended x y (closing Q p) → StopWrites ended x y (closing R p)
 closing_by ended x y Q R p same writes = subst (λ S. StopWrites ended x y (closing S p)) same writes
 
-pub remaining_by : {A : Type 0} (ended : Result A Stop) (x y : OutLog) (Q R : Rules) (p q : List ℕ) → Q ≡ R →
+pub remaining_by : {A : Type 0} (ended : Result A Stop) (x y : OutLog) (Q R : Rules)
+    (p q : List ℕ) → Q ≡ R →
     StopWrites ended x y (remaining Q p q) → StopWrites ended x y (remaining R p q)
-remaining_by ended x y Q R p q same writes = subst (λ S. StopWrites ended x y (remaining S p q)) same writes
+remaining_by ended x y Q R p q same writes =
+    subst (λ S. StopWrites ended x y (remaining S p q)) same writes
 
 pub final_by : (ended : Result Totals Stop) (Q R : Rules) (p : List ℕ) → Q ≡ R →
     IfOk ended (λ t. t ≡ final Q p) → IfOk ended (λ t. t ≡ final R p)
@@ -81,17 +92,24 @@ final_by ended Q R p same totals = subst (λ S. IfOk ended (λ t. t ≡ final S 
 
 fixed_long : (layout : Layout) (f : Fixed) → HasRange layout f → length (fixed_octets layout f) ≡ 96
 fixed_long layout f range =
-    let front = front_of layout f.counts f (fixed_octets layout f) [] refl range (sym (append-nil (fixed_octets layout f))) in
+    let front = front_of layout f.counts f (fixed_octets layout f) [] refl range
+    (sym (append-nil (fixed_octets layout f))) in
     omega (arith, front.ours.0, ap length front.rest, length-drop 96 (fixed_octets layout f))
 
-pub spells_within : (octets p : List ℕ) (C : Table) (l : RequestTable) (most : ℕ) → Spells octets C l most p →
+pub spells_within : (octets p : List ℕ) (C : Table) (l : RequestTable) (most : ℕ) →
+    Spells octets C l most p →
     length octets ≤ checkpoint_limit most (depth_of C.types)
 spells_within octets p C l most s =
-    let whole : IsPutWhole s.layout C l s.memory octets = record { entries = s.entries; are = s.entries_are; put = s.octets_are } in
+    let whole : IsPutWhole s.layout C l s.memory octets =
+    record { entries = s.entries; are = s.entries_are; put = s.octets_are } in
     let room : HasRoom s.layout C l s.memory = record {
       fixed = fixed_long s.layout _ (fixed_range octets p C l most s);
       allows = rw s.limit s.allows;
       ready = s.ready;
     } in
     let few = few_slots octets p C l most s in
-    omega (arith, whole_long s.layout C l s.memory octets whole room, whole_within s.layout C l s.memory most octets whole room few)
+    omega (
+      arith,
+      whole_long s.layout C l s.memory octets whole room,
+      whole_within s.layout C l s.memory most octets whole room few,
+    )

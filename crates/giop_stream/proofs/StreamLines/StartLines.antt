@@ -30,32 +30,39 @@ none_count ls h = rw (filter_drops (λ l. is_start l.content) ls h) refl
 pub start_append : (xs ys : List Line) → start_count (xs ++ ys) ≡ start_count xs + start_count ys
 unfolding start_count
 start_append xs ys =
-    rw (filter-append (λ l. is_start l.content) xs ys) (length-append (filter (λ l. is_start l.content) xs) (filter (λ l. is_start l.content) ys))
+    rw (filter-append (λ l. is_start l.content) xs ys)
+    (length-append (filter (λ l. is_start l.content) xs) (filter (λ l. is_start l.content) ys))
 
 -- a line that a reader gives is no start line
 said_none : (e : Event) (s : LineClass) (text : List ℕ) → NoStart (line e (Said s text))
 unfolding NoStart line
 said_none e s text = refl
 
-takes_none : (R : MessageReader) (e : Event) (so_far all : List ℕ) (x : ℕ) → Each NoStart (lines_of_event R e so_far all (Takes x))
+takes_none : (R : MessageReader) (e : Event) (so_far all : List ℕ) (x : ℕ) →
+    Each NoStart (lines_of_event R e so_far all (Takes x))
 unfolding lines_of_event
 takes_none R e so_far all x =
     each_map NoStart (λ r. line e (Said r.line_class r.text)) (λ r. said_none e r.line_class r.text)
     (filter (λ r. r.at == suc (length so_far)) (R.reads e.subject.number e.subject.header all))
 
-closes_none : (R : MessageReader) (e : Event) (so_far all : List ℕ) → Each NoStart (lines_of_event R e so_far all Closes)
+closes_none : (R : MessageReader) (e : Event) (so_far all : List ℕ) →
+    Each NoStart (lines_of_event R e so_far all Closes)
 unfolding lines_of_event
-closes_none R e so_far all = each_map NoStart (λ l. line e (Said l.0 l.1)) (λ l. said_none e l.0 l.1) (R.closes e.subject.number e.subject.header so_far)
+closes_none R e so_far all = each_map NoStart (λ l. line e (Said l.0 l.1))
+    (λ l. said_none e l.0 l.1) (R.closes e.subject.number e.subject.header so_far)
 
 Quiet : Event → Type 0
-Quiet e = (R : MessageReader) (so_far all : List ℕ) → Each NoStart (lines_of_event R e so_far all e.what)
+Quiet e = (R : MessageReader) (so_far all : List ℕ) →
+    Each NoStart (lines_of_event R e so_far all e.what)
 
-kept_none : (R : MessageReader) (e : Event) (o : Option (List ℕ)) → Quiet e → Each NoStart (lines_for R e o)
+kept_none : (R : MessageReader) (e : Event) (o : Option (List ℕ)) → Quiet e →
+    Each NoStart (lines_for R e o)
 unfolding lines_for Quiet
 kept_none R e None h = tt
 kept_none R e (Some xs) h = h R xs (xs ++ joined e.subject.number (e ∷ []))
 
-all_lines_none : (R : MessageReader) (K : OctetsByNumber) (es : List Event) → Each Quiet es → Each NoStart (all_lines R K es)
+all_lines_none : (R : MessageReader) (K : OctetsByNumber) (es : List Event) → Each Quiet es →
+    Each NoStart (all_lines R K es)
 unfolding all_lines
 all_lines_none R K [] h = tt
 all_lines_none R K (e ∷ es) h =
@@ -66,13 +73,15 @@ all_lines_none R K (e ∷ es) h =
 
 -- an event of this kind has no start line, whatever the message
 Calm : EventKind → Type 0
-Calm what = (R : MessageReader) (e : Event) (so_far all : List ℕ) → Each NoStart (lines_of_event R e so_far all what)
+Calm what = (R : MessageReader) (e : Event) (so_far all : List ℕ) →
+    Each NoStart (lines_of_event R e so_far all what)
 
 quiet_own : (now : Now) (what : EventKind) → Calm what → Each Quiet (own now what)
 unfolding own Quiet Calm
 quiet_own now what h = (λ R so_far all. h R _ so_far all, tt)
 
-quiet_about : (now : Now) (o : Option Open) (what : EventKind) → Calm what → Each Quiet (event_of_open now o what)
+quiet_about : (now : Now) (o : Option Open) (what : EventKind) → Calm what →
+    Each Quiet (event_of_open now o what)
 unfolding event_of_open Quiet Calm
 quiet_about now None what h = tt
 quiet_about now (Some o) what h = (λ R so_far all. h R _ so_far all, tt)
@@ -97,37 +106,49 @@ quiet_octet : (now : Now) (other : Option Open) → Each Quiet (payload_events n
 unfolding payload_events
 quiet_octet now other =
     either (Each Quiet) (is_fragment now.subject.header && nat_lt 4 now.payload_count) _ _
-    (quiet_about now other (Takes now.octet) (calm_takes now.octet)) (quiet_own now (Takes now.octet) (calm_takes now.octet))
+    (quiet_about now other (Takes now.octet) (calm_takes now.octet))
+    (quiet_own now (Takes now.octet) (calm_takes now.octet))
 
 -- the events of an octet after its first part
 later_part : (most : ℕ) → List Open → Message → List Event
-later_part most still_open m = (if length m.payload == 4 then events_at_request_id most still_open m else []) ++ (if length m.payload == size m.header then events_at_end still_open m else [])
+later_part most still_open m = (if length m.payload == 4 then events_at_request_id most still_open m
+    else []) ++ (if length m.payload == size m.header then events_at_end still_open m else [])
 
-quiet_later : (most : ℕ) (still_open : List Open) (m : Message) → Each Quiet (later_part most still_open m)
+quiet_later : (most : ℕ) (still_open : List Open) (m : Message) →
+    Each Quiet (later_part most still_open m)
 unfolding later_part
 quiet_later most still_open m =
-    of_later most (Each Quiet) (record { none = tt; both = each_append Quiet }) still_open (now_of m) (id m) (opener_of still_open m) (record {
+    of_later most (Each Quiet) (record { none = tt; both = each_append Quiet }) still_open
+    (now_of m) (id m) (opener_of still_open m) (record {
       mine = λ what later. quiet_own (now_of m) what (calm what later);
       theirs = λ what later. quiet_about (now_of m) (opener_of still_open m) what (calm what later);
     })
 
-pub none_later : (R : Rules) (K : OctetsByNumber) (still_open : List Open) (m : Message) → 0 < length m.payload → start_count (sorted_lines R.reading K (events_of_octet R.most still_open m)) ≡ 0
+pub none_later : (R : Rules) (K : OctetsByNumber) (still_open : List Open) (m : Message) →
+    0 < length m.payload → start_count (sorted_lines R.reading K
+    (events_of_octet R.most still_open m)) ≡ 0
 unfolding sorted_lines by_class events_of_octet later_part
 none_later R K still_open m h =
     let es : List Event = events_at_octet still_open m ++ later_part R.most still_open m in
-    let all_quiet : Each Quiet es = each_append Quiet (events_at_octet still_open m) (later_part R.most still_open m) (quiet_octet (now_of m) (opener_of still_open m)) (quiet_later R.most still_open m) in
+    let all_quiet : Each Quiet es = each_append Quiet (events_at_octet still_open m)
+    (later_part R.most still_open m) (quiet_octet (now_of m) (opener_of still_open m))
+    (quiet_later R.most still_open m) in
     let all : Each NoStart (all_lines R.reading K es) = all_lines_none R.reading K es all_quiet in
     rw (ne_eqb (length m.payload) 0 (λ e. omega arith))
-    (none_count (up_to_last_line (λ i. false) (flat_map (λ class. filter (has_class class) (all_lines R.reading K es)) classes))
-    (standing_each NoStart (λ i. false) (flat_map (λ class. filter (has_class class) (all_lines R.reading K es)) classes)
+    (none_count (up_to_last_line (λ i. false)
+    (flat_map (λ class. filter (has_class class) (all_lines R.reading K es)) classes))
+    (standing_each NoStart (λ i. false) (flat_map
+    (λ class. filter (has_class class) (all_lines R.reading K es)) classes)
     (classes_each NoStart (all_lines R.reading K es) classes all)))
 
 -- the start line comes before all others
 no_start_class : (ls : List Line) → Each NoStart ls → filter (has_class Start) ls ≡ []
 unfolding NoStart
-no_start_class ls h = filter_drops (has_class Start) ls (each_weaker NoStart (λ l. has_class Start l ≡ false) (λ l k. go l.content k) ls h)
+no_start_class ls h = filter_drops (has_class Start) ls
+    (each_weaker NoStart (λ l. has_class Start l ≡ false) (λ l k. go l.content k) ls h)
   where
-    go : (c : Content) → is_start c ≡ false → has_class Start (record { place = 0; number = 0; content = c }) ≡ false
+    go : (c : Content) → is_start c ≡ false →
+        has_class Start (record { place = 0; number = 0; content = c }) ≡ false
     go (Started header) k = absurd cc
     go (Said Value text) k = refl
     go (Said Call text) k = refl
@@ -139,12 +160,15 @@ no_start_class ls h = filter_drops (has_class Start) ls (each_weaker NoStart (λ
     go (Faulted fault) k = refl
     go (Stopped fault) k = refl
 
-start_first : (l : Line) (header : List ℕ) (ls : List Line) → l.content ≡ Started header → Each NoStart ls → by_class (l ∷ ls) ≡ l ∷ by_class ls
+start_first : (l : Line) (header : List ℕ) (ls : List Line) → l.content ≡ Started header →
+    Each NoStart ls → by_class (l ∷ ls) ≡ l ∷ by_class ls
 unfolding by_class classes
 start_first l header ls e h = rw (e, no_start_class ls h) refl
 
-begun : (R : MessageReader) (K : OctetsByNumber) (m : Message) (e : Event) (xs : List ℕ) (rest : List Event) → e.subject ≡ message_key m
-    → e.what ≡ Begins → K m.number ≡ Some xs → all_lines R K (e ∷ rest) ≡ line e (Started m.header) ∷ all_lines R
+begun : (R : MessageReader) (K : OctetsByNumber) (m : Message) (e : Event) (xs : List ℕ)
+    (rest : List Event) → e.subject ≡ message_key m
+    → e.what ≡ Begins → K m.number ≡ Some xs →
+    all_lines R K (e ∷ rest) ≡ line e (Started m.header) ∷ all_lines R
     (kept_with K (e ∷ [])) rest
 unfolding all_lines lines_for lines_of_event
 begun R K m e xs rest w b k = rw (w, b, k) refl
@@ -158,28 +182,40 @@ unfolding by_class
 by_class_each ls h = classes_each NoStart ls classes h
 
 one_counted : (l : Line) (ls : List Line) → is_start l.content ≡ true
-    → Each NoStart (up_to_last_line (λ i. false || is_last_of i l) ls) → start_count (up_to_last_line (λ i. false) (l ∷ ls)) ≡ 1
+    → Each NoStart (up_to_last_line (λ i. false || is_last_of i l) ls) →
+    start_count (up_to_last_line (λ i. false) (l ∷ ls)) ≡ 1
 unfolding up_to_last_line start_count
-one_counted l ls k h = rw k (ap suc (none_count (up_to_last_line (λ i. false || is_last_of i l) ls) h))
+one_counted l ls k h = rw k (ap suc (none_count (up_to_last_line (λ i. false || is_last_of i l) ls)
+    h))
 
 first_of_all : (e : Event) (header : List ℕ) (more : List Line) → Each NoStart more
     → by_class (line e (Started header) ∷ more) ≡ line e (Started header) ∷ by_class more
 unfolding line
-first_of_all e header more h = start_first (record { place = e.place; number = e.subject.number; content = Started header }) header more refl h
+first_of_all e header more h = start_first
+    (record { place = e.place; number = e.subject.number; content = Started header }) header more
+    refl h
 
-pub one_first : (R : Rules) (K : OctetsByNumber) (still_open : List Open) (m : Message) (xs : List ℕ) → m.payload ≡ []
-    → K m.number ≡ Some xs → start_count (sorted_lines R.reading K (events_of_octet R.most still_open m)) ≡ 1
+pub one_first : (R : Rules) (K : OctetsByNumber) (still_open : List Open) (m : Message)
+    (xs : List ℕ) → m.payload ≡ []
+    → K m.number ≡ Some xs → start_count (sorted_lines R.reading K
+    (events_of_octet R.most still_open m)) ≡ 1
 unfolding sorted_lines events_of_octet header_events own later_part
 one_first R K still_open m xs payload_octet known =
     let e : Event = record { place = place m; subject = message_key m; what = Begins } in
-    let rest : List Event = fault_events (now_of m) (refused m.header) ++ later_part R.most still_open m in
+    let rest : List Event = fault_events (now_of m) (refused m.header)
+    ++ later_part R.most still_open m in
     let more : List Line = all_lines R.reading (kept_with K (e ∷ [])) rest in
     let none : Each NoStart more =
-    all_lines_none R.reading (kept_with K (e ∷ [])) rest (each_append Quiet (fault_events (now_of m) (refused m.header)) (later_part R.most still_open m)
+    all_lines_none R.reading (kept_with K (e ∷ [])) rest
+    (each_append Quiet (fault_events (now_of m) (refused m.header))
+    (later_part R.most still_open m)
     (quiet_faulted (now_of m) (refused m.header)) (quiet_later R.most still_open m)) in
     let empty : length m.payload ≡ 0 = rw payload_octet refl in
-    let lines_of_messages : all_lines R.reading K (e ∷ rest) ≡ line e (Started m.header) ∷ more = begun R.reading K m e xs rest refl refl known in
-    let calm : Each NoStart (up_to_last_line (λ i. false || is_last_of i (line e (Started m.header))) (by_class more)) =
-    standing_each NoStart (λ i. false || is_last_of i (line e (Started m.header))) (by_class more) (by_class_each more none) in
+    let lines_of_messages : all_lines R.reading K (e ∷ rest) ≡ line e (Started m.header) ∷ more =
+    begun R.reading K m e xs rest refl refl known in
+    let calm : Each NoStart (up_to_last_line
+    (λ i. false || is_last_of i (line e (Started m.header))) (by_class more)) =
+    standing_each NoStart (λ i. false || is_last_of i (line e (Started m.header))) (by_class more)
+    (by_class_each more none) in
     rw (eq-eqb (length m.payload) 0 empty, lines_of_messages, first_of_all e m.header more none)
     (one_counted (line e (Started m.header)) (by_class more) (first_start e m.header) calm)

@@ -7,5 +7,8 @@ use Rattle.capture_file_tests.specs.Worked.{digit, octets}
 use Rattle.capture_file_tests.proofs.worked.worked_captures.Goals as goal
 
 pub returns : goal.returns
-unfolding two_at four_at beginning file_version file_rest record_time record_header section_length section byte_order_magic section_version block_of block_header options interface_header option_header time_unit enhanced_interface packet_of time_of enhanced_header simple_header block_end reading_from reading digit octets
+unfolding two_at four_at beginning file_version file_rest record_time record_header section_length
+    section byte_order_magic section_version block_of block_header options interface_header
+    option_header time_unit enhanced_interface packet_of time_of enhanced_header simple_header
+    block_end reading_from reading digit octets
 returns c = record { of_records = refl; of_blocks = refl; of_lengths = refl; of_end = refl }

@@ -9,7 +9,8 @@ pub returns : goal.returns
 returns c = λ S written ports blocks most octets d some few leads.
     let events = (capture_ended reader_faulted (none_known ports blocks most []) octets).events in
     let shown = c.each_stream_is_dumped.ensures.shows S written events d leads in
-    let gapless = c.no_stream_of_a_capture_has_a_gap.ensures.ended reader_faulted ports blocks most octets some few in
+    let gapless = c.no_stream_of_a_capture_has_a_gap.ensures.ended reader_faulted ports blocks most
+    octets some few in
     let ends = c.each_stream_is_dumped.ensures.ends S written events d leads
     (λ flow. (gapless.payloads, (gapless.follow flow).0, (gapless.follow flow).1)) in
     record {

@@ -8,7 +8,8 @@ use Rattle.giop_capture_program.proofs.steps.dump.Goals as goal
 pub returns-in-Ok-dump_capture-clause-dumped : goal.returns-in-Ok-dump_capture-clause-dumped
 returns-in-Ok-dump_capture-clause-dumped g c =
     let asked = c.args.asked in
-    let d = c.in-Ok-dump_capture.ensures.dumped (none_known asked.ports.items asked.pool asked.connections []) c.in-Ok-reader.ensures in
+    let d = c.in-Ok-dump_capture.ensures.dumped
+    (none_known asked.ports.items asked.pool asked.connections []) c.in-Ok-reader.ensures in
     let same = c.into_out.ensures ∙ ap (λ t. t.conversations.out.whole) c.into_listener.ensures in
     record {
       before = _;
@@ -29,6 +30,7 @@ returns-in-Ok-dump_capture-clause-dumped g c =
           (d.last S written begins);
       streams = λ S written begins.
           let h = d.last S written begins in
-          c.each_stream_of_a_capture_is_dumped.ensures S written asked.ports.items asked.pool asked.connections d.whole.read h.dump
+          c.each_stream_of_a_capture_is_dumped.ensures S written asked.ports.items asked.pool
+          asked.connections d.whole.read h.dump
           asked.connections_range.0 asked.connections_range.1 h.leads;
     }

@@ -8,5 +8,6 @@ packet_reader-requires-clause-observed g c =
       c.in-Ok.ensures.follows,
       λ S written begins.
           let b = c.requires.begins S written begins in
-          rw b.0 (c.in-Ok.ensures.told written (ap (λ log. log.written) c.in_ok-lines.ensures.log ∙ b.1)),
+          rw b.0 (c.in-Ok.ensures.told written
+          (ap (λ log. log.written) c.in_ok-lines.ensures.log ∙ b.1)),
     )

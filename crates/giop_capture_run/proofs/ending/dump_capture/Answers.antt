@@ -16,7 +16,10 @@ returns-in-Ok-clause-dumped g c =
       octets = ran.0;
       found = c.in_ok-fault.fault;
       whole = ran.1;
-      last = rw (← c.packets.ensures ran.1.read ran.1.reads, ← c.octets.ensures.octets ran.1.read ran.1.reads)
+      last = rw (
+        ← c.packets.ensures ran.1.read ran.1.reads,
+        ← c.octets.ensures.octets ran.1.read ran.1.reads,
+      )
           (c.in-Ok.ensures.finished _ ran.1.ended.observed);
       ends = c.ending_of.ensures ∙ ap (ending_of c.in_ok-fault.fault) c.in-Ok.ensures.value;
     }

@@ -9,8 +9,10 @@ invariant-loop-count g l =
     record {
       count : octets_of l.capture + length l.rest ≡ octets_of l.fn.capture + length l.octets;
       has : KeepsUp g.L.PacketListener.taken l.to l.capture;
-      handed : (start : g.L.PacketListener.Start) (p : List ℕ) → Reads l.fn.capture p → g.L.PacketListener.taken l.fn.to start (taken_of p)
-          → (read : List ℕ) × HandedOn (g.L.PacketListener.taken l.to start) l.capture p l.octets read l.rest;
+      handed : (start : g.L.PacketListener.Start) (p : List ℕ) → Reads l.fn.capture p →
+          g.L.PacketListener.taken l.fn.to start (taken_of p)
+          → (read : List ℕ) × HandedOn (g.L.PacketListener.taken l.to start) l.capture p l.octets
+          read l.rest;
     }
 
 abbrev pub decreases-loop-count : goal.decreases-loop-count

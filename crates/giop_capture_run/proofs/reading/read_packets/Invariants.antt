@@ -7,8 +7,10 @@ use Rattle.giop_capture_run.proofs.reading.read_packets.Given as goal
 abbrev pub invariant-loop-turn : goal.invariant-loop-turn
 invariant-loop-turn g l =
     record {
-      all : (start : g.L.PacketListener.Start) → g.L.PacketListener.taken l.fn.to start [] → (s : List ℕ)
-          × ReadAll (g.L.PacketListener.taken l.to start) l.capture [] s (g.S.Source.log l.fn.source) (g.S.Source.log l.source)
+      all : (start : g.L.PacketListener.Start) → g.L.PacketListener.taken l.fn.to start [] →
+          (s : List ℕ)
+          × ReadAll (g.L.PacketListener.taken l.to start) l.capture [] s
+          (g.S.Source.log l.fn.source) (g.S.Source.log l.source)
           × (l._turn ≤ length s);
       count : octets_of l.capture ≤ l._turn * 65536;
       reads : (g.S.Source.log l.source).reads ≤ (g.S.Source.log l.fn.source).reads + l._turn;

@@ -14,5 +14,8 @@ returns g c =
     let O = g.L.Listener.observed s.listener in
     let o : O [] = rw c.in_ok-streams.ensures.listener c.requires.observed in
     let w = none_known c.args.asked.ports.items c.args.asked.pool c.args.asked.connections [] in
-    let state = starts O s.live.items c.in_ok-connections.connections c.args.asked.ports.items c.args.asked.pool c.args.asked.connections [] o c.in_ok-streams.ensures.live (n.start []) n.sound n.free n.room in
-    c.new-3.ensures w (subst (IsState O s.live.items c.in_ok-connections.connections) (n.start []) state) refl c.requires.told
+    let state = starts O s.live.items c.in_ok-connections.connections c.args.asked.ports.items
+    c.args.asked.pool c.args.asked.connections [] o c.in_ok-streams.ensures.live (n.start [])
+    n.sound n.free n.room in
+    c.new-3.ensures w (subst (IsState O s.live.items c.in_ok-connections.connections) (n.start [])
+    state) refl c.requires.told

@@ -7,9 +7,11 @@ use Rattle.giop_capture_text.proofs.dumping.text_of.Goals as goal
 pub returns-in-Ok-from_slice : goal.returns-in-Ok-from_slice
 returns-in-Ok-from_slice c =
     let d = c.in-Ok.ensures.dumped in
-    let h = at_every_port c.new.result.items d.whole.read _ c.new.ensures (d.text plain_setup [] (refl, refl)) in
+    let h = at_every_port c.new.result.items d.whole.read _ c.new.ensures
+    (d.text plain_setup [] (refl, refl)) in
     let w = d.whole in
-    let f = front d.before.left d.after.left c.args.capture.now d.octets w.read w.rest d.reader w.given w.parts w.over in
+    let f = front d.before.left d.after.left c.args.capture.now d.octets w.read w.rest d.reader
+    w.given w.parts w.over in
     let all = held _ _ _ _ h.text c.writer.ensures c.in-Ok.ensures.flushed in
     record {
       read = d.whole.read;

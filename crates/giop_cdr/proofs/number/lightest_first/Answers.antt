@@ -4,10 +4,19 @@ use Rattle.giop_cdr.proofs.Spelling.{spelled_small, spelled_bound, little_more}
 use Rattle.giop_cdr.proofs.number.lightest_first.Goals as goal
 
 pub overflow_mul-n : goal.overflow_mul-n
-overflow_mul-n c = omega (arith, spelled_small _ c.loop-left.n c.loop-left.invariant.bound (omega arith))
+overflow_mul-n c = omega (
+  arith,
+  spelled_small _ c.loop-left.n c.loop-left.invariant.bound
+      (omega arith),
+)
 
 pub overflow_add-n : goal.overflow_add-n
-overflow_add-n c = omega (arith, spelled_small _ c.loop-left.n c.loop-left.invariant.bound (omega arith), c.type_inv.octets (c.loop-left.left - 1))
+overflow_add-n c = omega (
+  arith,
+  spelled_small _ c.loop-left.n c.loop-left.invariant.bound
+      (omega arith),
+  c.type_inv.octets (c.loop-left.left - 1),
+)
 
 pub loop-left-preserved : goal.loop-left-preserved
 loop-left-preserved c =
@@ -17,6 +26,8 @@ loop-left-preserved c =
     let k : length xs - i ≡ (length xs - c.loop-left.left) + 1 = omega arith in
     record {
       within = omega arith;
-      is = little_more xs i c.loop-left.n c.from.result (omega arith) (c.loop-left.invariant.is ∙ ap (λ j. little (drop j xs)) e) c.from.ensures;
-      bound = rw k (spelled_bound _ c.loop-left.n c.from.result c.loop-left.invariant.bound (omega (arith, c.type_inv.octets i)));
+      is = little_more xs i c.loop-left.n c.from.result (omega arith)
+          (c.loop-left.invariant.is ∙ ap (λ j. little (drop j xs)) e) c.from.ensures;
+      bound = rw k (spelled_bound _ c.loop-left.n c.from.result c.loop-left.invariant.bound
+          (omega (arith, c.type_inv.octets i)));
     }

@@ -6,13 +6,17 @@ use Rattle.giop_checkpoint.proofs.record.parsed.Goals as goal
 pub returns-in_default-clause-again : goal.returns-in_default-clause-again
 returns-in_default-clause-again c r h e =
     let p = fields_of r _ h e in
-    absurd (c.in_default.not-Some _ (c.record_kind_of.ensures.again r.record_kind (c.octet_at.ensures _ _ p.record_kind) (c.four_at.ensures _ _ (id_small r.record_kind h.typed.record_kind) p.id)))
+    absurd (c.in_default.not-Some _ (c.record_kind_of.ensures.again r.record_kind
+    (c.octet_at.ensures _ _ p.record_kind)
+    (c.four_at.ensures _ _ (id_small r.record_kind h.typed.record_kind) p.id)))
 
 pub returns-clause-again : goal.returns-clause-again
 returns-clause-again c r h e =
     let p = fields_of r _ h e in
     ap Some (record_same _ r
     (c.octet_at-2.ensures _ _ p.frames)
-    (value_of _ _ _ (c.record_kind_of.ensures.again r.record_kind (c.octet_at.ensures _ _ p.record_kind) (c.four_at.ensures _ _ (id_small r.record_kind h.typed.record_kind) p.id)) c.in-Some.is)
+    (value_of _ _ _ (c.record_kind_of.ensures.again r.record_kind
+    (c.octet_at.ensures _ _ p.record_kind)
+    (c.four_at.ensures _ _ (id_small r.record_kind h.typed.record_kind) p.id)) c.in-Some.is)
     (c.eight_at.ensures _ _ h.typed.number p.number)
     (c.octets_at.ensures _ _ h.typed.header p.header))

@@ -15,24 +15,36 @@ returns-then-is_taken-clause-taken g c =
 
 pub returns-then-is_taken-clause-text : goal.returns-then-is_taken-clause-text
 returns-then-is_taken-clause-text g c =
-    let time = if nat_lt c.args.before c.args.behind then time_line c.args.behind c.args.time else [] in
+    let time = if nat_lt c.args.before c.args.behind then time_line c.args.behind c.args.time else
+    [] in
     let s = c.args.exchange.now in
     let none = none_waits s (sym c.is_taken.ensures ∙ c.if-is_taken.true) in
-    subst (Writes c.write_time.result (tagging_log c.args.out.now) (tagging_log c.write_time.new.out))
-    (sym (ap (λ (l : List ℕ). time ++ l) (none_due s c.args.time none) ∙ append-nil time)) c.write_time.ensures
+    subst (Writes c.write_time.result (tagging_log c.args.out.now)
+    (tagging_log c.write_time.new.out))
+    (sym (ap (λ (l : List ℕ). time ++ l) (none_due s c.args.time none) ∙ append-nil time))
+    c.write_time.ensures
 
 pub returns-in-Ok-clause-text : goal.returns-in-Ok-clause-text
 returns-in-Ok-clause-text g c =
-    let time = if nat_lt c.args.before c.args.behind then time_line c.args.behind c.args.time else [] in
+    let time = if nat_lt c.args.before c.args.behind then time_line c.args.behind c.args.time else
+    [] in
     let s = c.args.exchange.now in
-    let reply : Writes c.write_reply.result (tagging_log c.write_time-2.new.out) (tagging_log c.write_reply.new.out)
+    let reply : Writes c.write_reply.result (tagging_log c.write_time-2.new.out)
+    (tagging_log c.write_reply.new.out)
     (answers_due s.answered c.args.time ++ raises_due s.raised) =
-    rw (c.take_answered-answered.ensures.value, c.take_raised-raised.ensures.value, c.take_answered-answered.ensures.taken) at c.write_reply.ensures in
-    writes_both c.write_reply.result (tagging_log c.args.out.now) (tagging_log c.write_time-2.new.out) (tagging_log c.write_reply.new.out)
+    rw (
+      c.take_answered-answered.ensures.value,
+      c.take_raised-raised.ensures.value,
+      c.take_answered-answered.ensures.taken,
+    ) at c.write_reply.ensures in
+    writes_both c.write_reply.result (tagging_log c.args.out.now)
+    (tagging_log c.write_time-2.new.out) (tagging_log c.write_reply.new.out)
     time (answers_due s.answered c.args.time ++ raises_due s.raised) c.in-Ok.ensures reply
 
 pub returns-in-Err-clause-text : goal.returns-in-Err-clause-text
 returns-in-Err-clause-text g c =
-    let time = if nat_lt c.args.before c.args.behind then time_line c.args.behind c.args.time else [] in
+    let time = if nat_lt c.args.before c.args.behind then time_line c.args.behind c.args.time else
+    [] in
     let s = c.args.exchange.now in
-    front-append (tagging_log c.args.out.now) (tagging_log c.write_time-2.new.out) time (answers_due s.answered c.args.time ++ raises_due s.raised) c.in-Err.ensures
+    front-append (tagging_log c.args.out.now) (tagging_log c.write_time-2.new.out) time
+    (answers_due s.answered c.args.time ++ raises_due s.raised) c.in-Err.ensures

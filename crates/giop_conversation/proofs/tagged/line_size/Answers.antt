@@ -5,7 +5,8 @@ use Rattle.giop_conversation.proofs.tagged.line_size.Goals as goal
 pub returns-in-Some-clause-value : goal.returns-in-Some-clause-value
 returns-in-Some-clause-value c =
     let found = rw c.in-Some.is at c.memchr.ensures in
-    rw add-one (sym (line_some c.args.octets.now c.in-Some.at found.0.high (λ j less. found.0.before j (omega arith) less) found.1))
+    rw add-one (sym (line_some c.args.octets.now c.in-Some.at found.0.high
+    (λ j less. found.0.before j (omega arith) less) found.1))
 
 pub returns-in-None-clause-value : goal.returns-in-None-clause-value
 returns-in-None-clause-value c =

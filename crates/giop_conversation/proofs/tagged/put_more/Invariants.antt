@@ -6,7 +6,8 @@ abbrev pub invariant-loop-at : goal.invariant-loop-at
 invariant-loop-at g l =
     record {
       within : l.at ≤ length l.octets;
-      written : Appends (g.O.Out.log l.initial.out).written (g.O.Out.log l.out).written (take l.at l.octets);
+      written : Appends (g.O.Out.log l.initial.out).written (g.O.Out.log l.out).written
+          (take l.at l.octets);
     }
 
 abbrev pub decreases-loop-at : goal.decreases-loop-at

@@ -13,6 +13,7 @@ loop-due-preserved g c =
     record {
       within = omega (arith, c.loop-due.invariant.within);
       stands = λ before text stands.
-          rw put.counted (tag_step_in _ _ before c.args.tag.now c.loop-due.since text c.loop-due.due c.in-Ok.taken
+          rw put.counted (tag_step_in _ _ before c.args.tag.now c.loop-due.since text c.loop-due.due
+          c.in-Ok.taken
           (c.loop-due.invariant.stands before text stands) c.loop-due-test.true few put.written);
     }

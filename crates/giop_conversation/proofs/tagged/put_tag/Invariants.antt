@@ -7,7 +7,8 @@ invariant-loop-due g l =
     record {
       within : l.due ≤ length l.tag;
       stands : (before text : List ℕ) →
-          StandsIn (g.O.Out.log l.initial.out).written before l.tag l.initial.since text l.initial.due →
+          StandsIn (g.O.Out.log l.initial.out).written before l.tag l.initial.since text
+          l.initial.due →
           StandsIn (g.O.Out.log l.out).written before l.tag l.since text l.due;
     }
 

@@ -11,16 +11,19 @@ loop-passed-preserved c = omega (arith, month_next c.args.year c.loop-passed.pas
 pub overflow_cast-result-2 : goal.overflow_cast-result-2
 overflow_cast-result-2 c =
     let last : c.loop-passed.passed ≡ 11 = omega arith in
-    let short = december c.args.year c.args.days c.loop-passed.left (rw last at c.loop-passed.invariant) c.requires.within in
+    let short = december c.args.year c.args.days c.loop-passed.left
+    (rw last at c.loop-passed.invariant) c.requires.within in
     search rules
 
 pub returns-then-left-length-clause-months : goal.returns-then-left-length-clause-months
 returns-then-left-length-clause-months c =
-    (month_found c.args.year c.args.days c.loop-passed.passed c.loop-passed.left (omega arith) c.loop-passed.invariant (λ _. omega arith)).0
+    (month_found c.args.year c.args.days c.loop-passed.passed c.loop-passed.left (omega arith)
+    c.loop-passed.invariant (λ _. omega arith)).0
 
 pub returns-then-left-length-clause-days : goal.returns-then-left-length-clause-days
 returns-then-left-length-clause-days c =
-    (month_found c.args.year c.args.days c.loop-passed.passed c.loop-passed.left (omega arith) c.loop-passed.invariant (λ _. omega arith)).1
+    (month_found c.args.year c.args.days c.loop-passed.passed c.loop-passed.left (omega arith)
+    c.loop-passed.invariant (λ _. omega arith)).1
 
 pub returns-clause-months : goal.returns-clause-months
 returns-clause-months c =
@@ -37,4 +40,5 @@ returns-clause-days c =
 pub returns-clause-short : goal.returns-clause-short
 returns-clause-short c =
     let last : c.loop-passed.passed ≡ 11 = omega arith in
-    december c.args.year c.args.days c.loop-passed.left (rw last at c.loop-passed.invariant) c.requires.within
+    december c.args.year c.args.days c.loop-passed.left (rw last at c.loop-passed.invariant)
+    c.requires.within

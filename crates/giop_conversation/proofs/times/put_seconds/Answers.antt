@@ -19,4 +19,11 @@ returns-clause-room c =
     let digits : length c.as_bytes.result.now ≤ 30 =
     rw (c.as_bytes.ensures.value, c.format.ensures.text) short in
     let nine : length c.nine_digits.result ≡ 9 = rw c.nine_digits.ensures refl in
-    omega (arith, digits, nine, c.put.ensures.room, c.put_octets.ensures.room, c.put_octets-2.ensures.room)
+    omega (
+      arith,
+      digits,
+      nine,
+      c.put.ensures.room,
+      c.put_octets.ensures.room,
+      c.put_octets-2.ensures.room,
+    )

@@ -8,7 +8,8 @@ loop-passed-preserved c = omega (arith, year_next c.loop-passed.passed)
 
 pub returns-then-left-length : goal.returns-then-left-length
 returns-then-left-length c =
-    year_found c.args.days c.loop-passed.passed c.loop-passed.left (omega arith) c.loop-passed.invariant (omega arith)
+    year_found c.args.days c.loop-passed.passed c.loop-passed.left (omega arith)
+    c.loop-passed.invariant (omega arith)
 
 pub returns-in_default : goal.returns-in_default
 returns-in_default c = omega (arith, years_short years)

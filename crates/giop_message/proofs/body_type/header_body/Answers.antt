@@ -18,12 +18,19 @@ returns-then-kind_of-eq0-clause-is g c r keeps_noted is =
 
 pub returns-then-kind_of-eq1-clause-is : goal.returns-then-kind_of-eq1-clause-is
 returns-then-kind_of-eq1-clause-is g c r keeps_noted is =
-    let S = signatures_of c.args.catalogue.now (g.Q.Correspondent.answer (g.Q.Correspondent.state c.args.correspondent.now)) in
-    c.reply_body.ensures.is ∙ (rw (c.request_id.ensures roots.Header r keeps_noted, c.status.ensures roots.Header r keeps_noted)
-    (sym (reply_wants S c.args.header.now (noted_of true r) (sym c.kind_of-2.ensures ∙ c.if-kind_of-eq1.true))))
+    let S = signatures_of c.args.catalogue.now
+    (g.Q.Correspondent.answer (g.Q.Correspondent.state c.args.correspondent.now)) in
+    c.reply_body.ensures.is ∙ (rw (
+      c.request_id.ensures roots.Header r keeps_noted,
+      c.status.ensures roots.Header r keeps_noted,
+    )
+    (sym (reply_wants S c.args.header.now (noted_of true r)
+    (sym c.kind_of-2.ensures ∙ c.if-kind_of-eq1.true))))
 
 pub returns-clause-is : goal.returns-clause-is
 returns-clause-is g c r keeps_noted is =
-    let S = signatures_of c.args.catalogue.now (g.Q.Correspondent.answer (g.Q.Correspondent.state c.args.correspondent.now)) in
-    sym (others_want S c.args.header.now (noted_of true r) (λ e. c.if-kind_of-eq0.false (c.kind_of.ensures ∙ e))
+    let S = signatures_of c.args.catalogue.now
+    (g.Q.Correspondent.answer (g.Q.Correspondent.state c.args.correspondent.now)) in
+    sym (others_want S c.args.header.now (noted_of true r)
+    (λ e. c.if-kind_of-eq0.false (c.kind_of.ensures ∙ e))
     (λ e. c.if-kind_of-eq1.false (c.kind_of-2.ensures ∙ e)))

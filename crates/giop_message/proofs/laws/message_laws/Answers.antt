@@ -15,7 +15,8 @@ returns c = record {
   over = λ C answer. over_where_faulted (signatures_of C answer);
   causal = λ C answers. is_causal (λ number. signatures_of C (answers number));
   ending = λ C answers. is_ending (λ number. signatures_of C (answers number));
-  named = λ C answers. is_named (λ number. signatures_of C (answers number)) (λ number. has_ids C (answers number));
+  named = λ C answers. is_named (λ number. signatures_of C (answers number))
+      (λ number. has_ids C (answers number));
   ordered = λ C answers. is_ordered (λ number. signatures_of C (answers number));
   closing = λ C answers. is_closing (λ number. signatures_of C (answers number));
   id = λ C answer. id_is_said (signatures_of C answer);

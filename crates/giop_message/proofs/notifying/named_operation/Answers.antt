@@ -8,10 +8,12 @@ pub returns-in_default-clause-is : goal.returns-in_default-clause-is
 unfolding operation_of
 returns-in_default-clause-is c r keeps_noted =
     let name = c.in_default.ensures roots.Header r keeps_noted in
-    rw (← c.kind_of.ensures, c.if-kind_of-ne0.false) (ap (option_and_then (operation_in c.args.catalogue.now)) name)
+    rw (← c.kind_of.ensures, c.if-kind_of-ne0.false)
+    (ap (option_and_then (operation_in c.args.catalogue.now)) name)
 
 pub returns-clause-is : goal.returns-clause-is
 unfolding operation_of
 returns-clause-is c r keeps_noted =
     let name = c.in-Some.ensures roots.Header r keeps_noted in
-    rw (← c.kind_of.ensures, c.if-kind_of-ne0.false) (c.operation.ensures.is ∙ ap (option_and_then (operation_in c.args.catalogue.now)) name)
+    rw (← c.kind_of.ensures, c.if-kind_of-ne0.false)
+    (c.operation.ensures.is ∙ ap (option_and_then (operation_in c.args.catalogue.now)) name)

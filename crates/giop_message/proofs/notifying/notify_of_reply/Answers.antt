@@ -7,9 +7,11 @@ pub returns-in-Some-clause-told : goal.returns-in-Some-clause-told
 returns-in-Some-clause-told g c r keeps_noted =
     let st = g.Q.Correspondent.state c.args.correspondent.now in
     c.answered.ensures
-    ∙ ap (λ o. after_event g.Q.Correspondent.notified st (reply_event c.args.number o)) (c.in-Some.ensures roots.Header r keeps_noted)
+    ∙ ap (λ o. after_event g.Q.Correspondent.notified st (reply_event c.args.number o))
+    (c.in-Some.ensures roots.Header r keeps_noted)
 
 pub returns-in_default-clause-told : goal.returns-in_default-clause-told
 returns-in_default-clause-told g c r keeps_noted =
     let st = g.Q.Correspondent.state c.args.correspondent.now in
-    ap (λ o. after_event g.Q.Correspondent.notified st (reply_event c.args.number o)) (c.in_default.ensures roots.Header r keeps_noted)
+    ap (λ o. after_event g.Q.Correspondent.notified st (reply_event c.args.number o))
+    (c.in_default.ensures roots.Header r keeps_noted)

@@ -42,22 +42,27 @@ request_called number header h id name is e f = rw (is, e, f) refl
 
 pub returns-then-kind_of-ne0 : goal.returns-then-kind_of-ne0
 returns-then-kind_of-ne0 g c r keeps_noted =
-    rw (no_request c.args.number c.args.header.now (noted_of true r) (λ e. c.if-kind_of-ne0.true (c.kind_of.ensures ∙ e))) (wrote-nil _)
+    rw (no_request c.args.number c.args.header.now (noted_of true r)
+    (λ e. c.if-kind_of-ne0.true (c.kind_of.ensures ∙ e))) (wrote-nil _)
 
 pub returns-in_default : goal.returns-in_default
 returns-in_default g c r keeps_noted =
-    rw (no_id c.args.number c.args.header.now (noted_of true r) (sym (c.in_default.ensures roots.Header r keeps_noted))) (wrote-nil _)
+    rw (no_id c.args.number c.args.header.now (noted_of true r)
+    (sym (c.in_default.ensures roots.Header r keeps_noted))) (wrote-nil _)
 
 pub returns-in_default-name : goal.returns-in_default-name
 returns-in_default-name g c r keeps_noted =
-    rw (no_name c.args.number c.args.header.now (noted_of true r) (sym (c.in_default-name.ensures roots.Header r keeps_noted))) (wrote-nil _)
+    rw (no_name c.args.number c.args.header.now (noted_of true r)
+    (sym (c.in_default-name.ensures roots.Header r keeps_noted))) (wrote-nil _)
 
 pub returns-then-is_shown : goal.returns-then-is_shown
 returns-then-is_shown g c r keeps_noted =
     let is : kind c.args.header.now ≡ 0 = sym c.kind_of.ensures ∙ c.if-kind_of-ne0.false in
     rw (
-      request_called c.args.number c.args.header.now (noted_of true r) c.in-Some.id c.in-Some-name.operation.now is
-          (sym (c.in-Some.ensures roots.Header r keeps_noted)) (sym (c.in-Some-name.ensures roots.Header r keeps_noted)),
+      request_called c.args.number c.args.header.now (noted_of true r) c.in-Some.id
+          c.in-Some-name.operation.now is
+          (sym (c.in-Some.ensures roots.Header r keeps_noted))
+          (sym (c.in-Some-name.ensures roots.Header r keeps_noted)),
       ← c.is_shown.ensures,
       c.if-is_shown.true,
     ) c.call_line.ensures
@@ -66,8 +71,10 @@ pub returns-else-is_shown : goal.returns-else-is_shown
 returns-else-is_shown g c r keeps_noted =
     let is : kind c.args.header.now ≡ 0 = sym c.kind_of.ensures ∙ c.if-kind_of-ne0.false in
     rw (
-      request_called c.args.number c.args.header.now (noted_of true r) c.in-Some.id c.in-Some-name.operation.now is
-          (sym (c.in-Some.ensures roots.Header r keeps_noted)) (sym (c.in-Some-name.ensures roots.Header r keeps_noted)),
+      request_called c.args.number c.args.header.now (noted_of true r) c.in-Some.id
+          c.in-Some-name.operation.now is
+          (sym (c.in-Some.ensures roots.Header r keeps_noted))
+          (sym (c.in-Some-name.ensures roots.Header r keeps_noted)),
       ← c.is_shown.ensures,
       c.if-is_shown.false,
     ) (wrote-nil _)

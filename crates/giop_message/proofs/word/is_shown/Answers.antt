@@ -11,6 +11,7 @@ unfolding is_shown
 returns-then-not-is_empty c =
     let name = c.args.name.now in
     let e : c.all.result ≡ list_all is_graphic name =
-    all_from_yields_List is_graphic _ _ c.all.result c.all.ensures.ran (YieldsList-from_slice name cc) (λ x b q k. search (rules, tests)) in
+    all_from_yields_List is_graphic _ _ c.all.result c.all.ensures.ran
+    (YieldsList-from_slice name cc) (λ x b q k. search (rules, tests)) in
     let some : 0 < length name = search (rules, tests, arith) in
     rw (lt-ltb 0 (length name) some) e

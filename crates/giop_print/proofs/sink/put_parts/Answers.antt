@@ -7,13 +7,16 @@ use Rattle.giop_print.proofs.Gathering.{gathered-front, but-parts, writes_left}
 pub returns-in_err-gather : goal.returns-in_err-gather
 returns-in_err-gather g c =
     let p = err_from_is_err_and c.from_residual.result c.from_residual.ensures.1 in
-    rw (p.1) (gathered-front (λ part. part.now) _ _ _ _ c.args.parts.now c.loop-part.part-index _ c.loop-part-test.true c.loop-part.invariant c.in_err-gather.ensures)
+    rw (p.1) (gathered-front (λ part. part.now) _ _ _ _ c.args.parts.now c.loop-part.part-index _
+    c.loop-part-test.true c.loop-part.invariant c.in_err-gather.ensures)
 
 pub loop-part-preserved : goal.loop-part-preserved
 loop-part-preserved g c =
-    but-parts (λ part. part.now) _ _ _ _ _ c.args.parts.now c.loop-part.part-index _ c.loop-part-test.true c.loop-part.invariant c.in_ok-gather.ensures
+    but-parts (λ part. part.now) _ _ _ _ _ c.args.parts.now c.loop-part.part-index _
+    c.loop-part-test.true c.loop-part.invariant c.in_ok-gather.ensures
 
 pub returns : goal.returns
 returns g c =
-    let w = rw (take_all c.loop-part.part-index c.args.parts.now (omega (arith, c.loop-part-test.false))) at c.loop-part.invariant in
+    let w = rw (take_all c.loop-part.part-index c.args.parts.now
+    (omega (arith, c.loop-part-test.false))) at c.loop-part.invariant in
     writes_left c.put_all.result _ _ _ _ _ w (rw c.as_slice.ensures.value at c.put_all.ensures)

@@ -4,4 +4,5 @@ use Rattle.giop_print.proofs.sink.put_parts.Given as goal
 
 abbrev pub invariant-loop-part : goal.invariant-loop-part
 invariant-loop-part g l =
-    WroteBut (g.O.Out.log l.initial.out) (g.O.Out.log l.out) l.gathered.items (flat_map (λ part. part.now) (take l.part-index l.parts))
+    WroteBut (g.O.Out.log l.initial.out) (g.O.Out.log l.out) l.gathered.items
+    (flat_map (λ part. part.now) (take l.part-index l.parts))

@@ -6,11 +6,15 @@ use Rattle.giop_program.proofs.steps.begin_run.Goals as goal
 pub returns-in-None-clause-dumped : goal.returns-in-None-clause-dumped
 returns-in-None-clause-dumped g c =
     let e = c.in_ok-engine.ensures in
-    begun_dumped _ (asked_of c.args.asked) _ _ c.in_ok-engine.engine _ _ (g.R.Inputs.given c.args.rt.now) _ _ _
-    e.table e.request_table c.ending_for-ending.ensures (rw c.in-None.is c.standard_input.ensures) e.ok c.dumped.ensures.dumped
+    begun_dumped _ (asked_of c.args.asked) _ _ c.in_ok-engine.engine _ _
+    (g.R.Inputs.given c.args.rt.now) _ _ _
+    e.table e.request_table c.ending_for-ending.ensures (rw c.in-None.is c.standard_input.ensures)
+    e.ok c.dumped.ensures.dumped
 
 pub returns-in-Some-clause-dumped : goal.returns-in-Some-clause-dumped
 returns-in-Some-clause-dumped g c =
     let e = c.in_ok-engine.ensures in
-    begun_dumped _ (asked_of c.args.asked) _ _ c.in_ok-engine.engine _ _ (g.R.Inputs.given c.args.rt.now) _ _ _
-    e.table e.request_table c.ending_for-ending.ensures (rw c.in-Some.is refl) e.ok c.open_stream.ensures.dumped
+    begun_dumped _ (asked_of c.args.asked) _ _ c.in_ok-engine.engine _ _
+    (g.R.Inputs.given c.args.rt.now) _ _ _
+    e.table e.request_table c.ending_for-ending.ensures (rw c.in-Some.is refl) e.ok
+    c.open_stream.ensures.dumped

@@ -9,7 +9,12 @@ unfolding added
 returns-in-Ok-Running-clause-fed g c =
     λ p h.
     let e = c.in-Ok-Running.ensures in (
-      record { reads = rw (e.same.0, e.same.1, e.most) refl; holds = e.held p h; written = e.text p h },
+      record {
+        reads = rw (e.same.0, e.same.1, e.most) refl;
+        holds = e.held p h;
+        written =
+            e.text p h;
+      },
       is_running (p ++ c.args.piece.now) (sym c.in-Ok-Running.field-0-is ∙ e.status p h),
     )
 
@@ -18,10 +23,17 @@ unfolding added
 returns-in-Ok-Stopped-clause-fed g c =
     λ p h.
     let e = c.in-Ok-Stopped.ensures in (
-      record { reads = rw (e.same.0, e.same.1, e.most) refl; holds = e.held p h; written = e.text p h },
-      is_stopped (p ++ c.args.piece.now) c.in-Ok-Stopped.field-0-0 (sym c.in-Ok-Stopped.field-0-is ∙ e.status p h),
+      record {
+        reads = rw (e.same.0, e.same.1, e.most) refl;
+        holds = e.held p h;
+        written =
+            e.text p h;
+      },
+      is_stopped (p ++ c.args.piece.now) c.in-Ok-Stopped.field-0-0
+          (sym c.in-Ok-Stopped.field-0-is ∙ e.status p h),
     )
 
 pub returns-in-Err-Out-clause-fed : goal.returns-in-Err-Out-clause-fed
 unfolding added
-returns-in-Err-Out-clause-fed g c = λ p h. rw c.in-Err-Out.field-0-is at (c.in-Err-Out.ensures.text p h)
+returns-in-Err-Out-clause-fed g c = λ p h.
+    rw c.in-Err-Out.field-0-is at (c.in-Err-Out.ensures.text p h)

@@ -7,7 +7,14 @@ use Rattle.giop_run.proofs.running.read_and_feed.Goals as goal
 
 pub returns-in_default-clause-turned : goal.returns-in_default-clause-turned
 returns-in_default-clause-turned g c =
-    λ p h. ([], (read_none _ _ c.in_default.ensures.gave, c.in_default.ensures.gave.failures, wrote-none _ _ p))
+    λ p h. (
+      [],
+      (
+        read_none _ _ c.in_default.ensures.gave,
+        c.in_default.ensures.gave.failures,
+        wrote-none _ _ p,
+      ),
+    )
 
 pub returns-then-ended-clause-turned : goal.returns-then-ended-clause-turned
 returns-then-ended-clause-turned g c =
@@ -24,5 +31,7 @@ returns-clause-turned g c =
     let room : length c.read.new.buffer ≡ 4096 = omega (arith, c.read.auto.buffer) in
     let gave = c.in-Ok.ensures.gave in
     let read = read_some _ _ c.read.new.buffer c.in-Ok.given gave c.in-Ok.ensures.octets room in
-    let ends = not_end _ _ c.read.new.buffer c.in-Ok.given gave some in
-    (take c.in-Ok.given c.read.new.buffer, turned_on _ c.feed.result p _ _ _ _ _ _ read gave.failures ends (c.feed.ensures.fed p h))
+    let ends = not_end _ _ c.read.new.buffer c.in-Ok.given gave some in (
+      take c.in-Ok.given c.read.new.buffer,
+      turned_on _ c.feed.result p _ _ _ _ _ _ read gave.failures ends (c.feed.ensures.fed p h),
+    )

@@ -14,5 +14,8 @@ returns-in_err-feed_all-clause-ran g c =
 pub returns-clause-ran : goal.returns-clause-ran
 returns-clause-ran g c =
     λ p h.
-    let s = c.in_ok-feed_all.ensures.fed p h in
-    (s.0, ran_closed _ c.close.result p s.0 _ _ _ _ _ _ s.1 c.in_ok-feed_all.ensures.same (c.close.ensures.closed (p ++ s.0) s.1.fed.holds))
+    let s = c.in_ok-feed_all.ensures.fed p h in (
+      s.0,
+      ran_closed _ c.close.result p s.0 _ _ _ _ _ _ s.1 c.in_ok-feed_all.ensures.same
+          (c.close.ensures.closed (p ++ s.0) s.1.fed.holds),
+    )

@@ -9,6 +9,9 @@ use Rattle.giop_sig.proofs.cases.case_of.Goals as goal
 
 pub returns : goal.returns
 returns c =
-    let k = position_from_yields_List (λ e. list_any (λ label. same_number label c.args.number) e.labels.items) _ _ c.position.result c.position.ensures.ran
+    let k = position_from_yields_List (λ e.
+    list_any (λ label. same_number label c.args.number) e.labels.items) _ _ c.position.result
+    c.position.ensures.ran
     (YieldsList-from_slice c.args.cases.now cc) (λ x b q k. search (rules, tests)) in
-    k ∙ sym (position-map (λ e. list_any (λ label. same_number label c.args.number) e.labels) case_view c.args.cases.now)
+    k ∙ sym (position-map (λ e. list_any (λ label. same_number label c.args.number) e.labels)
+    case_view c.args.cases.now)

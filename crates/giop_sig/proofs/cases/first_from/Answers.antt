@@ -8,13 +8,17 @@ use Rattle.giop_sig.proofs.cases.first_from.Goals as goal
 pub returns-clause-below : goal.returns-clause-below
 returns-clause-below c =
     let ls = c.args.labels.now in
-    let parted = IsPartitionedBy-ltb (λ (l : PlacedLabel). key_of l.number) ls c.args.key (rise_weakly ls c.requires) in
-    let point = IsPartitionPoint-from_clause (λ (l : PlacedLabel). ltb (key_of l.number) c.args.key) _ _ c.partition_point.ensures.partitioned parted (λ a r q k. search rules) in
+    let parted = IsPartitionedBy-ltb (λ (l : PlacedLabel). key_of l.number) ls c.args.key
+    (rise_weakly ls c.requires) in
+    let point = IsPartitionPoint-from_clause (λ (l : PlacedLabel). ltb (key_of l.number) c.args.key)
+    _ _ c.partition_point.ensures.partitioned parted (λ a r q k. search rules) in
     λ i d lt. ltb-true _ _ (point.0 i d (omega arith) lt)
 
 pub returns-clause-above : goal.returns-clause-above
 returns-clause-above c =
     let ls = c.args.labels.now in
-    let parted = IsPartitionedBy-ltb (λ (l : PlacedLabel). key_of l.number) ls c.args.key (rise_weakly ls c.requires) in
-    let point = IsPartitionPoint-from_clause (λ (l : PlacedLabel). ltb (key_of l.number) c.args.key) _ _ c.partition_point.ensures.partitioned parted (λ a r q k. search rules) in
+    let parted = IsPartitionedBy-ltb (λ (l : PlacedLabel). key_of l.number) ls c.args.key
+    (rise_weakly ls c.requires) in
+    let point = IsPartitionPoint-from_clause (λ (l : PlacedLabel). ltb (key_of l.number) c.args.key)
+    _ _ c.partition_point.ensures.partitioned parted (λ a r q k. search rules) in
     λ i d le lt. ltb-false _ _ (point.1 i d le lt)

@@ -5,5 +5,7 @@ use Rattle.giop_sig.proofs.cases.rise.Goals as goal
 
 pub loop-place-preserved : goal.loop-place-preserved
 loop-place-preserved c =
-    rise_further c.args.labels.now c.loop-place.place (record { number = numbers.Unsigned 0; place = 0 }) (omega arith) (omega arith)
-    (omega (arith, c.key_of.ensures, c.key_of-in-loop-place.ensures, c.if-key_of.false)) c.loop-place.invariant
+    rise_further c.args.labels.now c.loop-place.place
+    (record { number = numbers.Unsigned 0; place = 0 }) (omega arith) (omega arith)
+    (omega (arith, c.key_of.ensures, c.key_of-in-loop-place.ensures, c.if-key_of.false))
+    c.loop-place.invariant

@@ -6,16 +6,20 @@ use Rattle.giop_sig.proofs.cases.searched.Goals as goal
 
 pub returns-then-is_same : goal.returns-then-is_same
 returns-then-is_same c = λ cases is.
-    found cases c.args.labels.now c.first_from-at.result c.args.number _ is c.requires c.if-at-labels.true (sym c.is_same.ensures ∙ c.if-is_same.true)
+    found cases c.args.labels.now c.first_from-at.result c.args.number _ is c.requires
+    c.if-at-labels.true (sym c.is_same.ensures ∙ c.if-is_same.true)
 
 pub returns-else-at-labels : goal.returns-else-at-labels
 returns-else-at-labels c = λ cases is.
     let ls = c.args.labels.now in
     let at = c.first_from-at.result in
-    let none = not_found cases ls at c.args.number (record { number = numbers.Unsigned 0; place = 0 }) is c.requires
+    let none = not_found cases ls at c.args.number
+    (record { number = numbers.Unsigned 0; place = 0 }) is c.requires
     (λ i d lt. omega (arith, c.first_from-at.ensures.below i d lt, c.key_of.ensures))
     (λ i d le lt. omega (arith, c.first_from-at.ensures.above i d le lt, c.key_of.ensures)) in
     elim c.else-at-labels.branch [
-      | else-at-labels-via-then-at-labels+else-is_same w ↦ none (λ lt. sym w.is_same.ensures ∙ w.if-is_same.false)
-      | else-at-labels-via-else-at-labels w ↦ none (λ lt. absurd (omega (arith, w.if-at-labels.false)))
+      | else-at-labels-via-then-at-labels+else-is_same w ↦ none
+          (λ lt. sym w.is_same.ensures ∙ w.if-is_same.false)
+      | else-at-labels-via-else-at-labels w ↦ none
+          (λ lt. absurd (omega (arith, w.if-at-labels.false)))
     ]

@@ -4,14 +4,17 @@ use Rattle.giop_sig.proofs.EnumLaws.{all_names_taken}
 use Rattle.giop_sig.proofs.read_enums.enumeration.Goals as goal
 
 pub type_end_at-requires-clause-formed : goal.type_end_at-requires-clause-formed
-type_end_at-requires-clause-formed c = let k = (all_names_taken _ _ c.in_ok-names.ensures).fits in (k.few, k.short)
+type_end_at-requires-clause-formed c = let k = (all_names_taken _ _ c.in_ok-names.ensures).fits in
+    (k.few, k.short)
 
 pub type_end_at-requires-clause-short : goal.type_end_at-requires-clause-short
-type_end_at-requires-clause-short c = (declared_takes c.args.draft.now _ _ _ c.in_ok-name.ensures).short
+type_end_at-requires-clause-short c = (declared_takes c.args.draft.now _ _ _
+    c.in_ok-name.ensures).short
 
 pub type_end_at-requires-clause-new : goal.type_end_at-requires-clause-new
 type_end_at-requires-clause-new c = (declared_takes c.args.draft.now _ _ _ c.in_ok-name.ensures).new
 
 pub type_end_at-requires-clause-few : goal.type_end_at-requires-clause-few
 type_end_at-requires-clause-few c =
-    let few = (declared_takes c.args.draft.now _ _ _ c.in_ok-name.ensures).few in omega (arith, c.types_declared-count.ensures)
+    let few = (declared_takes c.args.draft.now _ _ _ c.in_ok-name.ensures).few in
+    omega (arith, c.types_declared-count.ensures)

@@ -10,22 +10,27 @@ raise-requires-clause-short c = (declared_takes c.args.draft.now _ _ _ c.in_ok-n
 
 pub raise-requires-clause-new : goal.raise-requires-clause-new
 raise-requires-clause-new c =
-    still_new c.args.draft.now c.add.new.self _ (exception_grows _ c.args.draft.now _ _ (c.add.new.self, c.in_ok-t.t.0) c.in_ok-parts.ensures c.in_ok-t.ensures)
+    still_new c.args.draft.now c.add.new.self _
+    (exception_grows _ c.args.draft.now _ _ (c.add.new.self, c.in_ok-t.t.0)
+    c.in_ok-parts.ensures c.in_ok-t.ensures)
     (declared_takes c.args.draft.now _ _ _ c.in_ok-name.ensures).new
 
 pub raise-requires-clause-few : goal.raise-requires-clause-few
 raise-requires-clause-few c =
-    let g = exception_grows _ c.args.draft.now _ _ (c.add.new.self, c.in_ok-t.t.0) c.in_ok-parts.ensures c.in_ok-t.ensures in
+    let g = exception_grows _ c.args.draft.now _ _ (c.add.new.self, c.in_ok-t.t.0)
+    c.in_ok-parts.ensures c.in_ok-t.ensures in
     let d = declared_takes c.args.draft.now _ _ _ c.in_ok-name.ensures in
     let few = d.few in omega (arith, ap length g.exceptions, c.exceptions_declared-count.ensures)
 
 pub raise-requires-clause-identity : goal.raise-requires-clause-identity
-raise-requires-clause-identity c = (new_repository_takes c.args.draft.now _ _ c.in_ok-repository.ensures).short
+raise-requires-clause-identity c = (new_repository_takes c.args.draft.now _ _
+    c.in_ok-repository.ensures).short
 
 pub raise-requires-clause-different : goal.raise-requires-clause-different
 raise-requires-clause-different c =
     still_different c.args.draft.now c.add.new.self _
-    (exception_grows _ c.args.draft.now _ _ (c.add.new.self, c.in_ok-t.t.0) c.in_ok-parts.ensures c.in_ok-t.ensures)
+    (exception_grows _ c.args.draft.now _ _ (c.add.new.self, c.in_ok-t.t.0) c.in_ok-parts.ensures
+    c.in_ok-t.ensures)
     (new_repository_takes c.args.draft.now _ _ c.in_ok-repository.ensures).new
 
 pub raise-requires-clause-known : goal.raise-requires-clause-known

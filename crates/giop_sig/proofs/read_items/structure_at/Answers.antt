@@ -3,17 +3,21 @@ use Rattle.giop_sig.proofs.ItemTaken.{declared_takes, struct_formed, struct_take
 use Rattle.giop_sig.proofs.read_items.structure_at.Goals as goal
 
 pub type_end_at-requires-clause-formed : goal.type_end_at-requires-clause-formed
-type_end_at-requires-clause-formed c = struct_formed _ c.args.draft.now _ _ c.in_ok-parts.ensures c.laws.ensures.scope
+type_end_at-requires-clause-formed c = struct_formed _ c.args.draft.now _ _ c.in_ok-parts.ensures
+    c.laws.ensures.scope
 
 pub type_end_at-requires-clause-some : goal.type_end_at-requires-clause-some
-type_end_at-requires-clause-some c = struct_takes _ c.args.draft.now _ _ _ c.in_ok-rest-2.ensures c.in_ok-parts.ensures
+type_end_at-requires-clause-some c = struct_takes _ c.args.draft.now _ _ _ c.in_ok-rest-2.ensures
+    c.in_ok-parts.ensures
 
 pub type_end_at-requires-clause-short : goal.type_end_at-requires-clause-short
-type_end_at-requires-clause-short c = (declared_takes c.args.draft.now _ _ _ c.in_ok-name.ensures).short
+type_end_at-requires-clause-short c = (declared_takes c.args.draft.now _ _ _
+    c.in_ok-name.ensures).short
 
 pub type_end_at-requires-clause-new : goal.type_end_at-requires-clause-new
 type_end_at-requires-clause-new c =
-    still_new c.args.draft.now c.members_at.new.draft _ (members_grow _ c.args.draft.now _ _ c.in_ok-parts.ensures)
+    still_new c.args.draft.now c.members_at.new.draft _
+    (members_grow _ c.args.draft.now _ _ c.in_ok-parts.ensures)
     (declared_takes c.args.draft.now _ _ _ c.in_ok-name.ensures).new
 
 pub type_end_at-requires-clause-few : goal.type_end_at-requires-clause-few

@@ -7,7 +7,8 @@ use Rattle.giop_sig.proofs.read_items.type_end_at.Goals as goal
 
 pub name_type-requires-clause-new : goal.name_type-requires-clause-new
 name_type-requires-clause-new c =
-    still_new c.args.draft.now c.add.new.self _ (added_grows _ c.args.draft.now _ (c.add.new.self, c.in_ok-t.t.0) c.in_ok-t.ensures)
+    still_new c.args.draft.now c.add.new.self _
+    (added_grows _ c.args.draft.now _ (c.add.new.self, c.in_ok-t.t.0) c.in_ok-t.ensures)
     c.requires.new
 
 pub name_type-requires-clause-few : goal.name_type-requires-clause-few
@@ -17,5 +18,6 @@ name_type-requires-clause-few c =
 
 pub name_type-requires-clause-known : goal.name_type-requires-clause-known
 name_type-requires-clause-known c =
-    subst (λ (q : AddedType). IsKnown (q.0).table.types q.1) (sym (added_is _ c.args.draft.now _ (c.add.new.self, c.in_ok-t.t.0) c.in_ok-t.ensures))
+    subst (λ (q : AddedType). IsKnown (q.0).table.types q.1)
+    (sym (added_is _ c.args.draft.now _ (c.add.new.self, c.in_ok-t.t.0) c.in_ok-t.ensures))
     (node_known c.args.draft.now _ c.requires.some)

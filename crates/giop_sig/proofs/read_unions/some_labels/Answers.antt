@@ -8,21 +8,29 @@ use Rattle.giop_sig.proofs.read_unions.some_labels.Goals as goal
 pub returns-in_err-closed : goal.returns-in_err-closed
 returns-in_err-closed c =
     let p = err_from_is_err_and c.from_residual.result c.from_residual.ensures.1 in
-    rw (p.1, p.2) (fails (labels_step (node_at c.args.draft.now.table c.args.switch.0)) too_many_labels 1025 c.loop.counter
-    (c.loop.seen.items, c.loop.own.items, c.loop.default, c.loop.rest.now) _ c.loop.invariant c.loop-test.true
+    rw (p.1, p.2) (fails (labels_step (node_at c.args.draft.now.table c.args.switch.0))
+    too_many_labels 1025 c.loop.counter
+    (c.loop.seen.items, c.loop.own.items, c.loop.default, c.loop.rest.now) _ c.loop.invariant
+    c.loop-test.true
     c.in_err-closed.field-0.0 c.in_err-closed.ensures)
 
 pub returns-then-closed : goal.returns-then-closed
 returns-then-closed c =
-    ends (labels_step (node_at c.args.draft.now.table c.args.switch.0)) too_many_labels 1025 c.loop.counter
-    (c.loop.seen.items, c.loop.own.items, c.loop.default, c.loop.rest.now) _ c.loop.invariant c.loop-test.true _ c.in_ok-closed.ensures c.if-closed.true
+    ends (labels_step (node_at c.args.draft.now.table c.args.switch.0)) too_many_labels 1025
+    c.loop.counter
+    (c.loop.seen.items, c.loop.own.items, c.loop.default, c.loop.rest.now) _ c.loop.invariant
+    c.loop-test.true _ c.in_ok-closed.ensures c.if-closed.true
 
 pub loop-preserved : goal.loop-preserved
 loop-preserved c =
-    goes_on (labels_step (node_at c.args.draft.now.table c.args.switch.0)) too_many_labels 1025 c.loop.counter
-    (c.loop.seen.items, c.loop.own.items, c.loop.default, c.loop.rest.now) _ c.loop.invariant c.loop-test.true _ c.in_ok-closed.ensures c.if-closed.false
+    goes_on (labels_step (node_at c.args.draft.now.table c.args.switch.0)) too_many_labels 1025
+    c.loop.counter
+    (c.loop.seen.items, c.loop.own.items, c.loop.default, c.loop.rest.now) _ c.loop.invariant
+    c.loop-test.true _ c.in_ok-closed.ensures c.if-closed.false
 
 pub returns : goal.returns
 returns c =
-    limited (labels_step (node_at c.args.draft.now.table c.args.switch.0)) too_many_labels 1025 c.loop.counter
-    (c.loop.seen.items, c.loop.own.items, c.loop.default, c.loop.rest.now) _ c.loop.invariant c.loop-test.false ∙ ap Err (sym c.refused.ensures)
+    limited (labels_step (node_at c.args.draft.now.table c.args.switch.0)) too_many_labels 1025
+    c.loop.counter
+    (c.loop.seen.items, c.loop.own.items, c.loop.default, c.loop.rest.now) _ c.loop.invariant
+    c.loop-test.false ∙ ap Err (sym c.refused.ensures)

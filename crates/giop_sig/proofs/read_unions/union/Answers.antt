@@ -8,13 +8,15 @@ pub type_end_at-requires-clause-formed : goal.type_end_at-requires-clause-formed
 type_end_at-requires-clause-formed c =
     let types = c.cases_at.new.draft.table.types in
     subst (IsFormed types (length types)) (sym c.in_ok-entry.ensures.ok)
-    (union_formed _ c.args.draft.now _ _ _ _ c.in_ok-switch.ensures c.in_ok-cases.ensures c.laws.ensures.scope)
+    (union_formed _ c.args.draft.now _ _ _ _ c.in_ok-switch.ensures c.in_ok-cases.ensures
+    c.laws.ensures.scope)
 
 pub type_end_at-requires-clause-some : goal.type_end_at-requires-clause-some
 type_end_at-requires-clause-some c = subst TakesOctet (sym c.in_ok-entry.ensures.ok) tt
 
 pub type_end_at-requires-clause-short : goal.type_end_at-requires-clause-short
-type_end_at-requires-clause-short c = (declared_takes c.args.draft.now _ _ _ c.in_ok-name.ensures).short
+type_end_at-requires-clause-short c = (declared_takes c.args.draft.now _ _ _
+    c.in_ok-name.ensures).short
 
 pub type_end_at-requires-clause-new : goal.type_end_at-requires-clause-new
 type_end_at-requires-clause-new c =

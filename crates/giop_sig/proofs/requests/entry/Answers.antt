@@ -8,21 +8,26 @@ use Rattle.giop_sig.proofs.requests.entry.Goals as goal
 
 pub returns-in_err-space : goal.returns-in_err-space
 returns-in_err-space c =
-    let k = position_from_yields_List is_space _ _ c.position.result c.position.ensures.ran (YieldsList-from_slice c.args.line.now cc)
+    let k = position_from_yields_List is_space _ _ c.position.result c.position.ensures.ran
+    (YieldsList-from_slice c.args.line.now cc)
     (λ x b q k. search (rules, tests)) in
     let f = rw c.in_err-space.was at (found is_space c.args.line.now c.position.result k) in
     rw c.from_residual.ensures (no_entry c.args.line.now f)
 
 pub returns-in_err-id : goal.returns-in_err-id
 returns-in_err-id c =
-    let k = position_from_yields_List is_space _ _ c.position.result c.position.ensures.ran (YieldsList-from_slice c.args.line.now cc)
+    let k = position_from_yields_List is_space _ _ c.position.result c.position.ensures.ran
+    (YieldsList-from_slice c.args.line.now cc)
     (λ x b q k. search (rules, tests)) in
     let f = rw c.in_ok-space.was at (found is_space c.args.line.now c.position.result k) in
-    rw c.from_residual-in_err-id.ensures (no_number c.args.line.now c.in_ok-space.space f c.in_err-id.ensures)
+    rw c.from_residual-in_err-id.ensures (no_number c.args.line.now c.in_ok-space.space f
+    c.in_err-id.ensures)
 
 pub returns-else-is_name : goal.returns-else-is_name
 returns-else-is_name c =
-    let k = position_from_yields_List is_space _ _ c.position.result c.position.ensures.ran (YieldsList-from_slice c.args.line.now cc)
+    let k = position_from_yields_List is_space _ _ c.position.result c.position.ensures.ran
+    (YieldsList-from_slice c.args.line.now cc)
     (λ x b q k. search (rules, tests)) in
     let f = rw c.in_ok-space.was at (found is_space c.args.line.now c.position.result k) in
-    no_name c.args.line.now c.in_ok-space.space f (λ n. false≢true (c.if-is_name.ensures.1 (rw to_end n)))
+    no_name c.args.line.now c.in_ok-space.space f
+    (λ n. false≢true (c.if-is_name.ensures.1 (rw to_end n)))

@@ -10,7 +10,8 @@ returns-then-is_empty c = λ n lt e.
     let some = (is_written c.args.digits.now n (omega arith) e).some in
     let short = is_short 10 c.args.digits.now n (omega arith) (omega arith) (omega arith) e in
     elim c.then-is_empty.branch [
-      | then-is_empty-via-then-is_empty v ↦ omega (arith, eqb-true (length c.args.digits.now) 0 (sym v.if-is_empty.ensures))
+      | then-is_empty-via-then-is_empty v ↦
+          omega (arith, eqb-true (length c.args.digits.now) 0 (sym v.if-is_empty.ensures))
       | then-is_empty-via-else-is_empty+then-digits-gt10 v ↦ omega (arith, short)
     ]
 
@@ -22,18 +23,21 @@ returns-then-digits-eq48 c = λ n lt e.
 pub returns-then-not-is_ascii_digit : goal.returns-then-not-is_ascii_digit
 returns-then-not-is_ascii_digit c = λ n lt e.
     let w = is_written c.args.digits.now n (omega arith) e in
-    let d = is_digit_octet (get_or c.args.digits.now c.loop-d.d-index 0) (AllDigits-at c.args.digits.now c.loop-d.d-index w.digits c.loop-d-test.true) in
+    let d = is_digit_octet (get_or c.args.digits.now c.loop-d.d-index 0)
+    (AllDigits-at c.args.digits.now c.loop-d.d-index w.digits c.loop-d-test.true) in
     let t = c.if-not-is_ascii_digit.ensures.cases in
     omega (arith, t, d)
 
 pub overflow_mul-n : goal.overflow_mul-n
 overflow_mul-n c =
-    let b = value_small c.args.digits.now c.loop-d.d-index c.loop-d-test.true c.if-digits-gt10.false c.loop-d.invariant.digits in
+    let b = value_small c.args.digits.now c.loop-d.d-index c.loop-d-test.true c.if-digits-gt10.false
+    c.loop-d.invariant.digits in
     omega (arith, b)
 
 pub overflow_add-n : goal.overflow_add-n
 overflow_add-n c =
-    let b = value_small c.args.digits.now c.loop-d.d-index c.loop-d-test.true c.if-digits-gt10.false c.loop-d.invariant.digits in
+    let b = value_small c.args.digits.now c.loop-d.d-index c.loop-d-test.true c.if-digits-gt10.false
+    c.loop-d.invariant.digits in
     let t = c.if-not-is_ascii_digit.ensures.cases in
     omega (arith, b, t, c.from.ensures)
 
@@ -42,8 +46,16 @@ loop-d-preserved c =
     let t = c.if-not-is_ascii_digit.ensures.cases in
     let v = digit_is (get_or c.args.digits.now c.loop-d.d-index 0) t.0 t.1 in
     record {
-      digits = digits_more 10 c.args.digits.now c.loop-d.d-index c.loop-d-test.true c.loop-d.invariant.digits c.if-not-is_ascii_digit.ensures.bound;
-      value = omega (arith, digits_value_more 10 c.args.digits.now c.loop-d.d-index c.loop-d-test.true, v, c.from.ensures, c.loop-d.invariant.value);
+      digits = digits_more 10 c.args.digits.now c.loop-d.d-index c.loop-d-test.true
+          c.loop-d.invariant.digits c.if-not-is_ascii_digit.ensures.bound;
+      value = omega (
+        arith,
+        digits_value_more 10 c.args.digits.now c.loop-d.d-index
+            c.loop-d-test.true,
+        v,
+        c.from.ensures,
+        c.loop-d.invariant.value,
+      );
     }
 
 pub returns : goal.returns

@@ -14,7 +14,8 @@ spelled_more : (es : List Entry) (e : Entry) (all after : List (List ℕ)) (line
     → line ≡ line_of e → all ≡ map line_of es ++ (line ∷ after)
     → all ≡ map line_of (es ++ e ∷ []) ++ after
 spelled_more es e all after line is h =
-    h ∙ ap (λ l. map line_of es ++ (l ∷ after)) is ∙ sym (append_assoc (map line_of es) (line_of e ∷ []) after)
+    h ∙ ap (λ l. map line_of es ++ (l ∷ after)) is
+    ∙ sym (append_assoc (map line_of es) (line_of e ∷ []) after)
     ∙ ap (λ ls. ls ++ after) (sym (map-append line_of es (e ∷ [])))
 
 pub loop-line-preserved : goal.loop-line-preserved
@@ -30,12 +31,15 @@ loop-line-preserved c =
     record {
       es = i.es ++ e ∷ [];
       entries = All-push IsEntry i.es e i.entries h.0;
-      spelled = spelled_more i.es e _ _ c.in-Some.line.now h.1 (i.spelled ∙ ap (λ ls. map line_of i.es ++ ls) c.in-Some.ensures.lines);
+      spelled = spelled_more i.es e _ _ c.in-Some.line.now h.1
+          (i.spelled ∙ ap (λ ls. map line_of i.es ++ ls) c.in-Some.ensures.lines);
       counted = omega (arith, i.counted, longer);
       few = omega (arith, i.few);
       unique = c.in_ok-insert.ensures.unique;
-      keys = keys_step i.es e c.loop-line.table.entries _ c.joined-kept.result i.keys c.in_ok-insert.ensures.entries;
-      kept = kept_step find (operation_number_one c.args.catalogue.now) i.es e c.loop-line.table.entries c.insert.new.self.entries c.joined-kept.result joins
+      keys = keys_step i.es e c.loop-line.table.entries _ c.joined-kept.result i.keys
+          c.in_ok-insert.ensures.entries;
+      kept = kept_step find (operation_number_one c.args.catalogue.now) i.es e
+          c.loop-line.table.entries c.insert.new.self.entries c.joined-kept.result joins
           i.kept c.in_ok-insert.ensures.updates.0;
     }
 
@@ -48,7 +52,8 @@ returns-clause-ok c =
         octets = omega arith;
         count = omega (arith, i.counted, i.few);
         entries = i.entries;
-        spelled = i.spelled ∙ ap (λ r. map line_of i.es ++ lines r) done ∙ append-nil (map line_of i.es);
+        spelled = i.spelled ∙ ap (λ r. map line_of i.es ++ lines r) done
+            ∙ append-nil (map line_of i.es);
       },
       is_of (operation_number c.args.catalogue.now) i.es _ i.unique i.kept,
       kept_is (operation_number c.args.catalogue.now) i.es _ i.unique i.keys i.kept,
@@ -61,7 +66,8 @@ invariant_of-result c =
       arith,
       i.counted,
       i.few,
-      (is_of (operation_number c.args.catalogue.now) i.es c.loop-line.table.entries i.unique i.kept).count,
+      (is_of (operation_number c.args.catalogue.now) i.es c.loop-line.table.entries i.unique
+          i.kept).count,
       distinct_count-le nat_eq (map (λ e. e.id) i.es),
       length-map i.es (λ e. e.id),
     )

@@ -12,7 +12,8 @@ returns-then-now-size_of-clause-does g c =
       end_here c.args.catalogue.now l c.args.slots.now c' m c.args.now h payload_count here,
       after_here c.args.catalogue.now l c.args.slots.now c' m c.args.now h payload_count here,
     )
-    (c.ends.ensures.does l c' m h (last_here c.args.catalogue.now l c.args.slots.now c' m c.args.now h payload_count here))
+    (c.ends.ensures.does l c' m h (last_here c.args.catalogue.now l c.args.slots.now c' m c.args.now
+    h payload_count here))
 
 pub returns-clause-does : goal.returns-clause-does
 returns-clause-does g c =

@@ -12,18 +12,24 @@ returns-in_default-clause-does g c =
 pub returns-then-may_be_cancelled-clause-does : goal.returns-then-may_be_cancelled-clause-does
 returns-then-may_be_cancelled-clause-does g c =
     λ C l c' m h f o b.
-    let found = finds C l c.args.slots.now c' m c.args.now c.args.id h (cancel_named m.header b) c.in-Some.k (sym c.in-Some.is ∙ c.find.ensures.value) in
+    let found = finds C l c.args.slots.now c' m c.args.now c.args.id h (cancel_named m.header b)
+    c.in-Some.k (sym c.in-Some.is ∙ c.find.ensures.value) in
     let may =
-    header_may C l c.args.slots.now c' m c.args.now c.args.id h found.o _ c.in-Some.k _ found.here c.at.ensures
+    header_may C l c.args.slots.now c' m c.args.now c.args.id h found.o _ c.in-Some.k _ found.here
+    c.at.ensures
     (sym c.if-may_be_cancelled.ensures) in
     rw (cancels_one C l c.args.slots.now c' m c.args.now c.args.id h found.o f o b found.is may)
-    (c.cancel.ensures.does C l c' _ found.o h.keeps (h.not_open (cancel_named m.header b)) found.here h.rising)
+    (c.cancel.ensures.does C l c' _ found.o h.keeps (h.not_open (cancel_named m.header b))
+    found.here h.rising)
 
 pub returns-clause-does : goal.returns-clause-does
 returns-clause-does g c =
     λ C l c' m h f o b.
-    let found = finds C l c.args.slots.now c' m c.args.now c.args.id h (cancel_named m.header b) c.in-Some.k (sym c.in-Some.is ∙ c.find.ensures.value) in
+    let found = finds C l c.args.slots.now c' m c.args.now c.args.id h (cancel_named m.header b)
+    c.in-Some.k (sym c.in-Some.is ∙ c.find.ensures.value) in
     let may =
-    header_may C l c.args.slots.now c' m c.args.now c.args.id h found.o _ c.in-Some.k _ found.here c.at.ensures
+    header_may C l c.args.slots.now c' m c.args.now c.args.id h found.o _ c.in-Some.k _ found.here
+    c.at.ensures
     (sym c.if-may_be_cancelled.ensures) in
-    rw (spares C l c.args.slots.now c' m c.args.now c.args.id h found.o f o b found.is may) (does_nothing _ _ refl h.keeps)
+    rw (spares C l c.args.slots.now c' m c.args.now c.args.id h found.o f o b found.is may)
+    (does_nothing _ _ refl h.keeps)

@@ -7,9 +7,12 @@ pub returns-then-is_short-clause-does : goal.returns-then-is_short-clause-does
 returns-then-is_short-clause-does g c =
     λ l c' m h last.
     let C = c.args.catalogue.now in
-    let keeps = rw (own_short c.args.catalogue.now l c.args.slots.now c' m c.args.now h c.if-is_short.ensures last) at h.keeps in
+    let keeps = rw (own_short c.args.catalogue.now l c.args.slots.now c' m c.args.now h
+    c.if-is_short.ensures last) at h.keeps in
     rw (ends_short c.args.catalogue.now l c.args.slots.now c' m c.args.now h c.if-is_short.ensures)
-    (performs_on c.fault_message-faulted.result _ _ refl (λ k. c.set_no_owner.ensures.kept C l _ _ k) (c.fault_message-faulted.ensures.does C l c' _ keeps h.current.number h.rising))
+    (performs_on c.fault_message-faulted.result _ _ refl
+    (λ k. c.set_no_owner.ensures.kept C l _ _ k)
+    (c.fault_message-faulted.ensures.does C l c' _ keeps h.current.number h.rising))
 
 pub returns-then-is_short-clause-ready : goal.returns-then-is_short-clause-ready
 returns-then-is_short-clause-ready g c =
@@ -18,8 +21,10 @@ returns-then-is_short-clause-ready g c =
 pub returns-then-is_followed-clause-does : goal.returns-then-is_followed-clause-does
 returns-then-is_followed-clause-does g c =
     λ l c' m h last.
-    rw (ends_followed c.args.catalogue.now l c.args.slots.now c' m c.args.now h c.if-is_short.ensures c.if-is_followed.ensures)
-    (does_nothing _ _ refl (c.set_no_owner-then-is_followed.ensures.kept c.args.catalogue.now l _ _ h.keeps))
+    rw (ends_followed c.args.catalogue.now l c.args.slots.now c' m c.args.now h
+    c.if-is_short.ensures c.if-is_followed.ensures)
+    (does_nothing _ _ refl (c.set_no_owner-then-is_followed.ensures.kept c.args.catalogue.now l _ _
+    h.keeps))
 
 pub returns-then-is_followed-clause-ready : goal.returns-then-is_followed-clause-ready
 returns-then-is_followed-clause-ready g c =
@@ -28,5 +33,6 @@ returns-then-is_followed-clause-ready g c =
 pub returns-clause-does : goal.returns-clause-does
 returns-clause-does g c =
     λ l c' m h last.
-    rw (ends_closed c.args.catalogue.now l c.args.slots.now c' m c.args.now h c.if-is_short.ensures c.if-is_followed.ensures last)
+    rw (ends_closed c.args.catalogue.now l c.args.slots.now c' m c.args.now h c.if-is_short.ensures
+    c.if-is_followed.ensures last)
     (c.close.ensures.does l c' _ h.keeps h.rising)

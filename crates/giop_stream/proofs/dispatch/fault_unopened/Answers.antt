@@ -7,7 +7,8 @@ pub returns-clause-does : goal.returns-clause-does
 returns-clause-does g c =
     λ C l c' m i h f e.
     rw (unknown C l c.args.slots.now c' m c.args.now i h f e)
-    (performs_on c.fault_message-faulted.result _ _ refl (λ k. c.set_no_owner.ensures.kept C l _ _ k)
+    (performs_on c.fault_message-faulted.result _ _ refl
+    (λ k. c.set_no_owner.ensures.kept C l _ _ k)
     (c.fault_message-faulted.ensures.does C l c' _ h.keeps h.current.number h.rising))
 
 pub returns-clause-ready : goal.returns-clause-ready

@@ -7,20 +7,24 @@ use Rattle.giop_stream.proofs.dispatch.named.Goals as goal
 pub returns-then-is_fragment-clause-does : goal.returns-then-is_fragment-clause-does
 returns-then-is_fragment-clause-does g c =
     λ C l c' m h.
-    let f = header_is C l c.args.slots.now c' m c.args.now c.args.id h is_fragment true (sym c.if-is_fragment.ensures) in
+    let f = header_is C l c.args.slots.now c' m c.args.now c.args.id h is_fragment true
+    (sym c.if-is_fragment.ensures) in
     rw (owner_fragment c'.still_open m f) (c.continues.ensures.does C l c' m h f)
 
 pub returns-then-is_opener-clause-does : goal.returns-then-is_opener-clause-does
 returns-then-is_opener-clause-does g c =
     λ C l c' m h.
-    let f = header_is C l c.args.slots.now c' m c.args.now c.args.id h is_fragment false (sym c.if-is_fragment.ensures) in
-    let o = header_is C l c.args.slots.now c' m c.args.now c.args.id h is_opener true (sym c.if-is_opener.ensures) in
+    let f = header_is C l c.args.slots.now c' m c.args.now c.args.id h is_fragment false
+    (sym c.if-is_fragment.ensures) in
+    let o = header_is C l c.args.slots.now c' m c.args.now c.args.id h is_opener true
+    (sym c.if-is_opener.ensures) in
     rw (owner_other c'.still_open m f) (c.opens.ensures.does C l c' m h f o)
 
 pub returns-then-not-is_cancel-clause-does : goal.returns-then-not-is_cancel-clause-does
 returns-then-not-is_cancel-clause-does g c =
     λ C l c' m h.
-    let f = header_is C l c.args.slots.now c' m c.args.now c.args.id h is_fragment false (sym c.if-is_fragment.ensures) in
+    let f = header_is C l c.args.slots.now c' m c.args.now c.args.id h is_fragment false
+    (sym c.if-is_fragment.ensures) in
     rw (
       owner_other c'.still_open m f,
       no_name C l c.args.slots.now c' m c.args.now c.args.id h (sym c.if-is_fragment.ensures)
@@ -30,15 +34,23 @@ returns-then-not-is_cancel-clause-does g c =
 pub returns-in_err-cancels-clause-does : goal.returns-in_err-cancels-clause-does
 returns-in_err-cancels-clause-does g c =
     λ C l c' m h.
-    let f = header_is C l c.args.slots.now c' m c.args.now c.args.id h is_fragment false (sym c.if-is_fragment.ensures) in
-    let o = header_is C l c.args.slots.now c' m c.args.now c.args.id h is_opener false (sym c.if-is_opener.ensures) in
-    let b = header_is C l c.args.slots.now c' m c.args.now c.args.id h is_cancel true (sym c.if-not-is_cancel.ensures) in
-    call_failed _ c.from_residual.result _ _ c.from_residual.ensures.0 (c.in_err-cancels.ensures.does C l c' m h f o b)
+    let f = header_is C l c.args.slots.now c' m c.args.now c.args.id h is_fragment false
+    (sym c.if-is_fragment.ensures) in
+    let o = header_is C l c.args.slots.now c' m c.args.now c.args.id h is_opener false
+    (sym c.if-is_opener.ensures) in
+    let b = header_is C l c.args.slots.now c' m c.args.now c.args.id h is_cancel true
+    (sym c.if-not-is_cancel.ensures) in
+    call_failed _ c.from_residual.result _ _ c.from_residual.ensures.0
+    (c.in_err-cancels.ensures.does C l c' m h f o b)
 
 pub returns-clause-does : goal.returns-clause-does
 returns-clause-does g c =
     λ C l c' m h.
-    let f = header_is C l c.args.slots.now c' m c.args.now c.args.id h is_fragment false (sym c.if-is_fragment.ensures) in
-    let o = header_is C l c.args.slots.now c' m c.args.now c.args.id h is_opener false (sym c.if-is_opener.ensures) in
-    let b = header_is C l c.args.slots.now c' m c.args.now c.args.id h is_cancel true (sym c.if-not-is_cancel.ensures) in
-    rw (owner_other c'.still_open m f) (counts_as _ _ _ _ refl (c.in_ok-cancels.ensures.does C l c' m h f o b))
+    let f = header_is C l c.args.slots.now c' m c.args.now c.args.id h is_fragment false
+    (sym c.if-is_fragment.ensures) in
+    let o = header_is C l c.args.slots.now c' m c.args.now c.args.id h is_opener false
+    (sym c.if-is_opener.ensures) in
+    let b = header_is C l c.args.slots.now c' m c.args.now c.args.id h is_cancel true
+    (sym c.if-not-is_cancel.ensures) in
+    rw (owner_other c'.still_open m f) (counts_as _ _ _ _ refl
+    (c.in_ok-cancels.ensures.does C l c' m h f o b))

@@ -12,7 +12,8 @@ pub returns-in_err-start_line-clause-does : goal.returns-in_err-start_line-claus
 returns-in_err-start_line-clause-does g c =
     λ l c' m x h.
     line_failed c.from_residual.result _ _ _ (record { more = _; is = refl })
-    (starts_text c.args.catalogue.now l c.args.slots.now c' m c.args.now x c.args.found h) c.from_residual.ensures.0 c.in_err-start_line.ensures
+    (starts_text c.args.catalogue.now l c.args.slots.now c' m c.args.now x c.args.found h)
+    c.from_residual.ensures.0 c.in_err-start_line.ensures
 
 pub returns-in_err-request_id_line-clause-does : goal.returns-in_err-request_id_line-clause-does
 returns-in_err-request_id_line-clause-does g c =
@@ -20,9 +21,11 @@ returns-in_err-request_id_line-clause-does g c =
     let C = c.args.catalogue.now in
     let s = c.args.slots.now in
     let failed = c.from_residual-in_err-request_id_line.ensures.0 in
-    line_then c.from_residual-in_err-request_id_line.result _ _ _ _ (starts_text C l s c' m c.args.now x c.args.found h)
+    line_then c.from_residual-in_err-request_id_line.result _ _ _ _
+    (starts_text C l s c' m c.args.now x c.args.found h)
     (starts_faults _ _) c.in_ok-start_line.ensures
-    (line_failed c.from_residual-in_err-request_id_line.result _ _ _ (record { more = _; is = all_lines C l s c' m c.args.now x c.args.found h })
+    (line_failed c.from_residual-in_err-request_id_line.result _ _ _
+    (record { more = _; is = all_lines C l s c' m c.args.now x c.args.found h })
     (said_text C l s c' m c.args.now x c.args.found h) failed c.in_err-request_id_line.ensures)
 
 pub returns-in_err-faulted-clause-does : goal.returns-in_err-faulted-clause-does
@@ -34,13 +37,17 @@ returns-in_err-faulted-clause-does g c =
     let took = (first (rules_by C l s.slots.most) c' (with_octet m x)).tracked in
     let opener = opener_at C l s c' m c.args.now x c.args.found h in
     let named = second_does C l s c' m c.args.now x c.args.found h one_if _ _ _ _
-    (c.in_err-faulted.ensures.does C l took _ (with_octet m x) opener.o (continues_at C l s c' m c.args.now x c.args.found h) h.fragment
+    (c.in_err-faulted.ensures.does C l took _ (with_octet m x) opener.o
+    (continues_at C l s c' m c.args.now x c.args.found h) h.fragment
     (opener_is C l s c' m c.args.now x c.args.found h) opener.here) in
-    line_then c.from_residual-in_err-faulted.result _ _ _ _ (starts_text C l s c' m c.args.now x c.args.found h)
+    line_then c.from_residual-in_err-faulted.result _ _ _ _
+    (starts_text C l s c' m c.args.now x c.args.found h)
     (starts_faults _ _) c.in_ok-start_line.ensures
-    (performs_on c.from_residual-in_err-faulted.result _ _ (all_lines C l s c' m c.args.now x c.args.found h)
+    (performs_on c.from_residual-in_err-faulted.result _ _
+    (all_lines C l s c' m c.args.now x c.args.found h)
     (leaves C l s c' m c.args.now x c.args.found h _)
-    (line_then c.from_residual-in_err-faulted.result _ _ _ _ (said_text C l s c' m c.args.now x c.args.found h)
+    (line_then c.from_residual-in_err-faulted.result _ _ _ _
+    (said_text C l s c' m c.args.now x c.args.found h)
     (said_faults _ _ _ _) c.in_ok-request_id_line.ensures
     (first_failed _ _ c.from_residual-in_err-faulted.result _ _ failed named)))
 
@@ -57,16 +64,21 @@ returns-in_err-ended-clause-does g c =
     let took = (first R c' (with_octet m x)).tracked in
     let opener = opener_at C l s c' m c.args.now x c.args.found h in
     let named = second_does C l s c' m c.args.now x c.args.found h one_if _ _ _ _
-    (c.in_ok-faulted.ensures.does C l took _ (with_octet m x) opener.o (continues_at C l s c' m c.args.now x c.args.found h) h.fragment
+    (c.in_ok-faulted.ensures.does C l took _ (with_octet m x) opener.o
+    (continues_at C l s c' m c.args.now x c.args.found h) h.fragment
     (opener_is C l s c' m c.args.now x c.args.found h) opener.here) in
     let ended =
     c.in_err-ended.ensures.does l (second R c' (with_octet m x)).tracked (with_octet m x)
-    (behind_id C l s c' m c.args.now x c.args.found h _ named.kept) (come C l s c' m c.args.now x c.args.found h) in
-    line_then c.from_residual-in_err-ended.result _ _ _ _ (starts_text C l s c' m c.args.now x c.args.found h)
+    (behind_id C l s c' m c.args.now x c.args.found h _ named.kept)
+    (come C l s c' m c.args.now x c.args.found h) in
+    line_then c.from_residual-in_err-ended.result _ _ _ _
+    (starts_text C l s c' m c.args.now x c.args.found h)
     (starts_faults _ _) c.in_ok-start_line.ensures
-    (performs_on c.from_residual-in_err-ended.result _ _ (all_lines C l s c' m c.args.now x c.args.found h)
+    (performs_on c.from_residual-in_err-ended.result _ _
+    (all_lines C l s c' m c.args.now x c.args.found h)
     (leaves C l s c' m c.args.now x c.args.found h _)
-    (line_then c.from_residual-in_err-ended.result _ _ _ _ (said_text C l s c' m c.args.now x c.args.found h)
+    (line_then c.from_residual-in_err-ended.result _ _ _ _
+    (said_text C l s c' m c.args.now x c.args.found h)
     (said_faults _ _ _ _) c.in_ok-request_id_line.ensures
     (then_failed _ c.from_residual-in_err-ended.result _ _ _ failed named
     (call_failed _ c.from_residual-in_err-ended.result _ _ failed ended))))
@@ -80,13 +92,18 @@ returns-clause-does g c =
     let took = (first R c' (with_octet m x)).tracked in
     let opener = opener_at C l s c' m c.args.now x c.args.found h in
     let named = second_does C l s c' m c.args.now x c.args.found h one_if _ _ _ _
-    (c.in_ok-faulted.ensures.does C l took _ (with_octet m x) opener.o (continues_at C l s c' m c.args.now x c.args.found h) h.fragment
+    (c.in_ok-faulted.ensures.does C l took _ (with_octet m x) opener.o
+    (continues_at C l s c' m c.args.now x c.args.found h) h.fragment
     (opener_is C l s c' m c.args.now x c.args.found h) opener.here) in
     let ended =
     c.in_ok-ended.ensures.does l (second R c' (with_octet m x)).tracked (with_octet m x)
-    (behind_id C l s c' m c.args.now x c.args.found h _ named.kept) (come C l s c' m c.args.now x c.args.found h) in
+    (behind_id C l s c' m c.args.now x c.args.found h _ named.kept)
+    (come C l s c' m c.args.now x c.args.found h) in
     counts_as _ _ _ _ (omega (arith, c.count.ensures.value))
-    (line_then _ _ _ _ _ (starts_text C l s c' m c.args.now x c.args.found h) (starts_faults _ _) c.in_ok-start_line.ensures
-    (performs_on _ _ _ (all_lines C l s c' m c.args.now x c.args.found h) (leaves C l s c' m c.args.now x c.args.found h _)
-    (line_then _ _ _ _ _ (said_text C l s c' m c.args.now x c.args.found h) (said_faults _ _ _ _) c.in_ok-request_id_line.ensures
+    (line_then _ _ _ _ _ (starts_text C l s c' m c.args.now x c.args.found h) (starts_faults _ _)
+    c.in_ok-start_line.ensures
+    (performs_on _ _ _ (all_lines C l s c' m c.args.now x c.args.found h)
+    (leaves C l s c' m c.args.now x c.args.found h _)
+    (line_then _ _ _ _ _ (said_text C l s c' m c.args.now x c.args.found h) (said_faults _ _ _ _)
+    c.in_ok-request_id_line.ensures
     (done_then _ _ _ _ _ named ended))))

@@ -8,7 +8,8 @@ use Rattle.giop_stream.proofs.going_on.feed_to_end.Goals as goal
 pub returns-in-Ok-clause-text : goal.returns-in-Ok-clause-text
 unfolding added
 returns-in-Ok-clause-text g c p h =
-    let same = rules_is c.feed.new.self _ _ _ c.in-Ok.ensures.same.0 c.in-Ok.ensures.same.1 c.in-Ok.ensures.most in
+    let same = rules_is c.feed.new.self _ _ _ c.in-Ok.ensures.same.0 c.in-Ok.ensures.same.1
+    c.in-Ok.ensures.most in
     going_on _ p c.args.rest.now _ _ _ c.finish.result (c.in-Ok.ensures.text p h)
     (closing_by c.finish.result _ _ _ _ (p ++ c.args.rest.now) same
     (c.finish.ensures.text (p ++ c.args.rest.now) (c.in-Ok.ensures.held p h)))
@@ -16,7 +17,8 @@ returns-in-Ok-clause-text g c p h =
 
 pub returns-in-Ok-clause-totals : goal.returns-in-Ok-clause-totals
 returns-in-Ok-clause-totals g c p h =
-    let same = rules_is c.feed.new.self _ _ _ c.in-Ok.ensures.same.0 c.in-Ok.ensures.same.1 c.in-Ok.ensures.most in
+    let same = rules_is c.feed.new.self _ _ _ c.in-Ok.ensures.same.0 c.in-Ok.ensures.same.1
+    c.in-Ok.ensures.most in
     final_by c.finish.result _ _ (p ++ c.args.rest.now) same
     (c.finish.ensures.totals (p ++ c.args.rest.now) (c.in-Ok.ensures.held p h))
 

@@ -4,7 +4,8 @@ use Rattle.giop_stream.proofs.loading.add.Goals as goal
 
 pub returns-in-Current-clause-one_open : goal.returns-in-Current-clause-one_open
 returns-in-Current-clause-one_open c l held is room =
-    absurd (open_not_current c.args.catalogue.now l (c.args.octets + 1) c.args.first.now held is c.in-Current.is)
+    absurd (open_not_current c.args.catalogue.now l (c.args.octets + 1) c.args.first.now held is
+    c.in-Current.is)
 
 pub returns-in-Current-clause-one_current : goal.returns-in-Current-clause-one_current
 returns-in-Current-clause-one_current c l own is =
@@ -18,16 +19,20 @@ returns-in-Open-clause-one_open c l held is room =
 
 pub returns-in-Open-clause-one_current : goal.returns-in-Open-clause-one_current
 returns-in-Open-clause-one_current c l own is =
-    absurd (current_not_open c.args.catalogue.now l (c.args.octets + 1) c.args.first.now own _ is c.in-Open.is)
+    absurd (current_not_open c.args.catalogue.now l (c.args.octets + 1) c.args.first.now own _ is
+    c.in-Open.is)
 
 pub returns-in-Over-clause-ready : goal.returns-in-Over-clause-ready
-returns-in-Over-clause-ready c e = c.add_over.ensures.ready c.args.catalogue.now (c.args.octets + 1) c.requires.ready
+returns-in-Over-clause-ready c e = c.add_over.ensures.ready c.args.catalogue.now (c.args.octets + 1)
+    c.requires.ready
 
 pub returns-in-Over-clause-one_open : goal.returns-in-Over-clause-one_open
 returns-in-Over-clause-one_open c l held is room =
-    let made = c.add_over.ensures.again c.args.catalogue.now l (c.args.octets + 1) held is c.in-Over.is room in
+    let made = c.add_over.ensures.again c.args.catalogue.now l (c.args.octets + 1) held is
+    c.in-Over.is room in
     (made.0, made.1, c.add_over.ensures.owner)
 
 pub returns-in-Over-clause-one_current : goal.returns-in-Over-clause-one_current
 returns-in-Over-clause-one_current c l own is =
-    absurd (current_not_over c.args.catalogue.now l (c.args.octets + 1) c.args.first.now own _ is c.in-Over.is)
+    absurd (current_not_over c.args.catalogue.now l (c.args.octets + 1) c.args.first.now own _ is
+    c.in-Over.is)

@@ -10,6 +10,7 @@ invariant-loop l = record {
   ready : AreReady l.catalogue (l.octets + 1) l.slots;
   lengths : AreRecords (l.count - l.counter) l.rest;
   most : l.slots.slots.most ≡ l.initial.slots.slots.most;
-  completes : (a : Answers) → Completes l.catalogue a (l.octets + 1) l.count l.records l.initial.slots l.slots
+  completes : (a : Answers) → Completes l.catalogue a (l.octets + 1) l.count l.records
+      l.initial.slots l.slots
       (l.count - l.counter) l.rest;
 }

@@ -4,6 +4,7 @@ use Rattle.giop_stream.proofs.loading.add_current.Goals as goal
 
 pub returns-clause-again : goal.returns-clause-again
 returns-clause-again c l own is =
-    let made = current_again c.args.catalogue.now l c.args.octets c.args.first.now own c.message_of-message.result is
+    let made = current_again c.args.catalogue.now l c.args.octets c.args.first.now own
+    c.message_of-message.result is
     c.message_of-message.ensures.again in
     (c.is_some-in_range.ensures ∙ made.0, (refl, made.1))

@@ -6,15 +6,18 @@ use Rattle.giop_stream.proofs.loading.add_first.Goals as goal
 
 pub returns-in_default-clause-again : goal.returns-in_default-clause-again
 returns-in_default-clause-again c l count held own some left room bare =
-    absurd (front_found c.args.catalogue.now l (c.args.octets + 1) count c.args.records.now held own left some
+    absurd (front_found c.args.catalogue.now l (c.args.octets + 1) count c.args.records.now held own
+    left some
     c.in_default.ensures.again)
 
 pub returns-then-not-add-clause-again : goal.returns-then-not-add-clause-again
 returns-then-not-add-clause-again c l count held own some left room bare =
     let C = c.args.catalogue.now in
     let at = c.args.octets + 1 in
-    let front = front_is C l at count c.args.records.now c.in-Some.first some c.in-Some.ensures.again held own left in
-    let added = first_added C l at count c.in-Some.first c.args.slots.now c.add.new.slots c.add.result
+    let front = front_is C l at count c.args.records.now c.in-Some.first some
+    c.in-Some.ensures.again held own left in
+    let added = first_added C l at count c.in-Some.first c.args.slots.now c.add.new.slots
+    c.add.result
     (c.add.ensures.one_open l) (c.add.ensures.one_current l) held own front room in
     absurd (cc (added.0, c.if-not-add.true))
 
@@ -22,10 +25,12 @@ pub returns-clause-again : goal.returns-clause-again
 returns-clause-again c l count held own some left room bare =
     let C = c.args.catalogue.now in
     let at = c.args.octets + 1 in
-    let front = front_is C l at count c.args.records.now c.in-Some.first some c.in-Some.ensures.again held own left in
+    let front = front_is C l at count c.args.records.now c.in-Some.first some
+    c.in-Some.ensures.again held own left in
     (first_added C l at count c.in-Some.first c.args.slots.now c.add.new.slots c.add.result
     (c.add.ensures.one_open l) (c.add.ensures.one_current l) held own front room).1
 
 pub returns-then-is_some-clause-again : goal.returns-then-is_some-clause-again
 returns-then-is_some-clause-again c l count held own some left room bare =
-    absurd (false≢true (sym (ap (λ of. is_some (current_of of)) bare) ∙ sym c.current.ensures.variant ∙ sym c.is_some.ensures ∙ c.if-is_some.true))
+    absurd (false≢true (sym (ap (λ of. is_some (current_of of)) bare)
+    ∙ sym c.current.ensures.variant ∙ sym c.is_some.ensures ∙ c.if-is_some.true))

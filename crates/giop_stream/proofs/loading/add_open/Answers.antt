@@ -9,13 +9,15 @@ returns-then-is_some-clause-ready c e =
 
 pub returns-then-is_some-clause-again : goal.returns-then-is_some-clause-again
 returns-then-is_some-clause-again c l held is opened room =
-    let made = open_again c.args.catalogue.now l c.args.octets c.args.first.now held c.args.id c.message_of-message.result
+    let made = open_again c.args.catalogue.now l c.args.octets c.args.first.now held c.args.id
+    c.message_of-message.result
     is opened c.message_of-message.ensures.again in
     let put = c.push.ensures.added room in
     (put.0, added_one c.args.catalogue.now l _ _ _ held put.1 made.1)
 
 pub returns-else-is_some-clause-again : goal.returns-else-is_some-clause-again
 returns-else-is_some-clause-again c l held is opened room =
-    let made = open_again c.args.catalogue.now l c.args.octets c.args.first.now held c.args.id c.message_of-message.result
+    let made = open_again c.args.catalogue.now l c.args.octets c.args.first.now held c.args.id
+    c.message_of-message.result
     is opened c.message_of-message.ensures.again in
     absurd (cc (made.0, c.is_some.ensures, c.if-is_some.false))

@@ -9,15 +9,19 @@ pub returns-then-not-add_all-clause-again : goal.returns-then-not-add_all-clause
 returns-then-not-add_all-clause-again c l n octets p s fixed_is records_are =
     let R = rules c.args.catalogue.now l n in
     let bare = c.requires.bare in
-    let limit = c.requires.most ∙ limit_is octets p c.args.catalogue.now l n s c.args.fixed fixed_is in
-    let left = spells_left octets p c.args.catalogue.now l n s c.args.fixed c.args.records.now fixed_is records_are in
+    let limit = c.requires.most ∙ limit_is octets p c.args.catalogue.now l n s c.args.fixed fixed_is
+    in
+    let left = spells_left octets p c.args.catalogue.now l n s c.args.fixed c.args.records.now
+    fixed_is records_are in
     let room = room_for R p c.args.slots bare.no_slots in
-    let made = c.add_all.ensures.again (by_list l) (state_of R p).slots (state_of R p).own left (omega (arith, room, limit)) bare.no_owner in
+    let made = c.add_all.ensures.again (by_list l) (state_of R p).slots (state_of R p).own left
+    (omega (arith, room, limit)) bare.no_owner in
     cc (made.0, c.if-not-add_all.true)
 
 pub returns-then-not-may_be-clause-again : goal.returns-then-not-may_be-clause-again
 returns-then-not-may_be-clause-again c l n octets p s fixed_is records_are =
-    let may = totals_again octets p c.args.catalogue.now l n s c.stop_of-stopped.result c.len.result c.args.fixed fixed_is
+    let may = totals_again octets p c.args.catalogue.now l n s c.stop_of-stopped.result c.len.result
+    c.args.fixed fixed_is
     c.stop_of-stopped.ensures (c.len.ensures.value ∙ ap length c.header_of-header.ensures.header) in
     let is = c.may_be.ensures.again may.running may.messages may.faults may.held in
     cc (is, c.if-not-may_be.true)
@@ -26,11 +30,15 @@ pub returns-clause-again : goal.returns-clause-again
 returns-clause-again c l n octets p s fixed_is records_are =
     let R = rules c.args.catalogue.now l n in
     let bare = c.requires.bare in
-    let limit = c.requires.most ∙ limit_is octets p c.args.catalogue.now l n s c.args.fixed fixed_is in
-    let left = spells_left octets p c.args.catalogue.now l n s c.args.fixed c.args.records.now fixed_is records_are in
+    let limit = c.requires.most ∙ limit_is octets p c.args.catalogue.now l n s c.args.fixed fixed_is
+    in
+    let left = spells_left octets p c.args.catalogue.now l n s c.args.fixed c.args.records.now
+    fixed_is records_are in
     let room = room_for R p c.args.slots bare.no_slots in
-    let made = c.add_all.ensures.again (by_list l) (state_of R p).slots (state_of R p).own left (omega (arith, room, limit)) bare.no_owner in
-    shows_again octets p c.args.catalogue.now l n s _ c.args.slots c.add_all.new.slots bare.no_slots c.args.fixed fixed_is
+    let made = c.add_all.ensures.again (by_list l) (state_of R p).slots (state_of R p).own left
+    (omega (arith, room, limit)) bare.no_owner in
+    shows_again octets p c.args.catalogue.now l n s _ c.args.slots c.add_all.new.slots bare.no_slots
+    c.args.fixed fixed_is
     (record {
       totals = refl;
       stopped = c.stop_of-stopped.ensures;

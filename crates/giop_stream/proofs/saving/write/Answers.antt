@@ -9,27 +9,38 @@ pub returns-in_default-clause-whole : goal.returns-in_default-clause-whole
 returns-in_default-clause-whole g c =
     let C = c.args.catalogue.now in
     let before = g.O.Out.log c.args.out.now in
-    let fixed = c.as_slice.ensures.value ∙ c.write.ensures.put ∙ ap (λ (xs : List ℕ). xs ++ fixed_octets Third c.fixed_part.result) c.new-fixed.ensures
+    let fixed = c.as_slice.ensures.value ∙ c.write.ensures.put
+    ∙ ap (λ (xs : List ℕ). xs ++ fixed_octets Third c.fixed_part.result) c.new-fixed.ensures
     ∙ ap (fixed_octets Third) c.fixed_part.ensures in
     let begun = c.put_next-begun.ensures.put before [] (put_none_yet before) in
     let at = c.args.framing.now.totals.octets + 1 in
     let so_far = c.write_open-written.ensures.put C at before _ c.requires.ready.each_ready begun in
-    record { octets = so_far.octets; is = whole_is C c.args.requests.now _ _ _ (sym c.in_default.ensures.value) fixed so_far.is; puts = so_far.puts }
+    record {
+      octets = so_far.octets;
+      is = whole_is C c.args.requests.now _ _ _
+          (sym c.in_default.ensures.value) fixed so_far.is;
+      puts = so_far.puts;
+    }
 
 pub returns-clause-whole : goal.returns-clause-whole
 returns-clause-whole g c =
     let C = c.args.catalogue.now in
     let before = g.O.Out.log c.args.out.now in
-    let fixed = c.as_slice.ensures.value ∙ c.write.ensures.put ∙ ap (λ (xs : List ℕ). xs ++ fixed_octets Third c.fixed_part.result) c.new-fixed.ensures
+    let fixed = c.as_slice.ensures.value ∙ c.write.ensures.put
+    ∙ ap (λ (xs : List ℕ). xs ++ fixed_octets Third c.fixed_part.result) c.new-fixed.ensures
     ∙ ap (fixed_octets Third) c.fixed_part.ensures in
     let begun = c.put_next-begun.ensures.put before [] (put_none_yet before) in
     let at = c.args.framing.now.totals.octets + 1 in
     let so_far = c.write_open-written.ensures.put C at before _ c.requires.ready.each_ready begun in
     let m = c.in-Some.message.now in
-    let one = c.write_message.ensures.put C (ready_fits C at (current_of c.args.framing.now.slots.owner) m (sym c.in-Some.ensures.value) c.requires.ready.current_ready) in
-    let last = current_is m _ _ _ _ c.number-number.ensures c.header-header.ensures (put_behind _ _ _ _ _ c.new-record.ensures c.as_slice-2.ensures.value one) in
+    let one = c.write_message.ensures.put C
+    (ready_fits C at (current_of c.args.framing.now.slots.owner) m (sym c.in-Some.ensures.value)
+    c.requires.ready.current_ready) in
+    let last = current_is m _ _ _ _ c.number-number.ensures c.header-header.ensures
+    (put_behind _ _ _ _ _ c.new-record.ensures c.as_slice-2.ensures.value one) in
     record {
       octets = so_far.octets ++ c.as_slice-2.result.now;
-      is = whole_own C c.args.requests.now _ m _ _ _ (sym c.in-Some.ensures.value) fixed so_far.is last;
+      is = whole_own C c.args.requests.now _ m _ _ _ (sym c.in-Some.ensures.value) fixed so_far.is
+          last;
       puts = c.put_next.ensures.put before so_far.octets so_far.puts;
     }

@@ -9,7 +9,13 @@ pub returns-clause-put : goal.returns-clause-put
 returns-clause-put c C fits =
     let few = c.store-count.ensures.few in
     let entry : Entry = record {
-      record_is = record { frames = c.store-count.result; record_kind = c.args.record_kind; number = c.args.number; header = c.args.header };
+      record_is = record {
+        frames = c.store-count.result;
+        record_kind = c.args.record_kind;
+        number =
+            c.args.number;
+        header = c.args.header;
+      };
       message = c.store-count.new.fixed;
       frames = take (FRAME_SIZE * c.store-count.result) c.store-count.new.frames;
     } in
@@ -24,7 +30,12 @@ returns-clause-put c C fits =
         standing_is = refl;
         number_is = refl;
         header_is = refl;
-        message = record { stored = c.store-count.ensures.stored C fits; shallow = c.store-count.ensures.depth };
+        message = record {
+          stored = c.store-count.ensures.stored C fits;
+          shallow =
+              c.store-count.ensures.depth;
+        };
       };
-      put = kept_put _ _ _ _ entry c.write.ensures.put c.put_octets.ensures.put c.put_octets-2.ensures.put;
+      put = kept_put _ _ _ _ entry c.write.ensures.put c.put_octets.ensures.put
+          c.put_octets-2.ensures.put;
     }

@@ -17,17 +17,20 @@ loop-k-preserved g c =
           let one = c.write_slot.ensures.put C at (ready_at C at slots i slot below is ready) in
           record {
             octets = so_far.octets ++ c.as_slice.result.now;
-            is = put_read slots i slot _ _ _ below is so_far.is (put_behind _ _ _ _ _ c.new-record.ensures c.as_slice.ensures.value one);
+            is = put_read slots i slot _ _ _ below is so_far.is
+                (put_behind _ _ _ _ _ c.new-record.ensures c.as_slice.ensures.value one);
             puts = c.put_next-written.ensures.put before so_far.octets so_far.puts;
           };
       size =
           let few = c.write_slot.ensures.len in
           let none = ap length c.new-record.ensures in
           let long = ap length c.as_slice.ensures.value in
-          ok_within _ _ _ (omega (arith, few, none, long)) (c.put_next-written.ensures.size (96 + 832 * i) c.loop-k.invariant.size);
+          ok_within _ _ _ (omega (arith, few, none, long))
+          (c.put_next-written.ensures.size (96 + 832 * i) c.loop-k.invariant.size);
     }
 
 pub returns-clause-put : goal.returns-clause-put
 returns-clause-put g c C at before front ready puts =
     let end = rw c.len-k-end.ensures.value at c.loop-k-test.false in
-    puts_all c.args.slots.now.slots.entries c.loop-k.k _ _ _ front end (c.loop-k.invariant.put C at before front ready puts)
+    puts_all c.args.slots.now.slots.entries c.loop-k.k _ _ _ front end
+    (c.loop-k.invariant.put C at before front ready puts)

@@ -9,8 +9,10 @@ use Rattle.giop_stream.proofs.saving.write_open.Given as goal
 
 abbrev pub invariant-loop-k : goal.invariant-loop-k
 invariant-loop-k g l = record {
-  put : (C : Table) (at : ℕ) (before : OutLog) (front : List ℕ) → Each (λ slot. IsReady C at slot.value.message) l.slots.slots.entries
+  put : (C : Table) (at : ℕ) (before : OutLog) (front : List ℕ) →
+      Each (λ slot. IsReady C at slot.value.message) l.slots.slots.entries
       → Puts l.initial.written before (g.O.Out.log l.initial.out) front
-      → PutsSuch l.written before (g.O.Out.log l.out) (λ octets. IsPut front octets (AreOpen (take l.k l.slots.slots.entries)));
+      → PutsSuch l.written before (g.O.Out.log l.out)
+      (λ octets. IsPut front octets (AreOpen (take l.k l.slots.slots.entries)));
   size : IfOk l.written (λ n. n ≤ 96 + 832 * l.k);
 }

@@ -4,6 +4,12 @@ use Rattle.tcp_connections.proofs.laws.capture_event_is_told.Goals as goal
 
 pub returns : goal.returns
 returns g c = record {
-  state = λ before behind live known w event h o. told_capture (g.L.Listener.observed before) (g.L.Listener.observed behind) live known w event h o;
-  has = λ before behind live known w event h o. (with_capture_event w event, told_capture (g.L.Listener.observed before) (g.L.Listener.observed behind) live known w event h o);
+  state = λ before behind live known w event h o.
+      told_capture (g.L.Listener.observed before) (g.L.Listener.observed behind) live known w event
+      h o;
+  has = λ before behind live known w event h o. (
+    with_capture_event w event,
+    told_capture (g.L.Listener.observed before)
+        (g.L.Listener.observed behind) live known w event h o,
+  );
 }

@@ -4,7 +4,8 @@ use Rattle.tcp_flow.specs.Flow.{header_at}
 use Rattle.tcp_flow.proofs.flow.header_at.Given as goal
 
 abbrev pub invariant-loop-index : goal.invariant-loop-index
-invariant-loop-index l = (l.index ≤ length l.octets) × (header_at l.octets ≡ option_map (λ (k : ℕ). l.index + k) (header_at (drop l.index l.octets)))
+invariant-loop-index l = (l.index ≤ length l.octets)
+    × (header_at l.octets ≡ option_map (λ (k : ℕ). l.index + k) (header_at (drop l.index l.octets)))
 
 abbrev pub decreases-loop-index : goal.decreases-loop-index
 decreases-loop-index l = length l.octets - l.index

@@ -6,20 +6,32 @@ use Rattle.tcp_streams.proofs.streams.begin.Goals as goal
 
 pub push_back_reserved-requires : goal.push_back_reserved-requires
 push_back_reserved-requires c =
-    let fewer : length (without c.args.flow c.args.live.now.items) < most_ids = fewer_ids c.args.flow c.args.live.now.items (omega (arith, c.if-flow-lt-MOST_IDS.true)) c.requires.ids in
-    omega (arith, fewer, ap length c.take_away.ensures.items, c.take_away.ensures.capacity, c.requires.room, c.take_away.new.numbers.ok.0)
+    let fewer : length (without c.args.flow c.args.live.now.items) < most_ids =
+    fewer_ids c.args.flow c.args.live.now.items (omega (arith, c.if-flow-lt-MOST_IDS.true))
+    c.requires.ids in
+    omega (
+      arith,
+      fewer,
+      ap length c.take_away.ensures.items,
+      c.take_away.ensures.capacity,
+      c.requires.room,
+      c.take_away.new.numbers.ok.0,
+    )
 
 pub returns-then-flow-lt-MOST_IDS-clause-items : goal.returns-then-flow-lt-MOST_IDS-clause-items
 unfolding begun
 returns-then-flow-lt-MOST_IDS-clause-items c =
     let xs = c.args.live.now.items in
     let id = c.args.flow in
-    c.push_back_reserved.ensures.items ∙ ap (λ (ys : List ℕ). ys ++ id ∷ []) c.take_away.ensures.items
-    ∙ sym (cond-true (nat_lt id most_ids) (without id xs ++ id ∷ []) xs (lt-ltb id most_ids (omega (arith, c.if-flow-lt-MOST_IDS.true))))
+    c.push_back_reserved.ensures.items ∙ ap (λ (ys : List ℕ). ys ++ id ∷ [])
+    c.take_away.ensures.items
+    ∙ sym (cond-true (nat_lt id most_ids) (without id xs ++ id ∷ []) xs
+    (lt-ltb id most_ids (omega (arith, c.if-flow-lt-MOST_IDS.true))))
 
 pub returns-else-flow-lt-MOST_IDS-clause-items : goal.returns-else-flow-lt-MOST_IDS-clause-items
 unfolding begun
 returns-else-flow-lt-MOST_IDS-clause-items c =
     let xs = c.args.live.now.items in
     let id = c.args.flow in
-    sym (cond-false (nat_lt id most_ids) (without id xs ++ id ∷ []) xs (le-ltb id most_ids (omega (arith, c.if-flow-lt-MOST_IDS.false))))
+    sym (cond-false (nat_lt id most_ids) (without id xs ++ id ∷ []) xs
+    (le-ltb id most_ids (omega (arith, c.if-flow-lt-MOST_IDS.false))))

@@ -9,7 +9,8 @@ pub invariant_of-self : goal.invariant_of-self
 invariant_of-self c =
     let others : Each (λ other. (other.key == c.args.id) ≡ false) c.self.inside.table.entries =
     rw (c.self.view_is, c.make_room.ensures.entries, c.take.ensures.entries)
-    (each_drop {V = Call} (λ other. (other.key == c.args.id) ≡ false) _ _ (others_without c.args.id c.args.self.now.entries)) in
+    (each_drop {V = Call} (λ other. (other.key == c.args.id) ≡ false) _ _
+    (others_without c.args.id c.args.self.now.entries)) in
     let room : length c.self.inside.table.entries < c.self.inside.table.most =
     leb-false _ _ (sym c.is_full.ensures ∙ c.if-not-is_full.true) in
     rw (c.add.ensures.entries, c.add.ensures.most) (

@@ -7,7 +7,8 @@ pub invariant_of-self : goal.invariant_of-self
 invariant_of-self c =
     let place = sym c.find.ensures.value ∙ c.in-Some.is in
     let there = c.take.ensures.variant.1 (rw c.in-Some.is at c.find.ensures.within) in
-    let left = on_some _ _ there c.take.ensures.entries ∙ removed_at _ _ _ c.self.invariant.0 place in
+    let left = on_some _ _ there c.take.ensures.entries
+    ∙ removed_at _ _ _ c.self.invariant.0 place in
     rw (left, c.take.ensures.most) (
       apart_without _ _ c.self.invariant.0,
       omega (arith, length_without c.args.id c.self.inside.table.entries, c.self.invariant.1),

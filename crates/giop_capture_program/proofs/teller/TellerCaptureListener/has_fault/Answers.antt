@@ -6,5 +6,6 @@ pub returns-in-Ok-clause-does : goal.returns-in-Ok-clause-does
 returns-in-Ok-clause-does g c =
     λ events h. (
       followed_on c.fault.new.self.rooms.items events _ (c.in-Ok.ensures.follows events h.0),
-      λ S written begins. rw (← c.word.ensures) (c.in-Ok.ensures.told S written events (h.1 S written begins)),
+      λ S written begins. rw (← c.word.ensures)
+          (c.in-Ok.ensures.told S written events (h.1 S written begins)),
     )

@@ -14,12 +14,14 @@ take-requires-clause-state g c =
     let (start, packets, h, few) = c.requires.taken in
     let w = after_packets g.L.Listener.faulted start packets in (
       with_capture_event w (PacketArrives c.args.packet.time),
-      told_of _ _ _ _ w (packet_view c.args.packet) h.state (c.arrives.ensures w.events h.state.observed),
+      told_of _ _ _ _ w (packet_view c.args.packet) h.state
+          (c.arrives.ensures w.events h.state.observed),
     )
 
 pub take-requires-clause-whole : goal.take-requires-clause-whole
 take-requires-clause-whole g c =
-    payload_short _ _ (segment_view c.in-Some.segment) (segment_of _ _ _ c.in-Some.segment c.segment.ensures c.in-Some.is) c.requires.whole
+    payload_short _ _ (segment_view c.in-Some.segment)
+    (segment_of _ _ _ c.in-Some.segment c.segment.ensures c.in-Some.is) c.requires.whole
 
 pub returns-in_default-clause-does : goal.returns-in_default-clause-does
 returns-in_default-clause-does g c =
@@ -28,7 +30,10 @@ returns-in_default-clause-does g c =
     let w = after_packets g.L.Listener.faulted start packets in
     let none : segment c.args.packet.link c.args.packet.octets.now ≡ None =
     sym c.segment.ensures ∙ ap (option_map segment_view) c.in_default.is in
-    read_more _ _ _ _ _ _ _ _ _ _ _ start packets p h (segment_came _ _ _ _ start packets p None none (told_of _ _ _ _ w p h.state (c.arrives.ensures w.events h.state.observed))) (omega arith) c.note_link.ensures.links c.note_link.ensures.told
+    read_more _ _ _ _ _ _ _ _ _ _ _ start packets p h
+    (segment_came _ _ _ _ start packets p None none
+    (told_of _ _ _ _ w p h.state (c.arrives.ensures w.events h.state.observed))) (omega arith)
+    c.note_link.ensures.links c.note_link.ensures.told
 
 pub returns-clause-does : goal.returns-clause-does
 returns-clause-does g c =
@@ -37,5 +42,9 @@ returns-clause-does g c =
     let w = after_packets g.L.Listener.faulted start packets in
     let v = with_capture_event w (PacketArrives c.args.packet.time) in
     let some = segment_of _ _ _ c.in-Some.segment c.segment.ensures c.in-Some.is in
-    let came = c.take.ensures.does v (told_of _ _ _ _ w p h.state (c.arrives.ensures w.events h.state.observed)) in
-    answered _ _ c.heard.ensures (both _ _ c.take.result came c.take.ensures.count) (λ k. read_more _ _ _ _ _ _ _ _ _ _ _ start packets p h (segment_came _ _ _ _ start packets p (Some (segment_view c.in-Some.segment)) some k.0) (let n = k.1 in omega arith) c.note_link.ensures.links c.note_link.ensures.told)
+    let came = c.take.ensures.does v (told_of _ _ _ _ w p h.state
+    (c.arrives.ensures w.events h.state.observed)) in
+    answered _ _ c.heard.ensures (both _ _ c.take.result came c.take.ensures.count)
+    (λ k. read_more _ _ _ _ _ _ _ _ _ _ _ start packets p h
+    (segment_came _ _ _ _ start packets p (Some (segment_view c.in-Some.segment)) some k.0)
+    (let n = k.1 in omega arith) c.note_link.ensures.links c.note_link.ensures.told)

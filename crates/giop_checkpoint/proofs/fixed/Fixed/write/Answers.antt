@@ -8,6 +8,9 @@ unfolding fixed_octets
 returns-clause-put g c =
     then _ _ _ _ _
     (then _ _ _ _ _
-    (then _ _ _ _ _ (c.put_octets.ensures.put ∙ ap (λ (xs : List ℕ). c.args.out.now.items ++ xs) c.magic.ensures) (c.put_octets-2.ensures.put ∙ ap (λ (xs : List ℕ). c.put_octets.new.out.items ++ xs) c.version.ensures))
+    (then _ _ _ _ _ (c.put_octets.ensures.put
+    ∙ ap (λ (xs : List ℕ). c.args.out.now.items ++ xs) c.magic.ensures)
+    (c.put_octets-2.ensures.put ∙ ap (λ (xs : List ℕ). c.put_octets.new.out.items ++ xs)
+    c.version.ensures))
     c.write.ensures.put)
     c.write_state.ensures.put

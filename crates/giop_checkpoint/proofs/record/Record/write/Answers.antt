@@ -9,6 +9,7 @@ unfolding own_octets
 returns-clause-put g c =
     then _ _ _ _ _
     (then _ _ _ _ _
-    (then _ _ _ _ _ (then _ _ _ _ _ c.write_kind.ensures.put c.put_eight.ensures.put) c.put_octets.ensures.put)
+    (then _ _ _ _ _ (then _ _ _ _ _ c.write_kind.ensures.put c.put_eight.ensures.put)
+    c.put_octets.ensures.put)
     (c.put_four.ensures.put ∙ ap (λ (n : ℕ). c.put_octets.new.out.items ++ four n) c.id.ensures))
     c.put_zeros.ensures.put

@@ -12,10 +12,13 @@ returns-in-Some-clause-follows g c = λ events number follows.
     let rooms = c.args.self.now.rooms in
     let old = c.in-Some.room.now in
     let new = c.begin.new.self in
-    let here = element rooms.items (vec_len rooms) (c.args.flow / 2) old rooms.ok.0 (c.in-Some.ensures.variant.0 refl) c.in-Some.ensures.value in
-    on_ok c.begin.result (HaveFollowed (set rooms.items (c.args.flow / 2) new) (events ++ Begins c.args.flow number ∷ []))
+    let here = element rooms.items (vec_len rooms) (c.args.flow / 2) old rooms.ok.0
+    (c.in-Some.ensures.variant.0 refl) c.in-Some.ensures.value in
+    on_ok c.begin.result (HaveFollowed (set rooms.items (c.args.flow / 2) new)
+    (events ++ Begins c.args.flow number ∷ []))
     (stream_begun rooms.items events c.args.flow number old new follows here
-    (rw c.parity_of.ensures at c.begin.ensures.read) (rw c.parity_of.ensures at c.begin.ensures.other))
+    (rw c.parity_of.ensures at c.begin.ensures.read)
+    (rw c.parity_of.ensures at c.begin.ensures.other))
 
 pub returns-in-Some-clause-fails : goal.returns-in-Some-clause-fails
 returns-in-Some-clause-fails g c =
@@ -26,7 +29,8 @@ pub returns-in-None-clause-follows : goal.returns-in-None-clause-follows
 returns-in-None-clause-follows g c = λ events number follows.
     let rooms = c.args.self.now.rooms in
     followed_beyond rooms.items events (Begins c.args.flow number) c.args.flow follows
-    (no_element rooms.items (vec_len rooms) (c.args.flow / 2) rooms.ok.0 c.in-None.ensures.variant.1)
+    (no_element rooms.items (vec_len rooms) (c.args.flow / 2) rooms.ok.0
+    c.in-None.ensures.variant.1)
     (of_begins c.args.flow number)
 
 pub returns-in-Some-clause-told : goal.returns-in-Some-clause-told
@@ -35,20 +39,27 @@ returns-in-Some-clause-told g c = λ S written events number told.
     let rooms = now.rooms in
     let t = now.totals in
     let old = c.in-Some.room.now in
-    let here = element rooms.items (vec_len rooms) (c.args.flow / 2) old rooms.ok.0 (c.in-Some.ensures.variant.0 refl) c.in-Some.ensures.value in
-    begun_told S written events rooms.items now.out now.time t.streams t.messages t.faults now.cut c.begin.result c.args.flow number
-    c.sum_within-self.result old c.begin.new.self c.begin.new.out c.sum_within-self.ensures told here
-    (λ k. rw c.parity_of.ensures at (c.begin.ensures.held S k)) (λ k w. rw c.parity_of.ensures at (c.begin.ensures.text S k w))
+    let here = element rooms.items (vec_len rooms) (c.args.flow / 2) old rooms.ok.0
+    (c.in-Some.ensures.variant.0 refl) c.in-Some.ensures.value in
+    begun_told S written events rooms.items now.out now.time t.streams t.messages t.faults now.cut
+    c.begin.result c.args.flow number
+    c.sum_within-self.result old c.begin.new.self c.begin.new.out c.sum_within-self.ensures told
+    here
+    (λ k. rw c.parity_of.ensures at (c.begin.ensures.held S k))
+    (λ k w. rw c.parity_of.ensures at (c.begin.ensures.text S k w))
 
 pub returns-in-None-clause-told : goal.returns-in-None-clause-told
 returns-in-None-clause-told g c = λ S written events number told.
     let now = c.args.self.now in
     let rooms = now.rooms in
     let t = now.totals in
-    begun_beyond S written events rooms.items now.out now.time t.streams t.messages t.faults now.cut c.args.flow number
+    begun_beyond S written events rooms.items now.out now.time t.streams t.messages t.faults now.cut
+    c.args.flow number
     c.sum_within-self.result c.sum_within-self.ensures told
-    (no_element rooms.items (vec_len rooms) (c.args.flow / 2) rooms.ok.0 c.in-None.ensures.variant.1)
+    (no_element rooms.items (vec_len rooms) (c.args.flow / 2) rooms.ok.0
+    c.in-None.ensures.variant.1)
 
 pub returns-then-has_failed-clause-told : goal.returns-then-has_failed-clause-told
 returns-then-has_failed-clause-told g c = λ S written events number told.
-    absurd (still_sound c.args.self.now.out.failures told.holds.ready.sound (c.if-has_failed.ensures.0 refl))
+    absurd (still_sound c.args.self.now.out.failures told.holds.ready.sound
+    (c.if-has_failed.ensures.0 refl))

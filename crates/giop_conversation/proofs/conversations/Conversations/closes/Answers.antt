@@ -12,7 +12,8 @@ returns-in-None-clause-follows g c = λ events follows.
     (none_of_closes c.args.flow c.args.cause)
 
 pub returns-in-Err-clause-fails : goal.returns-in-Err-clause-fails
-returns-in-Err-clause-fails g c = rw c.in-Err.ensures.fails (counted_more c.args.self.now.out.failures)
+returns-in-Err-clause-fails g c = rw c.in-Err.ensures.fails
+    (counted_more c.args.self.now.out.failures)
 
 pub returns-in-Ok-clause-follows : goal.returns-in-Ok-clause-follows
 returns-in-Ok-clause-follows g c = λ events follows.
@@ -26,11 +27,15 @@ returns-in-Ok-clause-told g c = λ S written events told.
     let t = now.totals in
     let old = c.in-Some.room.now in
     let at = rw c.deref.ensures.value at c.in-Some.ensures.lookup in
-    let here = slice_get_read rooms.items (length rooms.items) (c.args.flow / 2) old refl at.3.0 (at.3.1 old) in
+    let here = slice_get_read rooms.items (length rooms.items) (c.args.flow / 2) old refl at.3.0
+    (at.3.1 old) in
     let done : Result ℕ ℕ = Ok 0 in
-    closed_told S written events rooms.items now.out now.time t.streams t.messages t.faults now.cut done c.args.flow c.args.cause
-    old c.close.new.out c.sum_within-self.result c.sum_within-self-in-Ok.result c.is_cut-self.result c.in-Ok.totals told here
-    (λ k w. rw c.parity_of.ensures at (c.in-Ok.ensures.text S k w)) (λ k. rw c.parity_of.ensures at (c.in-Ok.ensures.totals S k))
+    closed_told S written events rooms.items now.out now.time t.streams t.messages t.faults now.cut
+    done c.args.flow c.args.cause
+    old c.close.new.out c.sum_within-self.result c.sum_within-self-in-Ok.result c.is_cut-self.result
+    c.in-Ok.totals told here
+    (λ k w. rw c.parity_of.ensures at (c.in-Ok.ensures.text S k w))
+    (λ k. rw c.parity_of.ensures at (c.in-Ok.ensures.totals S k))
     c.sum_within-self.ensures c.sum_within-self-in-Ok.ensures c.is_cut-self.ensures
 
 pub returns-in-None-clause-told : goal.returns-in-None-clause-told
@@ -39,7 +44,8 @@ returns-in-None-clause-told g c = λ S written events told.
     let rooms = now.rooms in
     let t = now.totals in
     let at = rw c.deref.ensures.value at c.in-None.ensures.lookup in
-    closed_beyond S written events rooms.items now.out now.time t.streams t.messages t.faults now.cut c.args.flow c.args.cause told
+    closed_beyond S written events rooms.items now.out now.time t.streams t.messages t.faults
+    now.cut c.args.flow c.args.cause told
     (slice_get_past rooms.items (c.args.flow / 2) at.3)
 
 pub returns-in-Err-clause-told : goal.returns-in-Err-clause-told
@@ -49,10 +55,13 @@ returns-in-Err-clause-told g c = λ S written events told.
     let t = now.totals in
     let old = c.in-Some.room.now in
     let at = rw c.deref.ensures.value at c.in-Some.ensures.lookup in
-    let here = slice_get_read rooms.items (length rooms.items) (c.args.flow / 2) old refl at.3.0 (at.3.1 old) in
-    closed_front S written events rooms.items now.out now.time t.streams t.messages t.faults now.cut c.args.flow c.args.cause
+    let here = slice_get_read rooms.items (length rooms.items) (c.args.flow / 2) old refl at.3.0
+    (at.3.1 old) in
+    closed_front S written events rooms.items now.out now.time t.streams t.messages t.faults now.cut
+    c.args.flow c.args.cause
     old c.close.new.out told here (λ k w. rw c.parity_of.ensures at (c.in-Err.ensures.text S k w))
 
 pub returns-then-has_failed-clause-told : goal.returns-then-has_failed-clause-told
 returns-then-has_failed-clause-told g c = λ S written events told.
-    absurd (still_sound c.args.self.now.out.failures told.holds.ready.sound (c.if-has_failed.ensures.0 refl))
+    absurd (still_sound c.args.self.now.out.failures told.holds.ready.sound
+    (c.if-has_failed.ensures.0 refl))

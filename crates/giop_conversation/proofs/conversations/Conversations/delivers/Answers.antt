@@ -9,15 +9,19 @@ pub returns-in-Ok-clause-follows : goal.returns-in-Ok-clause-follows
 returns-in-Ok-clause-follows g c = λ events follows.
     let rooms = c.args.self.now.rooms in
     let old = c.in-Some.room.now in
-    let here = element rooms.items (vec_len rooms) (c.args.flow / 2) old rooms.ok.0 (c.in-Some.ensures.variant.0 refl) c.in-Some.ensures.value in (
+    let here = element rooms.items (vec_len rooms) (c.args.flow / 2) old rooms.ok.0
+    (c.in-Some.ensures.variant.0 refl) c.in-Some.ensures.value in (
       octets_read rooms.items events c.args.flow c.args.octets.now old c.read.new.self follows here
-          (rw c.parity_of.ensures at c.in-Ok.ensures.read) (rw c.parity_of.ensures at c.in-Ok.ensures.other),
-      c.is_stopped.ensures ∙ fault_told rooms.items events c.args.flow c.args.octets.now old c.in-Ok.status follows here
+          (rw c.parity_of.ensures at c.in-Ok.ensures.read)
+          (rw c.parity_of.ensures at c.in-Ok.ensures.other),
+      c.is_stopped.ensures ∙ fault_told rooms.items events c.args.flow c.args.octets.now old
+          c.in-Ok.status follows here
           (rw c.parity_of.ensures at c.in-Ok.ensures.status),
     )
 
 pub returns-in-Err-clause-fails : goal.returns-in-Err-clause-fails
-returns-in-Err-clause-fails g c = rw c.in-Err.ensures.fails (counted_more c.args.self.now.out.failures)
+returns-in-Err-clause-fails g c = rw c.in-Err.ensures.fails
+    (counted_more c.args.self.now.out.failures)
 
 pub returns-in-None-clause-fails : goal.returns-in-None-clause-fails
 returns-in-None-clause-fails g c = rw c.refuse.ensures (counted_more c.args.self.now.out.failures)
@@ -28,8 +32,10 @@ returns-in-Ok-clause-told g c = λ S written events told.
     let rooms = now.rooms in
     let t = now.totals in
     let old = c.in-Some.room.now in
-    let here = element rooms.items (vec_len rooms) (c.args.flow / 2) old rooms.ok.0 (c.in-Some.ensures.variant.0 refl) c.in-Some.ensures.value in
-    delivered_told S written events rooms.items now.out now.time t.streams t.messages t.faults now.cut _ c.args.flow c.args.octets.now
+    let here = element rooms.items (vec_len rooms) (c.args.flow / 2) old rooms.ok.0
+    (c.in-Some.ensures.variant.0 refl) c.in-Some.ensures.value in
+    delivered_told S written events rooms.items now.out now.time t.streams t.messages t.faults
+    now.cut _ c.args.flow c.args.octets.now
     old c.read.new.self c.read.new.out told here (λ k w holds ready.
     rw c.parity_of.ensures at (c.in-Ok.ensures.text S k w holds ready))
 
@@ -39,8 +45,10 @@ returns-in-Err-clause-told g c = λ S written events told.
     let rooms = now.rooms in
     let t = now.totals in
     let old = c.in-Some.room.now in
-    let here = element rooms.items (vec_len rooms) (c.args.flow / 2) old rooms.ok.0 (c.in-Some.ensures.variant.0 refl) c.in-Some.ensures.value in
-    delivered_told S written events rooms.items now.out now.time t.streams t.messages t.faults now.cut _ c.args.flow c.args.octets.now
+    let here = element rooms.items (vec_len rooms) (c.args.flow / 2) old rooms.ok.0
+    (c.in-Some.ensures.variant.0 refl) c.in-Some.ensures.value in
+    delivered_told S written events rooms.items now.out now.time t.streams t.messages t.faults
+    now.cut _ c.args.flow c.args.octets.now
     old c.read.new.self c.read.new.out told here (λ k w holds ready.
     rw c.parity_of.ensures at (c.in-Err.ensures.text S k w holds ready))
 
@@ -49,10 +57,13 @@ returns-in-None-clause-told g c = λ S written events told.
     let now = c.args.self.now in
     let rooms = now.rooms in
     let t = now.totals in
-    delivered_beyond S written events rooms.items now.out now.time t.streams t.messages t.faults now.cut c.args.flow c.args.octets.now
-    c.refuse.new.self told (no_element rooms.items (vec_len rooms) (c.args.flow / 2) rooms.ok.0 c.in-None.ensures.variant.1)
+    delivered_beyond S written events rooms.items now.out now.time t.streams t.messages t.faults
+    now.cut c.args.flow c.args.octets.now
+    c.refuse.new.self told (no_element rooms.items (vec_len rooms) (c.args.flow / 2) rooms.ok.0
+    c.in-None.ensures.variant.1)
     (rw c.refuse.ensures refl)
 
 pub returns-then-has_failed-clause-told : goal.returns-then-has_failed-clause-told
 returns-then-has_failed-clause-told g c = λ S written events told.
-    absurd (still_sound c.args.self.now.out.failures told.holds.ready.sound (c.if-has_failed.ensures.0 refl))
+    absurd (still_sound c.args.self.now.out.failures told.holds.ready.sound
+    (c.if-has_failed.ensures.0 refl))

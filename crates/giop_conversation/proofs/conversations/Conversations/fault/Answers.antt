@@ -10,18 +10,23 @@ pub returns-clause-fails : goal.returns-clause-fails
 returns-clause-fails g c =
     let r = c.capture_fault_line.result in
     once r c.set_tag.new.self c.capture_fault_line.new.out
-    (ap (λ (t : Tagging). t.failures) c.set_tag.ensures ∙ none_failed c.args.self.now.out.failures c.if-has_failed.ensures.1)
-    (by_writes r c.set_tag.new.self c.capture_fault_line.new.out (capture_fault_line c.args.word.now c.args.at) c.capture_fault_line.ensures)
+    (ap (λ (t : Tagging). t.failures) c.set_tag.ensures
+    ∙ none_failed c.args.self.now.out.failures c.if-has_failed.ensures.1)
+    (by_writes r c.set_tag.new.self c.capture_fault_line.new.out
+    (capture_fault_line c.args.word.now c.args.at) c.capture_fault_line.ensures)
 
 pub returns-clause-told : goal.returns-clause-told
 returns-clause-told g c = λ S written events told.
     let now = c.args.self.now in
     let rooms = now.rooms in
     let t = now.totals in
-    fault_told S written events rooms.items now.out now.time t.streams t.messages t.faults now.cut c.capture_fault_line.result
-    c.args.word.now c.args.at c.no_tag.result.items c.set_tag.new.self c.capture_fault_line.new.out told c.set_tag.ensures c.no_tag.ensures
+    fault_told S written events rooms.items now.out now.time t.streams t.messages t.faults now.cut
+    c.capture_fault_line.result
+    c.args.word.now c.args.at c.no_tag.result.items c.set_tag.new.self c.capture_fault_line.new.out
+    told c.set_tag.ensures c.no_tag.ensures
     c.capture_fault_line.ensures
 
 pub returns-then-has_failed-clause-told : goal.returns-then-has_failed-clause-told
 returns-then-has_failed-clause-told g c = λ S written events told.
-    absurd (still_sound c.args.self.now.out.failures told.holds.ready.sound (c.if-has_failed.ensures.0 refl))
+    absurd (still_sound c.args.self.now.out.failures told.holds.ready.sound
+    (c.if-has_failed.ensures.0 refl))

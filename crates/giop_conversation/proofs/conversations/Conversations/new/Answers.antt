@@ -10,11 +10,19 @@ use Rattle.giop_conversation.proofs.conversations.Conversations.new.Goals as goa
 pub loop-room-preserved : goal.loop-room-preserved
 loop-room-preserved g c =
     record {
-      rooms = rw c.in-Ok.ensures.items (All-push IsNew c.loop-room.rooms.items c.in_ok-conversation.conversation c.loop-room.invariant.rooms
-          (record { even = c.in_ok-conversation.ensures.even; odd = c.in_ok-conversation.ensures.odd }));
+      rooms = rw c.in-Ok.ensures.items (All-push IsNew c.loop-room.rooms.items
+          c.in_ok-conversation.conversation c.loop-room.invariant.rooms
+          (record {
+            even = c.in_ok-conversation.ensures.even;
+            odd =
+                c.in_ok-conversation.ensures.odd;
+          }));
       held =
-          let S = setup c.args.catalogue.now c.args.limits.messages c.args.limits.calls c.args.limits.connections in
-          rw (c.in-Ok.ensures.items, add-one c.loop-room._room) (held_push S c.loop-room.rooms.items c.loop-room._room c.in_ok-conversation.conversation (new_connection S)
+          let S = setup c.args.catalogue.now c.args.limits.messages c.args.limits.calls
+          c.args.limits.connections in
+          rw (c.in-Ok.ensures.items, add-one c.loop-room._room)
+          (held_push S c.loop-room.rooms.items c.loop-room._room
+          c.in_ok-conversation.conversation (new_connection S)
           c.loop-room.invariant.held c.in_ok-conversation.ensures.held);
       count = c.in-Ok.ensures.len ∙ ap (λ n. n + 1) c.loop-room.invariant.count;
     }
@@ -24,13 +32,16 @@ returns-clause-follows g c = followed_none c.loop-room.rooms.items c.loop-room.i
 
 pub returns-clause-told : goal.returns-clause-told
 returns-clause-told g c = λ written known.
-    let S = setup c.args.catalogue.now c.args.limits.messages c.args.limits.calls c.args.limits.connections in
-    let all : c.loop-room._room ≡ c.args.limits.connections = omega (arith, c.loop-room.auto._room-end, c.loop-room-test.false) in
+    let S = setup c.args.catalogue.now c.args.limits.messages c.args.limits.calls
+    c.args.limits.connections in
+    let all : c.loop-room._room ≡ c.args.limits.connections =
+    omega (arith, c.loop-room.auto._room-end, c.loop-room-test.false) in
     record {
       dump = start S written;
       leads = refl;
       holds = record {
-        connections = subst (λ n. AreHeld S c.loop-room.rooms.items (replicate n (new_connection S))) all c.loop-room.invariant.held;
+        connections = subst (λ n. AreHeld S c.loop-room.rooms.items
+            (replicate n (new_connection S))) all c.loop-room.invariant.held;
         ready = new_ready c.new-2.result _ written c.new-2.ensures known;
         time_is = refl;
         streams_are = refl;

@@ -9,8 +9,10 @@ pub returns-in-Some-clause-follows : goal.returns-in-Some-clause-follows
 returns-in-Some-clause-follows g c = λ events follows.
     let rooms = c.args.self.now.rooms in
     let old = c.in-Some.room.now in
-    let here = element rooms.items (vec_len rooms) (c.args.flow / 2) old rooms.ok.0 (c.in-Some.ensures.variant.0 refl) c.in-Some.ensures.value in
-    opened rooms.items events c.args.flow c.args.endpoints old c.open.new.self follows here c.open.ensures.even c.open.ensures.odd
+    let here = element rooms.items (vec_len rooms) (c.args.flow / 2) old rooms.ok.0
+    (c.in-Some.ensures.variant.0 refl) c.in-Some.ensures.value in
+    opened rooms.items events c.args.flow c.args.endpoints old c.open.new.self follows here
+    c.open.ensures.even c.open.ensures.odd
 
 pub returns-in-None-clause-follows : goal.returns-in-None-clause-follows
 returns-in-None-clause-follows g c = λ events follows.
@@ -23,8 +25,10 @@ returns-in-Some-clause-told g c = λ S written events told.
     let rooms = now.rooms in
     let t = now.totals in
     let old = c.in-Some.room.now in
-    let here = element rooms.items (vec_len rooms) (c.args.flow / 2) old rooms.ok.0 (c.in-Some.ensures.variant.0 refl) c.in-Some.ensures.value in
-    opened_told S written events rooms.items now.out now.time t.streams t.messages t.faults now.cut c.args.flow c.args.endpoints old c.open.new.self
+    let here = element rooms.items (vec_len rooms) (c.args.flow / 2) old rooms.ok.0
+    (c.in-Some.ensures.variant.0 refl) c.in-Some.ensures.value in
+    opened_told S written events rooms.items now.out now.time t.streams t.messages t.faults now.cut
+    c.args.flow c.args.endpoints old c.open.new.self
     told here (λ k. rw c.parity_of.ensures at (c.open.ensures.held S k))
 
 pub returns-in-None-clause-told : goal.returns-in-None-clause-told
@@ -32,5 +36,7 @@ returns-in-None-clause-told g c = λ S written events told.
     let now = c.args.self.now in
     let rooms = now.rooms in
     let t = now.totals in
-    opened_beyond S written events rooms.items now.out now.time t.streams t.messages t.faults now.cut c.args.flow c.args.endpoints told
-    (no_element rooms.items (vec_len rooms) (c.args.flow / 2) rooms.ok.0 c.in-None.ensures.variant.1)
+    opened_beyond S written events rooms.items now.out now.time t.streams t.messages t.faults
+    now.cut c.args.flow c.args.endpoints told
+    (no_element rooms.items (vec_len rooms) (c.args.flow / 2) rooms.ok.0
+    c.in-None.ensures.variant.1)

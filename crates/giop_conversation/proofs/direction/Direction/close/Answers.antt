@@ -28,8 +28,10 @@ returns-in-Err-clause-fails g c =
     let h = c.self.invariant.read in
     let closed = c.in_ok-closed_line.ensures.failures in
     let counts =
-    closing_counts Totals c.in-Err.field-0 (tagging_log c.closed_line.new.out) (tagging_log c.close.new.out)
-    (closing (rules_with e h.answers) c.self.invariant.stream) e h.holds.sound c.in-Err.ensures.sound
+    closing_counts Totals c.in-Err.field-0 (tagging_log c.closed_line.new.out)
+    (tagging_log c.close.new.out)
+    (closing (rules_with e h.answers) c.self.invariant.stream) e h.holds.sound
+    c.in-Err.ensures.sound
     (c.in-Err.ensures.text h.answers c.self.invariant.stream h.holds) in
     counts ∙ ap counted (closed ∙ ap (λ (t : Tagging). t.failures) c.set_tag.ensures)
 
@@ -39,10 +41,13 @@ returns-in_err-closed_line-clause-text g c = λ a p w holds ready.
     let rest = closing (rules_with e a) p in
     let failed : Result Totals Totals = Err record { messages = 0; faults = 0; octets = 0 } in
     MatchResult-from_err c.from_residual.result _ _ c.from_residual.ensures.0 (λ _.
-    below_tag failed c.args.out.now c.set_tag.new.self c.closed_line.new.out w (closed_line c.args.cause ++ rest)
-    c.stream_tag.result.items (stream_tag c.args.self.now.stream) ready c.set_tag.ensures (rw (← c.self.view_is) c.stream_tag.ensures)
+    below_tag failed c.args.out.now c.set_tag.new.self c.closed_line.new.out w
+    (closed_line c.args.cause ++ rest)
+    c.stream_tag.result.items (stream_tag c.args.self.now.stream) ready c.set_tag.ensures
+    (rw (← c.self.view_is) c.stream_tag.ensures)
     (closing_lines_end (rules_with e a) p c.args.cause)
-    (front-append (tagging_log c.set_tag.new.self) (tagging_log c.closed_line.new.out) (closed_line c.args.cause) rest c.in_err-closed_line.ensures))
+    (front-append (tagging_log c.set_tag.new.self) (tagging_log c.closed_line.new.out)
+    (closed_line c.args.cause) rest c.in_err-closed_line.ensures))
 
 pub returns-in-Ok-clause-text : goal.returns-in-Ok-clause-text
 returns-in-Ok-clause-text g c = λ a p w holds ready.
@@ -50,10 +55,13 @@ returns-in-Ok-clause-text g c = λ a p w holds ready.
     let rest = closing (rules_with e a) p in
     let inside : HoldsBy c.self.inside.engine a p = rw (← c.self.view_is) at holds in
     let done : Result Totals Totals = Ok c.in-Ok.totals in
-    below_tag done c.args.out.now c.set_tag.new.self c.close.new.out w (closed_line c.args.cause ++ rest)
-    c.stream_tag.result.items (stream_tag c.args.self.now.stream) ready c.set_tag.ensures (rw (← c.self.view_is) c.stream_tag.ensures)
+    below_tag done c.args.out.now c.set_tag.new.self c.close.new.out w
+    (closed_line c.args.cause ++ rest)
+    c.stream_tag.result.items (stream_tag c.args.self.now.stream) ready c.set_tag.ensures
+    (rw (← c.self.view_is) c.stream_tag.ensures)
     (closing_lines_end (rules_with e a) p c.args.cause)
-    (wrote-append (tagging_log c.set_tag.new.self) (tagging_log c.closed_line.new.out) (tagging_log c.close.new.out) (closed_line c.args.cause) rest
+    (wrote-append (tagging_log c.set_tag.new.self) (tagging_log c.closed_line.new.out)
+    (tagging_log c.close.new.out) (closed_line c.args.cause) rest
     c.in_ok-closed_line.ensures (rw (← c.self.view_is) (c.in-Ok.ensures.text a p inside)))
 
 pub returns-in-Err-clause-text : goal.returns-in-Err-clause-text
@@ -62,10 +70,16 @@ returns-in-Err-clause-text g c = λ a p w holds ready.
     let rest = closing (rules_with e a) p in
     let inside : HoldsBy c.self.inside.engine a p = rw (← c.self.view_is) at holds in
     let failed : Result Totals Totals = Err record { messages = 0; faults = 0; octets = 0 } in
-    let front : WroteFront (tagging_log c.closed_line.new.out) (tagging_log c.close.new.out) rest = rw (← c.self.view_is) (closing_front Totals c.in-Err.field-0 (tagging_log c.closed_line.new.out) (tagging_log c.close.new.out)
-    (closing (rules_with c.self.inside.engine a) p) c.self.inside.engine inside.sound c.in-Err.ensures.sound (c.in-Err.ensures.text a p inside)) in
-    below_tag failed c.args.out.now c.set_tag.new.self c.close.new.out w (closed_line c.args.cause ++ rest)
-    c.stream_tag.result.items (stream_tag c.args.self.now.stream) ready c.set_tag.ensures (rw (← c.self.view_is) c.stream_tag.ensures)
+    let front : WroteFront (tagging_log c.closed_line.new.out) (tagging_log c.close.new.out) rest =
+    rw (← c.self.view_is) (closing_front Totals c.in-Err.field-0
+    (tagging_log c.closed_line.new.out) (tagging_log c.close.new.out)
+    (closing (rules_with c.self.inside.engine a) p) c.self.inside.engine inside.sound
+    c.in-Err.ensures.sound (c.in-Err.ensures.text a p inside)) in
+    below_tag failed c.args.out.now c.set_tag.new.self c.close.new.out w
+    (closed_line c.args.cause ++ rest)
+    c.stream_tag.result.items (stream_tag c.args.self.now.stream) ready c.set_tag.ensures
+    (rw (← c.self.view_is) c.stream_tag.ensures)
     (closing_lines_end (rules_with e a) p c.args.cause)
-    (wrote-front (tagging_log c.set_tag.new.self) (tagging_log c.closed_line.new.out) (tagging_log c.close.new.out) (closed_line c.args.cause) rest
+    (wrote-front (tagging_log c.set_tag.new.self) (tagging_log c.closed_line.new.out)
+    (tagging_log c.close.new.out) (closed_line c.args.cause) rest
     c.in_ok-closed_line.ensures front)

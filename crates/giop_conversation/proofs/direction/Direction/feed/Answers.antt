@@ -14,13 +14,15 @@ invariant_of-self g c =
     let e = c.self.inside.engine in
     let p = c.self.invariant.stream in
     let h = c.self.invariant.read in
-    let on = c.answers_go_on.ensures e.table h.answers e.most p c.args.piece.now c.args.exchange.now in
+    let on = c.answers_go_on.ensures e.table h.answers e.most p c.args.piece.now c.args.exchange.now
+    in
     record {
       same = c.in-Ok.ensures.same.0 ∙ c.self.invariant.same;
       stream = p ++ c.args.piece.now;
       read = record {
         answers = on.0;
-        holds = c.in-Ok.ensures.held on.0 p (c.answers_agree.ensures.held e h.answers on.0 p on.1 h.holds) on.2;
+        holds = c.in-Ok.ensures.held on.0 p (c.answers_agree.ensures.held e h.answers on.0 p on.1
+            h.holds) on.2;
       };
     }
 
@@ -28,42 +30,52 @@ pub returns-in-Ok-clause-read : goal.returns-in-Ok-clause-read
 returns-in-Ok-clause-read g c = λ p read.
     let e = c.self.inside.engine in
     let h : HasRead e p = rw (← c.self.view_is) at read in
-    let on = c.answers_go_on.ensures e.table h.answers e.most p c.args.piece.now c.args.exchange.now in
+    let on = c.answers_go_on.ensures e.table h.answers e.most p c.args.piece.now c.args.exchange.now
+    in
     record {
       answers = on.0;
-      holds = c.in-Ok.ensures.held on.0 p (c.answers_agree.ensures.held e h.answers on.0 p on.1 h.holds) on.2;
+      holds = c.in-Ok.ensures.held on.0 p (c.answers_agree.ensures.held e h.answers on.0 p on.1
+          h.holds) on.2;
     }
 
 pub returns-in-Ok-clause-status : goal.returns-in-Ok-clause-status
 returns-in-Ok-clause-status g c = λ p read.
     let e = c.self.inside.engine in
     let h : HasRead e p = rw (← c.self.view_is) at read in
-    let on = c.answers_go_on.ensures e.table h.answers e.most p c.args.piece.now c.args.exchange.now in
-    c.in-Ok.ensures.status on.0 p (c.answers_agree.ensures.held e h.answers on.0 p on.1 h.holds) on.2
+    let on = c.answers_go_on.ensures e.table h.answers e.most p c.args.piece.now c.args.exchange.now
+    in
+    c.in-Ok.ensures.status on.0 p (c.answers_agree.ensures.held e h.answers on.0 p on.1 h.holds)
+    on.2
 
 pub returns-in-Ok-clause-fails : goal.returns-in-Ok-clause-fails
 returns-in-Ok-clause-fails g c =
     let e = c.self.inside.engine in
     let p = c.self.invariant.stream in
     let h = c.self.invariant.read in
-    let on = c.answers_go_on.ensures e.table h.answers e.most p c.args.piece.now c.args.exchange.now in
-    (c.in-Ok.ensures.text on.0 p (c.answers_agree.ensures.held e h.answers on.0 p on.1 h.holds) on.2).failures
+    let on = c.answers_go_on.ensures e.table h.answers e.most p c.args.piece.now c.args.exchange.now
+    in
+    (c.in-Ok.ensures.text on.0 p (c.answers_agree.ensures.held e h.answers on.0 p on.1 h.holds)
+    on.2).failures
 
 pub returns-in-Err-clause-fails : goal.returns-in-Err-clause-fails
 returns-in-Err-clause-fails g c =
     let e = c.self.inside.engine in
     let p = c.self.invariant.stream in
     let h = c.self.invariant.read in
-    let on = c.answers_go_on.ensures e.table h.answers e.most p c.args.piece.now c.args.exchange.now in
+    let on = c.answers_go_on.ensures e.table h.answers e.most p c.args.piece.now c.args.exchange.now
+    in
     stop_counts Status c.in-Err.field-0 (tagging_log c.args.out.now) (tagging_log c.feed_by.new.out)
-    (added (rules_with e on.0) p c.args.piece.now) e c.feed_by.new.self h.holds.sound c.in-Err.ensures.leaves
-    (c.in-Err.ensures.text on.0 p (c.answers_agree.ensures.held e h.answers on.0 p on.1 h.holds) on.2)
+    (added (rules_with e on.0) p c.args.piece.now) e c.feed_by.new.self h.holds.sound
+    c.in-Err.ensures.leaves
+    (c.in-Err.ensures.text on.0 p (c.answers_agree.ensures.held e h.answers on.0 p on.1 h.holds)
+    on.2)
 
 pub returns-in-Ok-clause-text : goal.returns-in-Ok-clause-text
 returns-in-Ok-clause-text g c = λ a p holds agrees.
     let e = c.self.inside.engine in
     let h : HoldsBy e a p = rw (← c.self.view_is) at holds in
-    let k : AgreeWith e a c.args.exchange.now p c.args.piece.now = rw (← c.self.view_is) at agrees in
+    let k : AgreeWith e a c.args.exchange.now p c.args.piece.now =
+    rw (← c.self.view_is) at agrees in
     rw (← c.self.view_is) (record {
       holds = c.in-Ok.ensures.held a p h k;
       wrote = c.in-Ok.ensures.text a p h k;
@@ -74,6 +86,9 @@ pub returns-in-Err-clause-text : goal.returns-in-Err-clause-text
 returns-in-Err-clause-text g c = λ a p holds agrees.
     let e = c.self.inside.engine in
     let h : HoldsBy e a p = rw (← c.self.view_is) at holds in
-    let k : AgreeWith e a c.args.exchange.now p c.args.piece.now = rw (← c.self.view_is) at agrees in
-    rw (← c.self.view_is) (stop_front Status c.in-Err.field-0 (tagging_log c.args.out.now) (tagging_log c.feed_by.new.out)
-    (added (rules_with e a) p c.args.piece.now) e c.feed_by.new.self h.sound c.in-Err.ensures.leaves (c.in-Err.ensures.text a p h k))
+    let k : AgreeWith e a c.args.exchange.now p c.args.piece.now =
+    rw (← c.self.view_is) at agrees in
+    rw (← c.self.view_is) (stop_front Status c.in-Err.field-0 (tagging_log c.args.out.now)
+    (tagging_log c.feed_by.new.out)
+    (added (rules_with e a) p c.args.piece.now) e c.feed_by.new.self h.sound c.in-Err.ensures.leaves
+    (c.in-Err.ensures.text a p h k))

@@ -6,4 +6,5 @@ use Rattle.giop_conversation.proofs.direction.Direction.new.Goals as goal
 pub returns-clause-holds : goal.returns-clause-holds
 returns-clause-holds c = λ a.
     let e = c.in_ok-new.field-0 in
-    c.answers_agree.ensures.held e (by_list e.request_table) a [] (agree_start e.most (by_list e.request_table) a) c.in_ok-new.ensures.holds
+    c.answers_agree.ensures.held e (by_list e.request_table) a []
+    (agree_start e.most (by_list e.request_table) a) c.in_ok-new.ensures.holds

@@ -28,11 +28,15 @@ loop-size-preserved g c =
       known = does.known;
       read = λ p read.
           let more = does.read (p ++ take at octets) (c.loop-size.invariant.read p read) in
-          rw (take-add at n octets, ← append_assoc p (take at octets) (take n (drop at octets))) more;
+          rw (take-add at n octets, ← append_assoc p (take at octets) (take n (drop at octets)))
+          more;
       text = λ a p holds agrees table time unanswered unraised.
-          read_on c.args.self.now.engine c.loop-size.self.engine c.read_piece.new.self.engine a p octets at n c.read_in.new.self c.loop-size.exchange
-          c.read_piece.new.exchange c.set_tag.new.self c.loop-size.out c.read_piece.new.out c.args.time c.loop-size.invariant.same
-          (c.loop-size.invariant.text a p holds agrees table time unanswered unraised) agrees table time
+          read_on c.args.self.now.engine c.loop-size.self.engine c.read_piece.new.self.engine a p
+          octets at n c.read_in.new.self c.loop-size.exchange
+          c.read_piece.new.exchange c.set_tag.new.self c.loop-size.out c.read_piece.new.out
+          c.args.time c.loop-size.invariant.same
+          (c.loop-size.invariant.text a p holds agrees table time unanswered unraised) agrees table
+          time
           (record { answered = unanswered; raised = unraised }) (does.text a (p ++ take at octets));
       same = record {
         table = does.same.table ∙ c.loop-size.invariant.same.table;
@@ -48,13 +52,17 @@ loop-size-init g c =
     let e = c.args.self.now.engine in
     let s = c.read_in.new.self in
     let starts : s ≡ reading_in e c.args.self.now.stream c.args.time c.args.exchange.now =
-    reading_starts e c.args.self.now.stream c.args.time c.args.exchange.now c.set_catalogue.new.self s c.self.inside.catalogue.now c.self.inside.stream
-    c.set_catalogue.ensures c.read_in.ensures (rw (← c.self.view_is) c.self.invariant.same) (rw (← c.self.view_is) refl) in
+    reading_starts e c.args.self.now.stream c.args.time c.args.exchange.now c.set_catalogue.new.self
+    s c.self.inside.catalogue.now c.self.inside.stream
+    c.set_catalogue.ensures c.read_in.ensures (rw (← c.self.view_is) c.self.invariant.same)
+    (rw (← c.self.view_is) refl) in
     record {
       within = omega arith;
-      known = subst (λ (C : Table). AreKnown C (answer_of s)) (ap (λ (x : Exchanged). x.table) starts) (c.answers_are_known.ensures s);
+      known = subst (λ (C : Table). AreKnown C (answer_of s))
+          (ap (λ (x : Exchanged). x.table) starts) (c.answers_are_known.ensures s);
       read = λ p read. rw (append-nil p) read;
-      text = λ a p holds agrees table time unanswered unraised. read_none e a p c.args.octets.now s c.set_tag.new.self holds;
+      text = λ a p holds agrees table time unanswered unraised.
+          read_none e a p c.args.octets.now s c.set_tag.new.self holds;
       same = record { table = refl; most = refl };
       sound = refl;
       stream = refl;
@@ -73,26 +81,40 @@ returns-in_err-size-clause-text g c = λ a p w holds ready agrees.
     let same = c.loop-size.invariant.same in
     let due = stream_tag c.args.self.now.stream in
     let starts : s ≡ reading_in e c.args.self.now.stream c.args.time c.args.exchange.now =
-    reading_starts e c.args.self.now.stream c.args.time c.args.exchange.now c.set_catalogue.new.self s c.self.inside.catalogue.now c.self.inside.stream
-    c.set_catalogue.ensures c.read_in.ensures (rw (← c.self.view_is) c.self.invariant.same) (rw (← c.self.view_is) refl) in
-    let agree : AgreeWith e a s p octets = subst (λ (x : Exchanged). AgreeWith e a x p octets) (sym starts) agrees in
+    reading_starts e c.args.self.now.stream c.args.time c.args.exchange.now c.set_catalogue.new.self
+    s c.self.inside.catalogue.now c.self.inside.stream
+    c.set_catalogue.ensures c.read_in.ensures (rw (← c.self.view_is) c.self.invariant.same)
+    (rw (← c.self.view_is) refl) in
+    let agree : AgreeWith e a s p octets =
+    subst (λ (x : Exchanged). AgreeWith e a x p octets) (sym starts) agrees in
     let table = ap (λ (x : Exchanged). x.table) starts in
     let time = ap (λ (x : Exchanged). x.time) starts in
-    let none : IsTaken s = record { answered = ap (λ (x : Exchanged). x.answered) starts; raised = ap (λ (x : Exchanged). x.raised) starts } in
+    let none : IsTaken s = record {
+      answered = ap (λ (x : Exchanged). x.answered) starts;
+      raised =
+          ap (λ (x : Exchanged). x.raised) starts;
+    } in
     let so_far = c.loop-size.invariant.text a p holds agree table time none.answered none.raised in
     let more = rw (rest_from at octets) at c.in_err-size.ensures in
-    let front : WroteFront (tagging_log c.set_tag.new.self) (tagging_log c.read_piece.new.out) (stamped R s p octets) =
-    front_on e e' a p octets at s s' c.set_tag.new.self c.loop-size.out c.read_piece.new.out same so_far
-    (more.text a (p ++ take at octets) so_far.holds (agree_on e e' a p octets at s s' same table so_far.told agree)
+    let front : WroteFront (tagging_log c.set_tag.new.self) (tagging_log c.read_piece.new.out)
+    (stamped R s p octets) =
+    front_on e e' a p octets at s s' c.set_tag.new.self c.loop-size.out c.read_piece.new.out same
+    so_far
+    (more.text a (p ++ take at octets) so_far.holds
+    (agree_on e e' a p octets at s s' same table so_far.told agree)
     (table_on e e' a p octets at s s' same table so_far.told)
     (time_on R p (take at octets) s s' c.args.time time so_far.told)
-    (taken_on R p (take at octets) s s' none so_far.told).answered (taken_on R p (take at octets) s s' none so_far.told).raised) in
+    (taken_on R p (take at octets) s s' none so_far.told).answered
+    (taken_on R p (take at octets) s s' none so_far.told).raised) in
     let failed : Result ℕ ℕ = Err 0 in
     let below : WroteTaggedFront c.read_piece.new.out w due (stamped R s p octets) =
-    below_tag failed c.args.out.now c.set_tag.new.self c.read_piece.new.out w (stamped R s p octets) c.stream_tag.result.items due ready
-    c.set_tag.ensures (rw (← c.self.view_is) c.stream_tag.ensures) (stamped_ends e.table a e.most octets p s) front in
+    below_tag failed c.args.out.now c.set_tag.new.self c.read_piece.new.out w (stamped R s p octets)
+    c.stream_tag.result.items due ready
+    c.set_tag.ensures (rw (← c.self.view_is) c.stream_tag.ensures)
+    (stamped_ends e.table a e.most octets p s) front in
     MatchResult-from_err c.from_residual.result _ _ c.from_residual.ensures.0
-    (λ _. subst (λ (x : Exchanged). WroteTaggedFront c.read_piece.new.out w due (stamped R x p octets)) starts below)
+    (λ _. subst (λ (x : Exchanged). WroteTaggedFront c.read_piece.new.out w due
+    (stamped R x p octets)) starts below)
 
 pub returns-then-at-octets-clause-status : goal.returns-then-at-octets-clause-status
 returns-then-at-octets-clause-status g c = λ p read.
@@ -102,7 +124,11 @@ returns-then-at-octets-clause-status g c = λ p read.
     let does = rw (rest_from at octets) at c.in_ok-size.ensures in
     let more = does.status (p ++ take at octets) (c.loop-size.invariant.read p read) in
     let past : length octets ≤ at + n = omega arith in
-    rw (append_assoc p (take at octets) (take n (drop at octets)), ← take-add at n octets, take_all (at + n) octets past) at more
+    rw (
+      append_assoc p (take at octets) (take n (drop at octets)),
+      ← take-add at n octets,
+      take_all (at + n) octets past,
+    ) at more
 
 pub returns-then-at-octets-clause-text : goal.returns-then-at-octets-clause-text
 returns-then-at-octets-clause-text g c = λ a p w holds ready agrees.
@@ -118,17 +144,29 @@ returns-then-at-octets-clause-text g c = λ a p w holds ready agrees.
     let out = c.read_piece.new.out in
     let due = stream_tag c.args.self.now.stream in
     let starts : s ≡ reading_in e c.args.self.now.stream c.args.time c.args.exchange.now =
-    reading_starts e c.args.self.now.stream c.args.time c.args.exchange.now c.set_catalogue.new.self s c.self.inside.catalogue.now c.self.inside.stream
-    c.set_catalogue.ensures c.read_in.ensures (rw (← c.self.view_is) c.self.invariant.same) (rw (← c.self.view_is) refl) in
-    let agree : AgreeWith e a s p octets = subst (λ (x : Exchanged). AgreeWith e a x p octets) (sym starts) agrees in
+    reading_starts e c.args.self.now.stream c.args.time c.args.exchange.now c.set_catalogue.new.self
+    s c.self.inside.catalogue.now c.self.inside.stream
+    c.set_catalogue.ensures c.read_in.ensures (rw (← c.self.view_is) c.self.invariant.same)
+    (rw (← c.self.view_is) refl) in
+    let agree : AgreeWith e a s p octets =
+    subst (λ (x : Exchanged). AgreeWith e a x p octets) (sym starts) agrees in
     let table = ap (λ (x : Exchanged). x.table) starts in
     let time = ap (λ (x : Exchanged). x.time) starts in
-    let none : IsTaken s = record { answered = ap (λ (x : Exchanged). x.answered) starts; raised = ap (λ (x : Exchanged). x.raised) starts } in
+    let none : IsTaken s = record {
+      answered = ap (λ (x : Exchanged). x.answered) starts;
+      raised =
+          ap (λ (x : Exchanged). x.raised) starts;
+    } in
     let all =
-    read_on e c.loop-size.self.engine e' a p octets at n s c.loop-size.exchange c.read_piece.new.exchange c.set_tag.new.self c.loop-size.out out c.args.time
-    c.loop-size.invariant.same (c.loop-size.invariant.text a p holds agree table time none.answered none.raised) agree table time none
+    read_on e c.loop-size.self.engine e' a p octets at n s c.loop-size.exchange
+    c.read_piece.new.exchange c.set_tag.new.self c.loop-size.out out c.args.time
+    c.loop-size.invariant.same (c.loop-size.invariant.text a p holds agree table time none.answered
+    none.raised) agree table time none
     (does.text a (p ++ take at octets)) in
-    subst (λ (x : Exchanged). HasStood e' a (p ++ octets) out (w ++ with_tags due (stamped R x p octets)) c.read_piece.new.exchange (exchanged R x p octets))
+    subst (λ (x : Exchanged). HasStood e' a (p ++ octets) out
+    (w ++ with_tags due (stamped R x p octets)) c.read_piece.new.exchange
+    (exchanged R x p octets))
     starts
-    (stands_at_end e e' a p octets w c.stream_tag.result.items due (at + n) s c.read_piece.new.exchange c.args.out.now c.set_tag.new.self out past all ready
+    (stands_at_end e e' a p octets w c.stream_tag.result.items due (at + n) s
+    c.read_piece.new.exchange c.args.out.now c.set_tag.new.self out past all ready
     c.set_tag.ensures (rw (← c.self.view_is) c.stream_tag.ensures))

@@ -13,12 +13,15 @@ invariant-loop-size g l =
     record {
       within : l.at ≤ length l.octets;
       known : AreKnown l.self.engine.table (answer_of l.exchange);
-      read : (p : List ℕ) → HasRead l.initial.self.engine p → HasRead l.self.engine (p ++ take l.at l.octets);
+      read : (p : List ℕ) → HasRead l.initial.self.engine p →
+          HasRead l.self.engine (p ++ take l.at l.octets);
       text : (a : Answers) (p : List ℕ) → HoldsBy l.initial.self.engine a p →
           AgreeWith l.initial.self.engine a l.initial.exchange p l.octets →
-          l.initial.exchange.table ≡ l.initial.self.engine.table → l.initial.exchange.time ≡ l.time →
+          l.initial.exchange.table ≡ l.initial.self.engine.table →
+          l.initial.exchange.time ≡ l.time →
           l.initial.exchange.answered ≡ None → l.initial.exchange.raised ≡ None →
-          HasReadTo l.initial.self.engine l.self.engine a p l.octets l.at l.initial.exchange l.exchange l.initial.out l.out;
+          HasReadTo l.initial.self.engine l.self.engine a p l.octets l.at l.initial.exchange
+          l.exchange l.initial.out l.out;
       same : IsSetAlike l.self.engine l.initial.self.engine;
       sound : l.out.failures ≡ l.initial.out.failures;
       stream : l.self.stream ≡ l.initial.self.stream;

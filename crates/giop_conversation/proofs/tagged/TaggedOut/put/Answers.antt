@@ -6,7 +6,8 @@ returns-in-Ok g c =
     let put = rw c.as_slice.ensures.value at c.in-Ok.ensures in
     rw (← c.self.view_is)
     (took _ _ c.self.inside.tag.items c.args.octets.now c.self.inside.since c.put_tagged.new.since
-    c.self.inside.due c.put_tagged.new.due c.in-Ok.taken c.self.inside.puts c.one_more-self-inside.result
+    c.self.inside.due c.put_tagged.new.due c.in-Ok.taken c.self.inside.puts
+    c.one_more-self-inside.result
     c.self.inside.failures put c.one_more-self-inside.ensures)
 
 pub returns-in-Err : goal.returns-in-Err

@@ -18,8 +18,11 @@ pub emit-requires-clause-around : goal.emit-requires-clause-around
 emit-requires-clause-around g c =
     let a = c.args.ahead in
     let d = c.args.self.now in
-    around_whole c.args.catalogue.now d c.args.octets.now a.of a.count a.step a.rest.now c.requires.fits c.requires.ahead
-    (at_last d c.further-self.result c.tick_by.new.outer) (is_at_last d a.count c.further-self.result c.tick_by.new.outer c.further-self.ensures c.tick_by.ensures.ticked)
+    around_whole c.args.catalogue.now d c.args.octets.now a.of a.count a.step a.rest.now
+    c.requires.fits c.requires.ahead
+    (at_last d c.further-self.result c.tick_by.new.outer)
+    (is_at_last d a.count c.further-self.result c.tick_by.new.outer c.further-self.ensures
+    c.tick_by.ensures.ticked)
 
 pub tick_by-requires-clause-ahead : goal.tick_by-requires-clause-ahead
 tick_by-requires-clause-ahead g c = c.requires.ahead.ahead
@@ -33,7 +36,8 @@ returns-in_err-progress-clause-writes g c T order at message root s r =
     let h = c.requires.ahead in
     let f = c.requires.fits in
     let m = at_last d c.further-self.result c.tick_by.new.outer in
-    let on = is_at_last d a.count c.further-self.result c.tick_by.new.outer c.further-self.ensures c.tick_by.ensures.ticked in
+    let on = is_at_last d a.count c.further-self.result c.tick_by.new.outer c.further-self.ensures
+    c.tick_by.ensures.ticked in
     let i = a.count - 1 in
     let b = get_or octets i 0 in
     let so_far = s ++ take i octets in
@@ -44,10 +48,17 @@ returns-in_err-progress-clause-writes g c T order at message root s r =
     let k = held.takes.reads (λ fault. fault) in
     let below : i < length octets = omega (arith, h.some, h.within) in
     let ls = lines_whole C d octets a.of a.count a.step a.rest.now f h m on here k.offset in
-    let one = rw (← ls, ← due_is C T order at message root before so_far b whole.0 k, k.same_message, k.same_root) at
-    (c.in_err-progress.ensures.writes here (here + 1) (lines_at C d octets a.of a.count a.step a.rest.now f h m on here)
+    let one = rw (
+      ← ls,
+      ← due_is C T order at message root before so_far b whole.0 k,
+      k.same_message,
+      k.same_root,
+    ) at
+    (c.in_err-progress.ensures.writes here (here + 1)
+    (lines_at C d octets a.of a.count a.step a.rest.now f h m on here)
     (says_at C d octets a.of a.count a.step a.rest.now f h m on here)) in
-    writes_broken c.from_residual.result T order at message root s octets _ _ c.from_residual.ensures.0
+    writes_broken c.from_residual.result T order at message root s octets _ _
+    c.from_residual.ensures.0
     (breaks_off T order at message root s octets i _ _ _ below held.takes.answers
     (rw (said_none message root _ held.quiet) (wrote-nil _)) one)
 
@@ -60,7 +71,8 @@ returns-clause-writes g c T order at message root s r =
     let h = c.requires.ahead in
     let f = c.requires.fits in
     let m = at_last d c.further-self.result c.tick_by.new.outer in
-    let on = is_at_last d a.count c.further-self.result c.tick_by.new.outer c.further-self.ensures c.tick_by.ensures.ticked in
+    let on = is_at_last d a.count c.further-self.result c.tick_by.new.outer c.further-self.ensures
+    c.tick_by.ensures.ticked in
     let i = a.count - 1 in
     let b = get_or octets i 0 in
     let so_far = s ++ take i octets in
@@ -72,10 +84,17 @@ returns-clause-writes g c T order at message root s r =
     let below : i < length octets = omega (arith, h.some, h.within) in
     let all : i + 1 ≡ a.count = omega (arith, h.some) in
     let ls = lines_whole C d octets a.of a.count a.step a.rest.now f h m on here k.offset in
-    let none : Wrote (g.O.Out.log c.args.out.now) (g.O.Out.log c.args.out.now) (lines_text message root (added_lines_of_run order T at s (take i octets))) =
+    let none : Wrote (g.O.Out.log c.args.out.now) (g.O.Out.log c.args.out.now)
+    (lines_text message root (added_lines_of_run order T at s (take i octets))) =
     rw (said_none message root _ held.quiet) (wrote-nil _) in
-    let one = rw (← ls, ← due_is C T order at message root before so_far b whole.0 k, k.same_message, k.same_root) at
-    (c.in_ok-progress.ensures.writes here (here + 1) (lines_at C d octets a.of a.count a.step a.rest.now f h m on here)
+    let one = rw (
+      ← ls,
+      ← due_is C T order at message root before so_far b whole.0 k,
+      k.same_message,
+      k.same_root,
+    ) at
+    (c.in_ok-progress.ensures.writes here (here + 1)
+    (lines_at C d octets a.of a.count a.step a.rest.now f h m on here)
     (says_at C d octets a.of a.count a.step a.rest.now f h m on here)) in
     rw (← all, text_more message root order T at s octets i below) (wrote-append _ _ _ _ _ none one)
 
@@ -88,7 +107,8 @@ returns-clause-takes g c T order at message root s r =
     let h = c.requires.ahead in
     let f = c.requires.fits in
     let m = at_last d c.further-self.result c.tick_by.new.outer in
-    let on = is_at_last d a.count c.further-self.result c.tick_by.new.outer c.further-self.ensures c.tick_by.ensures.ticked in
+    let on = is_at_last d a.count c.further-self.result c.tick_by.new.outer c.further-self.ensures
+    c.tick_by.ensures.ticked in
     let i = a.count - 1 in
     let b = get_or octets i 0 in
     let p = c.in_ok-progress.progress in
@@ -103,9 +123,12 @@ returns-clause-takes g c T order at message root s r =
     let all : i + 1 ≡ a.count = omega (arith, h.some) in
     subst (λ n. TakesRun C T order at message root new s (take n octets) p) all
     (takes_more C T order at message root new s octets i p below held.takes.answers
-    (takes_to C T order at message root before new (s ++ take i octets) b p whole.0 e.order e.root e.message e.here
-    (λ here stands. rw (told_whole C d octets a.of a.count a.step a.rest.now f h m on here stands) (e.steps here (lines here) (says here)))
-    (λ here front stands old. keeps_noted_whole C d octets a.of a.count a.step a.rest.now f h m on new here front stands (e.inside here (lines here))
+    (takes_to C T order at message root before new (s ++ take i octets) b p whole.0 e.order e.root
+    e.message e.here
+    (λ here stands. rw (told_whole C d octets a.of a.count a.step a.rest.now f h m on here stands)
+    (e.steps here (lines here) (says here)))
+    (λ here front stands old. keeps_noted_whole C d octets a.of a.count a.step a.rest.now f h m on
+    new here front stands (e.inside here (lines here))
     (λ o recalls. e.notes o here (here + 1) (lines here) recalls (says here)) old)
     (held.takes.reads (λ fault. fault))))
 
@@ -118,7 +141,8 @@ returns-clause-fits g c goes_on =
     let h = c.requires.ahead in
     let f = c.requires.fits in
     let m = at_last d c.further-self.result c.tick_by.new.outer in
-    let on = is_at_last d a.count c.further-self.result c.tick_by.new.outer c.further-self.ensures c.tick_by.ensures.ticked in
+    let on = is_at_last d a.count c.further-self.result c.tick_by.new.outer c.further-self.ensures
+    c.tick_by.ensures.ticked in
     let b = get_or octets (a.count - 1) 0 in
     let new = c.emit.new.self in
     let e = c.in_ok-progress.ensures in
@@ -127,16 +151,22 @@ returns-clause-fits g c goes_on =
     let g' = whole.0 in
     let emitted = told_whole C d octets a.of a.count a.step a.rest.now f h m on g'.here g'.stands in
     let k = goes C new c.in_ok-progress.progress (g'.here + 1) (decoder_step C before g'.here b)
-    (rw emitted (e.steps g'.here (lines_at C d octets a.of a.count a.step a.rest.now f h m on g'.here)
+    (rw emitted (e.steps g'.here (lines_at C d octets a.of a.count a.step a.rest.now f h m on
+    g'.here)
     (says_at C d octets a.of a.count a.step a.rest.now f h m on g'.here))) goes_on in
     let next = e.next goes_on in
     let same = ap leaf_type (same_some g'.leaf h.leaf (sym g'.goes_on ∙ h.goes_on)) ∙ h.same in
-    let link : Link C g'.root m.outer.items c.args.ahead.of.0 = subst (Link C g'.root m.outer.items) same g'.link in
+    let link : Link C g'.root m.outer.items c.args.ahead.of.0 =
+    subst (Link C g'.root m.outer.items) same g'.link in
     step_fits C before new g' b k (e.here g'.here g'.stands) next.ahead next.inside
-    (next.link g'.root k.leaf link k.goes_on) next.known_outer (next.known k.leaf k.goes_on) (next.clean k.leaf k.goes_on)
+    (next.link g'.root k.leaf link k.goes_on) next.known_outer (next.known k.leaf k.goes_on)
+    (next.clean k.leaf k.goes_on)
     (λ other. let was = rw e.root at other in e.id was ∙ f.id_in_header_only was)
-    (subst (λ r. FitsName r (string_offset (tree C (leaf_type k.leaf)) k.leaf) new.notes.buffer new.notes.name.items) (sym e.root) (name_whole C d octets a.of a.count a.step a.rest.now f h m on g'.here k.leaf new.notes next.going (next.offset k.leaf k.goes_on)
-    (λ o held. e.notes o g'.here (g'.here + 1) (lines_at C d octets a.of a.count a.step a.rest.now f h m on g'.here) held
+    (subst (λ r. FitsName r (string_offset (tree C (leaf_type k.leaf)) k.leaf) new.notes.buffer
+    new.notes.name.items) (sym e.root) (name_whole C d octets a.of a.count a.step a.rest.now f h
+    m on g'.here k.leaf new.notes next.going (next.offset k.leaf k.goes_on)
+    (λ o held. e.notes o g'.here (g'.here + 1)
+    (lines_at C d octets a.of a.count a.step a.rest.now f h m on g'.here) held
     (says_at C d octets a.of a.count a.step a.rest.now f h m on g'.here))))
 
 pub returns-clause-done : goal.returns-clause-done
@@ -148,8 +178,10 @@ returns-clause-done g c is =
     let h = c.requires.ahead in
     let f = c.requires.fits in
     let m = at_last d c.further-self.result c.tick_by.new.outer in
-    let on = is_at_last d a.count c.further-self.result c.tick_by.new.outer c.further-self.ensures c.tick_by.ensures.ticked in
+    let on = is_at_last d a.count c.further-self.result c.tick_by.new.outer c.further-self.ensures
+    c.tick_by.ensures.ticked in
     let whole = gathered_whole C d octets a.of a.count a.step a.rest.now f h m on in
     done C c.emit.new.self c.in_ok-progress.progress (whole.0.here + 1) _
-    (c.in_ok-progress.ensures.steps whole.0.here (lines_at C d octets a.of a.count a.step a.rest.now f h m on whole.0.here)
+    (c.in_ok-progress.ensures.steps whole.0.here
+    (lines_at C d octets a.of a.count a.step a.rest.now f h m on whole.0.here)
     (says_at C d octets a.of a.count a.step a.rest.now f h m on whole.0.here)) is

@@ -26,10 +26,20 @@ returns-in_err-progress-clause-writes g c T order at message root s r =
     let so_far = s ++ take i octets in
     let held = c.gather-gathered.ensures.gathers T order at message root s r in
     let k = held.takes.reads (λ fault. fault) in
-    let below : i < length octets = omega (arith, c.gather-gathered.ensures.within, c.if-gathered-octets.false) in
-    let one = rw (k.same_message, k.same_root, ← due_is C T order at message root c.gather-gathered.new.self so_far b c.gather-gathered.ensures.fits k) at
+    let below : i < length octets = omega (
+      arith,
+      c.gather-gathered.ensures.within,
+      c.if-gathered-octets.false,
+    ) in
+    let one = rw (
+      k.same_message,
+      k.same_root,
+      ← due_is C T order at message root c.gather-gathered.new.self so_far b
+          c.gather-gathered.ensures.fits k,
+    ) at
     (c.in_err-progress.ensures.writes (at + length so_far) k.offset) in
-    writes_broken c.from_residual.result T order at message root s octets _ _ c.from_residual.ensures.0
+    writes_broken c.from_residual.result T order at message root s octets _ _
+    c.from_residual.ensures.0
     (breaks_off T order at message root s octets i _ _ _ below held.takes.answers
     (rw (said_none message root _ held.quiet) (wrote-nil _)) one)
 
@@ -42,12 +52,22 @@ returns-clause-writes g c T order at message root s r =
     let so_far = s ++ take i octets in
     let held = c.gather-gathered.ensures.gathers T order at message root s r in
     let k = held.takes.reads (λ fault. fault) in
-    let below : i < length octets = omega (arith, c.gather-gathered.ensures.within, c.if-gathered-octets.false) in
-    let none : Wrote (g.O.Out.log c.args.out.now) (g.O.Out.log c.args.out.now) (lines_text message root (added_lines_of_run order T at s (take i octets))) =
+    let below : i < length octets = omega (
+      arith,
+      c.gather-gathered.ensures.within,
+      c.if-gathered-octets.false,
+    ) in
+    let none : Wrote (g.O.Out.log c.args.out.now) (g.O.Out.log c.args.out.now)
+    (lines_text message root (added_lines_of_run order T at s (take i octets))) =
     rw (said_none message root _ held.quiet) (wrote-nil _) in
     rw (text_more message root order T at s octets i below)
     (wrote-append _ _ _ _ _ none
-    (rw (due_is C T order at message root c.gather-gathered.new.self so_far b c.gather-gathered.ensures.fits k, ← k.same_message, ← k.same_root)
+    (rw (
+      due_is C T order at message root c.gather-gathered.new.self so_far b
+          c.gather-gathered.ensures.fits k,
+      ← k.same_message,
+      ← k.same_root,
+    )
     (c.in_ok-progress.ensures.writes (at + length so_far) k.offset)))
 
 pub returns-clause-takes : goal.returns-clause-takes
@@ -56,11 +76,18 @@ returns-clause-takes g c T order at message root s r =
     let octets = c.args.octets.now in
     let held = c.gather-gathered.ensures.gathers T order at message root s r in
     let e = c.in_ok-progress.ensures in
-    let below : i < length octets = omega (arith, c.gather-gathered.ensures.within, c.if-gathered-octets.false) in
-    takes_more c.args.catalogue.now T order at message root c.advance.new.self s octets i c.in_ok-progress.progress
+    let below : i < length octets = omega (
+      arith,
+      c.gather-gathered.ensures.within,
+      c.if-gathered-octets.false,
+    ) in
+    takes_more c.args.catalogue.now T order at message root c.advance.new.self s octets i
+    c.in_ok-progress.progress
     below held.takes.answers
-    (takes_to c.args.catalogue.now T order at message root c.gather-gathered.new.self c.advance.new.self (s ++ take i octets) (get_or octets i 0)
-    c.in_ok-progress.progress c.gather-gathered.ensures.fits e.order e.root e.message e.here e.steps e.keeps_noted (held.takes.reads (λ fault. fault)))
+    (takes_to c.args.catalogue.now T order at message root c.gather-gathered.new.self
+    c.advance.new.self (s ++ take i octets) (get_or octets i 0)
+    c.in_ok-progress.progress c.gather-gathered.ensures.fits e.order e.root e.message e.here e.steps
+    e.keeps_noted (held.takes.reads (λ fault. fault)))
 
 pub returns-clause-done : goal.returns-clause-done
 returns-clause-done g c is =

@@ -21,9 +21,12 @@ returns-in_err-part_line-clause-writes g c T order at message root s r =
     let h = c.requires.ahead in
     let i = part.count - 1 in
     let before = before_answers C d octets part f h T order at message root s r in
-    let one = subst (WroteFront (g.O.Out.log c.args.out.now) (g.O.Out.log c.part_line.new.out)) (part_text C d octets part f h T order at message root s r)
-    (c.in_err-part_line.ensures d.message (root_word d.root ++ frames_text C (frames_above d.outer.items)) c.requires.front) in
-    writes_broken c.from_residual.result T order at message root s octets _ _ c.from_residual.ensures.0
+    let one = subst (WroteFront (g.O.Out.log c.args.out.now) (g.O.Out.log c.part_line.new.out))
+    (part_text C d octets part f h T order at message root s r)
+    (c.in_err-part_line.ensures d.message (root_word d.root
+    ++ frames_text C (frames_above d.outer.items)) c.requires.front) in
+    writes_broken c.from_residual.result T order at message root s octets _ _
+    c.from_residual.ensures.0
     (breaks_off T order at message root s octets i _ _ _ before.below before.answers
     (rw (said_none message root _ before.quiet) (wrote-nil _)) one)
 
@@ -37,17 +40,22 @@ returns-clause-writes g c T order at message root s r =
     let h = c.requires.ahead in
     let i = part.count - 1 in
     let before = before_answers C d octets part f h T order at message root s r in
-    let one = subst (Wrote (g.O.Out.log c.args.out.now) (g.O.Out.log c.part_line.new.out)) (part_text C d octets part f h T order at message root s r)
-    (c.in_ok-part_line.ensures d.message (root_word d.root ++ frames_text C (frames_above d.outer.items)) c.requires.front) in
+    let one = subst (Wrote (g.O.Out.log c.args.out.now) (g.O.Out.log c.part_line.new.out))
+    (part_text C d octets part f h T order at message root s r)
+    (c.in_ok-part_line.ensures d.message (root_word d.root
+    ++ frames_text C (frames_above d.outer.items)) c.requires.front) in
     let all : i + 1 ≡ part.count = before.all in
-    let none : Wrote (g.O.Out.log c.args.out.now) (g.O.Out.log c.args.out.now) (lines_text message root (added_lines_of_run order T at s (take i octets))) =
+    let none : Wrote (g.O.Out.log c.args.out.now) (g.O.Out.log c.args.out.now)
+    (lines_text message root (added_lines_of_run order T at s (take i octets))) =
     rw (said_none message root _ before.quiet) (wrote-nil _) in
-    rw (← all, text_more message root order T at s octets i before.below) (wrote-append _ _ _ _ _ none one)
+    rw (← all, text_more message root order T at s octets i before.below)
+    (wrote-append _ _ _ _ _ none one)
 
 pub returns-clause-takes : goal.returns-clause-takes
 returns-clause-takes g c T order at message root s r =
     let d = c.args.self.now in
-    part_takes c.args.catalogue.now d c.args.octets.now c.args.part c.requires.fits c.requires.ahead _ c.args.next c.requires.next
+    part_takes c.args.catalogue.now d c.args.octets.now c.args.part c.requires.fits c.requires.ahead
+    _ c.args.next c.requires.next
     (record {
       order = refl;
       root = refl;
@@ -58,13 +66,15 @@ returns-clause-takes g c T order at message root s r =
       piece = refl;
       at = c.further-self.ensures;
       leaf = refl;
-      outer = c.go_to_next.ensures (frames_above d.outer.items) c.args.part.frame c.requires.ahead.outer;
+      outer = c.go_to_next.ensures (frames_above d.outer.items) c.args.part.frame
+          c.requires.ahead.outer;
     }) c.requires.body T order at message root s r
 
 pub returns-clause-fits : goal.returns-clause-fits
 returns-clause-fits g c =
     let d = c.args.self.now in
-    part_fits c.args.catalogue.now d c.args.octets.now c.args.part c.requires.fits c.requires.ahead _ c.args.next c.requires.next
+    part_fits c.args.catalogue.now d c.args.octets.now c.args.part c.requires.fits c.requires.ahead
+    _ c.args.next c.requires.next
     (record {
       order = refl;
       root = refl;
@@ -75,5 +85,6 @@ returns-clause-fits g c =
       piece = refl;
       at = c.further-self.ensures;
       leaf = refl;
-      outer = c.go_to_next.ensures (frames_above d.outer.items) c.args.part.frame c.requires.ahead.outer;
+      outer = c.go_to_next.ensures (frames_above d.outer.items) c.args.part.frame
+          c.requires.ahead.outer;
     }) c.requires.body

@@ -22,7 +22,8 @@ loop-part-init g c =
       front = c.requires.front;
       short = c.requires.short;
       reads = λ T order at message root s r.
-          subst (Reads c.args.catalogue.now T order at message root c.args.self.now) (sym (append-nil s)) r;
+          subst (Reads c.args.catalogue.now T order at message root c.args.self.now)
+          (sym (append-nil s)) r;
       answers = λ T order at message root s r. refl;
       text = λ T order at message root s r. rw (text_none message root order T at s) (wrote-nil _);
     }
@@ -33,10 +34,14 @@ returns-in_err-count-clause-writes g c T order at message root s r =
     let octets = c.args.octets.now in
     let before = c.loop-part.invariant in
     let broke = rw (rest_from t octets) at
-    (c.in_err-count.ensures.writes T order at message root (s ++ take t octets) (before.reads T order at message root s r)) in
-    writes_broken c.from_residual-in_err-count.result T order at message root s octets _ _ c.from_residual-in_err-count.ensures.0
-    (subst (λ xs. BreaksOff T order at message root s xs (g.O.Out.log c.args.out.now) (g.O.Out.log c.take_part.new.out)) (take-append-drop t octets)
-    (breaks_both T order at message root s (take t octets) (drop t octets) _ _ _ (before.answers T order at message root s r)
+    (c.in_err-count.ensures.writes T order at message root (s ++ take t octets)
+    (before.reads T order at message root s r)) in
+    writes_broken c.from_residual-in_err-count.result T order at message root s octets _ _
+    c.from_residual-in_err-count.ensures.0
+    (subst (λ xs. BreaksOff T order at message root s xs (g.O.Out.log c.args.out.now)
+    (g.O.Out.log c.take_part.new.out)) (take-append-drop t octets)
+    (breaks_both T order at message root s (take t octets) (drop t octets) _ _ _
+    (before.answers T order at message root s r)
     (before.text T order at message root s r) broke))
 
 pub loop-part-preserved : goal.loop-part-preserved
@@ -48,12 +53,15 @@ loop-part-preserved g c =
     let next = c.in_ok-count.ensures.next in
     let runs : (T : Ty) (order : Order) (at message : ℕ) (root : Root) (s : List ℕ) →
     Reads c.args.catalogue.now T order at message root c.args.self.now s →
-    TakesRun c.args.catalogue.now T order at message root c.take_part.new.self s (take (t + n) octets) progress.More =
+    TakesRun c.args.catalogue.now T order at message root c.take_part.new.self s
+    (take (t + n) octets) progress.More =
     λ T order at message root s r.
     let now = rw (rest_from t octets) at
-    (c.in_ok-count.ensures.takes T order at message root (s ++ take t octets) (before.reads T order at message root s r)) in
+    (c.in_ok-count.ensures.takes T order at message root (s ++ take t octets)
+    (before.reads T order at message root s r)) in
     rw (take-add t n octets)
-    (takes_both c.args.catalogue.now T order at message root c.take_part.new.self s (take t octets) (take n (drop t octets))
+    (takes_both c.args.catalogue.now T order at message root c.take_part.new.self s (take t octets)
+    (take n (drop t octets))
     progress.More (before.answers T order at message root s r) now) in
     let l = length-drop t octets in
     let within = rw (rest_from t octets) at c.in_ok-count.ensures.within in
@@ -62,14 +70,21 @@ loop-part-preserved g c =
       fits = c.in_ok-count.ensures.fits;
       body = ap is_header_root next.root ∙ before.body;
       outside = next.inside ∙ before.outside;
-      front = before.front ∙ sym (front_kept c.args.catalogue.now c.loop-part.self c.take_part.new.self c.in-Some.part c.in-Some-next_number.next next);
+      front = before.front ∙ sym (front_kept c.args.catalogue.now c.loop-part.self
+          c.take_part.new.self c.in-Some.part c.in-Some-next_number.next next);
       short = before.short;
-      reads = λ T order at message root s r. (runs T order at message root s r).reads (λ fault. fault);
+      reads = λ T order at message root s r.
+          (runs T order at message root s r).reads (λ fault. fault);
       answers = λ T order at message root s r. (runs T order at message root s r).answers;
       text = λ T order at message root s r.
           let now = rw (rest_from t octets) at
-          (c.in_ok-count.ensures.writes T order at message root (s ++ take t octets) (before.reads T order at message root s r)) in
-          rw (take-add t n octets, text_both message root order T at s (take t octets) (take n (drop t octets)))
+          (c.in_ok-count.ensures.writes T order at message root (s ++ take t octets)
+          (before.reads T order at message root s r)) in
+          rw (
+            take-add t n octets,
+            text_both message root order T at s (take t octets)
+                (take n (drop t octets)),
+          )
           (wrote-append _ _ _ _ _ (before.text T order at message root s r) now);
     }
 
@@ -79,10 +94,14 @@ returns-in_err-last-clause-writes g c T order at message root s r =
     let octets = c.args.octets.now in
     let before = c.loop-part.invariant in
     let broke = rw (rest_from t octets) at
-    (c.in_err-last.ensures.writes T order at message root (s ++ take t octets) (before.reads T order at message root s r)) in
-    writes_broken c.from_residual.result T order at message root s octets _ _ c.from_residual.ensures.0
-    (subst (λ xs. BreaksOff T order at message root s xs (g.O.Out.log c.args.out.now) (g.O.Out.log c.take_last.new.out)) (take-append-drop t octets)
-    (breaks_both T order at message root s (take t octets) (drop t octets) _ _ _ (before.answers T order at message root s r)
+    (c.in_err-last.ensures.writes T order at message root (s ++ take t octets)
+    (before.reads T order at message root s r)) in
+    writes_broken c.from_residual.result T order at message root s octets _ _
+    c.from_residual.ensures.0
+    (subst (λ xs. BreaksOff T order at message root s xs (g.O.Out.log c.args.out.now)
+    (g.O.Out.log c.take_last.new.out)) (take-append-drop t octets)
+    (breaks_both T order at message root s (take t octets) (drop t octets) _ _ _
+    (before.answers T order at message root s r)
     (before.text T order at message root s r) broke))
 
 pub returns-in_default-next_number-clause-writes : goal.returns-in_default-next_number-clause-writes
@@ -92,8 +111,13 @@ returns-in_default-next_number-clause-writes g c T order at message root s r =
     let octets = c.args.octets.now in
     let before = c.loop-part.invariant in
     let now = rw (rest_from t octets) at
-    (c.in_ok-last.ensures.writes T order at message root (s ++ take t octets) (before.reads T order at message root s r)) in
-    rw (take-add t n octets, text_both message root order T at s (take t octets) (take n (drop t octets)))
+    (c.in_ok-last.ensures.writes T order at message root (s ++ take t octets)
+    (before.reads T order at message root s r)) in
+    rw (
+      take-add t n octets,
+      text_both message root order T at s (take t octets)
+          (take n (drop t octets)),
+    )
     (wrote-append _ _ _ _ _ (before.text T order at message root s r) now)
 
 pub returns-in_default-next_number-clause-takes : goal.returns-in_default-next_number-clause-takes
@@ -102,9 +126,11 @@ returns-in_default-next_number-clause-takes g c T order at message root s r =
     let n = c.in_ok-last.last in
     let octets = c.args.octets.now in
     let before = c.loop-part.invariant in
-    let now = rw (rest_from t octets) at (c.in_ok-last.ensures.takes T order at message root (s ++ take t octets) (before.reads T order at message root s r)) in
+    let now = rw (rest_from t octets) at (c.in_ok-last.ensures.takes T order at message root
+    (s ++ take t octets) (before.reads T order at message root s r)) in
     rw (take-add t n octets)
-    (takes_both c.args.catalogue.now T order at message root c.take_last.new.self s (take t octets) (take n (drop t octets))
+    (takes_both c.args.catalogue.now T order at message root c.take_last.new.self s (take t octets)
+    (take n (drop t octets))
     c.in_ok-last.progress (before.answers T order at message root s r) now)
 
 pub returns-in_err-rest-clause-writes : goal.returns-in_err-rest-clause-writes
@@ -113,10 +139,14 @@ returns-in_err-rest-clause-writes g c T order at message root s r =
     let octets = c.args.octets.now in
     let before = c.loop-part.invariant in
     let broke = rw (rest_from t octets) at
-    (c.in_err-rest.ensures.writes T order at message root (s ++ take t octets) (before.reads T order at message root s r)) in
-    writes_broken c.from_residual-in_err-rest.result T order at message root s octets _ _ c.from_residual-in_err-rest.ensures.0
-    (subst (λ xs. BreaksOff T order at message root s xs (g.O.Out.log c.args.out.now) (g.O.Out.log c.take_one.new.out)) (take-append-drop t octets)
-    (breaks_both T order at message root s (take t octets) (drop t octets) _ _ _ (before.answers T order at message root s r)
+    (c.in_err-rest.ensures.writes T order at message root (s ++ take t octets)
+    (before.reads T order at message root s r)) in
+    writes_broken c.from_residual-in_err-rest.result T order at message root s octets _ _
+    c.from_residual-in_err-rest.ensures.0
+    (subst (λ xs. BreaksOff T order at message root s xs (g.O.Out.log c.args.out.now)
+    (g.O.Out.log c.take_one.new.out)) (take-append-drop t octets)
+    (breaks_both T order at message root s (take t octets) (drop t octets) _ _ _
+    (before.answers T order at message root s r)
     (before.text T order at message root s r) broke))
 
 pub returns-clause-writes : goal.returns-clause-writes
@@ -126,8 +156,13 @@ returns-clause-writes g c T order at message root s r =
     let octets = c.args.octets.now in
     let before = c.loop-part.invariant in
     let now = rw (rest_from t octets) at
-    (c.in_ok-rest.ensures.writes T order at message root (s ++ take t octets) (before.reads T order at message root s r)) in
-    rw (take-add t n octets, text_both message root order T at s (take t octets) (take n (drop t octets)))
+    (c.in_ok-rest.ensures.writes T order at message root (s ++ take t octets)
+    (before.reads T order at message root s r)) in
+    rw (
+      take-add t n octets,
+      text_both message root order T at s (take t octets)
+          (take n (drop t octets)),
+    )
     (wrote-append _ _ _ _ _ (before.text T order at message root s r) now)
 
 pub returns-clause-takes : goal.returns-clause-takes
@@ -136,13 +171,19 @@ returns-clause-takes g c T order at message root s r =
     let n = c.in_ok-rest.rest in
     let octets = c.args.octets.now in
     let before = c.loop-part.invariant in
-    let now = rw (rest_from t octets) at (c.in_ok-rest.ensures.takes T order at message root (s ++ take t octets) (before.reads T order at message root s r)) in
+    let now = rw (rest_from t octets) at (c.in_ok-rest.ensures.takes T order at message root
+    (s ++ take t octets) (before.reads T order at message root s r)) in
     rw (take-add t n octets)
-    (takes_both c.args.catalogue.now T order at message root c.take_one.new.self s (take t octets) (take n (drop t octets))
+    (takes_both c.args.catalogue.now T order at message root c.take_one.new.self s (take t octets)
+    (take n (drop t octets))
     c.in_ok-rest.progress (before.answers T order at message root s r) now)
 
 pub returns-then-taken-octets-clause-takes : goal.returns-then-taken-octets-clause-takes
 returns-then-taken-octets-clause-takes g c T order at message root s r =
     let before = c.loop-part.invariant in
     let now = before.reads T order at message root s r in
-    record { answers = before.answers T order at message root s r; reads = λ unfaulty. now; keeps_noted = now.keeps_noted }
+    record {
+      answers = before.answers T order at message root s r;
+      reads = λ unfaulty. now;
+      keeps_noted = now.keeps_noted;
+    }

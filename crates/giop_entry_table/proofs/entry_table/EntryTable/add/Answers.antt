@@ -25,7 +25,11 @@ invariant_of-self g c =
       IsTied-push _ _ _ _ _ _ _ c.self.invariant.0 put.was_vacant put.updates put.len,
       record {
         keys_fit = omega (arith, c.push_reserved-2.ensures.capacity, c.self.invariant.1.keys_fit);
-        numbers_fit = omega (arith, c.push_reserved.ensures.capacity, c.self.invariant.1.numbers_fit);
+        numbers_fit = omega (
+          arith,
+          c.push_reserved.ensures.capacity,
+          c.self.invariant.1.numbers_fit,
+        );
         values_fit = omega (arith, put.capacity, c.self.invariant.1.values_fit);
       },
       rw (length-append c.self.inside.numbers.items _) (omega (arith, room)),

@@ -9,6 +9,11 @@ invariant_of-result g c =
     let values = c.in_ok-with_capacity-3.ensures in
     rw (keys.items, numbers.items) (
       IsTied-none _ values.empty,
-      record { keys_fit = keys.capacity; numbers_fit = numbers.capacity; values_fit = values.capacity },
+      record {
+        keys_fit = keys.capacity;
+        numbers_fit = numbers.capacity;
+        values_fit =
+            values.capacity;
+      },
       omega arith,
     )

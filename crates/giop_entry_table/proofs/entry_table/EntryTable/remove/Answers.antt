@@ -17,7 +17,8 @@ remove-number-requires g c =
 pub remove-value-requires : goal.remove-value-requires
 remove-value-requires g c =
     let within = rw (← c.self.view_is, length-held _ _ _ c.self.invariant.0) at c.requires in
-    held-number _ _ _ c.args.place _ c.self.invariant.0 within (read-at _ _ _ within c.remove-number.ensures.value)
+    held-number _ _ _ c.args.place _ c.self.invariant.0 within
+    (read-at _ _ _ within c.remove-number.ensures.value)
 
 pub invariant_of-self : goal.invariant_of-self
 invariant_of-self g c =
@@ -33,7 +34,11 @@ invariant_of-self g c =
         numbers_fit = omega (arith, c.remove-number.ensures.capacity, room.numbers_fit);
         values_fit = omega (arith, gone.capacity, room.values_fit);
       },
-      omega (arith, length-remove c.self.inside.numbers.items c.args.place within, c.self.invariant.2),
+      omega (
+        arith,
+        length-remove c.self.inside.numbers.items c.args.place within,
+        c.self.invariant.2,
+      ),
     )
 
 pub returns-clause-value : goal.returns-clause-value
@@ -42,7 +47,8 @@ returns-clause-value g c =
     let within = rw (← c.self.view_is, length-held _ _ _ tied) at c.requires in
     let number = read-at _ _ _ within c.remove-number.ensures.value in
     let key = read-at _ _ _ (rw (← tied.as_many) at within) c.remove-key.ensures.value in
-    rw (← c.self.view_is, key) (entry-of _ _ _ c.args.place _ _ tied within number c.remove-value.ensures.value)
+    rw (← c.self.view_is, key) (entry-of _ _ _ c.args.place _ _ tied within number
+    c.remove-value.ensures.value)
 
 pub returns-clause-entries : goal.returns-clause-entries
 returns-clause-entries g c =

@@ -12,7 +12,8 @@ index-number-requires g c =
 pub index_mut-requires : goal.index_mut-requires
 index_mut-requires g c =
     let within = rw (← c.self.view_is, length-held _ _ _ c.self.invariant.0) at c.requires in
-    held-number _ _ _ c.args.place _ c.self.invariant.0 within (read-at _ _ _ within c.index-number.ensures)
+    held-number _ _ _ c.args.place _ c.self.invariant.0 within
+    (read-at _ _ _ within c.index-number.ensures)
 
 pub invariant_of-self-lent : goal.invariant_of-self-lent
 invariant_of-self-lent g c w =
@@ -23,8 +24,15 @@ invariant_of-self-lent g c w =
     let room = c.self.invariant.1 in
     let values = c.self.inside.values in
     let at = c.index-number.result.now in (
-      IsTied-revalued _ _ _ _ c.args.place w tied (Updates-under _ _ _ _ _ number (Updates-with_value values at w held)) (length-with_value values at w held),
-      record { keys_fit = room.keys_fit; numbers_fit = room.numbers_fit; values_fit = room.values_fit },
+      IsTied-revalued _ _ _ _ c.args.place w tied
+          (Updates-under _ _ _ _ _ number (Updates-with_value values at w held))
+          (length-with_value values at w held),
+      record {
+        keys_fit = room.keys_fit;
+        numbers_fit = room.numbers_fit;
+        values_fit =
+            room.values_fit;
+      },
       c.self.invariant.2,
     )
 
@@ -38,9 +46,15 @@ returns g c =
       (
         refl,
         λ w.
-            let updates = Updates-under _ _ _ _ _ number (Updates-with_value c.self.inside.values c.index-number.result.now w held) in
-            let entries = entries-revalued _ _ _ _ c.args.place w tied.as_many tied.held tied.distinct within updates in
-            rw (← c.self.view_is) (ap (λ es. record { most = c.self.inside.most; entries = es }) entries),
+            let updates = Updates-under _ _ _ _ _ number
+            (Updates-with_value c.self.inside.values c.index-number.result.now w held) in
+            let entries = entries-revalued _ _ _ _ c.args.place w tied.as_many tied.held
+            tied.distinct within updates in
+            rw (← c.self.view_is) (ap (λ es. record { most = c.self.inside.most; entries = es })
+            entries),
       ),
-      record { writes_back = tt; value = rw (← c.self.view_is) (value ∙ c.index_mut.ensures.value) },
+      record {
+        writes_back = tt;
+        value = rw (← c.self.view_is) (value ∙ c.index_mut.ensures.value);
+      },
     )

@@ -12,4 +12,5 @@ pub returns-in-2 : goal.returns-in-2
 returns-in-2 c body_type_id e = exception_again body_type_id _ e c.in-2.is
 
 pub returns-in_default : goal.returns-in_default
-returns-in_default c body_type_id e = system_again body_type_id _ e (search rules) (search rules) (search rules)
+returns-in_default c body_type_id e = system_again body_type_id _ e (search rules) (search rules)
+    (search rules)

@@ -12,5 +12,11 @@ returns-clause-enters c answers number header s at before first e =
       since = sym (append-nil s);
       is = e;
       first = first;
-      reads = rw (← at.same_header, ← at.same_number, ← at.at, ← c.order_of-order.ensures, ← c.root-root.ensures) c.start-decoder.ensures.reads;
+      reads = rw (
+        ← at.same_header,
+        ← at.same_number,
+        ← at.at,
+        ← c.order_of-order.ensures,
+        ← c.root-root.ensures,
+      ) c.start-decoder.ensures.reads;
     }

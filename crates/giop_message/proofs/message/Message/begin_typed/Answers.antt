@@ -6,7 +6,8 @@ use Rattle.giop_message.proofs.Starting.{empty_rests, some_not_empty}
 use Rattle.giop_message.proofs.message.Message.begin_typed.Goals as goal
 
 pub begin-requires-clause-some : goal.begin-requires-clause-some
-begin-requires-clause-some c = some_not_empty (tree c.args.catalogue.now c.args.of.0) (sym c.is_empty.ensures ∙ c.if-is_empty.false)
+begin-requires-clause-some c = some_not_empty (tree c.args.catalogue.now c.args.of.0)
+    (sym c.is_empty.ensures ∙ c.if-is_empty.false)
 
 pub returns-then-is_empty-clause-fits : goal.returns-then-is_empty-clause-fits
 returns-then-is_empty-clause-fits c = c.begin_rest.ensures.fits c.args.catalogue.now
@@ -16,8 +17,10 @@ returns-then-is_empty-clause-arrives c answers number header s at before e =
     let C = c.args.catalogue.now in
     let T = tree C c.args.of.0 in
     let empty = sym c.is_empty.ensures ∙ c.if-is_empty.true in
-    c.begin_rest.ensures.arrives C answers number header s at before (e ∙ ap (with_front before) (empty_rests (order header) T (12 + length s) empty))
+    c.begin_rest.ensures.arrives C answers number header s at before
+    (e ∙ ap (with_front before) (empty_rests (order header) T (12 + length s) empty))
 
 pub returns-else-is_empty-clause-arrives : goal.returns-else-is_empty-clause-arrives
 unfolding typed
-returns-else-is_empty-clause-arrives c answers number header s at before e = c.begin.ensures.enters answers number header s at before tt e
+returns-else-is_empty-clause-arrives c answers number header s at before e =
+    c.begin.ensures.enters answers number header s at before tt e

@@ -13,7 +13,8 @@ pub returns-else-kind_of-lt2 : goal.returns-else-kind_of-lt2
 returns-else-kind_of-lt2 c =
     rw (
       c.in-Header.is,
-      has_none c.args.self.now.header (λ e. omega (arith, c.if-kind_of-lt2.false, c.kind_of.ensures, e))
+      has_none c.args.self.now.header (λ e.
+          omega (arith, c.if-kind_of-lt2.false, c.kind_of.ensures, e))
           (λ e. omega (arith, c.if-kind_of-lt2.false, c.kind_of.ensures, e)),
       le-ltb c.kind_of.result 2 (omega (arith, c.if-kind_of-lt2.false)),
     ) refl

@@ -10,7 +10,9 @@ returns-in-Typed c answers number header s f = rw (section_short f c.requires c.
 
 pub returns-in-Padding : goal.returns-in-Padding
 returns-in-Padding c answers number header s f =
-    rw (padding_stage f c.requires c.in-Padding.is, padding_short) (ap not c.body_may_be_missing.ensures)
+    rw (padding_stage f c.requires c.in-Padding.is, padding_short)
+    (ap not c.body_may_be_missing.ensures)
 
 pub returns-in-Rest : goal.returns-in-Rest
-returns-in-Rest c answers number header s f = rw (rest_stage f c.requires c.in-Rest.is, rest_short) refl
+returns-in-Rest c answers number header s f =
+    rw (rest_stage f c.requires c.in-Rest.is, rest_short) refl

@@ -8,29 +8,45 @@ use Rattle.giop_message.proofs.Starting.{left_padded, left_bare, front_pads, wan
 use Rattle.giop_message.proofs.message.Message.leave.Goals as goal
 
 pub returns-then-is_padded-clause-arrives : goal.returns-then-is_padded-clause-arrives
-returns-then-is_padded-clause-arrives g c answers number header s section r ended agrees at before e =
+returns-then-is_padded-clause-arrives g c answers number header s section r ended agrees at before
+    e =
     let C = c.args.catalogue.now in
     let answer = g.Q.Correspondent.answer (g.Q.Correspondent.state c.args.correspondent.now) in
     let S = signatures_of C (answers number) in
     let h = noted_of (is_header_root (root_of section)) r in
     let here = subst (λ p. Ended p section r) c.in-Typed.is ended in
-    let keeps_noted = subst (λ x. KeepsNoted (root_of x) c.in-Typed.decoder r) (sym here.0) here.1 in
-    let some : is_padded header section (12 + length s) ≡ true = rw (← at.same_header, ← at.at, ← here.0) (sym c.is_padded.ensures ∙ c.if-is_padded.true) in
-    let wants = rw (at.same_header, here.0) at (c.body_type_after-body_type_id.ensures.is r keeps_noted (c.operation_of-operation.ensures.is r keeps_noted)) in
-    let body_type_id = wants ∙ wanted_agree C answer (answers number) header section h (λ j. sym (agrees j)) in
-    (before, e ∙ (ap (with_front before) (left_padded S header section h (12 + length s) some) ∙ (rw body_type_id (front_pads before (12 + length s) _))))
+    let keeps_noted = subst (λ x. KeepsNoted (root_of x) c.in-Typed.decoder r) (sym here.0) here.1
+    in
+    let some : is_padded header section (12 + length s) ≡ true =
+    rw (← at.same_header, ← at.at, ← here.0) (sym c.is_padded.ensures ∙ c.if-is_padded.true) in
+    let wants = rw (at.same_header, here.0) at
+    (c.body_type_after-body_type_id.ensures.is r keeps_noted
+    (c.operation_of-operation.ensures.is r keeps_noted)) in
+    let body_type_id = wants ∙ wanted_agree C answer (answers number) header section h
+    (λ j. sym (agrees j)) in (
+      before,
+      e ∙ (ap (with_front before) (left_padded S header section h (12 + length s) some)
+          ∙ (rw body_type_id (front_pads before (12 + length s) _))),
+    )
 
 pub returns-else-is_padded-clause-arrives : goal.returns-else-is_padded-clause-arrives
-returns-else-is_padded-clause-arrives g c answers number header s section r ended agrees at before e =
+returns-else-is_padded-clause-arrives g c answers number header s section r ended agrees at before
+    e =
     let C = c.args.catalogue.now in
     let answer = g.Q.Correspondent.answer (g.Q.Correspondent.state c.args.correspondent.now) in
     let S = signatures_of C (answers number) in
     let h = noted_of (is_header_root (root_of section)) r in
     let here = subst (λ p. Ended p section r) c.in-Typed.is ended in
-    let keeps_noted = subst (λ x. KeepsNoted (root_of x) c.in-Typed.decoder r) (sym here.0) here.1 in
-    let none : is_padded header section (12 + length s) ≡ false = rw (← at.same_header, ← at.at, ← here.0) (sym c.is_padded.ensures ∙ c.if-is_padded.false) in
-    let wants = rw (at.same_header, here.0) at (c.body_type_after-body_type_id.ensures.is r keeps_noted (c.operation_of-operation.ensures.is r keeps_noted)) in
-    let body_type_id = wants ∙ wanted_agree C answer (answers number) header section h (λ j. sym (agrees j)) in
-    c.begin_body.ensures.arrives answers number header s (record { same_number = at.same_number; same_header = at.same_header; at = at.at }) before
+    let keeps_noted = subst (λ x. KeepsNoted (root_of x) c.in-Typed.decoder r) (sym here.0) here.1
+    in
+    let none : is_padded header section (12 + length s) ≡ false =
+    rw (← at.same_header, ← at.at, ← here.0) (sym c.is_padded.ensures ∙ c.if-is_padded.false) in
+    let wants = rw (at.same_header, here.0) at
+    (c.body_type_after-body_type_id.ensures.is r keeps_noted
+    (c.operation_of-operation.ensures.is r keeps_noted)) in
+    let body_type_id = wants ∙ wanted_agree C answer (answers number) header section h
+    (λ j. sym (agrees j)) in
+    c.begin_body.ensures.arrives answers number header s
+    (record { same_number = at.same_number; same_header = at.same_header; at = at.at }) before
     (e ∙ (ap (with_front before) (left_bare S header section h (12 + length s) none)
     ∙ ap (λ b. with_front before (body S header b (12 + length s) [])) (sym body_type_id)))

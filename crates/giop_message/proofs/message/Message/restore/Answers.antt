@@ -3,7 +3,8 @@ use Rattle.giop_message.specs.Stored.{kept_id, PartStored, GoesOn}
 use Rattle.giop_message.proofs.Storing.{there, not_both, behind_own, of_own, both, own_fields, same_own, goes_on, kept_again, id_on, stands_on}
 use Rattle.giop_message.proofs.message.Message.restore.Goals as goal
 
-pub returns-then-not-is_after_header-clause-again : goal.returns-then-not-is_after_header-clause-again
+pub returns-then-not-is_after_header-clause-again :
+    goal.returns-then-not-is_after_header-clause-again
 returns-then-not-is_after_header-clause-again c m fits stored =
     let fields = own_fields m c.args.fixed.now stored.own in
     let at = c.eight_at-at.ensures m.at _ stored.own.at fields.at in

@@ -8,31 +8,41 @@ use Rattle.giop_message.proofs.Starting.{fit_some, none_told, none_rests, header
 use Rattle.giop_message.proofs.message.Message.start.Goals as goal
 
 pub begin-requires-clause-some : goal.begin-requires-clause-some
-begin-requires-clause-some c = fit_some (tree c.args.catalogue.now c.in-Some.of.0) c.in-Some.ensures.fit
+begin-requires-clause-some c = fit_some (tree c.args.catalogue.now c.in-Some.of.0)
+    c.in-Some.ensures.fit
 
 pub returns-clause-follows : goal.returns-clause-follows
 unfolding signatures_of
 returns-clause-follows c answers =
     let e = c.begin.ensures in
-    let found : header_type (minor c.args.header) (kind c.args.header) ≡ Some (tree c.args.catalogue.now c.in-Some.of.0) =
+    let found : header_type (minor c.args.header) (kind c.args.header)
+    ≡ Some (tree c.args.catalogue.now c.in-Some.of.0) =
     rw (← c.minor_of.ensures, ← c.kind_of.ensures) (sym c.in-Some.ensures.tree) in
     record {
       same_number = e.number;
       same_header = e.header;
       id = e.id ∙ rw e.within refl;
       at = e.at;
-      stands = e.enters answers c.args.number c.args.header [] (record { same_number = refl; same_header = refl; at = refl }) [] (found, refl, refl)
-          (header_first (signatures_of c.args.catalogue.now (answers c.args.number)) c.args.header (tree c.args.catalogue.now c.in-Some.of.0) found);
+      stands = e.enters answers c.args.number c.args.header []
+          (record { same_number = refl; same_header = refl; at = refl }) [] (found, refl, refl)
+          (header_first (signatures_of c.args.catalogue.now (answers c.args.number)) c.args.header
+          (tree c.args.catalogue.now c.in-Some.of.0) found);
     }
 
 pub returns-in_default-clause-follows : goal.returns-in_default-clause-follows
 unfolding signatures_of first_request_id
 returns-in_default-clause-follows c answers =
-    let none : header_type (minor c.args.header) (kind c.args.header) ≡ None = rw (← c.minor_of.ensures, ← c.kind_of.ensures) (sym c.in_default.ensures.tree) in
+    let none : header_type (minor c.args.header) (kind c.args.header) ≡ None =
+    rw (← c.minor_of.ensures, ← c.kind_of.ensures) (sym c.in_default.ensures.tree) in
     record {
       same_number = refl;
       same_header = refl;
-      id = rw (none_told (signatures_of c.args.catalogue.now (answers c.args.number)) c.args.header) refl;
+      id = rw (none_told (signatures_of c.args.catalogue.now (answers c.args.number)) c.args.header)
+          refl;
       at = refl;
-      stands = rw (c.new.ensures.offset, c.new.ensures.held) ([], none_rests (signatures_of c.args.catalogue.now (answers c.args.number)) c.args.header none);
+      stands = rw (c.new.ensures.offset, c.new.ensures.held) (
+        [],
+        none_rests (signatures_of c.args.catalogue.now (answers c.args.number)) c.args.header
+            none,
+      );
     }

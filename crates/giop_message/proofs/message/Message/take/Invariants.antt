@@ -11,25 +11,30 @@ invariant-loop-taken g l =
       within : l.taken ≤ length l.octets;
       fits : Fits l.catalogue l.self;
       at : l.self.at ≡ l.initial.self.at + l.taken;
-      known : AreKnown l.catalogue (g.Q.Correspondent.answer (g.Q.Correspondent.state l.correspondent));
+      known : AreKnown l.catalogue (g.Q.Correspondent.answer
+          (g.Q.Correspondent.state l.correspondent));
       follows : (answers : Answers) (number : ℕ) (header s : List ℕ) →
           Follows l.catalogue answers number header l.initial.self s →
-          AgreesAtEnds g.Q.Correspondent.answer g.Q.Correspondent.notified l.catalogue (g.Q.Correspondent.state l.initial.correspondent)
+          AgreesAtEnds g.Q.Correspondent.answer g.Q.Correspondent.notified l.catalogue
+          (g.Q.Correspondent.state l.initial.correspondent)
           answers (header_ends number header s l.octets) →
           Follows l.catalogue answers number header l.self (s ++ take l.taken l.octets);
       text : (answers : Answers) (number : ℕ) (header s : List ℕ) →
           Follows l.catalogue answers number header l.initial.self s →
-          AgreesAtEnds g.Q.Correspondent.answer g.Q.Correspondent.notified l.catalogue (g.Q.Correspondent.state l.initial.correspondent)
+          AgreesAtEnds g.Q.Correspondent.answer g.Q.Correspondent.notified l.catalogue
+          (g.Q.Correspondent.state l.initial.correspondent)
           answers (header_ends number header s l.octets) →
           Wrote (g.O.Out.log l.initial.out) (g.O.Out.log l.out)
           (due_text (signatures_of l.catalogue (answers number)) number l.place header s
           (take l.taken l.octets));
       told : (answers : Answers) (number : ℕ) (header s : List ℕ) →
           Follows l.catalogue answers number header l.initial.self s →
-          AgreesAtEnds g.Q.Correspondent.answer g.Q.Correspondent.notified l.catalogue (g.Q.Correspondent.state l.initial.correspondent)
+          AgreesAtEnds g.Q.Correspondent.answer g.Q.Correspondent.notified l.catalogue
+          (g.Q.Correspondent.state l.initial.correspondent)
           answers (header_ends number header s l.octets) →
           g.Q.Correspondent.state l.correspondent
-          ≡ after_ends g.Q.Correspondent.notified l.catalogue (g.Q.Correspondent.state l.initial.correspondent)
+          ≡ after_ends g.Q.Correspondent.notified l.catalogue
+          (g.Q.Correspondent.state l.initial.correspondent)
           (header_ends number header s (take l.taken l.octets));
     }
 

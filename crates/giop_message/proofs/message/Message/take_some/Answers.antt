@@ -11,87 +11,109 @@ pub returns-in_err-taken-in-Typed-clause-writes : goal.returns-in_err-taken-in-T
 returns-in_err-taken-in-Typed-clause-writes g c answers number header s f =
     let t = standing f c.in-Typed.is c.requires.fits in
     run_failed _ _ number c.args.place header s c.args.octets.now _ _ c.from_residual.ensures.0
-    (text_broken t c.args.octets.now c.args.place _ _ (by_reads t c.in_err-taken-in-Typed.ensures.writes))
+    (text_broken t c.args.octets.now c.args.place _ _
+    (by_reads t c.in_err-taken-in-Typed.ensures.writes))
 
 pub returns-in-More-clause-writes : goal.returns-in-More-clause-writes
 returns-in-More-clause-writes g c answers number header s f =
     let t = standing f c.in-Typed.is c.requires.fits in
     let ran = c.in_ok-taken-in-Typed.ensures in
-    let k = took t c.args.octets.now c.in_ok-taken-in-Typed.taken ran.within (ran.some c.requires.some) (by_reads t ran.takes) c.in-More.is in
+    let k = took t c.args.octets.now c.in_ok-taken-in-Typed.taken ran.within
+    (ran.some c.requires.some) (by_reads t ran.takes) c.in-More.is in
     rw (text_more k c.args.place) (by_reads t ran.writes)
 
 pub returns-in-More-clause-went : goal.returns-in-More-clause-went
 returns-in-More-clause-went g c answers number header s f agrees =
     let t = standing f c.in-Typed.is c.requires.fits in
     let ran = c.in_ok-taken-in-Typed.ensures in
-    let k = took t c.args.octets.now c.in_ok-taken-in-Typed.taken ran.within (ran.some c.requires.some) (by_reads t ran.takes) c.in-More.is in
+    let k = took t c.args.octets.now c.in_ok-taken-in-Typed.taken ran.within
+    (ran.some c.requires.some) (by_reads t ran.takes) c.in-More.is in
     went_on k (λ fault. fault) _ (record { number = refl; header = refl; at = refl }) refl refl
 
 pub returns-in_err-call-in-Named-clause-writes : goal.returns-in_err-call-in-Named-clause-writes
 returns-in_err-call-in-Named-clause-writes g c answers number header s f =
     let t = standing f c.in-Typed.is c.requires.fits in
     let ran = c.in_ok-taken-in-Typed.ensures in
-    let k = took t c.args.octets.now c.in_ok-taken-in-Typed.taken ran.within (ran.some c.requires.some) (by_reads t ran.takes) c.in-Named.is in
-    let called = c.in_err-call-in-Named.ensures (ReadWith t (take c.in_ok-taken-in-Typed.taken c.args.octets.now)) (keeps_noted_header k) in
-    failed_behind c.from_residual-in_err-call-in-Named.result c.args.place c.from_residual-in_err-call-in-Named.ensures.0 k (text_named k c.args.place)
+    let k = took t c.args.octets.now c.in_ok-taken-in-Typed.taken ran.within
+    (ran.some c.requires.some) (by_reads t ran.takes) c.in-Named.is in
+    let called = c.in_err-call-in-Named.ensures
+    (ReadWith t (take c.in_ok-taken-in-Typed.taken c.args.octets.now)) (keeps_noted_header k) in
+    failed_behind c.from_residual-in_err-call-in-Named.result c.args.place
+    c.from_residual-in_err-call-in-Named.ensures.0 k (text_named k c.args.place)
     (by_reads t ran.writes) called
 
 pub returns-in_ok-call-in-Named-clause-writes : goal.returns-in_ok-call-in-Named-clause-writes
 returns-in_ok-call-in-Named-clause-writes g c answers number header s f =
     let t = standing f c.in-Typed.is c.requires.fits in
     let ran = c.in_ok-taken-in-Typed.ensures in
-    let k = took t c.args.octets.now c.in_ok-taken-in-Typed.taken ran.within (ran.some c.requires.some) (by_reads t ran.takes) c.in-Named.is in
-    let called = c.in_ok-call-in-Named.ensures (ReadWith t (take c.in_ok-taken-in-Typed.taken c.args.octets.now)) (keeps_noted_header k) in
+    let k = took t c.args.octets.now c.in_ok-taken-in-Typed.taken ran.within
+    (ran.some c.requires.some) (by_reads t ran.takes) c.in-Named.is in
+    let called = c.in_ok-call-in-Named.ensures
+    (ReadWith t (take c.in_ok-taken-in-Typed.taken c.args.octets.now)) (keeps_noted_header k) in
     rw (text_named k c.args.place) (wrote-append _ _ _ _ _ (by_reads t ran.writes) called)
 
 pub returns-in_ok-call-in-Named-clause-went : goal.returns-in_ok-call-in-Named-clause-went
 returns-in_ok-call-in-Named-clause-went g c answers number header s f agrees =
     let t = standing f c.in-Typed.is c.requires.fits in
     let ran = c.in_ok-taken-in-Typed.ensures in
-    let k = took t c.args.octets.now c.in_ok-taken-in-Typed.taken ran.within (ran.some c.requires.some) (by_reads t ran.takes) c.in-Named.is in
+    let k = took t c.args.octets.now c.in_ok-taken-in-Typed.taken ran.within
+    (ran.some c.requires.some) (by_reads t ran.takes) c.in-Named.is in
     went_on k (λ fault. fault) _ (record { number = refl; header = refl; at = refl }) refl refl
 
 pub returns-in-Done-clause-writes : goal.returns-in-Done-clause-writes
 returns-in-Done-clause-writes g c answers number header s f =
     let t = standing f c.in-Typed.is c.requires.fits in
     let ran = c.in_ok-taken-in-Typed.ensures in
-    let k = took t c.args.octets.now c.in_ok-taken-in-Typed.taken ran.within (ran.some c.requires.some) (by_reads t ran.takes) c.in-Done.is in
+    let k = took t c.args.octets.now c.in_ok-taken-in-Typed.taken ran.within
+    (ran.some c.requires.some) (by_reads t ran.takes) c.in-Done.is in
     rw (text_done k c.args.place) (by_reads t ran.writes)
 
 pub returns-in-Done-clause-went : goal.returns-in-Done-clause-went
 returns-in-Done-clause-went g c answers number header s f agrees =
     let t = standing f c.in-Typed.is c.requires.fits in
     let ran = c.in_ok-taken-in-Typed.ensures in
-    let k = took t c.args.octets.now c.in_ok-taken-in-Typed.taken ran.within (ran.some c.requires.some) (by_reads t ran.takes) c.in-Done.is in
+    let k = took t c.args.octets.now c.in_ok-taken-in-Typed.taken ran.within
+    (ran.some c.requires.some) (by_reads t ran.takes) c.in-Done.is in
     let e = c.leave.ensures in
     let xs = take c.in_ok-taken-in-Typed.taken c.args.octets.now in
     went_done k _ _ (record { number = refl; header = refl; at = refl }) refl
-    (e.arrives answers number header (s ++ xs) c.in-Typed.field-0 (ReadWith t xs) (refl, k.takes.keeps_noted)
-    (answered_here g.Q.Correspondent.answer g.Q.Correspondent.notified (g.Q.Correspondent.state c.args.correspondent.now) answers k agrees))
-    (record { number = e.number; header = e.header; at = e.at }) (e.id c.in-Typed.field-0 (ReadWith t xs) (refl, k.takes.keeps_noted)) e.past
+    (e.arrives answers number header (s ++ xs) c.in-Typed.field-0 (ReadWith t xs)
+    (refl, k.takes.keeps_noted)
+    (answered_here g.Q.Correspondent.answer g.Q.Correspondent.notified
+    (g.Q.Correspondent.state c.args.correspondent.now) answers k agrees))
+    (record { number = e.number; header = e.header; at = e.at })
+    (e.id c.in-Typed.field-0 (ReadWith t xs) (refl, k.takes.keeps_noted)) e.past
 
-pub returns-in_err-fault_line-in-Fault-clause-writes : goal.returns-in_err-fault_line-in-Fault-clause-writes
+pub returns-in_err-fault_line-in-Fault-clause-writes :
+    goal.returns-in_err-fault_line-in-Fault-clause-writes
 returns-in_err-fault_line-in-Fault-clause-writes g c answers number header s f =
     let t = standing f c.in-Typed.is c.requires.fits in
     let ran = c.in_ok-taken-in-Typed.ensures in
-    let k = took t c.args.octets.now c.in_ok-taken-in-Typed.taken ran.within (ran.some c.requires.some) (by_reads t ran.takes) c.in-Fault.is in
+    let k = took t c.args.octets.now c.in_ok-taken-in-Typed.taken ran.within
+    (ran.some c.requires.some) (by_reads t ran.takes) c.in-Fault.is in
     let emitted = rw c.fault_word.ensures at c.in_err-fault_line-in-Fault.ensures in
-    failed_behind c.from_residual-in_err-fault_line-in-Fault.result c.args.place c.from_residual-in_err-fault_line-in-Fault.ensures.0 k
+    failed_behind c.from_residual-in_err-fault_line-in-Fault.result c.args.place
+    c.from_residual-in_err-fault_line-in-Fault.ensures.0 k
     (text_wrong c.in-Fault.kind k c.args.place) (by_reads t ran.writes) emitted
 
-pub returns-in_ok-fault_line-in-Fault-clause-writes : goal.returns-in_ok-fault_line-in-Fault-clause-writes
+pub returns-in_ok-fault_line-in-Fault-clause-writes :
+    goal.returns-in_ok-fault_line-in-Fault-clause-writes
 returns-in_ok-fault_line-in-Fault-clause-writes g c answers number header s f =
     let t = standing f c.in-Typed.is c.requires.fits in
     let ran = c.in_ok-taken-in-Typed.ensures in
-    let k = took t c.args.octets.now c.in_ok-taken-in-Typed.taken ran.within (ran.some c.requires.some) (by_reads t ran.takes) c.in-Fault.is in
+    let k = took t c.args.octets.now c.in_ok-taken-in-Typed.taken ran.within
+    (ran.some c.requires.some) (by_reads t ran.takes) c.in-Fault.is in
     let emitted = rw c.fault_word.ensures at c.in_ok-fault_line-in-Fault.ensures in
-    rw (text_wrong c.in-Fault.kind k c.args.place) (wrote-append _ _ _ _ _ (by_reads t ran.writes) emitted)
+    rw (text_wrong c.in-Fault.kind k c.args.place)
+    (wrote-append _ _ _ _ _ (by_reads t ran.writes) emitted)
 
-pub returns-in_ok-fault_line-in-Fault-clause-went : goal.returns-in_ok-fault_line-in-Fault-clause-went
+pub returns-in_ok-fault_line-in-Fault-clause-went :
+    goal.returns-in_ok-fault_line-in-Fault-clause-went
 returns-in_ok-fault_line-in-Fault-clause-went g c answers number header s f agrees =
     let t = standing f c.in-Typed.is c.requires.fits in
     let ran = c.in_ok-taken-in-Typed.ensures in
-    let k = took t c.args.octets.now c.in_ok-taken-in-Typed.taken ran.within (ran.some c.requires.some) (by_reads t ran.takes) c.in-Fault.is in
+    let k = took t c.args.octets.now c.in_ok-taken-in-Typed.taken ran.within
+    (ran.some c.requires.some) (by_reads t ran.takes) c.in-Fault.is in
     went_wrong c.in-Fault.kind k
 
 pub returns-in-Padding-clause-writes : goal.returns-in-Padding-clause-writes
@@ -99,7 +121,10 @@ returns-in-Padding-clause-writes g c answers number header s f =
     let octet = get_or c.args.octets.now 0 0 in
     let here = same_fields f refl refl refl refl (sym c.in-Padding.is) in
     let none = c.take_padding.ensures.told answers number header s octet here in
-    rw (first_alone c.args.octets.now c.requires.some, no_text _ number c.args.place header s (octet ∷ []) none) (wrote-nil _)
+    rw (
+      first_alone c.args.octets.now c.requires.some,
+      no_text _ number c.args.place header s (octet ∷ []) none,
+    ) (wrote-nil _)
 
 pub returns-in-Padding-clause-went : goal.returns-in-Padding-clause-went
 returns-in-Padding-clause-went g c answers number header s f agrees =
@@ -113,59 +138,79 @@ returns-in_err-take-in-Rest-clause-writes g c answers number header s f =
     let octets = c.args.octets.now in
     let n = c.min-taken.result in
     let place = c.args.place in
-    let text = rest_text f c.in-Rest.is octets c.requires.some c.room.ensures c.min-taken.ensures place in
+    let text = rest_text f c.in-Rest.is octets c.requires.some c.room.ensures c.min-taken.ensures
+    place in
     let At = 12 + length s in
-    run_failed c.from_residual-in_err-take-in-Rest.result S number place header s octets _ _ c.from_residual-in_err-take-in-Rest.ensures.0
-    (run_front S number place header s octets n _ _ (rw text (c.in_err-take-in-Rest.ensures.writes place At (At + length (take n octets)))))
+    run_failed c.from_residual-in_err-take-in-Rest.result S number place header s octets _ _
+    c.from_residual-in_err-take-in-Rest.ensures.0
+    (run_front S number place header s octets n _ _
+    (rw text (c.in_err-take-in-Rest.ensures.writes place At (At + length (take n octets)))))
 
 pub returns-in_ok-take-in-Rest-clause-writes : goal.returns-in_ok-take-in-Rest-clause-writes
 returns-in_ok-take-in-Rest-clause-writes g c answers number header s f =
     let octets = c.args.octets.now in
     let At = 12 + length s in
-    let text = rest_text f c.in-Rest.is octets c.requires.some c.room.ensures c.min-taken.ensures c.args.place in
-    rw text (c.in_ok-take-in-Rest.ensures.writes c.args.place At (At + length (take c.min-taken.result octets)))
+    let text = rest_text f c.in-Rest.is octets c.requires.some c.room.ensures c.min-taken.ensures
+    c.args.place in
+    rw text (c.in_ok-take-in-Rest.ensures.writes c.args.place At
+    (At + length (take c.min-taken.result octets)))
 
 pub returns-in_ok-take-in-Rest-clause-went : goal.returns-in_ok-take-in-Rest-clause-went
 returns-in_ok-take-in-Rest-clause-went g c answers number header s f agrees =
     let octets = c.args.octets.now in
     let end = (12 + length s) + length (take c.min-taken.result octets) in
     rest_follows f c.in-Rest.is octets c.requires.some c.room.ensures c.min-taken.ensures
-    (record { number = refl; header = refl; at = refl }) refl refl (c.in_ok-take-in-Rest.ensures.holds end)
+    (record { number = refl; header = refl; at = refl }) refl refl
+    (c.in_ok-take-in-Rest.ensures.holds end)
 
 pub returns-in-More-clause-told : goal.returns-in-More-clause-told
 returns-in-More-clause-told g c answers number header s f =
     let t = standing f c.in-Typed.is c.requires.fits in
     let ran = c.in_ok-taken-in-Typed.ensures in
-    let k = took t c.args.octets.now c.in_ok-taken-in-Typed.taken ran.within (ran.some c.requires.some) (by_reads t ran.takes) c.in-More.is in
-    sym (ap (after_ends g.Q.Correspondent.notified c.args.catalogue.now (g.Q.Correspondent.state c.args.correspondent.now)) (none_ends k tt))
+    let k = took t c.args.octets.now c.in_ok-taken-in-Typed.taken ran.within
+    (ran.some c.requires.some) (by_reads t ran.takes) c.in-More.is in
+    sym (ap (after_ends g.Q.Correspondent.notified c.args.catalogue.now
+    (g.Q.Correspondent.state c.args.correspondent.now)) (none_ends k tt))
 
 pub returns-in_ok-call-in-Named-clause-told : goal.returns-in_ok-call-in-Named-clause-told
 returns-in_ok-call-in-Named-clause-told g c answers number header s f =
     let t = standing f c.in-Typed.is c.requires.fits in
     let ran = c.in_ok-taken-in-Typed.ensures in
-    let k = took t c.args.octets.now c.in_ok-taken-in-Typed.taken ran.within (ran.some c.requires.some) (by_reads t ran.takes) c.in-Named.is in
-    sym (ap (after_ends g.Q.Correspondent.notified c.args.catalogue.now (g.Q.Correspondent.state c.args.correspondent.now)) (none_ends k tt))
+    let k = took t c.args.octets.now c.in_ok-taken-in-Typed.taken ran.within
+    (ran.some c.requires.some) (by_reads t ran.takes) c.in-Named.is in
+    sym (ap (after_ends g.Q.Correspondent.notified c.args.catalogue.now
+    (g.Q.Correspondent.state c.args.correspondent.now)) (none_ends k tt))
 
 pub returns-in-Done-clause-told : goal.returns-in-Done-clause-told
 returns-in-Done-clause-told g c answers number header s f =
     let t = standing f c.in-Typed.is c.requires.fits in
     let ran = c.in_ok-taken-in-Typed.ensures in
-    let k = took t c.args.octets.now c.in_ok-taken-in-Typed.taken ran.within (ran.some c.requires.some) (by_reads t ran.takes) c.in-Done.is in
+    let k = took t c.args.octets.now c.in_ok-taken-in-Typed.taken ran.within
+    (ran.some c.requires.some) (by_reads t ran.takes) c.in-Done.is in
     let xs = take c.in_ok-taken-in-Typed.taken c.args.octets.now in
-    told_here g.Q.Correspondent.answer g.Q.Correspondent.notified (g.Q.Correspondent.state c.args.correspondent.now) _ k
+    told_here g.Q.Correspondent.answer g.Q.Correspondent.notified
+    (g.Q.Correspondent.state c.args.correspondent.now) _ k
     (c.leave.ensures.told c.in-Typed.field-0 (ReadWith t xs) (refl, k.takes.keeps_noted))
 
-pub returns-in_ok-fault_line-in-Fault-clause-told : goal.returns-in_ok-fault_line-in-Fault-clause-told
+pub returns-in_ok-fault_line-in-Fault-clause-told :
+    goal.returns-in_ok-fault_line-in-Fault-clause-told
 returns-in_ok-fault_line-in-Fault-clause-told g c answers number header s f =
     let t = standing f c.in-Typed.is c.requires.fits in
     let ran = c.in_ok-taken-in-Typed.ensures in
-    let k = took t c.args.octets.now c.in_ok-taken-in-Typed.taken ran.within (ran.some c.requires.some) (by_reads t ran.takes) c.in-Fault.is in
-    sym (ap (after_ends g.Q.Correspondent.notified c.args.catalogue.now (g.Q.Correspondent.state c.args.correspondent.now)) (none_ends k tt))
+    let k = took t c.args.octets.now c.in_ok-taken-in-Typed.taken ran.within
+    (ran.some c.requires.some) (by_reads t ran.takes) c.in-Fault.is in
+    sym (ap (after_ends g.Q.Correspondent.notified c.args.catalogue.now
+    (g.Q.Correspondent.state c.args.correspondent.now)) (none_ends k tt))
 
 pub returns-in-Padding-clause-told : goal.returns-in-Padding-clause-told
 returns-in-Padding-clause-told g c answers number header s f =
-    sym (ap (after_ends g.Q.Correspondent.notified c.args.catalogue.now (g.Q.Correspondent.state c.args.correspondent.now)) (ap (header_ends number header s) (first_alone c.args.octets.now c.requires.some) ∙ padding_none f c.in-Padding.is (get_or c.args.octets.now 0 0)))
+    sym (ap (after_ends g.Q.Correspondent.notified c.args.catalogue.now
+    (g.Q.Correspondent.state c.args.correspondent.now))
+    (ap (header_ends number header s) (first_alone c.args.octets.now c.requires.some)
+    ∙ padding_none f c.in-Padding.is (get_or c.args.octets.now 0 0)))
 
 pub returns-in_ok-take-in-Rest-clause-told : goal.returns-in_ok-take-in-Rest-clause-told
 returns-in_ok-take-in-Rest-clause-told g c answers number header s f =
-    sym (ap (after_ends g.Q.Correspondent.notified c.args.catalogue.now (g.Q.Correspondent.state c.args.correspondent.now)) (rest_none f c.in-Rest.is (take c.min-taken.result c.args.octets.now)))
+    sym (ap (after_ends g.Q.Correspondent.notified c.args.catalogue.now
+    (g.Q.Correspondent.state c.args.correspondent.now))
+    (rest_none f c.in-Rest.is (take c.min-taken.result c.args.octets.now)))

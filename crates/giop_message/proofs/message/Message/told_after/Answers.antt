@@ -4,15 +4,18 @@ use Rattle.giop_message.proofs.SectionRuns.{standing, section_untold, section_va
 use Rattle.giop_message.proofs.message.Message.told_after.Goals as goal
 
 pub octets_left-requires : goal.octets_left-requires
-octets_left-requires c = subst (FitsPart c.args.catalogue.now c.args.self.now.at) c.in-Typed.is c.requires.fits
+octets_left-requires c = subst (FitsPart c.args.catalogue.now c.args.self.now.at) c.in-Typed.is
+    c.requires.fits
 
 pub returns-then-not-is_told-clause-value : goal.returns-then-not-is_told-clause-value
 returns-then-not-is_told-clause-value c answers number header s f =
-    section_untold (standing f c.in-Typed.is c.requires.fits) (sym c.is_told.ensures ∙ c.if-not-is_told.true)
+    section_untold (standing f c.in-Typed.is c.requires.fits)
+    (sym c.is_told.ensures ∙ c.if-not-is_told.true)
 
 pub returns-else-not-is_told-clause-value : goal.returns-else-not-is_told-clause-value
 returns-else-not-is_told-clause-value c answers number header s f =
-    section_value (standing f c.in-Typed.is c.requires.fits) (sym c.is_told.ensures ∙ c.if-not-is_told.false) _
+    section_value (standing f c.in-Typed.is c.requires.fits)
+    (sym c.is_told.ensures ∙ c.if-not-is_told.false) _
     c.octets_left.ensures.value
 
 pub returns-in-Padding-clause-value : goal.returns-in-Padding-clause-value

@@ -41,10 +41,13 @@ again : (C : Table) (section : Section) (e : Decoder) (octets frames : List ℕ)
     PartStored p octets frames → GoesOn C p (parts.Typed section e)
 again C section e octets frames reads at (parts.Typed own d) fits octet stored =
     (same own section octet, reads d fits stored)
-again C section e octets frames reads at (parts.Padding body_type_id) fits octet stored = absurd (small 0 section (omega arith) octet)
-again C section e octets frames reads at (parts.Rest r) fits octet stored = absurd (small 1 section (omega arith) octet)
+again C section e octets frames reads at (parts.Padding body_type_id) fits octet stored =
+    absurd (small 0 section (omega arith) octet)
+again C section e octets frames reads at (parts.Rest r) fits octet stored =
+    absurd (small 1 section (omega arith) octet)
 
 pub returns-clause-again : goal.returns-clause-again
 returns-clause-again c at p fits octet stored =
     again c.args.catalogue.now c.args.section c.in-Some.decoder c.args.octets.now c.args.frames.now
-    (λ d fits stored. record { reads = c.in-Some.ensures.reads d fits stored }) at p fits octet stored
+    (λ d fits stored. record { reads = c.in-Some.ensures.reads d fits stored }) at p fits octet
+    stored

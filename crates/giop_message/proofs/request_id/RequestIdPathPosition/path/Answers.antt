@@ -8,4 +8,5 @@ use Rattle.giop_message.proofs.request_id.RequestIdPathPosition.path.Goals as go
 pub returns : goal.returns
 unfolding path_text request_id_path
 returns c =
-    c.push_name.ensures.text ∙ ap (λ (path : PathText). path.text ++ name_segment (codes "request_id")) c.new-path.ensures
+    c.push_name.ensures.text ∙ ap (λ (path : PathText). path.text
+    ++ name_segment (codes "request_id")) c.new-path.ensures

@@ -8,7 +8,8 @@ loop-done-preserved c =
     let before = c.loop-done.invariant in
     record {
       text = rw (c.put_octet.ensures.text)
-          (hex_number_before (line_text c.args.self.now) (line_text c.loop-done.self) c.loop-done.done c.args.n before.text);
+          (hex_number_before (line_text c.args.self.now) (line_text c.loop-done.self)
+          c.loop-done.done c.args.n before.text);
       room = omega (arith, c.put_octet.ensures.room, before.room);
       within = omega (arith, c.loop-done-test.true);
     }

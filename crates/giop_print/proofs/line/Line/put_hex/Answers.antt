@@ -8,8 +8,15 @@ loop-left-preserved c =
     let before = c.loop-left.invariant in
     record {
       text = rw c.put_octet.ensures.text
-          (hex_before (line_text c.args.self.now) (line_text c.loop-left.self) c.args.octets.now c.loop-left.left
+          (hex_before (line_text c.args.self.now) (line_text c.loop-left.self) c.args.octets.now
+          c.loop-left.left
           c.loop-left-test.true before.within before.text);
-      room = omega (arith, c.put_octet.ensures.room, before.room, before.within, c.loop-left-test.true);
+      room = omega (
+        arith,
+        c.put_octet.ensures.room,
+        before.room,
+        before.within,
+        c.loop-left-test.true,
+      );
       within = omega (arith, before.within);
     }

@@ -7,7 +7,18 @@ use Rattle.giop_print.proofs.line.Line.put_quoted.Goals as goal
 pub returns : goal.returns
 returns c =
     record {
-      text = rw (c.put-2.ensures.text, c.put_escaped_octet.ensures.text, c.put.ensures.text, escaped_one)
-          (ap (λ z. 34 ∷ z) (sym (append_assoc (escaped_octet c.args.octet) (34 ∷ []) (line_text c.args.self.now))));
-      room = omega (arith, c.put-2.ensures.room, c.put_escaped_octet.ensures.room, c.put.ensures.room);
+      text = rw (
+        c.put-2.ensures.text,
+        c.put_escaped_octet.ensures.text,
+        c.put.ensures.text,
+        escaped_one,
+      )
+          (ap (λ z. 34 ∷ z) (sym (append_assoc (escaped_octet c.args.octet) (34 ∷ [])
+          (line_text c.args.self.now))));
+      room = omega (
+        arith,
+        c.put-2.ensures.room,
+        c.put_escaped_octet.ensures.room,
+        c.put.ensures.room,
+      );
     }

@@ -6,8 +6,11 @@ use Rattle.giop_sig.proofs.cases.UnionCases.new.Goals as goal
 pub invariant_of-result : goal.invariant_of-result
 invariant_of-result c =
     let sorted = c.sort_unstable_by_key.new.self.items in
-    let all = subst (λ es. AreLabels (map case_view es) c.in_ok-labels.labels.items) c.deref.ensures.value c.in_ok-labels.ensures in
+    let all = subst (λ es. AreLabels (map case_view es) c.in_ok-labels.labels.items)
+    c.deref.ensures.value c.in_ok-labels.ensures in
     record {
-      labels = in_any_order (map case_view c.args.cases.items) c.in_ok-labels.labels.items sorted c.sort_unstable_by_key.ensures.permutation all;
-      order = subst (λ ls. c.rise-rises.result ≡ true → Rise ls) c.deref-2.ensures.value c.rise-rises.ensures;
+      labels = in_any_order (map case_view c.args.cases.items) c.in_ok-labels.labels.items sorted
+          c.sort_unstable_by_key.ensures.permutation all;
+      order = subst (λ ls. c.rise-rises.result ≡ true → Rise ls) c.deref-2.ensures.value
+          c.rise-rises.ensures;
     }

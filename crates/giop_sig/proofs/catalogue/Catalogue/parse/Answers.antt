@@ -13,25 +13,32 @@ use Rattle.giop_sig.proofs.catalogue.Catalogue.parse.Goals as goal
 pub returns-in-Ok-clause-ok : goal.returns-in-Ok-clause-ok
 returns-in-Ok-clause-ok c =
     let text = c.args.text.now in
-    let s = file_takes union_read union_taken text c.in-Ok.draft (let few = c.if-text-gt-TEXT_MAX.false in omega arith) c.in-Ok.ensures in
-    let shallow = subst (λ (t : Table). depth_of t.types ≤ 24) c.into_catalogue-catalogue.ensures c.laws.ensures.types.shallow in
+    let s = file_takes union_read union_taken text c.in-Ok.draft
+    (let few = c.if-text-gt-TEXT_MAX.false in omega arith) c.in-Ok.ensures in
+    let shallow = subst (λ (t : Table). depth_of t.types ≤ 24) c.into_catalogue-catalogue.ensures
+    c.laws.ensures.types.shallow in
     let v = file_valid union_read text c.in-Ok.draft s.0 s.1 c.in-Ok.ensures shallow in
     (s.0, s.1, v.0, c.into_catalogue-catalogue.ensures ∙ v.1)
 
 pub returns-in-Ok-clause-few : goal.returns-in-Ok-clause-few
 returns-in-Ok-clause-few c =
-    let few = file_few union_read union_taken c.args.text.now c.in-Ok.draft (let short = c.if-text-gt-TEXT_MAX.false in omega arith) c.in-Ok.ensures in
+    let few = file_few union_read union_taken c.args.text.now c.in-Ok.draft
+    (let short = c.if-text-gt-TEXT_MAX.false in omega arith) c.in-Ok.ensures in
     omega (arith, few, ap (λ t. length t.types) c.into_catalogue-catalogue.ensures)
 
 pub returns-in-Err-Refused-clause-err : goal.returns-in-Err-Refused-clause-err
 returns-in-Err-Refused-clause-err c = λ file spells.
-    let e = subst (λ stop. Stops stop (file_at c.args.text.now)) c.in-Err-Refused.field-0-is c.in-Err-Refused.ensures in
-    subst (λ f. Refuses f.kind file) (sym c.fault_in.ensures) (file_refuses union_read c.args.text.now c.in-Err-Refused.refusal file spells e)
+    let e = subst (λ stop. Stops stop (file_at c.args.text.now)) c.in-Err-Refused.field-0-is
+    c.in-Err-Refused.ensures in
+    subst (λ f. Refuses f.kind file) (sym c.fault_in.ensures)
+    (file_refuses union_read c.args.text.now c.in-Err-Refused.refusal file spells e)
 
 pub returns-in-Err-Refused-clause-first : goal.returns-in-Err-Refused-clause-first
 returns-in-Err-Refused-clause-first c = λ short.
-    let e = subst (λ stop. Stops stop (file_at c.args.text.now)) c.in-Err-Refused.field-0-is c.in-Err-Refused.ensures in
+    let e = subst (λ stop. Stops stop (file_at c.args.text.now)) c.in-Err-Refused.field-0-is
+    c.in-Err-Refused.ensures in
     inr (c.in-Err-Refused.refusal, e, c.fault_in.ensures)
 
 pub returns-in-Err-Refused-clause-memory : goal.returns-in-Err-Refused-clause-memory
-returns-in-Err-Refused-clause-memory c = has_line c.args.text.now c.in-Err-Refused.refusal c.fault_in.result c.fault_in.ensures
+returns-in-Err-Refused-clause-memory c =
+    has_line c.args.text.now c.in-Err-Refused.refusal c.fault_in.result c.fault_in.ensures

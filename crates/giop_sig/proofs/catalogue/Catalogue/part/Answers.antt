@@ -4,15 +4,21 @@ use Rattle.giop_sig.proofs.catalogue.Catalogue.part.Goals as goal
 
 pub part-requires : goal.part-requires
 part-requires c =
-    let e = entered _ c.args.self.now c.args.t.0 (node_view c.entry.result.now) c.self.invariant c.self.view_is c.requires.known c.entry.ensures.node in
-    place_entered c.args.self.now c.args.t.0 c.args.place (node_view c.entry.result.now) e c.requires.place
+    let e = entered _ c.args.self.now c.args.t.0 (node_view c.entry.result.now) c.self.invariant
+    c.self.view_is c.requires.known c.entry.ensures.node in
+    place_entered c.args.self.now c.args.t.0 c.args.place (node_view c.entry.result.now) e
+    c.requires.place
 
 pub returns-clause-below : goal.returns-clause-below
 returns-clause-below c =
-    let e = entered _ c.args.self.now c.args.t.0 (node_view c.entry.result.now) c.self.invariant c.self.view_is c.requires.known c.entry.ensures.node in
-    part_below c.args.self.now c.args.t.0 c.args.place c.part.result.0 (node_view c.entry.result.now) e c.requires.place c.part.ensures
+    let e = entered _ c.args.self.now c.args.t.0 (node_view c.entry.result.now) c.self.invariant
+    c.self.view_is c.requires.known c.entry.ensures.node in
+    part_below c.args.self.now c.args.t.0 c.args.place c.part.result.0
+    (node_view c.entry.result.now) e c.requires.place c.part.ensures
 
 pub returns-clause-tree : goal.returns-clause-tree
 returns-clause-tree c =
-    let e = entered _ c.args.self.now c.args.t.0 (node_view c.entry.result.now) c.self.invariant c.self.view_is c.requires.known c.entry.ensures.node in
-    part_tree c.args.self.now c.args.t.0 c.args.place c.part.result.0 (node_view c.entry.result.now) e c.requires.place c.part.ensures
+    let e = entered _ c.args.self.now c.args.t.0 (node_view c.entry.result.now) c.self.invariant
+    c.self.view_is c.requires.known c.entry.ensures.node in
+    part_tree c.args.self.now c.args.t.0 c.args.place c.part.result.0 (node_view c.entry.result.now)
+    e c.requires.place c.part.ensures

@@ -4,15 +4,21 @@ use Rattle.giop_sig.proofs.catalogue.Catalogue.part_name.Goals as goal
 
 pub part_name-requires : goal.part_name-requires
 part_name-requires c =
-    let e = entered _ c.args.self.now c.args.t.0 (node_view c.entry.result.now) c.self.invariant c.self.view_is c.requires.known c.entry.ensures.node in
-    member_entered c.args.self.now c.args.t.0 c.args.place (node_view c.entry.result.now) e c.requires.place
+    let e = entered _ c.args.self.now c.args.t.0 (node_view c.entry.result.now) c.self.invariant
+    c.self.view_is c.requires.known c.entry.ensures.node in
+    member_entered c.args.self.now c.args.t.0 c.args.place (node_view c.entry.result.now) e
+    c.requires.place
 
 pub returns-clause-tree : goal.returns-clause-tree
 returns-clause-tree c =
-    let e = entered _ c.args.self.now c.args.t.0 (node_view c.entry.result.now) c.self.invariant c.self.view_is c.requires.known c.entry.ensures.node in
-    name_tree c.args.self.now c.args.t.0 c.args.place (node_view c.entry.result.now) c.part_name.result.now e c.requires.place c.part_name.ensures
+    let e = entered _ c.args.self.now c.args.t.0 (node_view c.entry.result.now) c.self.invariant
+    c.self.view_is c.requires.known c.entry.ensures.node in
+    name_tree c.args.self.now c.args.t.0 c.args.place (node_view c.entry.result.now)
+    c.part_name.result.now e c.requires.place c.part_name.ensures
 
 pub returns-clause-short : goal.returns-clause-short
 returns-clause-short c =
-    let e = entered _ c.args.self.now c.args.t.0 (node_view c.entry.result.now) c.self.invariant c.self.view_is c.requires.known c.entry.ensures.node in
-    name_within c.args.self.now c.args.t.0 c.args.place (node_view c.entry.result.now) c.part_name.result.now e c.requires.place c.part_name.ensures
+    let e = entered _ c.args.self.now c.args.t.0 (node_view c.entry.result.now) c.self.invariant
+    c.self.view_is c.requires.known c.entry.ensures.node in
+    name_within c.args.self.now c.args.t.0 c.args.place (node_view c.entry.result.now)
+    c.part_name.result.now e c.requires.place c.part_name.ensures

@@ -4,10 +4,14 @@ use Rattle.giop_sig.proofs.catalogue.Catalogue.select.Goals as goal
 
 pub returns-clause-tree : goal.returns-clause-tree
 returns-clause-tree c =
-    let e = entered _ c.args.self.now c.args.t.0 (node_view c.entry.result.now) c.self.invariant c.self.view_is c.requires c.entry.ensures.node in
-    select_tree c.args.self.now c.args.t.0 (node_view c.entry.result.now) c.args.number c.select.result e c.select.ensures
+    let e = entered _ c.args.self.now c.args.t.0 (node_view c.entry.result.now) c.self.invariant
+    c.self.view_is c.requires c.entry.ensures.node in
+    select_tree c.args.self.now c.args.t.0 (node_view c.entry.result.now) c.args.number
+    c.select.result e c.select.ensures
 
 pub returns-clause-place : goal.returns-clause-place
 returns-clause-place c =
-    let e = entered _ c.args.self.now c.args.t.0 (node_view c.entry.result.now) c.self.invariant c.self.view_is c.requires c.entry.ensures.node in
-    select_place c.args.self.now c.args.t.0 (node_view c.entry.result.now) c.args.number c.select.result e c.select.ensures
+    let e = entered _ c.args.self.now c.args.t.0 (node_view c.entry.result.now) c.self.invariant
+    c.self.view_is c.requires c.entry.ensures.node in
+    select_place c.args.self.now c.args.t.0 (node_view c.entry.result.now) c.args.number
+    c.select.result e c.select.ensures

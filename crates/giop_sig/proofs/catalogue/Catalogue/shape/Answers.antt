@@ -5,15 +5,19 @@ use Rattle.giop_sig.proofs.catalogue.Catalogue.shape.Goals as goal
 
 pub returns-clause-tree : goal.returns-clause-tree
 returns-clause-tree c =
-    let e = entered _ c.args.self.now c.args.t.0 (node_view c.entry.result.now) c.self.invariant c.self.view_is c.requires c.entry.ensures.node in
+    let e = entered _ c.args.self.now c.args.t.0 (node_view c.entry.result.now) c.self.invariant
+    c.self.view_is c.requires c.entry.ensures.node in
     c.shape.ensures ∙ shape_entered c.args.self.now c.args.t.0 (node_view c.entry.result.now) e
 
 pub returns-clause-shape : goal.returns-clause-shape
 returns-clause-shape c =
-    let e = entered _ c.args.self.now c.args.t.0 (node_view c.entry.result.now) c.self.invariant c.self.view_is c.requires c.entry.ensures.node in
-    has_shape_entered c.args.self.now c.args.t.0 (node_view c.entry.result.now) c.shape.result e c.shape.ensures
+    let e = entered _ c.args.self.now c.args.t.0 (node_view c.entry.result.now) c.self.invariant
+    c.self.view_is c.requires c.entry.ensures.node in
+    has_shape_entered c.args.self.now c.args.t.0 (node_view c.entry.result.now) c.shape.result e
+    c.shape.ensures
 
 pub returns-clause-root : goal.returns-clause-root
 returns-clause-root c =
-    let e = entered _ c.args.self.now c.args.t.0 (node_view c.entry.result.now) c.self.invariant c.self.view_is c.requires c.entry.ensures.node in
+    let e = entered _ c.args.self.now c.args.t.0 (node_view c.entry.result.now) c.self.invariant
+    c.self.view_is c.requires c.entry.ensures.node in
     root_entered c.args.self.now c.args.t.0 (node_view c.entry.result.now) e

@@ -4,15 +4,20 @@ use Rattle.giop_sig.proofs.catalogue.Catalogue.switch_type.Goals as goal
 
 pub switch_type-requires : goal.switch_type-requires
 switch_type-requires c =
-    let e = entered _ c.args.self.now c.args.t.0 (node_view c.entry.result.now) c.self.invariant c.self.view_is c.requires.known c.entry.ensures.node in
+    let e = entered _ c.args.self.now c.args.t.0 (node_view c.entry.result.now) c.self.invariant
+    c.self.view_is c.requires.known c.entry.ensures.node in
     union_entered c.args.self.now c.args.t.0 (node_view c.entry.result.now) e c.requires.union
 
 pub returns-clause-below : goal.returns-clause-below
 returns-clause-below c =
-    let e = entered _ c.args.self.now c.args.t.0 (node_view c.entry.result.now) c.self.invariant c.self.view_is c.requires.known c.entry.ensures.node in
-    switch_below c.args.self.now c.args.t.0 c.switch_type.result.0 (node_view c.entry.result.now) e c.requires.union c.switch_type.ensures
+    let e = entered _ c.args.self.now c.args.t.0 (node_view c.entry.result.now) c.self.invariant
+    c.self.view_is c.requires.known c.entry.ensures.node in
+    switch_below c.args.self.now c.args.t.0 c.switch_type.result.0 (node_view c.entry.result.now) e
+    c.requires.union c.switch_type.ensures
 
 pub returns-clause-tree : goal.returns-clause-tree
 returns-clause-tree c =
-    let e = entered _ c.args.self.now c.args.t.0 (node_view c.entry.result.now) c.self.invariant c.self.view_is c.requires.known c.entry.ensures.node in
-    switch_tree c.args.self.now c.args.t.0 c.switch_type.result.0 (node_view c.entry.result.now) e c.requires.union c.switch_type.ensures
+    let e = entered _ c.args.self.now c.args.t.0 (node_view c.entry.result.now) c.self.invariant
+    c.self.view_is c.requires.known c.entry.ensures.node in
+    switch_tree c.args.self.now c.args.t.0 c.switch_type.result.0 (node_view c.entry.result.now) e
+    c.requires.union c.switch_type.ensures

@@ -6,13 +6,16 @@ use Rattle.giop_sig.proofs.draft.Draft.add_name.Goals as goal
 pub invariant_of-self-2 : goal.invariant_of-self-2
 invariant_of-self-2 c =
     let key = rw c.unwrap-key.ensures at c.try_from.ensures in
-    let put = put_name c.args.self.now c.self.inside.version c.self.inside.catalogue c.self.inside.names.entries c.insert.new.self.entries c.unwrap-key.result
+    let put = put_name c.args.self.now c.self.inside.version c.self.inside.catalogue
+    c.self.inside.names.entries c.insert.new.self.entries c.unwrap-key.result
     c.args.t c.args.name.now c.self.view_is key.0 c.requires.new c.in_ok-insert.ensures.entries in
-    subst IsScope (sym put) (scope_named c.args.self.now c.args.name.now (number_of_id c.args.t) (subst IsScope c.self.view_is c.self.invariant)
+    subst IsScope (sym put) (scope_named c.args.self.now c.args.name.now (number_of_id c.args.t)
+    (subst IsScope c.self.view_is c.self.invariant)
     c.requires.short c.requires.known)
 
 pub returns-clause-added : goal.returns-clause-added
 returns-clause-added c =
     let key = rw c.unwrap-key.ensures at c.try_from.ensures in
-    put_name c.args.self.now c.self.inside.version c.self.inside.catalogue c.self.inside.names.entries c.insert.new.self.entries c.unwrap-key.result c.args.t
+    put_name c.args.self.now c.self.inside.version c.self.inside.catalogue
+    c.self.inside.names.entries c.insert.new.self.entries c.unwrap-key.result c.args.t
     c.args.name.now c.self.view_is key.0 c.requires.new c.in_ok-insert.ensures.entries

@@ -7,5 +7,6 @@ pub returns : goal.returns
 returns c =
     let key = rw c.unwrap-key.ensures at c.try_from.ensures in
     c.is_some.ensures ∙ some_copied c.get.result ∙ ap is_some c.get.ensures.value
-    ∙ name_declared c.args.self.now c.self.inside.version c.self.inside.catalogue c.self.inside.names.entries c.unwrap-key.result
+    ∙ name_declared c.args.self.now c.self.inside.version c.self.inside.catalogue
+    c.self.inside.names.entries c.unwrap-key.result
     c.args.name.now c.self.view_is key.0

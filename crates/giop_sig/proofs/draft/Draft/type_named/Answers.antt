@@ -6,13 +6,16 @@ use Rattle.giop_sig.proofs.draft.Draft.type_named.Goals as goal
 pub returns-in_err-get : goal.returns-in_err-get
 returns-in_err-get c =
     let key = rw c.unwrap-key.ensures at c.try_from.ensures in
-    ap number_of_id c.from_residual.ensures ∙ ap (λ o. number_of_id (flat o)) c.in_err-get.ensures.value
-    ∙ name_typed c.args.self.now c.self.inside.version c.self.inside.catalogue c.self.inside.names.entries c.unwrap-key.result
+    ap number_of_id c.from_residual.ensures
+    ∙ ap (λ o. number_of_id (flat o)) c.in_err-get.ensures.value
+    ∙ name_typed c.args.self.now c.self.inside.version c.self.inside.catalogue
+    c.self.inside.names.entries c.unwrap-key.result
     c.args.name.now c.self.view_is key.0
 
 pub returns : goal.returns
 returns c =
     let key = rw c.unwrap-key.ensures at c.try_from.ensures in
     ap (λ o. number_of_id (flat o)) c.in_ok-get.ensures.value
-    ∙ name_typed c.args.self.now c.self.inside.version c.self.inside.catalogue c.self.inside.names.entries c.unwrap-key.result
+    ∙ name_typed c.args.self.now c.self.inside.version c.self.inside.catalogue
+    c.self.inside.names.entries c.unwrap-key.result
     c.args.name.now c.self.view_is key.0

@@ -3,10 +3,12 @@ use Rattle.giop_sig.proofs.entries.Types.depth_at.Goals as goal
 
 pub returns-clause-depth : goal.returns-clause-depth
 returns-clause-depth c =
-    depth_read c.self.inside.placed.items c.self.inside.deepest c.args.self.now c.args.t.0 c.index.result.now c.self.invariant c.self.view_is
+    depth_read c.self.inside.placed.items c.self.inside.deepest c.args.self.now c.args.t.0
+    c.index.result.now c.self.invariant c.self.view_is
     c.requires c.index.ensures
 
 pub returns-clause-shallow : goal.returns-clause-shallow
 returns-clause-shallow c =
-    shallow_read c.self.inside.placed.items c.self.inside.deepest c.args.self.now c.args.t.0 c.index.result.now c.self.invariant c.self.view_is
+    shallow_read c.self.inside.placed.items c.self.inside.deepest c.args.self.now c.args.t.0
+    c.index.result.now c.self.invariant c.self.view_is
     c.requires c.index.ensures

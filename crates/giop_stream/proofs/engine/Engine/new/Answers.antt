@@ -12,4 +12,10 @@ pub returns-clause-holds : goal.returns-clause-holds
 returns-clause-holds c =
     let C = c.args.catalogue.now in
     let l = c.args.requests.now in
-    record { sound = refl; octets = All-nil (λ x. x < 256); shows = rw (start_is (rules C l c.in-Ok.framing.slots.slots.most)) (c.in-Ok.ensures.shows C (by_list l)) }
+    record {
+      sound = refl;
+      octets = All-nil (λ x. x < 256);
+      shows =
+          rw (start_is (rules C l c.in-Ok.framing.slots.slots.most))
+          (c.in-Ok.ensures.shows C (by_list l));
+    }

@@ -8,7 +8,8 @@ pub returns-clause-value : goal.returns-clause-value
 returns-clause-value c a p h =
     let k = rw (← c.self.view_is) at h in
     let C = c.self.inside.catalogue.now in
-    rw (← c.self.view_is) (c.piece_limit.ensures.value a (state_of (rules_by C a c.self.inside.framing.slots.slots.most) p)
+    rw (← c.self.view_is) (c.piece_limit.ensures.value a
+    (state_of (rules_by C a c.self.inside.framing.slots.slots.most) p)
     (record { stream = p; octets = k.octets; held = refl }) k.shows)
 
 pub returns-clause-quiet : goal.returns-clause-quiet
@@ -16,5 +17,6 @@ returns-clause-quiet c a p octets h less =
     let k = rw (← c.self.view_is) at h in
     let C = c.self.inside.catalogue.now in
     let most = c.self.inside.framing.slots.slots.most in
-    let limit = c.piece_limit.ensures.value a (state_of (rules_by C a most) p) (record { stream = p; octets = k.octets; held = refl }) k.shows in
+    let limit = c.piece_limit.ensures.value a (state_of (rules_by C a most) p)
+    (record { stream = p; octets = k.octets; held = refl }) k.shows in
     rw (← c.self.view_is) (limit_quiet C a most p octets (rw limit at less))

@@ -13,5 +13,6 @@ returns-clause-holds c a =
     record {
       sound = refl;
       octets = All-nil (λ x. x < 256);
-      shows = rw (start_is (rules_by C a c.restart.new.self.slots.slots.most)) (c.restart.ensures.shows C a);
+      shows = rw (start_is (rules_by C a c.restart.new.self.slots.slots.most))
+          (c.restart.ensures.shows C a);
     }

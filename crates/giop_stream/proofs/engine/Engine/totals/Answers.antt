@@ -10,4 +10,6 @@ returns-clause-messages c a p h =
     let k = rw (← c.self.view_is) at h in
     let C = c.self.inside.catalogue.now in
     let most = c.self.inside.framing.slots.slots.most in
-    messages_at C a most (state_of (rules_by C a most) p) (record { stream = p; octets = k.octets; held = refl }) (framing_view c.self.inside.framing) k.shows
+    messages_at C a most (state_of (rules_by C a most) p)
+    (record { stream = p; octets = k.octets; held = refl }) (framing_view c.self.inside.framing)
+    k.shows

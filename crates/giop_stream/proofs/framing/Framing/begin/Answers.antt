@@ -16,11 +16,16 @@ returns-in_err-faults-clause-does g c =
     let asks = c.requires in
     let room = c.args.self.now.running asks.running in
     let known = c.current-now.ensures in
-    let first = is_first C l c.args.self.now.slots.slots.most s r m h x b e asks.full asks.right asks.running room c.current-now.result known.number known.header known.place known.payload_count in
+    let first = is_first C l c.args.self.now.slots.slots.most s r m h x b e asks.full asks.right
+    asks.running room c.current-now.result known.number known.header known.place
+    known.payload_count in
     let failed = c.from_residual.ensures.0 in
-    begun_does C l c.args.self.now.slots.slots.most s r m h x b e asks.full asks.right asks.running room _ _ _ _
-    (writes_failed c.from_residual.result (g.O.Out.log c.args.out.now) (g.O.Out.log c.header.new.out) _ failed
-    ((c.in_err-faults.ensures.does l (tracked_after (rules_by C l c.args.self.now.slots.slots.most) r.stream) _ _ first).text))
+    begun_does C l c.args.self.now.slots.slots.most s r m h x b e asks.full asks.right asks.running
+    room _ _ _ _
+    (writes_failed c.from_residual.result (g.O.Out.log c.args.out.now)
+    (g.O.Out.log c.header.new.out) _ failed
+    ((c.in_err-faults.ensures.does l (tracked_after (rules_by C l c.args.self.now.slots.slots.most)
+    r.stream) _ _ first).text))
     (on_err _ c.from_residual.result failed)
 
 pub returns-clause-does : goal.returns-clause-does
@@ -31,15 +36,22 @@ returns-clause-does g c =
     let asks = c.requires in
     let room = c.args.self.now.running asks.running in
     let known = c.current-now.ensures in
-    let first = is_first C l c.args.self.now.slots.slots.most s r m h x b e asks.full asks.right asks.running room c.current-now.result known.number known.header known.place known.payload_count in
-    let does = c.in_ok-faults.ensures.does l (tracked_after (rules_by C l c.args.self.now.slots.slots.most) r.stream) _ _ first in
+    let first = is_first C l c.args.self.now.slots.slots.most s r m h x b e asks.full asks.right
+    asks.running room c.current-now.result known.number known.header known.place
+    known.payload_count in
+    let does = c.in_ok-faults.ensures.does l
+    (tracked_after (rules_by C l c.args.self.now.slots.slots.most) r.stream) _ _ first in
     let faults = ap (λ (n : ℕ). b.totals.faults + n) (c.from.ensures ∙ sym does.faults) in
-    begun_does C l c.args.self.now.slots.slots.most s r m h x b e asks.full asks.right asks.running room _ _ _ _ does.text
-    (begun_shows C l c.args.self.now.slots.slots.most s r m h x b e asks.full asks.right asks.running room _
-    (framing_view c.end_message.new.self) c.size_of.result c.end_message.ensures.state refl faults refl refl refl refl
+    begun_does C l c.args.self.now.slots.slots.most s r m h x b e asks.full asks.right asks.running
+    room _ _ _ _ does.text
+    (begun_shows C l c.args.self.now.slots.slots.most s r m h x b e asks.full asks.right
+    asks.running room _
+    (framing_view c.end_message.new.self) c.size_of.result c.end_message.ensures.state refl faults
+    refl refl refl refl
     (c.size_of.ensures ∙ ap size known.header) does.kept)
 
 pub returns-clause-ready : goal.returns-clause-ready
 returns-clause-ready g c =
     ready_settled c.args.catalogue.now _
-    (framing_view c.end_message.new.self) c.size_of.result c.current-now.result.place c.end_message.ensures.state c.current-now.ensures.place c.in_ok-faults.ensures.ready
+    (framing_view c.end_message.new.self) c.size_of.result c.current-now.result.place
+    c.end_message.ensures.state c.current-now.ensures.place c.in_ok-faults.ensures.ready

@@ -7,7 +7,8 @@ invariant-loop-header_run l =
     record {
       within : l.header_run ≤ l.room;
       front : l.front.items ≡ l.self.header.items ++ take l.header_run l.octets;
-      right : (k : ℕ) → k < l.header_run → wrong (l.self.header.items ++ take (k + 1) l.octets) ≡ None;
+      right : (k : ℕ) → k < l.header_run → wrong (l.self.header.items ++ take (k + 1) l.octets)
+          ≡ None;
     }
 
 -- proposed from the loop's first test

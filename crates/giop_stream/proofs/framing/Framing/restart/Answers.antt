@@ -3,4 +3,5 @@ use Rattle.giop_stream.proofs.framing.Framing.restart.Goals as goal
 
 pub returns-clause-shows : goal.returns-clause-shows
 returns-clause-shows c C l =
-    nothing_shown C l _ c.clear.ensures.totals c.clear.ensures.stopped c.clear.ensures.header c.clear.ensures.payload_count c.clear.ensures.bare
+    nothing_shown C l _ c.clear.ensures.totals c.clear.ensures.stopped c.clear.ensures.header
+    c.clear.ensures.payload_count c.clear.ensures.bare

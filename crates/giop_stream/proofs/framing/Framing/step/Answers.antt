@@ -15,7 +15,8 @@ use Rattle.giop_stream.proofs.framing.Framing.step.Goals as goal
 
 pub returns-then-is_some-clause-does : goal.returns-then-is_some-clause-does
 returns-then-is_some-clause-does g c a s r h agrees =
-    rw (behind_step c.args.catalogue.now a c.args.self.now.slots.slots.most (framing_view c.args.self.now) s h c.args.octet
+    rw (behind_step c.args.catalogue.now a c.args.self.now.slots.slots.most
+    (framing_view c.args.self.now) s h c.args.octet
     (sym c.is_some.ensures ∙ c.if-is_some.true)) (record { text = nothing_text _; shows = h })
 
 pub returns-then-self-ge-LIMIT-clause-does : goal.returns-then-self-ge-LIMIT-clause-does
@@ -24,48 +25,75 @@ returns-then-self-ge-LIMIT-clause-does g c a s r h agrees =
     let kept = a in
     let m = framing_view c.args.self.now in
     let free = none_by c.args.self.now.stopped (sym c.is_some.ensures ∙ c.if-is_some.false) in
-    rw (limit_step C kept c.args.self.now.slots.slots.most m s h c.args.octet free (omega (arith, c.if-self-ge-LIMIT.true))) (record {
-      text = rw (← ended_text C kept c.args.self.now.slots.slots.most m s h StreamLimit) c.stop.ensures.text;
-      shows = on_ok_weaker c.stop.result (λ e. rw e (ended_shows C kept c.args.self.now.slots.slots.most m s h StreamLimit _ refl refl refl)) c.stop.ensures.state;
+    rw (limit_step C kept c.args.self.now.slots.slots.most m s h c.args.octet free
+    (omega (arith, c.if-self-ge-LIMIT.true))) (record {
+      text = rw (← ended_text C kept c.args.self.now.slots.slots.most m s h StreamLimit)
+          c.stop.ensures.text;
+      shows = on_ok_weaker c.stop.result (λ e.
+          rw e (ended_shows C kept c.args.self.now.slots.slots.most m s h StreamLimit _ refl refl
+          refl)) c.stop.ensures.state;
     })
 
 pub returns-then-self-ge-LIMIT-clause-ready : goal.returns-then-self-ge-LIMIT-clause-ready
 returns-then-self-ge-LIMIT-clause-ready g c =
     on_ok_weaker c.stop.result
-    (λ e. ready_stopped c.args.catalogue.now _ (framing_view c.stop.new.self) StreamLimit _ e (ready_later c.args.catalogue.now _ _ _ (omega arith) c.requires.ready))
+    (λ e. ready_stopped c.args.catalogue.now _ (framing_view c.stop.new.self) StreamLimit _ e
+    (ready_later c.args.catalogue.now _ _ _ (omega arith) c.requires.ready))
     c.stop.ensures.state
 
 pub returns-then-is_some-clause-told : goal.returns-then-is_some-clause-told
 returns-then-is_some-clause-told g c a s r h agrees =
-    told_stopped g.Q.Correspondent.notified c.args.catalogue.now a c.args.self.now.slots.slots.most s r (framing_view c.args.self.now) h _ c.args.octet
+    told_stopped g.Q.Correspondent.notified c.args.catalogue.now a c.args.self.now.slots.slots.most
+    s r (framing_view c.args.self.now) h _ c.args.octet
     (sym c.is_some.ensures ∙ c.if-is_some.true)
 
 pub returns-then-self-ge-LIMIT-clause-told : goal.returns-then-self-ge-LIMIT-clause-told
 returns-then-self-ge-LIMIT-clause-told g c =
     any_ok c.stop.result (λ _ a s r h agrees.
-    told_limit g.Q.Correspondent.notified c.args.catalogue.now a c.args.self.now.slots.slots.most s r (framing_view c.args.self.now) h _ c.args.octet
-    (none_by c.args.self.now.stopped (sym c.is_some.ensures ∙ c.if-is_some.false)) (omega (arith, c.if-self-ge-LIMIT.true)))
+    told_limit g.Q.Correspondent.notified c.args.catalogue.now a c.args.self.now.slots.slots.most s
+    r (framing_view c.args.self.now) h _ c.args.octet
+    (none_by c.args.self.now.stopped (sym c.is_some.ensures ∙ c.if-is_some.false))
+    (omega (arith, c.if-self-ge-LIMIT.true)))
 
 pub returns-then-len-lt12-clause-told : goal.returns-then-len-lt12-clause-told
 returns-then-len-lt12-clause-told g c =
     any_ok c.header_octet.result (λ _ a s r h agrees.
-    told_heads g.Q.Correspondent.notified c.args.catalogue.now a c.args.self.now.slots.slots.most s r (framing_view c.args.self.now) h _ c.args.octet
-    (none_by c.args.self.now.stopped (sym c.is_some.ensures ∙ c.if-is_some.false)) (omega (arith, c.len.ensures.value, c.if-len-lt12.true)))
+    told_heads g.Q.Correspondent.notified c.args.catalogue.now a c.args.self.now.slots.slots.most s
+    r (framing_view c.args.self.now) h _ c.args.octet
+    (none_by c.args.self.now.stopped (sym c.is_some.ensures ∙ c.if-is_some.false))
+    (omega (arith, c.len.ensures.value, c.if-len-lt12.true)))
 
 pub returns-else-len-lt12-clause-does : goal.returns-else-len-lt12-clause-does
 returns-else-len-lt12-clause-does g c a s r h agrees =
-    subst (λ (done : Step). Does c.args.catalogue.now a c.payload_octets.result (g.O.Out.log c.args.out.now) (g.O.Out.log c.payload_octets.new.out)
-    (framing_view c.payload_octets.new.self) done) (one_run (rules_by c.args.catalogue.now a c.args.self.now.slots.slots.most) s c.args.octet)
+    subst (λ (done : Step). Does c.args.catalogue.now a c.payload_octets.result
+    (g.O.Out.log c.args.out.now) (g.O.Out.log c.payload_octets.new.out)
+    (framing_view c.payload_octets.new.self) done)
+    (one_run (rules_by c.args.catalogue.now a c.args.self.now.slots.slots.most) s c.args.octet)
     (c.payload_octets.ensures.does a s r h
-    (subst (AgreesAtEnds g.Q.Correspondent.answer g.Q.Correspondent.notified c.args.catalogue.now (g.Q.Correspondent.state c.args.correspondent.now) a) (at_payload g.Q.Correspondent.notified c.args.catalogue.now a c.args.self.now.slots.slots.most s r (framing_view c.args.self.now) h (g.Q.Correspondent.state c.args.correspondent.now) c.args.octet
-    (none_by c.args.self.now.stopped (sym c.is_some.ensures ∙ c.if-is_some.false)) (omega (arith, c.if-self-ge-LIMIT.false))) agrees))
+    (subst (AgreesAtEnds g.Q.Correspondent.answer g.Q.Correspondent.notified c.args.catalogue.now
+    (g.Q.Correspondent.state c.args.correspondent.now) a)
+    (at_payload g.Q.Correspondent.notified c.args.catalogue.now a
+    c.args.self.now.slots.slots.most s r (framing_view c.args.self.now) h
+    (g.Q.Correspondent.state c.args.correspondent.now) c.args.octet
+    (none_by c.args.self.now.stopped (sym c.is_some.ensures ∙ c.if-is_some.false))
+    (omega (arith, c.if-self-ge-LIMIT.false))) agrees))
 
 pub returns-else-len-lt12-clause-told : goal.returns-else-len-lt12-clause-told
 returns-else-len-lt12-clause-told g c =
     if_ok_weaker c.payload_octets.result (λ _ told a s r h agrees.
     told a s r h
-    (subst (AgreesAtEnds g.Q.Correspondent.answer g.Q.Correspondent.notified c.args.catalogue.now (g.Q.Correspondent.state c.args.correspondent.now) a) (at_payload g.Q.Correspondent.notified c.args.catalogue.now a c.args.self.now.slots.slots.most s r (framing_view c.args.self.now) h (g.Q.Correspondent.state c.args.correspondent.now) c.args.octet
-    (none_by c.args.self.now.stopped (sym c.is_some.ensures ∙ c.if-is_some.false)) (omega (arith, c.if-self-ge-LIMIT.false))) agrees)
-    ∙ sym (ap (after_ends g.Q.Correspondent.notified c.args.catalogue.now (g.Q.Correspondent.state c.args.correspondent.now)) (at_payload g.Q.Correspondent.notified c.args.catalogue.now a c.args.self.now.slots.slots.most s r (framing_view c.args.self.now) h (g.Q.Correspondent.state c.args.correspondent.now) c.args.octet
-    (none_by c.args.self.now.stopped (sym c.is_some.ensures ∙ c.if-is_some.false)) (omega (arith, c.if-self-ge-LIMIT.false)))))
+    (subst (AgreesAtEnds g.Q.Correspondent.answer g.Q.Correspondent.notified c.args.catalogue.now
+    (g.Q.Correspondent.state c.args.correspondent.now) a)
+    (at_payload g.Q.Correspondent.notified c.args.catalogue.now a
+    c.args.self.now.slots.slots.most s r (framing_view c.args.self.now) h
+    (g.Q.Correspondent.state c.args.correspondent.now) c.args.octet
+    (none_by c.args.self.now.stopped (sym c.is_some.ensures ∙ c.if-is_some.false))
+    (omega (arith, c.if-self-ge-LIMIT.false))) agrees)
+    ∙ sym (ap (after_ends g.Q.Correspondent.notified c.args.catalogue.now
+    (g.Q.Correspondent.state c.args.correspondent.now))
+    (at_payload g.Q.Correspondent.notified c.args.catalogue.now a
+    c.args.self.now.slots.slots.most s r (framing_view c.args.self.now) h
+    (g.Q.Correspondent.state c.args.correspondent.now) c.args.octet
+    (none_by c.args.self.now.stopped (sym c.is_some.ensures ∙ c.if-is_some.false))
+    (omega (arith, c.if-self-ge-LIMIT.false)))))
     c.payload_octets.ensures.told

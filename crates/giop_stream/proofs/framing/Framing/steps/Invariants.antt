@@ -20,20 +20,36 @@ invariant-loop-octet g l =
       octets_taken : List ℕ;
       most : l.self.slots.slots.most ≡ l.initial.self.slots.slots.most;
       split : l.piece ≡ octets_taken ++ l.rest;
-      known : AreKnown l.catalogue (g.Q.Correspondent.answer (g.Q.Correspondent.state l.correspondent));
-      shows : (a : Answers) (s : State) (r : IsReached l.catalogue a l.initial.self.slots.slots.most s) → Shows l.catalogue a (framing_view l.initial.self) s
-          → AgreesAtEnds g.Q.Correspondent.answer g.Q.Correspondent.notified l.catalogue (g.Q.Correspondent.state l.initial.correspondent) a
-          (header_ends_from (rules_by l.catalogue a l.initial.self.slots.slots.most) r.stream l.piece)
-          → Shows l.catalogue a (framing_view l.self) (run_state (rules_by l.catalogue a l.initial.self.slots.slots.most) s octets_taken);
-      text : (a : Answers) (s : State) (r : IsReached l.catalogue a l.initial.self.slots.slots.most s) → Shows l.catalogue a (framing_view l.initial.self) s
-          → AgreesAtEnds g.Q.Correspondent.answer g.Q.Correspondent.notified l.catalogue (g.Q.Correspondent.state l.initial.correspondent) a
-          (header_ends_from (rules_by l.catalogue a l.initial.self.slots.slots.most) r.stream l.piece) →
-          Wrote (g.O.Out.log l.initial.out) (g.O.Out.log l.out) (lines_text (run (rules_by l.catalogue a l.initial.self.slots.slots.most) s octets_taken));
-      told : (a : Answers) (s : State) (r : IsReached l.catalogue a l.initial.self.slots.slots.most s) → Shows l.catalogue a (framing_view l.initial.self) s
-          → AgreesAtEnds g.Q.Correspondent.answer g.Q.Correspondent.notified l.catalogue (g.Q.Correspondent.state l.initial.correspondent) a
-          (header_ends_from (rules_by l.catalogue a l.initial.self.slots.slots.most) r.stream l.piece)
-          → g.Q.Correspondent.state l.correspondent ≡ after_ends g.Q.Correspondent.notified l.catalogue (g.Q.Correspondent.state l.initial.correspondent)
-          (header_ends_from (rules_by l.catalogue a l.initial.self.slots.slots.most) r.stream octets_taken);
+      known : AreKnown l.catalogue (g.Q.Correspondent.answer
+          (g.Q.Correspondent.state l.correspondent));
+      shows : (a : Answers) (s : State) (r : IsReached l.catalogue a l.initial.self.slots.slots.most
+          s) → Shows l.catalogue a (framing_view l.initial.self) s
+          → AgreesAtEnds g.Q.Correspondent.answer g.Q.Correspondent.notified l.catalogue
+          (g.Q.Correspondent.state l.initial.correspondent) a
+          (header_ends_from (rules_by l.catalogue a l.initial.self.slots.slots.most) r.stream
+          l.piece)
+          → Shows l.catalogue a (framing_view l.self)
+          (run_state (rules_by l.catalogue a l.initial.self.slots.slots.most) s octets_taken);
+      text : (a : Answers) (s : State) (r : IsReached l.catalogue a l.initial.self.slots.slots.most
+          s) → Shows l.catalogue a (framing_view l.initial.self) s
+          → AgreesAtEnds g.Q.Correspondent.answer g.Q.Correspondent.notified l.catalogue
+          (g.Q.Correspondent.state l.initial.correspondent) a
+          (header_ends_from (rules_by l.catalogue a l.initial.self.slots.slots.most) r.stream
+          l.piece) →
+          Wrote (g.O.Out.log l.initial.out) (g.O.Out.log l.out)
+          (lines_text (run (rules_by l.catalogue a l.initial.self.slots.slots.most) s
+          octets_taken));
+      told : (a : Answers) (s : State) (r : IsReached l.catalogue a l.initial.self.slots.slots.most
+          s) → Shows l.catalogue a (framing_view l.initial.self) s
+          → AgreesAtEnds g.Q.Correspondent.answer g.Q.Correspondent.notified l.catalogue
+          (g.Q.Correspondent.state l.initial.correspondent) a
+          (header_ends_from (rules_by l.catalogue a l.initial.self.slots.slots.most) r.stream
+          l.piece)
+          → g.Q.Correspondent.state l.correspondent
+          ≡ after_ends g.Q.Correspondent.notified l.catalogue
+          (g.Q.Correspondent.state l.initial.correspondent)
+          (header_ends_from (rules_by l.catalogue a l.initial.self.slots.slots.most) r.stream
+          octets_taken);
       ready : AreReady l.catalogue (l.self.totals.octets + 1) l.self.slots;
     }
 

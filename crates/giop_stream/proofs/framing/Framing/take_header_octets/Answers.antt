@@ -14,17 +14,37 @@ returns-clause-shows c =
     let q = c.args.octets.now in
     let most = c.args.self.now.slots.slots.most in
     let asks = c.requires in
-    let header : c.try_extend_from_slice.new.self.items ≡ m.header ++ q = grind (arith, c.try_extend_from_slice.ensures.ok, c.unwrap.ensures) in
-    let fit : Fit (framing_view c.args.self.now) c.args.octets.now = record { free = asks.running; few = asks.before_last; room = asks.limit; right = asks.right } in
-    subst (λ (xs : List ℕ). Shows C l (record m { totals = record m.totals { octets = m.totals.octets + length q }; header = xs })
+    let header : c.try_extend_from_slice.new.self.items ≡ m.header ++ q =
+    grind (arith, c.try_extend_from_slice.ensures.ok, c.unwrap.ensures) in
+    let fit : Fit (framing_view c.args.self.now) c.args.octets.now =
+    record {
+      free = asks.running;
+      few = asks.before_last;
+      room = asks.limit;
+      right =
+          asks.right;
+    } in
+    subst (λ (xs : List ℕ). Shows C l (record m {
+      totals =
+          record m.totals { octets = m.totals.octets + length q };
+      header = xs;
+    })
     (run_state (rules_by C l most) s q)) (sym header) (heads_show C l most q m s h fit)
 
 pub returns-clause-lines : goal.returns-clause-lines
 returns-clause-lines c =
     λ C l s h.
     let asks = c.requires in
-    let fit : Fit (framing_view c.args.self.now) c.args.octets.now = record { free = asks.running; few = asks.before_last; room = asks.limit; right = asks.right } in
-    heads_quiet C l c.args.self.now.slots.slots.most c.args.octets.now (framing_view c.args.self.now) s h fit
+    let fit : Fit (framing_view c.args.self.now) c.args.octets.now =
+    record {
+      free = asks.running;
+      few = asks.before_last;
+      room = asks.limit;
+      right =
+          asks.right;
+    } in
+    heads_quiet C l c.args.self.now.slots.slots.most c.args.octets.now
+    (framing_view c.args.self.now) s h fit
 
 pub returns-clause-ready : goal.returns-clause-ready
 returns-clause-ready c = λ C h. ready_later C _ _ _ (omega arith) h

@@ -6,7 +6,15 @@ use Rattle.giop_stream.proofs.framing.Framing.truncation.Goals as goal
 
 pub returns-then-is_cut_short : goal.returns-then-is_cut_short
 returns-then-is_cut_short g c =
-    λ C l s h. rw (truncation_is C l (framing_view c.args.self.now) s h, sym c.is_cut_short.ensures, c.if-is_cut_short.true) c.truncated_line.ensures
+    λ C l s h. rw (
+      truncation_is C l (framing_view c.args.self.now) s h,
+      sym c.is_cut_short.ensures,
+      c.if-is_cut_short.true,
+    ) c.truncated_line.ensures
 
 pub returns : goal.returns
-returns g c = λ C l s h. rw (truncation_is C l (framing_view c.args.self.now) s h, sym c.is_cut_short.ensures, c.if-is_cut_short.false) (wrote-nil _)
+returns g c = λ C l s h. rw (
+  truncation_is C l (framing_view c.args.self.now) s h,
+  sym c.is_cut_short.ensures,
+  c.if-is_cut_short.false,
+) (wrote-nil _)

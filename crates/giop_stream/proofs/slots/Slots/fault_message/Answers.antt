@@ -10,7 +10,8 @@ use Rattle.giop_stream.proofs.slots.Slots.fault_message.Goals as goal
 pub returns-in-Current-clause-does : goal.returns-in-Current-clause-does
 returns-in-Current-clause-does g c =
     λ C l c' w h n rising.
-    own_effects C l c.fault_message.result _ _ c.args.self.now _ c.in-Current.message c.fault_message.new.message c' w _ _ (refl, refl) (rw c.in-Current.is (refl, refl)) h
+    own_effects C l c.fault_message.result _ _ c.args.self.now _ c.in-Current.message
+    c.fault_message.new.message c' w _ _ (refl, refl) (rw c.in-Current.is (refl, refl)) h
     (still_alters C l c.args.place c' w _ (still_faulted c.args.fault))
     (λ k. c.fault_message.ensures.does C l w (c'.known w.number) k n)
 
@@ -27,14 +28,17 @@ returns-in-Some-clause-does g c =
     λ C l c' w h n rising.
     let here = sym c.in-Some.ensures.value in
     let index = ap index_of c.in-Open-Some.is ∙ c.in-Open-Some.field-0-is in
-    slot_effects C l c.fault_message-in-Some.result _ _ c.args.self.now _ c.in-Some.slot.now c.fault_message-in-Some.new.message c' w _ _ c.in-Open-Some.k refl index here rising h
-    (still_alters C l c.args.place c' w _ (still_faulted c.args.fault)) (λ m k. c.fault_message-in-Some.ensures.does C l w (c'.known w.number) k m)
+    slot_effects C l c.fault_message-in-Some.result _ _ c.args.self.now _ c.in-Some.slot.now
+    c.fault_message-in-Some.new.message c' w _ _ c.in-Open-Some.k refl index here rising h
+    (still_alters C l c.args.place c' w _ (still_faulted c.args.fault))
+    (λ m k. c.fault_message-in-Some.ensures.does C l w (c'.known w.number) k m)
 
 pub returns-in-None-clause-does : goal.returns-in-None-clause-does
 returns-in-None-clause-does g c =
     λ C l c' w h n rising.
     let index = ap index_of c.in-Open-Some.is ∙ c.in-Open-Some.field-0-is in
-    no_slot_says C l c.args.self.now c' (Some w) c.in-Open-Some.k index (none_behind _ _ c.in-None.ensures.value) h
+    no_slot_says C l c.args.self.now c' (Some w) c.in-Open-Some.k index
+    (none_behind _ _ c.in-None.ensures.value) h
 
 pub returns-in-Current-clause-ready : goal.returns-in-Current-clause-ready
 returns-in-Current-clause-ready g c =

@@ -12,9 +12,11 @@ returns-in_err-unfinished_line g c = λ C l slots h.
     let i = c.loop-k.k in
     let below = rw c.len-k-end.ensures.value at c.loop-k-test.true in
     let none : OpenEntry = record { key = 0; value = c.at-slot.result.now } in
-    let text = slot_says items i c.at-slot.result.now none c.at-slot.ensures (sym c.is_some.ensures ∙ c.if-is_some.true) in
+    let text = slot_says items i c.at-slot.result.now none c.at-slot.ensures
+    (sym c.is_some.ensures ∙ c.if-is_some.true) in
     rw (slots_left C l items slots h) (writes_failed _ _ _ _ c.from_residual.ensures.0
-    (front-parts slot_text _ _ _ items i none below c.loop-k.invariant (rw text c.in_err-unfinished_line.ensures)))
+    (front-parts slot_text _ _ _ items i none below c.loop-k.invariant
+    (rw text c.in_err-unfinished_line.ensures)))
 
 pub loop-k-preserved : goal.loop-k-preserved
 loop-k-preserved g c =

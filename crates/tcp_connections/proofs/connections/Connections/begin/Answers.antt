@@ -11,17 +11,32 @@ use Rattle.tcp_connections.proofs.connections.Connections.begin.Goals as goal
 
 pub begin-requires-clause-none : goal.begin-requires-clause-none
 begin-requires-clause-none g c =
-    ap is_some (first_none c.args.id _ c.args.self.now.pool.held ((sound_of _ _ _ _ c.requires.state.1).vacant c.args.id c.requires.vacant))
+    ap is_some (first_none c.args.id _ c.args.self.now.pool.held
+    ((sound_of _ _ _ _ c.requires.state.1).vacant c.args.id c.requires.vacant))
 
 pub returns-clause-does : goal.returns-clause-does
 unfolding began
 returns-clause-does g c w h =
-    makes_by (g.L.Listener.observed c.args.to.now.listener) (g.L.Listener.observed c.begin.new.to.listener) c.args.to.now.live.items c.begin.new.to.live.items c.args.self.now _ (λ w. began g.L.Listener.faulted w c.args.id (first_number (segment_view c.args.segment)) (segment_view c.args.segment).payload) (λ es h0.
+    makes_by (g.L.Listener.observed c.args.to.now.listener)
+    (g.L.Listener.observed c.begin.new.to.listener) c.args.to.now.live.items
+    c.begin.new.to.live.items c.args.self.now _
+    (λ w. began g.L.Listener.faulted w c.args.id (first_number (segment_view c.args.segment))
+    (segment_view c.args.segment).payload) (λ es h0.
     let S : State = state_of c.args.self.now es in
-    let within : c.args.id < length S.flows = omega (arith, c.requires.within, c.args.self.now.flows.ok.0) in
-    let fewer : blocks_of c.begin.new.pool.held ≤ c.args.self.now.pool.blocks = omega (arith, c.begin.ensures.blocks, c.in_ok-flow.ensures.room es (h0.observed, h0.live)) in
-    moved (g.L.Listener.observed c.begin.new.to.listener) c.begin.new.to.live.items _ _ _ (ap (λ n. began g.L.Listener.faulted S c.args.id n (segment_view c.args.segment).payload) (sym c.first_number-number.ensures))
-    (flow_done (g.L.Listener.observed c.args.to.now.listener) (g.L.Listener.observed c.begin.new.to.listener) c.args.to.now.live.items c.begin.new.to.live.items c.args.self.now _ es c.args.id _ _ h0 within
-    (c.in_ok-flow.ensures.does es (h0.observed, h0.live)) c.in_ok-flow.ensures.id (c.in_ok-flow.ensures.beside es (h0.observed, h0.live))
+    let within : c.args.id < length S.flows =
+    omega (arith, c.requires.within, c.args.self.now.flows.ok.0) in
+    let fewer : blocks_of c.begin.new.pool.held ≤ c.args.self.now.pool.blocks =
+    omega (arith, c.begin.ensures.blocks, c.in_ok-flow.ensures.room es (h0.observed, h0.live))
+    in
+    moved (g.L.Listener.observed c.begin.new.to.listener) c.begin.new.to.live.items _ _ _
+    (ap (λ n. began g.L.Listener.faulted S c.args.id n (segment_view c.args.segment).payload)
+    (sym c.first_number-number.ensures))
+    (flow_done (g.L.Listener.observed c.args.to.now.listener)
+    (g.L.Listener.observed c.begin.new.to.listener) c.args.to.now.live.items
+    c.begin.new.to.live.items c.args.self.now _ es c.args.id _ _ h0 within
+    (c.in_ok-flow.ensures.does es (h0.observed, h0.live)) c.in_ok-flow.ensures.id
+    (c.in_ok-flow.ensures.beside es (h0.observed, h0.live))
     fewer (c.in_ok-flow.ensures.settled es (h0.observed, h0.live))
-    (apart_taken S c.args.id h0.sound c.requires.taken) (first_turn _ c.args.id _ _ _ es (small_id S c.args.id h0.sound within)) (λ es. refl) refl c.begin.ensures.blocks refl refl)) w h
+    (apart_taken S c.args.id h0.sound c.requires.taken)
+    (first_turn _ c.args.id _ _ _ es (small_id S c.args.id h0.sound within)) (λ es. refl) refl
+    c.begin.ensures.blocks refl refl)) w h

@@ -6,7 +6,11 @@ use Rattle.tcp_connections.proofs.connections.Connections.eldest.Goals as goal
 
 pub loop-place-init : goal.loop-place-init
 unfolding eldest
-loop-place-init c = (omega arith, omega (arith, c.requires.some, c.args.self.now.table.keys.ok.0), refl)
+loop-place-init c = (
+  omega arith,
+  omega (arith, c.requires.some, c.args.self.now.table.keys.ok.0),
+  refl,
+)
 
 pub loop-place-preserved : goal.loop-place-preserved
 loop-place-preserved c =
@@ -14,5 +18,6 @@ loop-place-preserved c =
     let n = c.loop-place.place in (
       omega (arith, c.loop-place-test.true, c.len.ensures, c.args.self.now.table.keys.ok.0),
       omega (arith, c.elder-best.ensures.within, c.args.self.now.table.keys.ok.0),
-      c.elder-best.ensures.place ∙ ap (λ (b : ℕ). cond (goes_before w n b) n b) c.loop-place.invariant.2 ∙ sym (eldest_more w n),
+      c.elder-best.ensures.place ∙ ap (λ (b : ℕ). cond (goes_before w n b) n b)
+          c.loop-place.invariant.2 ∙ sym (eldest_more w n),
     )

@@ -7,12 +7,16 @@ use Rattle.tcp_connections.proofs.connections.Connections.end_cause.Goals as goa
 pub returns-in-Some : goal.returns-in-Some
 unfolding end_cause
 returns-in-Some c =
-    sym (ap end_cause (sym c.flow.ensures ∙ c.in-Some.is) ∙ cond-true (is_some c.in-Some.flow.fin) Gap End (sym c.has_fin.ensures ∙ c.if-has_fin.true))
+    sym (ap end_cause (sym c.flow.ensures ∙ c.in-Some.is)
+    ∙ cond-true (is_some c.in-Some.flow.fin) Gap End
+    (sym c.has_fin.ensures ∙ c.if-has_fin.true))
 
 pub returns-in_default : goal.returns-in_default
 unfolding end_cause
 returns-in_default c =
-    sym (ap end_cause (sym c.flow.ensures ∙ c.in-Some.is) ∙ cond-false (is_some c.in-Some.flow.fin) Gap End (sym c.has_fin.ensures ∙ c.if-has_fin.false))
+    sym (ap end_cause (sym c.flow.ensures ∙ c.in-Some.is)
+    ∙ cond-false (is_some c.in-Some.flow.fin) Gap End
+    (sym c.has_fin.ensures ∙ c.if-has_fin.false))
 
 pub returns-in_default-2 : goal.returns-in_default-2
 unfolding end_cause

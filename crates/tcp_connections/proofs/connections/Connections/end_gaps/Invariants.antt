@@ -7,9 +7,11 @@ use Rattle.tcp_connections.proofs.connections.Connections.end_gaps.Given as goal
 
 abbrev pub invariant-loop-left : goal.invariant-loop-left
 invariant-loop-left g l =
-    (w : State) → IsState (g.L.Listener.observed l.initial.to.listener) l.initial.to.live.items l.initial.self w
+    (w : State) → IsState (g.L.Listener.observed l.initial.to.listener) l.initial.to.live.items
+    l.initial.self w
     → (v : State) × (IsState (g.L.Listener.observed l.to.listener) l.to.live.items l.self v
-    × ((gaps_from g.L.Listener.faulted l.left l.rank v ≡ gaps_from g.L.Listener.faulted (length w.held + length (lives w.events)) 0 w)
+    × ((gaps_from g.L.Listener.faulted l.left l.rank v
+    ≡ gaps_from g.L.Listener.faulted (length w.held + length (lives w.events)) 0 w)
     × SoFar l.left l.rank v))
 
 abbrev pub decreases-loop-left : goal.decreases-loop-left

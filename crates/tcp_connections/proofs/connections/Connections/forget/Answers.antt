@@ -11,25 +11,42 @@ use Rattle.tcp_connections.proofs.connections.Connections.forget.Goals as goal
 pub flow_id-requires : goal.flow_id-requires
 flow_id-requires g c =
     let sound = sound_of _ _ _ _ c.requires.state.1 in
-    let b = room_below (state_of c.args.self.now []) c.args.place sound (omega (arith, c.requires.place, c.args.self.now.table.keys.ok.0)) in
+    let b = room_below (state_of c.args.self.now []) c.args.place sound
+    (omega (arith, c.requires.place, c.args.self.now.table.keys.ok.0)) in
     omega (arith, b, c.room-room.ensures, sound.most)
 
 pub forget_flow-requires-2 : goal.forget_flow-requires-2
-forget_flow-requires-2 g c = record { state = (_, c.in_ok-forget_flow.ensures.does c.requires.state.0 c.requires.state.1) }
+forget_flow-requires-2 g c = record {
+  state =
+      (_, c.in_ok-forget_flow.ensures.does c.requires.state.0 c.requires.state.1);
+}
 
 pub forget-requires : goal.forget-requires
 forget-requires g c =
-    let n = c.in_ok-forget_flow-2.ensures.does _ (c.in_ok-forget_flow.ensures.does c.requires.state.0 c.requires.state.1) in
+    let n = c.in_ok-forget_flow-2.ensures.does _
+    (c.in_ok-forget_flow.ensures.does c.requires.state.0 c.requires.state.1) in
     let w = c.requires.state.0 in
-    let k = known_of _ _ _ _ n ∙ forgot_known (flow_forgotten w c.flow_id.result c.args.cause) c.flow_id-2.result c.args.cause ∙ forgot_known w c.flow_id.result c.args.cause ∙ sym (known_of _ _ _ _ c.requires.state.1) in
-    omega (arith, c.requires.place, c.args.self.now.table.keys.ok.0, ap length k, c.forget_flow-2.new.self.table.keys.ok.0)
+    let k = known_of _ _ _ _ n ∙ forgot_known (flow_forgotten w c.flow_id.result c.args.cause)
+    c.flow_id-2.result c.args.cause ∙ forgot_known w c.flow_id.result c.args.cause
+    ∙ sym (known_of _ _ _ _ c.requires.state.1) in
+    omega (
+      arith,
+      c.requires.place,
+      c.args.self.now.table.keys.ok.0,
+      ap length k,
+      c.forget_flow-2.new.self.table.keys.ok.0,
+    )
 
 pub give_back-requires : goal.give_back-requires
 give_back-requires g c =
-    let n = c.in_ok-forget_flow-2.ensures.does _ (c.in_ok-forget_flow.ensures.does c.requires.state.0 c.requires.state.1) in
+    let n = c.in_ok-forget_flow-2.ensures.does _
+    (c.in_ok-forget_flow.ensures.does c.requires.state.0 c.requires.state.1) in
     let w = c.requires.state.0 in
-    let k = forgot_known (flow_forgotten w c.flow_id.result c.args.cause) c.flow_id-2.result c.args.cause ∙ forgot_known w c.flow_id.result c.args.cause ∙ sym (known_of _ _ _ _ c.requires.state.1) in
-    let less = some_known _ _ _ _ c.args.place n (omega (arith, c.requires.place, c.args.self.now.table.keys.ok.0, ap length k)) in
+    let k = forgot_known (flow_forgotten w c.flow_id.result c.args.cause) c.flow_id-2.result
+    c.args.cause ∙ forgot_known w c.flow_id.result c.args.cause
+    ∙ sym (known_of _ _ _ _ c.requires.state.1) in
+    let less = some_known _ _ _ _ c.args.place n
+    (omega (arith, c.requires.place, c.args.self.now.table.keys.ok.0, ap length k)) in
     omega (arith, less, c.forget_flow-2.new.self.free.free.ok.0)
 
 pub returns-clause-does : goal.returns-clause-does
@@ -38,14 +55,27 @@ returns-clause-does g c w h =
     let side = c.args.side in
     let cause = c.args.cause in
     let at = c.room-room.ensures ∙ ap (λ (u : State). get_or u.rooms place 0) h.same in
-    let own : c.flow_id.result ≡ flow_id (room_at w place) side = c.flow_id.ensures.id ∙ ap (λ (r : ℕ). flow_id r side) at in
+    let own : c.flow_id.result ≡ flow_id (room_at w place) side =
+    c.flow_id.ensures.id ∙ ap (λ (r : ℕ). flow_id r side) at in
     let other : c.flow_id-2.result ≡ flow_id (room_at w place) (opposite side) =
-    c.flow_id-2.ensures.id ∙ ap (λ (r : ℕ). flow_id r c.other.result) at ∙ ap (flow_id (room_at w place)) c.other.ensures in
-    let l : place < length w.known = omega (arith, c.requires.place, c.args.self.now.table.keys.ok.0, ap length (known_of _ _ _ _ h)) in
+    c.flow_id-2.ensures.id ∙ ap (λ (r : ℕ). flow_id r c.other.result) at
+    ∙ ap (flow_id (room_at w place)) c.other.ensures in
+    let l : place < length w.known = omega (
+      arith,
+      c.requires.place,
+      c.args.self.now.table.keys.ok.0,
+      ap length (known_of _ _ _ _ h),
+    ) in
     let below = room_below w place h.sound l in
     let first = forgot_at _ _ _ w _ _ cause own (c.in_ok-forget_flow.ensures.does w h) in
     let both = forgot_at _ _ _ _ _ _ cause other (c.in_ok-forget_flow-2.ensures.does _ first) in
-    connection_forgotten (g.L.Listener.observed c.forget_flow-2.new.to.listener) c.forget_flow-2.new.to.live.items c.forget_flow-2.new.self (record c.forget_flow-2.new.self { table = c.forget.new.self; free = c.give_back.new.self }) w place side cause h.sound both l (omega (arith, below, h.sound.flows))
-    (λ es. entered c.forget_flow-2.new.self (record c.forget_flow-2.new.self { table = c.forget.new.self; free = c.give_back.new.self }) es (λ es. refl) _ _ _ _ c.forget.ensures.keys c.forget.ensures.rooms
-    (c.give_back.ensures.free ∙ ap (λ (r : ℕ). c.forget_flow-2.new.self.free.free.items ++ r ∷ []) at) refl)
+    connection_forgotten (g.L.Listener.observed c.forget_flow-2.new.to.listener)
+    c.forget_flow-2.new.to.live.items c.forget_flow-2.new.self
+    (record c.forget_flow-2.new.self { table = c.forget.new.self; free = c.give_back.new.self })
+    w place side cause h.sound both l (omega (arith, below, h.sound.flows))
+    (λ es. entered c.forget_flow-2.new.self
+    (record c.forget_flow-2.new.self { table = c.forget.new.self; free = c.give_back.new.self })
+    es (λ es. refl) _ _ _ _ c.forget.ensures.keys c.forget.ensures.rooms
+    (c.give_back.ensures.free ∙ ap (λ (r : ℕ). c.forget_flow-2.new.self.free.free.items ++ r ∷ [])
+    at) refl)
     c.give_back.ensures.most c.forget.ensures.most

@@ -11,7 +11,9 @@ use Rattle.tcp_connections.proofs.connections.Connections.forget_flow.Goals as g
 
 pub returns-in_default-clause-does : goal.returns-in_default-clause-does
 returns-in_default-clause-does g c w h =
-    makes_by _ _ _ _ _ _ (λ w. flow_forgotten w c.args.id c.args.cause) (λ es h0. moved _ _ _ _ _ (forgot_none (state_of c.args.self.now es) c.args.id c.args.cause (sym c.flow.ensures ∙ c.in_default.is)) h0) w h
+    makes_by _ _ _ _ _ _ (λ w. flow_forgotten w c.args.id c.args.cause)
+    (λ es h0. moved _ _ _ _ _ (forgot_none (state_of c.args.self.now es) c.args.id c.args.cause
+    (sym c.flow.ensures ∙ c.in_default.is)) h0) w h
 
 pub returns-clause-does : goal.returns-clause-does
 returns-clause-does g c w h =
@@ -20,6 +22,11 @@ returns-clause-does g c w h =
     let e : flow_at S c.args.id ≡ Some c.in-Some.flow = sym c.flow.ensures ∙ c.in-Some.is in
     let own = c.close.ensures.id ∙ h0.sound.ids c.args.id c.in-Some.flow e in
     moved _ _ _ _ _ (forgot_some S c.args.id c.args.cause c.in-Some.flow e)
-    (forgot_done _ _ _ _ _ _ es c.args.id c.close.new.self _ h0 (some_within S.flows c.args.id c.in-Some.flow e)
-    (c.in_ok-close.ensures.does S.held (state c.in-Some.flow S.held es) (record { observed = (h0.observed, h0.live); same = refl })) (closed_turn c.args.id es (state c.in-Some.flow S.held es) c.args.cause (turn_start _ _ _ es c.args.id c.in-Some.flow h0 e)) (λ es. refl) refl c.forget.ensures.blocks
+    (forgot_done _ _ _ _ _ _ es c.args.id c.close.new.self _ h0
+    (some_within S.flows c.args.id c.in-Some.flow e)
+    (c.in_ok-close.ensures.does S.held (state c.in-Some.flow S.held es)
+    (record { observed = (h0.observed, h0.live); same = refl }))
+    (closed_turn c.args.id es (state c.in-Some.flow S.held es) c.args.cause
+    (turn_start _ _ _ es c.args.id c.in-Some.flow h0 e)) (λ es. refl) refl
+    c.forget.ensures.blocks
     (c.forget.ensures.held ∙ ap (λ n. held_by_others n S.held) own) refl refl)) w h

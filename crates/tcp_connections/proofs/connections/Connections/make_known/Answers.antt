@@ -16,31 +16,52 @@ place_for-place-requires-clause-sound g c = sound_of _ _ _ _ c.requires.state.1
 pub note-requires : goal.note-requires
 note-requires g c =
     let sound = sound_of _ _ _ _ c.requires.state.1 in
-    let b = taken_below (state_of c.args.self.now []) c.take.new.self.free.items c.in-Some.room sound (c.take.ensures.some c.in-Some.room c.in-Some.is) in
+    let b = taken_below (state_of c.args.self.now []) c.take.new.self.free.items c.in-Some.room
+    sound (c.take.ensures.some c.in-Some.room c.in-Some.is) in
     omega (arith, b, c.args.self.now.stamps.last.ok.0)
 
 pub flow_id-lesser-requires : goal.flow_id-lesser-requires
 flow_id-lesser-requires g c =
     let sound = sound_of _ _ _ _ c.requires.state.1 in
-    let b = taken_below (state_of c.args.self.now []) c.take.new.self.free.items c.in-Some.room sound (c.take.ensures.some c.in-Some.room c.in-Some.is) in
+    let b = taken_below (state_of c.args.self.now []) c.take.new.self.free.items c.in-Some.room
+    sound (c.take.ensures.some c.in-Some.room c.in-Some.is) in
     omega (arith, b, sound.most)
 
 pub returns-clause-does : goal.returns-clause-does
 returns-clause-does g c w h =
     let pair = c.args.pair in
     let room = c.in-Some.room in
-    let told = told_as (λ es. g.L.Listener.observed c.opens-2.new.self.listener es × (c.opens-2.new.self.live.items ≡ lives es)) w.events
-    c.flow_id-lesser.result c.flow_id-greater.result (flow_id room FromLesser) (flow_id room FromGreater)
+    let told = told_as (λ es. g.L.Listener.observed c.opens-2.new.self.listener es
+    × (c.opens-2.new.self.live.items ≡ lives es)) w.events
+    c.flow_id-lesser.result c.flow_id-greater.result (flow_id room FromLesser)
+    (flow_id room FromGreater)
     c.flow_from.result c.flow_from-2.result (flow_from pair FromLesser) (flow_from pair FromGreater)
-    c.flow_id-lesser.ensures.id c.flow_from.ensures c.flow_id-greater.ensures.id c.flow_from-2.ensures
+    c.flow_id-lesser.ensures.id c.flow_from.ensures c.flow_id-greater.ensures.id
+    c.flow_from-2.ensures
     (c.in_ok-opens-2.ensures.does _ (c.in_ok-opens.ensures.does w.events (h.observed, h.live))) in
-    made (g.L.Listener.observed c.args.to.now.listener) (g.L.Listener.observed c.opens-2.new.self.listener) c.args.to.now.live.items c.opens-2.new.self.live.items c.args.self.now
-    (record c.args.self.now { table = c.add.new.self; free = c.take.new.self; stamps = c.note.new.self }) w pair c.take.new.self.free.items room h told.0 told.1 (c.take.ensures.some room c.in-Some.is) c.requires.new
-    (λ es. entered c.args.self.now (record c.args.self.now { table = c.add.new.self; free = c.take.new.self; stamps = c.note.new.self }) es (λ es. refl) _ _ _ _
-    (c.add.ensures.keys ∙ ap (λ n. insert c.args.self.now.table.keys.items n pair) c.place_for-place.ensures.place)
-    (c.add.ensures.rooms ∙ ap (λ n. insert c.args.self.now.table.rooms.items n room) c.place_for-place.ensures.place)
+    made (g.L.Listener.observed c.args.to.now.listener)
+    (g.L.Listener.observed c.opens-2.new.self.listener) c.args.to.now.live.items
+    c.opens-2.new.self.live.items c.args.self.now
+    (record c.args.self.now {
+      table = c.add.new.self;
+      free = c.take.new.self;
+      stamps =
+          c.note.new.self;
+    }) w pair c.take.new.self.free.items room h told.0 told.1
+    (c.take.ensures.some room c.in-Some.is) c.requires.new
+    (λ es. entered c.args.self.now (record c.args.self.now {
+      table = c.add.new.self;
+      free =
+          c.take.new.self;
+      stamps = c.note.new.self;
+    }) es (λ es. refl) _ _ _ _
+    (c.add.ensures.keys ∙ ap (λ n. insert c.args.self.now.table.keys.items n pair)
+    c.place_for-place.ensures.place)
+    (c.add.ensures.rooms ∙ ap (λ n. insert c.args.self.now.table.rooms.items n room)
+    c.place_for-place.ensures.place)
     refl c.note.ensures.last)
     c.take.ensures.most c.add.ensures.most
 
 pub returns-clause-room : goal.returns-clause-room
-returns-clause-room g c = sym (ap next_room (c.take.ensures.some c.in-Some.room c.in-Some.is) ∙ next_is c.take.new.self.free.items c.in-Some.room)
+returns-clause-room g c = sym (ap next_room (c.take.ensures.some c.in-Some.room c.in-Some.is)
+    ∙ next_is c.take.new.self.free.items c.in-Some.room)

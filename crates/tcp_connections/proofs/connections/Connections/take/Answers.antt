@@ -14,7 +14,12 @@ use Rattle.tcp_connections.proofs.States.{sound_of, known_of, moved_ok, segments
 use Rattle.tcp_connections.proofs.connections.Connections.take.Goals as goal
 
 pub take_unknown-requires-clause-state : goal.take_unknown-requires-clause-state
-take_unknown-requires-clause-state g c = (_, (counted (g.L.Listener.observed c.args.to.now.listener) c.args.to.now.live.items c.args.self.now (record c.args.self.now { segments = c.args.self.now.segments + 1 }) c.requires.state.0 c.requires.state.1 (λ e. refl) refl refl))
+take_unknown-requires-clause-state g c = (
+  _,
+  (counted (g.L.Listener.observed c.args.to.now.listener) c.args.to.now.live.items
+      c.args.self.now (record c.args.self.now { segments = c.args.self.now.segments + 1 })
+      c.requires.state.0 c.requires.state.1 (λ e. refl) refl refl),
+)
 
 pub returns-in_default-clause-does : goal.returns-in_default-clause-does
 returns-in_default-clause-does g c w h =
@@ -23,8 +28,13 @@ returns-in_default-clause-does g c w h =
     let pair = c.pair_of-side.result.0 in
     let known = known_of _ _ _ _ h in
     let none : place_of (pair_of V.flow).0 w.known ≡ None =
-    ap (λ q. place_of q.0 w.known) (sym c.pair_of-side.ensures) ∙ ap (place_of pair) (sym known) ∙ sym c.place_of.ensures.place ∙ c.in_default.is in
-    moved_ok c.take_unknown.result _ _ _ _ _ (step_unknown F w V none) (c.take_unknown.ensures.does _ (counted (g.L.Listener.observed c.args.to.now.listener) c.args.to.now.live.items c.args.self.now (record c.args.self.now { segments = c.args.self.now.segments + 1 }) w h (λ e. refl) refl refl))
+    ap (λ q. place_of q.0 w.known) (sym c.pair_of-side.ensures) ∙ ap (place_of pair) (sym known)
+    ∙ sym c.place_of.ensures.place ∙ c.in_default.is in
+    moved_ok c.take_unknown.result _ _ _ _ _ (step_unknown F w V none)
+    (c.take_unknown.ensures.does _ (counted (g.L.Listener.observed c.args.to.now.listener)
+    c.args.to.now.live.items c.args.self.now
+    (record c.args.self.now { segments = c.args.self.now.segments + 1 }) w h (λ e. refl) refl
+    refl))
 
 pub returns-in_default-clause-count : goal.returns-in_default-clause-count
 returns-in_default-clause-count g c =
@@ -35,31 +45,59 @@ returns-in_default-clause-count g c =
     let pair = c.pair_of-side.result.0 in
     let known = known_of _ _ _ _ h in
     let none : place_of (pair_of V.flow).0 w.known ≡ None =
-    ap (λ q. place_of q.0 w.known) (sym c.pair_of-side.ensures) ∙ ap (place_of pair) (sym known) ∙ sym c.place_of.ensures.place ∙ c.in_default.is in
-    segments_of c.take_unknown.result _ _ _ _ _ (step_segments F w V ∙ ap (λ n. n + 1) (sym (ap (λ (u : State). u.segments) h.same)))
-    (moved_ok c.take_unknown.result _ _ _ _ _ (step_unknown F w V none) (c.take_unknown.ensures.does _ (counted (g.L.Listener.observed c.args.to.now.listener) c.args.to.now.live.items c.args.self.now (record c.args.self.now { segments = c.args.self.now.segments + 1 }) w h (λ e. refl) refl refl)))
+    ap (λ q. place_of q.0 w.known) (sym c.pair_of-side.ensures) ∙ ap (place_of pair) (sym known)
+    ∙ sym c.place_of.ensures.place ∙ c.in_default.is in
+    segments_of c.take_unknown.result _ _ _ _ _
+    (step_segments F w V ∙ ap (λ n. n + 1) (sym (ap (λ (u : State). u.segments) h.same)))
+    (moved_ok c.take_unknown.result _ _ _ _ _ (step_unknown F w V none)
+    (c.take_unknown.ensures.does _ (counted (g.L.Listener.observed c.args.to.now.listener)
+    c.args.to.now.live.items c.args.self.now
+    (record c.args.self.now { segments = c.args.self.now.segments + 1 }) w h (λ e. refl) refl
+    refl)))
 
 pub flow_id-id-requires : goal.flow_id-id-requires
 flow_id-id-requires g c =
     let sound = sound_of _ _ _ _ c.requires.state.1 in
-    let b = room_below (state_of c.args.self.now []) c.in-Some.place sound (omega (arith, c.in-Some.ensures.within, c.args.self.now.table.keys.ok.0)) in
+    let b = room_below (state_of c.args.self.now []) c.in-Some.place sound
+    (omega (arith, c.in-Some.ensures.within, c.args.self.now.table.keys.ok.0)) in
     omega (arith, b, c.room.ensures, sound.most)
 
 pub forget-requires-clause-state : goal.forget-requires-clause-state
-forget-requires-clause-state g c = (_, (counted (g.L.Listener.observed c.args.to.now.listener) c.args.to.now.live.items c.args.self.now (record c.args.self.now { segments = c.args.self.now.segments + 1 }) c.requires.state.0 c.requires.state.1 (λ e. refl) refl refl))
+forget-requires-clause-state g c = (
+  _,
+  (counted (g.L.Listener.observed c.args.to.now.listener)
+      c.args.to.now.live.items c.args.self.now
+      (record c.args.self.now { segments = c.args.self.now.segments + 1 }) c.requires.state.0
+      c.requires.state.1 (λ e. refl) refl refl),
+)
 
-pub take_unknown-requires-then-is_anew-clause-state : goal.take_unknown-requires-then-is_anew-clause-state
-take_unknown-requires-then-is_anew-clause-state g c = (_, c.in_ok-forget.ensures.does _ (counted (g.L.Listener.observed c.args.to.now.listener) c.args.to.now.live.items c.args.self.now (record c.args.self.now { segments = c.args.self.now.segments + 1 }) c.requires.state.0 c.requires.state.1 (λ e. refl) refl refl))
+pub take_unknown-requires-then-is_anew-clause-state :
+    goal.take_unknown-requires-then-is_anew-clause-state
+take_unknown-requires-then-is_anew-clause-state g c = (
+  _,
+  c.in_ok-forget.ensures.does _ (counted (g.L.Listener.observed c.args.to.now.listener)
+      c.args.to.now.live.items c.args.self.now
+      (record c.args.self.now { segments = c.args.self.now.segments + 1 }) c.requires.state.0
+      c.requires.state.1 (λ e. refl) refl refl),
+)
 
-pub take_unknown-requires-then-is_anew-clause-new : goal.take_unknown-requires-then-is_anew-clause-new
+pub take_unknown-requires-then-is_anew-clause-new :
+    goal.take_unknown-requires-then-is_anew-clause-new
 take_unknown-requires-then-is_anew-clause-new g c =
     let w = c.requires.state.0 in
     let h = c.requires.state.1 in
     let pair = c.pair_of-side.result.0 in
     let v : State = record w { segments = w.segments + 1 } in
-    let n = c.in_ok-forget.ensures.does _ (counted (g.L.Listener.observed c.args.to.now.listener) c.args.to.now.live.items c.args.self.now (record c.args.self.now { segments = c.args.self.now.segments + 1 }) c.requires.state.0 c.requires.state.1 (λ e. refl) refl refl) in
-    let some : place_of pair w.known ≡ Some c.in-Some.place = ap (place_of pair) (sym (known_of _ _ _ _ h)) ∙ sym c.place_of.ensures.place ∙ c.in-Some.is in
-    ap (place_of pair) (known_of _ _ _ _ n ∙ forgotten_known v c.in-Some.place c.pair_of-side.result.1 Syn) ∙ forgotten_unknown pair w.known c.in-Some.place h.sound.order some
+    let n = c.in_ok-forget.ensures.does _ (counted (g.L.Listener.observed c.args.to.now.listener)
+    c.args.to.now.live.items c.args.self.now
+    (record c.args.self.now { segments = c.args.self.now.segments + 1 }) c.requires.state.0
+    c.requires.state.1 (λ e. refl) refl refl) in
+    let some : place_of pair w.known ≡ Some c.in-Some.place =
+    ap (place_of pair) (sym (known_of _ _ _ _ h)) ∙ sym c.place_of.ensures.place
+    ∙ c.in-Some.is in
+    ap (place_of pair) (known_of _ _ _ _ n
+    ∙ forgotten_known v c.in-Some.place c.pair_of-side.result.1 Syn)
+    ∙ forgotten_unknown pair w.known c.in-Some.place h.sound.order some
 
 pub returns-then-is_anew-clause-does : goal.returns-then-is_anew-clause-does
 returns-then-is_anew-clause-does g c w h =
@@ -69,16 +107,26 @@ returns-then-is_anew-clause-does g c w h =
     let known = known_of _ _ _ _ h in
     let place = c.in-Some.place in
     let some : place_of (pair_of V.flow).0 w.known ≡ Some place =
-    ap (λ q. place_of q.0 w.known) (sym c.pair_of-side.ensures) ∙ ap (place_of pair) (sym known) ∙ sym c.place_of.ensures.place ∙ c.in-Some.is in
+    ap (λ q. place_of q.0 w.known) (sym c.pair_of-side.ensures) ∙ ap (place_of pair) (sym known)
+    ∙ sym c.place_of.ensures.place ∙ c.in-Some.is in
     let at = c.room.ensures ∙ ap (λ (u : State). get_or u.rooms place 0) h.same in
     let id : c.flow_id-id.result ≡ flow_id (room_at w place) (pair_of V.flow).1 =
-    c.flow_id-id.ensures.id ∙ ap (λ (r : ℕ). flow_id r c.pair_of-side.result.1) at ∙ ap (λ q. flow_id (room_at w place) q.1) c.pair_of-side.ensures in
+    c.flow_id-id.ensures.id ∙ ap (λ (r : ℕ). flow_id r c.pair_of-side.result.1) at
+    ∙ ap (λ q. flow_id (room_at w place) q.1) c.pair_of-side.ensures in
     let live : live_at w (flow_id (room_at w place) (pair_of V.flow).1) ≡ c.live_at.result =
-    sym (c.live_at.ensures ∙ ap (λ (u : State). live_at u c.flow_id-id.result) h.same ∙ ap (live_at w) id) in
-    let anew : is_anew (live_at w (flow_id (room_at w place) (pair_of V.flow).1)) V ≡ true = ap (λ l. is_anew l V) live ∙ sym c.is_anew.ensures ∙ c.if-is_anew.true in
+    sym (c.live_at.ensures ∙ ap (λ (u : State). live_at u c.flow_id-id.result) h.same
+    ∙ ap (live_at w) id) in
+    let anew : is_anew (live_at w (flow_id (room_at w place) (pair_of V.flow).1)) V ≡ true =
+    ap (λ l. is_anew l V) live ∙ sym c.is_anew.ensures ∙ c.if-is_anew.true in
     moved_ok c.take_unknown-then-is_anew.result _ _ _ _ _
-    (step_anew F w V place some anew ∙ ap (λ q. unknown_taken F (forgotten (record w { segments = w.segments + 1 }) place q.1 Syn) V) (sym c.pair_of-side.ensures))
-    (c.take_unknown-then-is_anew.ensures.does _ (c.in_ok-forget.ensures.does _ (counted (g.L.Listener.observed c.args.to.now.listener) c.args.to.now.live.items c.args.self.now (record c.args.self.now { segments = c.args.self.now.segments + 1 }) w h (λ e. refl) refl refl)))
+    (step_anew F w V place some anew ∙ ap (λ q.
+    unknown_taken F (forgotten (record w { segments = w.segments + 1 }) place q.1 Syn) V)
+    (sym c.pair_of-side.ensures))
+    (c.take_unknown-then-is_anew.ensures.does _
+    (c.in_ok-forget.ensures.does _ (counted (g.L.Listener.observed c.args.to.now.listener)
+    c.args.to.now.live.items c.args.self.now
+    (record c.args.self.now { segments = c.args.self.now.segments + 1 }) w h (λ e. refl) refl
+    refl)))
 
 pub returns-then-is_anew-clause-count : goal.returns-then-is_anew-clause-count
 returns-then-is_anew-clause-count g c =
@@ -90,20 +138,36 @@ returns-then-is_anew-clause-count g c =
     let known = known_of _ _ _ _ h in
     let place = c.in-Some.place in
     let some : place_of (pair_of V.flow).0 w.known ≡ Some place =
-    ap (λ q. place_of q.0 w.known) (sym c.pair_of-side.ensures) ∙ ap (place_of pair) (sym known) ∙ sym c.place_of.ensures.place ∙ c.in-Some.is in
+    ap (λ q. place_of q.0 w.known) (sym c.pair_of-side.ensures) ∙ ap (place_of pair) (sym known)
+    ∙ sym c.place_of.ensures.place ∙ c.in-Some.is in
     let at = c.room.ensures ∙ ap (λ (u : State). get_or u.rooms place 0) h.same in
     let id : c.flow_id-id.result ≡ flow_id (room_at w place) (pair_of V.flow).1 =
-    c.flow_id-id.ensures.id ∙ ap (λ (r : ℕ). flow_id r c.pair_of-side.result.1) at ∙ ap (λ q. flow_id (room_at w place) q.1) c.pair_of-side.ensures in
+    c.flow_id-id.ensures.id ∙ ap (λ (r : ℕ). flow_id r c.pair_of-side.result.1) at
+    ∙ ap (λ q. flow_id (room_at w place) q.1) c.pair_of-side.ensures in
     let live : live_at w (flow_id (room_at w place) (pair_of V.flow).1) ≡ c.live_at.result =
-    sym (c.live_at.ensures ∙ ap (λ (u : State). live_at u c.flow_id-id.result) h.same ∙ ap (live_at w) id) in
-    let anew : is_anew (live_at w (flow_id (room_at w place) (pair_of V.flow).1)) V ≡ true = ap (λ l. is_anew l V) live ∙ sym c.is_anew.ensures ∙ c.if-is_anew.true in
-    segments_of c.take_unknown-then-is_anew.result _ _ _ _ _ (step_segments F w V ∙ ap (λ n. n + 1) (sym (ap (λ (u : State). u.segments) h.same)))
+    sym (c.live_at.ensures ∙ ap (λ (u : State). live_at u c.flow_id-id.result) h.same
+    ∙ ap (live_at w) id) in
+    let anew : is_anew (live_at w (flow_id (room_at w place) (pair_of V.flow).1)) V ≡ true =
+    ap (λ l. is_anew l V) live ∙ sym c.is_anew.ensures ∙ c.if-is_anew.true in
+    segments_of c.take_unknown-then-is_anew.result _ _ _ _ _
+    (step_segments F w V ∙ ap (λ n. n + 1) (sym (ap (λ (u : State). u.segments) h.same)))
     (moved_ok c.take_unknown-then-is_anew.result _ _ _ _ _
-    (step_anew F w V place some anew ∙ ap (λ q. unknown_taken F (forgotten (record w { segments = w.segments + 1 }) place q.1 Syn) V) (sym c.pair_of-side.ensures))
-    (c.take_unknown-then-is_anew.ensures.does _ (c.in_ok-forget.ensures.does _ (counted (g.L.Listener.observed c.args.to.now.listener) c.args.to.now.live.items c.args.self.now (record c.args.self.now { segments = c.args.self.now.segments + 1 }) w h (λ e. refl) refl refl))))
+    (step_anew F w V place some anew ∙ ap (λ q.
+    unknown_taken F (forgotten (record w { segments = w.segments + 1 }) place q.1 Syn) V)
+    (sym c.pair_of-side.ensures))
+    (c.take_unknown-then-is_anew.ensures.does _
+    (c.in_ok-forget.ensures.does _ (counted (g.L.Listener.observed c.args.to.now.listener)
+    c.args.to.now.live.items c.args.self.now
+    (record c.args.self.now { segments = c.args.self.now.segments + 1 }) w h (λ e. refl) refl
+    refl))))
 
 pub take_known-requires-clause-state : goal.take_known-requires-clause-state
-take_known-requires-clause-state g c = (_, (counted (g.L.Listener.observed c.args.to.now.listener) c.args.to.now.live.items c.args.self.now (record c.args.self.now { segments = c.args.self.now.segments + 1 }) c.requires.state.0 c.requires.state.1 (λ e. refl) refl refl))
+take_known-requires-clause-state g c = (
+  _,
+  (counted (g.L.Listener.observed c.args.to.now.listener) c.args.to.now.live.items c.args.self.now
+      (record c.args.self.now { segments = c.args.self.now.segments + 1 }) c.requires.state.0
+      c.requires.state.1 (λ e. refl) refl refl),
+)
 
 pub returns-clause-does : goal.returns-clause-does
 returns-clause-does g c w h =
@@ -113,14 +177,22 @@ returns-clause-does g c w h =
     let known = known_of _ _ _ _ h in
     let place = c.in-Some.place in
     let some : place_of (pair_of V.flow).0 w.known ≡ Some place =
-    ap (λ q. place_of q.0 w.known) (sym c.pair_of-side.ensures) ∙ ap (place_of pair) (sym known) ∙ sym c.place_of.ensures.place ∙ c.in-Some.is in
+    ap (λ q. place_of q.0 w.known) (sym c.pair_of-side.ensures) ∙ ap (place_of pair) (sym known)
+    ∙ sym c.place_of.ensures.place ∙ c.in-Some.is in
     let at = c.room.ensures ∙ ap (λ (u : State). get_or u.rooms place 0) h.same in
     let id : c.flow_id-id.result ≡ flow_id (room_at w place) (pair_of V.flow).1 =
-    c.flow_id-id.ensures.id ∙ ap (λ (r : ℕ). flow_id r c.pair_of-side.result.1) at ∙ ap (λ q. flow_id (room_at w place) q.1) c.pair_of-side.ensures in
+    c.flow_id-id.ensures.id ∙ ap (λ (r : ℕ). flow_id r c.pair_of-side.result.1) at
+    ∙ ap (λ q. flow_id (room_at w place) q.1) c.pair_of-side.ensures in
     let live : live_at w (flow_id (room_at w place) (pair_of V.flow).1) ≡ c.live_at.result =
-    sym (c.live_at.ensures ∙ ap (λ (u : State). live_at u c.flow_id-id.result) h.same ∙ ap (live_at w) id) in
-    let known : is_anew (live_at w (flow_id (room_at w place) (pair_of V.flow).1)) V ≡ false = ap (λ l. is_anew l V) live ∙ sym c.is_anew.ensures ∙ c.if-is_anew.false in
-    moved_ok c.take_known.result _ _ _ _ _ (step_known F w V place some known) (c.take_known.ensures.does _ (counted (g.L.Listener.observed c.args.to.now.listener) c.args.to.now.live.items c.args.self.now (record c.args.self.now { segments = c.args.self.now.segments + 1 }) w h (λ e. refl) refl refl))
+    sym (c.live_at.ensures ∙ ap (λ (u : State). live_at u c.flow_id-id.result) h.same
+    ∙ ap (live_at w) id) in
+    let known : is_anew (live_at w (flow_id (room_at w place) (pair_of V.flow).1)) V ≡ false =
+    ap (λ l. is_anew l V) live ∙ sym c.is_anew.ensures ∙ c.if-is_anew.false in
+    moved_ok c.take_known.result _ _ _ _ _ (step_known F w V place some known)
+    (c.take_known.ensures.does _ (counted (g.L.Listener.observed c.args.to.now.listener)
+    c.args.to.now.live.items c.args.self.now
+    (record c.args.self.now { segments = c.args.self.now.segments + 1 }) w h (λ e. refl) refl
+    refl))
 
 pub returns-clause-count : goal.returns-clause-count
 returns-clause-count g c =
@@ -132,12 +204,21 @@ returns-clause-count g c =
     let known = known_of _ _ _ _ h in
     let place = c.in-Some.place in
     let some : place_of (pair_of V.flow).0 w.known ≡ Some place =
-    ap (λ q. place_of q.0 w.known) (sym c.pair_of-side.ensures) ∙ ap (place_of pair) (sym known) ∙ sym c.place_of.ensures.place ∙ c.in-Some.is in
+    ap (λ q. place_of q.0 w.known) (sym c.pair_of-side.ensures) ∙ ap (place_of pair) (sym known)
+    ∙ sym c.place_of.ensures.place ∙ c.in-Some.is in
     let at = c.room.ensures ∙ ap (λ (u : State). get_or u.rooms place 0) h.same in
     let id : c.flow_id-id.result ≡ flow_id (room_at w place) (pair_of V.flow).1 =
-    c.flow_id-id.ensures.id ∙ ap (λ (r : ℕ). flow_id r c.pair_of-side.result.1) at ∙ ap (λ q. flow_id (room_at w place) q.1) c.pair_of-side.ensures in
+    c.flow_id-id.ensures.id ∙ ap (λ (r : ℕ). flow_id r c.pair_of-side.result.1) at
+    ∙ ap (λ q. flow_id (room_at w place) q.1) c.pair_of-side.ensures in
     let live : live_at w (flow_id (room_at w place) (pair_of V.flow).1) ≡ c.live_at.result =
-    sym (c.live_at.ensures ∙ ap (λ (u : State). live_at u c.flow_id-id.result) h.same ∙ ap (live_at w) id) in
-    let known : is_anew (live_at w (flow_id (room_at w place) (pair_of V.flow).1)) V ≡ false = ap (λ l. is_anew l V) live ∙ sym c.is_anew.ensures ∙ c.if-is_anew.false in
-    segments_of c.take_known.result _ _ _ _ _ (step_segments F w V ∙ ap (λ n. n + 1) (sym (ap (λ (u : State). u.segments) h.same)))
-    (moved_ok c.take_known.result _ _ _ _ _ (step_known F w V place some known) (c.take_known.ensures.does _ (counted (g.L.Listener.observed c.args.to.now.listener) c.args.to.now.live.items c.args.self.now (record c.args.self.now { segments = c.args.self.now.segments + 1 }) w h (λ e. refl) refl refl)))
+    sym (c.live_at.ensures ∙ ap (λ (u : State). live_at u c.flow_id-id.result) h.same
+    ∙ ap (live_at w) id) in
+    let known : is_anew (live_at w (flow_id (room_at w place) (pair_of V.flow).1)) V ≡ false =
+    ap (λ l. is_anew l V) live ∙ sym c.is_anew.ensures ∙ c.if-is_anew.false in
+    segments_of c.take_known.result _ _ _ _ _
+    (step_segments F w V ∙ ap (λ n. n + 1) (sym (ap (λ (u : State). u.segments) h.same)))
+    (moved_ok c.take_known.result _ _ _ _ _ (step_known F w V place some known)
+    (c.take_known.ensures.does _ (counted (g.L.Listener.observed c.args.to.now.listener)
+    c.args.to.now.live.items c.args.self.now
+    (record c.args.self.now { segments = c.args.self.now.segments + 1 }) w h (λ e. refl) refl
+    refl)))

@@ -14,52 +14,107 @@ use Rattle.tcp_connections.proofs.connections.Connections.take_known.Goals as go
 pub flow_id-id-requires : goal.flow_id-id-requires
 flow_id-id-requires g c =
     let sound = sound_of _ _ _ _ c.requires.state.1 in
-    let b = room_below (state_of c.args.self.now []) c.args.place sound (omega (arith, c.requires.place, c.args.self.now.table.keys.ok.0)) in
+    let b = room_below (state_of c.args.self.now []) c.args.place sound
+    (omega (arith, c.requires.place, c.args.self.now.table.keys.ok.0)) in
     omega (arith, b, c.room-room.ensures, sound.most)
 
 pub note-requires : goal.note-requires
 note-requires g c =
     let sound = sound_of _ _ _ _ c.requires.state.1 in
-    let b = room_below (state_of c.args.self.now []) c.args.place sound (omega (arith, c.requires.place, c.args.self.now.table.keys.ok.0)) in
+    let b = room_below (state_of c.args.self.now []) c.args.place sound
+    (omega (arith, c.requires.place, c.args.self.now.table.keys.ok.0)) in
     omega (arith, b, c.room-room.ensures, c.args.self.now.stamps.last.ok.0)
 
 pub acknowledgement-requires : goal.acknowledgement-requires
 acknowledgement-requires g c =
-    record { state = (_, noted _ _ c.args.self.now _ c.requires.state.0 c.room-room.result c.requires.state.1 (λ e. ap (λ (ns : List ℕ). record (state_of c.args.self.now e) { lasts = ns }) c.note.ensures.last) refl refl) }
+    record {
+      state = (
+        _,
+        noted _ _ c.args.self.now _ c.requires.state.0 c.room-room.result
+            c.requires.state.1 (λ e. ap (λ (ns : List ℕ).
+            record (state_of c.args.self.now e) { lasts = ns }) c.note.ensures.last) refl refl,
+      );
+    }
 
 pub payload-requires-clause-state : goal.payload-requires-clause-state
-payload-requires-clause-state g c =
-    (_, c.in_ok-acknowledgement.ensures.does _ (noted _ _ c.args.self.now _ c.requires.state.0 c.room-room.result c.requires.state.1 (λ e. ap (λ (ns : List ℕ). record (state_of c.args.self.now e) { lasts = ns }) c.note.ensures.last) refl refl))
+payload-requires-clause-state g c = (
+  _,
+  c.in_ok-acknowledgement.ensures.does _
+      (noted _ _ c.args.self.now _ c.requires.state.0 c.room-room.result c.requires.state.1
+      (λ e. ap (λ (ns : List ℕ). record (state_of c.args.self.now e) { lasts = ns })
+      c.note.ensures.last) refl refl),
+)
 
 pub payload-requires-clause-within : goal.payload-requires-clause-within
 payload-requires-clause-within g c =
     let w = c.requires.state.0 in
     let h = c.requires.state.1 in
-    let n = c.in_ok-acknowledgement.ensures.does _ (noted _ _ c.args.self.now _ w c.room-room.result h (λ e. ap (λ (ns : List ℕ). record (state_of c.args.self.now e) { lasts = ns }) c.note.ensures.last) refl refl) in
-    let k = acknowledgement_kept g.L.Listener.faulted (record w { lasts = set w.lasts c.room-room.result w.segments }) c.flow_id.result (segment_view c.args.segment) in
+    let n = c.in_ok-acknowledgement.ensures.does _
+    (noted _ _ c.args.self.now _ w c.room-room.result h
+    (λ e. ap (λ (ns : List ℕ). record (state_of c.args.self.now e) { lasts = ns })
+    c.note.ensures.last) refl refl) in
+    let k = acknowledgement_kept g.L.Listener.faulted
+    (record w { lasts = set w.lasts c.room-room.result w.segments }) c.flow_id.result
+    (segment_view c.args.segment) in
     let sound = sound_of _ _ _ _ h in
-    let b = room_below (state_of c.args.self.now []) c.args.place sound (omega (arith, c.requires.place, c.args.self.now.table.keys.ok.0)) in
-    omega (arith, b, c.room-room.ensures, c.flow_id-id.ensures.bound, ap (λ (u : State). length u.flows) n.same, k.flows, ap (λ (u : State). length u.flows) h.same, sound.flows, c.acknowledgement.new.self.flows.ok.0)
+    let b = room_below (state_of c.args.self.now []) c.args.place sound
+    (omega (arith, c.requires.place, c.args.self.now.table.keys.ok.0)) in
+    omega (
+      arith,
+      b,
+      c.room-room.ensures,
+      c.flow_id-id.ensures.bound,
+      ap (λ (u : State). length u.flows) n.same,
+      k.flows,
+      ap (λ (u : State). length u.flows) h.same,
+      sound.flows,
+      c.acknowledgement.new.self.flows.ok.0,
+    )
 
 pub payload-requires-clause-taken : goal.payload-requires-clause-taken
 payload-requires-clause-taken g c =
     let w = c.requires.state.0 in
     let h = c.requires.state.1 in
-    let n = c.in_ok-acknowledgement.ensures.does _ (noted _ _ c.args.self.now _ w c.room-room.result h (λ e. ap (λ (ns : List ℕ). record (state_of c.args.self.now e) { lasts = ns }) c.note.ensures.last) refl refl) in
-    let k = acknowledgement_kept g.L.Listener.faulted (record w { lasts = set w.lasts c.room-room.result w.segments }) c.flow_id.result (segment_view c.args.segment) in
+    let n = c.in_ok-acknowledgement.ensures.does _
+    (noted _ _ c.args.self.now _ w c.room-room.result h
+    (λ e. ap (λ (ns : List ℕ). record (state_of c.args.self.now e) { lasts = ns })
+    c.note.ensures.last) refl refl) in
+    let k = acknowledgement_kept g.L.Listener.faulted
+    (record w { lasts = set w.lasts c.room-room.result w.segments }) c.flow_id.result
+    (segment_view c.args.segment) in
     let sound = sound_of _ _ _ _ h in
-    let rooms : c.acknowledgement.new.self.table.rooms.items ≡ c.args.self.now.table.rooms.items = ap (λ (u : State). u.rooms) n.same ∙ k.rooms ∙ sym (ap (λ (u : State). u.rooms) h.same) in
-    let own = times_at c.args.self.now.table.rooms.items c.args.place (omega (arith, c.requires.place, c.args.self.now.table.keys.ok.0, sound.pairs)) in
-    let id : c.flow_id-id.result / 2 ≡ c.room-room.result = ap (λ (n : ℕ). n / 2) c.flow_id-id.ensures.id ∙ half c.room-room.result c.args.side in
-    subst (λ (rs : List ℕ). 0 < times (c.flow_id-id.result / 2) rs) (sym rooms) (subst (λ (n : ℕ). 0 < times n c.args.self.now.table.rooms.items) (sym (id ∙ c.room-room.ensures)) own)
+    let rooms : c.acknowledgement.new.self.table.rooms.items ≡ c.args.self.now.table.rooms.items =
+    ap (λ (u : State). u.rooms) n.same ∙ k.rooms ∙ sym (ap (λ (u : State). u.rooms) h.same) in
+    let own = times_at c.args.self.now.table.rooms.items c.args.place
+    (omega (arith, c.requires.place, c.args.self.now.table.keys.ok.0, sound.pairs)) in
+    let id : c.flow_id-id.result / 2 ≡ c.room-room.result =
+    ap (λ (n : ℕ). n / 2) c.flow_id-id.ensures.id ∙ half c.room-room.result c.args.side in
+    subst (λ (rs : List ℕ). 0 < times (c.flow_id-id.result / 2) rs) (sym rooms)
+    (subst (λ (n : ℕ). 0 < times n c.args.self.now.table.rooms.items)
+    (sym (id ∙ c.room-room.ensures)) own)
 
 pub fin-requires : goal.fin-requires
 fin-requires g c =
-    record { state = (_, c.in_ok-payload.ensures.does _ (c.in_ok-acknowledgement.ensures.does _ (noted _ _ c.args.self.now _ c.requires.state.0 c.room-room.result c.requires.state.1 (λ e. ap (λ (ns : List ℕ). record (state_of c.args.self.now e) { lasts = ns }) c.note.ensures.last) refl refl))) }
+    record {
+      state = (
+        _,
+        c.in_ok-payload.ensures.does _
+            (c.in_ok-acknowledgement.ensures.does _
+            (noted _ _ c.args.self.now _ c.requires.state.0 c.room-room.result c.requires.state.1
+            (λ e. ap (λ (ns : List ℕ). record (state_of c.args.self.now e) { lasts = ns })
+            c.note.ensures.last) refl refl)),
+      );
+    }
 
 pub reset-requires-clause-state : goal.reset-requires-clause-state
-reset-requires-clause-state g c =
-    (_, c.in_ok-fin.ensures.does _ (c.in_ok-payload.ensures.does _ (c.in_ok-acknowledgement.ensures.does _ (noted _ _ c.args.self.now _ c.requires.state.0 c.room-room.result c.requires.state.1 (λ e. ap (λ (ns : List ℕ). record (state_of c.args.self.now e) { lasts = ns }) c.note.ensures.last) refl refl))))
+reset-requires-clause-state g c = (
+  _,
+  c.in_ok-fin.ensures.does _ (c.in_ok-payload.ensures.does _
+      (c.in_ok-acknowledgement.ensures.does _
+      (noted _ _ c.args.self.now _ c.requires.state.0 c.room-room.result c.requires.state.1
+      (λ e. ap (λ (ns : List ℕ). record (state_of c.args.self.now e) { lasts = ns })
+      c.note.ensures.last) refl refl))),
+)
 
 pub reset-requires-clause-place : goal.reset-requires-clause-place
 reset-requires-clause-place g c =
@@ -70,15 +125,32 @@ reset-requires-clause-place g c =
     let seen : State = record w { lasts = set w.lasts c.room-room.result w.segments } in
     let heard : State = acknowledgement_taken F seen c.flow_id.result V in
     let paid : State = payload_taken F heard c.flow_id-id.result V in
-    let n = c.in_ok-fin.ensures.does _ (c.in_ok-payload.ensures.does _ (c.in_ok-acknowledgement.ensures.does _ (noted _ _ c.args.self.now _ w c.room-room.result h (λ e. ap (λ (ns : List ℕ). record (state_of c.args.self.now e) { lasts = ns }) c.note.ensures.last) refl refl))) in
-    let known = known_of _ _ _ _ n ∙ (fin_kept F paid c.flow_id-id.result V).known ∙ (payload_kept F heard c.flow_id-id.result V).known ∙ (acknowledgement_kept F seen c.flow_id.result V).known ∙ sym (known_of _ _ _ _ h) in
-    omega (arith, c.requires.place, c.args.self.now.table.keys.ok.0, ap length known, c.fin.new.self.table.keys.ok.0)
+    let n = c.in_ok-fin.ensures.does _ (c.in_ok-payload.ensures.does _
+    (c.in_ok-acknowledgement.ensures.does _
+    (noted _ _ c.args.self.now _ w c.room-room.result h
+    (λ e. ap (λ (ns : List ℕ). record (state_of c.args.self.now e) { lasts = ns })
+    c.note.ensures.last) refl refl))) in
+    let known = known_of _ _ _ _ n ∙ (fin_kept F paid c.flow_id-id.result V).known
+    ∙ (payload_kept F heard c.flow_id-id.result V).known
+    ∙ (acknowledgement_kept F seen c.flow_id.result V).known ∙ sym (known_of _ _ _ _ h) in
+    omega (
+      arith,
+      c.requires.place,
+      c.args.self.now.table.keys.ok.0,
+      ap length known,
+      c.fin.new.self.table.keys.ok.0,
+    )
 
 pub returns-clause-does : goal.returns-clause-does
 returns-clause-does g c w h =
     let at = c.room-room.ensures ∙ ap (λ (u : State). get_or u.rooms c.args.place 0) h.same in
     moved_ok c.reset.result _ _ _ _ _
-    (known_is g.L.Listener.faulted w c.args.place (segment_view c.args.segment) c.room-room.result c.args.side c.flow_id-id.result c.flow_id.result at (sym c.requires.side) c.flow_id-id.ensures.id
+    (known_is g.L.Listener.faulted w c.args.place (segment_view c.args.segment) c.room-room.result
+    c.args.side c.flow_id-id.result c.flow_id.result at (sym c.requires.side)
+    c.flow_id-id.ensures.id
     (c.flow_id.ensures.id ∙ ap (flow_id c.room-room.result) c.other.ensures))
-    (c.reset.ensures.does _ (c.in_ok-fin.ensures.does _ (c.in_ok-payload.ensures.does _ (c.in_ok-acknowledgement.ensures.does _
-    (noted _ _ c.args.self.now _ w c.room-room.result h (λ e. ap (λ (ns : List ℕ). record (state_of c.args.self.now e) { lasts = ns }) c.note.ensures.last) refl refl)))))
+    (c.reset.ensures.does _ (c.in_ok-fin.ensures.does _
+    (c.in_ok-payload.ensures.does _ (c.in_ok-acknowledgement.ensures.does _
+    (noted _ _ c.args.self.now _ w c.room-room.result h
+    (λ e. ap (λ (ns : List ℕ). record (state_of c.args.self.now e) { lasts = ns })
+    c.note.ensures.last) refl refl)))))

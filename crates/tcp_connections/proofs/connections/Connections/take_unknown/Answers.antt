@@ -12,74 +12,115 @@ use Rattle.tcp_connections.proofs.connections.Connections.take_unknown.Goals as 
 pub returns-then-not-is_first-clause-does : goal.returns-then-not-is_first-clause-does
 returns-then-not-is_first-clause-does g c w h =
     moved _ _ _ _ _ (unknown_nothing g.L.Listener.faulted w (segment_view c.args.segment)
-    (sym (ap (λ (u : State). is_first u.ports (segment_view c.args.segment)) h.same) ∙ sym c.is_first.ensures ∙ c.if-not-is_first.true)) h
+    (sym (ap (λ (u : State). is_first u.ports (segment_view c.args.segment)) h.same)
+    ∙ sym c.is_first.ensures ∙ c.if-not-is_first.true)) h
 
 pub make_known-requires-clause-state : goal.make_known-requires-clause-state
-make_known-requires-clause-state g c = (_, c.in_ok-make_room.ensures.does c.requires.state.0 c.requires.state.1)
+make_known-requires-clause-state g c = (
+  _,
+  c.in_ok-make_room.ensures.does c.requires.state.0 c.requires.state.1,
+)
 
 pub make_known-requires-clause-new : goal.make_known-requires-clause-new
 make_known-requires-clause-new g c =
     let w = c.requires.state.0 in
     let h = c.requires.state.1 in
     let n = c.in_ok-make_room.ensures.does w h in
-    ap (place_of c.args.pair) (known_of _ _ _ _ n) ∙ (room_enough w c.args.pair h.sound (sym (ap (place_of c.args.pair) (known_of _ _ _ _ h)) ∙ c.requires.new)).0
+    ap (place_of c.args.pair) (known_of _ _ _ _ n)
+    ∙ (room_enough w c.args.pair h.sound
+    (sym (ap (place_of c.args.pair) (known_of _ _ _ _ h)) ∙ c.requires.new)).0
 
 pub make_known-requires-clause-room : goal.make_known-requires-clause-room
 make_known-requires-clause-room g c =
     let w = c.requires.state.0 in
     let h = c.requires.state.1 in
     let n = c.in_ok-make_room.ensures.does w h in
-    let less = (room_enough w c.args.pair h.sound (sym (ap (place_of c.args.pair) (known_of _ _ _ _ h)) ∙ c.requires.new)).1 in
-    omega (arith, less, n.room, ap length (known_of _ _ _ _ n), c.make_room.new.self.table.keys.ok.0)
+    let less = (room_enough w c.args.pair h.sound
+    (sym (ap (place_of c.args.pair) (known_of _ _ _ _ h)) ∙ c.requires.new)).1 in
+    omega (
+      arith,
+      less,
+      n.room,
+      ap length (known_of _ _ _ _ n),
+      c.make_room.new.self.table.keys.ok.0,
+    )
 
 pub flow_id-id-requires : goal.flow_id-id-requires
 flow_id-id-requires g c =
     let w = c.requires.state.0 in
     let h = c.requires.state.1 in
     let n = c.in_ok-make_room.ensures.does w h in
-    let less = (room_enough w c.args.pair h.sound (sym (ap (place_of c.args.pair) (known_of _ _ _ _ h)) ∙ c.requires.new)).1 in
+    let less = (room_enough w c.args.pair h.sound
+    (sym (ap (place_of c.args.pair) (known_of _ _ _ _ h)) ∙ c.requires.new)).1 in
     let room = c.in_ok-room.ensures.room ∙ ap next_room (ap (λ (u : State). u.free) n.same) in
     omega (arith, room, next_below (with_room w) n.sound less, n.sound.most)
 
 pub begin-requires-clause-state : goal.begin-requires-clause-state
-begin-requires-clause-state g c = (_, c.in_ok-room.ensures.does _ (c.in_ok-make_room.ensures.does c.requires.state.0 c.requires.state.1))
+begin-requires-clause-state g c = (
+  _,
+  c.in_ok-room.ensures.does _
+      (c.in_ok-make_room.ensures.does c.requires.state.0 c.requires.state.1),
+)
 
 pub begin-requires-clause-within : goal.begin-requires-clause-within
 begin-requires-clause-within g c =
     let w = c.requires.state.0 in
     let h = c.requires.state.1 in
     let n = c.in_ok-make_room.ensures.does w h in
-    let less = (room_enough w c.args.pair h.sound (sym (ap (place_of c.args.pair) (known_of _ _ _ _ h)) ∙ c.requires.new)).1 in
+    let less = (room_enough w c.args.pair h.sound
+    (sym (ap (place_of c.args.pair) (known_of _ _ _ _ h)) ∙ c.requires.new)).1 in
     let room = c.in_ok-room.ensures.room ∙ ap next_room (ap (λ (u : State). u.free) n.same) in
     let m = c.in_ok-room.ensures.does _ n in
-    omega (arith, room, next_below (with_room w) n.sound less, n.sound.flows, c.flow_id-id.ensures.bound, ap (λ (u : State). length u.flows) m.same, made_flows (with_room w) c.args.pair, c.make_known.new.self.flows.ok.0)
+    omega (
+      arith,
+      room,
+      next_below (with_room w) n.sound less,
+      n.sound.flows,
+      c.flow_id-id.ensures.bound,
+      ap (λ (u : State). length u.flows) m.same,
+      made_flows (with_room w) c.args.pair,
+      c.make_known.new.self.flows.ok.0,
+    )
 
 pub begin-requires-clause-taken : goal.begin-requires-clause-taken
 begin-requires-clause-taken g c =
     let w = c.requires.state.0 in
     let h = c.requires.state.1 in
     let n = c.in_ok-make_room.ensures.does w h in
-    let less = (room_enough w c.args.pair h.sound (sym (ap (place_of c.args.pair) (known_of _ _ _ _ h)) ∙ c.requires.new)).1 in
+    let less = (room_enough w c.args.pair h.sound
+    (sym (ap (place_of c.args.pair) (known_of _ _ _ _ h)) ∙ c.requires.new)).1 in
     let room = c.in_ok-room.ensures.room ∙ ap next_room (ap (λ (u : State). u.free) n.same) in
     let m = c.in_ok-room.ensures.does _ n in
     let id = ap (λ (k : ℕ). k / 2) c.flow_id-id.ensures.id ∙ half _ c.args.side ∙ room in
-    subst (λ (rs : List ℕ). 0 < times (c.flow_id-id.result / 2) rs) (sym (ap (λ (u : State). u.rooms) m.same))
-    (subst (λ (k : ℕ). 0 < times k (made_known (with_room w) c.args.pair).rooms) (sym id) (next_taken (with_room w) c.args.pair))
+    subst (λ (rs : List ℕ). 0 < times (c.flow_id-id.result / 2) rs)
+    (sym (ap (λ (u : State). u.rooms) m.same))
+    (subst (λ (k : ℕ). 0 < times k (made_known (with_room w) c.args.pair).rooms) (sym id)
+    (next_taken (with_room w) c.args.pair))
 
 pub begin-requires-clause-vacant : goal.begin-requires-clause-vacant
 begin-requires-clause-vacant g c =
     let w = c.requires.state.0 in
     let h = c.requires.state.1 in
     let n = c.in_ok-make_room.ensures.does w h in
-    let less = (room_enough w c.args.pair h.sound (sym (ap (place_of c.args.pair) (known_of _ _ _ _ h)) ∙ c.requires.new)).1 in
+    let less = (room_enough w c.args.pair h.sound
+    (sym (ap (place_of c.args.pair) (known_of _ _ _ _ h)) ∙ c.requires.new)).1 in
     let room = c.in_ok-room.ensures.room ∙ ap next_room (ap (λ (u : State). u.free) n.same) in
     let m = c.in_ok-room.ensures.does _ n in
     let id = c.flow_id-id.ensures.id ∙ ap (λ (r : ℕ). flow_id r c.args.side) room in
-    ap (λ (u : State). flow_at u c.flow_id-id.result) m.same ∙ ap (flow_at (made_known (with_room w) c.args.pair)) id ∙ next_vacant (with_room w) c.args.pair c.args.side n.sound less
+    ap (λ (u : State). flow_at u c.flow_id-id.result) m.same
+    ∙ ap (flow_at (made_known (with_room w) c.args.pair)) id
+    ∙ next_vacant (with_room w) c.args.pair c.args.side n.sound less
 
 pub fin-requires : goal.fin-requires
 fin-requires g c =
-    record { state = (_, c.in_ok-begin.ensures.does _ (c.in_ok-room.ensures.does _ (c.in_ok-make_room.ensures.does c.requires.state.0 c.requires.state.1))) }
+    record {
+      state = (
+        _,
+        c.in_ok-begin.ensures.does _
+            (c.in_ok-room.ensures.does _ (c.in_ok-make_room.ensures.does c.requires.state.0
+            c.requires.state.1)),
+      );
+    }
 
 pub returns-clause-does : goal.returns-clause-does
 returns-clause-does g c w h =
@@ -89,9 +130,12 @@ returns-clause-does g c w h =
     let n = c.in_ok-make_room.ensures.does w h in
     let room = c.in_ok-room.ensures.room ∙ ap next_room (ap (λ (u : State). u.free) n.same) in
     let id = c.flow_id-id.ensures.id ∙ ap (λ (r : ℕ). flow_id r c.args.side) room in
-    let first = sym (ap (λ (u : State). is_first u.ports V) h.same) ∙ sym c.is_first.ensures ∙ c.if-not-is_first.false in
+    let first = sym (ap (λ (u : State). is_first u.ports V) h.same) ∙ sym c.is_first.ensures
+    ∙ c.if-not-is_first.false in
     moved_ok c.fin.result _ _ _ _ _
     (unknown_first F w V first
-    ∙ ap (λ q. fin_taken F (began F (made_known v q.0) (flow_id (next_room v.free) q.1) (first_number V) V.payload) (flow_id (next_room v.free) q.1) V) c.requires.pair
-    ∙ ap (λ (i : ℕ). fin_taken F (began F (made_known v c.args.pair) i (first_number V) V.payload) i V) (sym id))
+    ∙ ap (λ q. fin_taken F (began F (made_known v q.0) (flow_id (next_room v.free) q.1)
+    (first_number V) V.payload) (flow_id (next_room v.free) q.1) V) c.requires.pair
+    ∙ ap (λ (i : ℕ). fin_taken F (began F (made_known v c.args.pair) i (first_number V) V.payload) i
+    V) (sym id))
     (c.fin.ensures.does _ (c.in_ok-begin.ensures.does _ (c.in_ok-room.ensures.does _ n)))

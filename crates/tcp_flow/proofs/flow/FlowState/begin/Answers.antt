@@ -9,35 +9,45 @@ use Rattle.tcp_flow.proofs.flow.FlowState.begin.Goals as goal
 pub payload-requires-clause-settled : goal.payload-requires-clause-settled
 unfolding first_of
 payload-requires-clause-settled g c =
-    subst IsSettled (sym (c.new-flow.ensures c.args.pool.now.held [])) (fresh_settled (fresh c.args.id c.args.number c.args.pool.now.held []) refl c.requires.none)
+    subst IsSettled (sym (c.new-flow.ensures c.args.pool.now.held []))
+    (fresh_settled (fresh c.args.id c.args.number c.args.pool.now.held []) refl c.requires.none)
 
 pub returns-clause-does : goal.returns-clause-does
 unfolding first_payload step
 returns-clause-does g c events o =
-    c.in_ok-payload.ensures.does (fresh c.args.id c.args.number c.args.pool.now.held events) (record { observed = o; same = c.new-flow.ensures c.args.pool.now.held events })
+    c.in_ok-payload.ensures.does (fresh c.args.id c.args.number c.args.pool.now.held events)
+    (record { observed = o; same = c.new-flow.ensures c.args.pool.now.held events })
 
 pub returns-clause-gapless : goal.returns-clause-gapless
 unfolding first_payload step
 returns-clause-gapless g c payloads events o t =
     let f = fresh c.args.id c.args.number c.args.pool.now.held events in
     let A = setting g.T.Listener.faulted c.args.pool.now.blocks in
-    let e : c.new-flow.result.id ≡ c.args.id = ap (λ (d : Flow). d.id) (c.new-flow.ensures c.args.pool.now.held events) in
-    subst (λ id. IsGapless (payloads ++ (payload id c.args.number c.args.octets.now) ∷ []) (payload_came A f (payload c.args.id c.args.number c.args.octets.now))) e
-    (c.in_ok-payload.ensures.gapless payloads f (record { observed = o; same = c.new-flow.ensures c.args.pool.now.held events }) t)
+    let e : c.new-flow.result.id ≡ c.args.id =
+    ap (λ (d : Flow). d.id) (c.new-flow.ensures c.args.pool.now.held events) in
+    subst (λ id. IsGapless (payloads ++ (payload id c.args.number c.args.octets.now) ∷ [])
+    (payload_came A f (payload c.args.id c.args.number c.args.octets.now))) e
+    (c.in_ok-payload.ensures.gapless payloads f
+    (record { observed = o; same = c.new-flow.ensures c.args.pool.now.held events }) t)
 
 pub returns-clause-room : goal.returns-clause-room
 returns-clause-room g c events o =
-    c.in_ok-payload.ensures.room (fresh c.args.id c.args.number c.args.pool.now.held events) (record { observed = o; same = c.new-flow.ensures c.args.pool.now.held events })
+    c.in_ok-payload.ensures.room (fresh c.args.id c.args.number c.args.pool.now.held events)
+    (record { observed = o; same = c.new-flow.ensures c.args.pool.now.held events })
 
 pub returns-clause-settled : goal.returns-clause-settled
 returns-clause-settled g c events o =
-    c.in_ok-payload.ensures.settled (fresh c.args.id c.args.number c.args.pool.now.held events) (record { observed = o; same = c.new-flow.ensures c.args.pool.now.held events })
+    c.in_ok-payload.ensures.settled (fresh c.args.id c.args.number c.args.pool.now.held events)
+    (record { observed = o; same = c.new-flow.ensures c.args.pool.now.held events })
 
 pub returns-clause-id : goal.returns-clause-id
 returns-clause-id g c = c.payload.ensures.id ∙ ap (λ (d : Flow). d.id) (c.new-flow.ensures [] [])
 
 pub returns-clause-beside : goal.returns-clause-beside
 returns-clause-beside g c events o =
-    let e : c.new-flow.result.id ≡ c.args.id = ap (λ (d : Flow). d.id) (c.new-flow.ensures c.args.pool.now.held events) in
-    subst (λ id. held_by_others id c.payload.new.pool.held ≡ held_by_others id c.args.pool.now.held) e
-    (c.in_ok-payload.ensures.beside (fresh c.args.id c.args.number c.args.pool.now.held events) (record { observed = o; same = c.new-flow.ensures c.args.pool.now.held events }))
+    let e : c.new-flow.result.id ≡ c.args.id =
+    ap (λ (d : Flow). d.id) (c.new-flow.ensures c.args.pool.now.held events) in
+    subst (λ id. held_by_others id c.payload.new.pool.held ≡ held_by_others id c.args.pool.now.held)
+    e
+    (c.in_ok-payload.ensures.beside (fresh c.args.id c.args.number c.args.pool.now.held events)
+    (record { observed = o; same = c.new-flow.ensures c.args.pool.now.held events }))

@@ -12,7 +12,9 @@ returns-in_ok-closes-clause-does g c held f h =
     let G = IsState (g.T.Listener.observed c.closes.new.self) _ held in
     by_state (λ f. G (closed f c.args.cause)) _ c.args.self.now held f h (λ events o.
     let s = state c.args.self.now held events in
-    subst G (sym (cond-true (is_some c.args.self.now.live) (with_event (record s { live = None }) (Closes c.args.self.now.id c.args.cause)) s (sym c.is_live.ensures ∙ c.if-is_live.true)))
+    subst G (sym (cond-true (is_some c.args.self.now.live)
+    (with_event (record s { live = None }) (Closes c.args.self.now.id c.args.cause)) s
+    (sym c.is_live.ensures ∙ c.if-is_live.true)))
     (record { observed = c.in_ok-closes.ensures.does events o; same = refl }))
 
 pub returns-else-is_live-clause-does : goal.returns-else-is_live-clause-does
@@ -21,11 +23,15 @@ returns-else-is_live-clause-does g c held f h =
     let G = IsState (g.T.Listener.observed c.args.to.now) c.args.self.now held in
     by_state (λ f. G (closed f c.args.cause)) _ c.args.self.now held f h (λ events o.
     let s = state c.args.self.now held events in
-    subst G (sym (cond-false (is_some c.args.self.now.live) (with_event (record s { live = None }) (Closes c.args.self.now.id c.args.cause)) s (sym c.is_live.ensures ∙ c.if-is_live.false)))
+    subst G (sym (cond-false (is_some c.args.self.now.live)
+    (with_event (record s { live = None }) (Closes c.args.self.now.id c.args.cause)) s
+    (sym c.is_live.ensures ∙ c.if-is_live.false)))
     (record { observed = o; same = refl }))
 
 pub returns-in_ok-closes-clause-gapless : goal.returns-in_ok-closes-clause-gapless
-returns-in_ok-closes-clause-gapless g c payloads held f h t = (true_keeps g.T.Listener.faulted payloads).closes f c.args.cause t
+returns-in_ok-closes-clause-gapless g c payloads held f h t =
+    (true_keeps g.T.Listener.faulted payloads).closes f c.args.cause t
 
 pub returns-else-is_live-clause-gapless : goal.returns-else-is_live-clause-gapless
-returns-else-is_live-clause-gapless g c payloads held f h t = (true_keeps g.T.Listener.faulted payloads).closes f c.args.cause t
+returns-else-is_live-clause-gapless g c payloads held f h t =
+    (true_keeps g.T.Listener.faulted payloads).closes f c.args.cause t

@@ -12,7 +12,8 @@ returns-in_ok-closes-clause-does g c held f h =
     let G = IsState (g.T.Listener.observed c.closes.new.self) _ held in
     by_state (λ f. G (delivered F f p)) _ c.args.self.now held f h (λ events o.
     let d = c.in_ok-delivers.ensures.does events o in
-    subst G (sym (delivered_fault F (state c.args.self.now held events) p (sym d.1 ∙ c.if-branch.true)))
+    subst G (sym (delivered_fault F (state c.args.self.now held events) p
+    (sym d.1 ∙ c.if-branch.true)))
     (record { observed = c.in_ok-closes.ensures.does _ d.0; same = rw c.onward-self.ensures refl }))
 
 pub returns-else-branch-clause-does : goal.returns-else-branch-clause-does
@@ -22,5 +23,6 @@ returns-else-branch-clause-does g c held f h =
     let G = IsState (g.T.Listener.observed c.delivers.new.self) _ held in
     by_state (λ f. G (delivered F f p)) _ c.args.self.now held f h (λ events o.
     let d = c.in_ok-delivers.ensures.does events o in
-    subst G (sym (delivered_on F (state c.args.self.now held events) p (sym d.1 ∙ c.if-branch.false)))
+    subst G (sym (delivered_on F (state c.args.self.now held events) p
+    (sym d.1 ∙ c.if-branch.false)))
     (record { observed = d.0; same = rw c.onward-self.ensures refl }))

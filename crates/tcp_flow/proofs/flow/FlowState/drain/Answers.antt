@@ -13,14 +13,23 @@ pub loop-first-init : goal.loop-first-init
 unfolding drained
 loop-first-init g c = (
   c.first-first.ensures,
-  (λ f h. (f, (h, ap (λ (ps : List Payload). drained_at_most g.T.Listener.faulted (length ps) f) (held_of _ _ _ f h)))),
+  (λ f h. (
+    f,
+    (
+      h,
+      ap (λ (ps : List Payload). drained_at_most g.T.Listener.faulted (length ps) f)
+          (held_of _ _ _ f h),
+    ),
+  )),
   refl,
   refl,
 )
 
 pub number-number-requires : goal.number-number-requires
 number-number-requires g c =
-    let within : c.in-Some.index < length c.loop-first.pool.held = rw (sym c.loop-first.invariant.0 ∙ c.in-Some.is) at (first_within c.loop-first.self.id c.loop-first.self.next c.loop-first.pool.held) in
+    let within : c.in-Some.index < length c.loop-first.pool.held =
+    rw (sym c.loop-first.invariant.0 ∙ c.in-Some.is) at
+    (first_within c.loop-first.self.id c.loop-first.self.next c.loop-first.pool.held) in
     within
 
 pub returns-then-is_to_come-clause-does : goal.returns-then-is_to_come-clause-does
@@ -31,24 +40,39 @@ returns-then-is_to_come-clause-does g c f h =
     let held = c.loop-first.pool.held in
     let G = IsState (g.T.Listener.observed c.loop-first.to) s held in
     let i = c.loop-first.invariant.1 f h in
-    by_state (λ d. drained_at_most F (length held) d ≡ drained F f → G (drained F f)) _ s held i.0 i.1.0 (λ events o e.
-    let d : is_due (state s held events) c.in-Some.index ≡ false = due_not (state s held events) c.in-Some.index (sym c.is_live.ensures ∙ c.if-is_live.true) (rw (← c.number-number.ensures, ← c.is_to_come.ensures) c.if-is_to_come.true) in
-    subst G (sym (flowing_stays F (length held) (state s held events) c.in-Some.index (sym c.loop-first.invariant.0 ∙ c.in-Some.is) d) ∙ e) (record { observed = o; same = refl })) i.1.1
+    by_state (λ d. drained_at_most F (length held) d ≡ drained F f → G (drained F f)) _ s held i.0
+    i.1.0 (λ events o e.
+    let d : is_due (state s held events) c.in-Some.index ≡ false =
+    due_not (state s held events) c.in-Some.index (sym c.is_live.ensures ∙ c.if-is_live.true)
+    (rw (← c.number-number.ensures, ← c.is_to_come.ensures) c.if-is_to_come.true) in
+    subst G (sym (flowing_stays F (length held) (state s held events) c.in-Some.index
+    (sym c.loop-first.invariant.0 ∙ c.in-Some.is) d) ∙ e)
+    (record { observed = o; same = refl })) i.1.1
 
 pub octets-requires : goal.octets-requires
 octets-requires g c =
-    let within : c.in-Some.index < length c.loop-first.pool.held = rw (sym c.loop-first.invariant.0 ∙ c.in-Some.is) at (first_within c.loop-first.self.id c.loop-first.self.next c.loop-first.pool.held) in
+    let within : c.in-Some.index < length c.loop-first.pool.held =
+    rw (sym c.loop-first.invariant.0 ∙ c.in-Some.is) at
+    (first_within c.loop-first.self.id c.loop-first.self.next c.loop-first.pool.held) in
     within
 
 pub remove-requires : goal.remove-requires
 remove-requires g c =
-    let within : c.in-Some.index < length c.loop-first.pool.held = rw (sym c.loop-first.invariant.0 ∙ c.in-Some.is) at (first_within c.loop-first.self.id c.loop-first.self.next c.loop-first.pool.held) in
+    let within : c.in-Some.index < length c.loop-first.pool.held =
+    rw (sym c.loop-first.invariant.0 ∙ c.in-Some.is) at
+    (first_within c.loop-first.self.id c.loop-first.self.next c.loop-first.pool.held) in
     within
 
 pub loop-first-smaller : goal.loop-first-smaller
 loop-first-smaller g c =
-    let within : c.in-Some.index < length c.loop-first.pool.held = rw (sym c.loop-first.invariant.0 ∙ c.in-Some.is) at (first_within c.loop-first.self.id c.loop-first.self.next c.loop-first.pool.held) in
-    omega (arith, length_remove c.loop-first.pool.held c.in-Some.index within, ap length c.remove.ensures.held)
+    let within : c.in-Some.index < length c.loop-first.pool.held =
+    rw (sym c.loop-first.invariant.0 ∙ c.in-Some.is) at
+    (first_within c.loop-first.self.id c.loop-first.self.next c.loop-first.pool.held) in
+    omega (
+      arith,
+      length_remove c.loop-first.pool.held c.in-Some.index within,
+      ap length c.remove.ensures.held,
+    )
 
 pub loop-first-preserved : goal.loop-first-preserved
 unfolding at
@@ -60,17 +84,28 @@ loop-first-preserved g c =
     let rest = remove held index in
     let due : (events : List Event) → is_due (state s held events) index ≡ true = λ events.
     elim c.else-is_live.branch [
-      | else-is_live-via-then-is_live+else-is_to_come w ↦ due_reached (state s held events) index (rw (← c.number-number.ensures, ← w.is_to_come.ensures) w.if-is_to_come.false)
-      | else-is_live-via-else-is_live w ↦ due_now (state s held events) index (sym c.is_live.ensures ∙ w.if-is_live.false)
+      | else-is_live-via-then-is_live+else-is_to_come w ↦ due_reached (state s held events) index
+          (rw (← c.number-number.ensures, ← w.is_to_come.ensures) w.if-is_to_come.false)
+      | else-is_live-via-else-is_live w ↦ due_now (state s held events) index
+          (sym c.is_live.ensures ∙ w.if-is_live.false)
     ] in (
       c.first-first-in-Some.ensures,
       (λ f h.
           let i = c.loop-first.invariant.1 f h in
-          by_state (λ d. drained_at_most F (length held) d ≡ drained F f → (n : Flow) × (IsState (g.T.Listener.observed c.take.new.to) c.take.new.self c.remove.new.self.held n × (drained_at_most F (length c.remove.new.self.held) n ≡ drained F f))) _ s held i.0 i.1.0 (λ events o e.
-          let t = c.in_ok-take.ensures.does rest (state s rest events) (record { observed = o; same = refl }) in
-          let n = taken F (state s rest events) (payload s.id c.number-number.result c.octets.result.now) in
-          let same : n ≡ taken F (state s rest events) (payload s.id (at (state s held events) index).number (at (state s held events) index).octets) = rw (← c.number-number.ensures, ← c.octets.ensures) refl in
-          let e' = drain_takes F (state s held events) n index (sym c.loop-first.invariant.0 ∙ c.in-Some.is) (due events) same in
+          by_state (λ d. drained_at_most F (length held) d ≡ drained F f → (n : Flow)
+          × (IsState (g.T.Listener.observed c.take.new.to) c.take.new.self
+          c.remove.new.self.held n × (drained_at_most F (length c.remove.new.self.held) n
+          ≡ drained F f))) _ s held i.0 i.1.0 (λ events o e.
+          let t = c.in_ok-take.ensures.does rest (state s rest events)
+          (record { observed = o; same = refl }) in
+          let n = taken F (state s rest events)
+          (payload s.id c.number-number.result c.octets.result.now) in
+          let same : n ≡ taken F (state s rest events)
+          (payload s.id (at (state s held events) index).number
+          (at (state s held events) index).octets) =
+          rw (← c.number-number.ensures, ← c.octets.ensures) refl in
+          let e' = drain_takes F (state s held events) n index
+          (sym c.loop-first.invariant.0 ∙ c.in-Some.is) (due events) same in
           (n, (rw c.remove.ensures.held t, rw c.remove.ensures.held (sym e' ∙ e)))) i.1.1),
       c.take.ensures.id ∙ c.loop-first.invariant.2,
       c.remove.ensures.blocks ∙ c.loop-first.invariant.3,
@@ -84,5 +119,8 @@ returns-clause-does g c f h =
     let held = c.loop-first.pool.held in
     let G = IsState (g.T.Listener.observed c.loop-first.to) s held in
     let i = c.loop-first.invariant.1 f h in
-    by_state (λ d. drained_at_most F (length held) d ≡ drained F f → G (drained F f)) _ s held i.0 i.1.0 (λ events o e.
-    subst G (sym (flowing_none F (length held) (state s held events) (sym c.loop-first.invariant.0 ∙ c.in_default.is)) ∙ e) (record { observed = o; same = refl })) i.1.1
+    by_state (λ d. drained_at_most F (length held) d ≡ drained F f → G (drained F f)) _ s held i.0
+    i.1.0 (λ events o e.
+    subst G (sym (flowing_none F (length held) (state s held events)
+    (sym c.loop-first.invariant.0 ∙ c.in_default.is)) ∙ e)
+    (record { observed = o; same = refl })) i.1.1

@@ -7,9 +7,11 @@ use Rattle.tcp_flow.proofs.flow.FlowState.drain.Given as goal
 abbrev pub invariant-loop-first : goal.invariant-loop-first
 invariant-loop-first g l =
     (l.first ≡ first l.self.id l.self.next l.pool.held)
-    × ((f : Flow) → IsState (g.T.Listener.observed l.initial.to) l.initial.self l.initial.pool.held f
+    × ((f : Flow) → IsState (g.T.Listener.observed l.initial.to) l.initial.self l.initial.pool.held
+    f
     → (d : Flow) × (IsState (g.T.Listener.observed l.to) l.self l.pool.held d
-    × (drained_at_most g.T.Listener.faulted (length l.pool.held) d ≡ drained g.T.Listener.faulted f)))
+    × (drained_at_most g.T.Listener.faulted (length l.pool.held) d
+    ≡ drained g.T.Listener.faulted f)))
     × (l.self.id ≡ l.initial.self.id)
     × (l.pool.blocks ≡ l.initial.pool.blocks)
 

@@ -13,11 +13,15 @@ returns-then-fin_is_reached-clause-does g c f h =
     let F = g.T.Listener.faulted in
     let s = c.args.self.now in
     let held = c.args.pool.now.held in
-    by_state (λ f. OnOk c.drain.result (IsState (g.T.Listener.observed c.drain.new.to) c.drain.new.self c.drain.new.pool.held (ended F f))) _ s held f h (λ events o.
+    by_state (λ f. OnOk c.drain.result (IsState (g.T.Listener.observed c.drain.new.to)
+    c.drain.new.self c.drain.new.pool.held (ended F f))) _ s held f h (λ events o.
     let S = state s held events in
     on_ok_equal c.drain.result _ _ _ _ _
-    (sym (cond-true (fin_is_reached s.next (is_some s.live) s.fin) (drained F (record (closed S Fin) { fin = None })) S (sym c.fin_is_reached.ensures ∙ c.if-fin_is_reached.true)))
-    (c.drain.ensures.does _ (with_fin _ _ held (closed S Fin) None (c.in_ok-close.ensures.does held S (record { observed = o; same = refl })))))
+    (sym (cond-true (fin_is_reached s.next (is_some s.live) s.fin)
+    (drained F (record (closed S Fin) { fin = None })) S
+    (sym c.fin_is_reached.ensures ∙ c.if-fin_is_reached.true)))
+    (c.drain.ensures.does _ (with_fin _ _ held (closed S Fin) None
+    (c.in_ok-close.ensures.does held S (record { observed = o; same = refl })))))
 
 pub returns-clause-does : goal.returns-clause-does
 unfolding ended
@@ -28,5 +32,7 @@ returns-clause-does g c f h =
     let G = IsState (g.T.Listener.observed c.args.to.now) s held in
     by_state (λ f. G (ended F f)) _ s held f h (λ events o.
     let S = state s held events in
-    subst G (sym (cond-false (fin_is_reached s.next (is_some s.live) s.fin) (drained F (record (closed S Fin) { fin = None })) S (sym c.fin_is_reached.ensures ∙ c.if-fin_is_reached.false)))
+    subst G (sym (cond-false (fin_is_reached s.next (is_some s.live) s.fin)
+    (drained F (record (closed S Fin) { fin = None })) S
+    (sym c.fin_is_reached.ensures ∙ c.if-fin_is_reached.false)))
     (record { observed = o; same = refl }))

@@ -12,41 +12,58 @@ loop-first-init c = (c.first-first.ensures, refl, refl)
 
 pub remove-requires : goal.remove-requires
 remove-requires c =
-    let within : c.in-Some.own < length c.loop-first.pool.held = rw (sym c.loop-first.invariant.0 ∙ c.in-Some.is) at (first_within c.args.self.now.id c.args.self.now.next c.loop-first.pool.held) in
+    let within : c.in-Some.own < length c.loop-first.pool.held =
+    rw (sym c.loop-first.invariant.0 ∙ c.in-Some.is) at
+    (first_within c.args.self.now.id c.args.self.now.next c.loop-first.pool.held) in
     within
 
 pub loop-first-smaller : goal.loop-first-smaller
 loop-first-smaller c =
-    let within : c.in-Some.own < length c.loop-first.pool.held = rw (sym c.loop-first.invariant.0 ∙ c.in-Some.is) at (first_within c.args.self.now.id c.args.self.now.next c.loop-first.pool.held) in
-    omega (arith, length_remove c.loop-first.pool.held c.in-Some.own within, ap length c.remove.ensures.held)
+    let within : c.in-Some.own < length c.loop-first.pool.held =
+    rw (sym c.loop-first.invariant.0 ∙ c.in-Some.is) at
+    (first_within c.args.self.now.id c.args.self.now.next c.loop-first.pool.held) in
+    omega (
+      arith,
+      length_remove c.loop-first.pool.held c.in-Some.own within,
+      ap length c.remove.ensures.held,
+    )
 
 pub loop-first-preserved : goal.loop-first-preserved
 loop-first-preserved c =
     let s = c.args.self.now in
     let held = c.loop-first.pool.held in
-    let within : c.in-Some.own < length held = rw (sym c.loop-first.invariant.0 ∙ c.in-Some.is) at (first_within s.id s.next held) in
-    let own : (get_or held c.in-Some.own (payload 0 0 [])).flow ≡ s.id = rw (sym c.loop-first.invariant.0 ∙ c.in-Some.is) at (first_own s.id s.next (payload 0 0 []) held) in (
+    let within : c.in-Some.own < length held =
+    rw (sym c.loop-first.invariant.0 ∙ c.in-Some.is) at (first_within s.id s.next held) in
+    let own : (get_or held c.in-Some.own (payload 0 0 [])).flow ≡ s.id =
+    rw (sym c.loop-first.invariant.0 ∙ c.in-Some.is) at
+    (first_own s.id s.next (payload 0 0 []) held) in (
       c.first-first-in-Some.ensures,
-      ap (held_by_others s.id) c.remove.ensures.held ∙ others_keep s.id held c.in-Some.own within own ∙ c.loop-first.invariant.1,
+      ap (held_by_others s.id) c.remove.ensures.held
+          ∙ others_keep s.id held c.in-Some.own within own ∙ c.loop-first.invariant.1,
       c.remove.ensures.blocks ∙ c.loop-first.invariant.2,
     )
 
 pub returns-clause-held : goal.returns-clause-held
 returns-clause-held c =
     let s = c.args.self.now in
-    sym (others_all s.id s.next c.loop-first.pool.held (ap is_some (sym c.loop-first.invariant.0 ∙ c.in_default.is))) ∙ c.loop-first.invariant.1
+    sym (others_all s.id s.next c.loop-first.pool.held
+    (ap is_some (sym c.loop-first.invariant.0 ∙ c.in_default.is))) ∙ c.loop-first.invariant.1
 
 pub returns-clause-does : goal.returns-clause-does
 unfolding forgotten
 returns-clause-does c events =
     let s = c.args.self.now in
-    ap (λ (ps : List Payload). state s ps events) (sym (others_all s.id s.next c.loop-first.pool.held (ap is_some (sym c.loop-first.invariant.0 ∙ c.in_default.is))) ∙ c.loop-first.invariant.1)
+    ap (λ (ps : List Payload). state s ps events)
+    (sym (others_all s.id s.next c.loop-first.pool.held
+    (ap is_some (sym c.loop-first.invariant.0 ∙ c.in_default.is))) ∙ c.loop-first.invariant.1)
 
 pub returns-clause-room : goal.returns-clause-room
 returns-clause-room c =
     let s = c.args.self.now in
-    let e = sym (others_all s.id s.next c.loop-first.pool.held (ap is_some (sym c.loop-first.invariant.0 ∙ c.in_default.is))) ∙ c.loop-first.invariant.1 in
-    subst (λ (ps : List Payload). blocks_of ps ≤ blocks_of c.args.pool.now.held) (sym e) (others_blocks s.id c.args.pool.now.held)
+    let e = sym (others_all s.id s.next c.loop-first.pool.held
+    (ap is_some (sym c.loop-first.invariant.0 ∙ c.in_default.is))) ∙ c.loop-first.invariant.1 in
+    subst (λ (ps : List Payload). blocks_of ps ≤ blocks_of c.args.pool.now.held) (sym e)
+    (others_blocks s.id c.args.pool.now.held)
 
 pub returns-clause-blocks : goal.returns-clause-blocks
 returns-clause-blocks c = c.loop-first.invariant.2

@@ -12,7 +12,8 @@ use Rattle.tcp_flow.proofs.flow.FlowState.gap.Goals as goal
 
 pub returns-clause-does : goal.returns-clause-does
 unfolding gap
-returns-clause-does g c f h = c.in_ok-go_on.ensures.does (closed f Gap) (c.in_ok-close.ensures.does c.args.pool.now.held f h)
+returns-clause-does g c f h = c.in_ok-go_on.ensures.does (closed f Gap)
+    (c.in_ok-close.ensures.does c.args.pool.now.held f h)
 
 pub returns-clause-gapless : goal.returns-clause-gapless
 returns-clause-gapless g c payloads f h t = gap_true g.T.Listener.faulted payloads f t
@@ -20,26 +21,34 @@ returns-clause-gapless g c payloads f h t = gap_true g.T.Listener.faulted payloa
 pub returns-clause-room : goal.returns-clause-room
 unfolding gap
 returns-clause-room g c f h =
-    let n = c.in_ok-go_on.ensures.does (closed f Gap) (c.in_ok-close.ensures.does c.args.pool.now.held f h) in
+    let n = c.in_ok-go_on.ensures.does (closed f Gap)
+    (c.in_ok-close.ensures.does c.args.pool.now.held f h) in
     let less = gap_blocks g.T.Listener.faulted f in
-    subst (λ ps. blocks_of c.go_on.new.pool.held ≤ blocks_of ps) (sym (held_of _ _ _ f h)) (subst (λ ps. blocks_of ps ≤ blocks_of f.held) (sym (held_of _ _ _ _ n)) less)
+    subst (λ ps. blocks_of c.go_on.new.pool.held ≤ blocks_of ps) (sym (held_of _ _ _ f h))
+    (subst (λ ps. blocks_of ps ≤ blocks_of f.held) (sym (held_of _ _ _ _ n)) less)
 
 pub returns-clause-fewer : goal.returns-clause-fewer
 unfolding gap first_of
 returns-clause-fewer g c f h some =
-    let n = c.in_ok-go_on.ensures.does (closed f Gap) (c.in_ok-close.ensures.does c.args.pool.now.held f h) in
-    let own : is_some (first_of f) ≡ true = subst (λ (d : Flow). is_some (first_of d) ≡ true) h.same some in
+    let n = c.in_ok-go_on.ensures.does (closed f Gap)
+    (c.in_ok-close.ensures.does c.args.pool.now.held f h) in
+    let own : is_some (first_of f) ≡ true =
+    subst (λ (d : Flow). is_some (first_of d) ≡ true) h.same some in
     let less = gap_fewer g.T.Listener.faulted f own in
-    subst (λ ps. length c.go_on.new.pool.held < length ps) (sym (held_of _ _ _ f h)) (subst (λ ps. length ps < length f.held) (sym (held_of _ _ _ _ n)) less)
+    subst (λ ps. length c.go_on.new.pool.held < length ps) (sym (held_of _ _ _ f h))
+    (subst (λ ps. length ps < length f.held) (sym (held_of _ _ _ _ n)) less)
 
 pub returns-clause-settled : goal.returns-clause-settled
 unfolding gap
 returns-clause-settled g c f h =
-    let n = c.in_ok-go_on.ensures.does (closed f Gap) (c.in_ok-close.ensures.does c.args.pool.now.held f h) in
+    let n = c.in_ok-go_on.ensures.does (closed f Gap)
+    (c.in_ok-close.ensures.does c.args.pool.now.held f h) in
     settled_state _ _ _ _ n (gap_settled g.T.Listener.faulted f (next_of _ _ _ _ n (omega arith)))
 
 pub returns-clause-beside : goal.returns-clause-beside
 unfolding gap
 returns-clause-beside g c f h =
-    let n = c.in_ok-go_on.ensures.does (closed f Gap) (c.in_ok-close.ensures.does c.args.pool.now.held f h) in
-    others_of _ _ c.args.self.now c.go_on.new.self c.args.pool.now.held c.go_on.new.pool.held f (gap g.T.Listener.faulted f) h n (gap_others g.T.Listener.faulted f)
+    let n = c.in_ok-go_on.ensures.does (closed f Gap)
+    (c.in_ok-close.ensures.does c.args.pool.now.held f h) in
+    others_of _ _ c.args.self.now c.go_on.new.self c.args.pool.now.held c.go_on.new.pool.held f
+    (gap g.T.Listener.faulted f) h n (gap_others g.T.Listener.faulted f)

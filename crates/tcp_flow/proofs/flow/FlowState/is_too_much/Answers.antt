@@ -10,9 +10,23 @@ returns-then-is_far c =
 pub returns-then-is_some : goal.returns-then-is_some
 unfolding is_too_much first_of
 returns-then-is_some c =
-    λ events faulted. rw (← c.is_far.ensures, c.if-is_far.false, ← c.first.ensures, ← c.is_some.ensures, c.if-is_some.true, c.blocks_in_use.ensures, c.blocks-then-is_some.ensures) refl
+    λ events faulted. rw (
+      ← c.is_far.ensures,
+      c.if-is_far.false,
+      ← c.first.ensures,
+      ← c.is_some.ensures,
+      c.if-is_some.true,
+      c.blocks_in_use.ensures,
+      c.blocks-then-is_some.ensures,
+    ) refl
 
 pub returns-else-is_some : goal.returns-else-is_some
 unfolding is_too_much first_of
 returns-else-is_some c =
-    λ events faulted. rw (← c.is_far.ensures, c.if-is_far.false, ← c.first.ensures, ← c.is_some.ensures, c.if-is_some.false) refl
+    λ events faulted. rw (
+      ← c.is_far.ensures,
+      c.if-is_far.false,
+      ← c.first.ensures,
+      ← c.is_some.ensures,
+      c.if-is_some.false,
+    ) refl

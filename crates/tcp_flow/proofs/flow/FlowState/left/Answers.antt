@@ -10,18 +10,29 @@ use Rattle.tcp_flow.proofs.flow.FlowState.left.Goals.{else-age-gt-WINDOW-via-the
 pub returns-then-not-is_live-clause-left : goal.returns-then-not-is_live-clause-left
 unfolding left
 returns-then-not-is_live-clause-left c =
-    let e : nat_lt window (age c.args.self.now.next c.args.number) ≡ true = rw (← c.age-age.ensures) (lt-ltb 1048576 c.age-age.result c.if-age-gt-WINDOW.true) in
+    let e : nat_lt window (age c.args.self.now.next c.args.number) ≡ true =
+    rw (← c.age-age.ensures) (lt-ltb 1048576 c.age-age.result c.if-age-gt-WINDOW.true) in
     rw (e, sym c.is_live.ensures ∙ c.if-not-is_live.true) refl
 
 pub returns-clause-left : goal.returns-clause-left
 unfolding left
 returns-clause-left c =
-    let e : (nat_lt window (age c.args.self.now.next c.args.number) && not (is_some c.args.self.now.live)) ≡ false =
+    let e : (nat_lt window (age c.args.self.now.next c.args.number)
+    && not (is_some c.args.self.now.live)) ≡ false =
     elim c.else-age-gt-WINDOW.branch [
       | else-age-gt-WINDOW-via-then-age-gt-WINDOW+else-not-is_live w ↦
-          and_right (nat_lt window (age c.args.self.now.next c.args.number)) (not (is_some c.args.self.now.live)) (not_from_true (is_some c.args.self.now.live) (sym w.is_live.ensures ∙ w.if-not-is_live.false))
+          and_right (nat_lt window (age c.args.self.now.next c.args.number))
+          (not (is_some c.args.self.now.live))
+          (not_from_true (is_some c.args.self.now.live)
+          (sym w.is_live.ensures ∙ w.if-not-is_live.false))
       | else-age-gt-WINDOW-via-else-age-gt-WINDOW w ↦
-          and_left (nat_lt window (age c.args.self.now.next c.args.number)) (not (is_some c.args.self.now.live))
+          and_left (nat_lt window (age c.args.self.now.next c.args.number))
+          (not (is_some c.args.self.now.live))
           (rw (← c.age-age.ensures) (le-ltb 1048576 c.age-age.result w.if-age-gt-WINDOW.false))
     ] in
-    rw (e, cut c.age-age.result c.min-old.result c.args.octets.now c.min-old.ensures, c.onward.ensures, c.age-age.ensures) refl
+    rw (
+      e,
+      cut c.age-age.result c.min-old.result c.args.octets.now c.min-old.ensures,
+      c.onward.ensures,
+      c.age-age.ensures,
+    ) refl

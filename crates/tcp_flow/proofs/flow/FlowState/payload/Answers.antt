@@ -16,7 +16,10 @@ pub returns-clause-does : goal.returns-clause-does
 unfolding step
 returns-clause-does g c f h =
     let A = setting g.T.Listener.faulted c.args.pool.now.blocks in
-    by_state (λ f. IsState (g.T.Listener.observed c.take_payload.new.to) c.take_payload.new.self c.take_payload.new.pool.held (payload_came A f (payload f.id c.args.number c.args.octets.now))) _ c.args.self.now c.args.pool.now.held f h (λ events o.
+    by_state (λ f. IsState (g.T.Listener.observed c.take_payload.new.to) c.take_payload.new.self
+    c.take_payload.new.pool.held (payload_came A f
+    (payload f.id c.args.number c.args.octets.now))) _ c.args.self.now c.args.pool.now.held f h
+    (λ events o.
     c.in_ok-take_payload.ensures.does _ (record { observed = o; same = refl }))
 
 pub returns-clause-gapless : goal.returns-clause-gapless
@@ -25,18 +28,26 @@ returns-clause-gapless g c payloads f h t =
     let A = setting g.T.Listener.faulted c.args.pool.now.blocks in
     let n = c.args.number in
     let octets = c.args.octets.now in
-    by_state (λ f. IsGapless payloads f → IsGapless (payloads ++ (payload c.args.self.now.id n octets) ∷ []) (payload_came A f (payload f.id n octets))) _ c.args.self.now c.args.pool.now.held f h (λ events o u.
-    came_true A payloads (state c.args.self.now c.args.pool.now.held events) (payload c.args.self.now.id n octets) (omega arith) u) t
+    by_state (λ f. IsGapless payloads f → IsGapless
+    (payloads ++ (payload c.args.self.now.id n octets) ∷ [])
+    (payload_came A f (payload f.id n octets))) _ c.args.self.now c.args.pool.now.held f h
+    (λ events o u.
+    came_true A payloads (state c.args.self.now c.args.pool.now.held events)
+    (payload c.args.self.now.id n octets) (omega arith) u) t
 
 pub returns-clause-room : goal.returns-clause-room
 returns-clause-room g c f h =
     let A = setting g.T.Listener.faulted c.args.pool.now.blocks in
     let p = payload c.args.self.now.id c.args.number c.args.octets.now in
-    by_state (λ f. blocks_of c.take_payload.new.pool.held ≤ c.take_payload.new.pool.blocks) _ c.args.self.now c.args.pool.now.held f h (λ events o.
+    by_state (λ f. blocks_of c.take_payload.new.pool.held ≤ c.take_payload.new.pool.blocks) _
+    c.args.self.now c.args.pool.now.held f h (λ events o.
     let S = state c.args.self.now c.args.pool.now.held events in
     let n = c.in_ok-take_payload.ensures.does S (record { observed = o; same = refl }) in
-    let room : blocks_of (payload_came A S p).held ≤ c.args.pool.now.blocks = room_after A S p refl c.requires.room in
-    let new : blocks_of c.take_payload.new.pool.held ≤ c.args.pool.now.blocks = subst (λ (ps : List Payload). blocks_of ps ≤ c.args.pool.now.blocks) (sym (held_of _ _ _ _ n)) room in
+    let room : blocks_of (payload_came A S p).held ≤ c.args.pool.now.blocks =
+    room_after A S p refl c.requires.room in
+    let new : blocks_of c.take_payload.new.pool.held ≤ c.args.pool.now.blocks =
+    subst (λ (ps : List Payload). blocks_of ps ≤ c.args.pool.now.blocks)
+    (sym (held_of _ _ _ _ n)) room in
     omega (arith, new, c.take_payload.ensures.blocks))
 
 pub returns-clause-settled : goal.returns-clause-settled
@@ -44,13 +55,21 @@ returns-clause-settled g c f h =
     let A = setting g.T.Listener.faulted c.args.pool.now.blocks in
     let p = payload c.args.self.now.id c.args.number c.args.octets.now in
     let n = c.in_ok-take_payload.ensures.does f h in
-    settled_state _ _ _ _ n (came_settled A f p (settled_flow _ _ _ f h c.requires.settled) (next_of _ _ _ _ n (omega arith)))
+    settled_state _ _ _ _ n (came_settled A f p (settled_flow _ _ _ f h c.requires.settled)
+    (next_of _ _ _ _ n (omega arith)))
 
 pub returns-clause-beside : goal.returns-clause-beside
 unfolding step
 returns-clause-beside g c f h =
     let A = setting g.T.Listener.faulted c.args.pool.now.blocks in
-    let n : IsState (g.T.Listener.observed c.take_payload.new.to) c.take_payload.new.self c.take_payload.new.pool.held (payload_came A f (payload f.id c.args.number c.args.octets.now)) =
-    by_state (λ f. IsState (g.T.Listener.observed c.take_payload.new.to) c.take_payload.new.self c.take_payload.new.pool.held (payload_came A f (payload f.id c.args.number c.args.octets.now))) _ c.args.self.now c.args.pool.now.held f h (λ events o.
+    let n : IsState (g.T.Listener.observed c.take_payload.new.to) c.take_payload.new.self
+    c.take_payload.new.pool.held (payload_came A f
+    (payload f.id c.args.number c.args.octets.now)) =
+    by_state (λ f. IsState (g.T.Listener.observed c.take_payload.new.to) c.take_payload.new.self
+    c.take_payload.new.pool.held (payload_came A f
+    (payload f.id c.args.number c.args.octets.now))) _ c.args.self.now c.args.pool.now.held f h
+    (λ events o.
     c.in_ok-take_payload.ensures.does _ (record { observed = o; same = refl })) in
-    others_of _ _ c.args.self.now c.take_payload.new.self c.args.pool.now.held c.take_payload.new.pool.held f _ h n (step_others A f (Octets c.args.number c.args.octets.now))
+    others_of _ _ c.args.self.now c.take_payload.new.self c.args.pool.now.held
+    c.take_payload.new.pool.held f _ h n
+    (step_others A f (Octets c.args.number c.args.octets.now))

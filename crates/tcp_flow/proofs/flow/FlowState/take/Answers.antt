@@ -15,7 +15,8 @@ returns-then-is_empty-clause-does g c held f h =
     let q = payload c.args.self.now.id c.left-number.result.0 c.left-number.result.1.now in
     let G = IsState (g.T.Listener.observed c.args.to.now) c.args.self.now held in
     by_state (λ f. G (taken F f p)) _ c.args.self.now held f h (λ events o.
-    subst G (sym (taken_none F (state c.args.self.now held events) p q c.left-number.ensures.left (sym c.is_empty.ensures ∙ c.if-is_empty.true)))
+    subst G (sym (taken_none F (state c.args.self.now held events) p q c.left-number.ensures.left
+    (sym c.is_empty.ensures ∙ c.if-is_empty.true)))
     (record { observed = o; same = refl }))
 
 pub returns-then-is_live-clause-does : goal.returns-then-is_live-clause-does
@@ -23,10 +24,13 @@ returns-then-is_live-clause-does g c held f h =
     let F = g.T.Listener.faulted in
     let p = payload c.args.self.now.id c.args.number c.args.octets.now in
     let q = payload c.args.self.now.id c.left-number.result.0 c.left-number.result.1.now in
-    by_state (λ f. OnOk c.deliver.result (IsState (g.T.Listener.observed c.deliver.new.to) c.deliver.new.self held (taken F f p))) _ c.args.self.now held f h (λ events o.
+    by_state (λ f. OnOk c.deliver.result (IsState (g.T.Listener.observed c.deliver.new.to)
+    c.deliver.new.self held (taken F f p))) _ c.args.self.now held f h (λ events o.
     on_ok_equal c.deliver.result _ _ held _ _
-    (sym (taken_live F (state c.args.self.now held events) p q c.left-number.ensures.left (sym c.is_empty.ensures ∙ c.if-is_empty.false) (sym c.is_live.ensures ∙ c.if-is_live.true)))
-    (c.deliver.ensures.does held (state c.args.self.now held events) (record { observed = o; same = refl })))
+    (sym (taken_live F (state c.args.self.now held events) p q c.left-number.ensures.left
+    (sym c.is_empty.ensures ∙ c.if-is_empty.false) (sym c.is_live.ensures ∙ c.if-is_live.true)))
+    (c.deliver.ensures.does held (state c.args.self.now held events)
+    (record { observed = o; same = refl })))
 
 pub returns-in-Some-clause-does : goal.returns-in-Some-clause-does
 unfolding begun with_event
@@ -34,11 +38,20 @@ returns-in-Some-clause-does g c held f h =
     let F = g.T.Listener.faulted in
     let p = payload c.args.self.now.id c.args.number c.args.octets.now in
     let q = payload c.args.self.now.id c.left-number.result.0 c.left-number.result.1.now in
-    by_state (λ f. OnOk c.deliver-in-Some.result (IsState (g.T.Listener.observed c.deliver-in-Some.new.to) c.deliver-in-Some.new.self held (taken F f p))) _ c.args.self.now held f h (λ events o.
-    let e = taken_dead F (state c.args.self.now held events) p q c.left-number.ensures.left (sym c.is_empty.ensures ∙ c.if-is_empty.false) (sym c.is_live.ensures ∙ c.if-is_live.false) in
+    by_state (λ f. OnOk c.deliver-in-Some.result
+    (IsState (g.T.Listener.observed c.deliver-in-Some.new.to) c.deliver-in-Some.new.self held
+    (taken F f p))) _ c.args.self.now held f h (λ events o.
+    let e = taken_dead F (state c.args.self.now held events) p q c.left-number.ensures.left
+    (sym c.is_empty.ensures ∙ c.if-is_empty.false) (sym c.is_live.ensures ∙ c.if-is_live.false)
+    in
     on_ok_equal c.deliver-in-Some.result _ _ held _ _
-    (sym (e ∙ rw (sym c.header_at.ensures.at ∙ c.in-Some.is, whole_tail c.left-number.result.1.now c.in-Some.at, c.onward-number.ensures) refl))
-    (c.deliver-in-Some.ensures.does held _ (record { observed = c.in_ok-begins.ensures.does events o; same = refl })))
+    (sym (e ∙ rw (
+      sym c.header_at.ensures.at ∙ c.in-Some.is,
+      whole_tail c.left-number.result.1.now c.in-Some.at,
+      c.onward-number.ensures,
+    ) refl))
+    (c.deliver-in-Some.ensures.does held _
+    (record { observed = c.in_ok-begins.ensures.does events o; same = refl })))
 
 pub returns-clause-does : goal.returns-clause-does
 unfolding begun
@@ -48,6 +61,8 @@ returns-clause-does g c held f h =
     let q = payload c.args.self.now.id c.left-number.result.0 c.left-number.result.1.now in
     let G = IsState (g.T.Listener.observed c.args.to.now) c.args.self.now held in
     by_state (λ f. G (taken F f p)) _ c.args.self.now held f h (λ events o.
-    let e = taken_dead F (state c.args.self.now held events) p q c.left-number.ensures.left (sym c.is_empty.ensures ∙ c.if-is_empty.false) (sym c.is_live.ensures ∙ c.if-is_live.false) in
+    let e = taken_dead F (state c.args.self.now held events) p q c.left-number.ensures.left
+    (sym c.is_empty.ensures ∙ c.if-is_empty.false) (sym c.is_live.ensures ∙ c.if-is_live.false)
+    in
     subst G (sym (e ∙ rw (sym c.header_at.ensures.at ∙ c.in_default.is) refl))
     (record { observed = o; same = refl }))

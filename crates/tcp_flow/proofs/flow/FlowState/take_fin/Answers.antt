@@ -15,10 +15,15 @@ returns-then-age-eq0-clause-does g c f h =
     let s = c.args.self.now in
     let n = c.args.number in
     let held = c.args.pool.now.held in
-    by_state (λ f. OnOk c.go_on.result (IsState (g.T.Listener.observed c.go_on.new.to) c.go_on.new.self c.go_on.new.pool.held (fin_came F f n))) _ s held f h (λ events o.
+    by_state (λ f. OnOk c.go_on.result (IsState (g.T.Listener.observed c.go_on.new.to)
+    c.go_on.new.self c.go_on.new.pool.held (fin_came F f n))) _ s held f h (λ events o.
     let S = state s held events in
     on_ok_equal c.go_on.result _ _ _ _ _
-    (sym (cond-true (is_some s.live && (nat_eq (age s.next n) 0)) (gone_on F (record S { fin = Some n })) S (and_from (is_some s.live) (nat_eq (age s.next n) 0) (sym c.is_live.ensures ∙ c.if-is_live.true) (eq-eqb (age s.next n) 0 (sym c.age.ensures ∙ c.if-age-eq0.true)))))
+    (sym (cond-true (is_some s.live && (nat_eq (age s.next n) 0))
+    (gone_on F (record S { fin = Some n })) S
+    (and_from (is_some s.live) (nat_eq (age s.next n) 0)
+    (sym c.is_live.ensures ∙ c.if-is_live.true)
+    (eq-eqb (age s.next n) 0 (sym c.age.ensures ∙ c.if-age-eq0.true)))))
     (c.go_on.ensures.does _ (with_fin _ s held S (Some n) (record { observed = o; same = refl }))))
 
 pub returns-clause-does : goal.returns-clause-does
@@ -30,11 +35,15 @@ returns-clause-does g c f h =
     let held = c.args.pool.now.held in
     let e : (is_some s.live && (nat_eq (age s.next n) 0)) ≡ false =
     elim c.else-is_live.branch [
-      | else-is_live-via-then-is_live+else-age-eq0 w ↦ and_right (is_some s.live) (nat_eq (age s.next n) 0) (ne_eqb (age s.next n) 0 (λ z. w.if-age-eq0.false (w.age.ensures ∙ z)))
-      | else-is_live-via-else-is_live w ↦ and_left (is_some s.live) (nat_eq (age s.next n) 0) (sym c.is_live.ensures ∙ w.if-is_live.false)
+      | else-is_live-via-then-is_live+else-age-eq0 w ↦ and_right (is_some s.live)
+          (nat_eq (age s.next n) 0) (ne_eqb (age s.next n) 0
+          (λ z. w.if-age-eq0.false (w.age.ensures ∙ z)))
+      | else-is_live-via-else-is_live w ↦ and_left (is_some s.live) (nat_eq (age s.next n) 0)
+          (sym c.is_live.ensures ∙ w.if-is_live.false)
     ] in
     let G = IsState (g.T.Listener.observed c.args.to.now) s held in
     by_state (λ f. G (fin_came F f n)) _ s held f h (λ events o.
     let S = state s held events in
-    subst G (sym (cond-false (is_some s.live && (nat_eq (age s.next n) 0)) (gone_on F (record S { fin = Some n })) S e))
+    subst G (sym (cond-false (is_some s.live && (nat_eq (age s.next n) 0))
+    (gone_on F (record S { fin = Some n })) S e))
     (record { observed = o; same = refl }))

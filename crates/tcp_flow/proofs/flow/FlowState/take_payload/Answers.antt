@@ -19,7 +19,9 @@ returns-then-is_empty-clause-does g c f h =
     let q = payload s.id c.left-number.result.0 c.left-number.result.1.now in
     let G = IsState (g.T.Listener.observed c.args.to.now) s held in
     by_state (λ f. G (payload_came A f p)) _ s held f h (λ events o.
-    subst G (sym (came_nothing A (state s held events) p q c.left-number.ensures.left (or_left (nat_eq (length q.octets) 0) (has_as_much s.id q.number (length q.octets) held) (sym c.is_empty.ensures ∙ c.if-is_empty.true))))
+    subst G (sym (came_nothing A (state s held events) p q c.left-number.ensures.left
+    (or_left (nat_eq (length q.octets) 0) (has_as_much s.id q.number (length q.octets) held)
+    (sym c.is_empty.ensures ∙ c.if-is_empty.true))))
     (record { observed = o; same = refl }))
 
 pub returns-then-has_as_much-clause-does : goal.returns-then-has_as_much-clause-does
@@ -31,7 +33,9 @@ returns-then-has_as_much-clause-does g c f h =
     let q = payload s.id c.left-number.result.0 c.left-number.result.1.now in
     let G = IsState (g.T.Listener.observed c.args.to.now) s held in
     by_state (λ f. G (payload_came A f p)) _ s held f h (λ events o.
-    subst G (sym (came_nothing A (state s held events) p q c.left-number.ensures.left (or_right (nat_eq (length q.octets) 0) (has_as_much s.id q.number (length q.octets) held) (sym c.has_as_much.ensures ∙ c.if-has_as_much.true))))
+    subst G (sym (came_nothing A (state s held events) p q c.left-number.ensures.left
+    (or_right (nat_eq (length q.octets) 0) (has_as_much s.id q.number (length q.octets) held)
+    (sym c.has_as_much.ensures ∙ c.if-has_as_much.true))))
     (record { observed = o; same = refl }))
 
 pub returns-clause-does : goal.returns-clause-does
@@ -44,14 +48,26 @@ returns-clause-does g c f h =
     let p = payload s.id c.args.number c.args.octets.now in
     let q = payload s.id c.left-number.result.0 c.left-number.result.1.now in
     let r = c.keep_within_bounds-2.result in
-    by_state (λ f. OnOk r (IsState (g.T.Listener.observed c.keep_within_bounds-2.new.to) c.keep_within_bounds-2.new.self c.keep_within_bounds-2.new.pool.held (payload_came A f p))) _ s held f h (λ events o.
+    by_state (λ f. OnOk r (IsState (g.T.Listener.observed c.keep_within_bounds-2.new.to)
+    c.keep_within_bounds-2.new.self c.keep_within_bounds-2.new.pool.held (payload_came A f p)))
+    _ s held f h (λ events o.
     let S = state s held events in
-    let H : IsState _ s c.hold.new.self.held (holding S q) = record { observed = o; same = ap (λ (ps : List Payload). state s ps events) c.hold.ensures.held } in
+    let H : IsState _ s c.hold.new.self.held (holding S q) =
+    record {
+      observed = o;
+      same = ap (λ (ps : List Payload). state s ps events)
+          c.hold.ensures.held;
+    } in
     let n = gone_on F (holding S q) in
-    let e = ap (λ (k : ℕ). within_bounds (setting F k) (c.len-count-2.result + 1) n) (c.go_on-2.ensures.blocks ∙ c.hold.ensures.blocks)
+    let e = ap (λ (k : ℕ). within_bounds (setting F k) (c.len-count-2.result + 1) n)
+    (c.go_on-2.ensures.blocks ∙ c.hold.ensures.blocks)
     ∙ ap (λ (k : ℕ). within_bounds A (k + 1) n) c.len-count-2.ensures.held
-    ∙ sym (came_held A S p q c.left-number.ensures.left (or_from (nat_eq (length q.octets) 0) (has_as_much s.id q.number (length q.octets) held) (sym c.is_empty.ensures ∙ c.if-is_empty.false) (sym c.has_as_much.ensures ∙ c.if-has_as_much.false))) in
-    on_ok_equal r _ _ _ _ _ e (c.keep_within_bounds-2.ensures.does n (c.in_ok-go_on-2.ensures.does (holding S q) H)))
+    ∙ sym (came_held A S p q c.left-number.ensures.left
+    (or_from (nat_eq (length q.octets) 0) (has_as_much s.id q.number (length q.octets) held)
+    (sym c.is_empty.ensures ∙ c.if-is_empty.false)
+    (sym c.has_as_much.ensures ∙ c.if-has_as_much.false))) in
+    on_ok_equal r _ _ _ _ _ e (c.keep_within_bounds-2.ensures.does n
+    (c.in_ok-go_on-2.ensures.does (holding S q) H)))
 
 pub returns-then-is_due-clause-does : goal.returns-then-is_due-clause-does
 returns-then-is_due-clause-does g c f h =
@@ -62,16 +78,26 @@ returns-then-is_due-clause-does g c f h =
     let p = payload s.id c.args.number c.args.octets.now in
     let q = payload s.id c.left-number.result.0 c.left-number.result.1.now in
     let r = c.keep_within_bounds.result in
-    let now : (is_some s.live && (is_to_come s.next q.number)) ≡ false = not-true (is_some s.live && (is_to_come s.next q.number)) (sym c.is_due.ensures ∙ c.if-is_due.true) in
-    by_state (λ f. OnOk r (IsState (g.T.Listener.observed c.keep_within_bounds.new.to) c.keep_within_bounds.new.self c.keep_within_bounds.new.pool.held (payload_came A f p))) _ s held f h (λ events o.
+    let now : (is_some s.live && (is_to_come s.next q.number)) ≡ false =
+    not-true (is_some s.live && (is_to_come s.next q.number))
+    (sym c.is_due.ensures ∙ c.if-is_due.true) in
+    by_state (λ f. OnOk r (IsState (g.T.Listener.observed c.keep_within_bounds.new.to)
+    c.keep_within_bounds.new.self c.keep_within_bounds.new.pool.held (payload_came A f p))) _ s
+    held f h (λ events o.
     let S = state s held events in
     let start : IsState _ s held S = record { observed = o; same = refl } in
     let n = gone_on F (taken F S q) in
-    let direct = came_direct A S p q c.left-number.ensures.left refl (omega arith) (settled_flow _ s held S start c.requires.settled) (sym c.is_empty.ensures ∙ c.if-is_empty.false)
-    (λ l. due_number s.next (is_some s.live) p q (omega arith) (omega arith) l c.left-number.ensures.left
-    (elim (and_cases (is_some s.live) (is_to_come s.next q.number) now) [ inl x ↦ absurd (both_ways (is_some s.live) x l) | inr x ↦ x ]))
+    let direct = came_direct A S p q c.left-number.ensures.left refl (omega arith)
+    (settled_flow _ s held S start c.requires.settled)
+    (sym c.is_empty.ensures ∙ c.if-is_empty.false)
+    (λ l. due_number s.next (is_some s.live) p q (omega arith) (omega arith) l
+    c.left-number.ensures.left
+    (elim (and_cases (is_some s.live) (is_to_come s.next q.number) now)
+    [ inl x ↦ absurd (both_ways (is_some s.live) x l) | inr x ↦ x ]))
     now in
-    let e = ap (λ (k : ℕ). within_bounds (setting F k) (c.len-count.result + 1) n) c.go_on.ensures.blocks
+    let e = ap (λ (k : ℕ). within_bounds (setting F k) (c.len-count.result + 1) n)
+    c.go_on.ensures.blocks
     ∙ ap (λ (k : ℕ). within_bounds A (k + 1) n) c.len-count.ensures.held
     ∙ sym direct in
-    on_ok_equal r _ _ _ _ _ e (c.keep_within_bounds.ensures.does n (c.in_ok-go_on.ensures.does (taken F S q) (c.in_ok-take.ensures.does held S start))))
+    on_ok_equal r _ _ _ _ _ e (c.keep_within_bounds.ensures.does n
+    (c.in_ok-go_on.ensures.does (taken F S q) (c.in_ok-take.ensures.does held S start))))

@@ -7,9 +7,15 @@ use Rattle.tcp_flow.proofs.flow.FlowState.without_stale_fin.Goals as goal
 pub returns-then-not-is_live-clause-does : goal.returns-then-not-is_live-clause-does
 unfolding without_stale_fin
 returns-then-not-is_live-clause-does c =
-    λ held events. sym (cond-false (is_some c.args.self.now.live) (state c.args.self.now held events) (record (state c.args.self.now held events) { fin = None }) (sym c.is_live.ensures ∙ c.if-not-is_live.true))
+    λ held events. sym (cond-false (is_some c.args.self.now.live)
+    (state c.args.self.now held events) (record (state c.args.self.now held events) {
+      fin =
+          None;
+    }) (sym c.is_live.ensures ∙ c.if-not-is_live.true))
 
 pub returns-else-not-is_live-clause-does : goal.returns-else-not-is_live-clause-does
 unfolding without_stale_fin
 returns-else-not-is_live-clause-does c =
-    λ held events. sym (cond-true (is_some c.args.self.now.live) (state c.args.self.now held events) (record (state c.args.self.now held events) { fin = None }) (sym c.is_live.ensures ∙ c.if-not-is_live.false))
+    λ held events. sym (cond-true (is_some c.args.self.now.live) (state c.args.self.now held events)
+    (record (state c.args.self.now held events) { fin = None })
+    (sym c.is_live.ensures ∙ c.if-not-is_live.false))

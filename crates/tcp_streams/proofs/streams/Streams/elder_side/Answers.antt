@@ -10,32 +10,62 @@ pub returns-then-id-flow_id : goal.returns-then-id-flow_id
 returns-then-id-flow_id g c =
     let xs = c.args.self.now.live.items in
     let i = c.loop-index.index in
-    let l : i < length xs = omega (arith, c.loop-index-test.true, c.len.ensures, c.args.self.now.live.ok.0) in
-    let at : get_or xs i 0 ≡ c.index-id.result.now = get_or_default xs i 0 c.index-id.result.now l ∙ sym c.index-id.ensures in
-    sym (c.loop-index.invariant.1 ∙ lesser_here c.args.room xs i l (eq-eqb (get_or xs i 0) (flow_id c.args.room FromLesser) (at ∙ c.if-id-flow_id.true ∙ c.flow_id.ensures.id)))
+    let l : i < length xs = omega (
+      arith,
+      c.loop-index-test.true,
+      c.len.ensures,
+      c.args.self.now.live.ok.0,
+    ) in
+    let at : get_or xs i 0 ≡ c.index-id.result.now =
+    get_or_default xs i 0 c.index-id.result.now l ∙ sym c.index-id.ensures in
+    sym (c.loop-index.invariant.1 ∙ lesser_here c.args.room xs i l
+    (eq-eqb (get_or xs i 0) (flow_id c.args.room FromLesser)
+    (at ∙ c.if-id-flow_id.true ∙ c.flow_id.ensures.id)))
 
 pub returns-then-id-flow_id-2 : goal.returns-then-id-flow_id-2
 returns-then-id-flow_id-2 g c =
     let xs = c.args.self.now.live.items in
     let i = c.loop-index.index in
-    let l : i < length xs = omega (arith, c.loop-index-test.true, c.len.ensures, c.args.self.now.live.ok.0) in
-    let at : get_or xs i 0 ≡ c.index-id.result.now = get_or_default xs i 0 c.index-id.result.now l ∙ sym c.index-id.ensures in
+    let l : i < length xs = omega (
+      arith,
+      c.loop-index-test.true,
+      c.len.ensures,
+      c.args.self.now.live.ok.0,
+    ) in
+    let at : get_or xs i 0 ≡ c.index-id.result.now =
+    get_or_default xs i 0 c.index-id.result.now l ∙ sym c.index-id.ensures in
     sym (c.loop-index.invariant.1 ∙ greater_here c.args.room xs i l
-    (ne_eqb (get_or xs i 0) (flow_id c.args.room FromLesser) (λ o. c.if-id-flow_id.false (sym at ∙ o ∙ sym c.flow_id.ensures.id)))
-    (eq-eqb (get_or xs i 0) (flow_id c.args.room FromGreater) (at ∙ c.if-id-flow_id-2.true ∙ c.flow_id-in-loop-index.ensures.id)))
+    (ne_eqb (get_or xs i 0) (flow_id c.args.room FromLesser)
+    (λ o. c.if-id-flow_id.false (sym at ∙ o ∙ sym c.flow_id.ensures.id)))
+    (eq-eqb (get_or xs i 0) (flow_id c.args.room FromGreater)
+    (at ∙ c.if-id-flow_id-2.true ∙ c.flow_id-in-loop-index.ensures.id)))
 
 pub loop-index-preserved : goal.loop-index-preserved
 loop-index-preserved g c =
     let xs = c.args.self.now.live.items in
     let i = c.loop-index.index in
-    let l : i < length xs = omega (arith, c.loop-index-test.true, c.len.ensures, c.args.self.now.live.ok.0) in
-    let at : get_or xs i 0 ≡ c.index-id.result.now = get_or_default xs i 0 c.index-id.result.now l ∙ sym c.index-id.ensures in (
+    let l : i < length xs = omega (
+      arith,
+      c.loop-index-test.true,
+      c.len.ensures,
+      c.args.self.now.live.ok.0,
+    ) in
+    let at : get_or xs i 0 ≡ c.index-id.result.now =
+    get_or_default xs i 0 c.index-id.result.now l ∙ sym c.index-id.ensures in (
       omega (arith, l),
       c.loop-index.invariant.1 ∙ elder_later c.args.room xs i l
-          (ne_eqb (get_or xs i 0) (flow_id c.args.room FromLesser) (λ o. c.if-id-flow_id.false (sym at ∙ o ∙ sym c.flow_id.ensures.id)))
-          (ne_eqb (get_or xs i 0) (flow_id c.args.room FromGreater) (λ o. c.if-id-flow_id-2.false (sym at ∙ o ∙ sym c.flow_id-in-loop-index.ensures.id))),
+          (ne_eqb (get_or xs i 0) (flow_id c.args.room FromLesser)
+          (λ o. c.if-id-flow_id.false (sym at ∙ o ∙ sym c.flow_id.ensures.id)))
+          (ne_eqb (get_or xs i 0) (flow_id c.args.room FromGreater)
+          (λ o. c.if-id-flow_id-2.false (sym at ∙ o ∙ sym c.flow_id-in-loop-index.ensures.id))),
     )
 
 pub returns : goal.returns
 returns g c =
-    sym (c.loop-index.invariant.1 ∙ elder_end c.args.room c.args.self.now.live.items c.loop-index.index (omega (arith, c.loop-index-test.false, c.len.ensures, c.args.self.now.live.ok.0)))
+    sym (c.loop-index.invariant.1 ∙ elder_end c.args.room c.args.self.now.live.items
+    c.loop-index.index (omega (
+      arith,
+      c.loop-index-test.false,
+      c.len.ensures,
+      c.args.self.now.live.ok.0,
+    )))

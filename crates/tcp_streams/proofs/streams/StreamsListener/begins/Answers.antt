@@ -7,10 +7,12 @@ use Rattle.tcp_streams.proofs.Told.{told}
 use Rattle.tcp_streams.proofs.streams.StreamsListener.begins.Goals as goal
 
 pub invariant_of-self-clause-ids : goal.invariant_of-self-clause-ids
-invariant_of-self-clause-ids g c = subst AreIds (sym c.begin.ensures.items) (begun_ids c.args.flow c.args.self.now.live.items c.args.self.now.ids)
+invariant_of-self-clause-ids g c = subst AreIds (sym c.begin.ensures.items)
+    (begun_ids c.args.flow c.args.self.now.live.items c.args.self.now.ids)
 
 pub returns-clause-does : goal.returns-clause-does
 unfolding behind
 returns-clause-does g c events o =
     told c.begins.result _ _ (c.begins.ensures.does events o.0)
-    (c.begin.ensures.items ∙ ap (begun c.args.flow) o.1 ∙ sym (lives_more [] events (Begins c.args.flow c.args.number)))
+    (c.begin.ensures.items ∙ ap (begun c.args.flow) o.1
+    ∙ sym (lives_more [] events (Begins c.args.flow c.args.number)))

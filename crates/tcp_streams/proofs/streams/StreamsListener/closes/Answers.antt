@@ -7,10 +7,12 @@ use Rattle.tcp_streams.proofs.Told.{told}
 use Rattle.tcp_streams.proofs.streams.StreamsListener.closes.Goals as goal
 
 pub invariant_of-self-clause-ids : goal.invariant_of-self-clause-ids
-invariant_of-self-clause-ids g c = subst AreIds (sym c.take_away.ensures.items) (without_ids c.args.flow c.args.self.now.live.items c.args.self.now.ids)
+invariant_of-self-clause-ids g c = subst AreIds (sym c.take_away.ensures.items)
+    (without_ids c.args.flow c.args.self.now.live.items c.args.self.now.ids)
 
 pub returns-clause-does : goal.returns-clause-does
 unfolding behind
 returns-clause-does g c events o =
     told c.closes.result _ _ (c.closes.ensures.does events o.0)
-    (c.take_away.ensures.items ∙ ap (without c.args.flow) o.1 ∙ sym (lives_more [] events (Closes c.args.flow c.args.cause)))
+    (c.take_away.ensures.items ∙ ap (without c.args.flow) o.1
+    ∙ sym (lives_more [] events (Closes c.args.flow c.args.cause)))

@@ -7,4 +7,5 @@ use Rattle.tcp_streams.proofs.streams.StreamsListener.opens.Goals as goal
 
 pub returns-clause-does : goal.returns-clause-does
 unfolding behind
-returns-clause-does g c events o = told c.opens.result _ _ (c.opens.ensures.does events o.0) (o.1 ∙ sym (lives_more [] events (Opens c.args.flow c.args.endpoints)))
+returns-clause-does g c events o = told c.opens.result _ _ (c.opens.ensures.does events o.0)
+    (o.1 ∙ sym (lives_more [] events (Opens c.args.flow c.args.endpoints)))

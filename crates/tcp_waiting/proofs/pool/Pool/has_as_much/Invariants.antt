@@ -4,7 +4,11 @@ use Rattle.tcp_waiting.specs.Layout.{held_in}
 use Rattle.tcp_waiting.proofs.pool.Pool.has_as_much.Given as goal
 
 abbrev pub invariant-loop-index : goal.invariant-loop-index
-invariant-loop-index l = (l.index ≤ length l.self-inside.waiting.items) × (has_as_much l.flow l.number l.count (drop l.index (held_in l.self-inside.octets.items l.self-inside.waiting.items)) ≡ has_as_much l.flow l.number l.count (held_in l.self-inside.octets.items l.self-inside.waiting.items))
+invariant-loop-index l = (l.index ≤ length l.self-inside.waiting.items)
+    × (has_as_much l.flow l.number l.count
+    (drop l.index (held_in l.self-inside.octets.items l.self-inside.waiting.items))
+    ≡ has_as_much l.flow l.number l.count (held_in l.self-inside.octets.items
+    l.self-inside.waiting.items))
 
 abbrev pub decreases-loop-index : goal.decreases-loop-index
 decreases-loop-index l = length l.self-inside.waiting.items - l.index

@@ -4,9 +4,20 @@ use Rattle.tcp_waiting.proofs.Held.{length_held, get_held}
 use Rattle.tcp_waiting.proofs.pool.Pool.number.Goals as goal
 
 pub index-requires : goal.index-requires
-index-requires c = omega (arith, length_held c.self.inside.octets.items c.self.inside.waiting.items, rw (← c.self.view_is) at c.requires)
+index-requires c = omega (
+  arith,
+  length_held c.self.inside.octets.items c.self.inside.waiting.items,
+  rw (← c.self.view_is) at c.requires,
+)
 
 pub returns : goal.returns
 returns c =
-    let h : c.args.index < length c.self.inside.waiting.items = omega (arith, length_held c.self.inside.octets.items c.self.inside.waiting.items, rw (← c.self.view_is) at c.requires) in
-    rw (← c.self.view_is) (sym (ap (λ (p : Payload). p.number) (get_held c.self.inside.octets.items c.self.inside.waiting.items c.args.index c.index.result.now (payload 0 0 []) h c.index.ensures)))
+    let h : c.args.index < length c.self.inside.waiting.items =
+    omega (
+      arith,
+      length_held c.self.inside.octets.items c.self.inside.waiting.items,
+      rw (← c.self.view_is) at c.requires,
+    ) in
+    rw (← c.self.view_is) (sym (ap (λ (p : Payload). p.number)
+    (get_held c.self.inside.octets.items c.self.inside.waiting.items c.args.index
+    c.index.result.now (payload 0 0 []) h c.index.ensures)))
