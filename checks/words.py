@@ -1,4 +1,5 @@
-"""The words and the definitions of the code: no word that was given up comes back, and nothing stands there unused.
+"""The words and the definitions of the code: no word that was given up comes back, nothing stands there unused, and no line of
+definitions, clauses and proofs goes beyond 100 columns, those apart that import names.
 
 Words are compared in code, with comments and strings left out, and in the names of files. Used is what another function,
 definition, clause or lemma names: a function of src/, a definition of specs/ and a lemma of proofs/. Laws, which are functions
@@ -38,6 +39,9 @@ GIVEN_UP = frozenset(
     way_by way_view ways whom whose_after whose_in whose_named whose_octet
 """.split()
 )
+
+# How many columns a line of a definition, a clause or a proof may have.
+WIDEST = 100
 
 # What makes up a program by itself, or is what a worked row says.
 ROOTS = {"main"}
@@ -120,6 +124,17 @@ def unused(files: dict[Path, str]) -> list[str]:
     return found
 
 
+def wide(files: dict[Path, str]) -> list[str]:
+    """The lines of definitions, clauses and proofs that are too long to be read, without the texts that they quote."""
+    found = []
+    for file, text in files.items():
+        clauses = re.compile("[≡≤→∷λ×↔⊎]" if file.suffix == ".rt" else "")
+        for at, line in enumerate(text.split("\n"), 1):
+            if len(line) > WIDEST and clauses.search(line) and not re.match(r"\s*(?:pub |ghost )*use ", line):
+                found.append(f"{file.relative_to(TOP)}:{at}: {len(line)} columns")
+    return found
+
+
 def main() -> int:
     files = {
         file: code(file)
@@ -127,7 +142,8 @@ def main() -> int:
         for file in sorted(TOP.glob(f"crates/*/{part}/**/*"))
         if file.suffix in (".rt", ".antt")
     }
-    faults = [fault for file, text in files.items() for fault in given_up(file, text)] + unused(files)
+    faults = [fault for file, text in files.items() for fault in given_up(file, text)]
+    faults += unused(files) + wide(files)
     for fault in faults:
         print(fault)
     print(f"words: {len(files)} files, {len(faults)} faults")

@@ -73,6 +73,7 @@ impl Catalogue {
     pub fn laws(&self)
         ensures { IsTable self.now }
     {
+        // What holds of every list of types is known of this one once it is read.
         let _types = &self.types;
     }
 

@@ -69,6 +69,7 @@ impl Draft {
         ensures scope { IsScope self.now }
         ensures table { IsTable self.now.table }
     {
+        // What holds of every map of names is known of this one once it is read.
         let _names = &self.names;
         self.catalogue.laws();
     }
@@ -107,6 +108,7 @@ impl Draft {
         requires { IsFormed self.old.table.types (length self.old.table.types) (node_view entry) }
         ensures { Gives (λ t. (self.new, t.0)) result (added at self.old (node_view entry)) }
     {
+        // What holds of every map of names is known of this one once it is read.
         let _names = &self.names;
         if self.catalogue.depth_above(&entry) > 24 {
             return Err(ParseStop::Refused(Refusal {
@@ -132,6 +134,7 @@ impl Draft {
         ensures sized { IfSome result (λ entry. IsSized entry.now) }
         ensures none { IfNone result (node_at self.now.table t.0 ≡ prim prims.Octet) }
     {
+        // What holds of every map of names is known of this one once it is read.
         let _names = &self.names;
         if self.catalogue.has(t) {
             Some(self.catalogue.entry(t))
@@ -144,6 +147,7 @@ impl Draft {
     pub(crate) fn types_declared(&self) -> u32
         ensures { result ≡ self.now.table.declared }
     {
+        // What holds of every map of names is known of this one once it is read.
         let _names = &self.names;
         self.catalogue.counts().types
     }
@@ -152,6 +156,7 @@ impl Draft {
     pub(crate) fn exceptions_declared(&self) -> u32
         ensures { result ≡ length self.now.table.exceptions }
     {
+        // What holds of every map of names is known of this one once it is read.
         let _names = &self.names;
         self.catalogue.counts().exceptions
     }
@@ -160,6 +165,7 @@ impl Draft {
     pub(crate) fn operations_declared(&self) -> u32
         ensures { result ≡ length self.now.table.operations }
     {
+        // What holds of every map of names is known of this one once it is read.
         let _names = &self.names;
         self.catalogue.counts().operations
     }
@@ -168,6 +174,7 @@ impl Draft {
     pub(crate) fn has_repository(&self, repository: &[u8]) -> bool
         ensures { result ≡ is_some (exception_in self.now.table repository.now) }
     {
+        // What holds of every map of names is known of this one once it is read.
         let _names = &self.names;
         self.catalogue.exception(repository).is_some()
     }
@@ -176,6 +183,7 @@ impl Draft {
     pub(crate) fn has_operation(&self, name: &[u8]) -> bool
         ensures { result ≡ is_some (operation_in self.now.table name.now) }
     {
+        // What holds of every map of names is known of this one once it is read.
         let _names = &self.names;
         self.catalogue.operation(name).is_some()
     }
@@ -247,6 +255,7 @@ impl Draft {
         ensures added { OnOk result (self.new ≡ with_call name.now request.0 (self.old, reply.0)) }
         ensures err { IfErr result (λ stop. stop ≡ ParseStop.Memory) }
     {
+        // What holds of every map of names is known of this one once it is read.
         let _names = &self.names;
         let Ok(()) = self.catalogue.add_operation(name, request, reply) else {
             return Err(ParseStop::Memory);

@@ -229,6 +229,7 @@ impl Types {
     pub(crate) fn laws(&self)
         ensures { AreTypes self.now }
     {
+        // What holds of every placed type is known of these once they are read.
         let _placed = &self.placed;
     }
 

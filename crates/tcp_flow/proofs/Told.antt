@@ -1,5 +1,5 @@
 -- What each event of a flow keeps of all that has happened, the flow keeps whatever comes.
-use Rattle.std.proofs.Common.{◌≡◌, ℕ, Bool, cond, nat_eq, ◌&&◌, ◌||◌, ◌+◌, List, [], ◌∷◌, ◌++◌, length, drop, Option, Some, None, is_some, ap}
+use Rattle.std.proofs.Common.{◌≡◌, ℕ, cond, nat_eq, ◌&&◌, ◌||◌, ◌+◌, List, [], ◌∷◌, ◌++◌, length, drop, Option, Some, None, is_some, ap}
 use Rattle.std.specs.List.{remove}
 use Rattle.tcp_flow.specs.declared.flow.CloseCause.{CloseCause}
 use Rattle.tcp_flow.specs.declared.flow.CloseCause.TheVariants.{Fault}

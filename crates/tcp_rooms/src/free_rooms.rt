@@ -46,6 +46,7 @@ impl FreeRooms {
         ensures free { self.new.free.items ≡ self.old.free.items ++ room ∷ [] }
         ensures most { self.new.most ≡ self.old.most }
     {
+        // It does not fail: there has been room for the most of them since they were made.
         let _kept = self.free.push(room);
     }
 }

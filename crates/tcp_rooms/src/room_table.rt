@@ -77,6 +77,7 @@ impl<K: Ord + Drop> RoomTable<K> {
         ensures rooms { self.new.rooms.items ≡ insert self.old.rooms.items place room }
         ensures most { self.new.most ≡ self.old.most }
     {
+        // Neither fails: there has been room for the most keys since the table was made.
         let _key = self.keys.insert(place, key);
         let _room = self.rooms.insert(place, room);
     }

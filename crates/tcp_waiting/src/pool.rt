@@ -211,6 +211,7 @@ impl Pool {
         let count = octets.len();
         self.used += blocks_for(count);
         count_more(&mut self.counts, flow);
+        // Neither fails: there has been room for the most octets and payloads since the pool was made.
         let _copied = self.octets.extend_from_slice(octets);
         let _noted = self.waiting.push(Waiting {
             flow,
