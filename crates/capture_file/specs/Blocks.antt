@@ -116,8 +116,7 @@ abbrev pub padded : ℕ → ℕ
 padded count = (count + 3) / 4 * 4
 
 -- the code and the length of an option: the options end with code 0, or where there is no room for
--- the value; code 9 of one
--- octet is the unit of times (`if_tsresol`)
+-- the value; code 9 of one octet is the unit of times (`if_tsresol`)
 unfoldable pub option_header : Block → Interface → List ℕ → Outcome
 option_header block interface octets =
     let code = two_at block.order 0 octets in
@@ -163,8 +162,7 @@ abbrev pub nanoseconds_of : ℕ → ℕ → ℕ
 nanoseconds_of units ticks = units * 1000000000 / ticks
 
 -- nanoseconds since 1970 of so many units; none from the year 10000 on (nor by a unit that no
--- second has, which no interface
--- can say)
+-- second has, which no interface can say)
 unfoldable pub time_of : ℕ → ℕ → Option ℕ
 time_of units ticks =
     if (ticks == 0) || nat_le (253402300800 * 1000000000) (nanoseconds_of units ticks)

@@ -53,8 +53,8 @@ octets_in c octets =
     slice_range (octets_around c octets) c.packet_range.start c.packet_range.end
 
 -- The answer to octets that were taken behind p, the first of those given: with the last of them
--- comes what the reading has
--- there, and with none before it. More octets were taken, a packet is complete, or a fault shows.
+-- comes what the reading has there, and with none before it. More octets were taken, a packet is
+-- complete, or a fault shows.
 abbrev pub Answers : Progress → List ℕ → List ℕ → Capture → List ℕ → Type 0
 Answers progress.More p taken c octets =
     (packets (p ++ taken) ≡ packets p) × (fault (p ++ taken) ≡ None)

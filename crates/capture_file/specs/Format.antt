@@ -1,6 +1,5 @@
 -- What comes behind each part of a capture, by the octets at the part's end, in a section that has
--- these interfaces
--- (meaning).
+-- these interfaces (meaning).
 use Rattle.std.specs.Prelude.{ℕ, List, [], ◌∷◌, ◌++◌, length}
 use Rattle.capture_file.specs.declared.part.Interface.{Interface}
 use Rattle.capture_file.specs.declared.part.Part.{Part}

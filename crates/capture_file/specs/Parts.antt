@@ -1,6 +1,6 @@
 -- The parts of a capture and their lengths (meaning). A part has at its front the octets of a
--- packet, at its end those of a
--- header, and between them octets that are passed over; most have but one of the three.
+-- packet, at its end those of a header, and between them octets that are passed over; most have but
+-- one of the three.
 use Rattle.std.specs.Prelude.{ℕ, ◌+◌, Bool, true, false}
 use Rattle.capture_file.specs.declared.part.Part.{Part}
 use Rattle.capture_file.specs.declared.part.Part.TheVariants as parts

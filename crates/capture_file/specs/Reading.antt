@@ -1,6 +1,5 @@
 -- What a capture has: its packets, and the fault that ends its reading (meaning). A capture is
--- parts, one behind another; each
--- says by its octets what comes next.
+-- parts, one behind another; each says by its octets what comes next.
 use Rattle.std.specs.Prelude.{ℕ, zero, suc, ◌+◌, nat_lt, List, [], ◌∷◌, length, take, drop, Option, Some, None, if◌then◌else◌}
 use Rattle.capture_file.specs.declared.fault.FaultKind.TheVariants.{Truncated}
 use Rattle.capture_file.specs.declared.fault.CaptureFault.{CaptureFault}
@@ -14,8 +13,7 @@ use Rattle.capture_file.specs.Parts.{front, passed, back, packet_offset, size, m
 use Rattle.capture_file.specs.Format.{next, interfaces_behind}
 
 -- a packet: its link type, its time, its octets, and how many octets the capture has up to and with
--- the last one of the
--- packet's record or block
+-- the last one of the packet's record or block
 pub record PacketRecord : Type 0 where
   pub place : ℕ
   pub head : Head
@@ -58,8 +56,7 @@ behind state packet place (Fails kind) rest =
     record { packets = []; ending = Faulted (record { kind = kind; place = place }) }
 
 -- The reading of octets, where this is due behind so many others. The first number bounds how many
--- parts are read; each has
--- an octet, so there are no more parts than octets.
+-- parts are read; each has an octet, so there are no more parts than octets.
 unfoldable pub reading_from : ℕ → ParserState → ℕ → List ℕ → Reading
 reading_from zero state at octets = record { packets = []; ending = Within state at octets }
 reading_from (suc most) state at octets =

@@ -15,8 +15,8 @@ abbrev pub most_captured : ℕ
 most_captured = 262144
 
 -- the magic says the order of the file's own numbers, and whether its times are in microseconds or
--- nanoseconds; a pcapng file
--- begins with the type of a section header block, which is the same in either order
+-- nanoseconds; a pcapng file begins with the type of a section header block, which is the same in
+-- either order
 unfoldable pub beginning : List ℕ → Outcome
 beginning octets =
     if four_at Big 0 octets == 0xa1b2c3d4

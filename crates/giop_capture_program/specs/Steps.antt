@@ -37,20 +37,17 @@ abbrev pub capture_of : Arguments → Option (List ℕ)
 capture_of asked = option_map (λ name. name.now) asked.capture
 
 -- What is known of a dump before it begins is true: its setup is that which is asked for, by these
--- types, and this was written
--- before.
+-- types, and this was written before.
 abbrev pub BeginsAs : (Setup → List ℕ → Type 0) → Arguments → Table → Option (List ℕ) → Type 0
 BeginsAs begins asked table before =
     (S : Setup) (written : List ℕ) → begins S written
     → (S ≡ setup table asked.messages asked.calls asked.connections) × (before ≡ Some written)
 
 -- A source, of which this is known, was read to the end of a capture or to its fault. What the
--- packets, the fault and the end do to
--- the connections that are asked for has happened, and the conversations have followed it; link
--- types that aren't read were told.
--- What was put is the text of just that, with the capture's last line, behind what was written
--- before; the lines of each stream in
--- it are giopdump's.
+-- packets, the fault and the end do to the connections that are asked for has happened, and the
+-- conversations have followed it; link types that aren't read were told. What was put is the text
+-- of just that, with the capture's last line, behind what was written before; the lines of each
+-- stream in it are giopdump's.
 pub record CaptureDumped {N : Type 0} (ending : Ending) (told : N → List ℕ → Type 0)
     (begins : Setup → List ℕ → Type 0) (asked : Arguments) (source put : Option (List ℕ)) : Type 0
   where

@@ -8,8 +8,7 @@ use Rattle.giop_conversation.specs.CaptureParts.{Part, text_of, IsWhole, read_of
 use Rattle.giop_conversation.specs.StreamTexts.{StreamHistory, History, dumped, IsUnique}
 
 -- The lines that a stream has by itself are giopdump's: those where its octets are read are its
--- text, and all of them with those at
--- its end are what giopdump writes.
+-- text, and all of them with those at its end are what giopdump writes.
 pub record IsWholeDump (S : Setup) (s : StreamHistory) (reads own : List ℕ) : Type 0 where
   pub reads_are : reads ≡ text (rules_in S s.answers) s.octets
   pub own_are : own ≡ dumped (rules_in S s.answers) s

@@ -6,8 +6,7 @@ use Rattle.giop_conversation.specs.StreamTexts.{no_history, history}
 use Rattle.giop_capture_program.specs.Streams.{ShowsEachStream}
 
 -- These events lead to a dump, of a capture of so many packets and octets: what was put is what was
--- written before it began,
--- then its text and its last line, and no more.
+-- written before it began, then its text and its last line, and no more.
 pub record HasText (S : Setup) (written : List ℕ) (events : List Event) (packets octets : ℕ)
     (put : Option (List ℕ)) : Type 0 where
   pub dump : Dump

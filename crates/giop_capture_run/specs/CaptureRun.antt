@@ -19,9 +19,8 @@ use Rattle.giop_capture_run.specs.Packets.{Taken, taken_of, Ran}
 use Rattle.giop_capture_run.specs.Arrivals.{capture_ended, links_told}
 
 -- A capture was read to its end, or to its fault, behind which nothing was read; the source gave
--- the octets s. All that its
--- packets, its fault and its end do to the connections was told, and the link types of those that
--- aren't read.
+-- the octets s. All that its packets, its fault and its end do to the connections was told, and the
+-- link types of those that aren't read.
 pub record ReadWhole (O : List Event → Type 0) (Told : List ℕ → Type 0) (F : Reader)
     (connections : Connections) (live : List ℕ)
     (c : Capture) (start : State) (s : List ℕ) (before after : SourceLog)
@@ -37,8 +36,7 @@ pub record ReadWhole (O : List Event → Type 0) (Told : List ℕ → Type 0) (F
   pub told : Told (links_told (taken_of read))
 
 -- What a run did, by its result. Where it failed its source or the reads were used up, packets came
--- as always, and the capture has not
--- ended.
+-- as always, and the capture has not ended.
 abbrev pub CaptureRan : Result (Option CaptureFault) RunFault → (List Taken → Type 0)
     → (List Event → Type 0) → (List ℕ → Type 0) → Reader → Connections → List ℕ → Capture → State →
     List ℕ → SourceLog → SourceLog
@@ -61,8 +59,8 @@ ending_of (Some fault) faulty =
 ending_of None faulty = if faulty then endings.Faulty else endings.Whole
 
 -- A capture was read whole, and all that is due of it was written: its listener was told of all
--- before the last lines, which
--- say whether it was told of a fault. It has finished behind all of that.
+-- before the last lines, which say whether it was told of a fault. It has finished behind all of
+-- that.
 pub record Dumped {L N : Type 0} (ending : Ending) (observed : L → List Event → Type 0)
     (finished : L → List Event → ℕ → ℕ → Type 0) (faulty : L → Bool) (F : Reader)
     (told : N → List ℕ → Type 0) (c : Capture) (start : State) (before after : SourceLog)

@@ -63,8 +63,7 @@ pub record ReadToEnd (HasTaken : List Taken → Type 0) (c : Capture) (p s : Lis
   pub over : (IsAtEnd after.left × (rest ≡ [])) ⊎ IsSome (fault (p ++ read))
 
 -- What a run did, by its result: where the listener failed, it alone knows what it has taken. Where
--- the reads were used up, each
--- gave an octet.
+-- the reads were used up, each gave an octet.
 abbrev pub Ran : Result (Unit {0}) RunFault → (List Taken → Type 0) → Capture → List ℕ → SourceLog →
     SourceLog → Type 0
 Ran (Ok _) HasTaken c s before after = ReadToEnd HasTaken c [] s before after

@@ -1,6 +1,5 @@
 -- Laws of the padding that is computed: its value by the remainder, that it aligns an offset, and
--- that it depends on the
--- offset modulo 8 only.
+-- that it depends on the offset modulo 8 only.
 use Rattle.std.proofs.Common.{◌≡◌, ◌≢◌, ℕ, ◌+◌, ◌-◌, ◌%◌, inl, inr, sym, arith}
 use Rattle.giop_cdr.specs.Alignment.{IsAlignment, padding}
 

@@ -42,8 +42,7 @@ fault_octet faults.ByteOrder = 3
 fault_octet faults.StreamLimit = 5
 
 -- Four octets for the place, the stream fault's number, how many header octets are held and, in
--- layout 2, the payload's
--- record; the header octets; the payload octets still to come.
+-- layout 2, the payload's record; the header octets; the payload octets still to come.
 abbrev pub place_octets : Place → ℕ → List ℕ
 place_octets (Header held) owner =
     (0 ∷ 0 ∷ length held.items ∷ owner ∷ []) ++ held.items ++ replicate (12 - length held.items) 0

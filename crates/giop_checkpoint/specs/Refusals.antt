@@ -1,6 +1,5 @@
 -- The checks of a checkpoint in their order, and the first one that fails. Lack of memory is none
--- of them (docs/FORMATS.md,
--- Checkpoints; state).
+-- of them (docs/FORMATS.md, Checkpoints; state).
 use Rattle.std.specs.Prelude.{◌≡◌, ◌≤◌, ◌⊎◌, ℕ, List, length, take, drop}
 use Rattle.giop_octets.specs.Fields.{four}
 use Rattle.giop_checkpoint.specs.declared.sizes.TheConstants.{FIXED_SIZE}

@@ -53,8 +53,7 @@ set_each P (y ∷ ys) (suc i) x others here (suc j) =
     here j
 
 -- A flow has the stream that the history says: where no other has its number, its octets are those
--- of the history, and its
--- answers give the same text and closing.
+-- of the history, and its answers give the same text and closing.
 pub record IsSide (S : Setup) (h : History) (id stream : ℕ) (octets : List ℕ) (answers : Answers) :
     Type 0 where
   pub stream_is : stream ≡ h.stream_of id

@@ -1,7 +1,6 @@
 -- The text of a capture, by what happens in it (docs/FORMATS.md, Captures; meaning). A flow is
--- named by its id: half of it is
--- the place of its connection, and the flow is the connection's one with an even id or the other
--- one.
+-- named by its id: half of it is the place of its connection, and the flow is the connection's one
+-- with an even id or the other one.
 use Rattle.std.specs.Prelude.{◌≡◌, ℕ, ◌+◌, ◌-◌, ◌^◌, ◌/◌, min, Bool, true, false, ◌||◌, List, [], ◌∷◌, ◌++◌, Option, Some, None, IfSome, slice_get, set, replicate}
 use Rattle.giop_print.specs.Output.{counted}
 use Rattle.giop_sig.specs.Table.{Table}
@@ -26,8 +25,7 @@ use Rattle.giop_conversation.specs.Stamped.{begin_lines, exchanged, stamped}
 use Rattle.giop_conversation.specs.Followed.{parity_of, other}
 
 -- what is set before a capture is read: the types, how many messages of a stream may be open at
--- once, how many calls of a flow may
--- be outstanding, and how many connections are known at once
+-- once, how many calls of a flow may be outstanding, and how many connections are known at once
 pub record Setup : Type 0 where
   pub table : Table
   pub messages : ℕ
@@ -90,8 +88,7 @@ abbrev pub begun : Parity → ℕ → Connection → Connection
 begun parity stream c = with_side parity c (record (side parity c) { stream = stream; octets = [] })
 
 -- the calls of the connection behind octets that are delivered in a packet of this time, where the
--- ids of the stream's messages
--- answer these operations
+-- ids of the stream's messages answer these operations
 abbrev pub calls_behind : Setup → Answers → Parity → List ℕ → Option ℕ → Connection → Exchanged
 calls_behind S a parity octets time c =
     exchanged (rules_in S a) (calls_in S parity time c) (side parity c).octets octets
@@ -114,8 +111,7 @@ delivered_lines S a parity octets time c =
     stamped (rules_in S a) (calls_in S parity time c) (side parity c).octets octets
 
 -- These answers are those of the calls: they are the stream's for what was delivered before, and a
--- Reply whose header ends in
--- the octets has results of the operation of the call that it answers.
+-- Reply whose header ends in the octets has results of the operation of the call that it answers.
 pub record IsAnswered (S : Setup) (a : Answers) (parity : Parity) (octets : List ℕ)
     (time : Option ℕ) (c : Connection) : Type 0 where
   pub before : AnswersAgree S.messages (side parity c).octets (side parity c).answers a

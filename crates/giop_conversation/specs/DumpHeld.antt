@@ -33,8 +33,8 @@ pub record HoldsConnection (S : Setup) (r : Conversation) (c : Connection) : Typ
   pub calls : HasCalls r.parity r.exchange c
 
 -- The octets of a flow were read by answers that are those of the calls: it holds the connection
--- behind them, and below stand
--- their lines, each with the tag of the stream; or a front of them, where a put failed.
+-- behind them, and below stand their lines, each with the tag of the stream; or a front of them,
+-- where a put failed.
 pub record ReadsBy {A E : Type 0} (S : Setup) (c : Connection) (parity : Parity) (octets : List ℕ)
     (time : Option ℕ) (w : List ℕ) (result : Result A E) (r : Conversation) (out : Tagging) : Type 0
   where
@@ -55,8 +55,7 @@ AreHeld S (r ∷ rs) [] = ⊥
 AreHeld S (r ∷ rs) (c ∷ cs) = HoldsConnection S r c × AreHeld S rs cs
 
 -- Connections, what they wrote through an out with tags, the time of the packet that is read, and
--- the sums over the streams are
--- those of a dump.
+-- the sums over the streams are those of a dump.
 pub record HoldsDump (S : Setup) (rooms : List Conversation) (out : Tagging) (time : Option ℕ)
     (streams messages faults : ℕ) (cut : Bool) (d : Dump) : Type 0 where
   pub connections : AreHeld S rooms d.connections

@@ -1,7 +1,6 @@
 -- The calls of a connection, as the correspondent of a stream of it knows them (meaning). Of both
--- directions the calls are kept
--- that have no reply yet: those of the stream that is read, and those of the opposite one, which
--- its Replies answer.
+-- directions the calls are kept that have no reply yet: those of the stream that is read, and those
+-- of the opposite one, which its Replies answer.
 use Rattle.std.specs.Prelude.{ℕ, ◌&&◌, ◌==◌, Bool, List, [], ◌∷◌, ◌++◌, length, Option, Some, None, nat_le, option_and_then, if◌then◌else◌}
 use Rattle.std.specs.List.{find}
 use Rattle.std.specs.Option.{option_map}

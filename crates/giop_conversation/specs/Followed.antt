@@ -1,7 +1,6 @@
 -- The streams of a capture by what has happened in its flows (meaning), and which connections have
--- read them (state). A
--- connection has two flows, and its directions are those of the one with an even id and of the
--- other.
+-- read them (state). A connection has two flows, and its directions are those of the one with an
+-- even id and of the other.
 use Rattle.std.specs.Prelude.{ℕ, ◌/◌, ◌%◌, ◌==◌, Bool, true, false, List, [], ◌∷◌, ◌++◌, Option, IfSome, is_some, slice_get, if◌then◌else◌}
 use Rattle.std.specs.Option.{option_map}
 use Rattle.tcp_flow.specs.Flow.{Event, Begins, Delivers}

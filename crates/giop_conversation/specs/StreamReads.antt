@@ -11,8 +11,7 @@ use Rattle.giop_conversation.specs.TaggedState.{Tagging, tagging_log, IsReady, W
 use Rattle.giop_conversation.specs.Exchanges.{Exchanged, answer_of, notified}
 
 -- These answers agree with the calls of the connection at each header that ends in these octets
--- after the stream p: each Reply
--- has results of the operation of the call that it answers.
+-- after the stream p: each Reply has results of the operation of the call that it answers.
 abbrev pub AgreeWith : EngineView → Answers → Exchanged → List ℕ → List ℕ → Type 0
 AgreeWith e a s p octets =
     AgreesAtEnds answer_of notified e.table s a (header_ends_from (rules_with e a) p octets)
@@ -51,8 +50,7 @@ pub record HasStood (e : EngineView) (a : Answers) (p : List ℕ) (after : Taggi
   pub told : calls ≡ due
 
 -- Behind what was written to the out below there stand these lines, each with the tag in front; or
--- a front of them, and maybe the
--- beginning of a tag, where a put failed.
+-- a front of them, and maybe the beginning of a tag, where a put failed.
 abbrev pub WritesTagged : {A E : Type 0} → Result A E → Tagging → List ℕ → List ℕ → List ℕ → Type 0
 WritesTagged result after w tag lines =
     MatchResult result (λ _. IsReady after (w ++ with_tags tag lines))

@@ -1,6 +1,6 @@
 -- What has happened in each stream of a capture, by all events, and that its lines in the capture's
--- text are giopdump's but for
--- those of five kinds (docs/FORMATS.md, Captures; meaning). A stream is named by its number.
+-- text are giopdump's but for those of five kinds (docs/FORMATS.md, Captures; meaning). A stream is
+-- named by its number.
 use Rattle.std.specs.Prelude.{◌≡◌, ℕ, ◌<◌, ◌^◌, ◌-◌, ◌/◌, ◌==◌, Bool, true, false, ◌||◌, nat_lt, List, [], ◌∷◌, ◌++◌, Option, None, if◌then◌else◌}
 use Rattle.std.specs.List.{AllByRecursion as Each}
 use Rattle.giop_print.specs.Output.{counted}
@@ -74,8 +74,8 @@ history S h d (e ∷ es) behind leads =
     history S (happened S leads.1.answers h e) leads.0 es behind leads.2
 
 -- The lines that a stream has by itself are giopdump's: those where its octets are read are its
--- text, and all of them with those
--- at its end are what giopdump writes, unless it goes on behind its close.
+-- text, and all of them with those at its end are what giopdump writes, unless it goes on behind
+-- its close.
 pub record IsDumped (S : Setup) (s : StreamHistory) (reads own : List ℕ) : Type 0 where
   pub reads_are : reads ≡ text (rules_in S s.answers) s.octets
   pub own_are : s.goes_on ≡ false → own ≡ dumped (rules_in S s.answers) s

@@ -1,12 +1,10 @@
 -- What is known of an `Out` that puts a tag in front of each line (state). Contracts see what was
--- written to the out below it,
--- how much of that since the tag was set, and how many octets of the tag are due before the next
--- octet.
+-- written to the out below it, how much of that since the tag was set, and how many octets of the
+-- tag are due before the next octet.
 --
 -- What is written through it is read off what was written below: first what identifies the octets
--- before the tag was set and
--- the tag, then the text without tags. So what a call of writing did to it tells what it did to the
--- out below.
+-- before the tag was set and the tag, then the text without tags. So what a call of writing did to
+-- it tells what it did to the out below.
 use Rattle.std.specs.Prelude.{◌≡◌, ℕ, ◌-◌, Bool, true, not, ◌&&◌, ◌||◌, ◌==◌, nat_le, List, ◌∷◌, ◌++◌, length, take, drop, Option, Some, None, option_and_then, if◌then◌else◌}
 use Rattle.std.specs.Str.{bytes_eq}
 use Rattle.giop_print.specs.Output.{OutLog}
@@ -69,8 +67,7 @@ pub record IsReady (t : Tagging) (w : List ℕ) : Type 0 where
   pub sound : t.failures ≡ 0
 
 -- A put failed: behind what was written before to the out below there stands a front of the lines
--- with the tag, and maybe
--- the beginning of a tag.
+-- with the tag, and maybe the beginning of a tag.
 pub record WroteTaggedFront (t : Tagging) (w tag lines : List ℕ) : Type 0 where
   pub size : ℕ
   pub due : ℕ

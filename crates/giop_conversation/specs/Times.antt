@@ -1,6 +1,5 @@
 -- Times and spans of time as text (RFC 3339, Internet Date/Time Format; docs/FORMATS.md; meaning).
--- A time is nanoseconds since
--- 1970-01-01 UTC, without leap seconds.
+-- A time is nanoseconds since 1970-01-01 UTC, without leap seconds.
 use Rattle.std.specs.Prelude.{ℕ, zero, suc, ◌+◌, ◌-◌, ◌*◌, ◌/◌, ◌%◌, ◌^◌, List, [], ◌∷◌, ◌++◌, Option, Some, None, nat_le, nat_lt, if◌then◌else◌, codes, decimal}
 use Rattle.httpdate.specs.Calendar.{days_of_years, days_of_months}
 use Rattle.httpdate.specs.Text.{two_digits, four_digits}

@@ -1,6 +1,5 @@
 -- The entries of a table, made of its ids, slab numbers and values: their number, the entry at a
--- place, and what they become
--- when one is added, removed or changed.
+-- place, and what they become when one is added, removed or changed.
 use Rattle.std.proofs.Common.{◌≡◌, ◌≢◌, ◌<◌, ◌==◌, ◌+◌, ◌≤◌, ℕ, zero, suc, false, eqb, cond, List, [], ◌∷◌, ◌++◌, length, get_or, Option, Some, None, IsSome, slice_get, refl, sym, ap, ◌∙◌, arith, length-append, inl, inr, map, set, is_some, count_by}
 use Rattle.std.specs.List.{AllByRecursion as Each, IsDistinct, remove, position_from}
 use Rattle.std.proofs.lemmas.List.Sums.{sum_by-cons}

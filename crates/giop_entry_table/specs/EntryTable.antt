@@ -1,6 +1,5 @@
 -- What a table is to its callers: entries, each an id and a value, in the order of being added, and
--- how many there may be
--- (meaning).
+-- how many there may be (meaning).
 use Rattle.std.specs.Prelude.{ℕ, zero, suc, List, [], ◌∷◌, refl}
 use Rattle.std.specs.Coded.{Coded, code_by, coded×, coded_ℕ, coded_list}
 use Rattle.giop_entry_table.specs.declared.entry_table.Entry.{Entry}

@@ -1,6 +1,5 @@
 -- The lines of a message with more octets begin with its lines so far, and the others come after
--- its octets; and the
--- order of the lines of one octet.
+-- its octets; and the order of the lines of one octet.
 use Rattle.std.proofs.Common.{◌≡◌, ◌≢◌, ℕ, ◌+◌, ◌-◌, ◌<◌, ◌≤◌, Bool, true, false, List, [], ◌∷◌, ◌++◌, length, map, drop, Option, Some, None, refl, sym, ap, subst, ◌∙◌, append_assoc, append-nil, arith, add_assoc, add-zero, ◌⊎◌, inl, inr}
 use Rattle.std.specs.Prelude.{◌==◌, nat_lt, if◌then◌else◌}
 use Rattle.std.specs.List.{filter, AllByRecursion as Each}

@@ -1,6 +1,6 @@
 -- The lines of a close: it ends the message, and none of its lines is of a class that the last
--- octet has, since a
--- message that is faulted there, or ends a part of its rest there, has no rest left.
+-- octet has, since a message that is faulted there, or ends a part of its rest there, has no rest
+-- left.
 use Rattle.std.proofs.Common.{◌≡◌, Bool, true, false, List, [], ◌∷◌, ◌++◌, map, inl, inr, refl, ap, ◌≢◌, ℕ, suc, length, ◌⊎◌}
 use Rattle.std.specs.Prelude.{if◌then◌else◌}
 use Rattle.giop_message.specs.MessageReader.{LineClass, Rest, End, AtClose, IsClosing, Value, Call, Fault, AreInLineOrder, is_fault}

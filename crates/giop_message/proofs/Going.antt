@@ -222,8 +222,7 @@ padded_goes S header t goes at s b = go (cases_lt (length s) (padding at 8))
 -- ---- a message
 
 -- What holds of each part of a message and of what follows it: of the rest, of a section where it
--- holds after that, and
--- of a body after padding where it holds of the body.
+-- holds after that, and of a body after padding where it holds of the body.
 module _ (S : Signatures) (header : List ℕ) (P : (ℕ → List ℕ → Message) → Type 0) (rests : P rest)
     (reads : (section : Section) (T : Ty) → ((h : Noted) → P (after S header section h)) →
     P (λ at s. section_and_rest S header section nothing_noted

@@ -1,6 +1,5 @@
 -- What the crate above may use of the reading of a message, beside its contracts: lemmas on the
--- public definitions. No other
--- file of this crate's proofs can be cited from outside.
+-- public definitions. No other file of this crate's proofs can be cited from outside.
 use Rattle.std.proofs.Common.{false, ◌≡◌, ℕ, List}
 use Rattle.giop_sig.specs.Table.{Table}
 use Rattle.giop_message.specs.declared.message.Message.{Message as MessageValue}
@@ -16,8 +15,7 @@ pub use Rattle.giop_message.proofs.Causal.{is_causal, is_ordered}
 pub use Rattle.giop_message.proofs.Closes.{is_closing}
 pub use Rattle.giop_message.proofs.Named.{is_ending}
 -- the header of a message that the stream finds by its request id begins with it, which is the
--- number of the first four
--- octets
+-- number of the first four octets
 pub use Rattle.giop_message.proofs.Named.{begins_with_id, id_is_said}
 -- and which is all that is said of them
 pub use Rattle.giop_message.proofs.RequestIdLine.{few_said, four_said}

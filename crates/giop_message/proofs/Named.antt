@@ -1,6 +1,5 @@
 -- The close ends a message, and in a message that begins with its request id the first four octets
--- have no line but
--- that of the id.
+-- have no line but that of the id.
 use Rattle.std.proofs.Common.{◌≡◌, ℕ, suc, ◌<◌, ◌≤◌, ◌⊎◌, inl, inr, Bool, true, false, List, [], ◌∷◌, ◌++◌, length, map, Option, Some, None, refl, ap, ◌∙◌, append-nil, arith}
 use Rattle.std.specs.Prelude.{◌&&◌, ◌||◌, ◌==◌, if◌then◌else◌, IfSome, codes}
 use Rattle.std.proofs.lemmas.Bool.{eqb-true}

@@ -27,8 +27,7 @@ use Rattle.giop_message.proofs.LastParts.{CallsNone, step_none}
 use Rattle.giop_message.proofs.Octets.{told_front, told_silent, due_is, wrongs, first_call, step_text}
 
 -- A section that a message has begun: the message's number and header, the section and its type,
--- and the lines and the
--- octets in front of it.
+-- and the lines and the octets in front of it.
 pub record Begun : Type 0 where
   pub S : Signatures
   pub number : ℕ

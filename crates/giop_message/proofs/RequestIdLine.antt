@@ -1,6 +1,6 @@
 -- What is said of the first four octets of a message whose header begins with its request id: the
 -- line of that, and no other.
-use Rattle.std.proofs.Common.{◌≡◌, ℕ, ◌<◌, List, [], ◌∷◌, length, map, Option, Some, refl, ap, ◌∙◌}
+use Rattle.std.proofs.Common.{◌≡◌, ℕ, ◌<◌, List, [], ◌∷◌, length, map, Option, Some, ap, ◌∙◌}
 use Rattle.std.specs.Prelude.{codes}
 use Rattle.giop_cdr.specs.Numbers.{num}
 use Rattle.giop_cdr.specs.declared.number.Number.TheVariants.{Unsigned}
@@ -14,7 +14,7 @@ use Rattle.giop_decode.specs.ReadResult.{Name, Number}
 use Rattle.giop_message.specs.Headers.{minor, kind, order}
 use Rattle.giop_message.specs.Text.{value_line_text, numbered_line}
 use Rattle.giop_message.specs.Signatures.{Signatures}
-use Rattle.giop_message.specs.Messages.{ValueLine, LineAt, line_at, of_header, message, message_lines}
+use Rattle.giop_message.specs.Messages.{line_at, of_header, message, message_lines}
 use Rattle.giop_message.specs.ReaderOfTable.{timed_line_of, line_class_of, text_of, remarks_by, reader_by}
 use Rattle.giop_message.specs.RequestId.{request_id_path, request_id_text, request_id_said}
 use Rattle.giop_message.proofs.Named.{id_told, few_by, four_by}

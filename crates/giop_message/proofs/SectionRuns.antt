@@ -1,6 +1,5 @@
 -- A message that follows a list, in a section whose decoder took a run of octets: what it wrote,
--- and where the message
--- is after them.
+-- and where the message is after them.
 use Rattle.std.proofs.Common.{◌≡◌, append-nil, Result, Ok, Err, IsErr, ℕ, ◌+◌, ◌<◌, ◌≤◌, Bool, true, false, List, [], ◌∷◌, ◌++◌, length, take, drop, get_or, Option, Some, None, refl, sym, ap, subst, ◌∙◌, arith}
 use Rattle.std.specs.Prelude.{cond, if◌then◌else◌}
 use Rattle.std.proofs.lemmas.List.{length-take-le, take-append-drop}

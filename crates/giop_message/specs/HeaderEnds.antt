@@ -1,6 +1,5 @@
 -- Where the header of a message ends, where the name of an exception that a Reply raises does, and
--- what the correspondent,
--- the other side of the conversation, is told there (meaning).
+-- what the correspondent, the other side of the conversation, is told there (meaning).
 use Rattle.std.specs.Prelude.{◌≡◌, ◌<◌, ℕ, Bool, true, false, List, [], ◌∷◌, ◌++◌, length, Option, Some, None, IfSome, option_and_then, option_map, ◌==◌, ◌+◌, nat_lt, drop, if◌then◌else◌}
 use Rattle.giop_sig.specs.declared.types.OpId.{OpId}
 use Rattle.giop_cdr.specs.Alignment.{padding}
@@ -89,8 +88,8 @@ raised_by_type header None s = None
 raised_by_type header (Some T) s = raised_after header (read (plain (order header)) [] T 12 s)
 
 -- The name of the exception that a Reply raises, once the repository id or the body of the system
--- exception is complete,
--- by the octets `s` that follow the 12 of its header (GIOP Message Formats, Reply Body).
+-- exception is complete, by the octets `s` that follow the 12 of its header (GIOP Message Formats,
+-- Reply Body).
 unfoldable pub raised : List ℕ → List ℕ → Option (List ℕ)
 raised header s = if kind header == 1 then raised_by_type header
     (header_type (minor header) (kind header)) s else None
@@ -124,10 +123,9 @@ stage_told_after (In_rest offset held) = None
 stage_told_after Over = None
 
 -- How many octets have to come at least until the header of a message, or the name of the exception
--- that it raises, ends, by
--- these octets after the 12 of its header: at least 1 in its header, in the padding behind that, in
--- the repository id of an
--- exception, and in the body of a system exception. None where no header and no name ends any more.
+-- that it raises, ends, by these octets after the 12 of its header: at least 1 in its header, in
+-- the padding behind that, in the repository id of an exception, and in the body of a system
+-- exception. None where no header and no name ends any more.
 unfoldable pub told_after : Signatures → List ℕ → List ℕ → Option ℕ
 told_after S header s = stage_told_after (stage_of (message S header s))
 
@@ -140,12 +138,10 @@ AreSilent (Exception_end number name ∷ es) = ⊥
 -- ---- what is told there
 
 -- what the header of a message, by its number, says of the calls of a conversation (GIOP Message
--- Formats, Request Header,
--- Reply Header)
+-- Formats, Request Header, Reply Header)
 pub data CallEvent : Type 0 where
   -- a Request: its number, its id, the name of its operation where a call line can show it, the
-  -- operation where the table
-  -- has it, and whether it expects a reply
+  -- operation where the table has it, and whether it expects a reply
   Requested : ℕ → ℕ → Option (List ℕ) → Option OpId → Bool → CallEvent
   -- a Reply: its number, and the id of the request that it answers
   Replied : ℕ → ℕ → CallEvent

@@ -78,8 +78,7 @@ AtClose line_classes = (line_classes ≡ Fault ∷ []) ⊎ (line_classes ≡ End
     ⊎ (line_classes ≡ Rest ∷ End ∷ [])
 
 -- A close ends the message, once. After a fault at its last octet a message has only the line of
--- its end, and if its
--- last octet ends a part of its rest, no rest is left.
+-- its end, and if its last octet ends a part of its rest, no rest is left.
 pub record IsClosing (R : MessageReader) : Type 0 where
   pub closed : (number : ℕ) (header xs : List ℕ) →
       AtClose (map (λ l. l.0) (R.closes number header xs))

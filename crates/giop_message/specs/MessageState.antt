@@ -1,6 +1,5 @@
 -- What a message holds of the octets that it has taken after its header, one field a clause; and
--- what its calls write
--- (state).
+-- what its calls write (state).
 use Rattle.std.specs.Prelude.{◌≡◌, ℕ, ◌+◌, ◌-◌, ◌<◌, ◌≤◌, Bool, true, false, cond, List, [], ◌∷◌, ◌++◌, length, take, drop, flat_map, Option, Some, None, IfSome}
 use Rattle.giop_sig.specs.Types.{Ty}
 use Rattle.giop_sig.specs.Table.{Table, operation_number}
@@ -52,8 +51,7 @@ unfoldable pub closing_text : ℕ → ℕ → List MessageLine → List ℕ
 closing_text number place speeches = flat_map (message_line_text number place) speeches
 
 -- the same of timed lines, whose octets count from 1 after the header: `before` octets of the
--- message came before, and
--- `place` octets of the stream
+-- message came before, and `place` octets of the stream
 unfoldable pub timed_lines_text : ℕ → ℕ → ℕ → List TimedLine → List ℕ
 timed_lines_text number place before timed_lines =
     flat_map (λ r. line_class_text (place + (r.at - before)) number r.line_class r.text) timed_lines
@@ -155,8 +153,7 @@ in_header (parts.Padding body_type_id) = false
 in_header (parts.Rest r) = false
 
 -- The message's fields are those of a reading of its header and these octets after it. While the
--- header is read its
--- decoder has the request id.
+-- header is read its decoder has the request id.
 pub record Follows (C : Table) (answers : Answers) (number : ℕ) (header : List ℕ) (m : Message)
     (s : List ℕ) : Type 0 where
   pub same_number : m.number ≡ number

@@ -1,6 +1,5 @@
 -- What the parts of a message's code do: the text of an octet, and where a message is after a part
--- that has ended
--- (steps). Only private contracts cite it.
+-- that has ended (steps). Only private contracts cite it.
 use Rattle.std.specs.Prelude.{◌≡◌, ℕ, ◌+◌, Bool, true, false, List, [], ◌∷◌, ◌++◌, length, take, Option, Some, None, Result, MatchResult, ◌&&◌, ◌==◌, nat_lt, if◌then◌else◌}
 use Rattle.giop_cdr.specs.Alignment.{padding}
 use Rattle.giop_print.specs.Lines.{call_line, fault_line, rest_line}
@@ -75,8 +74,7 @@ Arrives C answers number header old new s m =
     Stands C answers number header s new.part
 
 -- A message that is read to these lines, and then to a section of this type of which no octet has
--- come, is in that
--- section.
+-- come, is in that section.
 abbrev pub Enters : Table → Answers → ℕ → List ℕ → Message → Message → List ℕ → Section → Ty →
     Type 0
 Enters C answers number header old new s section T =

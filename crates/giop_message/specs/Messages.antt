@@ -68,8 +68,7 @@ section_lines root is_request h (l ∷ ls) =
 -- ---- where a message is
 
 -- The type of a body: none, this one, that of the exception whose repository id comes first, or
--- that of a system
--- exception.
+-- that of a system exception.
 pub data BodyType : Type 0 where
   Untyped : BodyType
   Typed : Ty → BodyType
@@ -100,8 +99,7 @@ unfoldable pub with_front : List LineAt → Message → Message
 with_front front (ReadTo emitted at stage) = ReadTo (front ++ emitted) at stage
 
 -- A section, of a Request's header or not, and what follows it by what is noted of it. A fault has
--- its line instead of
--- the value's, and ends the message.
+-- its line instead of the value's, and ends the message.
 unfoldable pub section_then : Section → Bool → (Noted → ℕ → List ℕ → Message) → Noted → Read →
     Message
 section_then section is_request next h (Done lines at s) =
@@ -169,8 +167,7 @@ result_body S None = Untyped
 result_body S (Some id) = type_if (S.reply id)
 
 -- of a Reply, by its status: NO_EXCEPTION, USER_EXCEPTION, SYSTEM_EXCEPTION, LOCATION_FORWARD,
--- LOCATION_FORWARD_PERM,
--- NEEDS_ADDRESSING_MODE
+-- LOCATION_FORWARD_PERM, NEEDS_ADDRESSING_MODE
 unfoldable pub reply_body : Signatures → Option ℕ → Option ℕ → BodyType
 reply_body S id None = Untyped
 reply_body S id (Some status) =

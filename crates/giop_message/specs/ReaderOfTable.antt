@@ -1,6 +1,5 @@
 -- The reading of one message as the stream takes it, by a catalogue's table and the operations that
--- the ids of each
--- message answer; and the message's request id (meaning).
+-- the ids of each message answer; and the message's request id (meaning).
 use Rattle.std.specs.Prelude.{◌≡◌, ℕ, suc, ◌-◌, ◌==◌, Bool, true, false, cond, List, [], ◌∷◌, ◌++◌, length, map, Option, Some, None, codes, IfSome}
 use Rattle.std.specs.List.{filter}
 use Rattle.giop_cdr.specs.declared.prim.Primitive.TheVariants as prims

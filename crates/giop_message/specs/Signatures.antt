@@ -1,6 +1,5 @@
 -- The types of a message's parts, by a catalogue and the operations that the ids of replies answer:
--- those of headers,
--- and those that bodies can have (meaning).
+-- those of headers, and those that bodies can have (meaning).
 use Rattle.std.specs.Prelude.{ℕ, List, Option}
 use Rattle.std.specs.Option.{option_map}
 use Rattle.giop_sig.specs.declared.types.OpId.{OpId}

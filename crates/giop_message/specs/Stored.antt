@@ -1,6 +1,5 @@
 -- What a checkpoint keeps of a message, as octets (docs/FORMATS.md; state). A message has 224
--- octets, its number and its header
--- apart. Of these 16 are its own:
+-- octets, its number and its header apart. Of these 16 are its own:
 --
 --     at  octets
 -- 0 1 the part that it is in: 0 header, 1 repository id, 2 body, 3 padding, 4 rest, 5 system

@@ -1,6 +1,5 @@
 -- How the fields of a checkpoint are spelled in octets: numbers with the heaviest octet first, and
--- zeros where nothing is
--- stored (meaning).
+-- zeros where nothing is stored (meaning).
 use Rattle.std.specs.Prelude.{ℕ, ◌-◌, List, ◌∷◌, ◌++◌, length, replicate, Option, Some, None}
 use Rattle.std.specs.Int.{w32, w64, to_be_bytes}
 

@@ -1,5 +1,5 @@
 -- Gathering parts for one put: each call of the code does what the specs say of it.
-use Rattle.std.proofs.Common.{◌≡◌, Result, Ok, Err, ℕ, suc, get_or, flat_map, ◌+◌, ◌<◌, List, [], ◌∷◌, ◌++◌, length, take, drop, false, refl, sym, ap, subst, ◌∙◌, append-nil, append_assoc}
+use Rattle.std.proofs.Common.{◌≡◌, Result, Ok, Err, ℕ, suc, get_or, flat_map, ◌+◌, ◌<◌, List, [], ◌∷◌, ◌++◌, length, take, drop, false, sym, ap, subst, ◌∙◌, append-nil, append_assoc}
 use Rattle.std.proofs.Math.Seq.{take-suc}
 use Rattle.std.proofs.lemmas.List.Concat.{flat_map-append}
 use Rattle.std.proofs.lemmas.List.{take-append-drop}
@@ -7,7 +7,7 @@ use Rattle.std.proofs.lemmas.Bool.{true≢false}
 use Rattle.std.specs.Result.{is_ok, OnErr}
 use Rattle.giop_print.specs.Output.{OutLog, Wrote, WroteFront, Writes}
 use Rattle.giop_print.specs.Gathering.{WroteBut, Gathers}
-use Rattle.giop_print.proofs.Writing.{wrote-nil, wrote-append, wrote-front, front-append, flat_map-take}
+use Rattle.giop_print.proofs.Writing.{wrote-append, wrote-front, front-append, flat_map-take}
 
 -- what was gathered is written, and so is the part
 pub but-none : (a b c : OutLog) (gathered part : List ℕ) → Wrote a b gathered → Wrote b c part →

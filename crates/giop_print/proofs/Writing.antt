@@ -1,12 +1,11 @@
 -- Writing a text in parts, one call after the other: all of it, or a front of it before a put
 -- failed.
-use Rattle.std.proofs.Common.{◌≡◌, Result, Ok, Err, IsOk, IsErr, ℕ, suc, get_or, flat_map, ◌+◌, ◌-◌, ◌≤◌, List, [], ◌∷◌, ◌++◌, length, take, drop, take-add, ◌<◌, length-take, length-drop, Option, Some, None, refl, sym, ap, subst, ◌∙◌, arith, append-nil, append_assoc, add-one, length-append, min, inl, inr}
+use Rattle.std.proofs.Common.{◌≡◌, Result, Ok, Err, IsErr, ℕ, suc, get_or, flat_map, ◌+◌, ◌-◌, ◌≤◌, List, [], ◌∷◌, ◌++◌, length, take, drop, take-add, ◌<◌, length-take, length-drop, Option, Some, None, refl, sym, ap, ◌∙◌, arith, append-nil, append_assoc, add-one, length-append, min, inl, inr}
 use Rattle.std.proofs.Math.Seq.{take-append-add, take-append_seam, take-suc}
 use Rattle.std.proofs.lemmas.List.Concat.{flat_map-append}
 use Rattle.std.proofs.lemmas.List.{take-append-le, take_all, take-append-drop}
 use Rattle.std.proofs.lemmas.Bool.{cases_lt, false≢true}
 use Rattle.std.specs.Io.KnownBytes.{Appends, Keeps}
-use Rattle.giop_print.specs.Line.{headed}
 use Rattle.giop_print.specs.Output.{OutLog, counted, Took, Failed, Wrote, WroteFront, Writes}
 
 appends-nil : (a : Option (List ℕ)) → Appends a a []

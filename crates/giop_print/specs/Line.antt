@@ -19,8 +19,7 @@ abbrev pub headed : ℕ → List ℕ → List ℕ → List ℕ
 headed message place rest = numbered message (codes " " ++ (place ++ rest))
 
 -- what spelling a text in front of a line did: all of the text is there now, or an end of it where
--- the
--- line had no room
+-- the line had no room
 pub record Spells (whole : Bool) (before after : Line) (text : List ℕ) : Type 0 where
   pub front : List ℕ
   pub spelled : line_text after ≡ front ++ line_text before

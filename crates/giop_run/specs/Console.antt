@@ -21,8 +21,7 @@ pub record Dumped (w : RunSetup) (ran : Result Report RunFault) (p : List ℕ)
   pub did : Ran w ran p octets (unread told) after x y
 
 -- the status of what failed: arguments that can't be read, a file that is refused, a file that
--- can't be read or written or a
--- run that failed, no memory
+-- can't be read or written or a run that failed, no memory
 abbrev pub fault_status : ProgramFault → ℕ
 fault_status faults.Words = 2
 fault_status (faults.Signatures name fault) = 3

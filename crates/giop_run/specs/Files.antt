@@ -1,6 +1,5 @@
 -- What a run takes from the files that the arguments name (meaning). `held` is what the file of a
--- name holds, where that is
--- known; a name is its text, and None where there is no file.
+-- name holds, where that is known; a name is its text, and None where there is no file.
 use Rattle.std.specs.Prelude.{◌≡◌, ℕ, ◌<◌, ◌≤◌, List, [], length, take, Option, None, Some, IfSome, ◌⊎◌}
 use Rattle.giop_print.specs.Output.{counted}
 use Rattle.giop_sig.specs.Builtin.{builtin_table}
@@ -65,8 +64,8 @@ RequestsOf held (Some name) C kept =
     (text : List ℕ) × IsFront requests_most (held name) text × Requests text C kept
 
 -- `Is` holds of each stream that the octets of the checkpoint's file are a checkpoint of, and of
--- how many messages may be
--- open in it; without a file, of the empty stream and of as many as are asked for.
+-- how many messages may be open in it; without a file, of the empty stream and of as many as are
+-- asked for.
 abbrev pub GoesOn : Folder → Option (List ℕ) → ℕ → Table → RequestTable → (ℕ → List ℕ → Type 0) →
     Type 0
 GoesOn held None most C kept Is = Is most []

@@ -11,8 +11,7 @@ pub record SourceLog : Type 0 where
   pub ends : ℕ
 
 -- a read put `given` octets at the start of `into`; where it gave none and `into` isn't empty, the
--- count of ends rises and
--- nothing is left
+-- count of ends rises and nothing is left
 pub record Gave (before after : SourceLog) (into : List ℕ) (given : ℕ) : Type 0 where
   pub within : given ≤ length into
   pub left : Consumes before.left after.left (take given into)

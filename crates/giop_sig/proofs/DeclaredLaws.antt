@@ -1,6 +1,5 @@
 -- Structs and exceptions, both ways: reading the spelling of one gives it or a rule that it breaks,
--- and the text that was read
--- spells it.
+-- and the text that was read spells it.
 use Rattle.std.proofs.Common.{◌≡◌, inl, ℕ, ◌<◌, ◌≤◌, Bool, true, false, cond, ltb, List, [], ◌∷◌, length, None, Ok, Err, refl, sym, subst, arith}
 use Rattle.std.specs.Prelude.{codes}
 use Rattle.std.specs.Option.{is_some}

@@ -1,6 +1,5 @@
 -- The forms of the laws of reading, from a spelling to what is read and from a text that was read
--- to its spelling; and two
--- readings one after the other.
+-- to its spelling; and two readings one after the other.
 use Rattle.std.proofs.Common.{◌≡◌, ℕ, ◌^◌, ◌<◌, ◌≤◌, ◌⊎◌, inl, inr, false, List, [], ◌∷◌, length, None, Result, Ok, Err, refl, sym, subst, arith}
 use Rattle.std.specs.Prelude.{MatchResult}
 use Rattle.giop_tokens.specs.declared.fault.Refusal.{Refusal}

@@ -1,7 +1,6 @@
 -- The built-in types, with which every catalogue begins: the primitives, and what the headers and
--- bodies of GIOP are made of
--- (GIOP Message Formats; Interoperable Object References; meaning). The type of a number is the one
--- at that place of the list.
+-- bodies of GIOP are made of (GIOP Message Formats; Interoperable Object References; meaning). The
+-- type of a number is the one at that place of the list.
 use Rattle.std.specs.Prelude.{ℕ, pos, List, [], ◌∷◌, None, codes}
 use Rattle.giop_cdr.specs.declared.prim.Primitive.TheVariants as prims
 use Rattle.giop_cdr.specs.declared.number.Number.TheVariants.{Signed}

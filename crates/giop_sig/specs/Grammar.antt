@@ -1,6 +1,5 @@
 -- Signature files: what a file and its declarations are, and the tokens that spell it
--- (docs/FORMATS.md, Signature file; meaning). Each
--- spelling is written in front of what follows it.
+-- (docs/FORMATS.md, Signature file; meaning). Each spelling is written in front of what follows it.
 use Rattle.std.specs.Prelude.{ℕ, ◌==◌, ◌||◌, Bool, true, false, List, [], ◌∷◌, Option, Some, None, codes}
 use Rattle.giop_cdr.specs.declared.prim.Primitive.{Primitive}
 use Rattle.giop_cdr.specs.declared.prim.Primitive.TheVariants as prims

@@ -63,8 +63,7 @@ pub record ReachesLine (text : List ℕ) (es : List Entry) (line : List ℕ) (k 
   pub number : k ≡ length es + 1
 
 -- the first line refused is the k-th, and this is why: it is no entry, or the text is too long, or
--- the line is
--- an entry too many
+-- the line is an entry too many
 abbrev pub IsRefusedAs : List ℕ → ℕ → ListFaultKind → Type 0
 IsRefusedAs text k Syntax =
     (es : List Entry) × (line : List ℕ) × ReachesLine text es line k
@@ -87,8 +86,7 @@ the_one [] = None
 the_one (name ∷ names) = if list_all (bytes_eq name) names then Some name else None
 
 -- the operation of an id: that of the one name that all its entries have, where find gives an
--- operation's number
--- by its name
+-- operation's number by its name
 abbrev pub operation_of : (List ℕ → Option ℕ) → List Entry → ℕ → Option ℕ
 operation_of find es id = option_and_then find (the_one (names_of es id))
 

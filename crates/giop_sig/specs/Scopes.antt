@@ -1,6 +1,5 @@
 -- What declarations add: the types, operations and exceptions of a table, and the names that later
--- declarations may use
--- (docs/FORMATS.md, Signature file; meaning).
+-- declarations may use (docs/FORMATS.md, Signature file; meaning).
 use Rattle.std.specs.Prelude.{ℕ, ◌+◌, ◌==◌, ◌-ℤ◌, Bool, true, false, if◌then◌else◌, nat_le, ℤ, pos, List, [], ◌∷◌, ◌++◌, length, Option, Some, None, codes, position}
 use Rattle.std.specs.Map.{lookup}
 use Rattle.std.specs.Str.{bytes_eq}
@@ -19,8 +18,8 @@ use Rattle.giop_sig.specs.Builtin.{builtin_table}
 use Rattle.giop_sig.specs.RequestList.{flat}
 use Rattle.giop_sig.specs.Grammar.{TypeExpr, Base, Text, Reference, Named, SequenceOf, EncapsulationOf, Item, Value, Plain, Below, Truth, Enumerator, Label, Default, Of, UnionCase, Param, Declaration, Enumeration, Structure, DeclaredUnion, DeclaredException, Call, SignatureFile}
 
--- The type names of a file: the file's version, and the names of enums, structs and
--- unions, each with its type's number, and of exceptions, with none.
+-- The type names of a file: the file's version, and the names of enums, structs and unions, each
+-- with its type's number, and of exceptions, with none.
 pub record Names : Type 0 where
   pub version : ℕ
   pub known : List (List ℕ × Option ℕ)

@@ -1,6 +1,5 @@
 -- The table that a catalogue is: one node for each type, which names the types of its parts by
--- their numbers, and the operations
--- and exceptions by their names (meaning).
+-- their numbers, and the operations and exceptions by their names (meaning).
 use Rattle.std.specs.Prelude.{ℕ, ◌+◌, ◌<◌, ◌≤◌, ◌==◌, Bool, false, cond, List, [], ◌∷◌, ◌++◌, length, Option, Some, None, slice_index_or, slice_get, position}
 use Rattle.std.specs.Ordering.{int_eq}
 use mathlib.Core.Bool.{beq}
@@ -43,8 +42,7 @@ pub data Node : Type 0 where
   -- octets with a byte order of their own, that hold a value of a type
   encapsulation : ℕ → Node
   -- a tag that determines what follows it: the special tag; the part of the tag, the part that
-  -- follows the special tag, and
-  -- the part that follows every other tag
+  -- follows the special tag, and the part that follows every other tag
   tagged : ℕ → Part → Part → Part → Node
 
 -- the node of a type

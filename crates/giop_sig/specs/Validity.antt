@@ -1,7 +1,6 @@
 -- When declarations are valid (docs/FORMATS.md, Signature file): one rule for each kind of refusal
--- (meaning). The rule of a kind
--- asks something of the names, sizes, lists and labels of a declaration; where no case below names
--- the kind, it asks nothing.
+-- (meaning). The rule of a kind asks something of the names, sizes, lists and labels of a
+-- declaration; where no case below names the kind, it asks nothing.
 use Rattle.std.specs.Prelude.{◌≡◌, ℕ, ◌^◌, ◌<◌, ◌≤◌, ◌==◌, Bool, true, false, List, [], ◌∷◌, ◌++◌, length, map, Option, Some, None}
 use Rattle.std.specs.List.{list_any}
 use Rattle.std.specs.Map.{lookup}

@@ -1,6 +1,5 @@
 -- The octets of a checkpoint: which fields of an engine they store, and of which streams they are
--- the checkpoint
--- (docs/FORMATS.md, Checkpoints; state).
+-- the checkpoint (docs/FORMATS.md, Checkpoints; state).
 use Rattle.std.specs.Prelude.{◌≡◌, ◌≤◌, ◌⊎◌, ℕ, ◌+◌, ◌-◌, ◌*◌, List, [], ◌∷◌, ◌++◌, length, flat_map, replicate, nat_lt, Option, Some, None, Result, Ok, Err, IfOk, if◌then◌else◌}
 use Rattle.giop_cdr.specs.Numbers.{AreOctets}
 use Rattle.giop_print.specs.declared.sink.OutFault.{OutFault}
@@ -58,8 +57,7 @@ place_of None header payload_count =
     (size header - payload_count)
 
 -- the record of the message that the payload belongs to, an open one at this index or the current
--- one, whose record stands
--- after those of the open ones
+-- one, whose record stands after those of the open ones
 abbrev pub owner_of : Option ℕ → Option Message → ℕ → Option ℕ
 owner_of (Some k) message many = if nat_lt k many then Some k else None
 owner_of None None many = None
@@ -177,8 +175,7 @@ pub record IsPutWhole (layout : Layout) (C : Table) (l : RequestTable) (m : Fram
   pub put : octets ≡ checkpoint_octets layout C l m entries
 
 -- These octets are the checkpoint of an engine that holds the stream p, by this table and list,
--- where
--- so many messages may be open. Layout 3 stores how many; in layout 2 they are 16.
+-- where so many messages may be open. Layout 3 stores how many; in layout 2 they are 16.
 pub record Spells (octets : List ℕ) (C : Table) (l : RequestTable) (most : ℕ) (p : List ℕ) : Type 0
   where
     pub layout : Layout
@@ -203,8 +200,7 @@ entries_size [] = 0
 entries_size (e ∷ es) = (RECORD_SIZE + FRAME_SIZE * e.record_is.frames) + entries_size es
 
 -- What a save did: a checkpoint of p was written in layout 3, the fixed part and each record with
--- its
--- frames, and its length is the result; or a front of it before a put failed.
+-- its frames, and its length is the result; or a front of it before a put failed.
 pub record Saves (result : Result ℕ Stop) (before after : OutLog)
     (C : Table) (l : RequestTable) (most : ℕ) (p : List ℕ) : Type 0 where
   pub octets : List ℕ
@@ -218,8 +214,7 @@ pub record Saves (result : Result ℕ Stop) (before after : OutLog)
 -- ---- octets that are refused
 
 -- The octets pass the checks up to the records' lengths. What may be wrong then is a field of a
--- record, or totals that no
--- stream has.
+-- record, or totals that no stream has.
 abbrev pub PassesLengths : Counts → List ℕ → Type 0
 PassesLengths c s = (f : Fixed) × HasState c f s × HasRecords f s
 

@@ -1,6 +1,5 @@
 -- A Fragment of an open message, where the last octet of its header and its request id come
--- together (state, steps). Only
--- private clauses cite these.
+-- together (state, steps). Only private clauses cite these.
 use Rattle.std.specs.Prelude.{◌≡◌, ◌==◌, ◌<◌, ◌≤◌, ℕ, true, List, [], ◌∷◌, ◌++◌, length, Option, Some, None}
 use Rattle.std.specs.List.{position_from}
 use Rattle.giop_cdr.specs.Numbers.{num}
@@ -23,8 +22,7 @@ pub record IsOpenAt (s : Slots) (found : Continuation) : Type 0 where
   pub here : position_from (λ slot. slot.key == found.id) 0 s.slots.entries ≡ Some found.index
 
 -- These five octets, behind the first eleven of a header, are its last one and the request id of a
--- Fragment of that open
--- message.
+-- Fragment of that open message.
 pub record IsContinuation (front octets : List ℕ) (s : Slots) (found : Continuation) : Type 0 where
   pub last : ℕ
   pub id : List ℕ

@@ -1,6 +1,5 @@
 -- A call carries out the effect of events: the lines that it writes, the faults that it counts, and
--- what the slots keep
--- afterwards (steps). Only private clauses cite these.
+-- what the slots keep afterwards (steps). Only private clauses cite these.
 use Rattle.std.specs.Prelude.{◌≡◌, ℕ, Bool, List, Option, Result, OnOk, IfOk, if◌then◌else◌}
 use Rattle.giop_print.specs.Output.{OutLog, Writes}
 use Rattle.giop_sig.specs.Table.{Table}

@@ -1,6 +1,5 @@
 -- What the events of an octet do, one after the other: to the open messages, to what is kept of
--- each message, and the lines
--- that they give (steps).
+-- each message, and the lines that they give (steps).
 use Rattle.std.specs.Prelude.{Bool, true, ◌≡◌, ℕ, ◌<◌, ◌≤◌, false, List, [], ◌∷◌, ◌++◌, length, Option, Some, None, if◌then◌else◌, option_map}
 use Rattle.std.specs.List.{list_any, AllByRecursion as Each}
 use Rattle.giop_message.specs.MessageReader.{MessageReader}

@@ -21,8 +21,7 @@ abbrev pub AreOf : Table → RequestTable → Type 0
 AreOf C l = messages.AreOf C l
 
 -- the rules that an engine reads by: its table, the operations that the ids of each message answer,
--- and how many
--- messages may be open
+-- and how many messages may be open
 abbrev pub rules_with : EngineView → Answers → Rules
 rules_with e a = rules_by e.table a e.most
 

@@ -1,6 +1,5 @@
 -- What an engine holds of a stream: one record, each field of which is determined by the whole
--- stream (state). A checkpoint
--- stores these fields and no other.
+-- stream (state). A checkpoint stores these fields and no other.
 use Rattle.std.specs.Prelude.{ℕ, ◌-◌, Bool, ◌&&◌, ◌||◌, List, [], length, Option, Some, None, is_some, nat_lt, nat_le, if◌then◌else◌, option_map}
 use Rattle.giop_stream.specs.Rules.{Rules}
 use Rattle.giop_message.specs.Headers.{size, is_fragment}

@@ -1,7 +1,6 @@
 -- The events of a stream: what each octet of each message does, and to which message (meaning).
--- They determine the open
--- messages, the octets of each joined message, and its lines (GIOP Message Formats, Fragment
--- Message, CancelRequest Message).
+-- They determine the open messages, the octets of each joined message, and its lines (GIOP Message
+-- Formats, Fragment Message, CancelRequest Message).
 use Rattle.std.specs.Prelude.{ℕ, ◌+◌, ◌-◌, ◌<◌, Bool, true, false, not, ◌&&◌, ◌||◌, List, [], ◌∷◌, ◌++◌, length, get_or, take, filter, flat_map, Option, Some, None, nat_lt, nat_le, ◌==◌, if◌then◌else◌}
 use Rattle.std.specs.List.{find, AllByRecursion as Each}
 use Rattle.giop_cdr.specs.declared.order.Order.{Order}
@@ -62,8 +61,7 @@ now_of m = record {
 }
 
 -- The functions from here to `events_with_id` give the events of an octet of a message, where `id`
--- is the message's request id
--- and `other` the message that was open under that id.
+-- is the message's request id and `other` the message that was open under that id.
 
 -- an event of the message itself
 unfoldable pub own : Now → EventKind → List Event

@@ -26,8 +26,8 @@ unfoldable pub with_first : Message → Cut → Cut
 with_first m c = record c { whole = m ∷ c.whole }
 
 -- The rest of the stream, cut, where the next message has this number and comes after so many
--- octets: at most `fuel`
--- messages. The `elim` looks for a wrong header octet first, so that nothing is cut after one.
+-- octets: at most `fuel` messages. The `elim` looks for a wrong header octet first, so that nothing
+-- is cut after one.
 unfoldable pub cut_from : ℕ → ℕ → ℕ → List ℕ → Cut
 cut_from zero number before xs = record { whole = []; current = None; held = []; stop = None }
 cut_from (suc fuel) number before xs =

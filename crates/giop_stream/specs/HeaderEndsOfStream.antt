@@ -1,7 +1,6 @@
 -- The headers and the names of raised exceptions that end in octets of a stream, in the order in
--- which they do (meaning). At
--- each header the correspondent is asked, and at each of both it is told (giop_message,
--- HeaderEnds).
+-- which they do (meaning). At each header the correspondent is asked, and at each of both it is
+-- told (giop_message, HeaderEnds).
 use Rattle.std.specs.Prelude.{ℕ, List, [], ◌∷◌, ◌++◌, length, Option, Some, None, is_none, ◌&&◌, ◌==◌, nat_lt, if◌then◌else◌}
 use Rattle.giop_sig.specs.Table.{Table}
 use Rattle.giop_message.specs.Signatures.{Answers, signatures_of}
@@ -25,9 +24,8 @@ owner_header_ends c None octets = []
 owner_header_ends c (Some w) octets = run_header_ends w (c.known w.number) octets
 
 -- How many octets of a Reply have to come at least until its header, or the name of the exception
--- that it raises, ends, where
--- the ids of each message answer these operations. None of another message, and where no header and
--- no name ends any more.
+-- that it raises, ends, where the ids of each message answer these operations. None of another
+-- message, and where no header and no name ends any more.
 abbrev pub reply_told_after : Table → Answers → MessageKey → Option (List ℕ) → Option ℕ
 reply_told_after C a w None = None
 reply_told_after C a w (Some s) =

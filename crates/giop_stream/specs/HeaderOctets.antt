@@ -14,8 +14,8 @@ unless true fault = None
 unless false fault = Some fault
 
 -- What is wrong with the last octet of a header's front: `GIOP`, the major version 1, a minor
--- version up to 2, and in 1.0
--- a byte order of 0 or 1. The octets of size and type may have any value.
+-- version up to 2, and in 1.0 a byte order of 0 or 1. The octets of size and type may have any
+-- value.
 unfoldable pub wrong : List ℕ → Option StreamFault
 wrong front =
     let at = length front - 1 in

@@ -1,6 +1,5 @@
 -- What kind of message a header begins, and what a message is faulted for by its header or its size
--- alone (GIOP Message
--- Formats, Fragment Message; meaning).
+-- alone (GIOP Message Formats, Fragment Message; meaning).
 use Rattle.std.specs.Prelude.{ℕ, Bool, ◌&&◌, ◌||◌, List, Option, Some, None, nat_lt, ◌==◌, if◌then◌else◌}
 use Rattle.giop_stream.specs.declared.fault.FramingFault.{FramingFault}
 use Rattle.giop_stream.specs.declared.fault.FramingFault.TheVariants.{MessageType, OldFragment}

@@ -9,8 +9,7 @@ use Rattle.giop_stream.specs.Rules.{Rules}
 use Rattle.giop_stream.specs.Events.{Event, EventKind, Begins, Takes, Opens, Continues, Cancelled, Faults, Closes, events, joined}
 
 -- The classes of lines. A framing fault stands before the rest, so that the rest, the end and the
--- other faults of its octet
--- come after it.
+-- other faults of its octet come after it.
 pub data Class : Type 0 where
   Start ValueClass CallClass Continuing Cancelling FramingFaultClass RestClass FaultClass EndClass
       Stop : Class

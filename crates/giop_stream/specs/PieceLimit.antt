@@ -1,6 +1,5 @@
 -- How many octets of a stream may come in one piece, where something is to be written behind the
--- octet that begins a message, or
--- ends the header of a Reply or the name of an exception (meaning).
+-- octet that begins a message, or ends the header of a Reply or the name of an exception (meaning).
 use Rattle.std.specs.Prelude.{◌≡◌, ℕ, ◌+◌, ◌-◌, ◌^◌, List, ◌++◌, length, Option, Some, None, min, nat_lt, if◌then◌else◌}
 use Rattle.giop_sig.specs.Table.{Table}
 use Rattle.giop_message.specs.Signatures.{Answers}
@@ -15,16 +14,14 @@ use Rattle.giop_stream.specs.PayloadOwner.{owner_of_next}
 use Rattle.giop_stream.specs.HeaderEndsOfStream.{owner_told_after, header_ends_from}
 
 -- In these octets after the stream p no message's header of 12 octets becomes complete, and no
--- Reply's header and no name of a
--- raised exception ends. Headers of other messages may end.
+-- Reply's header and no name of a raised exception ends. Headers of other messages may end.
 pub record IsQuiet (R : Rules) (p octets : List ℕ) : Type 0 where
   pub none_begin : length (messages (cut (p ++ octets))) ≡ length (messages (cut p))
   pub none_end : AreSilent (header_ends_from R p octets)
 
 -- How many octets may come after n of a payload of this size, as far as the next message's
--- beginning goes: up to the fourth, by
--- which another message may own those behind it; behind that the rest of the payload, with the 12
--- of a header.
+-- beginning goes: up to the fourth, by which another message may own those behind it; behind that
+-- the rest of the payload, with the 12 of a header.
 abbrev pub room : ℕ → ℕ → ℕ
 room n size = if nat_lt n 4 then 4 - n else (size - n) + 12
 
@@ -42,7 +39,6 @@ limit_in C a most p (Some m) =
     (room (length m.payload) (size m.header))
 
 -- So many octets after the stream p may come in one piece, where the ids of each message answer
--- these operations, and so many
--- messages may be open. After a stream fault any number may.
+-- these operations, and so many messages may be open. After a stream fault any number may.
 unfoldable pub piece_limit : Table → Answers → ℕ → List ℕ → ℕ
 piece_limit C a most p = unless (cut p).stop (2 ^ 64 - 1) (limit_in C a most p (cut p).current)

@@ -40,8 +40,7 @@ payload_count_in (Payload header left) = size header - left
 payload_count_in (Stopped fault) = 0
 
 -- the owner of the payload: the message of this record, where that is an open one, or else the
--- current message, which was
--- loaded before
+-- current message, which was loaded before
 abbrev pub owner_by : Option ℕ → ℕ → PayloadOwner → PayloadOwner
 owner_by None many current = current
 owner_by (Some k) many current = if nat_lt k many then Open (Some k) else current

@@ -1,6 +1,5 @@
 -- The joined message, defined without events: the octets of the message, then of each that
--- continues it those after the
--- request id (meaning).
+-- continues it those after the request id (meaning).
 use Rattle.std.specs.Prelude.{ℕ, List, [], ◌∷◌, ◌++◌, take, drop, Option, Some, None, ◌==◌, if◌then◌else◌}
 use Rattle.giop_stream.specs.Framing.{Message}
 use Rattle.giop_message.specs.Headers.{is_fragment}

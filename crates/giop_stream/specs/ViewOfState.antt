@@ -27,8 +27,7 @@ unfoldable pub payload_count_in : State → ℕ
 payload_count_in s = if nat_lt (length s.held) 12 then 0 else size s.held - s.left
 
 -- The owner of the payload's next octets: the open message at this index; or the current message,
--- of which this is kept
--- unless it is over, or none.
+-- of which this is kept unless it is over, or none.
 abbrev pub IsOwner : Table → Answers → Option ℕ → Option CodeMessage → State → Type 0
 IsOwner C l (Some k) message s =
     (s.own ≡ None) × ((slot : Slot) × (slice_get s.slots k ≡ Some slot)

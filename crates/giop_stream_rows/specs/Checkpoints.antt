@@ -71,8 +71,7 @@ BehindAFault = Spells
 -- ---- Two open messages.
 
 -- the Requests of two operations of `bigs`, each with fragments to follow: the first ends within
--- its number, the second
--- after its body
+-- its number, the second after its body
 unfoldable pub two_requests : List ℕ
 two_requests = stream (codes "47494f50 0102 02 00 00000028"
     ∷ codes "00000005 03 000000 0000 0000 00000001 41 000000 00000004 626967 00 00000000"
@@ -92,8 +91,8 @@ between_messages =
     ∷ [])
 
 -- The record of the first, which is open under the request id 5 and in its body, before octet 52.
--- Four octets are held of a
--- number of type 8, the one part of the struct that is the first type declared.
+-- Four octets are held of a number of type 8, the one part of the struct that is the first type
+-- declared.
 unfoldable pub in_a_number : List ℕ
 in_a_number =
     stream (codes "02 01 0000000000000001 47494f50 0102 02 00 00000028 00000005 000000000000"
@@ -106,8 +105,7 @@ in_a_number =
     ∷ [])
 
 -- The record of the second, which is open under the request id 6 and in its rest, before octet 48.
--- No octet of the rest is
--- held.
+-- No octet of the rest is held.
 unfoldable pub behind_a_body : List ℕ
 behind_a_body =
     stream (codes "00 01 0000000000000002 47494f50 0102 02 00 00000024 00000006 000000000000"

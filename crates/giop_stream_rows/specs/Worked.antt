@@ -1,6 +1,5 @@
 -- How a worked stream is written down: its octets in hexadecimal digits, its lines, and the types
--- and requests that it is
--- read by (meaning).
+-- and requests that it is read by (meaning).
 use Rattle.std.specs.Prelude.{◌≡◌, ℕ, ◌+◌, ◌-◌, ◌*◌, ◌==◌, nat_lt, if◌then◌else◌, List, [], ◌∷◌, ◌++◌, length, Some, None, codes}
 use Rattle.giop_sig.specs.Table.{Node, members, Operation, Exception, Table, op_id, operation_number}
 use Rattle.giop_sig.specs.Builtin.{builtin_types, member}
@@ -44,8 +43,7 @@ unfoldable pub read_by : Table → RequestTable → Rules
 read_by table kept = rules table kept most_open
 
 -- an operation with the structs of its parameters and of its results, one after the other in the
--- table; the first is counted
--- from the first type after the built-in ones
+-- table; the first is counted from the first type after the built-in ones
 unfoldable pub called : List ℕ → ℕ → Operation
 called name request = record {
   name = name;

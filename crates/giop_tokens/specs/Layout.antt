@@ -1,6 +1,5 @@
 -- How tokens are written: each as itself, with white space and comments before, between and after
--- them
--- (docs/FORMATS.md, Signature file; meaning).
+-- them (docs/FORMATS.md, Signature file; meaning).
 use Rattle.std.specs.Prelude.{◌≡◌, ℕ, ◌^◌, ◌<◌, ◌≤◌, ◌≢◌, Bool, true, false, ◌⊎◌, List, [], ◌∷◌, ◌++◌, length, map, decimal, slice_index, ⊤}
 use Rattle.std.specs.List.{AllByRecursion}
 use Rattle.giop_tokens.specs.Marks.{octet_of}

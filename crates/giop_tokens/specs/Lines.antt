@@ -6,8 +6,7 @@ use Rattle.giop_tokens.specs.declared.fault.SigFaultKind.{SigFaultKind}
 use Rattle.giop_tokens.specs.declared.fault.SigFaultKind.TheVariants as kinds
 
 -- The line, from 1, of the octet from which on so many are left; of the last octet where none is
--- left. A line feed
--- belongs to the line that it ends.
+-- left. A line feed belongs to the line that it ends.
 abbrev pub line_at : List ℕ → ℕ → ℕ
 line_at text left = 1 + count_by (λ b. b == 10) (take (length text - max 1 left) text)
 

@@ -1,6 +1,6 @@
 -- Readers of one token: its value, and what follows it (meaning). Each refuses with Token where
--- there is no token, and with
--- Syntax, at the token, where it is another one or the text ends (docs/FORMATS.md, Signature file).
+-- there is no token, and with Syntax, at the token, where it is another one or the text ends
+-- (docs/FORMATS.md, Signature file).
 use Rattle.std.specs.Prelude.{ℕ, Bool, true, false, List, Option, Some, None, Result, Ok, Err, ◌==◌, if◌then◌else◌, option_and_then}
 use Rattle.std.specs.Str.{bytes_eq}
 use Rattle.giop_tokens.specs.declared.fault.Refusal.{Refusal}

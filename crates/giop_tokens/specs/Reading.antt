@@ -1,6 +1,5 @@
 -- Reading from left to right: one thing, and then another from what follows it; and a function of
--- the code against such a
--- reading (steps).
+-- the code against such a reading (steps).
 use Rattle.std.specs.Prelude.{◌≡◌, Result, Ok, Err}
 use Rattle.giop_tokens.specs.declared.fault.Refusal.{Refusal}
 

@@ -1,6 +1,6 @@
 -- The tokens of a text (docs/FORMATS.md, Signature file): what the first one is and what follows
--- it, and which tokens
--- a text is (meaning). A place in a text is the number of octets that are left from there on.
+-- it, and which tokens a text is (meaning). A place in a text is the number of octets that are left
+-- from there on.
 use Rattle.std.specs.Prelude.{◌≡◌, ℕ, ◌^◌, Bool, true, false, not, ◌||◌, ◌&&◌, List, [], ◌∷◌, length, take, drop, Option, Some, None, Result, Ok, Err, nat_le, nat_lt, ◌==◌, if◌then◌else◌, slice_index, option_map}
 use Rattle.std.specs.List.{prefix_len, list_all}
 use Rattle.std.specs.Str.Parse.{digits_value}

@@ -1,6 +1,6 @@
 -- What an IP packet carries for TCP, and between which addresses (RFC 791, Internet Header Format;
--- RFC 8200, IPv6 Header
--- Format and IPv6 Extension Headers; RFC 4302, Authentication Header Format; meaning).
+-- RFC 8200, IPv6 Header Format and IPv6 Extension Headers; RFC 4302, Authentication Header Format;
+-- meaning).
 use Rattle.std.specs.Prelude.{ℕ, zero, suc, ◌+◌, ◌*◌, ◌/◌, ◌%◌, Bool, not, ◌&&◌, ◌||◌, List, length, take, drop, slice_index, Option, Some, option_map, nat_le, ◌==◌, if◌then◌else◌}
 use Rattle.tcp_segment.specs.declared.endpoint.Address.{Address}
 use Rattle.tcp_segment.specs.declared.endpoint.Address.TheVariants as addresses
@@ -17,8 +17,7 @@ pub record Datagram : Type 0 where
   pub octets : List ℕ
 
 -- what a length field leaves of octets: 0 stands for all, since the packet of a segment that the
--- sender's hardware is still to
--- cut has a length that fits no field
+-- sender's hardware is still to cut has a length that fits no field
 unfoldable pub limited : ℕ → List ℕ → List ℕ
 limited size octets = if size == 0 then octets else take size octets
 
@@ -63,8 +62,7 @@ is_extension header =
     header == 0 || header == 43 || header == 44 || header == 51 || header == 60
 
 -- its length field counts 8 octets beyond the first 8; that of an authentication header 4 beyond
--- the first 8; a fragment
--- header has none
+-- the first 8; a fragment header has none
 abbrev pub extension_size : ℕ → List ℕ → ℕ
 extension_size header octets =
     if header == 44 then 8

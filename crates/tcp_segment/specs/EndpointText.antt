@@ -1,11 +1,9 @@
 -- The text of an endpoint (meaning): an IPv4 address as four decimal numbers, an IPv6 address in
--- brackets (RFC 3986, Host) in
--- its canonical form (RFC 5952), a colon, and the port.
+-- brackets (RFC 3986, Host) in its canonical form (RFC 5952), a colon, and the port.
 --
 -- The canonical form is std's: each group of 16 bits in lower-case hexadecimal digits without
--- leading zeros, `::` for a run of
--- two or more groups of zeros (IsLongestRun says which), and the IPv4 address of an IPv4-mapped one
--- in decimal.
+-- leading zeros, `::` for a run of two or more groups of zeros (IsLongestRun says which), and the
+-- IPv4 address of an IPv4-mapped one in decimal.
 use Rattle.std.specs.Prelude.{◌≡◌, ℕ, ◌+◌, ◌<◌, ◌≤◌, List, ◌++◌, length, slice_index, codes, decimal}
 use Rattle.std.specs.Net.Addr.{segments_of}
 use Rattle.std.specs.Net.Text.{ipv4_text, ipv6_text}

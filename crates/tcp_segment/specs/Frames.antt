@@ -1,6 +1,5 @@
 -- What is in a frame, by the link type of the capture: an IP packet and its version (IEEE 802.3,
--- IEEE 802.1Q, the link-layer
--- header types of tcpdump; meaning).
+-- IEEE 802.1Q, the link-layer header types of tcpdump; meaning).
 use Rattle.std.specs.Prelude.{ℕ, zero, suc, ◌/◌, Bool, ◌||◌, List, length, drop, slice_index, Option, Some, None, nat_le, ◌==◌, if◌then◌else◌}
 use Rattle.std.specs.Int.{w32, from_le_bytes}
 use Rattle.tcp_segment.specs.declared.frame.Version.{Version}

@@ -2,8 +2,7 @@
 use Rattle.std.specs.Prelude.{ℕ, ◌==◌, ◌||◌, Bool}
 
 -- whether packets of a link type are looked into: Ethernet 1, Linux cooked 113 and 276, loopback 0
--- and 108, raw IP 12, 14, 101,
--- IPv4 228 and IPv6 229 (the link-layer header types of pcap)
+-- and 108, raw IP 12, 14, 101, IPv4 228 and IPv6 229 (the link-layer header types of pcap)
 unfoldable pub is_link_read : ℕ → Bool
 is_link_read link =
     link == 1 || link == 113 || link == 276 || link == 0 || link == 108 || link == 12 || link == 14

@@ -1,6 +1,5 @@
 -- The invariants of every stream, by induction on its octets: those of `Soundness`, and that a
--- message which begins with its
--- request id is not over before that is complete.
+-- message which begins with its request id is not over before that is complete.
 use Rattle.std.proofs.Common.{inl, inr, ◌⊎◌, ◌≡◌, ℕ, suc, ◌-◌, ◌<◌, ◌≤◌, true, List, [], ◌∷◌, ◌++◌, length, get_or, refl, sym, ap, ◌∙◌, Some, None, arith, append-nil}
 use Rattle.std.specs.List.{AllByRecursion as Each}
 use Rattle.std.proofs.lemmas.List.{length_push, get_or_push}

@@ -1,6 +1,5 @@
 -- The step agrees with the definitions: from the state of a stream it gives the lines that the
--- octet adds, and the state of the
--- longer stream.
+-- octet adds, and the state of the longer stream.
 use Rattle.std.proofs.Common.{inl, inr, ◌≡◌, ℕ, suc, ◌+◌, ◌-◌, ◌<◌, ◌≤◌, Bool, true, false, List, [], ◌∷◌, ◌++◌, length, refl, sym, ap, subst, ◌∙◌, Option, Some, None, arith}
 use Rattle.std.specs.Prelude.{nat_lt, nat_le, ◌||◌, if◌then◌else◌, option_map, is_some}
 use Rattle.std.specs.List.{AllByRecursion as Each}

@@ -1,6 +1,6 @@
 -- The last octet of a header and the request id of a Fragment that continues an open message: the
--- stream with them, and that
--- the code does their steps. They write the start, the request id, and what its last octet does.
+-- stream with them, and that the code does their steps. They write the start, the request id, and
+-- what its last octet does.
 use Rattle.std.proofs.Common.{◌≡◌, ℕ, suc, ◌+◌, ◌^◌, ◌<◌, ◌≤◌, true, List, [], ◌∷◌, ◌++◌, length, take, refl, sym, ap, subst, ◌∙◌, append_assoc, append-nil, length-append, take_all, Option, Some, None, Result, arith}
 use Rattle.std.specs.Prelude.{◌==◌, OnOk}
 use Rattle.std.proofs.lemmas.Bool.{and_parts, eqb-true, le-ltb, ne_eqb}

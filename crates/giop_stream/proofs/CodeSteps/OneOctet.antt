@@ -1,6 +1,5 @@
 -- A stream with one more octet, in each case: its cut, its lines, what is tracked of its messages,
--- and that the invariants
--- stay.
+-- and that the invariants stay.
 use native.Mathlib.Nat.{le_of_eq}
 use Rattle.std.proofs.Common.{inl, inr, ◌⊎◌, ◌≡◌, ℕ, suc, ◌+◌, ◌-◌, ◌<◌, ◌≤◌, Bool, true, false, List, [], ◌∷◌, ◌++◌, length, get_or, refl, sym, ap, subst, ◌∙◌, Option, Some, None, arith}
 use Rattle.std.specs.Prelude.{nat_lt, ◌==◌}

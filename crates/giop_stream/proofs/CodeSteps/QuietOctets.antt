@@ -1,7 +1,6 @@
 -- Octets in which no message begins, and no Reply's header and no name of an exception ends: those
--- before the last octet of a
--- header of 12, and those of a message of which nothing more is told, or that is still in a value
--- of its header.
+-- before the last octet of a header of 12, and those of a message of which nothing more is told, or
+-- that is still in a value of its header.
 use Rattle.std.proofs.Common.{inl, inr, ◌≡◌, ℕ, suc, ◌+◌, ◌-◌, ◌<◌, ◌≤◌, Bool, true, false, List, [], ◌∷◌, ◌++◌, length, Option, Some, None, refl, sym, ap, subst, ◌∙◌, append_assoc, append-nil, arith}
 use Rattle.std.specs.Prelude.{◌⊎◌, ◌==◌, ◌^◌, is_some, nat_lt, if◌then◌else◌}
 use Rattle.std.proofs.lemmas.Bool.{cases_lt, lt-ltb, le-ltb, ne_eqb, false≢true}
@@ -109,8 +108,8 @@ nothing_quiet R p = record {
 }
 
 -- Where n more octets are quiet: after a stream fault; before a header is complete; and in a
--- payload, where so many of its owner
--- tell nothing, and none of them ends its request id, and in the octets of a header that follow.
+-- payload, where so many of its owner tell nothing, and none of them ends its request id, and in
+-- the octets of a header that follow.
 abbrev IsEnded : List ℕ → Type 0
 IsEnded p = (found : ℕ × StreamFault) × ((cut p).stop ≡ Some found)
 

@@ -1,6 +1,5 @@
 -- Induction over the events of an octet after those of its first part: what holds of no events, of
--- each single event and of
--- lists joined holds of all of them.
+-- each single event and of lists joined holds of all of them.
 use Rattle.std.proofs.Common.{ℕ, Bool, true, false, List, [], ◌++◌, length, Option, Some, None}
 use Rattle.std.specs.Prelude.{nat_lt, nat_le, ◌==◌, if◌then◌else◌, ◌&&◌, ◌||◌}
 use Rattle.giop_stream.specs.declared.fault.FramingFault.{FramingFault}

@@ -1,6 +1,5 @@
 -- The invariants of a stream, kept by each octet: where its events are, how its messages are
--- numbered, which may be open, and
--- what has come of the current one.
+-- numbered, which may be open, and what has come of the current one.
 use Rattle.std.proofs.Common.{inl, ◌≡◌, ℕ, suc, ◌+◌, ◌<◌, ◌≤◌, Bool, true, false, List, [], ◌∷◌, ◌++◌, length, refl, sym, ap, subst, ◌∙◌, append_assoc, Some, None, arith}
 use Rattle.std.specs.Prelude.{nat_lt, if◌then◌else◌, IfSome}
 use Rattle.std.specs.List.{list_any, AllByRecursion as Each}

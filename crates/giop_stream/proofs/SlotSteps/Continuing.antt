@@ -1,6 +1,5 @@
 -- A Fragment that continues an open message, as the code does it: at its request id, and where the
--- last octet of its header
--- and its request id come together.
+-- last octet of its header and its request id come together.
 use Rattle.std.proofs.Common.{◌≡◌, ℕ, suc, ◌-◌, ◌<◌, ◌≤◌, Bool, true, false, List, [], ◌∷◌, ◌++◌, length, take, refl, sym, ap, subst, ◌∙◌, Option, Some, None, Result, arith}
 use Rattle.std.specs.Prelude.{◌==◌}
 use Rattle.std.specs.List.{find}

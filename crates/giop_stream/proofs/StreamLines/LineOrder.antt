@@ -1,6 +1,5 @@
 -- The lines of an octet are in the order of their classes: those that the message's reader gives,
--- those of the request id,
--- those of the close.
+-- those of the request id, those of the close.
 use Rattle.std.proofs.Common.{inl, inr, ◌⊎◌, ◌≡◌, ℕ, suc, ◌<◌, ◌≤◌, Bool, true, false, List, [], ◌∷◌, ◌++◌, length, map, refl, sym, subst, Option, Some, None, arith}
 use Rattle.std.specs.Prelude.{nat_lt, ◌==◌, if◌then◌else◌, ◌||◌, option_map}
 use Rattle.std.specs.List.{AllByRecursion as Each}

@@ -1,6 +1,5 @@
 -- What is written from a checkpoint on, together with what was written before, is the whole text;
--- and how many octets a
--- checkpoint has at most.
+-- and how many octets a checkpoint has at most.
 use Rattle.std.proofs.Common.{◌≡◌, Bool, true, false, ℕ, ◌≤◌, List, [], ◌++◌, length, refl, sym, ap, subst, ◌∙◌, append_assoc, append-nil, length-drop, arith}
 use Rattle.std.specs.Prelude.{◌≢◌, Result, Ok, Err, IfOk, IfErr}
 use Rattle.std.proofs.lemmas.Bool.{false≢true}

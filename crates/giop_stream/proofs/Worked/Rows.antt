@@ -1,8 +1,7 @@
 -- The definitions on example streams with fragments: the text, and what is written at the end. Each
--- row holds by computation,
--- with a small reader that gives a line for the request id, and at the close one for the octets
--- after it. `giop_stream_rows`
--- has streams with the reader of messages itself.
+-- row holds by computation, with a small reader that gives a line for the request id, and at the
+-- close one for the octets after it. `giop_stream_rows` has streams with the reader of messages
+-- itself.
 use Rattle.std.proofs.Common.{◌≡◌, ℕ, ◌+◌, ◌-◌, ◌*◌, List, [], ◌∷◌, ◌++◌, length, take, drop, refl, codes}
 use Rattle.std.specs.Prelude.{nat_le, nat_lt, ◌==◌, if◌then◌else◌, ◌&&◌}
 use Rattle.std.specs.Fmt.{decimal, digits}
