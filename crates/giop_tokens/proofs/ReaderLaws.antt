@@ -9,7 +9,7 @@ use Rattle.giop_tokens.specs.declared.fault.Refusal.{Refusal}
 use Rattle.giop_tokens.specs.declared.marks.Mark.{Mark}
 use Rattle.giop_tokens.specs.declared.marks.Mark.TheVariants as marks
 use Rattle.giop_tokens.specs.Marks.{octet_of, mark_of}
-use Rattle.giop_tokens.specs.Tokens.{Token, word, number, negative, repository, mark, next, AreTokens}
+use Rattle.giop_tokens.specs.Tokens.{Token, word, number, repository, mark, next, AreTokens}
 use Rattle.giop_tokens.specs.Reading.{◌>>=◌}
 use Rattle.giop_tokens.specs.Readers.{misplaced, as_word, as_number, as_repository, is_the_mark, is_the_word, wanted, passes, next_as, next_is, next_if, word_at, number_at, repository_at, mark_at, keyword_at, mark_if, keyword_if, end_at}
 use Rattle.giop_tokens.specs.Names.{is_reserved, too_long, identifier_at, operation_name_at}
