@@ -2,11 +2,13 @@ pub mod Cases
 pub mod Changes
 pub mod Counted
 pub mod Ending
+pub mod Following
 pub mod Forgotten
 pub mod Gapless
 pub mod Kept
 pub mod Living
 pub mod Search
+pub mod SegmentParts
 pub mod Sound
 pub mod Start
 pub mod States

@@ -2,7 +2,10 @@
 //! allocated when they are made.
 #![tactic(auto)]
 
+mod arrivals;
+mod capture_end;
 mod connections;
+mod forgetting;
 mod laws;
 
 pub use connections::Connections;

@@ -1,117 +1,21 @@
 -- What has come of a content, while its stream lives: in whatever order, its octets up to the first
 -- place that no payload spans.
-use Rattle.std.proofs.Common.{◌≡◌, ◌⊎◌, ℕ, zero, suc, ◌+◌, ◌-◌, ◌^◌, ◌<◌, ◌≤◌, Bool, true, false, cond, not, nat_eq, nat_le, nat_lt, ◌&&◌, ◌||◌, List, [], ◌∷◌, ◌++◌, length, take, drop, get_or, Option, Some, None, is_some, refl, sym, ◌∙◌, ap, subst, arith, inl, inr, true≢false, append-nil}
+use Rattle.std.proofs.Common.{◌≡◌, ◌⊎◌, ℕ, zero, suc, ◌+◌, ◌-◌, ◌^◌, ◌<◌, ◌≤◌, Bool, true, false, cond, not, nat_eq, nat_lt, ◌&&◌, List, [], ◌∷◌, ◌++◌, length, take, drop, get_or, Some, None, is_some, refl, sym, ◌∙◌, ap, subst, arith, inl, inr, true≢false}
 use Rattle.std.specs.List.{AllByRecursion, remove}
-use Rattle.std.proofs.lemmas.Bool.{cases_Bool, cases_lt, cond-true, cond-false, and_cases, and_parts, and_right, not-true, not_from_true, both_ways, or_cases, or_parts, eqb-true, eq-eqb, leb-true}
+use Rattle.std.proofs.lemmas.Bool.{cases_Bool, cond-true, cond-false, and_cases, and_right, not-true, not_from_true, both_ways, eqb-true, eq-eqb}
 use Rattle.std.proofs.lemmas.List.{append_assoc, length-drop}
 use Rattle.tcp_flow.specs.declared.flow.CloseCause.{CloseCause}
 use Rattle.tcp_flow.specs.declared.flow.CloseCause.TheVariants.{Fault}
 use Rattle.tcp_waiting.specs.Numbers.{onward, age, is_to_come}
-use Rattle.tcp_waiting.specs.Payload.{Payload, payload, window, has_as_much}
-use Rattle.tcp_flow.specs.Flow.{Flow, Event, Begins, Delivers, Closes, Reader, Setting, Arrival, Octets, End, Acknowledged, left, with_event, delivered, begun, taken, header_at, first_of, is_due, at as held_at, closed, holding, gone_on, within_bounds, payload_came, step, after}
-use Rattle.tcp_flow.specs.Laws.{IsSettled}
-use Rattle.tcp_flow.specs.Order.{octets_in, octets_of, closes_in, closes_of, Agrees, StandsIn}
+use Rattle.tcp_waiting.specs.Payload.{Payload, payload, window}
+use Rattle.tcp_flow.specs.Flow.{Flow, Event, Delivers, Closes, Reader, left, with_event, delivered, taken, first_of, is_due, at as held_at, closed}
+use Rattle.tcp_flow.specs.Order.{octets_of, closes_of, Agrees}
 use Rattle.tcp_waiting.proofs.Firsts.{first_within, first_own}
-use Rattle.tcp_flow.proofs.Direct.{came_settled}
-use Rattle.tcp_flow.proofs.Places.{place_due, age_before, age_behind, same_place, place_further, drop_content, goes_on}
-use Rattle.tcp_flow.proofs.Preserving.{Keeps, gone_on_keeps, relieved_keeps}
+use Rattle.tcp_flow.proofs.Closings.{octets_more, closes_more, taken_more, closed_more}
+use Rattle.tcp_flow.proofs.Places.{place_due, age_before, same_place, goes_on}
+use Rattle.tcp_flow.proofs.Preserving.{Keeps}
 use Rattle.tcp_flow.proofs.States.{delivered_on, delivered_fault}
-use Rattle.tcp_flow.proofs.Steps.{taken_none, taken_live, came_nothing, came_held}
-
--- ---- One more event.
-
-octets_more : (id : ℕ) (es : List Event) (e : Event) → octets_of id (es ++ e ∷ []) ≡ octets_of id es
-    ++ octets_in id e
-unfolding octets_of
-octets_more id [] e = append-nil (octets_in id e)
-octets_more id (d ∷ es) e = ap (λ (xs : List ℕ). octets_in id d ++ xs) (octets_more id es e)
-    ∙ sym (append_assoc (octets_in id d) (octets_of id es) (octets_in id e))
-
-closes_more : (id : ℕ) (es : List Event) (e : Event) →
-    closes_of id (es ++ e ∷ []) ≡ closes_of id es + closes_in id e
-unfolding closes_of
-closes_more id [] e = omega arith
-closes_more id (d ∷ es) e = omega (arith, closes_more id es e)
-
-more_event : (n id : ℕ) (es : List Event) (e : Event) → n < closes_of id es →
-    n < closes_of id (es ++ e ∷ [])
-more_event n id es e l = omega (arith, l, closes_more id es e)
-
-either : {X : Type 0} (P : X → Type 0) (b : Bool) (x y : X) → P x → P y → P (cond b x y)
-either P true x y p q = p
-either P false x y p q = q
-
--- ---- Streams that have closed stay so.
-
-delivered_more : (F : Reader) (n id : ℕ) (g : Flow) (p : Payload) → n < closes_of id g.events →
-    n < closes_of id (delivered F g p).events
-unfolding delivered with_event
-delivered_more F n id g p l =
-    let d : Flow = record {
-      id = g.id;
-      next = onward p.number (length p.octets);
-      live = g.live;
-      fin = g.fin;
-      held = g.held;
-      events = g.events ++ Delivers g.id p.octets ∷ [];
-    } in
-    let m : n < closes_of id d.events = more_event n id g.events (Delivers g.id p.octets) l in
-    either (λ (h : Flow). n < closes_of id h.events) (F d.events)
-    (record {
-      id = d.id;
-      next = d.next;
-      live = None;
-      fin = d.fin;
-      held = d.held;
-      events =
-          d.events ++ Closes d.id Fault ∷ [];
-    }) d
-    (more_event n id d.events (Closes d.id Fault) m) m
-
-begun_more : (F : Reader) (n id : ℕ) (g : Flow) (p : Payload) (r : Option ℕ) →
-    n < closes_of id g.events → n < closes_of id (begun F g p r).events
-unfolding begun with_event
-begun_more F n id g p None l = l
-begun_more F n id g p (Some i) l =
-    let k : ℕ = onward p.number i in
-    delivered_more F n id (record {
-      id = g.id;
-      next = g.next;
-      live = Some k;
-      fin = g.fin;
-      held =
-          g.held;
-      events = g.events ++ Begins g.id k ∷ [];
-    }) (payload p.flow k (drop i p.octets))
-    (more_event n id g.events (Begins g.id k) l)
-
-taken_more : (F : Reader) (n id : ℕ) (g : Flow) (p : Payload) → n < closes_of id g.events →
-    n < closes_of id (taken F g p).events
-unfolding taken
-taken_more F n id g p l =
-    let q : Payload = left g.next (is_some g.live) p in
-    let d : Flow = delivered F g q in
-    let b : Flow = begun F g q (header_at q.octets) in
-    either (λ (h : Flow). n < closes_of id h.events) (nat_eq (length q.octets) 0) g
-    (cond (is_some g.live) d b) l
-    (either (λ (h : Flow). n < closes_of id h.events) (is_some g.live) d b
-    (delivered_more F n id g q l) (begun_more F n id g q (header_at q.octets) l))
-
-closed_more : (n id : ℕ) (g : Flow) (cause : CloseCause) → n < closes_of id g.events →
-    n < closes_of id (closed g cause).events
-unfolding closed with_event
-closed_more n id g cause l =
-    either (λ (h : Flow). n < closes_of id h.events) (is_some g.live)
-    (record {
-      id = g.id;
-      next = g.next;
-      live = None;
-      fin = g.fin;
-      held = g.held;
-      events =
-          g.events ++ Closes g.id cause ∷ [];
-    }) g
-    (more_event n id g.events (Closes g.id cause) l) l
+use Rattle.tcp_flow.proofs.Steps.{taken_none, taken_live}
 
 -- ---- Lists.
 
@@ -129,20 +33,21 @@ some_remove P (p ∷ ps) (suc i) d (inl s) = inr (inl s)
 some_remove P (p ∷ ps) (suc i) d (inr s) =
     elim (some_remove P ps i d s) [ inl a ↦ inl a | inr a ↦ inr (inr a) ]
 
-some_left : (P : Payload → Type 0) (ps : List Payload) (q : Payload) → SomeOf P ps →
+pub some_left : (P : Payload → Type 0) (ps : List Payload) (q : Payload) → SomeOf P ps →
     SomeOf P (ps ++ q ∷ [])
 unfolding SomeOf
 some_left P [] q s = absurd s
 some_left P (p ∷ ps) q (inl s) = inl s
 some_left P (p ∷ ps) q (inr s) = inr (some_left P ps q s)
 
-some_last : (P : Payload → Type 0) (ps : List Payload) (q : Payload) → P q → SomeOf P (ps ++ q ∷ [])
+pub some_last : (P : Payload → Type 0) (ps : List Payload) (q : Payload) → P q →
+    SomeOf P (ps ++ q ∷ [])
 unfolding SomeOf
 some_last P [] q s = inl s
 some_last P (p ∷ ps) q s = inr (some_last P ps q s)
 
 -- one of which something is so, where something else is so of all
-some_with : (P Q R : Payload → Type 0) (ps : List Payload) → ((p : Payload) → P p → Q p → R p) →
+pub some_with : (P Q R : Payload → Type 0) (ps : List Payload) → ((p : Payload) → P p → Q p → R p) →
     AllByRecursion P ps → SomeOf Q ps → SomeOf R ps
 unfolding SomeOf
 some_with P Q R [] k h s = absurd s
@@ -169,16 +74,15 @@ all_remove P [] (suc i) h = h
 all_remove P (p ∷ ps) zero h = h.1
 all_remove P (p ∷ ps) (suc i) h = (h.0, all_remove P ps i h.1)
 
-all_push : (P : Payload → Type 0) (ps : List Payload) (q : Payload) → AllByRecursion P ps → P q →
-    AllByRecursion P (ps ++ q ∷ [])
+pub all_push : (P : Payload → Type 0) (ps : List Payload) (q : Payload) → AllByRecursion P ps →
+    P q → AllByRecursion P (ps ++ q ∷ [])
 all_push P [] q h p = (p, tt)
 all_push P (r ∷ ps) q h p = (h.0, all_push P ps q h.1 p)
 
 -- ---- What has come.
 
 -- a flow of an id, at the start; how many of its streams have closed; the place of one payload and
--- its end; a content, and what
--- was delivered in front of it
+-- its end; a content, and what was delivered in front of it
 pub record Case : Type 0 where
   pub id : ℕ
   pub start : ℕ
@@ -253,7 +157,7 @@ covered_taken x U r s ps i d small l piece m (inr (inr a)) =
           (λ p h. later_reach x r s p l h) w))
     ]
 
-left_live : (next k : ℕ) (live : Bool) (p : Payload) → live ≡ true → age next p.number ≡ k →
+pub left_live : (next k : ℕ) (live : Bool) (p : Payload) → live ≡ true → age next p.number ≡ k →
     payload p.flow (onward p.number k) (drop k p.octets) ≡ left next live p
 unfolding left
 left_live next k live p l e =
@@ -262,7 +166,7 @@ left_live next k live p l e =
     (payload p.flow (onward p.number (age next p.number)) (drop (age next p.number) p.octets))
     (and_right (nat_lt window (age next p.number)) (not live) (not_from_true live l)))
 
-some_octets : (n : ℕ) → nat_eq n 0 ≡ false → 0 < n
+pub some_octets : (n : ℕ) → nat_eq n 0 ≡ false → 0 < n
 some_octets zero h = absurd (true≢false h)
 some_octets (suc n) h = omega arith
 
@@ -440,286 +344,3 @@ so_keeps F x U K small =
                 })
           ];
     }
-
--- ---- One payload comes.
-
--- it has come, or the one payload is this
-unfoldable pub IsOrHas : Case → Type 0 → ℕ → ℕ → Type 0
-IsOrHas x K place end = K ⊎ ((place ≡ x.place) × (end ≡ x.end))
-
-any_as_much : (id number count : ℕ) (ps : List Payload) → has_as_much id number count ps ≡ true →
-    SomeOf (λ p. (p.flow ≡ id) × ((p.number ≡ number) × (count ≤ length p.octets))) ps
-unfolding has_as_much SomeOf
-any_as_much id number count [] h = absurd (true≢false (sym h))
-any_as_much id number count (p ∷ ps) h =
-    elim (or_cases (nat_eq p.flow id && nat_eq p.number number && nat_le count (length p.octets))
-    (has_as_much id number count ps) h) [
-      | inl a ↦
-          (let b = and_parts (nat_eq p.flow id && nat_eq p.number number)
-          (nat_le count (length p.octets)) a in
-          let c = and_parts (nat_eq p.flow id) (nat_eq p.number number) b.0 in
-          inl (
-            eqb-true p.flow id c.0,
-            (
-              eqb-true p.number number c.1,
-              leb-true count (length p.octets) b.1,
-            ),
-          ))
-      | inr a ↦ inr (any_as_much id number count ps a)
-    ]
-
--- where the octets of a payload that are left begin
-place_left : (x : Case) (r place : ℕ) → (r ≤ place) ⊎ (place < r) → (k : ℕ) →
-    length x.content < 2 ^ 31 → r ≤ length x.content → place ≤ length x.content →
-    k ≡ age (onward x.start r) (onward x.start place)
-    → (k ≡ r - place) × ((place ≤ place + k) × ((place + k ≤ place) ⊎ (place + k ≤ r)))
-place_left x r place (inl l) k small within inside e =
-    let none : k ≡ 0 = e ∙ age_behind x.start r place l (omega (arith, small, inside)) in
-    (omega (arith, none, l), (omega arith, inl (omega (arith, none))))
-place_left x r place (inr l) k small within inside e =
-    let old : k ≡ r - place = e ∙ age_before x.start r place (omega (arith, l))
-    (omega (arith, small, within)) in
-    (old, (omega arith, inr (omega (arith, old, l))))
-
-covered_push : (x : Case) (r : ℕ) (ps : List Payload) (q : Payload) → Covered x r ps →
-    Covered x r (ps ++ q ∷ [])
-unfolding Covered
-covered_push x r ps q (inl a) = inl a
-covered_push x r ps q (inr (inl a)) = inr (inl a)
-covered_push x r ps q (inr (inr a)) = inr (inr (some_left (Reaches x r) ps q a))
-
-last_covered : (x : Case) (r : ℕ) (ps : List Payload) (q : Payload) → Reaches x r q →
-    Covered x r (ps ++ q ∷ [])
-unfolding Covered
-last_covered x r ps q h = inr (inr (some_last (Reaches x r) ps q h))
-
-more_keeps : (F : Reader) (n id : ℕ) → Keeps F (λ (g : Flow). n < closes_of id g.events)
-more_keeps F n id =
-    record {
-      takes = λ f i e d t. taken_more F n id (record f { held = remove f.held i }) (held_at f i) t;
-      closes = λ f cause t. closed_more n id f cause t;
-      fins = λ f k t. t;
-    }
-
-came_more : (A : Setting) (n id : ℕ) (f : Flow) (p : Payload) → n < closes_of id f.events →
-    n < closes_of id (payload_came A f p).events
-unfolding payload_came holding
-came_more A n id f p l =
-    let P : Flow → Type 0 = λ (g : Flow). n < closes_of id g.events in
-    let q : Payload = left f.next (is_some f.live) p in
-    let h : Flow = record f { held = f.held ++ q ∷ [] } in
-    either P (nat_eq (length q.octets) 0 || has_as_much f.id q.number (length q.octets) f.held) f
-    (within_bounds A (length f.held + 1) (gone_on A.faulted h)) l
-    (relieved_keeps A P (more_keeps A.faulted n id) (length f.held + 1) (gone_on A.faulted h)
-    (gone_on_keeps A.faulted P (more_keeps A.faulted n id) h l))
-
--- a payload that adds nothing
-nothing_so : (x : Case) (U : ℕ → Type 0) (K : Type 0) (f : Flow) (number place k : ℕ)
-    (octets : List ℕ) (so : So x U K f) → length x.content < 2 ^ 31
-    → number ≡ onward x.start (place + k) → (place + k ≤ place) ⊎ (place + k ≤ so.r) →
-    place + length octets ≤ length x.content
-    → (nat_eq (length (drop k octets)) 0 || has_as_much f.id number (length (drop k octets)) f.held)
-    ≡ true → place ≡ x.place → place + length octets ≡ x.end
-    → Covered x so.r f.held
-unfolding Covered
-nothing_so x U K f number place k octets so small num early within e same end =
-    let long : length (drop k octets) ≡ length octets - k = length-drop k octets in
-    elim (or_cases (nat_eq (length (drop k octets)) 0)
-    (has_as_much f.id number (length (drop k octets)) f.held) e) [
-      | inl z ↦
-          (let short : length octets ≤ k = omega (
-            arith,
-            long,
-            eqb-true (length (drop k octets)) 0 z,
-          ) in
-          elim early [
-            | inl a ↦ inl (omega (arith, a, short, same, end))
-            | inr a ↦ inr (inl (omega (arith, a, short, end)))
-          ])
-      | inr h ↦
-          inr (inr (some_with (λ p. p.flow ≡ x.id → Piece x U p)
-          (λ p. (p.flow ≡ f.id) × ((p.number ≡ number)
-          × (length (drop k octets) ≤ length p.octets))) (Reaches x so.r) f.held
-          (λ p has q.
-          let own : p.flow ≡ x.id = q.0 ∙ so.same in
-          let piece : Piece x U p = has own in
-          let low : place + k ≤ length x.content =
-          elim early [ inl a ↦ omega (arith, a, within) | inr a ↦ omega (arith, a, so.within) ]
-          in
-          let here : piece.place ≡ place + k =
-          same_place x.start piece.place (place + k) (omega (arith, piece.agrees.within, small))
-          (omega (arith, low, small)) (sym piece.agrees.number_is ∙ q.1.0 ∙ num) in
-          record {
-            own = own;
-            place = piece.place;
-            agrees = piece.agrees;
-            early = elim early [
-              | inl a ↦ inl (omega (arith, a, here, same))
-              | inr a ↦ inr
-                  (omega (arith, a, here))
-            ];
-            far = omega (arith, here, q.1.1, long, end);
-          }) so.held (any_as_much f.id number (length (drop k octets)) f.held h)))
-    ]
-
--- a payload of the content comes
-came_so : (A : Setting) (x : Case) (U : ℕ → Type 0) (K L : Type 0) (f : Flow) (n place : ℕ)
-    (octets : List ℕ) → length x.content < 2 ^ 31
-    → Agrees x.start x.content place n octets →
-    ((u : ℕ) → U u → place ≤ u → place + length octets ≤ u) →
-    (L → IsOrHas x K place (place + length octets))
-    → So x U K f → HasGone x U L (payload_came A f (payload f.id n octets))
-unfolding HasGone IsOrHas holding
-came_so A x U K L f n place octets small agrees spans new so =
-    let p : Payload = payload f.id n octets in
-    let k : ℕ = age f.next n in
-    let aged : k ≡ age (onward x.start so.r) (onward x.start place) =
-    ap (λ (m : ℕ). age m n) so.next ∙ ap (age (onward x.start so.r)) agrees.number_is in
-    let side : (so.r ≤ place) ⊎ (place < so.r) =
-    elim (cases_lt place so.r) [ inl l ↦ inr l | inr g ↦ inl g ] in
-    let here = place_left x so.r place side k small so.within (omega (arith, agrees.within)) aged in
-    let number : onward n k ≡ onward x.start (place + k) =
-    ap (λ (m : ℕ). onward m k) agrees.number_is ∙ place_further x.start place k in
-    let q : Payload = payload f.id (onward n k) (drop k octets) in
-    let is_left : q ≡ left f.next (is_some f.live) p =
-    left_live f.next k (is_some f.live) p so.live refl in
-    let long : length (drop k octets) ≡ length octets - k = length-drop k octets in
-    elim (cases_Bool (nat_eq (length q.octets) 0
-    || has_as_much f.id q.number (length q.octets) f.held)) [
-      | inl e ↦
-          subst (λ (h : Flow). (x.closings < closes_of x.id h.events) ⊎ So x U L h)
-          (sym (came_nothing A f p q is_left e))
-          (inr (record {
-            same = so.same;
-            live = so.live;
-            r = so.r;
-            next = so.next;
-            from = so.from;
-            within = so.within;
-            said = so.said;
-            count = so.count;
-            least = so.least;
-            held = so.held;
-            covered =
-                λ c.
-                elim (new c) [
-                  | inl has ↦ so.covered has
-                  | inr own ↦ nothing_so x U K f (onward n k) place k octets so small number
-                      here.1.1 agrees.within e own.0 own.1
-                ];
-          }))
-      | inr e ↦
-          (let parts = or_parts (nat_eq (length q.octets) 0)
-          (has_as_much f.id q.number (length q.octets) f.held) e in
-          let less : k < length octets = omega (arith, long, some_octets (length q.octets) parts.0)
-          in
-          let rest : Agrees x.start x.content (place + k) q.number q.octets =
-          record {
-            number_is = number;
-            within = omega (arith, long, less, agrees.within);
-            octets_are = drop_content place k octets x.content (omega (arith, less))
-                agrees.octets_are ∙ ap (λ (m : ℕ). take m (drop (place + k) x.content)) (sym long);
-          } in
-          let piece : Piece x U q = record {
-            place = place + k;
-            agrees = rest;
-            spans =
-                λ u c l. omega (arith, spans u c (omega (arith, l)), long, less);
-          } in
-          let h : Flow = record f { held = f.held ++ q ∷ [] } in
-          let held : So x U L h =
-          record {
-            same = so.same;
-            live = so.live;
-            r = so.r;
-            next = so.next;
-            from = so.from;
-            within = so.within;
-            said = so.said;
-            count = so.count;
-            least = so.least;
-            held = all_push (λ p. p.flow ≡ x.id → Piece x U p) f.held q so.held (λ o. piece);
-            covered =
-                λ c.
-                elim (new c) [
-                  | inl has ↦ covered_push x so.r f.held q (so.covered has)
-                  | inr own ↦ last_covered x so.r f.held q (record {
-                    own = so.same;
-                    place = place + k;
-                    agrees = rest;
-                    early = elim here.1.1 [ inl a ↦ inl (omega (arith, a, own.0)) | inr a ↦ inr a ];
-                    far = omega (arith, own.1, long, less);
-                  })
-                ];
-          } in
-          subst (λ (h : Flow). (x.closings < closes_of x.id h.events) ⊎ So x U L h)
-          (sym (came_held A f p q is_left e))
-          (relieved_keeps A (HasGone x U L) (so_keeps A.faulted x U L small) (length f.held + 1)
-          (gone_on A.faulted h) (gone_on_keeps A.faulted (HasGone x U L)
-          (so_keeps A.faulted x U L small) h (inr held))))
-    ]
-
--- ---- All that comes.
-
--- a stream has closed, or it is so, and what waits is to come
-unfoldable pub IsSo : Case → (ℕ → Type 0) → Type 0 → Flow → Type 0
-IsSo x U K g = (x.closings < closes_of x.id g.events) ⊎ (So x U K g × IsSettled g)
-
--- what comes is a payload of the content, and no place that no payload spans is in it
-unfoldable pub Comes : Case → (ℕ → Type 0) → Arrival → Type 0
-Comes x U (Octets n octets) =
-    (place : ℕ) × (Agrees x.start x.content place n octets
-    × ((u : ℕ) → U u → place ≤ u → place + length octets ≤ u))
-Comes x U (End n) = ⊥
-Comes x U (Acknowledged n) = ⊥
-
-step_so : (A : Setting) (x : Case) (U : ℕ → Type 0) (K L : Type 0) (f : Flow) (n place : ℕ)
-    (octets : List ℕ) → length x.content < 2 ^ 31
-    → Agrees x.start x.content place n octets →
-    ((u : ℕ) → U u → place ≤ u → place + length octets ≤ u) →
-    (L → IsOrHas x K place (place + length octets))
-    → IsSo x U K f → IsSo x U L (payload_came A f (payload f.id n octets))
-unfolding IsSo HasGone
-step_so A x U K L f n place octets small agrees spans new (inl m) =
-    inl (came_more A x.closings x.id f (payload f.id n octets) m)
-step_so A x U K L f n place octets small agrees spans new (inr h) =
-    elim (came_so A x U K L f n place octets small agrees spans new h.0) [
-      | inl m ↦ inl m
-      | inr so ↦
-          (let low : onward x.start so.r < 2 ^ 32 = omega arith in
-          inr (
-            so,
-            came_settled A f (payload f.id n octets) h.1
-                (subst (λ (m : ℕ). m < 2 ^ 32) (sym so.next) low),
-          ))
-    ]
-
-pub run : (A : Setting) (x : Case) (U : ℕ → Type 0) (K : Type 0) (cs : List Arrival) (f : Flow) →
-    length x.content < 2 ^ 31 → AllByRecursion (Comes x U) cs → IsSo x U K f →
-    IsSo x U K (after A f cs)
-unfolding after step Comes IsOrHas
-run A x U K [] f small h t = t
-run A x U K (Octets n octets ∷ cs) f small h t =
-    run A x U K cs (payload_came A f (payload f.id n octets)) small h.1
-    (step_so A x U K K f n h.0.0 octets small h.0.1.0 h.0.1.1 (λ k. inl k) t)
-run A x U K (End n ∷ cs) f small h t = absurd h.0
-run A x U K (Acknowledged n ∷ cs) f small h t = absurd h.0
-
--- the one payload is among them
-pub run_has : (A : Setting) (x : Case) (U : ℕ → Type 0) (n : ℕ) (octets : List ℕ)
-    (cs : List Arrival) (f : Flow) → length x.content < 2 ^ 31
-    → Agrees x.start x.content x.place n octets → x.place + length octets ≡ x.end →
-    ((u : ℕ) → U u → x.place ≤ u → x.place + length octets ≤ u)
-    → StandsIn cs (Octets n octets) → AllByRecursion (Comes x U) cs → IsSo x U ⊥ f →
-    IsSo x U (Unit {0}) (after A f cs)
-unfolding after step Comes StandsIn IsOrHas
-run_has A x U n octets [] f small agrees end spans s h t = absurd s
-run_has A x U n octets (d ∷ ds) f small agrees end spans (inl e) h t =
-    subst (λ (c : Arrival). IsSo x U (Unit {0}) (after A (step A f c) ds)) e
-    (run A x U (Unit {0}) ds (payload_came A f (payload f.id n octets)) small h.1
-    (step_so A x U ⊥ (Unit {0}) f n x.place octets small agrees spans (λ k. inr (refl, end)) t))
-run_has A x U n octets (Octets m os ∷ ds) f small agrees end spans (inr s) h t =
-    run_has A x U n octets ds (payload_came A f (payload f.id m os)) small agrees end spans s h.1
-    (step_so A x U ⊥ ⊥ f m h.0.0 os small h.0.1.0 h.0.1.1 (λ k. inl k) t)
-run_has A x U n octets (End m ∷ ds) f small agrees end spans (inr s) h t = absurd h.0
-run_has A x U n octets (Acknowledged m ∷ ds) f small agrees end spans (inr s) h t = absurd h.0

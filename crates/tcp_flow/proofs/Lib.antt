@@ -1,4 +1,6 @@
+pub mod Closings
 pub mod Content
+pub mod ContentRuns
 pub mod Direct
 pub mod Order
 pub mod Others

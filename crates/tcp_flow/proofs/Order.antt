@@ -7,7 +7,8 @@ use Rattle.tcp_waiting.specs.Payload.{Payload, first}
 use Rattle.tcp_flow.specs.Flow.{Flow, Setting, Arrival, Octets, End, Acknowledged, first_of, after}
 use Rattle.tcp_flow.specs.Laws.{IsSettled, AreLater}
 use Rattle.tcp_flow.specs.Order.{octets_of, closes_of, Agrees, IsOfContent, StandsIn, IsAt, OrderMakesNoDifference}
-use Rattle.tcp_flow.proofs.Content.{Case, Piece, Reaches, Covered, So, SomeOf, IsSo, Comes, run, run_has}
+use Rattle.tcp_flow.proofs.Content.{Case, Piece, Reaches, Covered, So, SomeOf}
+use Rattle.tcp_flow.proofs.ContentRuns.{IsSo, Comes, run, run_has}
 use Rattle.tcp_flow.proofs.Places.{same_place, place_later}
 use Rattle.tcp_flow.proofs.Room.{first_some}
 

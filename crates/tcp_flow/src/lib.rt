@@ -2,7 +2,11 @@
 //! its streams begin and close.
 #![tactic(auto)]
 
+mod arrivals;
+mod closing;
+mod delivering;
 mod flow;
+mod gaps;
 mod laws;
 
 pub use flow::{CloseCause, FlowState, Listener, ListenerFault, header_at};

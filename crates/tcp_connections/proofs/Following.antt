@@ -1,0 +1,274 @@
+-- The flows of a state follow payloads: what each delivers is of them, whatever comes for a flow,
+-- and where the capture ends.
+use Rattle.std.proofs.Common.{◌≡◌, ℕ, zero, suc, ◌+◌, ◌-◌, ◌<◌, ◌≤◌, ◌^◌, false, cond, List, [], ◌∷◌, ◌++◌, length, set, get_or, Option, Some, None, is_some, unwrap_or, refl, sym, ◌∙◌, ap, subst, arith, inl, inr, get_or-set_same, get_or-set_other}
+use Rattle.std.proofs.lemmas.Bool.{cases_eq, cases_lt, cases_Bool}
+use Rattle.tcp_waiting.specs.Payload.{Payload, payload, blocks_of}
+use Rattle.tcp_waiting.proofs.Counts.{first_none}
+use Rattle.tcp_flow.specs.declared.flow.CloseCause.{CloseCause}
+use Rattle.tcp_flow.specs.declared.flow.FlowState.{FlowState}
+use Rattle.tcp_flow.specs.Flow.{Flow, Reader, Setting, Arrival, Octets, End, Acknowledged, setting, fresh, first_of, payload_came, closed, gap, step as flow_step, first_payload}
+use Rattle.tcp_flow.specs.Laws.{AllFollow, AllArePartsOf, IsGapless, IsSettled, due_of}
+use Rattle.tcp_flow.specs.State.{state}
+use Rattle.tcp_flow.proofs.Direct.{came_settled, fin_settled, missed_settled, fresh_settled}
+use Rattle.tcp_flow.proofs.Others.{step_others}
+use Rattle.tcp_flow.proofs.Room.{room_after, fin_blocks, missed_blocks}
+use Rattle.tcp_flow.proofs.States.{settled_whatever}
+use Rattle.tcp_flow.proofs.Truth.{runs_more, runs_grow, all_grow, came_true, gap_true, true_keeps}
+use Rattle.tcp_flow.proofs.Told.{IsKept, closed_told, came_told, step_told, gap_told}
+use Rattle.tcp_streams.specs.Lives.{lives}
+use Rattle.tcp_connections.specs.Connections.{State, flow_at, flow_state, with_flow, arrived, began, gapped, closed_at, is_holding, gaps_from, end_cause, all_closed}
+use Rattle.tcp_connections.specs.State.{IsSound}
+use Rattle.tcp_connections.proofs.Cases.{arrived_none, arrived_some, gapped_none, gapped_some, closed_none, closed_some, gaps_none, gaps_over, gaps_gap, gaps_next, closes_none, closes_over, closes_one}
+use Rattle.tcp_connections.proofs.Sound.{IsApart, some_within, apart_some, with_flow_sound}
+use Rattle.tcp_connections.proofs.States.{beside_own}
+
+pub some_same : {X : Type 0} (x y : X) → Some x ≡ Some y → x ≡ y
+some_same {X = X} x y e = ap (λ (o : Option X). unwrap_or o x) e
+
+-- ---- A flow among all.
+
+-- the number that is due where a flow's stream lives
+abbrev pub due_in : Option FlowState → Option ℕ
+due_in None = None
+due_in (Some s) = cond (is_some s.live) (Some s.next) None
+
+-- the flows follow these payloads, each from its first event on
+pub record Follow (payloads : List Payload) (w : State) : Type 0 where
+  pub own : (id : ℕ) (s : FlowState) → flow_at w id ≡ Some s → (s.id ≡ id) × (s.next < 2 ^ 32)
+  pub held : AllArePartsOf payloads w.held
+  pub events : (id : ℕ) → AllFollow payloads id None w.events (due_in (flow_at w id))
+
+-- what a flow does is nothing to another
+pub others_kept : (payloads : List Payload) (id other : ℕ) (due : Option ℕ) → (other ≡ id → ⊥) →
+    IsKept (λ es. AllFollow payloads other None es due) id
+others_kept payloads id other due apart es e of t =
+    runs_more payloads other None due due es e t
+    (inr (λ o. apart (some_same other id (sym o ∙ of)), refl))
+
+-- one of them, before it does anything
+pub flow_before : (payloads : List Payload) (w : State) (id : ℕ) (s : FlowState) →
+    Follow payloads w → flow_at w id ≡ Some s → IsGapless payloads (state s w.held w.events)
+flow_before payloads w id s h e =
+    let own = h.own id s e in
+    record {
+      next = own.1;
+      held = h.held;
+      events =
+          subst (λ (n : ℕ). AllFollow payloads n None w.events (due_in (Some s))) (sym own.0)
+          (subst (λ (o : Option FlowState). AllFollow payloads id None w.events (due_in o)) e
+          (h.events id));
+    }
+
+-- and behind it
+flow_behind : (payloads : List Payload) (w : State) (id : ℕ) (f : Flow) → Follow payloads w →
+    id < length w.flows → f.id ≡ id → IsGapless payloads f
+    → ((other : ℕ) → (other ≡ id → ⊥) → AllFollow payloads other None f.events
+    (due_in (flow_at w other)))
+    → Follow payloads (with_flow w id f)
+unfolding with_flow
+flow_behind payloads w id f h l own g beside =
+    let o : Option FlowState = Some (flow_state f) in
+    let here : (j : ℕ) → j ≡ id → get_or (set w.flows id o) j None ≡ o =
+    λ j y. ap (λ (k : ℕ). get_or (set w.flows id o) k None) y
+    ∙ get_or-set_same w.flows id o None l in
+    let there : (j : ℕ) → (j ≡ id → ⊥) → get_or (set w.flows id o) j None ≡ flow_at w j =
+    λ j n. get_or-set_other w.flows id j o None n in
+    record {
+      own =
+          λ j s e.
+          elim (cases_eq j id) [
+            | inl y ↦
+                (let same : flow_state f ≡ s = some_same (flow_state f) s (sym (here j y) ∙ e) in (
+                  sym (ap (λ (t : FlowState). t.id) same) ∙ own ∙ sym y,
+                  subst (λ (t : FlowState). t.next < 2 ^ 32) same g.next,
+                ))
+            | inr n ↦ h.own j s (sym (there j n) ∙ e)
+          ];
+      held = g.held;
+      events =
+          λ j.
+          elim (cases_eq j id) [
+            | inl y ↦
+                subst (λ (p : Option FlowState). AllFollow payloads j None f.events (due_in p))
+                (sym (here j y))
+                (subst (λ (n : ℕ). AllFollow payloads n None f.events (due_of f)) (own ∙ sym y)
+                g.events)
+            | inr n ↦ subst (λ (p : Option FlowState).
+                AllFollow payloads j None f.events (due_in p)) (sym (there j n)) (beside j n)
+          ];
+    }
+
+-- ---- What comes for a flow.
+
+step_blocks : (A : Setting) (f : Flow) (a : Arrival) → blocks_of f.held ≤ A.blocks →
+    blocks_of (flow_step A f a).held ≤ A.blocks
+unfolding flow_step
+step_blocks A f (Octets n octets) l = room_after A f (payload f.id n octets) refl l
+step_blocks A f (End n) l = omega (arith, l, fin_blocks A.faulted f n)
+step_blocks A f (Acknowledged n) l = omega (arith, l, missed_blocks A.faulted (length f.held) n f)
+
+step_settled : (A : Setting) (f : Flow) (a : Arrival) → IsSettled f →
+    (flow_step A f a).next < 2 ^ 32 → IsSettled (flow_step A f a)
+unfolding flow_step
+step_settled A f (Octets n octets) t l = came_settled A f (payload f.id n octets) t l
+step_settled A f (End n) t l = fin_settled A.faulted f n t l
+step_settled A f (Acknowledged n) t l = missed_settled A.faulted (length f.held) n f t l
+
+-- what comes for a flow that has these payloads leaves it with those
+unfoldable pub Goes : List Payload → List Payload → Reader → State → ℕ → Arrival → Type 0
+Goes payloads more F w id a = (f : Flow) → f.id ≡ id → IsGapless payloads f →
+    IsGapless more (flow_step (setting F w.blocks) f a)
+
+pub arrived_both : (payloads more : List Payload) (F : Reader) (w : State) (id : ℕ) (a : Arrival) →
+    IsSound w → Follow payloads w → Follow more w
+    → Goes payloads more F w id a → IsSound (arrived F w id a) × Follow more (arrived F w id a)
+unfolding Goes
+arrived_both payloads more F w id a h t u goes = by (flow_at w id) refl
+  where
+    by : (o : Option FlowState) → flow_at w id ≡ o → IsSound (arrived F w id a)
+        × Follow more (arrived F w id a)
+    by None e = subst (λ (v : State). IsSound v × Follow more v) (sym (arrived_none F w id a e))
+        (h, u)
+    by (Some s) e =
+        let A : Setting = setting F w.blocks in
+        let before : Flow = state s w.held w.events in
+        let f : Flow = flow_step A before a in
+        let own : s.id ≡ id = (t.own id s e).0 in
+        let g : IsGapless more f = goes before own (flow_before payloads w id s t e) in
+        let same : f.id ≡ id = (step_told (λ es. Unit {0}) id (λ es event of x. tt) A before a
+        (record { same = own; told = tt })).same in
+        let within : id < length w.flows = some_within w.flows id s e in
+        let settled : IsSettled f = step_settled A before a
+        (settled_whatever s w.held [] w.events (h.settled id s e)) g.next in
+        subst (λ (v : State). IsSound v × Follow more v) (sym (arrived_some F w id a s e)) (
+          with_flow_sound w id f h within same
+              (beside_own id s.id w.held f.held own (step_others A before a))
+              (step_blocks A before a h.blocks)
+              (settled_whatever (flow_state f) f.held f.events [] settled) (apart_some w id s h e),
+          flow_behind more w id f u within same g (λ other apart.
+              (step_told (λ es. AllFollow more other None es (due_in (flow_at w other))) id
+              (others_kept more id other (due_in (flow_at w other)) apart) A before a
+              (record { same = own; told = u.events other })).told),
+        )
+
+pub began_both : (payloads : List Payload) (F : Reader) (w : State) (id n : ℕ) (octets : List ℕ) →
+    n < 2 ^ 32 → IsSound w → Follow payloads w
+    → Follow (payloads ++ payload id n octets ∷ []) w → flow_at w id ≡ None → id < length w.flows →
+    IsApart w id
+    → IsSound (began F w id n octets) × Follow (payloads ++ payload id n octets ∷ [])
+    (began F w id n octets)
+unfolding began first_payload flow_step first_of
+began_both payloads F w id n octets small h t u e within apart =
+    let A : Setting = setting F w.blocks in
+    let p : Payload = payload id n octets in
+    let more : List Payload = payloads ++ p ∷ [] in
+    let before : Flow = fresh id n w.held w.events in
+    let f : Flow = payload_came A before p in
+    let none : AllFollow payloads id None w.events None =
+    subst (λ (o : Option FlowState). AllFollow payloads id None w.events (due_in o)) e
+    (t.events id) in
+    let g : IsGapless more f = came_true A payloads before p small
+    (record { next = small; held = t.held; events = none }) in
+    let same : f.id ≡ id = (came_told (λ es. Unit {0}) id (λ es event of x. tt) A before p
+    (record { same = refl; told = tt })).same in
+    let idle : IsSettled before = fresh_settled before refl
+    (ap is_some (first_none id n w.held (h.vacant id e))) in (
+      with_flow_sound w id f h within same (step_others A before (Octets n octets))
+          (room_after A before p refl h.blocks)
+          (settled_whatever (flow_state f) f.held f.events [] (came_settled A before p idle g.next))
+          apart,
+      flow_behind more w id f u within same g (λ other away.
+          (came_told (λ es. AllFollow more other None es (due_in (flow_at w other))) id
+          (others_kept more id other (due_in (flow_at w other)) away) A before p
+          (record { same = refl; told = u.events other })).told),
+    )
+
+-- one more payload comes
+pub follow_grown : (payloads : List Payload) (p : Payload) (w : State) → Follow payloads w →
+    Follow (payloads ++ p ∷ []) w
+follow_grown payloads p w t =
+    record {
+      own = t.own;
+      held = all_grow payloads p w.held t.held;
+      events = λ id. runs_grow payloads p id None w.events (due_in (flow_at w id)) (t.events id);
+    }
+
+-- ---- The capture ends.
+
+gapped_follow : (payloads : List Payload) (F : Reader) (w : State) (id : ℕ) → Follow payloads w →
+    Follow payloads (gapped F w id)
+gapped_follow payloads F w id h = by (flow_at w id) refl
+  where
+    by : (o : Option FlowState) → flow_at w id ≡ o → Follow payloads (gapped F w id)
+    by None e = subst (Follow payloads) (sym (gapped_none F w id e)) h
+    by (Some s) e =
+        let f : Flow = state s w.held w.events in
+        let own : s.id ≡ id = (h.own id s e).0 in
+        let same : (gap F f).id ≡ id = (gap_told (λ es. Unit {0}) id (λ es event of x. tt) F f
+        (record { same = own; told = tt })).same in
+        subst (Follow payloads) (sym (gapped_some F w id s e))
+        (flow_behind payloads w id (gap F f) h (some_within w.flows id s e) same
+        (gap_true F payloads f (flow_before payloads w id s h e)) (λ other apart.
+        (gap_told (λ es. AllFollow payloads other None es (due_in (flow_at w other))) id
+        (others_kept payloads id other (due_in (flow_at w other)) apart) F f
+        (record { same = own; told = h.events other })).told))
+
+closed_follow : (payloads : List Payload) (w : State) (id : ℕ) (cause : CloseCause) →
+    Follow payloads w → Follow payloads (closed_at w id cause)
+closed_follow payloads w id cause h = by (flow_at w id) refl
+  where
+    by : (o : Option FlowState) → flow_at w id ≡ o → Follow payloads (closed_at w id cause)
+    by None e = subst (Follow payloads) (sym (closed_none w id cause e)) h
+    by (Some s) e =
+        let f : Flow = state s w.held w.events in
+        let own : s.id ≡ id = (h.own id s e).0 in
+        let same : (closed f cause).id ≡ id =
+        (closed_told (λ es. Unit {0}) id (λ es event of x. tt) f cause
+        (record { same = own; told = tt })).same in
+        subst (Follow payloads) (sym (closed_some w id cause s e))
+        (flow_behind payloads w id (closed f cause) h (some_within w.flows id s e) same
+        ((true_keeps (λ events. false) payloads).closes f cause
+        (flow_before payloads w id s h e)) (λ other apart.
+        (closed_told (λ es. AllFollow payloads other None es (due_in (flow_at w other))) id
+        (others_kept payloads id other (due_in (flow_at w other)) apart) f cause
+        (record { same = own; told = h.events other })).told))
+
+pub gaps_follow : (payloads : List Payload) (F : Reader) (count rank : ℕ) (w : State) →
+    Follow payloads w → Follow payloads (gaps_from F count rank w)
+gaps_follow payloads F zero rank w h = subst (Follow payloads)
+    (sym (gaps_none F 0 rank w (omega arith))) h
+gaps_follow payloads F (suc count) rank w h =
+    let k : suc count - 1 ≡ count = omega arith in
+    let one : rank + 1 ≡ suc rank = omega arith in
+    let id : ℕ = get_or (lives w.events) rank 0 in
+    elim (cases_lt rank (length (lives w.events))) [
+      | inr g ↦ subst (Follow payloads) (sym (gaps_over F (suc count) rank w g)) h
+      | inl l ↦
+          elim (cases_Bool (is_holding w.held (flow_at w id))) [
+            | inl b ↦
+                subst (Follow payloads) (sym (gaps_gap F (suc count) rank w (omega arith) l b
+                ∙ ap (λ (n : ℕ). gaps_from F n rank (gapped F w id)) k))
+                (gaps_follow payloads F count rank (gapped F w id)
+                (gapped_follow payloads F w id h))
+            | inr b ↦
+                subst (Follow payloads) (sym (gaps_next F (suc count) rank w (omega arith) l b
+                ∙ ap (λ (n : ℕ). gaps_from F n (rank + 1) w) k))
+                (gaps_follow payloads F count (rank + 1) w h)
+          ]
+    ]
+
+pub closes_follow : (payloads : List Payload) (count : ℕ) (w : State) → Follow payloads w →
+    Follow payloads (all_closed count w)
+closes_follow payloads zero w h = subst (Follow payloads) (sym (closes_none 0 w (omega arith))) h
+closes_follow payloads (suc count) w h =
+    let k : suc count - 1 ≡ count = omega arith in
+    let id : ℕ = get_or (lives w.events) 0 0 in
+    let next : State = closed_at w id (end_cause (flow_at w id)) in
+    elim (cases_lt 0 (length (lives w.events))) [
+      | inr g ↦ subst (Follow payloads) (sym (closes_over (suc count) w g)) h
+      | inl l ↦
+          subst (Follow payloads) (sym (closes_one (suc count) w (omega arith) l
+          ∙ ap (λ (n : ℕ). all_closed n next) k))
+          (closes_follow payloads count next (closed_follow payloads w id (end_cause (flow_at w id))
+          h))
+    ]

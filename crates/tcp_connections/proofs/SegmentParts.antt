@@ -1,0 +1,309 @@
+-- What is so of a state behind segments is so behind each part of what one more does: what comes
+-- for a flow, a connection is forgotten, one becomes known.
+use Rattle.std.proofs.Common.{◌≡◌, ℕ, zero, suc, ◌-◌, ◌<◌, ◌^◌, Bool, true, false, cond, nat_eq, List, [], ◌∷◌, ◌++◌, length, take, set, get_or, Option, Some, None, is_some, refl, sym, ◌∙◌, ap, subst, arith, inl, inr, length-set, get_or-set_same, get_or-set_other}
+use Rattle.std.specs.Prelude.{slice_get}
+use Rattle.std.specs.List.{AllByRecursion}
+use Rattle.std.proofs.lemmas.Bool.{cases_eq, cases_lt, cond-false}
+use Rattle.tcp_segment.specs.Segments.{Segment}
+use Rattle.tcp_segment.specs.declared.endpoint.Flow.{Flow as Endpoints}
+use Rattle.tcp_waiting.specs.Payload.{Payload, payload}
+use Rattle.tcp_flow.specs.declared.flow.CloseCause.{CloseCause}
+use Rattle.tcp_flow.specs.declared.flow.CloseCause.TheVariants.{Reset, Room}
+use Rattle.tcp_flow.specs.declared.flow.FlowState.{FlowState}
+use Rattle.tcp_flow.specs.Flow.{Flow, Event, Opens, Reader, Setting, Octets, End, Acknowledged, setting, payload_came, closed, step as flow_step, held_by_others}
+use Rattle.tcp_flow.specs.Laws.{AllFollow, OwnMayFollow, AllArePartsOf, IsGapless, due_of}
+use Rattle.tcp_flow.specs.State.{state}
+use Rattle.tcp_flow.proofs.Room.{closed_dead}
+use Rattle.tcp_flow.proofs.Truth.{runs_more, came_true, fin_true, missed_true, true_keeps}
+use Rattle.tcp_flow.proofs.Told.{closed_told}
+use Rattle.tcp_streams.specs.declared.pair.EndpointPair.{EndpointPair}
+use Rattle.tcp_streams.specs.declared.pair.Side.{Side}
+use Rattle.tcp_streams.specs.declared.pair.Side.TheVariants.{FromLesser, FromGreater}
+use Rattle.tcp_streams.specs.Lives.{lives, elder_side}
+use Rattle.tcp_streams.specs.Pairs.{opposite, flow_id, flow_from}
+use Rattle.tcp_connections.specs.Connections.{State, flow_at, arrived, began, flow_forgotten, place_of, room_at, forgotten, eldest, with_room, next_room, rest_of_rooms, made_known, first_number, number_behind, is_first, fin_taken, acknowledgement_taken, payload_taken, reset_taken}
+use Rattle.tcp_connections.specs.Gapless.{IsOfSegment}
+use Rattle.tcp_connections.specs.State.{IsSound}
+use Rattle.tcp_connections.proofs.Cases.{room_there, room_made}
+use Rattle.tcp_connections.proofs.Changes.{opened}
+use Rattle.tcp_connections.proofs.Following.{due_in, Follow, others_kept, flow_before, Goes, arrived_both, began_both, follow_grown}
+use Rattle.tcp_connections.proofs.Forgotten.{forgot_either, forgotten_sound}
+use Rattle.tcp_connections.proofs.Sound.{IsApart, some_none, some_within, room_below, forgot_sound, known_sound}
+use Rattle.tcp_connections.proofs.Unknown.{eldest_within, next_free}
+
+-- ---- What is so of a state, behind these segments.
+
+pub record At (segments : List Segment) (w : State) : Type 0 where
+  pub sound : IsSound w
+  pub payloads : List Payload
+  pub came : AllByRecursion (IsOfSegment segments) payloads
+  pub follow : Follow payloads w
+
+unfoldable pub IsIn : List Segment → Segment → Type 0
+IsIn segments s = (index : ℕ) × (slice_get segments index ≡ Some s)
+
+all_push : (P : Payload → Type 0) (ps : List Payload) (p : Payload) → AllByRecursion P ps → P p →
+    AllByRecursion P (ps ++ p ∷ [])
+all_push P [] p h x = (x, tt)
+all_push P (q ∷ ps) p h x = (h.0, all_push P ps p h.1 x)
+
+pub either : {X : Type 0} (P : X → Type 0) (b : Bool) (x y : X) → P x → P y → P (cond b x y)
+either P true x y p q = p
+either P false x y p q = q
+
+pub fin_at : (segments : List Segment) (F : Reader) (w : State) (id : ℕ) (s : Segment) →
+    At segments w → At segments (fin_taken F w id s)
+unfolding fin_taken flow_step Goes
+fin_at segments F w id s h =
+    let n : ℕ = number_behind s in
+    let both = arrived_both h.payloads h.payloads F w id (End n) h.sound h.follow h.follow
+    (λ f own g. fin_true F h.payloads f n g) in
+    either (At segments) s.fin (arrived F w id (End n)) w
+    (record { sound = both.0; payloads = h.payloads; came = h.came; follow = both.1 }) h
+
+pub acknowledgement_at : (segments : List Segment) (F : Reader) (w : State) (id : ℕ) (s : Segment) →
+    At segments w → At segments (acknowledgement_taken F w id s)
+unfolding acknowledgement_taken flow_step Goes
+acknowledgement_at segments F w id s h =
+    elim s.acknowledgement as (λ (o : Option ℕ).
+    At segments (elim o [ None ↦ w | Some number ↦ arrived F w id (Acknowledged number) ])) [
+      | None ↦ h
+      | Some number ↦
+          (let both = arrived_both h.payloads h.payloads F w id (Acknowledged number) h.sound
+          h.follow h.follow
+          (λ f own g. missed_true F h.payloads (length f.held) number f g) in
+          record { sound = both.0; payloads = h.payloads; came = h.came; follow = both.1 })
+    ]
+
+-- the payload of a segment, for a flow
+with_payload : List Payload → ℕ → Segment → List Payload
+with_payload payloads id s = payloads ++ payload id (first_number s) s.payload ∷ []
+
+payload_came_of : (segments : List Segment) (payloads : List Payload) (id : ℕ) (s : Segment) →
+    IsIn segments s → AllByRecursion (IsOfSegment segments) payloads
+    → AllByRecursion (IsOfSegment segments) (with_payload payloads id s)
+unfolding IsIn with_payload
+payload_came_of segments payloads id s among came =
+    all_push (IsOfSegment segments) payloads (payload id (first_number s) s.payload) came
+    (record { index = among.0; segment = s; among = among.1; number_is = refl; octets_are = refl })
+
+pub first_at : (segments : List Segment) (F : Reader) (w : State) (id : ℕ) (s : Segment) →
+    IsIn segments s → At segments w → flow_at w id ≡ None → id < length w.flows → IsApart w id
+    → At segments (began F w id (first_number s) s.payload)
+unfolding with_payload
+first_at segments F w id s among h e within apart =
+    let n : ℕ = first_number s in
+    let small : n < 2 ^ 32 = omega arith in
+    let both = began_both h.payloads F w id n s.payload small h.sound h.follow
+    (follow_grown h.payloads (payload id n s.payload) w h.follow) e within apart in
+    record {
+      sound = both.0;
+      payloads = with_payload h.payloads id s;
+      came =
+          payload_came_of segments h.payloads id s among h.came;
+      follow = both.1;
+    }
+
+later_at : (segments : List Segment) (F : Reader) (w : State) (id : ℕ) (s : Segment) →
+    IsIn segments s → At segments w → At segments
+    (arrived F w id (Octets (first_number s) s.payload))
+unfolding with_payload flow_step Goes
+later_at segments F w id s among h =
+    let A : Setting = setting F w.blocks in
+    let n : ℕ = first_number s in
+    let small : n < 2 ^ 32 = omega arith in
+    let both =
+    arrived_both h.payloads (with_payload h.payloads id s) F w id (Octets n s.payload) h.sound
+    h.follow (follow_grown h.payloads (payload id n s.payload) w h.follow)
+    (λ f own g.
+    subst (λ (k : ℕ). IsGapless (h.payloads ++ payload k n s.payload ∷ [])
+    (payload_came A f (payload f.id n s.payload))) own
+    (came_true A h.payloads f (payload f.id n s.payload) small g)) in
+    record {
+      sound = both.0;
+      payloads = with_payload h.payloads id s;
+      came =
+          payload_came_of segments h.payloads id s among h.came;
+      follow = both.1;
+    }
+
+pub payload_at : (segments : List Segment) (F : Reader) (w : State) (id : ℕ) (s : Segment) →
+    IsIn segments s → At segments w → id < length w.flows → IsApart w id
+    → At segments (payload_taken F w id s)
+unfolding payload_taken
+payload_at segments F w id s among h within apart =
+    elim (flow_at w id) as (λ (o : Option FlowState). flow_at w id ≡ o → At segments (elim o [
+      | None ↦ cond (is_first w.ports s) (began F w id (first_number s) s.payload) w
+      | Some f ↦ cond s.reset w (arrived F w id (Octets (first_number s) s.payload))
+    ])) [
+      | None ↦ (λ e. either (At segments) (is_first w.ports s)
+          (began F w id (first_number s) s.payload) w
+          (first_at segments F w id s among h e within apart) h)
+      | Some f ↦ (λ e. either (At segments) s.reset w
+          (arrived F w id (Octets (first_number s) s.payload)) h
+          (later_at segments F w id s among h))
+    ] refl
+
+-- ---- A connection is forgotten.
+
+all_others : (payloads : List Payload) (id : ℕ) (ps : List Payload) → AllArePartsOf payloads ps →
+    AllArePartsOf payloads (held_by_others id ps)
+unfolding AllArePartsOf held_by_others
+all_others payloads id [] h = tt
+all_others payloads id (p ∷ ps) h =
+    either (AllArePartsOf payloads) (nat_eq p.flow id) (held_by_others id ps)
+    (p ∷ held_by_others id ps) (all_others payloads id ps h.1)
+    (h.0, all_others payloads id ps h.1)
+
+flow_forgotten_at : (segments : List Segment) (w : State) (id : ℕ) (cause : CloseCause) →
+    At segments w → At segments (flow_forgotten w id cause)
+flow_forgotten_at segments w id cause h =
+    forgot_either (At segments) w id cause (λ e. h)
+    (λ s e.
+    let f : Flow = state s w.held w.events in
+    let c : Flow = closed f cause in
+    let own : s.id ≡ id = (h.follow.own id s e).0 in
+    let within : id < length w.flows = some_within w.flows id s e in
+    let g : IsGapless h.payloads c = (true_keeps (λ events. false) h.payloads).closes f cause
+    (flow_before h.payloads w id s h.follow e) in
+    let same : c.id ≡ id = (closed_told (λ es. Unit {0}) id (λ es event of x. tt) f cause
+    (record { same = own; told = tt })).same in
+    let over : AllFollow h.payloads id None c.events None =
+    subst (AllFollow h.payloads id None c.events)
+    (cond-false (is_some c.live) (Some c.next) None (closed_dead f cause))
+    (subst (λ (n : ℕ). AllFollow h.payloads n None c.events (due_of c)) same g.events) in
+    record {
+      sound = forgot_sound w id c.events h.sound within;
+      payloads = h.payloads;
+      came = h.came;
+      follow =
+          record {
+            own =
+                λ j t d.
+                elim (cases_eq j id) [
+                  | inl y ↦ absurd (some_none (get_or (set w.flows id None) j None) t d
+                      (gone w id j within y))
+                  | inr n ↦ h.follow.own j t (sym (get_or-set_other w.flows id j None None n) ∙ d)
+                ];
+            held = all_others h.payloads id w.held h.follow.held;
+            events =
+                λ j.
+                elim (cases_eq j id) [
+                  | inl y ↦
+                      subst (λ (o : Option FlowState).
+                      AllFollow h.payloads j None c.events (due_in o))
+                      (sym (gone w id j within y))
+                      (subst (λ (n : ℕ). AllFollow h.payloads n None c.events None) (sym y) over)
+                  | inr n ↦
+                      subst (λ (o : Option FlowState).
+                      AllFollow h.payloads j None c.events (due_in o))
+                      (sym (get_or-set_other w.flows id j None None n))
+                      (closed_told (λ es. AllFollow h.payloads j None es (due_in (flow_at w j))) id
+                      (others_kept h.payloads id j (due_in (flow_at w j)) n) f cause
+                      (record { same = own; told = h.follow.events j })).told
+                ];
+          };
+    })
+  where
+    gone : (w : State) (id j : ℕ) → id < length w.flows → j ≡ id →
+        get_or (set w.flows id None) j None ≡ None
+    gone w id j l y = ap (λ (k : ℕ). get_or (set w.flows id None) k None) y
+        ∙ get_or-set_same w.flows id None None l
+
+pub id_within : (w : State) (room : ℕ) (side : Side) → IsSound w → room < length w.lasts →
+    flow_id room side < length w.flows
+id_within w room FromLesser h l = omega (arith, l, h.flows)
+id_within w room FromGreater h l = omega (arith, l, h.flows)
+
+pub forgotten_at : (segments : List Segment) (w : State) (place : ℕ) (side : Side)
+    (cause : CloseCause) → place < length w.known → At segments w →
+    At segments (forgotten w place side cause)
+unfolding forgotten
+forgotten_at segments w place side cause l h =
+    let room : ℕ = room_at w place in
+    let v = flow_forgotten_at segments (flow_forgotten w (flow_id room side) cause)
+    (flow_id room (opposite side)) cause
+    (flow_forgotten_at segments w (flow_id room side) cause h) in
+    record {
+      sound = forgotten_sound w place side cause h.sound v.sound l
+          (id_within w room FromGreater h.sound (room_below w place h.sound l));
+      payloads = v.payloads;
+      came = v.came;
+      follow = record { own = v.follow.own; held = v.follow.held; events = v.follow.events };
+    }
+
+pub reset_at : (segments : List Segment) (w : State) (place : ℕ) (side : Side) (s : Segment) →
+    place < length w.known → At segments w → At segments (reset_taken w place side s)
+unfolding reset_taken
+reset_at segments w place side s l h = either (At segments) s.reset (forgotten w place side Reset) w
+    (forgotten_at segments w place side Reset l h) h
+
+pub with_room_at : (segments : List Segment) (w : State) → At segments w → At segments (with_room w)
+with_room_at segments w h =
+    elim (cases_lt (length w.known) (length w.lasts)) [
+      | inl l ↦ subst (At segments) (sym (room_there w l)) h
+      | inr g ↦
+          (let place : ℕ = eldest w (length w.known) in
+          subst (At segments) (sym (room_made w g))
+          (forgotten_at segments w place (elder_side (room_at w place) (lives w.events)) Room
+          (eldest_within w (length w.known) (omega (arith, g, h.sound.some))) h))
+    ]
+
+-- ---- A connection becomes known.
+
+last_of : (xs : List ℕ) (n : ℕ) → length xs ≡ suc n → xs ≡ take n xs ++ get_or xs n 0 ∷ []
+last_of [] n e = absurd (omega (arith, e))
+last_of (x ∷ []) zero e = refl
+last_of (x ∷ []) (suc n) e = absurd (omega (arith, e))
+last_of (x ∷ y ∷ ys) zero e = absurd (omega (arith, e))
+last_of (x ∷ y ∷ ys) (suc n) e = ap (λ (zs : List ℕ). x ∷ zs)
+    (last_of (y ∷ ys) n (omega (arith, e)))
+
+rooms_parted : (free : List ℕ) → 0 < length free → free ≡ rest_of_rooms free ++ next_room free ∷ []
+unfolding rest_of_rooms next_room
+rooms_parted free l = last_of free (length free - 1) (omega (arith, l))
+
+opens_more : (payloads : List Payload) (w : State) (es : List Event) (id other : ℕ)
+    (endpoints : Endpoints) → flow_at w id ≡ None
+    → AllFollow payloads other None es (due_in (flow_at w other)) →
+    AllFollow payloads other None (es ++ Opens id endpoints ∷ []) (due_in (flow_at w other))
+unfolding OwnMayFollow
+opens_more payloads w es id other endpoints none t =
+    elim (cases_eq other id) [
+      | inl y ↦
+          (let e : due_in (flow_at w other) ≡ None = ap due_in (ap (flow_at w) y ∙ none) in
+          subst (AllFollow payloads other None (es ++ Opens id endpoints ∷ [])) (sym e)
+          (runs_more payloads other None None None es (Opens id endpoints)
+          (subst (AllFollow payloads other None es) e t) (inl (ap Some (sym y), tt))))
+      | inr n ↦ others_kept payloads id other (due_in (flow_at w other)) n es (Opens id endpoints)
+          refl t
+    ]
+
+pub made_at : (segments : List Segment) (w : State) (p : EndpointPair) →
+    length w.known < length w.lasts → place_of p w.known ≡ None → At segments w →
+    At segments (made_known w p)
+unfolding made_known
+made_at segments w p l new h =
+    let room : ℕ = next_room w.free in
+    let had : w.free ≡ rest_of_rooms w.free ++ room ∷ [] =
+    rooms_parted w.free (omega (arith, l, h.sound.all)) in
+    let lasts : List ℕ = set w.lasts room w.segments in
+    let none = h.sound.freed room (next_free w h.sound l) in
+    record {
+      sound = known_sound w p (rest_of_rooms w.free) room lasts (opened room p w.events) h.sound had
+          new (length-set w.lasts room w.segments);
+      payloads = h.payloads;
+      came = h.came;
+      follow =
+          record {
+            own = h.follow.own;
+            held = h.follow.held;
+            events =
+                λ id.
+                opens_more h.payloads w (w.events
+                ++ Opens (flow_id room FromLesser) (flow_from p FromLesser) ∷ [])
+                (flow_id room FromGreater) id (flow_from p FromGreater) none.1
+                (opens_more h.payloads w w.events (flow_id room FromLesser) id
+                (flow_from p FromLesser) none.0 (h.follow.events id));
+          };
+    }

@@ -1,0 +1,173 @@
+//! What a segment brings the flows of its connection: an acknowledgement, a payload, with which a
+//! flow may begin, and a FIN.
+
+ghost use Rattle.std.specs.Prelude.{◌≡◌, ◌≤◌, ◌<◌, ◌/◌, length, get_or, OnErr, None};
+ghost use Rattle.std.specs.Vec.{vec_len};
+ghost use Rattle.tcp_segment.specs.Segments.{segment_view};
+ghost use Rattle.tcp_connections.specs.Connections.{first_number as spec_first_number};
+ghost use Rattle.tcp_connections.specs.Connections.{number_behind as spec_number_behind};
+
+use crate::connections::Connections;
+use tcp_flow::{FlowState, Listener, ListenerFault, header_at};
+use tcp_segment::{Flow, Segment};
+use tcp_streams::Streams;
+use tcp_waiting::onward;
+
+impl Connections {
+    ghost use Rattle.tcp_connections.specs.Connections.{is_first, is_chosen, acknowledgement_taken};
+    ghost use Rattle.tcp_connections.specs.Connections.{payload_taken, began, fin_taken};
+    ghost use Rattle.tcp_connections.specs.State.{HasState, Makes, times};
+
+    /// The opposite flow's octets are acknowledged.
+    pub(crate) fn acknowledgement<L: Listener + Drop>(
+        &mut self,
+        id: u32,
+        segment: Segment<'_>,
+        to: &mut Streams<L>,
+    ) -> Result<(), ListenerFault>
+        requires state { HasState (L.observed to.old.listener) to.old.live.items self.old }
+        ensures does { Makes result
+            (λ w. acknowledgement_taken L.faulted w id (segment_view segment.entry))
+            (L.observed to.old.listener) to.old.live.items self.old
+            (L.observed to.new.listener) to.new.live.items self.new }
+        ensures cause { OnErr result (L.failed to.new.listener) }
+    {
+        let Some(number) = segment.acknowledgement else {
+            return Ok(());
+        };
+        let Some(mut flow) = self.flow(id) else {
+            return Ok(());
+        };
+        flow.acknowledged(number, &mut self.pool, to)?;
+        self.flows[id as usize] = Some(flow);
+        Ok(())
+    }
+
+    /// A payload comes: the first of its flow with a header, or a later one.
+    pub(crate) fn payload<L: Listener + Drop>(
+        &mut self,
+        id: u32,
+        segment: Segment<'_>,
+        to: &mut Streams<L>,
+    ) -> Result<(), ListenerFault>
+        requires state { HasState (L.observed to.old.listener) to.old.live.items self.old }
+        requires within { id < vec_len self.old.flows }
+        requires whole { length segment.payload.now ≤ 262_144 }
+        requires taken { 0 < times (id / 2) self.old.table.rooms.items }
+        ensures does { Makes result (λ w. payload_taken L.faulted w id (segment_view segment.entry))
+            (L.observed to.old.listener) to.old.live.items self.old
+            (L.observed to.new.listener) to.new.live.items self.new }
+        ensures cause { OnErr result (L.failed to.new.listener) }
+    {
+        let Some(mut flow) = self.flow(id) else {
+            return self.first_payload(id, segment, to);
+        };
+        if segment.reset {
+            return Ok(());
+        }
+        flow.payload(first_number(segment), segment.payload, &mut self.pool, to)?;
+        self.flows[id as usize] = Some(flow);
+        Ok(())
+    }
+
+    /// A payload of a flow without a stream so far comes.
+    fn first_payload<L: Listener + Drop>(
+        &mut self,
+        id: u32,
+        segment: Segment<'_>,
+        to: &mut Streams<L>,
+    ) -> Result<(), ListenerFault>
+        requires state { HasState (L.observed to.old.listener) to.old.live.items self.old }
+        requires within { id < vec_len self.old.flows }
+        requires whole { length segment.payload.now ≤ 262_144 }
+        requires taken { 0 < times (id / 2) self.old.table.rooms.items }
+        requires vacant { get_or self.old.flows.items id None ≡ None }
+        ensures does { Makes result (λ w. payload_taken L.faulted w id (segment_view segment.entry))
+            (L.observed to.old.listener) to.old.live.items self.old
+            (L.observed to.new.listener) to.new.live.items self.new }
+        ensures cause { OnErr result (L.failed to.new.listener) }
+    {
+        if !self.is_first(segment) {
+            return Ok(());
+        }
+        self.begin(id, segment, to)
+    }
+
+    /// The first stream of a flow begins.
+    pub(crate) fn begin<L: Listener + Drop>(
+        &mut self,
+        id: u32,
+        segment: Segment<'_>,
+        to: &mut Streams<L>,
+    ) -> Result<(), ListenerFault>
+        requires state { HasState (L.observed to.old.listener) to.old.live.items self.old }
+        requires within { id < vec_len self.old.flows }
+        requires whole { length segment.payload.now ≤ 262_144 }
+        requires taken { 0 < times (id / 2) self.old.table.rooms.items }
+        requires vacant { get_or self.old.flows.items id None ≡ None }
+        ensures does { Makes result (λ w. began L.faulted w id
+            (spec_first_number (segment_view segment.entry)) (segment_view segment.entry).payload)
+            (L.observed to.old.listener) to.old.live.items self.old
+            (L.observed to.new.listener) to.new.live.items self.new }
+        ensures cause { OnErr result (L.failed to.new.listener) }
+    {
+        let number = first_number(segment);
+        let flow = FlowState::begin(id, number, segment.payload, &mut self.pool, to)?;
+        self.flows[id as usize] = Some(flow);
+        Ok(())
+    }
+
+    /// Whether a segment's payload may begin the first stream of its flow.
+    pub(crate) fn is_first(&self, segment: Segment<'_>) -> bool
+        ensures { result ≡ is_first self.now.ports.items (segment_view segment.entry) }
+    {
+        !segment.reset && self.is_chosen(segment.flow) && header_at(segment.payload).is_some()
+    }
+
+    /// Whether one of a flow's ports is chosen.
+    fn is_chosen(&self, flow: Flow) -> bool
+        ensures { result ≡ is_chosen self.now.ports.items flow }
+    {
+        self.ports.is_empty()
+            || self.ports.contains(&flow.from.port)
+            || self.ports.contains(&flow.to.port)
+    }
+
+    /// A FIN comes, where the segment has one.
+    pub(crate) fn fin<L: Listener + Drop>(
+        &mut self,
+        id: u32,
+        segment: Segment<'_>,
+        to: &mut Streams<L>,
+    ) -> Result<(), ListenerFault>
+        requires state { HasState (L.observed to.old.listener) to.old.live.items self.old }
+        ensures does { Makes result (λ w. fin_taken L.faulted w id (segment_view segment.entry))
+            (L.observed to.old.listener) to.old.live.items self.old
+            (L.observed to.new.listener) to.new.live.items self.new }
+        ensures cause { OnErr result (L.failed to.new.listener) }
+    {
+        if !segment.fin {
+            return Ok(());
+        }
+        let Some(mut flow) = self.flow(id) else {
+            return Ok(());
+        };
+        flow.fin(number_behind(segment), &mut self.pool, to)?;
+        self.flows[id as usize] = Some(flow);
+        Ok(())
+    }
+}
+
+/// The number of a segment's first octet: SYN has one of its own.
+fn first_number(segment: Segment<'_>) -> u32
+    ensures { result ≡ spec_first_number (segment_view segment.entry) }
+{
+    onward(segment.sequence, usize::from(segment.syn))
+}
+
+/// The number behind a segment's payload.
+fn number_behind(segment: Segment<'_>) -> u32
+    ensures { result ≡ spec_number_behind (segment_view segment.entry) }
+{
+    onward(first_number(segment), segment.payload.len())
+}

@@ -1,0 +1,132 @@
+//! The end of a capture: gaps while flows hold something, and then their live streams close.
+
+ghost use Rattle.std.specs.Prelude.{◌≡◌, ◌+◌, [], length, get_or, OnOk, OnErr, None};
+
+use crate::connections::Connections;
+use tcp_flow::{CloseCause, Listener, ListenerFault};
+use tcp_streams::Streams;
+
+impl Connections {
+    ghost use Rattle.tcp_streams.specs.Lives.{lives};
+    ghost use Rattle.tcp_connections.specs.Connections.{State, is_holding, end_cause, gapped};
+    ghost use Rattle.tcp_connections.specs.Connections.{closed_at, gaps_from, all_closed, ended};
+    ghost use Rattle.tcp_connections.specs.State.{IsState, IsAt, HasState, Makes, Ends};
+
+    /// The capture ends: while flows hold something, a gap of the one whose live stream has the
+    /// least number, until nothing is held; then the live streams close by their order.
+    pub fn end<L: Listener + Drop>(&mut self, to: &mut Streams<L>) -> Result<(), ListenerFault>
+        requires state { HasState (L.observed to.old.listener) to.old.live.items self.old }
+        ensures does { (w : State)
+            → IsState (L.observed to.old.listener) to.old.live.items self.old w
+            → OnOk result (IsAt (L.observed to.new.listener) to.new.live.items self.new
+            (ended L.faulted w)) }
+        ensures held { OnOk result (self.new.pool.held ≡ []) }
+        ensures cause { OnErr result (L.failed to.new.listener) }
+    {
+        self.end_gaps(to)?;
+        self.close_all(to)
+    }
+
+    /// While flows hold something, a gap of the one whose live stream has the least number.
+    fn end_gaps<L: Listener + Drop>(&mut self, to: &mut Streams<L>) -> Result<(), ListenerFault>
+        requires state { HasState (L.observed to.old.listener) to.old.live.items self.old }
+        ensures does { Makes result
+            (λ w. gaps_from L.faulted (length w.held + length (lives w.events)) 0 w)
+            (L.observed to.old.listener) to.old.live.items self.old
+            (L.observed to.new.listener) to.new.live.items self.new }
+        ensures held { OnOk result (self.new.pool.held ≡ []) }
+        ensures cause { OnErr result (L.failed to.new.listener) }
+    {
+        let mut left = self.pool.len() + to.len();
+        let mut rank = 0;
+        while left > 0 {
+            let Some(id) = to.live(rank) else {
+                return Ok(());
+            };
+            left -= 1;
+            if !self.is_holding(id) {
+                rank += 1;
+                continue;
+            }
+            self.gap(id, to)?;
+        }
+        Ok(())
+    }
+
+    /// Whether a flow holds a payload.
+    fn is_holding(&self, id: u32) -> bool
+        ensures { result ≡ is_holding self.now.pool.held (get_or self.now.flows.items id None) }
+    {
+        match self.flow(id) {
+            Some(flow) => flow.holds(&self.pool),
+            None => false,
+        }
+    }
+
+    /// A gap of a flow.
+    fn gap<L: Listener + Drop>(&mut self, id: u32, to: &mut Streams<L>) -> Result<(), ListenerFault>
+        requires state { HasState (L.observed to.old.listener) to.old.live.items self.old }
+        ensures does { Makes result (λ w. gapped L.faulted w id)
+            (L.observed to.old.listener) to.old.live.items self.old
+            (L.observed to.new.listener) to.new.live.items self.new }
+        ensures cause { OnErr result (L.failed to.new.listener) }
+    {
+        let Some(mut flow) = self.flow(id) else {
+            return Ok(());
+        };
+        flow.gap(&mut self.pool, to)?;
+        self.flows[id as usize] = Some(flow);
+        Ok(())
+    }
+
+    /// The live streams close by their order.
+    fn close_all<L: Listener + Drop>(&mut self, to: &mut Streams<L>) -> Result<(), ListenerFault>
+        ensures does { Ends result (λ w. all_closed (length (lives w.events)) w)
+            (L.observed to.old.listener) to.old.live.items self.old
+            (L.observed to.new.listener) to.new.live.items self.new }
+        ensures held { self.new.pool.held ≡ self.old.pool.held }
+        ensures cause { OnErr result (L.failed to.new.listener) }
+    {
+        let mut left = to.len();
+        while left > 0 {
+            let Some(id) = to.live(0) else {
+                return Ok(());
+            };
+            self.close(id, self.end_cause(id), to)?;
+            left -= 1;
+        }
+        Ok(())
+    }
+
+    /// A flow's live stream closes.
+    fn close<L: Listener + Drop>(
+        &mut self,
+        id: u32,
+        cause: CloseCause,
+        to: &mut Streams<L>,
+    ) -> Result<(), ListenerFault>
+        ensures does { Ends result (λ w. closed_at w id cause)
+            (L.observed to.old.listener) to.old.live.items self.old
+            (L.observed to.new.listener) to.new.live.items self.new }
+        ensures held { self.new.pool.held ≡ self.old.pool.held }
+        ensures cause { OnErr result (L.failed to.new.listener) }
+    {
+        let Some(mut flow) = self.flow(id) else {
+            return Ok(());
+        };
+        flow.close(cause, to)?;
+        self.flows[id as usize] = Some(flow);
+        Ok(())
+    }
+
+    /// How a flow's live stream closes at the end: where a FIN is kept, what is before it was never
+    /// captured.
+    fn end_cause(&self, id: u32) -> CloseCause
+        ensures { result ≡ end_cause (get_or self.now.flows.items id None) }
+    {
+        match self.flow(id) {
+            Some(flow) if flow.has_fin() => CloseCause::Gap,
+            _ => CloseCause::End,
+        }
+    }
+}

@@ -1,0 +1,160 @@
+//! Connections are forgotten: by a RST or a SYN, or to make room for another, first those without a
+//! live stream.
+
+ghost use Rattle.std.specs.Prelude.{◌≡◌, ◌<◌, ◌^◌, [], cond, OnErr};
+ghost use Rattle.std.specs.Vec.{vec_len};
+ghost use Rattle.tcp_segment.specs.Segments.{segment_view};
+
+use crate::connections::Connections;
+use tcp_flow::{CloseCause, Listener, ListenerFault};
+use tcp_segment::Segment;
+use tcp_streams::{Side, Streams, flow_id, other};
+
+impl Connections {
+    ghost use Rattle.tcp_connections.specs.Connections.{is_live, goes_before, eldest, reset_taken};
+    ghost use Rattle.tcp_connections.specs.Connections.{flow_forgotten, forgotten, with_room};
+    ghost use Rattle.tcp_connections.specs.State.{IsSound, HasState, Makes, state_of};
+
+    /// A RST comes, where the segment is one: the connection is forgotten.
+    pub(crate) fn reset<L: Listener + Drop>(
+        &mut self,
+        place: usize,
+        side: Side,
+        segment: Segment<'_>,
+        to: &mut Streams<L>,
+    ) -> Result<(), ListenerFault>
+        requires state { HasState (L.observed to.old.listener) to.old.live.items self.old }
+        requires place { place < vec_len self.old.table.keys }
+        ensures does { Makes result (λ w. reset_taken w place side (segment_view segment.entry))
+            (L.observed to.old.listener) to.old.live.items self.old
+            (L.observed to.new.listener) to.new.live.items self.new }
+        ensures cause { OnErr result (L.failed to.new.listener) }
+    {
+        if !segment.reset {
+            return Ok(());
+        }
+        self.forget(place, side, CloseCause::Reset, to)
+    }
+
+    /// A connection is forgotten: first the flow of one side, then the other.
+    pub(crate) fn forget<L: Listener + Drop>(
+        &mut self,
+        place: usize,
+        side: Side,
+        cause: CloseCause,
+        to: &mut Streams<L>,
+    ) -> Result<(), ListenerFault>
+        requires state { HasState (L.observed to.old.listener) to.old.live.items self.old }
+        requires place { place < vec_len self.old.table.keys }
+        ensures does { Makes result (λ w. forgotten w place side cause)
+            (L.observed to.old.listener) to.old.live.items self.old
+            (L.observed to.new.listener) to.new.live.items self.new }
+        ensures cause { OnErr result (L.failed to.new.listener) }
+    {
+        let room = self.table.room(place);
+        self.forget_flow(flow_id(room, side), cause, to)?;
+        self.forget_flow(flow_id(room, other(side)), cause, to)?;
+        self.table.forget(place);
+        self.free.give_back(room);
+        Ok(())
+    }
+
+    /// A flow is forgotten: its live stream closes, and what it holds falls away.
+    fn forget_flow<L: Listener + Drop>(
+        &mut self,
+        id: u32,
+        cause: CloseCause,
+        to: &mut Streams<L>,
+    ) -> Result<(), ListenerFault>
+        requires state { HasState (L.observed to.old.listener) to.old.live.items self.old }
+        ensures does { Makes result (λ w. flow_forgotten w id cause)
+            (L.observed to.old.listener) to.old.live.items self.old
+            (L.observed to.new.listener) to.new.live.items self.new }
+        ensures cause { OnErr result (L.failed to.new.listener) }
+    {
+        let Some(mut flow) = self.flow(id) else {
+            return Ok(());
+        };
+        flow.close(cause, to)?;
+        flow.forget(&mut self.pool);
+        self.flows[id as usize] = None;
+        Ok(())
+    }
+
+    /// Where as many connections as may be are known, the one that goes first is forgotten.
+    pub(crate) fn make_room<L: Listener + Drop>(
+        &mut self,
+        to: &mut Streams<L>,
+    ) -> Result<(), ListenerFault>
+        requires state { HasState (L.observed to.old.listener) to.old.live.items self.old }
+        ensures does { Makes result (λ w. with_room w)
+            (L.observed to.old.listener) to.old.live.items self.old
+            (L.observed to.new.listener) to.new.live.items self.new }
+        ensures cause { OnErr result (L.failed to.new.listener) }
+    {
+        if !self.table.is_full() {
+            return Ok(());
+        }
+        let place = self.eldest();
+        let side = to.elder_side(self.table.room(place));
+        self.forget(place, side, CloseCause::Room, to)
+    }
+
+    /// The place of the connection that makes room.
+    fn eldest(&self) -> usize
+        requires sound { IsSound (state_of self.now []) }
+        requires some { 0 < vec_len self.now.table.keys }
+        ensures place { result ≡ eldest (state_of self.now []) (vec_len self.now.table.keys) }
+        ensures within { result < vec_len self.now.table.keys }
+    {
+        let mut best = 0;
+        let mut place = 0;
+        while place < self.table.len() {
+            best = self.elder(place, best);
+            place += 1;
+        }
+        best
+    }
+
+    /// Of two places, that of the connection that makes room rather than the other.
+    fn elder(&self, place: usize, best: usize) -> usize
+        requires sound { IsSound (state_of self.now []) }
+        requires place { place < vec_len self.now.table.keys }
+        requires best { best < vec_len self.now.table.keys }
+        ensures place { result ≡ cond (goes_before (state_of self.now []) place best) place best }
+        ensures within { result < vec_len self.now.table.keys }
+    {
+        if self.goes_before(place, best) {
+            place
+        } else {
+            best
+        }
+    }
+
+    /// Whether the connection at one place makes room rather than that at another: first those
+    /// without a live stream, then by their last segments.
+    fn goes_before(&self, place: usize, other: usize) -> bool
+        requires sound { IsSound (state_of self.now []) }
+        requires place { place < vec_len self.now.table.keys }
+        requires other { other < vec_len self.now.table.keys }
+        ensures { result ≡ goes_before (state_of self.now []) place other }
+    {
+        let room = self.table.room(place);
+        let other = self.table.room(other);
+        let is_older = self.stamps.last(room) < self.stamps.last(other);
+        if self.is_live(room) {
+            self.is_live(other) && is_older
+        } else {
+            self.is_live(other) || is_older
+        }
+    }
+
+    /// Whether the connection of a room has a live stream.
+    fn is_live(&self, room: u32) -> bool
+        requires { room < 2 ^ 31 }
+        ensures { result ≡ is_live (state_of self.now []) room }
+    {
+        self.live_at(flow_id(room, Side::FromLesser)).is_some()
+            || self.live_at(flow_id(room, Side::FromGreater)).is_some()
+    }
+}

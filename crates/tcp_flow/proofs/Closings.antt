@@ -1,0 +1,126 @@
+-- A stream of a flow that has closed stays so, whatever comes.
+use Rattle.std.proofs.Common.{◌≡◌, ℕ, ◌+◌, ◌<◌, Bool, true, false, cond, nat_eq, ◌||◌, List, [], ◌∷◌, ◌++◌, length, drop, Option, Some, None, is_some, sym, ◌∙◌, ap, arith, append-nil}
+use Rattle.std.specs.List.{remove}
+use Rattle.std.proofs.lemmas.List.{append_assoc}
+use Rattle.tcp_flow.specs.declared.flow.CloseCause.{CloseCause}
+use Rattle.tcp_flow.specs.declared.flow.CloseCause.TheVariants.{Fault}
+use Rattle.tcp_waiting.specs.Numbers.{onward}
+use Rattle.tcp_waiting.specs.Payload.{Payload, payload, has_as_much}
+use Rattle.tcp_flow.specs.Flow.{Flow, Event, Begins, Delivers, Closes, Reader, Setting, left, with_event, delivered, begun, taken, header_at, at as held_at, closed, holding, gone_on, within_bounds, payload_came}
+use Rattle.tcp_flow.specs.Order.{octets_in, octets_of, closes_in, closes_of}
+use Rattle.tcp_flow.proofs.Preserving.{Keeps, gone_on_keeps, relieved_keeps}
+
+-- ---- One more event.
+
+pub octets_more : (id : ℕ) (es : List Event) (e : Event) →
+    octets_of id (es ++ e ∷ []) ≡ octets_of id es ++ octets_in id e
+unfolding octets_of
+octets_more id [] e = append-nil (octets_in id e)
+octets_more id (d ∷ es) e = ap (λ (xs : List ℕ). octets_in id d ++ xs) (octets_more id es e)
+    ∙ sym (append_assoc (octets_in id d) (octets_of id es) (octets_in id e))
+
+pub closes_more : (id : ℕ) (es : List Event) (e : Event) →
+    closes_of id (es ++ e ∷ []) ≡ closes_of id es + closes_in id e
+unfolding closes_of
+closes_more id [] e = omega arith
+closes_more id (d ∷ es) e = omega (arith, closes_more id es e)
+
+more_event : (n id : ℕ) (es : List Event) (e : Event) → n < closes_of id es →
+    n < closes_of id (es ++ e ∷ [])
+more_event n id es e l = omega (arith, l, closes_more id es e)
+
+either : {X : Type 0} (P : X → Type 0) (b : Bool) (x y : X) → P x → P y → P (cond b x y)
+either P true x y p q = p
+either P false x y p q = q
+
+-- ---- Streams that have closed stay so.
+
+delivered_more : (F : Reader) (n id : ℕ) (g : Flow) (p : Payload) → n < closes_of id g.events →
+    n < closes_of id (delivered F g p).events
+unfolding delivered with_event
+delivered_more F n id g p l =
+    let d : Flow = record {
+      id = g.id;
+      next = onward p.number (length p.octets);
+      live = g.live;
+      fin = g.fin;
+      held = g.held;
+      events = g.events ++ Delivers g.id p.octets ∷ [];
+    } in
+    let m : n < closes_of id d.events = more_event n id g.events (Delivers g.id p.octets) l in
+    either (λ (h : Flow). n < closes_of id h.events) (F d.events)
+    (record {
+      id = d.id;
+      next = d.next;
+      live = None;
+      fin = d.fin;
+      held = d.held;
+      events =
+          d.events ++ Closes d.id Fault ∷ [];
+    }) d
+    (more_event n id d.events (Closes d.id Fault) m) m
+
+begun_more : (F : Reader) (n id : ℕ) (g : Flow) (p : Payload) (r : Option ℕ) →
+    n < closes_of id g.events → n < closes_of id (begun F g p r).events
+unfolding begun with_event
+begun_more F n id g p None l = l
+begun_more F n id g p (Some i) l =
+    let k : ℕ = onward p.number i in
+    delivered_more F n id (record {
+      id = g.id;
+      next = g.next;
+      live = Some k;
+      fin = g.fin;
+      held =
+          g.held;
+      events = g.events ++ Begins g.id k ∷ [];
+    }) (payload p.flow k (drop i p.octets))
+    (more_event n id g.events (Begins g.id k) l)
+
+pub taken_more : (F : Reader) (n id : ℕ) (g : Flow) (p : Payload) → n < closes_of id g.events →
+    n < closes_of id (taken F g p).events
+unfolding taken
+taken_more F n id g p l =
+    let q : Payload = left g.next (is_some g.live) p in
+    let d : Flow = delivered F g q in
+    let b : Flow = begun F g q (header_at q.octets) in
+    either (λ (h : Flow). n < closes_of id h.events) (nat_eq (length q.octets) 0) g
+    (cond (is_some g.live) d b) l
+    (either (λ (h : Flow). n < closes_of id h.events) (is_some g.live) d b
+    (delivered_more F n id g q l) (begun_more F n id g q (header_at q.octets) l))
+
+pub closed_more : (n id : ℕ) (g : Flow) (cause : CloseCause) → n < closes_of id g.events →
+    n < closes_of id (closed g cause).events
+unfolding closed with_event
+closed_more n id g cause l =
+    either (λ (h : Flow). n < closes_of id h.events) (is_some g.live)
+    (record {
+      id = g.id;
+      next = g.next;
+      live = None;
+      fin = g.fin;
+      held = g.held;
+      events =
+          g.events ++ Closes g.id cause ∷ [];
+    }) g
+    (more_event n id g.events (Closes g.id cause) l) l
+
+more_keeps : (F : Reader) (n id : ℕ) → Keeps F (λ (g : Flow). n < closes_of id g.events)
+more_keeps F n id =
+    record {
+      takes = λ f i e d t. taken_more F n id (record f { held = remove f.held i }) (held_at f i) t;
+      closes = λ f cause t. closed_more n id f cause t;
+      fins = λ f k t. t;
+    }
+
+pub came_more : (A : Setting) (n id : ℕ) (f : Flow) (p : Payload) → n < closes_of id f.events →
+    n < closes_of id (payload_came A f p).events
+unfolding payload_came holding
+came_more A n id f p l =
+    let P : Flow → Type 0 = λ (g : Flow). n < closes_of id g.events in
+    let q : Payload = left f.next (is_some f.live) p in
+    let h : Flow = record f { held = f.held ++ q ∷ [] } in
+    either P (nat_eq (length q.octets) 0 || has_as_much f.id q.number (length q.octets) f.held) f
+    (within_bounds A (length f.held + 1) (gone_on A.faulted h)) l
+    (relieved_keeps A P (more_keeps A.faulted n id) (length f.held + 1) (gone_on A.faulted h)
+    (gone_on_keeps A.faulted P (more_keeps A.faulted n id) h l))

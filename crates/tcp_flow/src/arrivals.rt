@@ -1,0 +1,249 @@
+//! What comes for a flow: its first payload, later ones, its FIN, and what the opposite flow
+//! acknowledges.
+
+ghost use Rattle.std.specs.Prelude.{◌≡◌, ◌≤◌, ◌∷◌, ◌++◌, [], List, IfOk, OnOk, OnErr, length};
+
+use crate::flow::{FlowState, Listener, ListenerFault};
+use tcp_waiting::{Pool, age, is_to_come};
+
+impl FlowState {
+    ghost use Rattle.std.specs.Prelude.{◌&&◌, is_some, not, false};
+    ghost use Rattle.tcp_waiting.specs.Numbers.{is_to_come as spec_is_to_come};
+    ghost use Rattle.tcp_waiting.specs.Payload.{Payload, payload, blocks_of, first};
+    ghost use Rattle.tcp_flow.specs.Flow.{Flow, Event, End, Octets, Acknowledged};
+    ghost use Rattle.tcp_flow.specs.Flow.{acknowledgement_came, fin_came, payload_came};
+    ghost use Rattle.tcp_flow.specs.Flow.{first_payload, fresh, held_by_others, setting, step};
+    ghost use Rattle.tcp_flow.specs.Laws.{IsGapless, IsSettled};
+    ghost use Rattle.tcp_flow.specs.State.{state, IsState};
+
+    /// A flow begins: the number of its first payload that has a header is due.
+    pub fn begin<T: Listener>(
+        id: u32,
+        number: u32,
+        octets: &[u8],
+        pool: &mut Pool,
+        to: &mut T,
+    ) -> Result<FlowState, ListenerFault>
+        requires whole { length octets.now ≤ 262_144 }
+        requires room { blocks_of pool.old.held ≤ pool.old.blocks }
+        requires none { is_some (first id number pool.old.held) ≡ false }
+        ensures does { (events : List Event) → T.observed to.old events → IfOk result (λ flow.
+            IsState (T.observed to.new) flow pool.new.held
+            (first_payload (setting T.faulted pool.old.blocks) id number octets.now
+            pool.old.held events)) }
+        ensures gapless { (payloads : List Payload) (events : List Event)
+            → T.observed to.old events → IsGapless payloads (fresh id number pool.old.held events)
+            → OnOk result (IsGapless (payloads ++ payload id number octets.now ∷ [])
+            (first_payload (setting T.faulted pool.old.blocks) id number octets.now
+            pool.old.held events)) }
+        ensures beside { (events : List Event) → T.observed to.old events
+            → OnOk result (held_by_others id pool.new.held ≡ held_by_others id pool.old.held) }
+        ensures room { (events : List Event) → T.observed to.old events
+            → OnOk result (blocks_of pool.new.held ≤ pool.new.blocks) }
+        ensures settled { (events : List Event) → T.observed to.old events
+            → IfOk result (λ flow. IsSettled (state flow pool.new.held [])) }
+        ensures id { IfOk result (λ flow. flow.id ≡ id) }
+        ensures blocks { pool.new.blocks ≡ pool.old.blocks }
+        ensures cause { OnErr result (T.failed to.new) }
+    {
+        let mut flow = FlowState::new(id, number);
+        flow.payload(number, octets, pool, to)?;
+        Ok(flow)
+    }
+
+    /// A payload of the flow comes.
+    pub fn payload<T: Listener>(
+        &mut self,
+        number: u32,
+        octets: &[u8],
+        pool: &mut Pool,
+        to: &mut T,
+    ) -> Result<(), ListenerFault>
+        requires whole { length octets.now ≤ 262_144 }
+        requires room { blocks_of pool.old.held ≤ pool.old.blocks }
+        requires settled { IsSettled (state self.old pool.old.held []) }
+        ensures does { (f : Flow) → IsState (T.observed to.old) self.old pool.old.held f
+            → OnOk result (IsState (T.observed to.new) self.new pool.new.held
+            (step (setting T.faulted pool.old.blocks) f (Octets number octets.now))) }
+        ensures gapless { (payloads : List Payload) (f : Flow)
+            → IsState (T.observed to.old) self.old pool.old.held f → IsGapless payloads f
+            → OnOk result (IsGapless (payloads ++ payload self.old.id number octets.now ∷ [])
+            (step (setting T.faulted pool.old.blocks) f (Octets number octets.now))) }
+        ensures beside { (f : Flow) → IsState (T.observed to.old) self.old pool.old.held f
+            → OnOk result (held_by_others self.old.id pool.new.held
+            ≡ held_by_others self.old.id pool.old.held) }
+        ensures room { (f : Flow) → IsState (T.observed to.old) self.old pool.old.held f
+            → OnOk result (blocks_of pool.new.held ≤ pool.new.blocks) }
+        ensures settled { (f : Flow) → IsState (T.observed to.old) self.old pool.old.held f
+            → OnOk result (IsSettled (state self.new pool.new.held [])) }
+        ensures id { self.new.id ≡ self.old.id }
+        ensures blocks { pool.new.blocks ≡ pool.old.blocks }
+        ensures cause { OnErr result (T.failed to.new) }
+    {
+        self.take_payload(number, octets, pool, to)?;
+        // Its range is known once it is read.
+        let _next = self.next;
+        Ok(())
+    }
+
+    /// A FIN of the flow comes, with the number behind the payload.
+    pub fn fin<T: Listener>(
+        &mut self,
+        number: u32,
+        pool: &mut Pool,
+        to: &mut T,
+    ) -> Result<(), ListenerFault>
+        ensures does { (f : Flow) → IsState (T.observed to.old) self.old pool.old.held f
+            → OnOk result (IsState (T.observed to.new) self.new pool.new.held
+            (step (setting T.faulted pool.old.blocks) f (End number))) }
+        ensures gapless { (payloads : List Payload) (f : Flow)
+            → IsState (T.observed to.old) self.old pool.old.held f → IsGapless payloads f
+            → OnOk result (IsGapless payloads
+            (step (setting T.faulted pool.old.blocks) f (End number))) }
+        ensures beside { (f : Flow) → IsState (T.observed to.old) self.old pool.old.held f
+            → OnOk result (held_by_others self.old.id pool.new.held
+            ≡ held_by_others self.old.id pool.old.held) }
+        ensures room { (f : Flow) → IsState (T.observed to.old) self.old pool.old.held f
+            → OnOk result (blocks_of pool.new.held ≤ blocks_of pool.old.held) }
+        ensures settled { (f : Flow) → IsState (T.observed to.old) self.old pool.old.held f
+            → IsSettled (state self.old pool.old.held [])
+            → OnOk result (IsSettled (state self.new pool.new.held [])) }
+        ensures id { self.new.id ≡ self.old.id }
+        ensures blocks { pool.new.blocks ≡ pool.old.blocks }
+        ensures cause { OnErr result (T.failed to.new) }
+    {
+        self.take_fin(number, pool, to)?;
+        // Its range is known once it is read.
+        let _next = self.next;
+        Ok(())
+    }
+
+    /// The opposite flow acknowledges up to a number.
+    pub fn acknowledged<T: Listener>(
+        &mut self,
+        number: u32,
+        pool: &mut Pool,
+        to: &mut T,
+    ) -> Result<(), ListenerFault>
+        ensures does { (f : Flow) → IsState (T.observed to.old) self.old pool.old.held f
+            → OnOk result (IsState (T.observed to.new) self.new pool.new.held
+            (step (setting T.faulted pool.old.blocks) f (Acknowledged number))) }
+        ensures gapless { (payloads : List Payload) (f : Flow)
+            → IsState (T.observed to.old) self.old pool.old.held f → IsGapless payloads f
+            → OnOk result (IsGapless payloads
+            (step (setting T.faulted pool.old.blocks) f (Acknowledged number))) }
+        ensures beside { (f : Flow) → IsState (T.observed to.old) self.old pool.old.held f
+            → OnOk result (held_by_others self.old.id pool.new.held
+            ≡ held_by_others self.old.id pool.old.held) }
+        ensures room { (f : Flow) → IsState (T.observed to.old) self.old pool.old.held f
+            → OnOk result (blocks_of pool.new.held ≤ blocks_of pool.old.held) }
+        ensures settled { (f : Flow) → IsState (T.observed to.old) self.old pool.old.held f
+            → IsSettled (state self.old pool.old.held [])
+            → OnOk result (IsSettled (state self.new pool.new.held [])) }
+        ensures over { (f : Flow) → IsState (T.observed to.old) self.old pool.old.held f
+            → OnOk result ((is_some (first self.new.id self.new.next pool.new.held)
+            && spec_is_to_come self.new.next number) ≡ false) }
+        ensures id { self.new.id ≡ self.old.id }
+        ensures blocks { pool.new.blocks ≡ pool.old.blocks }
+        ensures cause { OnErr result (T.failed to.new) }
+    {
+        self.take_acknowledgement(number, pool, to)?;
+        // Its range is known once it is read.
+        let _next = self.next;
+        Ok(())
+    }
+
+    /// A payload comes.
+    fn take_payload<T: Listener>(
+        &mut self,
+        number: u32,
+        octets: &[u8],
+        pool: &mut Pool,
+        to: &mut T,
+    ) -> Result<(), ListenerFault>
+        requires whole { length octets.now ≤ 262_144 }
+        requires room { blocks_of pool.old.held ≤ pool.old.blocks }
+        requires settled { IsSettled (state self.old pool.old.held []) }
+        ensures does { (f : Flow) → IsState (T.observed to.old) self.old pool.old.held f
+            → OnOk result (IsState (T.observed to.new) self.new pool.new.held
+            (payload_came (setting T.faulted pool.old.blocks) f
+            (payload self.old.id number octets.now))) }
+        ensures id { self.new.id ≡ self.old.id }
+        ensures blocks { pool.new.blocks ≡ pool.old.blocks }
+        ensures cause { OnErr result (T.failed to.new) }
+    {
+        let (number, octets) = self.left(number, octets);
+        if octets.is_empty() {
+            return Ok(());
+        }
+        if self.is_due(number) {
+            let count = pool.len() + 1;
+            self.take(number, octets, to)?;
+            self.go_on(pool, to)?;
+            return self.keep_within_bounds(count, pool, to);
+        }
+        if pool.has_as_much(self.id, number, octets.len()) {
+            return Ok(());
+        }
+        let count = pool.len() + 1;
+        pool.hold(self.id, number, octets);
+        self.go_on(pool, to)?;
+        self.keep_within_bounds(count, pool, to)
+    }
+
+    /// Whether a payload at this number is taken at once.
+    fn is_due(&self, number: u32) -> bool
+        ensures { result ≡ not (is_some self.now.live && spec_is_to_come self.now.next number) }
+    {
+        !(self.is_live() && is_to_come(self.next, number))
+    }
+
+    /// A FIN comes, with the number behind the payload.
+    fn take_fin<T: Listener>(
+        &mut self,
+        number: u32,
+        pool: &mut Pool,
+        to: &mut T,
+    ) -> Result<(), ListenerFault>
+        ensures does { (f : Flow) → IsState (T.observed to.old) self.old pool.old.held f
+            → OnOk result (IsState (T.observed to.new) self.new pool.new.held
+            (fin_came T.faulted f number)) }
+        ensures id { self.new.id ≡ self.old.id }
+        ensures blocks { pool.new.blocks ≡ pool.old.blocks }
+        ensures cause { OnErr result (T.failed to.new) }
+    {
+        if self.is_live() && age(self.next, number) == 0 {
+            self.fin = Some(number);
+            return self.go_on(pool, to);
+        }
+        Ok(())
+    }
+
+    /// The opposite flow acknowledges up to a number: what is missing before it was received.
+    fn take_acknowledgement<T: Listener>(
+        &mut self,
+        number: u32,
+        pool: &mut Pool,
+        to: &mut T,
+    ) -> Result<(), ListenerFault>
+        ensures does { (f : Flow) → IsState (T.observed to.old) self.old pool.old.held f
+            → OnOk result (IsState (T.observed to.new) self.new pool.new.held
+            (acknowledgement_came T.faulted (length pool.old.held) number f)) }
+        ensures id { self.new.id ≡ self.old.id }
+        ensures blocks { pool.new.blocks ≡ pool.old.blocks }
+        ensures cause { OnErr result (T.failed to.new) }
+    {
+        let mut left = pool.len();
+        while left > 0 {
+            if !pool.first(self.id, self.next).is_some() {
+                return Ok(());
+            }
+            if !is_to_come(self.next, number) {
+                return Ok(());
+            }
+            self.gap(pool, to)?;
+            left -= 1;
+        }
+        Ok(())
+    }
+}

@@ -1,0 +1,89 @@
+//! How the live stream of a flow closes, by its FIN or another cause, and how the flow goes on.
+
+ghost use Rattle.std.specs.Prelude.{◌≡◌, List, OnOk, OnErr, is_some};
+
+use crate::flow::{CloseCause, FlowState, Listener, ListenerFault};
+use tcp_waiting::{Pool, is_to_come};
+
+impl FlowState {
+    ghost use Rattle.tcp_waiting.specs.Payload.{Payload};
+    ghost use Rattle.tcp_flow.specs.Flow.{Flow, Event, closed, ended, gone_on};
+    ghost use Rattle.tcp_flow.specs.Flow.{fin_is_reached as spec_fin_is_reached};
+    ghost use Rattle.tcp_flow.specs.Flow.{without_stale_fin as spec_without_stale_fin};
+    ghost use Rattle.tcp_flow.specs.Laws.{IsGapless};
+    ghost use Rattle.tcp_flow.specs.State.{state, IsState};
+
+    /// The live stream closes, where there is one. Nothing else changes.
+    pub fn close<T: Listener>(&mut self, cause: CloseCause, to: &mut T) -> Result<(), ListenerFault>
+        ensures does { (held : List Payload) (f : Flow)
+            → IsState (T.observed to.old) self.old held f → OnOk result
+            (IsState (T.observed to.new) self.new held (closed f cause)) }
+        ensures gapless { (payloads : List Payload) (held : List Payload) (f : Flow)
+            → IsState (T.observed to.old) self.old held f → IsGapless payloads f
+            → OnOk result (IsGapless payloads (closed f cause)) }
+        ensures id { self.new.id ≡ self.old.id }
+        ensures cause { OnErr result (T.failed to.new) }
+    {
+        if self.is_live() {
+            self.live = None;
+            to.closes(self.id, cause)?;
+        }
+        Ok(())
+    }
+
+    /// Going on: what is due is taken, and the stream closes where the FIN is reached.
+    pub(crate) fn go_on<T: Listener>(
+        &mut self,
+        pool: &mut Pool,
+        to: &mut T,
+    ) -> Result<(), ListenerFault>
+        ensures does { (f : Flow) → IsState (T.observed to.old) self.old pool.old.held f
+            → OnOk result (IsState (T.observed to.new) self.new pool.new.held
+            (gone_on T.faulted f)) }
+        ensures id { self.new.id ≡ self.old.id }
+        ensures blocks { pool.new.blocks ≡ pool.old.blocks }
+        ensures cause { OnErr result (T.failed to.new) }
+    {
+        self.drain(pool, to)?;
+        self.end(pool, to)?;
+        self.without_stale_fin();
+        Ok(())
+    }
+
+    /// The stream closes where the FIN is reached, and the flow goes on.
+    fn end<T: Listener>(&mut self, pool: &mut Pool, to: &mut T) -> Result<(), ListenerFault>
+        ensures does { (f : Flow) → IsState (T.observed to.old) self.old pool.old.held f
+            → OnOk result (IsState (T.observed to.new) self.new pool.new.held (ended T.faulted f)) }
+        ensures id { self.new.id ≡ self.old.id }
+        ensures blocks { pool.new.blocks ≡ pool.old.blocks }
+        ensures cause { OnErr result (T.failed to.new) }
+    {
+        if self.fin_is_reached() {
+            self.close(CloseCause::Fin, to)?;
+            self.fin = None;
+            return self.drain(pool, to);
+        }
+        Ok(())
+    }
+
+    /// Whether the FIN that is kept is reached.
+    fn fin_is_reached(&self) -> bool
+        ensures { result ≡ spec_fin_is_reached self.now.next (is_some self.now.live) self.now.fin }
+    {
+        match self.fin {
+            Some(fin) => self.is_live() && !is_to_come(self.next, fin),
+            None => false,
+        }
+    }
+
+    /// A FIN is kept only while a stream is live.
+    fn without_stale_fin(&mut self)
+        ensures does { (held : List Payload) (events : List Event) → state self.new held events
+            ≡ spec_without_stale_fin (state self.old held events) }
+        ensures id { self.new.id ≡ self.old.id }
+    {
+        if !self.is_live() {
+            self.fin = None;
+        }
+    }
+}

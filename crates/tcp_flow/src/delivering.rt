@@ -1,0 +1,105 @@
+//! What a flow delivers of its payloads, as they are due: to its live stream, or to one that begins
+//! in them.
+
+ghost use Rattle.std.specs.Prelude.{◌≡◌, ◌≤◌, List, OnOk, OnErr, is_some, length};
+
+use crate::flow::{CloseCause, FlowState, Listener, ListenerFault, header_at};
+use tcp_waiting::{Pool, WINDOW, age, is_to_come, onward};
+
+impl FlowState {
+    ghost use Rattle.tcp_waiting.specs.Payload.{Payload, payload};
+    ghost use Rattle.tcp_flow.specs.Flow.{Flow, left, delivered, taken, drained};
+    ghost use Rattle.tcp_flow.specs.State.{IsState};
+
+    /// What is left of a payload: what is before the number that is due falls away.
+    pub(crate) fn left<'a>(&self, number: u32, octets: &'a [u8]) -> (u32, &'a [u8])
+        ensures shorter { length result.1.now ≤ length octets.now }
+        ensures left { payload self.now.id result.0 result.1.now
+            ≡ left self.now.next (is_some self.now.live) (payload self.now.id number octets.now) }
+    {
+        let age = age(self.next, number);
+        if age as usize > WINDOW && !self.is_live() {
+            return (number, octets);
+        }
+        let old = (age as usize).min(octets.len());
+        (onward(number, age as usize), &octets[old..])
+    }
+
+    /// Octets are delivered to the live stream.
+    fn deliver<T: Listener>(
+        &mut self,
+        number: u32,
+        octets: &[u8],
+        to: &mut T,
+    ) -> Result<(), ListenerFault>
+        ensures id { self.new.id ≡ self.old.id }
+        ensures does { (held : List Payload) (f : Flow)
+            → IsState (T.observed to.old) self.old held f → OnOk result
+            (IsState (T.observed to.new) self.new held
+            (delivered T.faulted f (payload self.old.id number octets.now))) }
+        ensures cause { OnErr result (T.failed to.new) }
+    {
+        self.next = onward(number, octets.len());
+        if to.delivers(self.id, octets)? {
+            self.live = None;
+            to.closes(self.id, CloseCause::Fault)?;
+        }
+        Ok(())
+    }
+
+    /// A payload is taken: delivered, or a stream begins in it, or it is nothing.
+    pub(crate) fn take<T: Listener>(
+        &mut self,
+        number: u32,
+        octets: &[u8],
+        to: &mut T,
+    ) -> Result<(), ListenerFault>
+        ensures id { self.new.id ≡ self.old.id }
+        ensures does { (held : List Payload) (f : Flow)
+            → IsState (T.observed to.old) self.old held f → OnOk result
+            (IsState (T.observed to.new) self.new held
+            (taken T.faulted f (payload self.old.id number octets.now))) }
+        ensures cause { OnErr result (T.failed to.new) }
+    {
+        let (number, octets) = self.left(number, octets);
+        if octets.is_empty() {
+            return Ok(());
+        }
+        if self.is_live() {
+            return self.deliver(number, octets, to);
+        }
+        if let Some(at) = header_at(octets) {
+            let number = onward(number, at);
+            to.begins(self.id, number)?;
+            self.live = Some(number);
+            return self.deliver(number, &octets[at..], to);
+        }
+        Ok(())
+    }
+
+    /// The held payloads are taken while the first is due.
+    pub(crate) fn drain<T: Listener>(
+        &mut self,
+        pool: &mut Pool,
+        to: &mut T,
+    ) -> Result<(), ListenerFault>
+        ensures does { (f : Flow) → IsState (T.observed to.old) self.old pool.old.held f
+            → OnOk result (IsState (T.observed to.new) self.new pool.new.held
+            (drained T.faulted f)) }
+        ensures id { self.new.id ≡ self.old.id }
+        ensures blocks { pool.new.blocks ≡ pool.old.blocks }
+        ensures cause { OnErr result (T.failed to.new) }
+    {
+        let mut first = pool.first(self.id, self.next);
+        while let Some(index) = first {
+            let number = pool.number(index);
+            if self.is_live() && is_to_come(self.next, number) {
+                return Ok(());
+            }
+            self.take(number, pool.octets(index), to)?;
+            pool.remove(index);
+            first = pool.first(self.id, self.next);
+        }
+        Ok(())
+    }
+}

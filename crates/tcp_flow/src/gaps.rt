@@ -1,0 +1,96 @@
+//! What a flow gives up: octets that are missing, which is a gap, again where too much is held, and
+//! all that it holds once it is forgotten.
+
+ghost use Rattle.std.specs.Prelude.{◌≡◌, ◌<◌, ◌≤◌, [], List, OnOk, OnErr, is_some, length, true};
+
+use crate::flow::{CloseCause, FlowState, Listener, ListenerFault};
+use tcp_waiting::Pool;
+
+impl FlowState {
+    ghost use Rattle.tcp_waiting.specs.Payload.{Payload, blocks_of, first};
+    ghost use Rattle.tcp_flow.specs.Flow.{Flow, Event, Reader, forgotten};
+    ghost use Rattle.tcp_flow.specs.Flow.{held_by_others, setting, within_bounds};
+    ghost use Rattle.tcp_flow.specs.Flow.{gap as spec_gap, is_too_much as spec_is_too_much};
+    ghost use Rattle.tcp_flow.specs.Laws.{IsGapless, IsSettled};
+    ghost use Rattle.tcp_flow.specs.State.{state, IsState};
+
+    /// A gap: the live stream closes, and the flow goes on. It holds fewer payloads behind it,
+    /// where it held some.
+    pub fn gap<T: Listener>(&mut self, pool: &mut Pool, to: &mut T) -> Result<(), ListenerFault>
+        ensures does { (f : Flow) → IsState (T.observed to.old) self.old pool.old.held f
+            → OnOk result (IsState (T.observed to.new) self.new pool.new.held
+            (spec_gap T.faulted f)) }
+        ensures gapless { (payloads : List Payload) (f : Flow)
+            → IsState (T.observed to.old) self.old pool.old.held f → IsGapless payloads f
+            → OnOk result (IsGapless payloads (spec_gap T.faulted f)) }
+        ensures beside { (f : Flow) → IsState (T.observed to.old) self.old pool.old.held f
+            → OnOk result (held_by_others self.old.id pool.new.held
+            ≡ held_by_others self.old.id pool.old.held) }
+        ensures room { (f : Flow) → IsState (T.observed to.old) self.old pool.old.held f
+            → OnOk result (blocks_of pool.new.held ≤ blocks_of pool.old.held) }
+        ensures fewer { (f : Flow) → IsState (T.observed to.old) self.old pool.old.held f
+            → is_some (first self.old.id self.old.next pool.old.held) ≡ true
+            → OnOk result (length pool.new.held < length pool.old.held) }
+        ensures settled { (f : Flow) → IsState (T.observed to.old) self.old pool.old.held f
+            → OnOk result (IsSettled (state self.new pool.new.held [])) }
+        ensures id { self.new.id ≡ self.old.id }
+        ensures blocks { pool.new.blocks ≡ pool.old.blocks }
+        ensures cause { OnErr result (T.failed to.new) }
+    {
+        self.close(CloseCause::Gap, to)?;
+        self.go_on(pool, to)?;
+        // Its range is known once it is read.
+        let _next = self.next;
+        Ok(())
+    }
+
+    /// Whether what is held is too much: an end too far behind, or more blocks than there are.
+    fn is_too_much(&self, pool: &Pool) -> bool
+        ensures { (events : List Event) (faulted : Reader) → result
+            ≡ spec_is_too_much (record { faulted = faulted; blocks = pool.now.blocks })
+            (state self.now pool.now.held events) }
+    {
+        pool.is_far(self.id, self.next)
+            || (pool.first(self.id, self.next).is_some() && pool.blocks() < pool.blocks_in_use())
+    }
+
+    /// Gaps while too much is held.
+    pub(crate) fn keep_within_bounds<T: Listener>(
+        &mut self,
+        count: usize,
+        pool: &mut Pool,
+        to: &mut T,
+    ) -> Result<(), ListenerFault>
+        ensures does { (f : Flow) → IsState (T.observed to.old) self.old pool.old.held f
+            → OnOk result (IsState (T.observed to.new) self.new pool.new.held
+            (within_bounds (setting T.faulted pool.old.blocks) count f)) }
+        ensures id { self.new.id ≡ self.old.id }
+        ensures blocks { pool.new.blocks ≡ pool.old.blocks }
+        ensures cause { OnErr result (T.failed to.new) }
+    {
+        let mut left = count;
+        while left > 0 {
+            if !self.is_too_much(pool) {
+                return Ok(());
+            }
+            self.gap(pool, to)?;
+            left -= 1;
+        }
+        Ok(())
+    }
+
+    /// All that the flow holds falls away.
+    pub fn forget(&self, pool: &mut Pool)
+        ensures does { (events : List Event) → state self.now pool.new.held events
+            ≡ forgotten (state self.now pool.old.held events) }
+        ensures held { pool.new.held ≡ held_by_others self.now.id pool.old.held }
+        ensures room { blocks_of pool.new.held ≤ blocks_of pool.old.held }
+        ensures blocks { pool.new.blocks ≡ pool.old.blocks }
+    {
+        let mut first = pool.first(self.id, self.next);
+        while let Some(own) = first {
+            pool.remove(own);
+            first = pool.first(self.id, self.next);
+        }
+    }
+}
