@@ -1,9 +1,8 @@
 -- A run of octets, taken in parts.
-use Rattle.std.proofs.Common.{◌≡◌, Result, Ok, Err, IsErr, ℕ, zero, suc, ◌+◌, ◌<◌, ◌≤◌, List, [], ◌∷◌, ◌++◌, length, take, drop, get_or, refl, sym, ◌∙◌, ap, subst, append-nil, append_assoc, add-one, length-append, arith}
+use Rattle.std.proofs.Common.{◌≡◌, Result, Ok, Err, ℕ, zero, suc, ◌+◌, ◌<◌, ◌≤◌, List, [], ◌∷◌, ◌++◌, length, take, drop, get_or, refl, sym, ◌∙◌, ap, subst, append-nil, append_assoc, add-one, length-append, arith}
 use Rattle.std.specs.Prelude.{IfOk}
 use Rattle.std.proofs.Math.Seq.{drop-append_seam, take-suc}
 use Rattle.std.proofs.lemmas.List.{take-append-drop, take-take}
-use Rattle.std.proofs.lemmas.Bool.{false≢true}
 use Rattle.giop_cdr.specs.declared.order.Order.{Order}
 use Rattle.giop_decode.specs.declared.progress.Progress.{Progress}
 use Rattle.giop_decode.specs.declared.progress.Progress.TheVariants as progress
@@ -141,13 +140,6 @@ breaks_off T order at message root s octets i a b c below h v w =
       wrote = rw (text_both message root order T at s (take i octets) (get_or octets i 0 ∷ []))
           (wrote-front a b c _ _ v w);
     }
-
-pub writes_broken : {E : Type 0} (r : Result (ℕ × Progress) E) (T : Ty) (order : Order)
-    (at message : ℕ) (root : Root) (s octets : List ℕ) (a b : OutLog) → IsErr r →
-    BreaksOff T order at message root s octets a b →
-    WritesRun r T order at message root s octets a b
-writes_broken (Ok v) T order at message root s octets a b e h = absurd (false≢true e)
-writes_broken (Err e) T order at message root s octets a b _ h = h
 
 -- ---- a run of the first of several octets
 

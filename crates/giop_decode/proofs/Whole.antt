@@ -355,10 +355,10 @@ module _ (C : Table) (d : Decoder) (octets : List ℕ) (of : TypeId) (count : �
         h.ahead,
       )) f h.goes_on h.adds
 
-  fits_then : Fits C before_last
+  pub fits_then : Fits C before_last
   fits_then = gathered_whole.0
 
-  same_type : leaf_type fits_then.leaf ≡ of.0
+  pub same_type : leaf_type fits_then.leaf ≡ of.0
   same_type = ap leaf_type (same_some fits_then.leaf h.leaf (sym fits_then.goes_on ∙ leads)) ∙ h.same
 
   pub around_whole : IsAround C m of.0

@@ -1,5 +1,5 @@
 -- What a decoder that reads a list does with more octets, taken as a run (state).
-use Rattle.std.specs.Prelude.{◌≡◌, ℕ, ◌+◌, ◌-◌, ◌%◌, ◌<◌, ◌≤◌, List, [], ◌∷◌, ◌++◌, length, take, drop, get_or, Some, Result, MatchResult}
+use Rattle.std.specs.Prelude.{◌≡◌, ℕ, ◌+◌, ◌-◌, ◌%◌, ◌<◌, ◌≤◌, List, [], ◌∷◌, ◌++◌, length, take, drop, get_or, Some, Result, IfOk, MatchResult}
 use Rattle.giop_cdr.specs.declared.order.Order.{Order}
 use Rattle.giop_decode.specs.declared.decoder.Decoder.{Decoder}
 use Rattle.giop_decode.specs.declared.progress.Progress.{Progress}
@@ -7,7 +7,7 @@ use Rattle.giop_decode.specs.declared.progress.Progress.TheVariants as progress
 use Rattle.giop_decode.specs.ReadResult.{plain, Coding, Line, PathSegment, lines_of}
 use Rattle.giop_decode.specs.Reading.{read}
 use Rattle.giop_decode.specs.Noted.{is_header_root, names_operation}
-use Rattle.giop_decode.specs.DecoderState.{Reads, KeepsNoted, IsAnswer, IsFault, added_lines}
+use Rattle.giop_decode.specs.DecoderState.{Fits, GoesOn, IsDone, Reads, KeepsNoted, IsAnswer, IsFault, added_lines}
 use Rattle.giop_decode.specs.Spelling.{lines_text}
 use Rattle.giop_print.specs.Output.{OutLog, Wrote, WroteFront}
 use Rattle.giop_print.specs.declared.path.Root.{Root}
@@ -73,6 +73,27 @@ WritesRun result T order at message root s octets before after =
     (λ taken. Wrote before after
     (lines_text message root (added_lines_of_run order T at s (take taken.0 octets))))
     (λ _. BreaksOff T order at message root s octets before after)
+
+-- Some of these octets are taken as a run, by a decoder that becomes this new one: how many, with
+-- the answer to the last
+-- of them, or a put failed.
+pub record TakesSome {E : Type 0} (C : Table) (old new : Decoder) (octets : List ℕ)
+    (before after : OutLog) (result : Result (ℕ × Progress) E) : Type 0 where
+  -- of any list that the old decoder reads: the lines of those that are taken are written
+  pub writes : (T : Ty) (order : Order) (at message : ℕ) (root : Root) (s : List ℕ) →
+      Reads C T order at message root old s →
+      WritesRun result T order at message root s octets before after
+  -- and the new one reads them behind it
+  pub takes : IfOk result (λ taken. (T : Ty) (order : Order) (at message : ℕ) (root : Root)
+      (s : List ℕ) → Reads C T order at message root old s →
+      TakesRun C T order at message root new s (take taken.0 octets) taken.1)
+  -- no more than there are, and at least one
+  pub within : IfOk result (λ taken. taken.0 ≤ length octets)
+  pub some : IfOk result (λ taken. 0 < taken.0)
+  -- a value that goes on can be taken from there
+  pub fits : IfOk result (λ taken. GoesOn taken.1 → Fits C new)
+  -- the answer that it has ended comes only where it has
+  pub done : IfOk result (λ taken. taken.1 ≡ progress.Done → IsDone new)
 
 -- ---- octets that only add to a piece
 

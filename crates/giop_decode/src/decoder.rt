@@ -1,6 +1,6 @@
 //! A decoder of one value: the state that reading a list of octets leaves.
 
-ghost use Rattle.std.specs.Prelude.{◌≡◌, ℕ, ◌+◌, ◌-◌, ◌%◌, ◌<◌, ◌≤◌, List, [], ◌++◌, length, ◌↔◌, IsTrue, true, false, IfOk, OnOk, None, Some};
+ghost use Rattle.std.specs.Prelude.{◌≡◌, ℕ, ◌+◌, ◌-◌, ◌%◌, ◌<◌, ◌≤◌, List, [], length, ◌↔◌, IsTrue, true, false, IfOk, OnOk, None, Some};
 ghost use Rattle.std.specs.Option.{option_map};
 ghost use Rattle.giop_cdr.specs.declared.order.Order.{Order as ByteOrder};
 ghost use Rattle.giop_decode.specs.declared.leaf.Leaf.{Leaf as Innermost};
@@ -8,14 +8,15 @@ ghost use Rattle.giop_decode.specs.ReadResult.{Coding, PathSegment, Line, Read, 
 ghost use Rattle.giop_decode.specs.Spelling.{lines_text};
 ghost use Rattle.giop_print.specs.Output.{Writes};
 ghost use Rattle.giop_print.specs.declared.path.Root.{Root as PathRoot};
-ghost use Rattle.giop_decode.specs.ReadingSteps.{around, path_in};
+ghost use Rattle.giop_decode.specs.ReadingSteps.{around};
 ghost use Rattle.giop_decode.specs.Fits.{OpenFrom};
-ghost use Rattle.giop_decode.specs.Transitions.{open_parts, AreKnown, Link, TransitionFits, HasOutput, IsOutput, after_transition, still_held, leaf_type, IsClean, StandAt, is_inside};
-ghost use Rattle.giop_decode.specs.Noted.{Noted, noted, noted_of, without_name_if, ends_in_string, is_header_root};
+ghost use Rattle.giop_decode.specs.Transitions.{open_parts, AreKnown, Link, TransitionFits, HasOutput, after_transition, still_held, leaf_type, IsClean, StandAt, is_inside};
+ghost use Rattle.giop_decode.specs.Noted.{noted_of, ends_in_string, is_header_root};
 ghost use Rattle.giop_decode.specs.NameBuffer.{string_offset};
-ghost use Rattle.giop_decode.specs.NotingSteps.{IsPlain, clears_name, transition_in_string, transition_offset};
-ghost use Rattle.giop_decode.specs.DecoderState.{Fits, IsDone, CanStandAt, Reads, HoldsNoted, Takes, KeepsNoted, GoesOn, read_by_fields, added_lines};
-ghost use Rattle.giop_decode.specs.DecoderSteps.{transition_result, decoder_step, emitted, Comes, IsAround, IsNext, IsNotRefused};
+ghost use Rattle.giop_decode.specs.NotingSteps.{IsPlain, transition_in_string, transition_offset};
+ghost use Rattle.giop_decode.specs.DecoderState.{Fits, IsDone, CanStandAt, Reads, Takes, KeepsNoted, GoesOn, read_by_fields, added_lines};
+ghost use Rattle.giop_decode.specs.DecoderSteps.{transition_result, decoder_step, Comes, IsAround, IsNotRefused};
+ghost use Rattle.giop_decode.specs.Passes.{Gives, Passes};
 ghost use Rattle.giop_sig.specs.Types.{Ty};
 ghost use Rattle.giop_sig.specs.Fits.{IsFit, IsEmptyStruct};
 ghost use Rattle.giop_sig.specs.Trees.{tree};
@@ -299,35 +300,12 @@ impl Decoder {
         requires plain { IsTrue is_plain → IsPlain (tree catalogue.now of.0) step.output }
         requires short { 0 < length rest.now →
             length self.old.piece.items + length rest.now ≤ 32 }
-        ensures order { OnOk result (self.new.order ≡ self.old.order) }
-        ensures root { OnOk result (self.new.root ≡ self.old.root) }
-        ensures message { OnOk result (self.new.message ≡ self.old.message) }
-        ensures here { OnOk result ((here : ℕ) → CanStandAt self.old here →
-            CanStandAt self.new (here + 1)) }
-        ensures next { IfOk result (λ p. GoesOn p → IsNext catalogue.now self.old self.new of.0 step.transition) }
+        ensures passes { IfOk result (λ p.
+            Passes catalogue.now self.old self.new of.0 step rest.now p) }
         ensures writes { (here at : ℕ) (lines : List Line) →
-            IsOutput (tree catalogue.now of.0)
-            (path_in [] (open_parts catalogue.now here self.old.outer.items))
-            at step.output (self.old.piece.items ++ rest.now) lines →
+            Gives catalogue.now self.old of.0 step rest.now here at lines →
             Writes result (O.log out.old) (O.log out.new)
             (lines_text self.old.message self.old.root lines) }
-        ensures steps { IfOk result (λ p. (here : ℕ) (lines : List Line) →
-            IsOutput (tree catalogue.now of.0)
-            (path_in [] (open_parts catalogue.now here self.old.outer.items))
-            (here + 1) step.output (self.old.piece.items ++ rest.now) lines →
-            Comes catalogue.now self.new p (here + 1)
-            (emitted catalogue.now self.old of.0 step.transition step.output lines here)) }
-        ensures inside { OnOk result ((here : ℕ) (lines : List Line) →
-            ends_in_string (emitted catalogue.now self.old of.0 step.transition step.output lines here)
-            ≡ transition_in_string (tree catalogue.now of.0) step.transition) }
-        ensures id { OnOk result (is_header_root self.old.root ≡ false →
-            self.new.notes.request_id ≡ self.old.notes.request_id) }
-        ensures notes { OnOk result ((h : Noted) (here at : ℕ) (lines : List Line) → HoldsNoted self.old.notes h →
-            IsOutput (tree catalogue.now of.0)
-            (path_in [] (open_parts catalogue.now here self.old.outer.items))
-            at step.output (self.old.piece.items ++ rest.now) lines →
-            HoldsNoted self.new.notes (without_name_if (clears_name step.output)
-            (noted (is_header_root self.old.root) h lines))) }
     {
         write_line(
             catalogue,
@@ -358,29 +336,7 @@ impl Decoder {
             self.old.carry (still_held step.output self.old.piece.items) }
         requires has_output { HasOutput (tree catalogue.now of.0) step.output }
         requires plain { IsTrue is_plain → IsPlain (tree catalogue.now of.0) step.output }
-        ensures order { self.new.order ≡ self.old.order }
-        ensures root { self.new.root ≡ self.old.root }
-        ensures message { self.new.message ≡ self.old.message }
-        ensures here { (here : ℕ) → CanStandAt self.old here →
-            CanStandAt self.new (here + 1) }
-        ensures next { GoesOn result → IsNext catalogue.now self.old self.new of.0 step.transition }
-        ensures steps { (here : ℕ) (lines : List Line) →
-            IsOutput (tree catalogue.now of.0)
-            (path_in [] (open_parts catalogue.now here self.old.outer.items))
-            (here + 1) step.output (self.old.piece.items ++ rest.now) lines →
-            Comes catalogue.now self.new result (here + 1)
-            (emitted catalogue.now self.old of.0 step.transition step.output lines here) }
-        ensures inside { (here : ℕ) (lines : List Line) →
-            ends_in_string (emitted catalogue.now self.old of.0 step.transition step.output lines here)
-            ≡ transition_in_string (tree catalogue.now of.0) step.transition }
-        ensures id { is_header_root self.old.root ≡ false →
-            self.new.notes.request_id ≡ self.old.notes.request_id }
-        ensures notes { (h : Noted) (here at : ℕ) (lines : List Line) → HoldsNoted self.old.notes h →
-            IsOutput (tree catalogue.now of.0)
-            (path_in [] (open_parts catalogue.now here self.old.outer.items))
-            at step.output (self.old.piece.items ++ rest.now) lines →
-            HoldsNoted self.new.notes (without_name_if (clears_name step.output)
-            (noted (is_header_root self.old.root) h lines)) }
+        ensures { Passes catalogue.now self.old self.new of.0 step rest.now result }
     {
         let named = self.notes.note(
             catalogue,

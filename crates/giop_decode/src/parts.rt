@@ -1,13 +1,12 @@
 //! Numbers that are parts of one part, taken one after another: what their lines begin with is spelled once.
 
-ghost use Rattle.std.specs.Prelude.{◌≡◌, ℕ, ◌+◌, ◌-◌, ◌<◌, ◌≤◌, false, true, List, [], ◌++◌, length, take, IfOk, IfSome, OnOk, IsTrue};
+ghost use Rattle.std.specs.Prelude.{◌≡◌, ℕ, ◌+◌, ◌-◌, ◌<◌, ◌≤◌, false, true, List, [], ◌++◌, length, IfOk, IfSome, OnOk, IsTrue};
 ghost use Rattle.giop_cdr.specs.Primitives.{size_of};
-ghost use Rattle.giop_cdr.specs.declared.order.Order.{Order as ByteOrder};
-ghost use Rattle.giop_decode.specs.DecoderState.{Fits, GoesOn, IsDone, Reads};
+ghost use Rattle.giop_decode.specs.DecoderState.{Fits};
 ghost use Rattle.giop_decode.specs.Noted.{is_header_root};
 ghost use Rattle.giop_decode.specs.NextParts.{IsPartAhead, IsNextNumber, IsAtNext, front_text};
 ghost use Rattle.giop_decode.specs.ReadingSteps.{segment_in};
-ghost use Rattle.giop_decode.specs.Runs.{TakesRun, WritesRun};
+ghost use Rattle.giop_decode.specs.Runs.{TakesSome};
 ghost use Rattle.giop_decode.specs.Segments.{frames_text};
 ghost use Rattle.giop_decode.specs.Spelling.{segment_text};
 ghost use Rattle.giop_decode.specs.Transitions.{open_part, AreKnown, IsKnown};
@@ -15,8 +14,6 @@ ghost use Rattle.giop_print.specs.Line.{line_text, line_room, headed};
 ghost use Rattle.giop_print.specs.Lines.{kind_line, kind_word, number_text, spaced};
 ghost use Rattle.giop_print.specs.Output.{Writes};
 ghost use Rattle.giop_print.specs.Paths.{root_word};
-ghost use Rattle.giop_print.specs.declared.path.Root.{Root as PathRoot};
-ghost use Rattle.giop_sig.specs.Types.{Ty};
 
 use crate::current_path::{spell_segment, spell_segments};
 use crate::decoder::Decoder;
@@ -87,19 +84,8 @@ impl Decoder {
         requires some { 0 < length self.old.outer.items }
         requires body { is_header_root self.old.root ≡ false }
         requires outside { self.old.inside ≡ false }
-        ensures writes { (T : Ty) (order : ByteOrder) (at message : ℕ) (root : PathRoot)
-            (s : List ℕ) →
-            Reads catalogue.now T order at message root self.old s →
-            WritesRun result T order at message root s octets.now (O.log out.old) (O.log out.new) }
-        ensures takes { IfOk result (λ taken. (T : Ty) (order : ByteOrder) (at message : ℕ)
-            (root : PathRoot) (s : List ℕ) →
-            Reads catalogue.now T order at message root self.old s →
-            TakesRun catalogue.now T order at message root self.new s
-            (take taken.0 octets.now) taken.1) }
-        ensures within { IfOk result (λ taken. taken.0 ≤ length octets.now) }
-        ensures some { IfOk result (λ taken. 0 < taken.0) }
-        ensures fits { IfOk result (λ taken. GoesOn taken.1 → Fits catalogue.now self.new) }
-        ensures done { IfOk result (λ taken. taken.1 ≡ Progress.Done → IsDone self.new) }
+        ensures { TakesSome catalogue.now self.old self.new octets.now
+            (O.log out.old) (O.log out.new) result }
     {
         let depth = self.outer.len() - 1;
         let mut line = Line::new();
@@ -131,19 +117,8 @@ impl Decoder {
         requires outside { self.old.inside ≡ false }
         requires front { front.now ≡ front_text catalogue.now self.old }
         requires short { length front.now ≤ 128 }
-        ensures writes { (T : Ty) (order : ByteOrder) (at message : ℕ) (root : PathRoot)
-            (s : List ℕ) →
-            Reads catalogue.now T order at message root self.old s →
-            WritesRun result T order at message root s octets.now (O.log out.old) (O.log out.new) }
-        ensures takes { IfOk result (λ taken. (T : Ty) (order : ByteOrder) (at message : ℕ)
-            (root : PathRoot) (s : List ℕ) →
-            Reads catalogue.now T order at message root self.old s →
-            TakesRun catalogue.now T order at message root self.new s
-            (take taken.0 octets.now) taken.1) }
-        ensures within { IfOk result (λ taken. taken.0 ≤ length octets.now) }
-        ensures some { IfOk result (λ taken. 0 < taken.0) }
-        ensures fits { IfOk result (λ taken. GoesOn taken.1 → Fits catalogue.now self.new) }
-        ensures done { IfOk result (λ taken. taken.1 ≡ Progress.Done → IsDone self.new) }
+        ensures { TakesSome catalogue.now self.old self.new octets.now
+            (O.log out.old) (O.log out.new) result }
     {
         let mut taken = 0;
         while let Some(part) = self.part_ahead(catalogue, &octets[taken..]) {
@@ -214,18 +189,9 @@ impl Decoder {
         requires next { IsNextNumber catalogue.now part.frame next }
         requires front { front.now ≡ front_text catalogue.now self.old }
         requires short { length front.now ≤ 128 }
-        ensures writes { (T : Ty) (order : ByteOrder) (at message : ℕ) (root : PathRoot)
-            (s : List ℕ) →
-            Reads catalogue.now T order at message root self.old s →
-            WritesRun result T order at message root s octets.now (O.log out.old) (O.log out.new) }
-        ensures takes { IfOk result (λ taken. (T : Ty) (order : ByteOrder) (at message : ℕ)
-            (root : PathRoot) (s : List ℕ) →
-            Reads catalogue.now T order at message root self.old s →
-            TakesRun catalogue.now T order at message root self.new s
-            (take taken.0 octets.now) Progress.More) }
-        ensures within { IfOk result (λ taken. taken.0 ≤ length octets.now) }
-        ensures fits { OnOk result (Fits catalogue.now self.new) }
-        ensures some { IfOk result (λ taken. 0 < taken.0) }
+        ensures takes { TakesSome catalogue.now self.old self.new octets.now
+            (O.log out.old) (O.log out.new) result }
+        ensures more { IfOk result (λ taken. taken.1 ≡ Progress.More) }
         ensures next { OnOk result (IsAtNext catalogue.now self.old self.new part next) }
     {
         let _octets = octets;
@@ -252,19 +218,8 @@ impl Decoder {
         requires ahead { IsPartAhead catalogue.now self.old octets.now part }
         requires front { front.now ≡ front_text catalogue.now self.old }
         requires short { length front.now ≤ 128 }
-        ensures writes { (T : Ty) (order : ByteOrder) (at message : ℕ) (root : PathRoot)
-            (s : List ℕ) →
-            Reads catalogue.now T order at message root self.old s →
-            WritesRun result T order at message root s octets.now (O.log out.old) (O.log out.new) }
-        ensures takes { IfOk result (λ taken. (T : Ty) (order : ByteOrder) (at message : ℕ)
-            (root : PathRoot) (s : List ℕ) →
-            Reads catalogue.now T order at message root self.old s →
-            TakesRun catalogue.now T order at message root self.new s
-            (take taken.0 octets.now) taken.1) }
-        ensures within { IfOk result (λ taken. taken.0 ≤ length octets.now) }
-        ensures some { IfOk result (λ taken. 0 < taken.0) }
-        ensures fits { IfOk result (λ taken. GoesOn taken.1 → Fits catalogue.now self.new) }
-        ensures done { IfOk result (λ taken. taken.1 ≡ Progress.Done → IsDone self.new) }
+        ensures { TakesSome catalogue.now self.old self.new octets.now
+            (O.log out.old) (O.log out.new) result }
     {
         let _octets = octets;
         part_line(catalogue, part, front, out)?;

@@ -48,7 +48,8 @@ returns-clause-steps g c here h =
     let k = subst (IsCoded here coding) by (coded_in C here (plain d.order) d.order d.at d.outer.items h.1 (record { order = refl; at = omega (arith, h.0) })) in
     let t = c.take_octet-step.ensures.transitions coding (path_in [] ps) here k.order k.at in
     let e = ap (λ l. step (plain d.order) [] ps (leaf_in C d l) here c.args.octet) c.in-Some.is ∙ ap (around (plain d.order) [] ps) t.comes in
-    let s = rw (c.of-of.ensures, append-nil c.take_octet-step.new.piece.items) at (c.in_ok-progress.ensures.steps here t.lines) in
+    let s = rw (c.of-of.ensures, append-nil c.take_octet-step.new.piece.items) at
+    (c.in_ok-progress.ensures.passes.steps here t.lines) in
     rw e (s t.says)
 
 pub returns-in_err-progress-clause-writes : goal.returns-in_err-progress-clause-writes
@@ -104,19 +105,23 @@ returns-clause-fits g c goes_on =
     let step = c.take_octet-step.result in
     let piece = c.take_octet-step.new.piece.items in
     let k = goes C new c.in_ok-progress.progress (f.here + 1) (decoder_step C d f.here c.args.octet) (returns-clause-steps g c f.here f.stands) goes_on in
-    let next = c.in_ok-progress.ensures.next goes_on in
+    let next = c.in_ok-progress.ensures.passes.next goes_on in
     let same = same_some f.leaf leaf (sym f.goes_on ∙ c.in-Some.is) in
     let before : Link C f.root d.outer.items c.of-of.result.0 = rw (c.of-of.ensures, ← same) f.link in
     let notes : (h : Noted) → HoldsNoted d.notes h → HoldsNoted new.notes (without_name_if (clears_name step.output) (noted (is_header_root d.root) h t.lines)) =
-    λ h held. (rw (c.of-of.ensures, append-nil piece) at (c.in_ok-progress.ensures.notes h f.here (f.here + 1) t.lines held)) t.says in
+    λ h held. (rw (c.of-of.ensures, append-nil piece) at
+    (c.in_ok-progress.ensures.passes.notes h f.here (f.here + 1) t.lines held)) t.says in
     let name = name_kept (is_header_root d.root) d.root T (string_offset T leaf) (string_offset (tree C (leaf_type k.leaf)) k.leaf) step.transition step.output
     (path_in [] ps) (f.here + 1) piece t.lines d.notes new.notes next.going c.take_octet-step.ensures.string_goes_on
     (next.offset k.leaf k.goes_on ∙ ap (λ n. transition_offset (tree C n) step.transition) c.of-of.ensures) t.says
     (subst (λ l. FitsName d.root (string_offset (tree C (leaf_type l)) l) d.notes.buffer d.notes.name.items) same f.name) notes in
-    step_fits C d new f c.args.octet k (c.in_ok-progress.ensures.here f.here f.stands) next.ahead next.inside
+    step_fits C d new f c.args.octet k (c.in_ok-progress.ensures.passes.here f.here f.stands)
+    next.ahead next.inside
     (next.link f.root k.leaf before k.goes_on) next.known_outer (next.known k.leaf k.goes_on) (next.clean k.leaf k.goes_on)
-    (λ other. let was = rw c.in_ok-progress.ensures.root at other in c.in_ok-progress.ensures.id was ∙ f.id_in_header_only was)
-    (subst (λ r. FitsName r (string_offset (tree C (leaf_type k.leaf)) k.leaf) new.notes.buffer new.notes.name.items) (sym c.in_ok-progress.ensures.root) name)
+    (λ other. let was = rw c.in_ok-progress.ensures.passes.root at other in
+    c.in_ok-progress.ensures.passes.id was ∙ f.id_in_header_only was)
+    (subst (λ r. FitsName r (string_offset (tree C (leaf_type k.leaf)) k.leaf) new.notes.buffer
+    new.notes.name.items) (sym c.in_ok-progress.ensures.passes.root) name)
 
 pub returns-clause-keeps_noted : goal.returns-clause-keeps_noted
 returns-clause-keeps_noted g c here front h old_keeps_noted =
@@ -136,11 +141,12 @@ returns-clause-keeps_noted g c here front h old_keeps_noted =
     let piece = c.take_octet-step.new.piece.items in
     let ls = ap lines_of e ∙ lines_after_transition C here (plain d.order) [] d.outer.items T transition c.take_octet-step.new.carry (still_held output piece) t.lines f.ahead f.known_outer in
     let header = is_header_root d.root in
-    let i = rw c.of-of.ensures at (c.in_ok-progress.ensures.inside here t.lines) in
+    let i = rw c.of-of.ensures at (c.in_ok-progress.ensures.passes.inside here t.lines) in
     let before : HoldsNoted d.notes (without_name_if (leaf_in_string T leaf) (noted header nothing_noted front)) =
     subst (λ b. HoldsNoted d.notes (without_name_if b (noted header nothing_noted front))) (leaf_inside C leaf d.carry d.piece.items)
     (rw c.in-Some.is at old_keeps_noted) in
-    let now = rw (c.of-of.ensures, append-nil piece) at (c.in_ok-progress.ensures.notes (without_name_if (leaf_in_string T leaf)
+    let now = rw (c.of-of.ensures, append-nil piece) at
+    (c.in_ok-progress.ensures.passes.notes (without_name_if (leaf_in_string T leaf)
     (noted header nothing_noted front)) here (here + 1) t.lines before) in
     let on = noted_on header C leaf transition output (path_in [] ps) (here + 1) piece front t.lines (decoder_step C d here c.args.octet)
     c.take_octet-step.ensures.output_fits_string t.says (ap ends_in_string e ∙ i) ls in
