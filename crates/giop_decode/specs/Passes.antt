@@ -1,6 +1,8 @@
 -- What an octet of the innermost part does, once its line is written (steps).
 use Rattle.std.specs.Prelude.{◌≡◌, ℕ, ◌+◌, false, List, [], ◌++◌}
 use Rattle.giop_decode.specs.declared.decoder.Decoder.{Decoder}
+use Rattle.giop_decode.specs.declared.frame.Frame.{Frame}
+use Rattle.giop_decode.specs.declared.leaf.Finished.{Finished}
 use Rattle.giop_decode.specs.declared.leaf.Step.{Step}
 use Rattle.giop_decode.specs.declared.progress.Progress.{Progress}
 use Rattle.giop_decode.specs.ReadResult.{Line}
@@ -13,9 +15,14 @@ use Rattle.giop_decode.specs.Transitions.{IsOutput, open_parts}
 use Rattle.giop_sig.specs.Table.{Table}
 use Rattle.giop_sig.specs.Trees.{tree}
 
+-- The lines up to this offset of what an octet finishes of a part in these frames at an offset.
+abbrev pub Finishes : Table → List Frame → Finished → ℕ → ℕ → List Line → Type 0
+Finishes C outer finished here at lines =
+    IsOutput (tree C finished.of.0) (path_in [] (open_parts C here outer)) at finished.output
+    (finished.held.now ++ finished.rest.now) lines
+
 -- The lines that the step gives, up to this offset, of a part of this type in the frames around it
--- at an offset: those of
--- its output. A piece has the octets that are held, and the rest.
+-- at an offset: those of its output. A piece has the octets that are held, and the rest.
 abbrev pub Gives : Table → Decoder → ℕ → Step → List ℕ → ℕ → ℕ → List Line → Type 0
 Gives C d of step rest here at lines =
     IsOutput (tree C of) (path_in [] (open_parts C here d.outer.items)) at step.output

@@ -23,8 +23,9 @@ ghost use Rattle.giop_sig.specs.Trees.{tree};
 
 use crate::contents::let_go;
 use crate::frame::{Frame, begin, coding, go_on, has_ended, is_empty, is_inside, tick};
-use crate::leaf::{Leaf, Step, Transition, take_octet};
+use crate::leaf::{Finished, Leaf, Transition, take_octet};
 use crate::line::write_line;
+use crate::lookahead::Lookahead;
 use crate::notes::Notes;
 use crate::progress::{Progress, progress_of};
 use arrayvec::ArrayVec;
@@ -266,7 +267,6 @@ impl Decoder {
         let Some(leaf) = self.leaf else {
             unreachable!();
         };
-        let of = leaf.of();
         let (order, at) = coding(self.inside, self.order, self.at, self.outer.as_slice());
         let step = take_octet(
             catalogue,
@@ -277,33 +277,41 @@ impl Decoder {
             &mut self.carry,
             &mut self.piece,
         );
-        let progress = self.emit(catalogue, of, step, &[], false, out)?;
+        let ahead = Lookahead {
+            of: leaf.of(),
+            count: 1,
+            step,
+            rest: &[],
+        };
+        let progress = self.emit(catalogue, ahead, false, out)?;
         Ok(progress)
     }
 
-    /// Writes and notes the output of an octet of the innermost part, of this type, and does its transition. A piece
-    /// that is written has the octets that are held, and the rest. A number may be known as a primitive's.
+    /// Takes the last of octets that the innermost part takes together, where all others are taken:
+    /// writes and notes the output, and does the transition. A piece that is written has the octets
+    /// that are held, and the rest. A number may be known as a primitive's.
     #[inline(always)]
     pub(crate) fn emit<O: Out>(
         &mut self,
         catalogue: &Catalogue,
-        of: TypeId,
-        step: Step,
-        rest: &[u8],
+        ahead: Lookahead<'_>,
         is_plain: bool,
         out: &mut O,
     ) -> Result<Progress, OutFault>
-        requires around { IsAround catalogue.now self.old of.0 }
-        requires transition_fits { TransitionFits (tree catalogue.now of.0) of.0 step.transition
-            self.old.carry (still_held step.output self.old.piece.items) }
-        requires has_output { HasOutput (tree catalogue.now of.0) step.output }
-        requires plain { IsTrue is_plain → IsPlain (tree catalogue.now of.0) step.output }
-        requires short { 0 < length rest.now →
-            length self.old.piece.items + length rest.now ≤ 32 }
-        ensures passes { IfOk result (λ p.
-            Passes catalogue.now self.old self.new of.0 step rest.now p) }
+        requires around { IsAround catalogue.now self.old ahead.of.0 }
+        requires transition_fits { TransitionFits (tree catalogue.now ahead.of.0) ahead.of.0
+            ahead.step.transition self.old.carry
+            (still_held ahead.step.output self.old.piece.items) }
+        requires has_output { HasOutput (tree catalogue.now ahead.of.0) ahead.step.output }
+        requires plain { IsTrue is_plain →
+            IsPlain (tree catalogue.now ahead.of.0) ahead.step.output }
+        requires short { 0 < length ahead.rest.now →
+            length self.old.piece.items + length ahead.rest.now ≤ 32 }
+        ensures passes { IfOk result (λ p. Passes catalogue.now self.old self.new
+            ahead.entry.of.0 ahead.entry.step ahead.entry.rest.now p) }
         ensures writes { (here at : ℕ) (lines : List Line) →
-            Gives catalogue.now self.old of.0 step rest.now here at lines →
+            Gives catalogue.now self.old ahead.entry.of.0 ahead.entry.step ahead.entry.rest.now
+            here at lines →
             Writes result (O.log out.old) (O.log out.new)
             (lines_text self.old.message self.old.root lines) }
     {
@@ -312,47 +320,52 @@ impl Decoder {
             self.message,
             self.root,
             self.outer.as_slice(),
-            of,
-            step.output,
-            &self.piece,
-            rest,
+            Finished {
+                of: ahead.of,
+                output: ahead.step.output,
+                held: &self.piece,
+                rest: ahead.rest,
+            },
             out,
         )?;
-        Ok(self.pass(catalogue, of, step, rest, is_plain))
+        Ok(self.pass(catalogue, ahead, is_plain))
     }
 
-    /// Notes the output of an octet of the innermost part, and does its transition: what `emit` does but for the line.
+    /// What `emit` does but for the line.
     #[inline(always)]
     pub(crate) fn pass(
         &mut self,
         catalogue: &Catalogue,
-        of: TypeId,
-        step: Step,
-        rest: &[u8],
+        ahead: Lookahead<'_>,
         is_plain: bool,
     ) -> Progress
-        requires around { IsAround catalogue.now self.old of.0 }
-        requires transition_fits { TransitionFits (tree catalogue.now of.0) of.0 step.transition
-            self.old.carry (still_held step.output self.old.piece.items) }
-        requires has_output { HasOutput (tree catalogue.now of.0) step.output }
-        requires plain { IsTrue is_plain → IsPlain (tree catalogue.now of.0) step.output }
-        ensures { Passes catalogue.now self.old self.new of.0 step rest.now result }
+        requires around { IsAround catalogue.now self.old ahead.of.0 }
+        requires transition_fits { TransitionFits (tree catalogue.now ahead.of.0) ahead.of.0
+            ahead.step.transition self.old.carry
+            (still_held ahead.step.output self.old.piece.items) }
+        requires has_output { HasOutput (tree catalogue.now ahead.of.0) ahead.step.output }
+        requires plain { IsTrue is_plain →
+            IsPlain (tree catalogue.now ahead.of.0) ahead.step.output }
+        ensures { Passes catalogue.now self.old self.new
+            ahead.entry.of.0 ahead.entry.step ahead.entry.rest.now result }
     {
         let named = self.notes.note(
             catalogue,
             self.root,
             self.outer.as_slice(),
-            of,
-            step.output,
-            &self.piece,
-            rest,
+            Finished {
+                of: ahead.of,
+                output: ahead.step.output,
+                held: &self.piece,
+                rest: ahead.rest,
+            },
             is_plain,
         );
-        let_go(step.output, &mut self.piece);
+        let_go(ahead.step.output, &mut self.piece);
         self.at = (self.at + 1) % 8;
         tick(self.inside, &mut self.outer);
-        self.advance_frames(catalogue, of, step.transition);
+        self.advance_frames(catalogue, ahead.of, ahead.step.transition);
         let ended = has_ended(self.inside, self.outer.as_slice());
-        progress_of(named, ended, step.transition, self.leaf)
+        progress_of(named, ended, ahead.step.transition, self.leaf)
     }
 }

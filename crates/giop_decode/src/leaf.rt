@@ -104,6 +104,17 @@ pub(crate) struct Step {
     pub(crate) output: Output,
 }
 
+/// What an octet of an innermost part finishes: of this a line is written, and it is noted.
+#[derive(Clone, Copy, Debug)]
+pub(crate) struct Finished<'a> {
+    /// The part's type.
+    pub(crate) of: TypeId,
+    pub(crate) output: Output,
+    /// Of a piece the octets that are held, and those that follow them.
+    pub(crate) held: &'a [u8],
+    pub(crate) rest: &'a [u8],
+}
+
 /// The step of an octet that breaks a rule.
 #[inline(always)]
 pub(crate) fn refused(kind: Kind) -> Step

@@ -19,7 +19,7 @@ use crate::current_path::{spell_segment, spell_segments};
 use crate::decoder::Decoder;
 use crate::frame::{Frame, go_to_next};
 use crate::leaf::{Leaf, Output, Step, Transition};
-use crate::lookahead::whole_number;
+use crate::lookahead::{Lookahead, whole_number};
 use crate::notes::is_header;
 use crate::progress::Progress;
 use crate::run::further;
@@ -224,11 +224,16 @@ impl Decoder {
         let _octets = octets;
         part_line(catalogue, part, front, out)?;
         self.at = further(self.at, part.count - 1);
-        let step = Step {
-            transition: Transition::Ended,
-            output: Output::Number(part.number),
+        let ahead = Lookahead {
+            of: part.of,
+            count: part.count,
+            step: Step {
+                transition: Transition::Ended,
+                output: Output::Number(part.number),
+            },
+            rest: &[],
         };
-        let progress = self.pass(catalogue, part.of, step, &[], true);
+        let progress = self.pass(catalogue, ahead, true);
         Ok((part.count, progress))
     }
 

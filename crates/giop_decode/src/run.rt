@@ -163,7 +163,7 @@ impl Decoder {
         let _octets = octets;
         self.at = further(self.at, ahead.count - 1);
         tick_by(self.inside, &mut self.outer, ahead.count - 1);
-        let progress = self.emit(catalogue, ahead.of, ahead.step, ahead.rest, is_plain, out)?;
+        let progress = self.emit(catalogue, ahead, is_plain, out)?;
         Ok((ahead.count, progress))
     }
 

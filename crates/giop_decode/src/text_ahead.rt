@@ -7,6 +7,7 @@ ghost use Rattle.giop_decode.specs.TextAhead.{IsTextAhead};
 
 use crate::decoder::Decoder;
 use crate::leaf::{Leaf, Output, Step, Transition};
+use crate::lookahead::Lookahead;
 use crate::progress::Progress;
 use crate::run::further;
 use giop_print::{Out, OutFault};
@@ -89,14 +90,19 @@ impl Decoder {
         let _octets = octets;
         let last = text.head + text.content.len();
         self.at = further(self.at, last);
-        let step = Step {
-            transition: Transition::Ended,
-            output: Output::Piece {
-                offset: 0,
-                more: false,
+        let ahead = Lookahead {
+            of: text.of,
+            count: text.content.len() + 1,
+            step: Step {
+                transition: Transition::Ended,
+                output: Output::Piece {
+                    offset: 0,
+                    more: false,
+                },
             },
+            rest: text.content,
         };
-        let progress = self.emit(catalogue, text.of, step, text.content, false, out)?;
+        let progress = self.emit(catalogue, ahead, false, out)?;
         Ok((last + 1, progress))
     }
 }

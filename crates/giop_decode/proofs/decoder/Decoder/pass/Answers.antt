@@ -31,17 +31,17 @@ returns c =
     let C = c.args.catalogue.now in
     let d = c.args.self.now in
     let new = c.advance_frames.new.self in
-    let T = tree C c.args.of.0 in
-    let transition = c.args.step.transition in
-    let output = c.args.step.output in
+    let T = tree C c.args.ahead.of.0 in
+    let transition = c.args.ahead.step.transition in
+    let output = c.args.ahead.step.output in
     let held = still_held output d.piece.items in
     let p = c.progress_of.result in
     let e = c.advance_frames.ensures in
     let ended : c.has_ended-ended.result ≡ has_ended new.outer.items =
     rw (← c.as_slice-2.ensures.value) c.has_ended-ended.ensures in
     let come : (here : ℕ) (lines : List Line) →
-    emitted C d c.args.of.0 transition output lines here ≡ transition_result C T new transition
-    lines (here + 1) =
+    emitted C d c.args.ahead.of.0 transition output lines here
+    ≡ transition_result C T new transition lines (here + 1) =
     λ here lines.
     let pt : open_parts C here d.outer.items ≡ open_parts C (here + 1) c.tick.new.outer.items =
     sym (places_ticked C here d.outer.items c.requires.around.ahead) ∙ ap (open_parts C (here + 1)) (sym c.tick.ensures.ticked) in
@@ -69,8 +69,9 @@ returns c =
             known = λ leaf is. e.known leaf m is;
             clean = λ leaf is. e.clean leaf m is;
             link = λ root leaf before is.
-                let old : Link C root c.tick.new.outer.items c.args.of.0 =
-                rw c.tick.ensures.ticked (link_ticked C root d.outer.items c.args.of.0 before) in
+                let old : Link C root c.tick.new.outer.items c.args.ahead.of.0 =
+                rw c.tick.ensures.ticked
+                (link_ticked C root d.outer.items c.args.ahead.of.0 before) in
                 e.link root leaf m old is;
             going = m;
             offset = λ leaf is. e.offset leaf m is;
