@@ -149,7 +149,11 @@ module _ (C : Table) (d : Decoder) (of : TypeId) (frame : Frame) (f : Fits C d) 
   pub place_next : frame.index + 1 < frame.count → HasPlace (shape_in (tree C frame.of.0)) (frame.index + 1)
   place_next below = rw add-one (follows below).placed
 
-module _ (C : Table) (d : Decoder) (octets : List ℕ) (part : PartAhead) (f : Fits C d) (h : IsPartAhead C d octets part) where
+module _ (C : Table) (d : Decoder) (part : PartAhead) (f : Fits C d)
+    (h : IsPartAhead C d part) where
+  abbrev octets : List ℕ
+  octets = part.octets.now
+
   abbrev ended : Step
   ended = record { transition = transitions.Ended; output = outputs.Number part.number }
 

@@ -267,11 +267,10 @@ impl Decoder {
         let Some(leaf) = self.leaf else {
             unreachable!();
         };
-        let (order, at) = coding(self.inside, self.order, self.at, self.outer.as_slice());
+        let coded = coding(self.inside, self.order, self.at, self.outer.as_slice());
         let step = take_octet(
             catalogue,
-            order,
-            at,
+            coded,
             leaf,
             octet,
             &mut self.carry,

@@ -29,7 +29,9 @@ use giop_sig::{Catalogue, Shape, TypeId};
 
 /// The number of a primitive that comes next, where it is a part of a part that is begun.
 #[derive(Clone, Copy, Debug)]
-struct PartAhead {
+struct PartAhead<'a> {
+    /// The octets at whose head it stands.
+    octets: &'a [u8],
     of: TypeId,
     /// The part that it is a part of.
     frame: Frame,
@@ -122,17 +124,11 @@ impl Decoder {
     {
         let mut taken = 0;
         while let Some(part) = self.part_ahead(catalogue, &octets[taken..]) {
-            let Some(next) = self.next_number(catalogue, &octets[taken..], part) else {
-                let (last, progress) = self.take_last(
-                    catalogue,
-                    &octets[taken..],
-                    part,
-                    front,
-                    out,
-                )?;
+            let Some(next) = self.next_number(catalogue, part) else {
+                let (last, progress) = self.take_last(catalogue, part, front, out)?;
                 return Ok((taken + last, progress));
             };
-            let (count, _) = self.take_part(catalogue, &octets[taken..], part, next, front, out)?;
+            let (count, _) = self.take_part(catalogue, part, next, front, out)?;
             taken += count;
         }
         if taken == octets.len() {
@@ -145,10 +141,11 @@ impl Decoder {
     /// The number that comes next, where it is a primitive's, stands whole at the head of these octets, and is a part
     /// of a part that is begun.
     #[inline(always)]
-    fn part_ahead(&self, catalogue: &Catalogue, octets: &[u8]) -> Option<PartAhead>
+    fn part_ahead<'a>(&self, catalogue: &Catalogue, octets: &'a [u8]) -> Option<PartAhead<'a>>
         requires fits { Fits catalogue.now self.now }
         requires outside { self.now.inside ≡ false }
-        ensures { IfSome result (λ part. IsPartAhead catalogue.now self.now octets.now part) }
+        ensures ahead { IfSome result (λ part. IsPartAhead catalogue.now self.now part) }
+        ensures octets { IfSome result (λ part. part.octets.now ≡ octets.now) }
     {
         let depth = self.outer.len();
         if depth == 0 || !self.carry.is_empty() {
@@ -162,6 +159,7 @@ impl Decoder {
         };
         match whole_number(catalogue, self.order, self.at, of, octets) {
             Some((count, number)) => Some(PartAhead {
+                octets,
                 of,
                 frame: self.outer[depth - 1],
                 prim,
@@ -177,24 +175,22 @@ impl Decoder {
     fn take_part<O: Out>(
         &mut self,
         catalogue: &Catalogue,
-        octets: &[u8],
-        part: PartAhead,
+        part: PartAhead<'_>,
         next: TypeId,
         front: &[u8],
         out: &mut O,
     ) -> Result<(usize, Progress), OutFault>
         requires fits { Fits catalogue.now self.old }
         requires body { is_header_root self.old.root ≡ false }
-        requires ahead { IsPartAhead catalogue.now self.old octets.now part }
+        requires ahead { IsPartAhead catalogue.now self.old part }
         requires next { IsNextNumber catalogue.now part.frame next }
         requires front { front.now ≡ front_text catalogue.now self.old }
         requires short { length front.now ≤ 128 }
-        ensures takes { TakesSome catalogue.now self.old self.new octets.now
+        ensures takes { TakesSome catalogue.now self.old self.new part.entry.octets.now
             (O.log out.old) (O.log out.new) result }
         ensures more { IfOk result (λ taken. taken.1 ≡ Progress.More) }
-        ensures next { OnOk result (IsAtNext catalogue.now self.old self.new part next) }
+        ensures next { OnOk result (IsAtNext catalogue.now self.old self.new part.entry next) }
     {
-        let _octets = octets;
         part_line(catalogue, part, front, out)?;
         self.at = further(self.at, part.count);
         go_to_next(&mut self.outer);
@@ -208,20 +204,18 @@ impl Decoder {
     fn take_last<O: Out>(
         &mut self,
         catalogue: &Catalogue,
-        octets: &[u8],
-        part: PartAhead,
+        part: PartAhead<'_>,
         front: &[u8],
         out: &mut O,
     ) -> Result<(usize, Progress), OutFault>
         requires fits { Fits catalogue.now self.old }
         requires body { is_header_root self.old.root ≡ false }
-        requires ahead { IsPartAhead catalogue.now self.old octets.now part }
+        requires ahead { IsPartAhead catalogue.now self.old part }
         requires front { front.now ≡ front_text catalogue.now self.old }
         requires short { length front.now ≤ 128 }
-        ensures { TakesSome catalogue.now self.old self.new octets.now
+        ensures { TakesSome catalogue.now self.old self.new part.entry.octets.now
             (O.log out.old) (O.log out.new) result }
     {
-        let _octets = octets;
         part_line(catalogue, part, front, out)?;
         self.at = further(self.at, part.count - 1);
         let ahead = Lookahead {
@@ -239,12 +233,11 @@ impl Decoder {
 
     /// The type of the part that follows that number, where that is a primitive.
     #[inline(always)]
-    fn next_number(&self, catalogue: &Catalogue, octets: &[u8], part: PartAhead) -> Option<TypeId>
+    fn next_number(&self, catalogue: &Catalogue, part: PartAhead<'_>) -> Option<TypeId>
         requires fits { Fits catalogue.now self.now }
-        requires ahead { IsPartAhead catalogue.now self.now octets.now part }
-        ensures { IfSome result (λ next. IsNextNumber catalogue.now part.frame next) }
+        requires ahead { IsPartAhead catalogue.now self.now part }
+        ensures { IfSome result (λ next. IsNextNumber catalogue.now part.entry.frame next) }
     {
-        let _octets = octets;
         let frame = part.frame;
         if frame.index >= frame.count.saturating_sub(1) {
             return None;
@@ -261,7 +254,7 @@ impl Decoder {
 #[inline(always)]
 fn part_line<O: Out>(
     catalogue: &Catalogue,
-    part: PartAhead,
+    part: PartAhead<'_>,
     front: &[u8],
     out: &mut O,
 ) -> Result<(), OutFault>
@@ -269,8 +262,9 @@ fn part_line<O: Out>(
     requires short { length front.now ≤ 128 }
     ensures { (message : ℕ) (place : List ℕ) → front.now ≡ headed message place [] →
         Writes result (O.log out.old) (O.log out.new) (kind_line message
-        (place ++ segment_text (segment_in (open_part catalogue.now 0 part.frame)))
-        (spaced (kind_word part.prim)) (number_text (size_of part.prim) part.number)) }
+        (place ++ segment_text (segment_in (open_part catalogue.now 0 part.entry.frame)))
+        (spaced (kind_word part.entry.prim))
+        (number_text (size_of part.entry.prim) part.entry.number)) }
 {
     let mut line = Line::new();
     put_number_end(&mut line, part.prim, part.number);

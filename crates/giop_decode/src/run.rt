@@ -77,8 +77,9 @@ impl Decoder {
         if self.inside {
             return self.take_one(catalogue, octets, out);
         }
-        let Some(ahead) = self.number_ahead(catalogue, self.order, self.at, octets) else {
-            return self.take_other(catalogue, self.order, self.at, octets, out);
+        let coded = (self.order, self.at);
+        let Some(ahead) = self.number_ahead(catalogue, coded, octets) else {
+            return self.take_other(catalogue, coded, octets, out);
         };
         if self.has_parts(octets) {
             return self.take_parts(catalogue, octets, out);
@@ -99,11 +100,11 @@ impl Decoder {
         ensures { TakesSome catalogue.now self.old self.new octets.now
             (O.log out.old) (O.log out.new) result }
     {
-        let (order, at) = coding(self.inside, self.order, self.at, self.outer.as_slice());
+        let coded = coding(self.inside, self.order, self.at, self.outer.as_slice());
         let near = up_to_end(self.inside, self.outer.as_slice(), octets);
-        match self.number_ahead(catalogue, order, at, near) {
+        match self.number_ahead(catalogue, coded, near) {
             Some(ahead) => self.take_ahead(catalogue, near, ahead, true, out),
-            None => self.take_other(catalogue, order, at, near, out),
+            None => self.take_other(catalogue, coded, near, out),
         }
     }
 
@@ -113,13 +114,12 @@ impl Decoder {
     fn take_other<O: Out>(
         &mut self,
         catalogue: &Catalogue,
-        order: Order,
-        at: u8,
+        coded: (Order, u8),
         octets: &[u8],
         out: &mut O,
     ) -> Result<(usize, Progress), OutFault>
         requires fits { Fits catalogue.now self.old }
-        requires coded { coding_by self.old.order self.old.at self.old.outer.items ≡ (order, at) }
+        requires coded { coding_by self.old.order self.old.at self.old.outer.items ≡ coded }
         requires ahead { HaveOctetsLeft (ticked_by (length octets.now - 1) self.old.outer.items) }
         requires some { 0 < length octets.now }
         ensures { TakesSome catalogue.now self.old self.new octets.now
@@ -131,7 +131,7 @@ impl Decoder {
         if let Some(text) = self.text_ahead(catalogue, octets) {
             return self.take_text(catalogue, octets, text, out);
         }
-        if let Some(ahead) = self.leading_number_ahead(catalogue, order, at, octets) {
+        if let Some(ahead) = self.leading_number_ahead(catalogue, coded, octets) {
             return self.take_ahead(catalogue, octets, ahead, false, out);
         }
         let gathered = self.gather(catalogue, octets);

@@ -45,7 +45,8 @@ impl Decoder {
         let Shape::Text(_) = catalogue.shape(of) else {
             return None;
         };
-        let Some(length) = self.leading_number_ahead(catalogue, self.order, self.at, octets) else {
+        let coded = (self.order, self.at);
+        let Some(length) = self.leading_number_ahead(catalogue, coded, octets) else {
             return None;
         };
         let Output::Length = length.step.output else {

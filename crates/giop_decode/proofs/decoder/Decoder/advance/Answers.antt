@@ -44,7 +44,8 @@ returns-clause-steps g c here h =
     let d = c.args.self.now in
     let ps = open_parts C here d.outer.items in
     let coding = coding_in (plain d.order) ps in
-    let by : coding_by d.order d.at d.outer.items ≡ c.coding-order.result = rw (← c.as_slice.ensures.value) (sym c.coding-order.ensures) in
+    let by : coding_by d.order d.at d.outer.items ≡ c.coding-coded.result =
+    rw (← c.as_slice.ensures.value) (sym c.coding-coded.ensures) in
     let k = subst (IsCoded here coding) by (coded_in C here (plain d.order) d.order d.at d.outer.items h.1 (record { order = refl; at = omega (arith, h.0) })) in
     let t = c.take_octet-step.ensures.transitions coding (path_in [] ps) here k.order k.at in
     let e = ap (λ l. step (plain d.order) [] ps (leaf_in C d l) here c.args.octet) c.in-Some.is ∙ ap (around (plain d.order) [] ps) t.comes in
@@ -60,7 +61,8 @@ returns-in_err-progress-clause-writes g c here h =
     let T = tree C (leaf_type c.in-Some.leaf) in
     let ps = open_parts C here d.outer.items in
     let coding = coding_in (plain d.order) ps in
-    let by : coding_by d.order d.at d.outer.items ≡ c.coding-order.result = rw (← c.as_slice.ensures.value) (sym c.coding-order.ensures) in
+    let by : coding_by d.order d.at d.outer.items ≡ c.coding-coded.result =
+    rw (← c.as_slice.ensures.value) (sym c.coding-coded.ensures) in
     let k = subst (IsCoded here coding) by (coded_in C here (plain d.order) d.order d.at d.outer.items h.1 (record { order = refl; at = omega (arith, h.0) })) in
     let t = c.take_octet-step.ensures.transitions coding (path_in [] ps) here k.order k.at in
     let e = ap (λ l. step (plain d.order) [] ps (leaf_in C d l) here c.args.octet) c.in-Some.is ∙ ap (around (plain d.order) [] ps) t.comes in
@@ -79,7 +81,8 @@ returns-clause-writes g c here h =
     let T = tree C (leaf_type c.in-Some.leaf) in
     let ps = open_parts C here d.outer.items in
     let coding = coding_in (plain d.order) ps in
-    let by : coding_by d.order d.at d.outer.items ≡ c.coding-order.result = rw (← c.as_slice.ensures.value) (sym c.coding-order.ensures) in
+    let by : coding_by d.order d.at d.outer.items ≡ c.coding-coded.result =
+    rw (← c.as_slice.ensures.value) (sym c.coding-coded.ensures) in
     let k = subst (IsCoded here coding) by (coded_in C here (plain d.order) d.order d.at d.outer.items h.1 (record { order = refl; at = omega (arith, h.0) })) in
     let t = c.take_octet-step.ensures.transitions coding (path_in [] ps) here k.order k.at in
     let e = ap (λ l. step (plain d.order) [] ps (leaf_in C d l) here c.args.octet) c.in-Some.is ∙ ap (around (plain d.order) [] ps) t.comes in
@@ -100,7 +103,8 @@ returns-clause-fits g c goes_on =
     let T = tree C (leaf_type leaf) in
     let ps = open_parts C f.here d.outer.items in
     let coding = coding_in (plain d.order) ps in
-    let by : coding_by d.order d.at d.outer.items ≡ c.coding-order.result = rw (← c.as_slice.ensures.value) (sym c.coding-order.ensures) in
+    let by : coding_by d.order d.at d.outer.items ≡ c.coding-coded.result =
+    rw (← c.as_slice.ensures.value) (sym c.coding-coded.ensures) in
     let stands = f.stands in
     let coded = subst (IsCoded f.here coding) by (coded_in C f.here (plain d.order) d.order d.at d.outer.items stands.1 (record { order = refl; at = omega (arith, stands.0) })) in
     let t = c.take_octet-step.ensures.transitions coding (path_in [] ps) f.here coded.order coded.at in
@@ -135,7 +139,8 @@ returns-clause-keeps_noted g c here front h old_keeps_noted =
     let T = tree C (leaf_type leaf) in
     let ps = open_parts C here d.outer.items in
     let coding = coding_in (plain d.order) ps in
-    let by : coding_by d.order d.at d.outer.items ≡ c.coding-order.result = rw (← c.as_slice.ensures.value) (sym c.coding-order.ensures) in
+    let by : coding_by d.order d.at d.outer.items ≡ c.coding-coded.result =
+    rw (← c.as_slice.ensures.value) (sym c.coding-coded.ensures) in
     let k = subst (IsCoded here coding) by (coded_in C here (plain d.order) d.order d.at d.outer.items h.1 (record { order = refl; at = omega (arith, h.0) })) in
     let t = c.take_octet-step.ensures.transitions coding (path_in [] ps) here k.order k.at in
     let e = ap (λ l. step (plain d.order) [] ps (leaf_in C d l) here c.args.octet) c.in-Some.is ∙ ap (around (plain d.order) [] ps) t.comes in

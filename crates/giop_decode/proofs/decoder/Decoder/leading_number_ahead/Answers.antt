@@ -38,6 +38,8 @@ returns-in-Some c =
     let head = (stands_at C d c.requires.fits (innermost.Number c.in-Some-Number.of) e).fits.kind in
     let v = c.take_value.ensures in
     comes_head C d c.in-Some-Number.of c.args.octets.now c.in-Some.count c.requires.fits e
-    (c.if-not-is_empty.ensures.0 refl) c.args.order c.args.at c.requires.coded c.in-Some.whole.now c.take_value.result
-    (subst (λ w. StandsWhole w c.args.at c.args.octets.now c.in-Some.count c.in-Some.whole.now) (c.width.ensures.width head) c.in-Some.ensures.stands)
+    (c.if-not-is_empty.ensures.0 refl) c.args.coded.0 c.args.coded.1 c.requires.coded
+    c.in-Some.whole.now c.take_value.result
+    (subst (λ w. StandsWhole w c.args.coded.1 c.args.octets.now c.in-Some.count c.in-Some.whole.now)
+    (c.width.ensures.width head) c.in-Some.ensures.stands)
     c.requires.ahead v.transition_fits v.has_output v.output_fits_string v.string_goes_on v.transitions

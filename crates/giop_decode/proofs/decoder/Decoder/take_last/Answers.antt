@@ -16,16 +16,18 @@ pass-progress-requires-clause-around g c =
     let a = c.args.part in
     let C = c.args.catalogue.now in
     let d = c.args.self.now in
-    let octets = c.args.octets.now in
+    let octets = a.octets.now in
     around_whole C d octets a.of a.count (record { transition = transitions.Ended; output = outputs.Number a.number }) [] c.requires.fits
-    (taken_together C d octets a c.requires.fits c.requires.ahead) (at_last d c.further-self.result d.outer)
-    (part_at_last C d octets a c.requires.fits c.requires.ahead c.further-self.result c.further-self.ensures)
+    (taken_together C d a c.requires.fits c.requires.ahead)
+    (at_last d c.further-self.result d.outer)
+    (part_at_last C d a c.requires.fits c.requires.ahead c.further-self.result
+    c.further-self.ensures)
 
 pub returns-in_err-part_line : goal.returns-in_err-part_line
 returns-in_err-part_line g c =
     let C = c.args.catalogue.now in
     let d = c.args.self.now in
-    part_broken C d c.args.octets.now c.args.part c.requires.fits c.requires.ahead
+    part_broken C d c.args.part c.requires.fits c.requires.ahead
     c.from_residual.result _ _ _ c.from_residual.ensures.0
     (c.in_err-part_line.ensures d.message (root_word d.root ++ frames_text C
     (frames_above d.outer.items)) c.requires.front)
@@ -36,14 +38,14 @@ returns g c =
     let step : Step = record { transition = transitions.Ended; output = outputs.Number a.number } in
     let C = c.args.catalogue.now in
     let d = c.args.self.now in
-    let octets = c.args.octets.now in
+    let octets = a.octets.now in
     let f = c.requires.fits in
     let h = c.requires.ahead in
-    passed_some C d octets a.of a.count step [] f (taken_together C d octets a f h)
+    passed_some C d octets a.of a.count step [] f (taken_together C d a f h)
     (at_last d c.further-self.result d.outer)
-    (part_at_last C d octets a f h c.further-self.result c.further-self.ensures)
+    (part_at_last C d a f h c.further-self.result c.further-self.ensures)
     c.pass-progress.new.self c.pass-progress.result c.pass-progress.ensures
-    _ _ (part_says C d octets a f h (Wrote (g.O.Out.log c.args.out.now)
+    _ _ (part_says C d a f h (Wrote (g.O.Out.log c.args.out.now)
     (g.O.Out.log c.part_line.new.out))
     (c.in_ok-part_line.ensures d.message (root_word d.root ++ frames_text C
     (frames_above d.outer.items)) c.requires.front))

@@ -9,7 +9,7 @@ pub returns-in_err-part_line-clause-takes : goal.returns-in_err-part_line-clause
 returns-in_err-part_line-clause-takes g c =
     let C = c.args.catalogue.now in
     let d = c.args.self.now in
-    part_broken C d c.args.octets.now c.args.part c.requires.fits c.requires.ahead
+    part_broken C d c.args.part c.requires.fits c.requires.ahead
     c.from_residual.result _ _ _ c.from_residual.ensures.0
     (c.in_err-part_line.ensures d.message (root_word d.root ++ frames_text C
     (frames_above d.outer.items)) c.requires.front)
@@ -18,7 +18,7 @@ pub returns-clause-takes : goal.returns-clause-takes
 returns-clause-takes g c =
     let C = c.args.catalogue.now in
     let d = c.args.self.now in
-    part_some C d c.args.octets.now c.args.part c.requires.fits c.requires.ahead _ c.args.next
+    part_some C d c.args.part c.requires.fits c.requires.ahead _ c.args.next
     c.requires.next
     (record {
       order = refl;

@@ -23,7 +23,7 @@ returns-in_err-count g c =
     then_broken c.args.catalogue.now c.args.self.now c.loop-part.self octets t _ _
     c.loop-part.invariant.so_far c.take_part.new.self _
     c.from_residual-in_err-count.result _ c.from_residual-in_err-count.ensures.0
-    (rw (rest_from t octets) at c.in_err-count.ensures.takes)
+    (rw (c.in-Some.ensures.octets, rest_from t octets) at c.in_err-count.ensures.takes)
 
 pub loop-part-preserved : goal.loop-part-preserved
 loop-part-preserved g c =
@@ -35,7 +35,7 @@ loop-part-preserved g c =
     c.in_ok-count.ensures.more
     (then_some c.args.catalogue.now c.args.self.now c.loop-part.self octets t _ _ before.so_far
     c.take_part.new.self _ c.in_ok-count.count _
-    (rw (rest_from t octets) at c.in_ok-count.ensures.takes)) in
+    (rw (c.in-Some.ensures.octets, rest_from t octets) at c.in_ok-count.ensures.takes)) in
     record {
       so_far = then;
       within = then.within;
@@ -52,7 +52,7 @@ returns-in_err-last g c =
     then_broken c.args.catalogue.now c.args.self.now c.loop-part.self octets t _ _
     c.loop-part.invariant.so_far c.take_last.new.self _
     c.from_residual.result _ c.from_residual.ensures.0
-    (rw (rest_from t octets) at c.in_err-last.ensures)
+    (rw (c.in-Some.ensures.octets, rest_from t octets) at c.in_err-last.ensures)
 
 pub returns-in_default-next_number : goal.returns-in_default-next_number
 returns-in_default-next_number g c =
@@ -60,7 +60,8 @@ returns-in_default-next_number g c =
     let octets = c.args.octets.now in
     then_some c.args.catalogue.now c.args.self.now c.loop-part.self octets t _ _
     c.loop-part.invariant.so_far c.take_last.new.self _
-    c.in_ok-last.last c.in_ok-last.progress (rw (rest_from t octets) at c.in_ok-last.ensures)
+    c.in_ok-last.last c.in_ok-last.progress (rw (c.in-Some.ensures.octets, rest_from t octets) at
+    c.in_ok-last.ensures)
 
 pub returns-in_err-rest : goal.returns-in_err-rest
 returns-in_err-rest g c =
