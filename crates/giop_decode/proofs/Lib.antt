@@ -33,8 +33,10 @@ mod OneCut
 mod LastNoted
 mod Taking
 mod Runs
+mod SoFar
 mod Gathering
 mod Whole
+mod Passing
 mod OctetsLeft
 mod NextParts
 mod WholeTexts

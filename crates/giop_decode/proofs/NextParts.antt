@@ -1,5 +1,5 @@
 -- Numbers that are parts of one part, each of which another follows: what one of them does.
-use Rattle.std.proofs.Common.{◌≡◌, ℕ, suc, ◌+◌, ◌-◌, ◌%◌, ◌<◌, false, List, [], ◌∷◌, ◌++◌, length, take, get_or, Option, Some, None, refl, sym, ◌∙◌, ap, subst, arith, add-one, append-nil, append_assoc, length-append, codes, decimal}
+use Rattle.std.proofs.Common.{◌≡◌, Result, Ok, IsErr, ℕ, suc, ◌+◌, ◌-◌, ◌%◌, ◌<◌, false, List, [], ◌∷◌, ◌++◌, length, take, get_or, Option, Some, None, refl, sym, ◌∙◌, ap, subst, arith, add-one, append-nil, append_assoc, length-append, codes, decimal}
 use Rattle.std.proofs.Math.Seq.{take-append_seam}
 use Rattle.std.proofs.lemmas.List.{take_all, take_more}
 use Rattle.giop_cdr.specs.Numbers.{interpreted_as}
@@ -12,27 +12,29 @@ use Rattle.giop_decode.specs.ReadingSteps.{segment_in}
 use Rattle.giop_print.specs.Line.{headed}
 use Rattle.giop_print.specs.Lines.{kind_line, kind_word, number_text, spaced}
 use Rattle.giop_sig.specs.Types.{HasPlace, Plain, Scalar, Single, Ty, interpreted_by, part_of, shape_in}
-use Rattle.giop_cdr.specs.declared.order.Order.{Order}
 use Rattle.giop_cdr.specs.declared.prim.Primitive.{Primitive}
 use Rattle.giop_cdr.specs.declared.prim.Primitive.TheVariants as prims
 use Rattle.giop_decode.specs.declared.decoder.Decoder.{Decoder}
 use Rattle.giop_decode.specs.declared.frame.Frame.{Frame}
+use Rattle.giop_decode.specs.declared.leaf.Leaf.{Leaf as Innermost}
 use Rattle.giop_decode.specs.declared.leaf.Leaf.TheVariants as innermost
 use Rattle.giop_decode.specs.declared.leaf.Step.{Step}
 use Rattle.giop_decode.specs.declared.leaf.Transition.TheVariants as transitions
 use Rattle.giop_decode.specs.declared.leaf.Output.TheVariants as outputs
 use Rattle.giop_decode.specs.declared.notes.Notes.{Notes}
 use Rattle.giop_decode.specs.declared.parts.PartAhead.{PartAhead}
+use Rattle.giop_decode.specs.declared.progress.Progress.{Progress}
 use Rattle.giop_decode.specs.declared.progress.Progress.TheVariants as progress
-use Rattle.giop_decode.specs.DecoderState.{Fits, CanStandAt, Reads, HoldsNoted, added_lines}
-use Rattle.giop_decode.specs.DecoderSteps.{Comes, decoder_step, emitted, transition_result}
+use Rattle.giop_decode.specs.DecoderState.{Fits, HoldsNoted}
+use Rattle.giop_decode.specs.DecoderSteps.{emitted, transition_result}
 use Rattle.giop_decode.specs.Noted.{Noted, first_of, noted, is_header_root}
 use Rattle.giop_decode.specs.NextParts.{IsAtNext, IsNextNumber, IsPartAhead, frames_above, front_text, next_of}
 use Rattle.giop_decode.specs.ReadResult.{Coding, PathSegment, Line, Number, LeadingNumber, Short, line, plain, with_front, Done}
 use Rattle.giop_decode.specs.ReadingSteps.{around, path_in}
-use Rattle.giop_decode.specs.Runs.{AreAnswered, TakenTogether, TakesRun, added_lines_of_run}
-use Rattle.giop_decode.specs.Transitions.{AreKnown, IsKnown, IsOutput, Link, StandAt, gone_on, is_inside, leaf_type, open_part, open_parts, part_in}
-use Rattle.giop_decode.proofs.Advancing.{comes_by, goes, same_some, stands_at, step_fits}
+use Rattle.giop_decode.specs.Passes.{Gives, Passes}
+use Rattle.giop_decode.specs.Runs.{TakenTogether, TakesSome}
+use Rattle.giop_decode.specs.Transitions.{AreKnown, IsClean, IsKnown, Link, StandAt, gone_on, is_inside, leaf_type, open_part, open_parts, part_in}
+use Rattle.giop_decode.proofs.Advancing.{comes_by, same_some, stands_at}
 use Rattle.giop_decode.proofs.Beginning.{all_push, map_push}
 use Rattle.giop_decode.proofs.Counting.{ahead_free, free_ticked_by}
 use Rattle.giop_decode.proofs.Going.{PartPopped, Next, part_popped, next_in, goes_next, part_is}
@@ -42,14 +44,15 @@ use Rattle.giop_decode.proofs.FieldsRead.{here_spelled}
 use Rattle.giop_decode.proofs.FieldsRead.{stands_at as path_at}
 use Rattle.giop_decode.proofs.Linking.{link_pop, link_push}
 use Rattle.giop_decode.proofs.Noting.{stopped_silent}
-use Rattle.giop_decode.proofs.Runs.{takes_more}
+use Rattle.giop_decode.proofs.Passing.{last_says, passed_broken, passed_some}
 use Rattle.giop_decode.proofs.Segments.{said_one}
-use Rattle.giop_decode.proofs.Taking.{takes_to, due_is}
-use Rattle.giop_decode.proofs.Whole.{IsAtLast, at_last, comes_number, is_at_last, no_piece, before_last, lines_at, says_at, gathered_whole, told_whole, lines_whole, keeps_noted_whole, name_whole}
-use Rattle.giop_decode.specs.NameBuffer.{FitsName, string_offset}
+use Rattle.giop_decode.proofs.SoFar.{AllSay}
+use Rattle.giop_decode.proofs.Whole.{IsAtLast, at_last, comes_number, is_at_last, no_piece}
+use Rattle.giop_decode.specs.NameBuffer.{string_offset}
+use Rattle.giop_decode.specs.NotingSteps.{transition_offset}
 use Rattle.giop_decode.specs.Noted.{ends_in_string}
+use Rattle.giop_print.specs.Output.{OutLog, Wrote, WroteFront}
 use Rattle.giop_print.specs.Paths.{root_word}
-use Rattle.giop_print.specs.declared.path.Root.{Root}
 use Rattle.giop_sig.specs.Table.{Table}
 use Rattle.giop_sig.specs.Trees.{tree}
 use Rattle.giop_sig.specs.declared.types.TypeId.{TypeId}
@@ -67,18 +70,12 @@ plain_noted m h prims.ULong n at path r = record {
   expects_reply = r.expects_reply;
   name = r.name;
 }
-plain_noted m h p n at path r = record {
-  request_id = r.request_id;
-  status = r.status;
-  expects_reply = r.expects_reply;
-  name = r.name;
-}
+plain_noted m h p n at path r = record { request_id = r.request_id; status = r.status; expects_reply = r.expects_reply; name = r.name }
 
 -- the frames around the innermost one, and that one
 above_push : (frames : List Frame) (f : Frame) → frames_above (frames ++ f ∷ []) ≡ frames
 above_push frames f =
-    let all : length (frames ++ f ∷ []) - 1 ≡ length frames =
-    omega (arith, length-append frames (f ∷ [])) in
+    let all : length (frames ++ f ∷ []) - 1 ≡ length frames = omega (arith, length-append frames (f ∷ [])) in
     ap (λ n. take n (frames ++ f ∷ [])) all ∙ take-append_seam frames (f ∷ [])
 
 pub last_frame : (frames : List Frame) (i : ℕ) (x : Frame) → i + 1 ≡ length frames →
@@ -86,26 +83,16 @@ pub last_frame : (frames : List Frame) (i : ℕ) (x : Frame) → i + 1 ≡ lengt
 last_frame frames i x e =
     let k : length frames - 1 ≡ i = omega (arith, e) in
     sym (take_all (i + 1) frames (omega (arith, e)))
-    ∙ (take_more frames i x (omega (arith, e))
-    ∙ ap (λ n. take n frames ++ get_or frames i x ∷ []) (sym k))
+    ∙ (take_more frames i x (omega (arith, e)) ∙ ap (λ n. take n frames ++ get_or frames i x ∷ []) (sym k))
 
-pub front_kept : (C : Table) (d new : Decoder) (part : PartAhead) (next : TypeId) →
-    IsAtNext C d new part next → front_text C new ≡ front_text C d
-front_kept C d new part next n = rw (
-  n.message,
-  n.root,
-  n.outer,
-  above_push (frames_above d.outer.items) (next_of part.frame),
-) refl
+pub front_kept : (C : Table) (d new : Decoder) (part : PartAhead) (next : TypeId) → IsAtNext C d new part next → front_text C new ≡ front_text C d
+front_kept C d new part next n = rw (n.message, n.root, n.outer, above_push (frames_above d.outer.items) (next_of part.frame)) refl
 
-last_free : (frames : List Frame) (f : Frame) → is_inside (frames ++ f ∷ []) ≡ false →
-    f.inside ≡ None
+last_free : (frames : List Frame) (f : Frame) → is_inside (frames ++ f ∷ []) ≡ false → f.inside ≡ None
 last_free [] f h = (free_first f.inside false h).0
-last_free (g ∷ frames) f h = last_free frames f
-    (free_first g.inside (is_inside (frames ++ f ∷ [])) h).1
+last_free (g ∷ frames) f h = last_free frames f (free_first g.inside (is_inside (frames ++ f ∷ [])) h).1
 
-push_free : (frames : List Frame) (f : Frame) → is_inside frames ≡ false → f.inside ≡ None →
-    is_inside (frames ++ f ∷ []) ≡ false
+push_free : (frames : List Frame) (f : Frame) → is_inside frames ≡ false → f.inside ≡ None → is_inside (frames ++ f ∷ []) ≡ false
 push_free frames f h none = inside_push frames f ∙ rw (h, none) refl
 
 pub stand_free : (at : ℕ) (frames : List Frame) → is_inside frames ≡ false → StandAt at frames
@@ -115,82 +102,58 @@ stand_free at (f ∷ frames) h =
     (rw n.0 tt, stand_free at frames n.1)
 
 frames_text-push : (C : Table) (frames : List Frame) (f : Frame) →
-    frames_text C (frames ++ f ∷ []) ≡ frames_text C frames
-    ++ segment_text (segment_in (open_part C 0 f))
+    frames_text C (frames ++ f ∷ []) ≡ frames_text C frames ++ segment_text (segment_in (open_part C 0 f))
 frames_text-push C [] f = append-nil (segment_text (segment_in (open_part C 0 f)))
 frames_text-push C (g ∷ frames) f =
     let first = segment_text (segment_in (open_part C 0 g)) in
-    ap (λ t. first ++ t) (frames_text-push C frames f)
-    ∙ sym (append_assoc first (frames_text C frames)
-    (segment_text (segment_in (open_part C 0 f))))
+    ap (λ t. first ++ t) (frames_text-push C frames f) ∙ sym (append_assoc first (frames_text C frames) (segment_text (segment_in (open_part C 0 f))))
 
-same_plain : (T : Ty) (p : Primitive) (scalar : Scalar) → T ≡ Single (Plain p) → T ≡ Single scalar →
-    scalar ≡ Plain p
+same_plain : (T : Ty) (p : Primitive) (scalar : Scalar) → T ≡ Single (Plain p) → T ≡ Single scalar → scalar ≡ Plain p
 same_plain T p scalar e k = cc
 
 -- the line of a primitive's number
-number_text_is : (message : ℕ) (place : List ℕ) (p : Primitive) (n : ℕ) (number : Taken) →
-    interpreted_as p n ≡ Some number →
-    value_text message place (Number (Plain p) n)
-    ≡ kind_line message place (spaced (kind_word p)) (number_text (size_of p) number)
+number_text_is : (message : ℕ) (place : List ℕ) (p : Primitive) (n : ℕ) (number : Taken) → interpreted_as p n ≡ Some number →
+    value_text message place (Number (Plain p) n) ≡ kind_line message place (spaced (kind_word p)) (number_text (size_of p) number)
 unfolding kind_line
 number_text_is message place p n number e = rw e refl
 
 -- the line behind what it begins with
 pub line_is : (message : ℕ) (place segment kind text : List ℕ) →
-    headed message place [] ++ (segment ++ (kind ++ (text ++ codes "\n")))
-    ≡ kind_line message (place ++ segment) kind text
+    headed message place [] ++ (segment ++ (kind ++ (text ++ codes "\n"))) ≡ kind_line message (place ++ segment) kind text
 unfolding kind_line
 line_is message place segment kind text =
     let rest = kind ++ (text ++ codes "\n") in
-    ap (λ t. codes "m" ++ t) (append_assoc (decimal message) (codes " " ++ (place ++ []))
-    (segment ++ rest)
-    ∙ ap (λ t. decimal message ++ (codes " " ++ t))
-    (ap (λ t. t ++ (segment ++ rest)) (append-nil place)
-    ∙ sym (append_assoc place segment rest)))
+    ap (λ t. codes "m" ++ t) (append_assoc (decimal message) (codes " " ++ (place ++ [])) (segment ++ rest)
+    ∙ ap (λ t. decimal message ++ (codes " " ++ t)) (ap (λ t. t ++ (segment ++ rest)) (append-nil place) ∙ sym (append_assoc place segment rest)))
 
 -- the innermost frame, in no encapsulation
-module _ (C : Table) (d : Decoder) (of : TypeId) (frame : Frame) (f : Fits C d)
-    (leaf : d.leaf ≡ Some (innermost.Number of))
-    (outside : d.inside ≡ false) (outer : d.outer.items ≡ frames_above d.outer.items ++ frame ∷ [])
-  where
-    free_outer : is_inside d.outer.items ≡ false
-    free_outer = sym f.inside ∙ outside
+module _ (C : Table) (d : Decoder) (of : TypeId) (frame : Frame) (f : Fits C d) (leaf : d.leaf ≡ Some (innermost.Number of))
+    (outside : d.inside ≡ false) (outer : d.outer.items ≡ frames_above d.outer.items ++ frame ∷ []) where
+  free_outer : is_inside d.outer.items ≡ false
+  free_outer = sym f.inside ∙ outside
 
-    free_above : is_inside (frames_above d.outer.items) ≡ false
-    free_above = outside_pop (frames_above d.outer.items) frame
-        (subst (λ fs. is_inside fs ≡ false) outer free_outer)
+  free_above : is_inside (frames_above d.outer.items) ≡ false
+  free_above = outside_pop (frames_above d.outer.items) frame (subst (λ fs. is_inside fs ≡ false) outer free_outer)
 
-    free_frame : frame.inside ≡ None
-    free_frame = last_free (frames_above d.outer.items) frame
-        (subst (λ fs. is_inside fs ≡ false) outer free_outer)
+  free_frame : frame.inside ≡ None
+  free_frame = last_free (frames_above d.outer.items) frame (subst (λ fs. is_inside fs ≡ false) outer free_outer)
 
-    abbrev popped_frame : PartPopped C (stands_at C d f (innermost.Number of) leaf).are_open.0
-        (frames_above d.outer.items) frame
-    popped_frame =
-        let s = stands_at C d f (innermost.Number of) leaf in
-        part_popped C s.are_open.0 d.outer.items (frames_above d.outer.items) frame f.known_outer
-        s.are_open.1 outer free_frame
+  abbrev popped_frame : PartPopped C (stands_at C d f (innermost.Number of) leaf).are_open.0 (frames_above d.outer.items) frame
+  popped_frame =
+      let s = stands_at C d f (innermost.Number of) leaf in
+      part_popped C s.are_open.0 d.outer.items (frames_above d.outer.items) frame f.known_outer s.are_open.1 outer free_frame
 
-    follows : frame.index + 1 < frame.count →
-        Next (suc popped_frame.left) (tree C frame.of.0) frame.index frame.count
-    follows below = next_in (suc popped_frame.left) (tree C frame.of.0) frame.index frame.count
-        popped_frame.«open» popped_frame.uncounted (rw add-one at below)
+  follows : frame.index + 1 < frame.count → Next (suc popped_frame.left) (tree C frame.of.0) frame.index frame.count
+  follows below = next_in (suc popped_frame.left) (tree C frame.of.0) frame.index frame.count popped_frame.«open» popped_frame.uncounted (rw add-one at below)
 
-    pub place_next : frame.index + 1 < frame.count →
-        HasPlace (shape_in (tree C frame.of.0)) (frame.index + 1)
-    place_next below = rw add-one (follows below).placed
+  pub place_next : frame.index + 1 < frame.count → HasPlace (shape_in (tree C frame.of.0)) (frame.index + 1)
+  place_next below = rw add-one (follows below).placed
 
--- what holds of the octets of a number before the last of them
-pub record BeforeLast (T : Ty) (order : Order) (at : ℕ) (root : Root) (s octets : List ℕ)
-    (count : ℕ) : Type 0 where
-  pub below : count - 1 < length octets
-  pub all : count - 1 + 1 ≡ count
-  pub answers : AreAnswered order T at root s (take (count - 1) octets) progress.More
-  pub quiet : added_lines_of_run order T at s (take (count - 1) octets) ≡ []
+module _ (C : Table) (d : Decoder) (part : PartAhead) (f : Fits C d)
+    (h : IsPartAhead C d part) where
+  abbrev octets : List ℕ
+  octets = part.octets.now
 
-module _ (C : Table) (d : Decoder) (octets : List ℕ) (part : PartAhead) (f : Fits C d)
-    (h : IsPartAhead C d octets part) where
   abbrev ended : Step
   ended = record { transition = transitions.Ended; output = outputs.Number part.number }
 
@@ -202,15 +165,12 @@ module _ (C : Table) (d : Decoder) (octets : List ℕ) (part : PartAhead) (f : F
 
   pub taken_together : TakenTogether C d octets part.of part.count ended []
   taken_together =
-      comes_number C d part.of octets part.count f h.leaf h.empty d.order d.at
-      (free_coding_by d.order d.at d.outer.items free) part.number h.whole
+      comes_number C d part.of octets part.count f h.leaf h.empty d.order d.at (free_coding_by d.order d.at d.outer.items free) part.number h.whole
       (ahead_free (length octets - 1) d.outer.items free f.ahead)
 
   -- the decoder at the last of the number's octets: none was counted
-  pub part_at_last : (at : ℕ) → at ≡ (d.at + (part.count - 1)) % 8 →
-      IsAtLast d (at_last d at d.outer) part.count
-  part_at_last at e = is_at_last d part.count at d.outer e
-      (free_ticked_by (part.count - 1) d.outer.items free)
+  pub part_at_last : (at : ℕ) → at ≡ (d.at + (part.count - 1)) % 8 → IsAtLast d (at_last d at d.outer) part.count
+  part_at_last at e = is_at_last d part.count at d.outer e (free_ticked_by (part.count - 1) d.outer.items free)
 
   -- how many octets come before the last of the number's, and where the decoder is then
   abbrev last : ℕ
@@ -222,11 +182,36 @@ module _ (C : Table) (d : Decoder) (octets : List ℕ) (part : PartAhead) (f : F
   on : IsAtLast d there part.count
   on = part_at_last ((d.at + last) % 8) refl
 
-  abbrev before : Decoder
-  before = before_last C d octets part.of part.count ended [] f taken_together there on
+  -- its path, and its line
+  abbrev place : List ℕ
+  place = (root_word d.root ++ frames_text C above) ++ segment_text (segment_in (open_part C 0 part.frame))
 
-  abbrev lines : ℕ → List Line
-  lines here = lines_at C d octets part.of part.count ended [] f taken_together there on here
+  abbrev text : List ℕ
+  text = kind_line d.message place (spaced (kind_word part.prim)) (number_text (size_of part.prim) part.number)
+
+  pub part_says : (Says : List ℕ → Type 0) → Says text → AllSay C d octets last Says
+  part_says Says w =
+      last_says C d octets part.of part.count ended [] f taken_together there on Says
+      (λ here at lines says.
+      let is = same_plain (tree C part.of.0) part.prim says.0.scalar h.prim says.0.is in
+      let path = path_in [] (open_parts C here d.outer.items) in
+      let placed : place ≡ path_text d.root path = path_is here in
+      let taken : interpreted_as part.prim says.0.n ≡ Some part.number = rw is at says.0.taken in
+      let value : value_text d.message place (Number (Plain part.prim) says.0.n)
+      ≡ lines_text d.message d.root lines =
+      said_one d.message d.root at path place (Number (Plain part.prim) says.0.n) lines placed
+      (rw is at says.1) in
+      let same = sym (number_text_is d.message place part.prim says.0.n part.number taken) ∙ value in
+      subst Says same w)
+    where
+      path_is : (here : ℕ) → place ≡ path_text d.root (path_in [] (open_parts C here d.outer.items))
+      path_is here =
+          let seg = segment_text (segment_in (open_part C 0 part.frame)) in
+          append_assoc (root_word d.root) (frames_text C above) seg
+          ∙ (ap (λ t. root_word d.root ++ t)
+          (sym (ap (frames_text C) h.outer ∙ frames_text-push C above part.frame)
+          ∙ sym (append-nil (frames_text C d.outer.items)))
+          ∙ (here_spelled C d.root d.outer.items None ∙ path_at C here d.root d.outer.items))
 
   above_free : is_inside above ≡ false
   above_free = free_above C d part.of part.frame f h.leaf h.outside h.outer
@@ -234,12 +219,10 @@ module _ (C : Table) (d : Decoder) (octets : List ℕ) (part : PartAhead) (f : F
   none : part.frame.inside ≡ None
   none = free_frame C d part.of part.frame f h.leaf h.outside h.outer
 
-  abbrev popped_part : PartPopped C (stands_at C d f (innermost.Number part.of) h.leaf).are_open.0
-      above part.frame
+  abbrev popped_part : PartPopped C (stands_at C d f (innermost.Number part.of) h.leaf).are_open.0 above part.frame
   popped_part = popped_frame C d part.of part.frame f h.leaf h.outside h.outer
 
-  module _ (new : Decoder) (next : TypeId) (follower : IsNextNumber C part.frame next)
-      (n : IsAtNext C d new part next)
+  module _ (new : Decoder) (next : TypeId) (follower : IsNextNumber C part.frame next) (n : IsAtNext C d new part next)
       (body : is_header_root d.root ≡ false) where
     new_free : is_inside new.outer.items ≡ false
     new_free = rw n.outer (push_free above (next_of part.frame) above_free none)
@@ -248,11 +231,8 @@ module _ (C : Table) (d : Decoder) (octets : List ℕ) (part : PartAhead) (f : F
     known_new = rw n.outer (all_push (IsKnown C) above (next_of part.frame) popped_part.known_rest
         (record {
           known = popped_part.known;
-          within = rw none (
-            place_next C d part.of part.frame f h.leaf h.outside h.outer follower.below,
-            popped_part.bare,
-            popped_part.uncounted,
-          );
+          within = rw none
+              (place_next C d part.of part.frame f h.leaf h.outside h.outer follower.below, popped_part.bare, popped_part.uncounted);
         }))
 
     gone : (coding : Coding) (path : List PathSegment) (at : ℕ) →
@@ -264,30 +244,23 @@ module _ (C : Table) (d : Decoder) (octets : List ℕ) (part : PartAhead) (f : F
         let count = part.frame.count in
         let then = part_in T (suc i) count in
         let P = part_of T (suc i) in
-        let is : P ≡ Single (Plain follower.prim) =
-        sym (rw add-one at follower.is_part) ∙ follower.is in
+        let is : P ≡ Single (Plain follower.prim) = sym (rw add-one at follower.is_part) ∙ follower.is in
         let leaf : start_leaf P ≡ LeadingNumber (tree C next.0) [] = rw is (rw follower.is refl) in
         let outer : open_parts C at new.outer.items ≡ open_parts C at above ++ then ∷ [] =
         ap (open_parts C at) n.outer ∙ (map_push (open_part C at) above (next_of part.frame)
-        ∙ ap (λ q. open_parts C at above ++ q ∷ [])
-        (part_is C at (next_of part.frame) none ∙ ap (λ k. part_in T k count) (add-one i))) in
+        ∙ ap (λ q. open_parts C at above ++ q ∷ []) (part_is C at (next_of part.frame) none ∙ ap (λ k. part_in T k count) (add-one i))) in
         let right : gone_on C at new.outer.items (Some (innermost.Number next))
         ≡ Short [] at (open_parts C at above ++ then ∷ []) (LeadingNumber (tree C next.0) []) =
         rw (free_ended new.outer.items new_free, outer) refl in
         let first : start_outer P ≡ [] = rw is refl in
-        let left : around coding path (open_parts C at above)
-        (Short [] at (then ∷ start_outer P) (start_leaf P))
+        let left : around coding path (open_parts C at above) (Short [] at (then ∷ start_outer P) (start_leaf P))
         ≡ Short [] at (open_parts C at above ++ then ∷ []) (LeadingNumber (tree C next.0) []) =
-        rw (first, leaf) (around_unless_ended C coding path at above [] (then ∷ [])
-        (LeadingNumber (tree C next.0) []) popped_part.known_rest
+        rw (first, leaf) (around_unless_ended C coding path at above [] (then ∷ []) (LeadingNumber (tree C next.0) []) popped_part.known_rest
         ∙ rw (free_ended above above_free) refl) in
-        ap (λ ps. around coding path ps (Done [] at []))
-        (ap (open_parts C at) h.outer ∙ map_push (open_part C at) above part.frame)
-        ∙ (ap (λ q. around coding path (open_parts C at above ++ q ∷ []) (Done [] at []))
-        (part_is C at part.frame none)
+        ap (λ ps. around coding path ps (Done [] at [])) (ap (open_parts C at) h.outer ∙ map_push (open_part C at) above part.frame)
+        ∙ (ap (λ q. around coding path (open_parts C at above ++ q ∷ []) (Done [] at [])) (part_is C at part.frame none)
         ∙ (goes_next coding path (open_parts C at above) T i count at popped_part.left
-        (follows C d part.of part.frame f h.leaf h.outside h.outer follower.below)
-        (rw add-one at follower.below)
+        (follows C d part.of part.frame f h.leaf h.outside h.outer follower.below) (rw add-one at follower.below)
         ∙ (left ∙ sym right)))
 
     come : (here : ℕ) (lines : List Line) →
@@ -296,182 +269,87 @@ module _ (C : Table) (d : Decoder) (octets : List ℕ) (part : PartAhead) (f : F
     come here lines =
         let ps = open_parts C (here + 1) d.outer.items in
         let there : open_parts C here d.outer.items ≡ ps =
-        sym (places_ticked C here d.outer.items f.ahead)
-        ∙ ap (open_parts C (here + 1)) (sym (free_ticked d.outer.items free)) in
+        sym (places_ticked C here d.outer.items f.ahead) ∙ ap (open_parts C (here + 1)) (sym (free_ticked d.outer.items free)) in
         let leaf = innermost.Number next in
         ap (λ qs. around (plain d.order) [] qs (Done lines (here + 1) [])) there
         ∙ (around_done (plain d.order) [] ps lines (here + 1)
         ∙ (ap (with_front lines) (gone (plain d.order) [] (here + 1))
         ∙ (front_gone C lines (here + 1) new.outer.items (Some leaf)
-        ∙ (behind_stopped C new.outer.items new.carry new.piece.items (Some leaf) lines (here + 1)
-        (n.carry ∙ h.empty)
+        ∙ (behind_stopped C new.outer.items new.carry new.piece.items (Some leaf) lines (here + 1) (n.carry ∙ h.empty)
         (ap (λ p. p.items) n.piece ∙ no_piece C d part.of octets part.count f h.leaf h.empty)
         ∙ rw n.leaf refl))))
 
-    says : (here : ℕ) → IsOutput (tree C part.of.0) (path_in [] (open_parts C here d.outer.items))
-        (here + 1)
-        (outputs.Number part.number) (d.piece.items ++ []) (lines here)
-    says here = says_at C d octets part.of part.count ended [] f taken_together there on here
-
-    plain_says : (here : ℕ) → (scalar : Scalar) × (n : ℕ) × (scalar ≡ Plain part.prim)
+    plain_says : (here at : ℕ) (lines : List Line) → Gives C d part.of.0 ended [] here at lines →
+        (scalar : Scalar) × (n : ℕ) × (scalar ≡ Plain part.prim)
         × (interpreted_by scalar n ≡ Some part.number)
-        × (lines here ≡ line (here + 1) (path_in [] (open_parts C here d.outer.items))
-        (Number scalar n) ∷ [])
-    plain_says here =
-        let k = says here in (
-          k.0.scalar,
-          k.0.n,
-          same_plain (tree C part.of.0) part.prim k.0.scalar h.prim k.0.is,
-          k.0.taken,
-          k.1,
-        )
+        × (lines ≡ line at (path_in [] (open_parts C here d.outer.items)) (Number scalar n) ∷ [])
+    plain_says here at lines k =
+        (k.0.scalar, k.0.n, same_plain (tree C part.of.0) part.prim k.0.scalar h.prim k.0.is, k.0.taken, k.1)
 
     body_new : is_header_root new.root ≡ false
     body_new = rw n.root body
 
-    comes : (here : ℕ) → Comes C new progress.More (here + 1)
-        (emitted C d part.of.0 transitions.Ended (outputs.Number part.number) (lines here) here)
-    comes here =
-        let k = plain_says here in
-        comes_by C (tree C part.of.0) new false false transitions.Ended (lines here) (here + 1)
-        progress.More _
-        (rw (k.4, body_new) refl) (sym (free_ended new.outer.items new_free))
-        (come here (lines here)) (rw n.leaf refl)
-
-    notes : (here : ℕ) (o : Noted) → HoldsNoted d.notes o →
-        HoldsNoted new.notes (noted (is_header_root d.root) o (lines here))
-    notes here o r =
-        let k = plain_says here in
-        let kept = plain_noted d.notes o part.prim k.1 (here + 1)
-        (path_in [] (open_parts C here d.outer.items)) r in
-        subst (λ m. HoldsNoted m (noted (is_header_root d.root) o (lines here))) (sym n.notes)
-        (rw (body, k.4, k.2) kept)
-
-    stands_next : (here : ℕ) → CanStandAt before here → CanStandAt new (here + 1)
-    stands_next here k = (
-      let some = taken_together.some in omega (arith, k.0, n.at, some),
-      stand_free (here + 1) new.outer.items new_free,
-    )
-
-    pub part_takes : (T : Ty) (order : Order) (at message : ℕ) (root : Root) (s : List ℕ) →
-        Reads C T order at message root d s →
-        TakesRun C T order at message root new s (take part.count octets) progress.More
-    part_takes T order at message root s r =
-        let b = get_or octets last 0 in
-        let whole = gathered_whole C d octets part.of part.count ended [] f taken_together there on
-        in
-        let held = whole.1 T order at message root s r in
-        let below : last < length octets = let some = taken_together.some in
-        omega (arith, some, taken_together.within) in
-        let all : last + 1 ≡ part.count = let some = taken_together.some in omega (arith, some) in
-        subst (λ n. TakesRun C T order at message root new s (take n octets) progress.More) all
-        (takes_more C T order at message root new s octets last progress.More below
-        held.takes.answers
-        (takes_to C T order at message root before new (s ++ take last octets) b progress.More
-        whole.0 n.order n.root n.message stands_next
-        (λ here stands. rw (told_whole C d octets part.of part.count ended [] f taken_together there
-        on here stands) (comes here))
-        (λ here front stands old. keeps_noted_whole C d octets part.of part.count ended [] f
-        taken_together there on new here front stands
-        (inside here) (notes here) old)
-        (held.takes.reads (λ fault. fault))))
+    part_passes : Passes C there new part.of.0 ended [] progress.More
+    part_passes =
+        record {
+          order = n.order;
+          root = n.root;
+          message = n.message;
+          here = λ here k. (
+            let some = taken_together.some in omega (arith, k.0, n.at, some),
+            stand_free (here + 1) new.outer.items new_free,
+          );
+          next = λ goes_on. record {
+            known_outer = known_new;
+            inside = n.inside ∙ (h.outside ∙ sym new_free);
+            ahead = ahead_by C new.outer.items known_new (free_ended new.outer.items new_free);
+            known = λ leaf is. subst (λ l. leaf_type l < length C.types) (at_next leaf is)
+                follower.known;
+            clean = λ leaf is. subst (λ l. IsClean l new.carry new.piece.items) (at_next leaf is)
+                (ap (λ p. p.items) n.piece ∙ no_piece C d part.of octets part.count f h.leaf
+                h.empty);
+            link = λ root leaf link is. subst (λ l. Link C root new.outer.items (leaf_type l))
+                (at_next leaf is)
+                (link_push C root above new.outer.items part.frame.of.0 next.0 (next_of part.frame)
+                refl n.outer (rw none follower.number)
+                (link_pop C root d.outer.items above part.frame part.of.0 h.outer link));
+            going = tt;
+            offset = λ leaf is.
+                subst (λ l. string_offset (tree C (leaf_type l)) l
+                ≡ transition_offset (tree C part.of.0) transitions.Ended)
+                (at_next leaf is) refl;
+          };
+          steps = λ here lines says.
+              let k = plain_says here (here + 1) lines says in
+              comes_by C (tree C part.of.0) new false false transitions.Ended lines
+              (here + 1) progress.More _
+              (rw (k.4, body_new) refl) (sym (free_ended new.outer.items new_free))
+              (come here lines) (rw n.leaf refl);
+          inside = λ here lines. ap ends_in_string (come here lines)
+              ∙ stopped_silent C new.outer.items new.carry new.piece.items new.leaf lines (here + 1)
+              (rw n.leaf refl);
+          id = λ no. ap (λ m. m.request_id) n.notes;
+          notes = λ o here at lines held says.
+              let k = plain_says here at lines says in
+              let kept = plain_noted d.notes o part.prim k.1 at
+              (path_in [] (open_parts C here d.outer.items)) held in
+              subst (λ m. HoldsNoted m (noted (is_header_root d.root) o lines)) (sym n.notes)
+              (rw (body, k.4, k.2) kept);
+        }
       where
-        inside : (here : ℕ) → ends_in_string
-            (emitted C d part.of.0 transitions.Ended (outputs.Number part.number) (lines here) here)
-            ≡ false
-        inside here = ap ends_in_string (come here (lines here))
-            ∙ stopped_silent C new.outer.items new.carry new.piece.items new.leaf (lines here)
-            (here + 1) (rw n.leaf refl)
+        at_next : (leaf : Innermost) → new.leaf ≡ Some leaf → innermost.Number next ≡ leaf
+        at_next leaf is = same_some (innermost.Number next) leaf (sym n.leaf ∙ is)
 
-    pub part_fits : Fits C new
-    part_fits =
-        let b = get_or octets last 0 in
-        let whole = gathered_whole C d octets part.of part.count ended [] f taken_together there on
-        in
-        let g = whole.0 in
-        let emits = told_whole C d octets part.of part.count ended [] f taken_together there on
-        g.here g.stands in
-        let k = goes C new progress.More (g.here + 1) (decoder_step C before g.here b)
-        (rw emits (comes g.here)) tt in
-        let at_leaf : k.leaf ≡ innermost.Number next =
-        same_some k.leaf (innermost.Number next) (sym k.goes_on ∙ n.leaf) in
-        let same : leaf_type g.leaf ≡ part.of.0 =
-        ap leaf_type (same_some g.leaf (innermost.Number part.of) (sym g.goes_on ∙ h.leaf)) in
-        let link : Link C g.root d.outer.items part.of.0 =
-        subst (Link C g.root d.outer.items) same g.link in
-        let linked : Link C g.root new.outer.items next.0 =
-        link_push C g.root above new.outer.items part.frame.of.0 next.0 (next_of part.frame) refl
-        n.outer (rw none follower.number)
-        (link_pop C g.root d.outer.items above part.frame part.of.0 h.outer link) in
-        let clean : new.piece.items ≡ [] = ap (λ p. p.items) n.piece
-        ∙ no_piece C d part.of octets part.count f h.leaf h.empty in
-        step_fits C before new g b k (stands_next g.here g.stands)
-        (ahead_by C new.outer.items known_new (free_ended new.outer.items new_free))
-        (n.inside ∙ (h.outside ∙ sym new_free)) (rw at_leaf linked) known_new
-        (rw at_leaf follower.known) (rw at_leaf clean)
-        (λ other. rw n.notes (f.id_in_header_only body))
-        (subst (λ r. FitsName r (string_offset (tree C (leaf_type k.leaf)) k.leaf) new.notes.buffer
-        new.notes.name.items) (sym n.root)
-        (name_whole C d octets part.of part.count ended [] f taken_together there on g.here k.leaf
-        new.notes tt (rw at_leaf refl) (notes g.here)))
+    pub part_some : {E : Type 0} (a c : OutLog) → Wrote a c text →
+        TakesSome {E = E} C d new octets a c (Ok (part.count, progress.More))
+    part_some a c said =
+        passed_some C d octets part.of part.count ended [] f taken_together there on new
+        progress.More part_passes a c
+        (part_says (Wrote a c) said)
 
-  pub before_answers : (T : Ty) (order : Order) (at message : ℕ) (root : Root) (s : List ℕ) →
-      Reads C T order at message root d s →
-      BeforeLast T order at root s octets part.count
-  before_answers T order at message root s r =
-      let held = (gathered_whole C d octets part.of part.count ended [] f taken_together there on).1
-      T order at message root s r in
-      let some = taken_together.some in
-      record {
-        below = omega (arith, some, taken_together.within);
-        all = omega (arith, some);
-        answers = held.takes.answers;
-        quiet = held.quiet;
-      }
-
-  -- the text of its line
-  pub part_text : (T : Ty) (order : Order) (at message : ℕ) (root : Root) (s : List ℕ)
-      (r : Reads C T order at message root d s) →
-      kind_line d.message ((root_word d.root ++ frames_text C above)
-      ++ segment_text (segment_in (open_part C 0 part.frame)))
-      (spaced (kind_word part.prim)) (number_text (size_of part.prim) part.number)
-      ≡ lines_text message root (added_lines order T at (s ++ take (part.count - 1) octets)
-      (get_or octets (part.count - 1) 0))
-  part_text T order at message root s r =
-      let so_far = s ++ take last octets in
-      let here = at + length so_far in
-      let b = get_or octets last 0 in
-      let whole = gathered_whole C d octets part.of part.count ended [] f taken_together there on in
-      let held = whole.1 T order at message root s r in
-      let k = held.takes.reads (λ fault. fault) in
-      let says = says_at C d octets part.of part.count ended [] f taken_together there on here in
-      let is = same_plain (tree C part.of.0) part.prim says.0.scalar h.prim says.0.is in
-      let path = path_in [] (open_parts C here d.outer.items) in
-      let place = (root_word d.root ++ frames_text C above)
-      ++ segment_text (segment_in (open_part C 0 part.frame)) in
-      let ls = lines_whole C d octets part.of part.count ended [] f taken_together there on here
-      k.offset in
-      let placed : place ≡ path_text d.root path = path_is here in
-      let taken : interpreted_as part.prim says.0.n ≡ Some part.number = rw is at says.0.taken in
-      let value : value_text d.message place (Number (Plain part.prim) says.0.n)
-      ≡ lines_text d.message d.root (lines here) =
-      said_one d.message d.root (here + 1) path place (Number (Plain part.prim) says.0.n)
-      (lines here) placed (rw is at says.1) in
-      rw (
-        due_is C T order at message root before so_far b whole.0 k,
-        ls,
-        ← k.same_message,
-        ← k.same_root,
-      )
-      (sym (number_text_is d.message place part.prim says.0.n part.number taken) ∙ value)
-    where
-      path_is : (here : ℕ) → (root_word d.root ++ frames_text C above)
-          ++ segment_text (segment_in (open_part C 0 part.frame))
-          ≡ path_text d.root (path_in [] (open_parts C here d.outer.items))
-      path_is here =
-          let seg = segment_text (segment_in (open_part C 0 part.frame)) in
-          append_assoc (root_word d.root) (frames_text C above) seg
-          ∙ (ap (λ t. root_word d.root ++ t) (sym (ap (frames_text C) h.outer
-          ∙ frames_text-push C above part.frame)
-          ∙ sym (append-nil (frames_text C d.outer.items)))
-          ∙ (here_spelled C d.root d.outer.items None ∙ path_at C here d.root d.outer.items))
+  pub part_broken : {E : Type 0} (r : Result (ℕ × Progress) E) (new : Decoder) (a c : OutLog) →
+      IsErr r → WroteFront a c text →
+      TakesSome C d new octets a c r
+  part_broken r new a c is said =
+      passed_broken C d octets part.of part.count ended [] f taken_together there on r new a c is
+      (part_says (WroteFront a c) said)

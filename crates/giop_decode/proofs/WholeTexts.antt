@@ -1,6 +1,5 @@
 -- A string that stands whole ahead is taken as its length and then its content.
-use Rattle.std.proofs.Common.{◌≡◌, ℕ, ◌+◌, ◌-◌, ◌%◌, ◌<◌, ◌≤◌, Bool, true, false, List, [], ◌∷◌, ◌++◌, length, take, drop, get_or, Option, Some, refl, sym, ◌∙◌, ap, subst, arith, append-nil, length-drop}
-use Rattle.giop_cdr.specs.declared.order.Order.{Order}
+use Rattle.std.proofs.Common.{◌≡◌, Result, Ok, IsErr, ℕ, ◌+◌, ◌-◌, ◌%◌, ◌<◌, ◌≤◌, Bool, true, false, List, [], ◌∷◌, ◌++◌, length, take, drop, get_or, Option, Some, refl, sym, ◌∙◌, ap, subst, arith, append-nil, length-drop}
 use Rattle.giop_decode.specs.declared.decoder.Decoder.{Decoder}
 use Rattle.giop_decode.specs.declared.leaf.Leaf.{Leaf as Innermost}
 use Rattle.giop_decode.specs.declared.leaf.Leaf.TheVariants as innermost
@@ -10,26 +9,32 @@ use Rattle.giop_decode.specs.declared.leaf.Transition.TheVariants as transitions
 use Rattle.giop_decode.specs.declared.notes.Buffer.{Buffer}
 use Rattle.giop_decode.specs.declared.notes.Buffer.TheVariants as buffers
 use Rattle.giop_decode.specs.declared.notes.Notes.{Notes}
+use Rattle.giop_decode.specs.declared.progress.Progress.{Progress}
 use Rattle.giop_decode.specs.declared.progress.Progress.TheVariants as progress
 use Rattle.giop_decode.specs.declared.text_ahead.TextAhead.{TextAhead}
-use Rattle.giop_decode.specs.DecoderState.{Fits, CanStandAt, HoldsNoted, Reads, read_by_fields}
-use Rattle.giop_decode.specs.DecoderSteps.{Comes, decoder_step, emitted}
+use Rattle.giop_decode.specs.DecoderState.{Fits, HoldsNoted, read_by_fields}
+use Rattle.giop_decode.specs.DecoderSteps.{emitted}
+use Rattle.giop_decode.specs.NameBuffer.{string_offset}
+use Rattle.giop_decode.specs.Passes.{Gives, Passes}
 use Rattle.giop_decode.specs.Noted.{Noted, ended, ends_in_string, is_header_root, noted, with_expects, with_piece, without_name_if}
-use Rattle.giop_decode.specs.NotingSteps.{leaf_in_string}
+use Rattle.giop_decode.specs.NotingSteps.{transition_offset}
 use Rattle.giop_decode.specs.ReadResult.{plain, line, Line, PathSegment, Piece, Short}
 use Rattle.giop_decode.specs.ReadingSteps.{around, path_in}
-use Rattle.giop_decode.specs.Runs.{added_lines_of_run, AllGathered, TakenTogether, TakesRun}
+use Rattle.giop_decode.specs.Runs.{TakenTogether, TakesSome}
+use Rattle.giop_decode.specs.Spelling.{lines_text}
 use Rattle.giop_decode.specs.TextAhead.{IsTextAhead}
-use Rattle.giop_decode.specs.Transitions.{IsClean, IsOutput, Link, is_inside, leaf_of, leaf_type, open_parts}
-use Rattle.giop_decode.proofs.Advancing.{goes, same_some, step_fits}
+use Rattle.giop_decode.specs.Transitions.{IsClean, Link, is_inside, leaf_of, leaf_type, open_parts}
+use Rattle.giop_decode.proofs.Advancing.{same_some}
 use Rattle.giop_decode.proofs.NextParts.{stand_free}
 use Rattle.giop_decode.proofs.Noting.{leaf_inside}
-use Rattle.giop_decode.proofs.Runs.{dues_both, take_more, takes_more}
+use Rattle.giop_decode.proofs.Passing.{last_fits, last_says, passed_broken, passed_some}
+use Rattle.giop_decode.proofs.Segments.{said_none}
+use Rattle.giop_decode.proofs.SoFar.{TakenSoFar, so_far, then_fails, then_some}
 use Rattle.giop_decode.proofs.Surrounding.{around_unless_ended, free_ended, free_ticked, places_ticked}
-use Rattle.giop_decode.proofs.Taking.{due_is, takes_to}
 use Rattle.giop_decode.proofs.Counting.{ahead_free, free_ticked_by}
-use Rattle.giop_decode.proofs.Whole.{IsAtLast, at_last, before_last, is_at_last, comes_text, gathered_whole, keeps_noted_whole, lines_at, lines_whole, name_whole, says_at, told_whole}
-use Rattle.giop_print.specs.declared.path.Root.{Root}
+use Rattle.giop_decode.proofs.Whole.{IsAtLast, at_last, is_at_last, comes_text, fits_then, same_type as type_at_last}
+use Rattle.giop_print.proofs.Writing.{wrote-nil}
+use Rattle.giop_print.specs.Output.{OutLog, Wrote, WroteFront}
 use Rattle.giop_sig.specs.Types.{Text, Ty}
 use Rattle.giop_sig.specs.Table.{Table, type_id}
 use Rattle.giop_sig.specs.declared.types.TypeId.{TypeId}
@@ -57,42 +62,22 @@ forgets : (m : Notes) (b : Buffer) (h : Noted) → m.buffer ≡ b → HoldsNoted
     HoldsNoted (forgotten m b) (without_name_if true h)
 forgets m buffers.Whole h is k =
     let held = rw is at k.name in
-    record {
-      request_id = k.request_id;
-      status = k.status;
-      expects_reply = k.expects_reply;
-      name =
-          (refl, held.1, omega arith);
-    }
+    record { request_id = k.request_id; status = k.status; expects_reply = k.expects_reply; name = (refl, held.1, omega arith) }
 forgets m buffers.Begun h is k =
     let held = rw is at k.name in
-    record {
-      request_id = k.request_id;
-      status = k.status;
-      expects_reply = k.expects_reply;
-      name =
-          rw is (refl, held.1, held.2);
-    }
+    record { request_id = k.request_id; status = k.status; expects_reply = k.expects_reply; name = rw is (refl, held.1, held.2) }
 forgets m buffers.TooLong h is k =
     let held = rw is at k.name in
-    record {
-      request_id = k.request_id;
-      status = k.status;
-      expects_reply = k.expects_reply;
-      name =
-          rw is (refl, held.1, held.2);
-    }
+    record { request_id = k.request_id; status = k.status; expects_reply = k.expects_reply; name = rw is (refl, held.1, held.2) }
 
--- what was noted before the name was cleared, from what is noted then: a piece of the string
--- follows on both alike
+-- what was noted before the name was cleared, from what is noted then: a piece of the string follows on both alike
 record Recalled (m : Notes) (o : Noted) : Type 0 where
   noted : Noted
   held : HoldsNoted m noted
   same : (octets : List ℕ) → with_piece noted octets ≡ with_piece o octets
   expects : noted.expects_reply ≡ o.expects_reply
 
-recalled : (m : Notes) (b : Buffer) (o : Noted) → m.buffer ≡ b → HoldsNoted (forgotten m b) o →
-    Recalled m o
+recalled : (m : Notes) (b : Buffer) (o : Noted) → m.buffer ≡ b → HoldsNoted (forgotten m b) o → Recalled m o
 recalled m buffers.Whole o is k = record {
   noted = record {
     request_id = o.request_id;
@@ -101,35 +86,16 @@ recalled m buffers.Whole o is k = record {
     name = Some m.name.items;
     so_far = [];
   };
-  held = record {
-    request_id = k.request_id;
-    status = k.status;
-    expects_reply = k.expects_reply;
-    name = rw is (refl, refl);
-  };
+  held = record { request_id = k.request_id; status = k.status; expects_reply = k.expects_reply; name = rw is (refl, refl) };
   same = λ octets. rw k.name.1 refl;
   expects = refl;
 }
-recalled m buffers.Begun o is k = record {
-  noted = o;
-  held = k;
-  same = λ octets. refl;
-  expects =
-      refl;
-}
-recalled m buffers.TooLong o is k = record {
-  noted = o;
-  held = k;
-  same = λ octets. refl;
-  expects =
-      refl;
-}
+recalled m buffers.Begun o is k = record { noted = o; held = k; same = λ octets. refl; expects = refl }
+recalled m buffers.TooLong o is k = record { noted = o; held = k; same = λ octets. refl; expects = refl }
 
-piece_recalled : (header : Bool) (m : Notes) (o : Noted) (r : Recalled m o) (T : Ty)
-    (bound : Option ℕ) (at : ℕ)
+piece_recalled : (header : Bool) (m : Notes) (o : Noted) (r : Recalled m o) (T : Ty) (bound : Option ℕ) (at : ℕ)
     (path : List PathSegment) (octets : List ℕ) (lines : List Line) → T ≡ Text bound →
-    lines ≡ line at path (Piece T 0 octets false) ∷ [] →
-    noted header r.noted lines ≡ noted header o lines
+    lines ≡ line at path (Piece T 0 octets false) ∷ [] → noted header r.noted lines ≡ noted header o lines
 piece_recalled header m o r T bound at path octets lines text says =
     rw (says, text) (ap (λ z. with_expects (ended z) r.noted.expects_reply) (r.same octets)
     ∙ ap (with_expects (ended (with_piece o octets))) r.expects)
@@ -140,39 +106,21 @@ same_type : (a b : TypeId) → a.0 ≡ b.0 → a ≡ b
 same_type a b e = ap type_id e
 
 -- a length ahead that leads into a content of one piece, with the content and a zero behind it
-pub text_stands : (C : Table) (d : Decoder) (octets : List ℕ) (of inner by : TypeId)
-    (head total : ℕ) (s : Step) (rest : List ℕ)
-    (bound : Option ℕ) (text : TextAhead) → d.inside ≡ false → d.leaf ≡ Some (innermost.Number of) →
-    tree C of.0 ≡ Text bound →
+pub text_stands : (C : Table) (d : Decoder) (octets : List ℕ) (of inner by : TypeId) (head total : ℕ) (s : Step) (rest : List ℕ)
+    (bound : Option ℕ) (text : TextAhead) → d.inside ≡ false → d.leaf ≡ Some (innermost.Number of) → tree C of.0 ≡ Text bound →
     s.transition ≡ transitions.More (innermost.Content inner total 0) → s.output ≡ outputs.Length →
     TakenTogether C d octets by head s rest → total ≤ 32 → total < length (drop head octets) →
     get_or (drop head octets) total 0 ≡ 0 → text.of ≡ inner → text.head ≡ head →
     text.content.now ≡ take total (drop head octets) → IsTextAhead C d octets text
-text_stands C d octets of inner by head total s rest bound text outside leaf is transition output t
-    small within zero_end e1 e2 e3 =
-    let size : length text.content.now ≡ total =
-    ap length e3 ∙ length-take-le total (drop head octets) (omega (arith, within)) in
-    let by_leaf : of.0 ≡ by.0 = ap leaf_type
-    (same_some (innermost.Number of) t.leaf (sym leaf ∙ t.goes_on)) ∙ t.same in
+text_stands C d octets of inner by head total s rest bound text outside leaf is transition output t small within zero_end e1 e2 e3 =
+    let size : length text.content.now ≡ total = ap length e3 ∙ length-take-le total (drop head octets) (omega (arith, within)) in
+    let by_leaf : of.0 ≡ by.0 = ap leaf_type (same_some (innermost.Number of) t.leaf (sym leaf ∙ t.goes_on)) ∙ t.same in
     let fits = rw transition at t.transition_fits in
     let same : inner ≡ by = same_type inner by fits.0 in
     let whole : by ≡ of = same_type by of (sym by_leaf) in
-    let step : s ≡ record {
-      transition = transitions.More (innermost.Content inner total 0);
-      output = outputs.Length;
-    } = rw (transition, output) refl in
-    let leads : TakenTogether C d octets inner head
-    (record {
-      transition = transitions.More (innermost.Content inner total 0);
-      output =
-          outputs.Length;
-    }) rest =
-    subst (λ x. TakenTogether C d octets x head
-    (record {
-      transition = transitions.More (innermost.Content inner total 0);
-      output =
-          outputs.Length;
-    }) rest) (sym same)
+    let step : s ≡ record { transition = transitions.More (innermost.Content inner total 0); output = outputs.Length } = rw (transition, output) refl in
+    let leads : TakenTogether C d octets inner head (record { transition = transitions.More (innermost.Content inner total 0); output = outputs.Length }) rest =
+    subst (λ x. TakenTogether C d octets x head (record { transition = transitions.More (innermost.Content inner total 0); output = outputs.Length }) rest) (sym same)
     (subst (λ x. TakenTogether C d octets by head x rest) step t) in
     record {
       bound = bound;
@@ -190,11 +138,9 @@ text_stands C d octets of inner by head total s rest bound text outside leaf is 
 -- ---- a decoder before a string
 
 -- in no encapsulation the frames stay as they are
-pub free_at_last : (d : Decoder) (count at : ℕ) → is_inside d.outer.items ≡ false →
-    at ≡ (d.at + (count - 1)) % 8 →
+pub free_at_last : (d : Decoder) (count at : ℕ) → is_inside d.outer.items ≡ false → at ≡ (d.at + (count - 1)) % 8 →
     IsAtLast d (at_last d at d.outer) count
-free_at_last d count at free there = is_at_last d count at d.outer there
-    (free_ticked_by (count - 1) d.outer.items free)
+free_at_last d count at free there = is_at_last d count at d.outer there (free_ticked_by (count - 1) d.outer.items free)
 
 module _ (C : Table) (d : Decoder) (octets : List ℕ) (text : TextAhead) (f : Fits C d)
     (h : IsTextAhead C d octets text) where
@@ -235,154 +181,162 @@ module _ (C : Table) (d : Decoder) (octets : List ℕ) (text : TextAhead) (f : F
     notes = forgotten d.notes d.notes.buffer;
   }
 
-  abbrev before : Decoder
-  before = before_last C d octets text.of text.head step h.none f h.leads at_head on_head
-
-  abbrev lines : ℕ → List Line
-  lines here = lines_at C d octets text.of text.head step h.none f h.leads at_head on_head here
-
   pub no_piece : d.piece.items ≡ []
   no_piece =
-      let it : f.leaf ≡ innermost.Number text.of =
-      same_some f.leaf (innermost.Number text.of) (sym f.goes_on ∙ h.number) in
+      let it : f.leaf ≡ innermost.Number text.of = same_some f.leaf (innermost.Number text.of) (sym f.goes_on ∙ h.number) in
       subst (λ l. IsClean l d.carry d.piece.items) it f.clean
 
-  silent : (here : ℕ) → lines here ≡ []
-  silent here = says_at C d octets text.of text.head step h.none f h.leads at_head on_head here
-
-  come : (here : ℕ) → emitted C d text.of.0 step.transition step.output (lines here) here
-      ≡ read_by_fields C begun [] (here + 1)
-  come here =
+  come : (here : ℕ) (lines : List Line) →
+      emitted C at_head text.of.0 step.transition step.output lines here
+      ≡ read_by_fields C begun lines (here + 1)
+  come here lines =
       let ps = open_parts C (here + 1) d.outer.items in
       let held = leaf_of C leaf d.carry d.piece.items in
       let there : open_parts C here d.outer.items ≡ ps =
-      sym (places_ticked C here d.outer.items f.ahead)
-      ∙ ap (open_parts C (here + 1)) (sym (free_ticked d.outer.items free)) in
-      ap (λ qs. around (plain d.order) [] qs (Short (lines here) (here + 1) [] held)) there
-      ∙ (ap (λ ls. around (plain d.order) [] ps (Short ls (here + 1) [] held)) (silent here)
-      ∙ (around_unless_ended C (plain d.order) [] (here + 1) d.outer.items [] [] held f.known_outer
-      ∙ rw (free_ended d.outer.items free, append-nil ps) refl))
+      sym (places_ticked C here d.outer.items f.ahead) ∙ ap (open_parts C (here + 1)) (sym (free_ticked d.outer.items free)) in
+      ap (λ qs. around (plain d.order) [] qs (Short lines (here + 1) [] held)) there
+      ∙ (around_unless_ended C (plain d.order) [] (here + 1) d.outer.items lines [] held
+      f.known_outer
+      ∙ rw (free_ended d.outer.items free, append-nil ps) refl)
 
-  comes : (here : ℕ) → Comes C begun progress.More (here + 1)
-      (emitted C d text.of.0 step.transition step.output (lines here) here)
-  comes here = ([], (come here, (leaf, refl), refl))
-
-  notes : (here : ℕ) (o : Noted) → HoldsNoted d.notes o →
-      HoldsNoted begun.notes (without_name_if true (noted (is_header_root d.root) o (lines here)))
-  notes here o k = rw (silent here) (forgets d.notes d.notes.buffer o refl k)
-
-  stands_begun : (here : ℕ) → CanStandAt before here → CanStandAt begun (here + 1)
-  stands_begun here k = (
-    let some = h.leads.some in omega (arith, k.0, some),
-    stand_free (here + 1) d.outer.items free,
-  )
-
-  takes : (T : Ty) (order : Order) (at message : ℕ) (root : Root) (s : List ℕ) →
-      Reads C T order at message root d s →
-      TakesRun C T order at message root begun s (take text.head octets) progress.More
-  takes T order at message root s r =
-      let b = get_or octets last 0 in
-      let whole = gathered_whole C d octets text.of text.head step h.none f h.leads at_head on_head
-      in
-      let held = whole.1 T order at message root s r in
-      let below : last < length octets = let some = h.leads.some in
-      omega (arith, some, h.leads.within) in
-      let all : last + 1 ≡ text.head = let some = h.leads.some in omega (arith, some) in
-      subst (λ n. TakesRun C T order at message root begun s (take n octets) progress.More) all
-      (takes_more C T order at message root begun s octets last progress.More below
-      held.takes.answers
-      (takes_to C T order at message root before begun (s ++ take last octets) b progress.More
-      whole.0 refl refl refl stands_begun
-      (λ here stands. rw (told_whole C d octets text.of text.head step h.none f h.leads at_head
-      on_head here stands) (comes here))
-      (λ here front stands old. keeps_noted_whole C d octets text.of text.head step h.none f h.leads
-      at_head on_head begun here front stands
-      (inside here) (notes here) old)
-      (held.takes.reads (λ fault. fault))))
-    where
-      inside : (here : ℕ) → ends_in_string (emitted C d text.of.0 step.transition step.output
-          (lines here) here)
-          ≡ leaf_in_string (tree C text.of.0) leaf
-      inside here = ap ends_in_string (come here) ∙ leaf_inside C leaf d.carry d.piece.items
-
-  -- its length gives no line
-  pub length_gathered : AllGathered C d begun (take text.head octets)
-  length_gathered T order at message root s r =
-      let b = get_or octets last 0 in
-      let so_far = s ++ take last octets in
-      let here = at + length so_far in
-      let whole = gathered_whole C d octets text.of text.head step h.none f h.leads at_head on_head
-      in
-      let held = whole.1 T order at message root s r in
-      let k = held.takes.reads (λ fault. fault) in
-      let below : last < length octets = let some = h.leads.some in
-      omega (arith, some, h.leads.within) in
-      let all : text.head ≡ last + 1 = let some = h.leads.some in omega (arith, some) in
-      let one : added_lines_of_run order T at so_far (b ∷ []) ≡ [] =
-      due_is C T order at message root before so_far b whole.0 k
-      ∙ (lines_whole C d octets text.of text.head step h.none f h.leads at_head on_head here
-      k.offset ∙ silent here) in
+  -- its length is passed, and gives no line
+  length_passes : Passes C at_head begun text.of.0 step h.none progress.More
+  length_passes =
+      let same = type_at_last C d octets text.of text.head step h.none f h.leads at_head on_head in
+      let g = fits_then C d octets text.of text.head step h.none f h.leads at_head on_head in
+      let known : text.of.0 < length C.types = rw same at g.known in
       record {
-        takes = takes T order at message root s r;
-        quiet = ap (λ n. added_lines_of_run order T at s (take n octets)) all
-            ∙ (ap (added_lines_of_run order T at s) (take_more octets last below)
-            ∙ (dues_both order T at s (take last octets) (b ∷ [])
-            ∙ (ap (λ ls. ls ++ added_lines_of_run order T at so_far (b ∷ [])) held.quiet
-            ∙ one)));
+        order = refl;
+        root = refl;
+        message = refl;
+        here = λ here k. (
+          let some = h.leads.some in omega (arith, k.0, some),
+          stand_free (here + 1) d.outer.items free,
+        );
+        next = λ goes_on. record {
+          known_outer = f.known_outer;
+          inside = f.inside;
+          ahead = f.ahead;
+          known = λ next is. subst (λ l. leaf_type l < length C.types) (same_some leaf next is)
+              known;
+          clean = λ next is. subst (λ l. IsClean l d.carry d.piece.items) (same_some leaf next is)
+              h.leads.transition_fits.1;
+          link = λ root next link is. subst (λ l. Link C root d.outer.items (leaf_type l))
+              (same_some leaf next is) link;
+          going = tt;
+          offset = λ next is.
+              subst (λ l. string_offset (tree C (leaf_type l)) l
+              ≡ transition_offset (tree C text.of.0) step.transition) (same_some leaf next is) refl;
+        };
+        steps = λ here lines says. (lines, (come here lines, (leaf, refl), rw says refl));
+        inside = λ here lines.
+            ap ends_in_string (come here lines) ∙ leaf_inside C leaf d.carry d.piece.items;
+        id = λ no. forgotten_id d.notes d.notes.buffer;
+        notes = λ o here at lines held says. rw says (forgets d.notes d.notes.buffer o refl held);
       }
 
   pub begun_fits : Fits C begun
-  begun_fits =
-      let b = get_or octets last 0 in
-      let whole = gathered_whole C d octets text.of text.head step h.none f h.leads at_head on_head
-      in
-      let g = whole.0 in
-      let emits = told_whole C d octets text.of text.head step h.none f h.leads at_head on_head
-      g.here g.stands in
-      let k = goes C begun progress.More (g.here + 1) (decoder_step C before g.here b)
-      (rw emits (comes g.here)) tt in
-      let at_leaf : k.leaf ≡ leaf = same_some k.leaf leaf (sym k.goes_on) in
-      let same : leaf_type g.leaf ≡ text.of.0 =
-      ap leaf_type (same_some g.leaf h.leads.leaf (sym g.goes_on ∙ h.leads.goes_on))
-      ∙ h.leads.same in
-      let link : Link C g.root d.outer.items text.of.0 =
-      subst (Link C g.root d.outer.items) same g.link in
-      let known : text.of.0 < length C.types = rw same at g.known in
-      step_fits C before begun g b k (stands_begun g.here g.stands) f.ahead f.inside
-      (rw at_leaf link) f.known_outer (rw at_leaf known)
-      (rw at_leaf h.leads.transition_fits.1)
-      (λ other. forgotten_id d.notes d.notes.buffer ∙ f.id_in_header_only other)
-      (name_whole C d octets text.of text.head step h.none f h.leads at_head on_head g.here k.leaf
-      begun.notes tt (rw at_leaf refl) (notes g.here))
+  begun_fits = last_fits C d octets text.of text.head step h.none f h.leads at_head on_head begun
+      progress.More length_passes tt
+
+  begun_so_far : (a : OutLog) → TakenSoFar C d begun octets text.head a a
+  begun_so_far a =
+      so_far {E = Unit {0}} C d begun octets text.head progress.More a a refl
+      (passed_some C d octets text.of text.head step h.none f h.leads at_head on_head begun
+      progress.More length_passes a a
+      (last_says C d octets text.of text.head step h.none f h.leads at_head on_head (Wrote a a)
+      (λ here at lines says. rw (said_none d.message d.root lines says) (wrote-nil a))))
+
+  abbrev ended_step : Step
+  ended_step = record { transition = transitions.Ended; output = outputs.Piece 0 false }
 
   -- the content and the zero behind it
-  pub content_ahead : TakenTogether C begun (drop text.head octets) text.of
-      (length text.content.now + 1)
-      (record { transition = transitions.Ended; output = outputs.Piece 0 false }) text.content.now
+  pub content_ahead : TakenTogether C begun (drop text.head octets) text.of (length text.content.now + 1)
+      ended_step text.content.now
   content_ahead =
       let n = length text.content.now in
       let left = length-drop text.head octets in
-      subst (λ xs. TakenTogether C begun (drop text.head octets) text.of (n + 1)
-      (record { transition = transitions.Ended; output = outputs.Piece 0 false }) xs)
+      subst (λ xs. TakenTogether C begun (drop text.head octets) text.of (n + 1) ended_step xs)
       (sym h.content)
       (comes_text C begun text.of n 0 (drop text.head octets) (n + 1) begun_fits refl
       (ahead_free (length (drop text.head octets) - 1) d.outer.items free f.ahead) h.bound n h.is
-      (omega (arith, h.short)) (omega (arith, ap length no_piece)) refl
-      (omega (arith, left, h.within)) h.zero_end)
+      (omega (arith, h.short)) (omega (arith, ap length no_piece)) refl (omega (arith, left, h.within)) h.zero_end)
 
   -- what is noted of the content's line, from what was noted before the length
-  pub noted_behind : (new : Notes) (here : ℕ) (lines : List Line) →
-      IsOutput (tree C text.of.0) (path_in [] (open_parts C here d.outer.items)) (here + 1)
-      (outputs.Piece 0 false)
-      (d.piece.items ++ text.content.now) lines →
-      ((o : Noted) → HoldsNoted d.notes o →
-      HoldsNoted new (noted (is_header_root d.root) o lines)) →
-      (o : Noted) → HoldsNoted begun.notes o →
-      HoldsNoted new (noted (is_header_root d.root) o lines)
-  noted_behind new here lines says notes o k =
+  noted_behind : (new : Notes) (here at : ℕ) (lines : List Line) →
+      Gives C d text.of.0 ended_step text.content.now here at lines →
+      ((o : Noted) → HoldsNoted d.notes o → HoldsNoted new (noted (is_header_root d.root) o lines)) →
+      (o : Noted) → HoldsNoted begun.notes o → HoldsNoted new (noted (is_header_root d.root) o lines)
+  noted_behind new here at lines says notes o k =
       let header = is_header_root d.root in
       let r = recalled d.notes d.notes.buffer o refl k in
-      subst (HoldsNoted new) (piece_recalled header d.notes o r (tree C text.of.0) h.bound
-      (here + 1)
-      (path_in [] (open_parts C here d.outer.items)) (d.piece.items ++ text.content.now) lines h.is
-      says) (notes r.noted r.held)
+      subst (HoldsNoted new) (piece_recalled header d.notes o r (tree C text.of.0) h.bound at
+      (path_in [] (open_parts C here d.outer.items)) (d.piece.items ++ text.content.now) lines h.is says) (notes r.noted r.held)
+
+  -- at the zero
+  module _ (zero_at : ℕ)
+      (moved : zero_at ≡ (d.at + (text.head + length text.content.now)) % 8) where
+    abbrev at_zero : Decoder
+    at_zero = at_last begun zero_at d.outer
+
+    on_zero : IsAtLast begun at_zero (length text.content.now + 1)
+    on_zero = free_at_last begun (length text.content.now + 1) zero_at free (omega (arith, moved))
+
+    content_passes : (new : Decoder) (p : Progress) →
+        Passes C (at_last d zero_at d.outer) new text.of.0 ended_step text.content.now p →
+        Passes C at_zero new text.of.0 ended_step text.content.now p
+    content_passes new p e =
+        record {
+          order = e.order;
+          root = e.root;
+          message = e.message;
+          here = e.here;
+          next = λ goes_on.
+              let next = e.next goes_on in
+              record {
+                known_outer = next.known_outer;
+                inside = next.inside;
+                ahead = next.ahead;
+                known = next.known;
+                clean = next.clean;
+                link = next.link;
+                going = next.going;
+                offset = next.offset;
+              };
+          steps = e.steps;
+          inside = e.inside;
+          id = λ no. e.id no ∙ sym (forgotten_id d.notes d.notes.buffer);
+          notes = λ o here at lines held says.
+              noted_behind new.notes here at lines says
+              (λ before k. e.notes before here at lines k says) o held;
+        }
+
+    pub text_some : {E : Type 0} (new : Decoder) (p : Progress) (a c : OutLog) →
+        Passes C (at_last d zero_at d.outer) new text.of.0 ended_step text.content.now p →
+        ((here at : ℕ) (lines : List Line) →
+        Gives C (at_last d zero_at d.outer) text.of.0 ended_step text.content.now here at lines →
+        Wrote a c (lines_text d.message d.root lines)) →
+        TakesSome {E = E} C d new octets a c (Ok (text.head + length text.content.now + 1, p))
+    text_some {E = E} new p a c e writes =
+        let n = length text.content.now in
+        let all : text.head + (n + 1) ≡ text.head + n + 1 = omega arith in
+        subst (λ k. TakesSome {E = E} C d new octets a c (Ok (k, p))) all
+        (then_some C d begun octets text.head a a (begun_so_far a) new c (n + 1) p
+        (passed_some C begun (drop text.head octets) text.of (n + 1) ended_step text.content.now
+        begun_fits content_ahead at_zero on_zero new p (content_passes new p e) a c
+        (last_says C begun (drop text.head octets) text.of (n + 1) ended_step text.content.now
+        begun_fits content_ahead at_zero on_zero (Wrote a c) writes)))
+
+    pub text_broken : {E : Type 0} (r : Result (ℕ × Progress) E) (new : Decoder) (a c : OutLog) →
+        IsErr r →
+        ((here at : ℕ) (lines : List Line) →
+        Gives C (at_last d zero_at d.outer) text.of.0 ended_step text.content.now here at lines →
+        WroteFront a c (lines_text d.message d.root lines)) →
+        TakesSome C d new octets a c r
+    text_broken r new a c is writes =
+        let n = length text.content.now in
+        then_fails C d begun octets text.head a a (begun_so_far a) new c r is
+        (passed_broken C begun (drop text.head octets) text.of (n + 1) ended_step text.content.now
+        begun_fits content_ahead at_zero on_zero r new a c is
+        (last_says C begun (drop text.head octets) text.of (n + 1) ended_step text.content.now
+        begun_fits content_ahead at_zero on_zero (WroteFront a c) writes))

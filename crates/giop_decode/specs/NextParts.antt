@@ -24,16 +24,15 @@ frames_above frames = take (length frames - 1) frames
 
 -- what the lines of the innermost frame's parts begin with, up to its own segment
 abbrev pub front_text : Table → Decoder → List ℕ
-front_text C d = headed d.message (root_word d.root ++ frames_text C (frames_above d.outer.items))
-    []
+front_text C d = headed d.message (root_word d.root ++ frames_text C (frames_above d.outer.items)) []
 
--- the number that stands whole at the head of octets is a primitive's, and a part of the innermost
--- frame
-pub record IsPartAhead (C : Table) (d : Decoder) (octets : List ℕ) (part : PartAhead) : Type 0 where
+-- the number that stands whole at the head of its octets is a primitive's, and a part of the
+-- innermost frame
+pub record IsPartAhead (C : Table) (d : Decoder) (part : PartAhead) : Type 0 where
   pub leaf : d.leaf ≡ Some (innermost.Number part.of)
   pub known : part.of.0 < length C.types
   pub prim : tree C part.of.0 ≡ Single (Plain part.prim)
-  pub whole : IsWholeNumber (tree C part.of.0) d.order d.at octets part.count part.number
+  pub whole : IsWholeNumber (tree C part.of.0) d.order d.at part.octets.now part.count part.number
   pub outside : d.inside ≡ false
   pub empty : d.carry ≡ []
   pub outer : d.outer.items ≡ frames_above d.outer.items ++ part.frame ∷ []

@@ -1,6 +1,6 @@
 //! A decoder of one value: the state that reading a list of octets leaves.
 
-ghost use Rattle.std.specs.Prelude.{◌≡◌, ℕ, ◌+◌, ◌-◌, ◌%◌, ◌<◌, ◌≤◌, List, [], ◌++◌, length, ◌↔◌, IsTrue, true, false, IfOk, OnOk, None, Some};
+ghost use Rattle.std.specs.Prelude.{◌≡◌, ℕ, ◌+◌, ◌-◌, ◌%◌, ◌<◌, ◌≤◌, List, [], length, ◌↔◌, IsTrue, true, false, IfOk, OnOk, None, Some};
 ghost use Rattle.std.specs.Option.{option_map};
 ghost use Rattle.giop_cdr.specs.declared.order.Order.{Order as ByteOrder};
 ghost use Rattle.giop_decode.specs.declared.leaf.Leaf.{Leaf as Innermost};
@@ -8,22 +8,24 @@ ghost use Rattle.giop_decode.specs.ReadResult.{Coding, PathSegment, Line, Read, 
 ghost use Rattle.giop_decode.specs.Spelling.{lines_text};
 ghost use Rattle.giop_print.specs.Output.{Writes};
 ghost use Rattle.giop_print.specs.declared.path.Root.{Root as PathRoot};
-ghost use Rattle.giop_decode.specs.ReadingSteps.{around, path_in};
+ghost use Rattle.giop_decode.specs.ReadingSteps.{around};
 ghost use Rattle.giop_decode.specs.Fits.{OpenFrom};
-ghost use Rattle.giop_decode.specs.Transitions.{open_parts, AreKnown, Link, TransitionFits, HasOutput, IsOutput, after_transition, still_held, leaf_type, IsClean, StandAt, is_inside};
-ghost use Rattle.giop_decode.specs.Noted.{Noted, noted, noted_of, without_name_if, ends_in_string, is_header_root};
+ghost use Rattle.giop_decode.specs.Transitions.{open_parts, AreKnown, Link, TransitionFits, HasOutput, after_transition, still_held, leaf_type, IsClean, StandAt, is_inside};
+ghost use Rattle.giop_decode.specs.Noted.{noted_of, ends_in_string, is_header_root};
 ghost use Rattle.giop_decode.specs.NameBuffer.{string_offset};
-ghost use Rattle.giop_decode.specs.NotingSteps.{IsPlain, clears_name, transition_in_string, transition_offset};
-ghost use Rattle.giop_decode.specs.DecoderState.{Fits, IsDone, CanStandAt, Reads, HoldsNoted, Takes, KeepsNoted, GoesOn, read_by_fields, added_lines};
-ghost use Rattle.giop_decode.specs.DecoderSteps.{transition_result, decoder_step, emitted, Comes, IsAround, IsNext, IsNotRefused};
+ghost use Rattle.giop_decode.specs.NotingSteps.{IsPlain, transition_in_string, transition_offset};
+ghost use Rattle.giop_decode.specs.DecoderState.{Fits, IsDone, CanStandAt, Reads, Takes, KeepsNoted, GoesOn, read_by_fields, added_lines};
+ghost use Rattle.giop_decode.specs.DecoderSteps.{transition_result, decoder_step, Comes, IsAround, IsNotRefused};
+ghost use Rattle.giop_decode.specs.Passes.{Gives, Passes};
 ghost use Rattle.giop_sig.specs.Types.{Ty};
 ghost use Rattle.giop_sig.specs.Fits.{IsFit, IsEmptyStruct};
 ghost use Rattle.giop_sig.specs.Trees.{tree};
 
 use crate::contents::let_go;
 use crate::frame::{Frame, begin, coding, go_on, has_ended, is_empty, is_inside, tick};
-use crate::leaf::{Leaf, Step, Transition, take_octet};
+use crate::leaf::{Finished, Leaf, Transition, take_octet};
 use crate::line::write_line;
+use crate::lookahead::Lookahead;
 use crate::notes::Notes;
 use crate::progress::{Progress, progress_of};
 use arrayvec::ArrayVec;
@@ -181,8 +183,7 @@ impl Decoder {
             ≡ transition_in_string (tree catalogue.now of.0) transition }
         ensures stand { (at : ℕ) → 0 < at → StandAt at self.old.outer.items →
             StandAt at self.new.outer.items }
-        ensures advances { (coding : Coding) (path : List PathSegment) (at : ℕ)
-            (lines : List Line) →
+        ensures advances { (coding : Coding) (path : List PathSegment) (at : ℕ) (lines : List Line) →
             around coding path (open_parts catalogue.now at self.old.outer.items)
             (after_transition catalogue.now (tree catalogue.now of.0) transition
             self.old.carry self.old.piece.items lines at)
@@ -258,8 +259,7 @@ impl Decoder {
             (lines_of (decoder_step catalogue.now self.old here octet))) }
         ensures steps { IfOk result (λ p. (here : ℕ) → CanStandAt self.old here →
             Comes catalogue.now self.new p (here + 1) (decoder_step catalogue.now self.old here octet)) }
-        ensures keeps_noted { OnOk result ((here : ℕ) (front : List Line) →
-            CanStandAt self.old here →
+        ensures keeps_noted { OnOk result ((here : ℕ) (front : List Line) → CanStandAt self.old here →
             KeepsNoted self.old.root self.old (read_by_fields catalogue.now self.old front here) →
             KeepsNoted self.old.root self.new
             (with_front front (decoder_step catalogue.now self.old here octet))) }
@@ -267,141 +267,104 @@ impl Decoder {
         let Some(leaf) = self.leaf else {
             unreachable!();
         };
-        let of = leaf.of();
-        let (order, at) = coding(self.inside, self.order, self.at, self.outer.as_slice());
+        let coded = coding(self.inside, self.order, self.at, self.outer.as_slice());
         let step = take_octet(
             catalogue,
-            order,
-            at,
+            coded,
             leaf,
             octet,
             &mut self.carry,
             &mut self.piece,
         );
-        let progress = self.emit(catalogue, of, step, &[], false, out)?;
+        let ahead = Lookahead {
+            of: leaf.of(),
+            count: 1,
+            step,
+            rest: &[],
+        };
+        let progress = self.emit(catalogue, ahead, false, out)?;
         Ok(progress)
     }
 
-    /// Writes and notes the output of an octet of the innermost part, of this type, and does its transition. A piece
-    /// that is written has the octets that are held, and the rest. A number may be known as a primitive's.
+    /// Takes the last of octets that the innermost part takes together, where all others are taken:
+    /// writes and notes the output, and does the transition. A piece that is written has the octets
+    /// that are held, and the rest. A number may be known as a primitive's.
     #[inline(always)]
     pub(crate) fn emit<O: Out>(
         &mut self,
         catalogue: &Catalogue,
-        of: TypeId,
-        step: Step,
-        rest: &[u8],
+        ahead: Lookahead<'_>,
         is_plain: bool,
         out: &mut O,
     ) -> Result<Progress, OutFault>
-        requires around { IsAround catalogue.now self.old of.0 }
-        requires transition_fits { TransitionFits (tree catalogue.now of.0) of.0 step.transition
-            self.old.carry (still_held step.output self.old.piece.items) }
-        requires has_output { HasOutput (tree catalogue.now of.0) step.output }
-        requires plain { IsTrue is_plain → IsPlain (tree catalogue.now of.0) step.output }
-        requires short { 0 < length rest.now →
-            length self.old.piece.items + length rest.now ≤ 32 }
-        ensures order { OnOk result (self.new.order ≡ self.old.order) }
-        ensures root { OnOk result (self.new.root ≡ self.old.root) }
-        ensures message { OnOk result (self.new.message ≡ self.old.message) }
-        ensures here { OnOk result ((here : ℕ) → CanStandAt self.old here →
-            CanStandAt self.new (here + 1)) }
-        ensures next { IfOk result (λ p. GoesOn p →
-            IsNext catalogue.now self.old self.new of.0 step.transition) }
+        requires around { IsAround catalogue.now self.old ahead.of.0 }
+        requires transition_fits { TransitionFits (tree catalogue.now ahead.of.0) ahead.of.0
+            ahead.step.transition self.old.carry
+            (still_held ahead.step.output self.old.piece.items) }
+        requires has_output { HasOutput (tree catalogue.now ahead.of.0) ahead.step.output }
+        requires plain { IsTrue is_plain →
+            IsPlain (tree catalogue.now ahead.of.0) ahead.step.output }
+        requires short { 0 < length ahead.rest.now →
+            length self.old.piece.items + length ahead.rest.now ≤ 32 }
+        ensures passes { IfOk result (λ p. Passes catalogue.now self.old self.new
+            ahead.entry.of.0 ahead.entry.step ahead.entry.rest.now p) }
         ensures writes { (here at : ℕ) (lines : List Line) →
-            IsOutput (tree catalogue.now of.0)
-            (path_in [] (open_parts catalogue.now here self.old.outer.items))
-            at step.output (self.old.piece.items ++ rest.now) lines →
+            Gives catalogue.now self.old ahead.entry.of.0 ahead.entry.step ahead.entry.rest.now
+            here at lines →
             Writes result (O.log out.old) (O.log out.new)
             (lines_text self.old.message self.old.root lines) }
-        ensures steps { IfOk result (λ p. (here : ℕ) (lines : List Line) →
-            IsOutput (tree catalogue.now of.0)
-            (path_in [] (open_parts catalogue.now here self.old.outer.items))
-            (here + 1) step.output (self.old.piece.items ++ rest.now) lines →
-            Comes catalogue.now self.new p (here + 1)
-            (emitted catalogue.now self.old of.0 step.transition step.output lines here)) }
-        ensures inside { OnOk result ((here : ℕ) (lines : List Line) →
-            ends_in_string (emitted catalogue.now self.old of.0 step.transition step.output lines here)
-            ≡ transition_in_string (tree catalogue.now of.0) step.transition) }
-        ensures id { OnOk result (is_header_root self.old.root ≡ false →
-            self.new.notes.request_id ≡ self.old.notes.request_id) }
-        ensures notes { OnOk result ((h : Noted) (here at : ℕ) (lines : List Line) →
-            HoldsNoted self.old.notes h →
-            IsOutput (tree catalogue.now of.0)
-            (path_in [] (open_parts catalogue.now here self.old.outer.items))
-            at step.output (self.old.piece.items ++ rest.now) lines →
-            HoldsNoted self.new.notes (without_name_if (clears_name step.output)
-            (noted (is_header_root self.old.root) h lines))) }
     {
         write_line(
             catalogue,
             self.message,
             self.root,
             self.outer.as_slice(),
-            of,
-            step.output,
-            &self.piece,
-            rest,
+            Finished {
+                of: ahead.of,
+                output: ahead.step.output,
+                held: &self.piece,
+                rest: ahead.rest,
+            },
             out,
         )?;
-        Ok(self.pass(catalogue, of, step, rest, is_plain))
+        Ok(self.pass(catalogue, ahead, is_plain))
     }
 
-    /// Notes the output of an octet of the innermost part, and does its transition: what `emit` does but for the line.
+    /// What `emit` does but for the line.
     #[inline(always)]
     pub(crate) fn pass(
         &mut self,
         catalogue: &Catalogue,
-        of: TypeId,
-        step: Step,
-        rest: &[u8],
+        ahead: Lookahead<'_>,
         is_plain: bool,
     ) -> Progress
-        requires around { IsAround catalogue.now self.old of.0 }
-        requires transition_fits { TransitionFits (tree catalogue.now of.0) of.0 step.transition
-            self.old.carry (still_held step.output self.old.piece.items) }
-        requires has_output { HasOutput (tree catalogue.now of.0) step.output }
-        requires plain { IsTrue is_plain → IsPlain (tree catalogue.now of.0) step.output }
-        ensures order { self.new.order ≡ self.old.order }
-        ensures root { self.new.root ≡ self.old.root }
-        ensures message { self.new.message ≡ self.old.message }
-        ensures here { (here : ℕ) → CanStandAt self.old here →
-            CanStandAt self.new (here + 1) }
-        ensures next { GoesOn result → IsNext catalogue.now self.old self.new of.0 step.transition }
-        ensures steps { (here : ℕ) (lines : List Line) →
-            IsOutput (tree catalogue.now of.0)
-            (path_in [] (open_parts catalogue.now here self.old.outer.items))
-            (here + 1) step.output (self.old.piece.items ++ rest.now) lines →
-            Comes catalogue.now self.new result (here + 1)
-            (emitted catalogue.now self.old of.0 step.transition step.output lines here) }
-        ensures inside { (here : ℕ) (lines : List Line) →
-            ends_in_string (emitted catalogue.now self.old of.0 step.transition step.output lines here)
-            ≡ transition_in_string (tree catalogue.now of.0) step.transition }
-        ensures id { is_header_root self.old.root ≡ false →
-            self.new.notes.request_id ≡ self.old.notes.request_id }
-        ensures notes { (h : Noted) (here at : ℕ) (lines : List Line) →
-            HoldsNoted self.old.notes h →
-            IsOutput (tree catalogue.now of.0)
-            (path_in [] (open_parts catalogue.now here self.old.outer.items))
-            at step.output (self.old.piece.items ++ rest.now) lines →
-            HoldsNoted self.new.notes (without_name_if (clears_name step.output)
-            (noted (is_header_root self.old.root) h lines)) }
+        requires around { IsAround catalogue.now self.old ahead.of.0 }
+        requires transition_fits { TransitionFits (tree catalogue.now ahead.of.0) ahead.of.0
+            ahead.step.transition self.old.carry
+            (still_held ahead.step.output self.old.piece.items) }
+        requires has_output { HasOutput (tree catalogue.now ahead.of.0) ahead.step.output }
+        requires plain { IsTrue is_plain →
+            IsPlain (tree catalogue.now ahead.of.0) ahead.step.output }
+        ensures { Passes catalogue.now self.old self.new
+            ahead.entry.of.0 ahead.entry.step ahead.entry.rest.now result }
     {
         let named = self.notes.note(
             catalogue,
             self.root,
             self.outer.as_slice(),
-            of,
-            step.output,
-            &self.piece,
-            rest,
+            Finished {
+                of: ahead.of,
+                output: ahead.step.output,
+                held: &self.piece,
+                rest: ahead.rest,
+            },
             is_plain,
         );
-        let_go(step.output, &mut self.piece);
+        let_go(ahead.step.output, &mut self.piece);
         self.at = (self.at + 1) % 8;
         tick(self.inside, &mut self.outer);
-        self.advance_frames(catalogue, of, step.transition);
+        self.advance_frames(catalogue, ahead.of, ahead.step.transition);
         let ended = has_ended(self.inside, self.outer.as_slice());
-        progress_of(named, ended, step.transition, self.leaf)
+        progress_of(named, ended, ahead.step.transition, self.leaf)
     }
 }

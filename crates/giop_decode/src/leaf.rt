@@ -104,6 +104,17 @@ pub(crate) struct Step {
     pub(crate) output: Output,
 }
 
+/// What an octet of an innermost part finishes: of this a line is written, and it is noted.
+#[derive(Clone, Copy, Debug)]
+pub(crate) struct Finished<'a> {
+    /// The part's type.
+    pub(crate) of: TypeId,
+    pub(crate) output: Output,
+    /// Of a piece the octets that are held, and those that follow them.
+    pub(crate) held: &'a [u8],
+    pub(crate) rest: &'a [u8],
+}
+
 /// The step of an octet that breaks a rule.
 #[inline(always)]
 pub(crate) fn refused(kind: Kind) -> Step
@@ -116,12 +127,11 @@ pub(crate) fn refused(kind: Kind) -> Step
     }
 }
 
-/// Takes an octet of the innermost part.
+/// Takes an octet of the innermost part, in this byte order and by this offset modulo 8.
 #[inline(always)]
 pub(crate) fn take_octet(
     catalogue: &Catalogue,
-    order: Order,
-    at: u8,
+    coded: (Order, u8),
     leaf: Leaf,
     octet: u8,
     carry: &mut Carry,
@@ -141,11 +151,12 @@ pub(crate) fn take_octet(
         (string_offset (tree catalogue.now (leaf_type leaf)) leaf) result.transition result.output
         (length piece.new.items) }
     ensures transitions { (coding : Coding) (path : List PathSegment) (here : ℕ) →
-        coding.order ≡ order → (here - coding.origin) % 8 ≡ at →
+        coding.order ≡ coded.0 → (here - coding.origin) % 8 ≡ coded.1 →
         TransitionGives catalogue.now (tree catalogue.now (leaf_type leaf)) result.transition result.output
         carry.new piece.new.items path (here + 1)
         (leaf_step coding path (leaf_of catalogue.now leaf carry.old piece.old.items) here octet) }
 {
+    let (order, at) = coded;
     match leaf {
         Leaf::Number(of) => {
             if !take_number(carry, at, width(catalogue, of), octet) {

@@ -37,15 +37,13 @@ impl Decoder {
     pub(crate) fn number_ahead<'a>(
         &self,
         catalogue: &Catalogue,
-        order: Order,
-        at: u8,
+        coded: (Order, u8),
         octets: &'a [u8],
     ) -> Option<Lookahead<'a>>
         requires fits { Fits catalogue.now self.now }
-        requires coded { coding_by self.now.order self.now.at self.now.outer.items ≡ (order, at) }
+        requires coded { coding_by self.now.order self.now.at self.now.outer.items ≡ coded }
         requires ahead { HaveOctetsLeft (ticked_by (length octets.now - 1) self.now.outer.items) }
-        ensures ahead { IfSome result (λ ahead.
-            TakenTogether catalogue.now self.now octets.now ahead.of
+        ensures ahead { IfSome result (λ ahead. TakenTogether catalogue.now self.now octets.now ahead.of
             ahead.count ahead.step ahead.rest.now) }
         ensures plain { IfSome result (λ ahead.
             IsPlain (tree catalogue.now ahead.of.0) ahead.step.output) }
@@ -53,6 +51,7 @@ impl Decoder {
         if !self.carry.is_empty() {
             return None;
         }
+        let (order, at) = coded;
         match self.leaf {
             Some(Leaf::Number(of)) => match whole_number(catalogue, order, at, of, octets) {
                 Some((count, number)) => Some(Lookahead {
@@ -75,12 +74,11 @@ impl Decoder {
     pub(crate) fn leading_number_ahead<'a>(
         &self,
         catalogue: &Catalogue,
-        order: Order,
-        at: u8,
+        coded: (Order, u8),
         octets: &'a [u8],
     ) -> Option<Lookahead<'a>>
         requires fits { Fits catalogue.now self.now }
-        requires coded { coding_by self.now.order self.now.at self.now.outer.items ≡ (order, at) }
+        requires coded { coding_by self.now.order self.now.at self.now.outer.items ≡ coded }
         requires ahead { HaveOctetsLeft (ticked_by (length octets.now - 1) self.now.outer.items) }
         ensures { IfSome result (λ ahead. TakenTogether catalogue.now self.now octets.now ahead.of
             ahead.count ahead.step ahead.rest.now) }
@@ -88,6 +86,7 @@ impl Decoder {
         if !self.carry.is_empty() {
             return None;
         }
+        let (order, at) = coded;
         match self.leaf {
             Some(Leaf::Number(of)) => match whole_octets(width(catalogue, of), at, octets) {
                 Some((count, whole)) => Some(Lookahead {

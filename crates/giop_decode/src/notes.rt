@@ -8,12 +8,13 @@ ghost use Rattle.giop_decode.specs.DecoderState.{HoldsNoted};
 ghost use Rattle.giop_decode.specs.NotingSteps.{IsPlain, clears_name, is_set};
 ghost use Rattle.giop_decode.specs.ReadResult.{Line};
 ghost use Rattle.giop_decode.specs.ReadResult as results;
+ghost use Rattle.giop_decode.specs.Passes.{Finishes};
 ghost use Rattle.giop_decode.specs.ReadingSteps.{path_in};
-ghost use Rattle.giop_decode.specs.Transitions.{open_parts, AreKnown, IsNumberOf, IsOutput, HasOutput};
+ghost use Rattle.giop_decode.specs.Transitions.{open_parts, AreKnown, IsNumberOf, HasOutput};
 ghost use Rattle.giop_sig.specs.Trees.{tree};
 
 use crate::frame::Frame;
-use crate::leaf::Output;
+use crate::leaf::{Finished, Output};
 use arrayvec::ArrayVec;
 use giop_cdr::{Number, Prim};
 use giop_print::Root;
@@ -91,8 +92,7 @@ impl Notes {
     /// Clears the last name: the length of a string has come.
     #[inline(always)]
     fn forget(&mut self)
-        ensures notes { (h : Noted) → HoldsNoted self.old h →
-            HoldsNoted self.new (without_name_if true h) }
+        ensures notes { (h : Noted) → HoldsNoted self.old h → HoldsNoted self.new (without_name_if true h) }
         ensures id { self.new.request_id ≡ self.old.request_id }
         ensures begun { self.new.buffer ≡ Buffer.Whole → ⊥ }
     {
@@ -226,38 +226,36 @@ impl Notes {
         }
     }
 
-    /// Notes the output of an octet of an innermost part of this type, and answers whether that ends the operation of a
-    /// Request's header. Below any other root nothing is noted of a primitive, as which this may be known.
+    /// Notes what an octet of an innermost part finishes, and answers whether that ends the
+    /// operation of a Request's header. Below any other root nothing is noted of a primitive, as
+    /// which this may be known.
     #[inline(always)]
     pub(crate) fn note(
         &mut self,
         catalogue: &Catalogue,
         root: Root,
         outer: &[Frame],
-        of: TypeId,
-        output: Output,
-        held: &[u8],
-        rest: &[u8],
+        finished: Finished<'_>,
         is_plain: bool,
     ) -> bool
-        requires known { of.0 < length catalogue.now.types }
+        requires known { finished.of.0 < length catalogue.now.types }
         requires known_outer { AreKnown catalogue.now outer.now }
-        requires has_output { HasOutput (tree catalogue.now of.0) output }
-        requires plain { IsTrue is_plain → IsPlain (tree catalogue.now of.0) output }
+        requires has_output { HasOutput (tree catalogue.now finished.of.0) finished.output }
+        requires plain { IsTrue is_plain →
+            IsPlain (tree catalogue.now finished.of.0) finished.output }
         ensures id { is_header_root root ≡ false → self.new.request_id ≡ self.old.request_id }
         ensures notes { (h : Noted) (here at : ℕ) (lines : List Line) → HoldsNoted self.old h →
-            IsOutput (tree catalogue.now of.0) (path_in [] (open_parts catalogue.now here outer.now))
-            at output (held.now ++ rest.now) lines →
-            HoldsNoted self.new (without_name_if (clears_name output) (noted (is_header_root root) h lines)) }
+            Finishes catalogue.now outer.now finished.entry here at lines →
+            HoldsNoted self.new (without_name_if (clears_name finished.entry.output)
+            (noted (is_header_root root) h lines)) }
         ensures named { (here at : ℕ) (lines : List Line) →
-            IsOutput (tree catalogue.now of.0) (path_in [] (open_parts catalogue.now here outer.now))
-            at output (held.now ++ rest.now) lines →
+            Finishes catalogue.now outer.now finished.entry here at lines →
             result ≡ names_operation (is_header_root root) lines }
     {
         if is_plain && !is_header(root) {
             return false;
         }
-        match output {
+        match finished.output {
             Output::Nothing => false,
             Output::Count(_) => false,
             Output::Size(_) => false,
@@ -267,16 +265,16 @@ impl Notes {
                 false
             }
             Output::Number(number) => {
-                self.note_part(catalogue, root, outer, of, number);
+                self.note_part(catalogue, root, outer, finished.of, number);
                 false
             }
             Output::Switch(number) => {
-                self.note_switch(catalogue, catalogue.switch_type(of), number);
+                self.note_switch(catalogue, catalogue.switch_type(finished.of), number);
                 false
             }
-            Output::Piece { more, .. } => match catalogue.shape(of) {
+            Output::Piece { more, .. } => match catalogue.shape(finished.of) {
                 Shape::Text(_) => {
-                    self.note_piece(held, rest, more);
+                    self.note_piece(finished.held, finished.rest, more);
                     !more && is_header_member(catalogue, root, outer, b"operation")
                 }
                 _ => false,

@@ -1,13 +1,12 @@
 //! Numbers that are parts of one part, taken one after another: what their lines begin with is spelled once.
 
-ghost use Rattle.std.specs.Prelude.{◌≡◌, ℕ, ◌+◌, ◌-◌, ◌<◌, ◌≤◌, false, true, List, [], ◌++◌, length, take, IfOk, IfSome, OnOk, IsTrue};
+ghost use Rattle.std.specs.Prelude.{◌≡◌, ℕ, ◌+◌, ◌-◌, ◌<◌, ◌≤◌, false, true, List, [], ◌++◌, length, IfOk, IfSome, OnOk, IsTrue};
 ghost use Rattle.giop_cdr.specs.Primitives.{size_of};
-ghost use Rattle.giop_cdr.specs.declared.order.Order.{Order as ByteOrder};
-ghost use Rattle.giop_decode.specs.DecoderState.{Fits, GoesOn, IsDone, Reads};
+ghost use Rattle.giop_decode.specs.DecoderState.{Fits};
 ghost use Rattle.giop_decode.specs.Noted.{is_header_root};
 ghost use Rattle.giop_decode.specs.NextParts.{IsPartAhead, IsNextNumber, IsAtNext, front_text};
 ghost use Rattle.giop_decode.specs.ReadingSteps.{segment_in};
-ghost use Rattle.giop_decode.specs.Runs.{TakesRun, WritesRun};
+ghost use Rattle.giop_decode.specs.Runs.{TakesSome};
 ghost use Rattle.giop_decode.specs.Segments.{frames_text};
 ghost use Rattle.giop_decode.specs.Spelling.{segment_text};
 ghost use Rattle.giop_decode.specs.Transitions.{open_part, AreKnown, IsKnown};
@@ -15,14 +14,12 @@ ghost use Rattle.giop_print.specs.Line.{line_text, line_room, headed};
 ghost use Rattle.giop_print.specs.Lines.{kind_line, kind_word, number_text, spaced};
 ghost use Rattle.giop_print.specs.Output.{Writes};
 ghost use Rattle.giop_print.specs.Paths.{root_word};
-ghost use Rattle.giop_print.specs.declared.path.Root.{Root as PathRoot};
-ghost use Rattle.giop_sig.specs.Types.{Ty};
 
 use crate::current_path::{spell_segment, spell_segments};
 use crate::decoder::Decoder;
 use crate::frame::{Frame, go_to_next};
 use crate::leaf::{Leaf, Output, Step, Transition};
-use crate::lookahead::whole_number;
+use crate::lookahead::{Lookahead, whole_number};
 use crate::notes::is_header;
 use crate::progress::Progress;
 use crate::run::further;
@@ -32,7 +29,9 @@ use giop_sig::{Catalogue, Shape, TypeId};
 
 /// The number of a primitive that comes next, where it is a part of a part that is begun.
 #[derive(Clone, Copy, Debug)]
-struct PartAhead {
+struct PartAhead<'a> {
+    /// The octets at whose head it stands.
+    octets: &'a [u8],
     of: TypeId,
     /// The part that it is a part of.
     frame: Frame,
@@ -87,19 +86,8 @@ impl Decoder {
         requires some { 0 < length self.old.outer.items }
         requires body { is_header_root self.old.root ≡ false }
         requires outside { self.old.inside ≡ false }
-        ensures writes { (T : Ty) (order : ByteOrder) (at message : ℕ) (root : PathRoot)
-            (s : List ℕ) →
-            Reads catalogue.now T order at message root self.old s →
-            WritesRun result T order at message root s octets.now (O.log out.old) (O.log out.new) }
-        ensures takes { IfOk result (λ taken. (T : Ty) (order : ByteOrder) (at message : ℕ)
-            (root : PathRoot) (s : List ℕ) →
-            Reads catalogue.now T order at message root self.old s →
-            TakesRun catalogue.now T order at message root self.new s
-            (take taken.0 octets.now) taken.1) }
-        ensures within { IfOk result (λ taken. taken.0 ≤ length octets.now) }
-        ensures some { IfOk result (λ taken. 0 < taken.0) }
-        ensures fits { IfOk result (λ taken. GoesOn taken.1 → Fits catalogue.now self.new) }
-        ensures done { IfOk result (λ taken. taken.1 ≡ Progress.Done → IsDone self.new) }
+        ensures { TakesSome catalogue.now self.old self.new octets.now
+            (O.log out.old) (O.log out.new) result }
     {
         let depth = self.outer.len() - 1;
         let mut line = Line::new();
@@ -131,33 +119,16 @@ impl Decoder {
         requires outside { self.old.inside ≡ false }
         requires front { front.now ≡ front_text catalogue.now self.old }
         requires short { length front.now ≤ 128 }
-        ensures writes { (T : Ty) (order : ByteOrder) (at message : ℕ) (root : PathRoot)
-            (s : List ℕ) →
-            Reads catalogue.now T order at message root self.old s →
-            WritesRun result T order at message root s octets.now (O.log out.old) (O.log out.new) }
-        ensures takes { IfOk result (λ taken. (T : Ty) (order : ByteOrder) (at message : ℕ)
-            (root : PathRoot) (s : List ℕ) →
-            Reads catalogue.now T order at message root self.old s →
-            TakesRun catalogue.now T order at message root self.new s
-            (take taken.0 octets.now) taken.1) }
-        ensures within { IfOk result (λ taken. taken.0 ≤ length octets.now) }
-        ensures some { IfOk result (λ taken. 0 < taken.0) }
-        ensures fits { IfOk result (λ taken. GoesOn taken.1 → Fits catalogue.now self.new) }
-        ensures done { IfOk result (λ taken. taken.1 ≡ Progress.Done → IsDone self.new) }
+        ensures { TakesSome catalogue.now self.old self.new octets.now
+            (O.log out.old) (O.log out.new) result }
     {
         let mut taken = 0;
         while let Some(part) = self.part_ahead(catalogue, &octets[taken..]) {
-            let Some(next) = self.next_number(catalogue, &octets[taken..], part) else {
-                let (last, progress) = self.take_last(
-                    catalogue,
-                    &octets[taken..],
-                    part,
-                    front,
-                    out,
-                )?;
+            let Some(next) = self.next_number(catalogue, part) else {
+                let (last, progress) = self.take_last(catalogue, part, front, out)?;
                 return Ok((taken + last, progress));
             };
-            let (count, _) = self.take_part(catalogue, &octets[taken..], part, next, front, out)?;
+            let (count, _) = self.take_part(catalogue, part, next, front, out)?;
             taken += count;
         }
         if taken == octets.len() {
@@ -170,10 +141,11 @@ impl Decoder {
     /// The number that comes next, where it is a primitive's, stands whole at the head of these octets, and is a part
     /// of a part that is begun.
     #[inline(always)]
-    fn part_ahead(&self, catalogue: &Catalogue, octets: &[u8]) -> Option<PartAhead>
+    fn part_ahead<'a>(&self, catalogue: &Catalogue, octets: &'a [u8]) -> Option<PartAhead<'a>>
         requires fits { Fits catalogue.now self.now }
         requires outside { self.now.inside ≡ false }
-        ensures { IfSome result (λ part. IsPartAhead catalogue.now self.now octets.now part) }
+        ensures ahead { IfSome result (λ part. IsPartAhead catalogue.now self.now part) }
+        ensures octets { IfSome result (λ part. part.octets.now ≡ octets.now) }
     {
         let depth = self.outer.len();
         if depth == 0 || !self.carry.is_empty() {
@@ -187,6 +159,7 @@ impl Decoder {
         };
         match whole_number(catalogue, self.order, self.at, of, octets) {
             Some((count, number)) => Some(PartAhead {
+                octets,
                 of,
                 frame: self.outer[depth - 1],
                 prim,
@@ -202,33 +175,22 @@ impl Decoder {
     fn take_part<O: Out>(
         &mut self,
         catalogue: &Catalogue,
-        octets: &[u8],
-        part: PartAhead,
+        part: PartAhead<'_>,
         next: TypeId,
         front: &[u8],
         out: &mut O,
     ) -> Result<(usize, Progress), OutFault>
         requires fits { Fits catalogue.now self.old }
         requires body { is_header_root self.old.root ≡ false }
-        requires ahead { IsPartAhead catalogue.now self.old octets.now part }
+        requires ahead { IsPartAhead catalogue.now self.old part }
         requires next { IsNextNumber catalogue.now part.frame next }
         requires front { front.now ≡ front_text catalogue.now self.old }
         requires short { length front.now ≤ 128 }
-        ensures writes { (T : Ty) (order : ByteOrder) (at message : ℕ) (root : PathRoot)
-            (s : List ℕ) →
-            Reads catalogue.now T order at message root self.old s →
-            WritesRun result T order at message root s octets.now (O.log out.old) (O.log out.new) }
-        ensures takes { IfOk result (λ taken. (T : Ty) (order : ByteOrder) (at message : ℕ)
-            (root : PathRoot) (s : List ℕ) →
-            Reads catalogue.now T order at message root self.old s →
-            TakesRun catalogue.now T order at message root self.new s
-            (take taken.0 octets.now) Progress.More) }
-        ensures within { IfOk result (λ taken. taken.0 ≤ length octets.now) }
-        ensures fits { OnOk result (Fits catalogue.now self.new) }
-        ensures some { IfOk result (λ taken. 0 < taken.0) }
-        ensures next { OnOk result (IsAtNext catalogue.now self.old self.new part next) }
+        ensures takes { TakesSome catalogue.now self.old self.new part.entry.octets.now
+            (O.log out.old) (O.log out.new) result }
+        ensures more { IfOk result (λ taken. taken.1 ≡ Progress.More) }
+        ensures next { OnOk result (IsAtNext catalogue.now self.old self.new part.entry next) }
     {
-        let _octets = octets;
         part_line(catalogue, part, front, out)?;
         self.at = further(self.at, part.count);
         go_to_next(&mut self.outer);
@@ -242,49 +204,40 @@ impl Decoder {
     fn take_last<O: Out>(
         &mut self,
         catalogue: &Catalogue,
-        octets: &[u8],
-        part: PartAhead,
+        part: PartAhead<'_>,
         front: &[u8],
         out: &mut O,
     ) -> Result<(usize, Progress), OutFault>
         requires fits { Fits catalogue.now self.old }
         requires body { is_header_root self.old.root ≡ false }
-        requires ahead { IsPartAhead catalogue.now self.old octets.now part }
+        requires ahead { IsPartAhead catalogue.now self.old part }
         requires front { front.now ≡ front_text catalogue.now self.old }
         requires short { length front.now ≤ 128 }
-        ensures writes { (T : Ty) (order : ByteOrder) (at message : ℕ) (root : PathRoot)
-            (s : List ℕ) →
-            Reads catalogue.now T order at message root self.old s →
-            WritesRun result T order at message root s octets.now (O.log out.old) (O.log out.new) }
-        ensures takes { IfOk result (λ taken. (T : Ty) (order : ByteOrder) (at message : ℕ)
-            (root : PathRoot) (s : List ℕ) →
-            Reads catalogue.now T order at message root self.old s →
-            TakesRun catalogue.now T order at message root self.new s
-            (take taken.0 octets.now) taken.1) }
-        ensures within { IfOk result (λ taken. taken.0 ≤ length octets.now) }
-        ensures some { IfOk result (λ taken. 0 < taken.0) }
-        ensures fits { IfOk result (λ taken. GoesOn taken.1 → Fits catalogue.now self.new) }
-        ensures done { IfOk result (λ taken. taken.1 ≡ Progress.Done → IsDone self.new) }
+        ensures { TakesSome catalogue.now self.old self.new part.entry.octets.now
+            (O.log out.old) (O.log out.new) result }
     {
-        let _octets = octets;
         part_line(catalogue, part, front, out)?;
         self.at = further(self.at, part.count - 1);
-        let step = Step {
-            transition: Transition::Ended,
-            output: Output::Number(part.number),
+        let ahead = Lookahead {
+            of: part.of,
+            count: part.count,
+            step: Step {
+                transition: Transition::Ended,
+                output: Output::Number(part.number),
+            },
+            rest: &[],
         };
-        let progress = self.pass(catalogue, part.of, step, &[], true);
+        let progress = self.pass(catalogue, ahead, true);
         Ok((part.count, progress))
     }
 
     /// The type of the part that follows that number, where that is a primitive.
     #[inline(always)]
-    fn next_number(&self, catalogue: &Catalogue, octets: &[u8], part: PartAhead) -> Option<TypeId>
+    fn next_number(&self, catalogue: &Catalogue, part: PartAhead<'_>) -> Option<TypeId>
         requires fits { Fits catalogue.now self.now }
-        requires ahead { IsPartAhead catalogue.now self.now octets.now part }
-        ensures { IfSome result (λ next. IsNextNumber catalogue.now part.frame next) }
+        requires ahead { IsPartAhead catalogue.now self.now part }
+        ensures { IfSome result (λ next. IsNextNumber catalogue.now part.entry.frame next) }
     {
-        let _octets = octets;
         let frame = part.frame;
         if frame.index >= frame.count.saturating_sub(1) {
             return None;
@@ -301,7 +254,7 @@ impl Decoder {
 #[inline(always)]
 fn part_line<O: Out>(
     catalogue: &Catalogue,
-    part: PartAhead,
+    part: PartAhead<'_>,
     front: &[u8],
     out: &mut O,
 ) -> Result<(), OutFault>
@@ -309,8 +262,9 @@ fn part_line<O: Out>(
     requires short { length front.now ≤ 128 }
     ensures { (message : ℕ) (place : List ℕ) → front.now ≡ headed message place [] →
         Writes result (O.log out.old) (O.log out.new) (kind_line message
-        (place ++ segment_text (segment_in (open_part catalogue.now 0 part.frame)))
-        (spaced (kind_word part.prim)) (number_text (size_of part.prim) part.number)) }
+        (place ++ segment_text (segment_in (open_part catalogue.now 0 part.entry.frame)))
+        (spaced (kind_word part.entry.prim))
+        (number_text (size_of part.entry.prim) part.entry.number)) }
 {
     let mut line = Line::new();
     put_number_end(&mut line, part.prim, part.number);

@@ -4,7 +4,7 @@ ghost use Rattle.std.specs.Prelude.{◌≡◌, ℕ, ◌+◌, ◌-◌, ◌%◌, �
 ghost use Rattle.giop_cdr.specs.declared.order.Order.{Order as ByteOrder};
 ghost use Rattle.giop_decode.specs.DecoderState.{Fits, GoesOn, IsDone, Reads};
 ghost use Rattle.giop_decode.specs.NotingSteps.{IsPlain};
-ghost use Rattle.giop_decode.specs.Runs.{TakesRun, WritesRun, AllGathered, TakenTogether};
+ghost use Rattle.giop_decode.specs.Runs.{TakesRun, TakesSome, WritesRun, AllGathered, TakenTogether};
 ghost use Rattle.giop_decode.specs.Transitions.{HaveOctetsLeft, coding_by, ticked_by};
 ghost use Rattle.giop_print.specs.declared.path.Root.{Root as PathRoot};
 ghost use Rattle.giop_sig.specs.Trees.{tree};
@@ -71,25 +71,15 @@ impl Decoder {
     ) -> Result<(usize, Progress), OutFault>
         requires fits { Fits catalogue.now self.old }
         requires some { 0 < length octets.now }
-        ensures writes { (T : Ty) (order : ByteOrder) (at message : ℕ) (root : PathRoot)
-            (s : List ℕ) →
-            Reads catalogue.now T order at message root self.old s →
-            WritesRun result T order at message root s octets.now (O.log out.old) (O.log out.new) }
-        ensures takes { IfOk result (λ taken. (T : Ty) (order : ByteOrder) (at message : ℕ)
-            (root : PathRoot) (s : List ℕ) →
-            Reads catalogue.now T order at message root self.old s →
-            TakesRun catalogue.now T order at message root self.new s
-            (take taken.0 octets.now) taken.1) }
-        ensures within { IfOk result (λ taken. taken.0 ≤ length octets.now) }
-        ensures some { IfOk result (λ taken. 0 < taken.0) }
-        ensures fits { IfOk result (λ taken. GoesOn taken.1 → Fits catalogue.now self.new) }
-        ensures done { IfOk result (λ taken. taken.1 ≡ Progress.Done → IsDone self.new) }
+        ensures { TakesSome catalogue.now self.old self.new octets.now
+            (O.log out.old) (O.log out.new) result }
     {
         if self.inside {
             return self.take_one(catalogue, octets, out);
         }
-        let Some(ahead) = self.number_ahead(catalogue, self.order, self.at, octets) else {
-            return self.take_other(catalogue, self.order, self.at, octets, out);
+        let coded = (self.order, self.at);
+        let Some(ahead) = self.number_ahead(catalogue, coded, octets) else {
+            return self.take_other(catalogue, coded, octets, out);
         };
         if self.has_parts(octets) {
             return self.take_parts(catalogue, octets, out);
@@ -107,25 +97,14 @@ impl Decoder {
     ) -> Result<(usize, Progress), OutFault>
         requires fits { Fits catalogue.now self.old }
         requires some { 0 < length octets.now }
-        ensures writes { (T : Ty) (order : ByteOrder) (at message : ℕ) (root : PathRoot)
-            (s : List ℕ) →
-            Reads catalogue.now T order at message root self.old s →
-            WritesRun result T order at message root s octets.now (O.log out.old) (O.log out.new) }
-        ensures takes { IfOk result (λ taken. (T : Ty) (order : ByteOrder) (at message : ℕ)
-            (root : PathRoot) (s : List ℕ) →
-            Reads catalogue.now T order at message root self.old s →
-            TakesRun catalogue.now T order at message root self.new s
-            (take taken.0 octets.now) taken.1) }
-        ensures within { IfOk result (λ taken. taken.0 ≤ length octets.now) }
-        ensures some { IfOk result (λ taken. 0 < taken.0) }
-        ensures fits { IfOk result (λ taken. GoesOn taken.1 → Fits catalogue.now self.new) }
-        ensures done { IfOk result (λ taken. taken.1 ≡ Progress.Done → IsDone self.new) }
+        ensures { TakesSome catalogue.now self.old self.new octets.now
+            (O.log out.old) (O.log out.new) result }
     {
-        let (order, at) = coding(self.inside, self.order, self.at, self.outer.as_slice());
+        let coded = coding(self.inside, self.order, self.at, self.outer.as_slice());
         let near = up_to_end(self.inside, self.outer.as_slice(), octets);
-        match self.number_ahead(catalogue, order, at, near) {
+        match self.number_ahead(catalogue, coded, near) {
             Some(ahead) => self.take_ahead(catalogue, near, ahead, true, out),
-            None => self.take_other(catalogue, order, at, near, out),
+            None => self.take_other(catalogue, coded, near, out),
         }
     }
 
@@ -135,28 +114,16 @@ impl Decoder {
     fn take_other<O: Out>(
         &mut self,
         catalogue: &Catalogue,
-        order: Order,
-        at: u8,
+        coded: (Order, u8),
         octets: &[u8],
         out: &mut O,
     ) -> Result<(usize, Progress), OutFault>
         requires fits { Fits catalogue.now self.old }
-        requires coded { coding_by self.old.order self.old.at self.old.outer.items ≡ (order, at) }
+        requires coded { coding_by self.old.order self.old.at self.old.outer.items ≡ coded }
         requires ahead { HaveOctetsLeft (ticked_by (length octets.now - 1) self.old.outer.items) }
         requires some { 0 < length octets.now }
-        ensures writes { (T : Ty) (order : ByteOrder) (at message : ℕ) (root : PathRoot)
-            (s : List ℕ) →
-            Reads catalogue.now T order at message root self.old s →
-            WritesRun result T order at message root s octets.now (O.log out.old) (O.log out.new) }
-        ensures takes { IfOk result (λ taken. (T : Ty) (order : ByteOrder) (at message : ℕ)
-            (root : PathRoot) (s : List ℕ) →
-            Reads catalogue.now T order at message root self.old s →
-            TakesRun catalogue.now T order at message root self.new s
-            (take taken.0 octets.now) taken.1) }
-        ensures within { IfOk result (λ taken. taken.0 ≤ length octets.now) }
-        ensures some { IfOk result (λ taken. 0 < taken.0) }
-        ensures fits { IfOk result (λ taken. GoesOn taken.1 → Fits catalogue.now self.new) }
-        ensures done { IfOk result (λ taken. taken.1 ≡ Progress.Done → IsDone self.new) }
+        ensures { TakesSome catalogue.now self.old self.new octets.now
+            (O.log out.old) (O.log out.new) result }
     {
         if let Some(ahead) = self.piece_ahead(catalogue, octets) {
             return self.take_ahead(catalogue, octets, ahead, false, out);
@@ -164,7 +131,7 @@ impl Decoder {
         if let Some(text) = self.text_ahead(catalogue, octets) {
             return self.take_text(catalogue, octets, text, out);
         }
-        if let Some(ahead) = self.leading_number_ahead(catalogue, order, at, octets) {
+        if let Some(ahead) = self.leading_number_ahead(catalogue, coded, octets) {
             return self.take_ahead(catalogue, octets, ahead, false, out);
         }
         let gathered = self.gather(catalogue, octets);
@@ -190,24 +157,13 @@ impl Decoder {
             ahead.step ahead.rest.now }
         requires plain { IsTrue is_plain →
             IsPlain (tree catalogue.now ahead.of.0) ahead.step.output }
-        ensures writes { (T : Ty) (order : ByteOrder) (at message : ℕ) (root : PathRoot)
-            (s : List ℕ) →
-            Reads catalogue.now T order at message root self.old s →
-            WritesRun result T order at message root s octets.now (O.log out.old) (O.log out.new) }
-        ensures takes { IfOk result (λ taken. (T : Ty) (order : ByteOrder) (at message : ℕ)
-            (root : PathRoot) (s : List ℕ) →
-            Reads catalogue.now T order at message root self.old s →
-            TakesRun catalogue.now T order at message root self.new s
-            (take taken.0 octets.now) taken.1) }
-        ensures within { IfOk result (λ taken. taken.0 ≤ length octets.now) }
-        ensures some { IfOk result (λ taken. 0 < taken.0) }
-        ensures fits { IfOk result (λ taken. GoesOn taken.1 → Fits catalogue.now self.new) }
-        ensures done { IfOk result (λ taken. taken.1 ≡ Progress.Done → IsDone self.new) }
+        ensures { TakesSome catalogue.now self.old self.new octets.now
+            (O.log out.old) (O.log out.new) result }
     {
         let _octets = octets;
         self.at = further(self.at, ahead.count - 1);
         tick_by(self.inside, &mut self.outer, ahead.count - 1);
-        let progress = self.emit(catalogue, ahead.of, ahead.step, ahead.rest, is_plain, out)?;
+        let progress = self.emit(catalogue, ahead, is_plain, out)?;
         Ok((ahead.count, progress))
     }
 

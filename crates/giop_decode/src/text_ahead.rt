@@ -1,15 +1,13 @@
 //! A string that stands whole ahead: its length, and its content with the zero behind it.
 
-ghost use Rattle.std.specs.Prelude.{ℕ, ◌<◌, ◌≤◌, ◌≡◌, List, length, take, IfOk, IfSome};
-ghost use Rattle.giop_cdr.specs.declared.order.Order.{Order as ByteOrder};
-ghost use Rattle.giop_decode.specs.DecoderState.{Fits, GoesOn, IsDone, Reads};
-ghost use Rattle.giop_decode.specs.Runs.{TakesRun, WritesRun};
+ghost use Rattle.std.specs.Prelude.{IfSome};
+ghost use Rattle.giop_decode.specs.DecoderState.{Fits};
+ghost use Rattle.giop_decode.specs.Runs.{TakesSome};
 ghost use Rattle.giop_decode.specs.TextAhead.{IsTextAhead};
-ghost use Rattle.giop_print.specs.declared.path.Root.{Root as PathRoot};
-ghost use Rattle.giop_sig.specs.Types.{Ty};
 
 use crate::decoder::Decoder;
 use crate::leaf::{Leaf, Output, Step, Transition};
+use crate::lookahead::Lookahead;
 use crate::progress::Progress;
 use crate::run::further;
 use giop_print::{Out, OutFault};
@@ -47,7 +45,8 @@ impl Decoder {
         let Shape::Text(_) = catalogue.shape(of) else {
             return None;
         };
-        let Some(length) = self.leading_number_ahead(catalogue, self.order, self.at, octets) else {
+        let coded = (self.order, self.at);
+        let Some(length) = self.leading_number_ahead(catalogue, coded, octets) else {
             return None;
         };
         let Output::Length = length.step.output else {
@@ -86,31 +85,25 @@ impl Decoder {
     ) -> Result<(usize, Progress), OutFault>
         requires fits { Fits catalogue.now self.old }
         requires ahead { IsTextAhead catalogue.now self.old octets.now text }
-        ensures writes { (T : Ty) (order : ByteOrder) (at message : ℕ) (root : PathRoot)
-            (s : List ℕ) →
-            Reads catalogue.now T order at message root self.old s →
-            WritesRun result T order at message root s octets.now (O.log out.old) (O.log out.new) }
-        ensures takes { IfOk result (λ taken. (T : Ty) (order : ByteOrder) (at message : ℕ)
-            (root : PathRoot) (s : List ℕ) →
-            Reads catalogue.now T order at message root self.old s →
-            TakesRun catalogue.now T order at message root self.new s
-            (take taken.0 octets.now) taken.1) }
-        ensures within { IfOk result (λ taken. taken.0 ≤ length octets.now) }
-        ensures some { IfOk result (λ taken. 0 < taken.0) }
-        ensures fits { IfOk result (λ taken. GoesOn taken.1 → Fits catalogue.now self.new) }
-        ensures done { IfOk result (λ taken. taken.1 ≡ Progress.Done → IsDone self.new) }
+        ensures { TakesSome catalogue.now self.old self.new octets.now
+            (O.log out.old) (O.log out.new) result }
     {
         let _octets = octets;
         let last = text.head + text.content.len();
         self.at = further(self.at, last);
-        let step = Step {
-            transition: Transition::Ended,
-            output: Output::Piece {
-                offset: 0,
-                more: false,
+        let ahead = Lookahead {
+            of: text.of,
+            count: text.content.len() + 1,
+            step: Step {
+                transition: Transition::Ended,
+                output: Output::Piece {
+                    offset: 0,
+                    more: false,
+                },
             },
+            rest: text.content,
         };
-        let progress = self.emit(catalogue, text.of, step, text.content, false, out)?;
+        let progress = self.emit(catalogue, ahead, false, out)?;
         Ok((last + 1, progress))
     }
 }

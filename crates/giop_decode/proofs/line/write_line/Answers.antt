@@ -44,7 +44,7 @@ returns-in-Switch g c here at lines h =
     let path = path_in [] (open_parts c.args.catalogue.now here c.args.outer.now) in
     let k = rw c.in-Switch.is at h in
     let f = rw c.switch_type-switch.ensures.tree at c.number_line-in-Switch.ensures in
-    let seg = switch_segment (tree c.args.catalogue.now c.args.of.0) in
+    let seg = switch_segment (tree c.args.catalogue.now c.args.finished.of.0) in
     rw (← said_one c.args.message c.args.root at (path ++ seg ∷ []) _ _ lines
     (switch_at c.args.catalogue.now here c.args.root c.args.outer.now seg) k.1) (f k.0)
 

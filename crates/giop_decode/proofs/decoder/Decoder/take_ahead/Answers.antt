@@ -1,187 +1,46 @@
-use Rattle.std.proofs.Common.{◌≡◌, ◌+◌, ◌-◌, ◌<◌, ◌++◌, take, length, get_or, arith, sym, ◌∙◌, subst, ap}
-use Rattle.giop_decode.proofs.Advancing.{goes, same_some, step_fits}
-use Rattle.giop_decode.proofs.Runs.{text_more, takes_more, breaks_off, writes_broken}
-use Rattle.giop_decode.proofs.Segments.{said_none}
-use Rattle.giop_decode.proofs.Taking.{takes_to, due_is, done}
-use Rattle.giop_decode.proofs.Whole.{around_whole, at_last, before_last, is_at_last, gathered_whole, lines_at, lines_whole, name_whole, keeps_noted_whole, says_at, told_whole}
-use Rattle.giop_decode.specs.DecoderSteps.{decoder_step}
-use Rattle.giop_decode.specs.NameBuffer.{FitsName, string_offset}
-use Rattle.giop_sig.specs.Trees.{tree}
-use Rattle.giop_decode.specs.Runs.{added_lines_of_run, TakesRun}
-use Rattle.giop_decode.specs.Spelling.{lines_text}
-use Rattle.giop_decode.specs.Transitions.{leaf_type, Link}
-use Rattle.giop_print.specs.Output.{Wrote}
-use Rattle.giop_print.proofs.Writing.{wrote-append, wrote-nil}
+use Rattle.giop_decode.proofs.Passing.{last_says, passed_broken, passed_some}
+use Rattle.giop_decode.proofs.Whole.{around_whole, at_last, is_at_last}
 use Rattle.giop_decode.proofs.decoder.Decoder.take_ahead.Goals as goal
+use Rattle.giop_print.specs.Output.{Wrote, WroteFront}
 
 pub emit-requires-clause-around : goal.emit-requires-clause-around
 emit-requires-clause-around g c =
     let a = c.args.ahead in
     let d = c.args.self.now in
-    around_whole c.args.catalogue.now d c.args.octets.now a.of a.count a.step a.rest.now
-    c.requires.fits c.requires.ahead
-    (at_last d c.further-self.result c.tick_by.new.outer)
-    (is_at_last d a.count c.further-self.result c.tick_by.new.outer c.further-self.ensures
-    c.tick_by.ensures.ticked)
+    around_whole c.args.catalogue.now d c.args.octets.now a.of a.count a.step a.rest.now c.requires.fits c.requires.ahead
+    (at_last d c.further-self.result c.tick_by.new.outer) (is_at_last d a.count c.further-self.result c.tick_by.new.outer c.further-self.ensures c.tick_by.ensures.ticked)
 
 pub tick_by-requires-clause-ahead : goal.tick_by-requires-clause-ahead
 tick_by-requires-clause-ahead g c = c.requires.ahead.ahead
 
-pub returns-in_err-progress-clause-writes : goal.returns-in_err-progress-clause-writes
-returns-in_err-progress-clause-writes g c T order at message root s r =
+pub returns-in_err-progress : goal.returns-in_err-progress
+returns-in_err-progress g c =
     let a = c.args.ahead in
     let C = c.args.catalogue.now in
     let d = c.args.self.now in
     let octets = c.args.octets.now in
-    let h = c.requires.ahead in
     let f = c.requires.fits in
+    let h = c.requires.ahead in
     let m = at_last d c.further-self.result c.tick_by.new.outer in
-    let on = is_at_last d a.count c.further-self.result c.tick_by.new.outer c.further-self.ensures
-    c.tick_by.ensures.ticked in
-    let i = a.count - 1 in
-    let b = get_or octets i 0 in
-    let so_far = s ++ take i octets in
-    let here = at + length so_far in
-    let whole = gathered_whole C d octets a.of a.count a.step a.rest.now f h m on in
-    let before = before_last C d octets a.of a.count a.step a.rest.now f h m on in
-    let held = whole.1 T order at message root s r in
-    let k = held.takes.reads (λ fault. fault) in
-    let below : i < length octets = omega (arith, h.some, h.within) in
-    let ls = lines_whole C d octets a.of a.count a.step a.rest.now f h m on here k.offset in
-    let one = rw (
-      ← ls,
-      ← due_is C T order at message root before so_far b whole.0 k,
-      k.same_message,
-      k.same_root,
-    ) at
-    (c.in_err-progress.ensures.writes here (here + 1)
-    (lines_at C d octets a.of a.count a.step a.rest.now f h m on here)
-    (says_at C d octets a.of a.count a.step a.rest.now f h m on here)) in
-    writes_broken c.from_residual.result T order at message root s octets _ _
-    c.from_residual.ensures.0
-    (breaks_off T order at message root s octets i _ _ _ below held.takes.answers
-    (rw (said_none message root _ held.quiet) (wrote-nil _)) one)
+    let on = is_at_last d a.count c.further-self.result c.tick_by.new.outer c.further-self.ensures c.tick_by.ensures.ticked in
+    passed_broken C d octets a.of a.count a.step a.rest.now f h m on c.from_residual.result
+    c.emit.new.self _ _ c.from_residual.ensures.0
+    (last_says C d octets a.of a.count a.step a.rest.now f h m on
+    (WroteFront (g.O.Out.log c.args.out.now) (g.O.Out.log c.emit.new.out))
+    c.in_err-progress.ensures.writes)
 
-pub returns-clause-writes : goal.returns-clause-writes
-returns-clause-writes g c T order at message root s r =
+pub returns : goal.returns
+returns g c =
     let a = c.args.ahead in
     let C = c.args.catalogue.now in
     let d = c.args.self.now in
     let octets = c.args.octets.now in
-    let h = c.requires.ahead in
     let f = c.requires.fits in
-    let m = at_last d c.further-self.result c.tick_by.new.outer in
-    let on = is_at_last d a.count c.further-self.result c.tick_by.new.outer c.further-self.ensures
-    c.tick_by.ensures.ticked in
-    let i = a.count - 1 in
-    let b = get_or octets i 0 in
-    let so_far = s ++ take i octets in
-    let here = at + length so_far in
-    let whole = gathered_whole C d octets a.of a.count a.step a.rest.now f h m on in
-    let before = before_last C d octets a.of a.count a.step a.rest.now f h m on in
-    let held = whole.1 T order at message root s r in
-    let k = held.takes.reads (λ fault. fault) in
-    let below : i < length octets = omega (arith, h.some, h.within) in
-    let all : i + 1 ≡ a.count = omega (arith, h.some) in
-    let ls = lines_whole C d octets a.of a.count a.step a.rest.now f h m on here k.offset in
-    let none : Wrote (g.O.Out.log c.args.out.now) (g.O.Out.log c.args.out.now)
-    (lines_text message root (added_lines_of_run order T at s (take i octets))) =
-    rw (said_none message root _ held.quiet) (wrote-nil _) in
-    let one = rw (
-      ← ls,
-      ← due_is C T order at message root before so_far b whole.0 k,
-      k.same_message,
-      k.same_root,
-    ) at
-    (c.in_ok-progress.ensures.writes here (here + 1)
-    (lines_at C d octets a.of a.count a.step a.rest.now f h m on here)
-    (says_at C d octets a.of a.count a.step a.rest.now f h m on here)) in
-    rw (← all, text_more message root order T at s octets i below) (wrote-append _ _ _ _ _ none one)
-
-pub returns-clause-takes : goal.returns-clause-takes
-returns-clause-takes g c T order at message root s r =
-    let a = c.args.ahead in
-    let C = c.args.catalogue.now in
-    let d = c.args.self.now in
-    let octets = c.args.octets.now in
     let h = c.requires.ahead in
-    let f = c.requires.fits in
     let m = at_last d c.further-self.result c.tick_by.new.outer in
-    let on = is_at_last d a.count c.further-self.result c.tick_by.new.outer c.further-self.ensures
-    c.tick_by.ensures.ticked in
-    let i = a.count - 1 in
-    let b = get_or octets i 0 in
-    let p = c.in_ok-progress.progress in
-    let new = c.emit.new.self in
-    let e = c.in_ok-progress.ensures in
-    let whole = gathered_whole C d octets a.of a.count a.step a.rest.now f h m on in
-    let before = before_last C d octets a.of a.count a.step a.rest.now f h m on in
-    let lines = lines_at C d octets a.of a.count a.step a.rest.now f h m on in
-    let says = says_at C d octets a.of a.count a.step a.rest.now f h m on in
-    let held = whole.1 T order at message root s r in
-    let below : i < length octets = omega (arith, h.some, h.within) in
-    let all : i + 1 ≡ a.count = omega (arith, h.some) in
-    subst (λ n. TakesRun C T order at message root new s (take n octets) p) all
-    (takes_more C T order at message root new s octets i p below held.takes.answers
-    (takes_to C T order at message root before new (s ++ take i octets) b p whole.0 e.order e.root
-    e.message e.here
-    (λ here stands. rw (told_whole C d octets a.of a.count a.step a.rest.now f h m on here stands)
-    (e.steps here (lines here) (says here)))
-    (λ here front stands old. keeps_noted_whole C d octets a.of a.count a.step a.rest.now f h m on
-    new here front stands (e.inside here (lines here))
-    (λ o recalls. e.notes o here (here + 1) (lines here) recalls (says here)) old)
-    (held.takes.reads (λ fault. fault))))
-
-pub returns-clause-fits : goal.returns-clause-fits
-returns-clause-fits g c goes_on =
-    let a = c.args.ahead in
-    let C = c.args.catalogue.now in
-    let d = c.args.self.now in
-    let octets = c.args.octets.now in
-    let h = c.requires.ahead in
-    let f = c.requires.fits in
-    let m = at_last d c.further-self.result c.tick_by.new.outer in
-    let on = is_at_last d a.count c.further-self.result c.tick_by.new.outer c.further-self.ensures
-    c.tick_by.ensures.ticked in
-    let b = get_or octets (a.count - 1) 0 in
-    let new = c.emit.new.self in
-    let e = c.in_ok-progress.ensures in
-    let whole = gathered_whole C d octets a.of a.count a.step a.rest.now f h m on in
-    let before = before_last C d octets a.of a.count a.step a.rest.now f h m on in
-    let g' = whole.0 in
-    let emitted = told_whole C d octets a.of a.count a.step a.rest.now f h m on g'.here g'.stands in
-    let k = goes C new c.in_ok-progress.progress (g'.here + 1) (decoder_step C before g'.here b)
-    (rw emitted (e.steps g'.here (lines_at C d octets a.of a.count a.step a.rest.now f h m on
-    g'.here)
-    (says_at C d octets a.of a.count a.step a.rest.now f h m on g'.here))) goes_on in
-    let next = e.next goes_on in
-    let same = ap leaf_type (same_some g'.leaf h.leaf (sym g'.goes_on ∙ h.goes_on)) ∙ h.same in
-    let link : Link C g'.root m.outer.items c.args.ahead.of.0 =
-    subst (Link C g'.root m.outer.items) same g'.link in
-    step_fits C before new g' b k (e.here g'.here g'.stands) next.ahead next.inside
-    (next.link g'.root k.leaf link k.goes_on) next.known_outer (next.known k.leaf k.goes_on)
-    (next.clean k.leaf k.goes_on)
-    (λ other. let was = rw e.root at other in e.id was ∙ f.id_in_header_only was)
-    (subst (λ r. FitsName r (string_offset (tree C (leaf_type k.leaf)) k.leaf) new.notes.buffer
-    new.notes.name.items) (sym e.root) (name_whole C d octets a.of a.count a.step a.rest.now f h
-    m on g'.here k.leaf new.notes next.going (next.offset k.leaf k.goes_on)
-    (λ o held. e.notes o g'.here (g'.here + 1)
-    (lines_at C d octets a.of a.count a.step a.rest.now f h m on g'.here) held
-    (says_at C d octets a.of a.count a.step a.rest.now f h m on g'.here))))
-
-pub returns-clause-done : goal.returns-clause-done
-returns-clause-done g c is =
-    let a = c.args.ahead in
-    let C = c.args.catalogue.now in
-    let d = c.args.self.now in
-    let octets = c.args.octets.now in
-    let h = c.requires.ahead in
-    let f = c.requires.fits in
-    let m = at_last d c.further-self.result c.tick_by.new.outer in
-    let on = is_at_last d a.count c.further-self.result c.tick_by.new.outer c.further-self.ensures
-    c.tick_by.ensures.ticked in
-    let whole = gathered_whole C d octets a.of a.count a.step a.rest.now f h m on in
-    done C c.emit.new.self c.in_ok-progress.progress (whole.0.here + 1) _
-    (c.in_ok-progress.ensures.steps whole.0.here
-    (lines_at C d octets a.of a.count a.step a.rest.now f h m on whole.0.here)
-    (says_at C d octets a.of a.count a.step a.rest.now f h m on whole.0.here)) is
+    let on = is_at_last d a.count c.further-self.result c.tick_by.new.outer c.further-self.ensures c.tick_by.ensures.ticked in
+    passed_some C d octets a.of a.count a.step a.rest.now f h m on c.emit.new.self
+    c.in_ok-progress.progress c.in_ok-progress.ensures.passes _ _
+    (last_says C d octets a.of a.count a.step a.rest.now f h m on
+    (Wrote (g.O.Out.log c.args.out.now) (g.O.Out.log c.emit.new.out))
+    c.in_ok-progress.ensures.writes)

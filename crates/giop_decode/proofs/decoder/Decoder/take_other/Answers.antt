@@ -1,96 +1,54 @@
 use Rattle.std.proofs.Common.{◌+◌, ◌<◌, ◌++◌, take, length, get_or, arith}
-use Rattle.giop_decode.proofs.Runs.{text_more, takes_more, breaks_off, writes_broken}
-use Rattle.giop_decode.proofs.Segments.{said_none}
-use Rattle.giop_decode.proofs.Taking.{takes_to, due_is, done}
+use Rattle.giop_decode.proofs.SoFar.{gathered_so_far, step_says, taken_some, then_one, then_one_broken}
+use Rattle.giop_decode.proofs.Taking.{takes_to, done}
 use Rattle.giop_decode.proofs.decoder.Decoder.take_other.Goals as goal
-use Rattle.giop_decode.specs.Runs.{added_lines_of_run}
-use Rattle.giop_decode.specs.Spelling.{lines_text}
-use Rattle.giop_print.specs.Output.{Wrote}
-use Rattle.giop_print.proofs.Writing.{wrote-append, wrote-nil}
+use Rattle.giop_print.specs.Output.{Wrote, WroteFront}
 
-pub returns-then-gathered-octets-clause-writes : goal.returns-then-gathered-octets-clause-writes
-returns-then-gathered-octets-clause-writes g c T order at message root s r =
-    let held = c.gather-gathered.ensures.gathers T order at message root s r in
-    rw (said_none message root _ held.quiet) (wrote-nil _)
+pub returns-then-gathered-octets : goal.returns-then-gathered-octets
+returns-then-gathered-octets g c =
+    let e = c.gather-gathered.ensures in
+    taken_some c.args.catalogue.now c.args.self.now c.gather-gathered.new.self c.args.octets.now
+    c.gather-gathered.result _ _
+    (gathered_so_far c.args.catalogue.now c.args.self.now c.gather-gathered.new.self
+    c.args.octets.now c.gather-gathered.result _
+    e.within e.fits e.gathers) (omega (arith, c.if-gathered-octets.true, c.requires.some))
 
-pub returns-then-gathered-octets-clause-takes : goal.returns-then-gathered-octets-clause-takes
-returns-then-gathered-octets-clause-takes g c T order at message root s r =
-    (c.gather-gathered.ensures.gathers T order at message root s r).takes
-
-pub returns-in_err-progress-clause-writes : goal.returns-in_err-progress-clause-writes
-returns-in_err-progress-clause-writes g c T order at message root s r =
+pub returns-in_err-progress : goal.returns-in_err-progress
+returns-in_err-progress g c =
     let C = c.args.catalogue.now in
+    let d = c.args.self.now in
+    let mid = c.gather-gathered.new.self in
     let i = c.gather-gathered.result in
     let octets = c.args.octets.now in
-    let b = get_or octets i 0 in
-    let so_far = s ++ take i octets in
-    let held = c.gather-gathered.ensures.gathers T order at message root s r in
-    let k = held.takes.reads (λ fault. fault) in
-    let below : i < length octets = omega (
-      arith,
-      c.gather-gathered.ensures.within,
-      c.if-gathered-octets.false,
-    ) in
-    let one = rw (
-      k.same_message,
-      k.same_root,
-      ← due_is C T order at message root c.gather-gathered.new.self so_far b
-          c.gather-gathered.ensures.fits k,
-    ) at
-    (c.in_err-progress.ensures.writes (at + length so_far) k.offset) in
-    writes_broken c.from_residual.result T order at message root s octets _ _
-    c.from_residual.ensures.0
-    (breaks_off T order at message root s octets i _ _ _ below held.takes.answers
-    (rw (said_none message root _ held.quiet) (wrote-nil _)) one)
+    let e = c.gather-gathered.ensures in
+    let below : i < length octets = omega (arith, e.within, c.if-gathered-octets.false) in
+    let held = gathered_so_far C d mid octets i (g.O.Out.log c.args.out.now) e.within e.fits
+    e.gathers in
+    then_one_broken C d mid octets i _ _ held c.advance.new.self _ c.from_residual.result
+    c.from_residual.ensures.0 below
+    (step_says C d mid octets i held.fits held.reads (WroteFront (g.O.Out.log c.args.out.now)
+    (g.O.Out.log c.advance.new.out))
+    c.in_err-progress.ensures.writes)
 
-pub returns-clause-writes : goal.returns-clause-writes
-returns-clause-writes g c T order at message root s r =
+pub returns : goal.returns
+returns g c =
     let C = c.args.catalogue.now in
+    let d = c.args.self.now in
+    let mid = c.gather-gathered.new.self in
+    let new = c.advance.new.self in
     let i = c.gather-gathered.result in
     let octets = c.args.octets.now in
-    let b = get_or octets i 0 in
-    let so_far = s ++ take i octets in
-    let held = c.gather-gathered.ensures.gathers T order at message root s r in
-    let k = held.takes.reads (λ fault. fault) in
-    let below : i < length octets = omega (
-      arith,
-      c.gather-gathered.ensures.within,
-      c.if-gathered-octets.false,
-    ) in
-    let none : Wrote (g.O.Out.log c.args.out.now) (g.O.Out.log c.args.out.now)
-    (lines_text message root (added_lines_of_run order T at s (take i octets))) =
-    rw (said_none message root _ held.quiet) (wrote-nil _) in
-    rw (text_more message root order T at s octets i below)
-    (wrote-append _ _ _ _ _ none
-    (rw (
-      due_is C T order at message root c.gather-gathered.new.self so_far b
-          c.gather-gathered.ensures.fits k,
-      ← k.same_message,
-      ← k.same_root,
-    )
-    (c.in_ok-progress.ensures.writes (at + length so_far) k.offset)))
-
-pub returns-clause-takes : goal.returns-clause-takes
-returns-clause-takes g c T order at message root s r =
-    let i = c.gather-gathered.result in
-    let octets = c.args.octets.now in
-    let held = c.gather-gathered.ensures.gathers T order at message root s r in
-    let e = c.in_ok-progress.ensures in
-    let below : i < length octets = omega (
-      arith,
-      c.gather-gathered.ensures.within,
-      c.if-gathered-octets.false,
-    ) in
-    takes_more c.args.catalogue.now T order at message root c.advance.new.self s octets i
-    c.in_ok-progress.progress
-    below held.takes.answers
-    (takes_to c.args.catalogue.now T order at message root c.gather-gathered.new.self
-    c.advance.new.self (s ++ take i octets) (get_or octets i 0)
-    c.in_ok-progress.progress c.gather-gathered.ensures.fits e.order e.root e.message e.here e.steps
-    e.keeps_noted (held.takes.reads (λ fault. fault)))
-
-pub returns-clause-done : goal.returns-clause-done
-returns-clause-done g c is =
     let f = c.gather-gathered.ensures.fits in
-    done c.args.catalogue.now c.advance.new.self c.in_ok-progress.progress (f.here + 1) _
-    (c.in_ok-progress.ensures.steps f.here f.stands) is
+    let e = c.in_ok-progress.ensures in
+    let p = c.in_ok-progress.progress in
+    let below : i < length octets = omega (arith, c.gather-gathered.ensures.within, c.if-gathered-octets.false) in
+    let held = gathered_so_far C d mid octets i (g.O.Out.log c.args.out.now)
+    c.gather-gathered.ensures.within f c.gather-gathered.ensures.gathers in
+    then_one C d mid octets i _ _ held new _ p below
+    (λ T order at message root s r.
+    takes_to C T order at message root mid new (s ++ take i octets) (get_or octets i 0) p f e.order
+    e.root e.message e.here e.steps e.keeps_noted
+    (held.reads T order at message root s r))
+    (step_says C d mid octets i held.fits held.reads (Wrote (g.O.Out.log c.args.out.now)
+    (g.O.Out.log c.advance.new.out)) e.writes)
+    e.fits (done C new p (f.here + 1) _ (e.steps f.here f.stands))

@@ -1,189 +1,87 @@
-use Rattle.std.proofs.Common.{ℕ, List, ◌+◌, ◌++◌, take, drop, take-add, refl, sym, ◌∙◌, ap, subst, append-nil, length-drop, arith}
-use Rattle.std.proofs.lemmas.List.{take-append-drop}
-use Rattle.giop_cdr.specs.declared.order.Order.{Order}
-use Rattle.giop_decode.specs.declared.progress.Progress.TheVariants as progress
-use Rattle.giop_decode.specs.DecoderState.{Reads}
+use Rattle.std.proofs.Common.{arith, sym, ◌∙◌, ap}
 use Rattle.giop_decode.specs.Noted.{is_header_root}
-use Rattle.giop_decode.specs.Runs.{TakesRun, BreaksOff}
 use Rattle.giop_decode.proofs.NextParts.{front_kept}
-use Rattle.giop_decode.proofs.Runs.{text_none, text_both, takes_both, breaks_both, writes_broken}
+use Rattle.giop_decode.proofs.SoFar.{none_taken, so_far, taken_some, then_broken, then_some}
 use Rattle.giop_decode.proofs.decoder.Decoder.take_several.Goals as goal
-use Rattle.giop_print.proofs.Writing.{rest_from, wrote-append, wrote-nil}
-use Rattle.giop_print.specs.declared.path.Root.{Root}
-use Rattle.giop_sig.specs.Types.{Ty}
+use Rattle.giop_print.proofs.Writing.{rest_from}
 
 pub loop-part-init : goal.loop-part-init
 loop-part-init g c =
     record {
+      so_far = none_taken c.args.catalogue.now c.args.self.now c.args.octets.now _ c.requires.fits;
       within = omega arith;
-      fits = c.requires.fits;
       body = c.requires.body;
       outside = c.requires.outside;
       front = c.requires.front;
       short = c.requires.short;
-      reads = λ T order at message root s r.
-          subst (Reads c.args.catalogue.now T order at message root c.args.self.now)
-          (sym (append-nil s)) r;
-      answers = λ T order at message root s r. refl;
-      text = λ T order at message root s r. rw (text_none message root order T at s) (wrote-nil _);
     }
 
-pub returns-in_err-count-clause-writes : goal.returns-in_err-count-clause-writes
-returns-in_err-count-clause-writes g c T order at message root s r =
+pub returns-in_err-count : goal.returns-in_err-count
+returns-in_err-count g c =
     let t = c.loop-part.taken in
     let octets = c.args.octets.now in
-    let before = c.loop-part.invariant in
-    let broke = rw (rest_from t octets) at
-    (c.in_err-count.ensures.writes T order at message root (s ++ take t octets)
-    (before.reads T order at message root s r)) in
-    writes_broken c.from_residual-in_err-count.result T order at message root s octets _ _
-    c.from_residual-in_err-count.ensures.0
-    (subst (λ xs. BreaksOff T order at message root s xs (g.O.Out.log c.args.out.now)
-    (g.O.Out.log c.take_part.new.out)) (take-append-drop t octets)
-    (breaks_both T order at message root s (take t octets) (drop t octets) _ _ _
-    (before.answers T order at message root s r)
-    (before.text T order at message root s r) broke))
+    then_broken c.args.catalogue.now c.args.self.now c.loop-part.self octets t _ _
+    c.loop-part.invariant.so_far c.take_part.new.self _
+    c.from_residual-in_err-count.result _ c.from_residual-in_err-count.ensures.0
+    (rw (c.in-Some.ensures.octets, rest_from t octets) at c.in_err-count.ensures.takes)
 
 pub loop-part-preserved : goal.loop-part-preserved
 loop-part-preserved g c =
     let t = c.loop-part.taken in
-    let n = c.in_ok-count.count in
     let octets = c.args.octets.now in
     let before = c.loop-part.invariant in
     let next = c.in_ok-count.ensures.next in
-    let runs : (T : Ty) (order : Order) (at message : ℕ) (root : Root) (s : List ℕ) →
-    Reads c.args.catalogue.now T order at message root c.args.self.now s →
-    TakesRun c.args.catalogue.now T order at message root c.take_part.new.self s
-    (take (t + n) octets) progress.More =
-    λ T order at message root s r.
-    let now = rw (rest_from t octets) at
-    (c.in_ok-count.ensures.takes T order at message root (s ++ take t octets)
-    (before.reads T order at message root s r)) in
-    rw (take-add t n octets)
-    (takes_both c.args.catalogue.now T order at message root c.take_part.new.self s (take t octets)
-    (take n (drop t octets))
-    progress.More (before.answers T order at message root s r) now) in
-    let l = length-drop t octets in
-    let within = rw (rest_from t octets) at c.in_ok-count.ensures.within in
+    let then = so_far c.args.catalogue.now c.args.self.now c.take_part.new.self octets _ _ _ _
+    c.in_ok-count.ensures.more
+    (then_some c.args.catalogue.now c.args.self.now c.loop-part.self octets t _ _ before.so_far
+    c.take_part.new.self _ c.in_ok-count.count _
+    (rw (c.in-Some.ensures.octets, rest_from t octets) at c.in_ok-count.ensures.takes)) in
     record {
-      within = omega (arith, l, within, before.within);
-      fits = c.in_ok-count.ensures.fits;
+      so_far = then;
+      within = then.within;
       body = ap is_header_root next.root ∙ before.body;
       outside = next.inside ∙ before.outside;
-      front = before.front ∙ sym (front_kept c.args.catalogue.now c.loop-part.self
-          c.take_part.new.self c.in-Some.part c.in-Some-next_number.next next);
+      front = before.front ∙ sym (front_kept c.args.catalogue.now c.loop-part.self c.take_part.new.self c.in-Some.part c.in-Some-next_number.next next);
       short = before.short;
-      reads = λ T order at message root s r.
-          (runs T order at message root s r).reads (λ fault. fault);
-      answers = λ T order at message root s r. (runs T order at message root s r).answers;
-      text = λ T order at message root s r.
-          let now = rw (rest_from t octets) at
-          (c.in_ok-count.ensures.writes T order at message root (s ++ take t octets)
-          (before.reads T order at message root s r)) in
-          rw (
-            take-add t n octets,
-            text_both message root order T at s (take t octets)
-                (take n (drop t octets)),
-          )
-          (wrote-append _ _ _ _ _ (before.text T order at message root s r) now);
     }
 
-pub returns-in_err-last-clause-writes : goal.returns-in_err-last-clause-writes
-returns-in_err-last-clause-writes g c T order at message root s r =
+pub returns-in_err-last : goal.returns-in_err-last
+returns-in_err-last g c =
     let t = c.loop-part.taken in
     let octets = c.args.octets.now in
-    let before = c.loop-part.invariant in
-    let broke = rw (rest_from t octets) at
-    (c.in_err-last.ensures.writes T order at message root (s ++ take t octets)
-    (before.reads T order at message root s r)) in
-    writes_broken c.from_residual.result T order at message root s octets _ _
-    c.from_residual.ensures.0
-    (subst (λ xs. BreaksOff T order at message root s xs (g.O.Out.log c.args.out.now)
-    (g.O.Out.log c.take_last.new.out)) (take-append-drop t octets)
-    (breaks_both T order at message root s (take t octets) (drop t octets) _ _ _
-    (before.answers T order at message root s r)
-    (before.text T order at message root s r) broke))
+    then_broken c.args.catalogue.now c.args.self.now c.loop-part.self octets t _ _
+    c.loop-part.invariant.so_far c.take_last.new.self _
+    c.from_residual.result _ c.from_residual.ensures.0
+    (rw (c.in-Some.ensures.octets, rest_from t octets) at c.in_err-last.ensures)
 
-pub returns-in_default-next_number-clause-writes : goal.returns-in_default-next_number-clause-writes
-returns-in_default-next_number-clause-writes g c T order at message root s r =
-    let t = c.loop-part.taken in
-    let n = c.in_ok-last.last in
-    let octets = c.args.octets.now in
-    let before = c.loop-part.invariant in
-    let now = rw (rest_from t octets) at
-    (c.in_ok-last.ensures.writes T order at message root (s ++ take t octets)
-    (before.reads T order at message root s r)) in
-    rw (
-      take-add t n octets,
-      text_both message root order T at s (take t octets)
-          (take n (drop t octets)),
-    )
-    (wrote-append _ _ _ _ _ (before.text T order at message root s r) now)
-
-pub returns-in_default-next_number-clause-takes : goal.returns-in_default-next_number-clause-takes
-returns-in_default-next_number-clause-takes g c T order at message root s r =
-    let t = c.loop-part.taken in
-    let n = c.in_ok-last.last in
-    let octets = c.args.octets.now in
-    let before = c.loop-part.invariant in
-    let now = rw (rest_from t octets) at (c.in_ok-last.ensures.takes T order at message root
-    (s ++ take t octets) (before.reads T order at message root s r)) in
-    rw (take-add t n octets)
-    (takes_both c.args.catalogue.now T order at message root c.take_last.new.self s (take t octets)
-    (take n (drop t octets))
-    c.in_ok-last.progress (before.answers T order at message root s r) now)
-
-pub returns-in_err-rest-clause-writes : goal.returns-in_err-rest-clause-writes
-returns-in_err-rest-clause-writes g c T order at message root s r =
+pub returns-in_default-next_number : goal.returns-in_default-next_number
+returns-in_default-next_number g c =
     let t = c.loop-part.taken in
     let octets = c.args.octets.now in
-    let before = c.loop-part.invariant in
-    let broke = rw (rest_from t octets) at
-    (c.in_err-rest.ensures.writes T order at message root (s ++ take t octets)
-    (before.reads T order at message root s r)) in
-    writes_broken c.from_residual-in_err-rest.result T order at message root s octets _ _
-    c.from_residual-in_err-rest.ensures.0
-    (subst (λ xs. BreaksOff T order at message root s xs (g.O.Out.log c.args.out.now)
-    (g.O.Out.log c.take_one.new.out)) (take-append-drop t octets)
-    (breaks_both T order at message root s (take t octets) (drop t octets) _ _ _
-    (before.answers T order at message root s r)
-    (before.text T order at message root s r) broke))
+    then_some c.args.catalogue.now c.args.self.now c.loop-part.self octets t _ _
+    c.loop-part.invariant.so_far c.take_last.new.self _
+    c.in_ok-last.last c.in_ok-last.progress (rw (c.in-Some.ensures.octets, rest_from t octets) at
+    c.in_ok-last.ensures)
 
-pub returns-clause-writes : goal.returns-clause-writes
-returns-clause-writes g c T order at message root s r =
+pub returns-in_err-rest : goal.returns-in_err-rest
+returns-in_err-rest g c =
     let t = c.loop-part.taken in
-    let n = c.in_ok-rest.rest in
     let octets = c.args.octets.now in
-    let before = c.loop-part.invariant in
-    let now = rw (rest_from t octets) at
-    (c.in_ok-rest.ensures.writes T order at message root (s ++ take t octets)
-    (before.reads T order at message root s r)) in
-    rw (
-      take-add t n octets,
-      text_both message root order T at s (take t octets)
-          (take n (drop t octets)),
-    )
-    (wrote-append _ _ _ _ _ (before.text T order at message root s r) now)
+    then_broken c.args.catalogue.now c.args.self.now c.loop-part.self octets t _ _
+    c.loop-part.invariant.so_far c.take_one.new.self _
+    c.from_residual-in_err-rest.result _ c.from_residual-in_err-rest.ensures.0
+    (rw (rest_from t octets) at c.in_err-rest.ensures)
 
-pub returns-clause-takes : goal.returns-clause-takes
-returns-clause-takes g c T order at message root s r =
+pub returns : goal.returns
+returns g c =
     let t = c.loop-part.taken in
-    let n = c.in_ok-rest.rest in
     let octets = c.args.octets.now in
-    let before = c.loop-part.invariant in
-    let now = rw (rest_from t octets) at (c.in_ok-rest.ensures.takes T order at message root
-    (s ++ take t octets) (before.reads T order at message root s r)) in
-    rw (take-add t n octets)
-    (takes_both c.args.catalogue.now T order at message root c.take_one.new.self s (take t octets)
-    (take n (drop t octets))
-    c.in_ok-rest.progress (before.answers T order at message root s r) now)
+    then_some c.args.catalogue.now c.args.self.now c.loop-part.self octets t _ _
+    c.loop-part.invariant.so_far c.take_one.new.self _
+    c.in_ok-rest.rest c.in_ok-rest.progress (rw (rest_from t octets) at c.in_ok-rest.ensures)
 
-pub returns-then-taken-octets-clause-takes : goal.returns-then-taken-octets-clause-takes
-returns-then-taken-octets-clause-takes g c T order at message root s r =
-    let before = c.loop-part.invariant in
-    let now = before.reads T order at message root s r in
-    record {
-      answers = before.answers T order at message root s r;
-      reads = λ unfaulty. now;
-      keeps_noted = now.keeps_noted;
-    }
+pub returns-then-taken-octets : goal.returns-then-taken-octets
+returns-then-taken-octets g c =
+    taken_some c.args.catalogue.now c.args.self.now c.loop-part.self c.args.octets.now
+    c.loop-part.taken _ _ c.loop-part.invariant.so_far
+    (omega (arith, c.if-taken-octets.true, c.requires.octets))

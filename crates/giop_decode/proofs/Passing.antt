@@ -1,0 +1,121 @@
+-- Octets that are taken together, the last of which is passed: they are taken as a run.
+use Rattle.std.proofs.Common.{◌≡◌, Result, Ok, IsErr, ℕ, ◌+◌, ◌-◌, ◌<◌, List, ◌++◌, length, take, get_or, sym, ◌∙◌, subst, arith}
+use Rattle.giop_cdr.specs.declared.order.Order.{Order}
+use Rattle.giop_decode.specs.declared.decoder.Decoder.{Decoder}
+use Rattle.giop_decode.specs.declared.leaf.Step.{Step}
+use Rattle.giop_decode.specs.declared.progress.Progress.{Progress}
+use Rattle.giop_decode.specs.declared.progress.Progress.TheVariants as progress
+use Rattle.giop_decode.specs.DecoderState.{Fits, GoesOn, IsDone, Reads}
+use Rattle.giop_decode.specs.DecoderSteps.{decoder_step}
+use Rattle.giop_decode.specs.NameBuffer.{FitsName, string_offset}
+use Rattle.giop_decode.specs.Passes.{Gives, Passes}
+use Rattle.giop_decode.specs.ReadResult.{Line}
+use Rattle.giop_decode.specs.Runs.{TakenTogether, TakesSome}
+use Rattle.giop_decode.specs.Spelling.{lines_text}
+use Rattle.giop_decode.specs.Transitions.{Link, leaf_type}
+use Rattle.giop_decode.proofs.Advancing.{goes, step_fits}
+use Rattle.giop_decode.proofs.SoFar.{AllSay, AllTake, TakenSoFar, gathered_so_far, step_says, then_one, then_one_broken}
+use Rattle.giop_decode.proofs.Taking.{done, takes_to}
+use Rattle.giop_decode.proofs.Whole.{IsAtLast, before_last, fits_then, gathered_whole, keeps_noted_whole, lines_at, lines_whole, name_whole, same_type, says_at, told_whole}
+use Rattle.giop_print.specs.Output.{OutLog, Wrote, WroteFront}
+use Rattle.giop_print.specs.declared.path.Root.{Root}
+use Rattle.giop_sig.specs.Types.{Ty}
+use Rattle.giop_sig.specs.Table.{Table}
+use Rattle.giop_sig.specs.Trees.{tree}
+use Rattle.giop_sig.specs.declared.types.TypeId.{TypeId}
+
+-- a decoder before them, and at the last of them
+module _ (C : Table) (d : Decoder) (octets : List ℕ) (of : TypeId) (count : ℕ) (step : Step)
+    (rest : List ℕ) (f : Fits C d) (h : TakenTogether C d octets of count step rest) (m : Decoder)
+    (on : IsAtLast d m count) where
+  abbrev octet : ℕ
+  octet = get_or octets (count - 1) 0
+
+  abbrev before : Decoder
+  before = before_last C d octets of count step rest f h m on
+
+  abbrev lines : ℕ → List Line
+  lines here = lines_at C d octets of count step rest f h m on here
+
+  abbrev says : (here : ℕ) → Gives C m of.0 step rest here (here + 1) (lines here)
+  says here = says_at C d octets of count step rest f h m on here
+
+  abbrev fits_before : Fits C before
+  fits_before = fits_then C d octets of count step rest f h m on
+
+  reads_before : (T : Ty) (order : Order) (at message : ℕ) (root : Root) (s : List ℕ) →
+      Reads C T order at message root d s →
+      Reads C T order at message root before (s ++ take (count - 1) octets)
+  reads_before T order at message root s r =
+      let all = (gathered_whole C d octets of count step rest f h m on).1 in
+      let held = all T order at message root s r in
+      held.takes.reads (λ fault. fault)
+
+  below : count - 1 < length octets
+  below = omega (arith, h.some, h.within)
+
+  -- all but the last
+  pub before_so_far : (a : OutLog) → TakenSoFar C d before octets (count - 1) a a
+  before_so_far a =
+      gathered_so_far C d before octets (count - 1) a (let b = below in omega (arith, b)) fits_before
+      (gathered_whole C d octets of count step rest f h m on).1
+
+  pub last_says : (Says : List ℕ → Type 0) →
+      ((here at : ℕ) (lines : List Line) → Gives C m of.0 step rest here at lines →
+      Says (lines_text m.message m.root lines)) → AllSay C d octets (count - 1) Says
+  last_says Says w =
+      step_says C d before octets (count - 1) fits_before reads_before Says (λ here stands.
+      rw (lines_whole C d octets of count step rest f h m on here stands)
+      (w here (here + 1) (lines here) (says here)))
+
+  module _ (new : Decoder) (p : Progress) (e : Passes C m new of.0 step rest p) where
+    pub last_takes : AllTake C d new octets (count - 1) p
+    last_takes T order at message root s r =
+        takes_to C T order at message root before new (s ++ take (count - 1) octets) octet p
+        fits_before e.order e.root e.message e.here
+        (λ here stands.
+        rw (told_whole C d octets of count step rest f h m on here stands)
+        (e.steps here (lines here) (says here)))
+        (λ here front stands old.
+        keeps_noted_whole C d octets of count step rest f h m on new here front stands
+        (e.inside here (lines here))
+        (λ o held. e.notes o here (here + 1) (lines here) held (says here)) old)
+        (reads_before T order at message root s r)
+
+    pub last_done : p ≡ progress.Done → IsDone new
+    last_done =
+        let g = fits_before in
+        done C new p (g.here + 1) _ (e.steps g.here (lines g.here) (says g.here))
+
+    pub last_fits : GoesOn p → Fits C new
+    last_fits goes_on =
+        let g = fits_before in
+        let told = told_whole C d octets of count step rest f h m on g.here g.stands in
+        let k = goes C new p (g.here + 1) (decoder_step C before g.here octet)
+        (rw told (e.steps g.here (lines g.here) (says g.here))) goes_on in
+        let next = e.next goes_on in
+        let link : Link C g.root m.outer.items of.0 =
+        let same = same_type C d octets of count step rest f h m on in
+        subst (Link C g.root m.outer.items) same g.link in
+        step_fits C before new g octet k (e.here g.here g.stands) next.ahead next.inside
+        (next.link g.root k.leaf link k.goes_on) next.known_outer (next.known k.leaf k.goes_on)
+        (next.clean k.leaf k.goes_on)
+        (λ other. let was = rw e.root at other in e.id was ∙ g.id_in_header_only was)
+        (subst (λ r. FitsName r (string_offset (tree C (leaf_type k.leaf)) k.leaf)
+        new.notes.buffer new.notes.name.items) (sym e.root)
+        (name_whole C d octets of count step rest f h m on g.here k.leaf new.notes next.going
+        (next.offset k.leaf k.goes_on)
+        (λ o held. e.notes o g.here (g.here + 1) (lines g.here) held (says g.here))))
+
+    pub passed_some : {E : Type 0} (a c : OutLog) → AllSay C d octets (count - 1) (Wrote a c) →
+        TakesSome {E = E} C d new octets a c (Ok (count, p))
+    passed_some {E = E} a c said =
+        let all : count - 1 + 1 ≡ count = omega (arith, h.some) in
+        subst (λ n. TakesSome {E = E} C d new octets a c (Ok (n, p))) all
+        (then_one C d before octets (count - 1) a a (before_so_far a) new c p below last_takes said
+        last_fits last_done)
+
+  pub passed_broken : {E : Type 0} (r : Result (ℕ × Progress) E) (new : Decoder) (a c : OutLog) →
+      IsErr r → AllSay C d octets (count - 1) (WroteFront a c) → TakesSome C d new octets a c r
+  passed_broken r new a c is said =
+      then_one_broken C d before octets (count - 1) a a (before_so_far a) new c r is below said
