@@ -97,10 +97,6 @@ def definitions(text: str) -> list[tuple[str, int, int]]:
     return [it for it in found if declared.match(text[it[1] : it[2]].lstrip())]
 
 
-# What is used by nothing yet: public calls that wait for the crate above them.
-AWAITED = frozenset(("gapless_beside", "header_ends_one"))
-
-
 def unused(files: dict[Path, str]) -> list[str]:
     """What stands in the sources, definitions and proofs, and is named nowhere else."""
     uses: dict[str, list[tuple[Path, int]]] = defaultdict(list)
@@ -119,7 +115,7 @@ def unused(files: dict[Path, str]) -> list[str]:
                 for where, at in uses[name]
                 if not imports.search(files[where][files[where].rfind("\n", 0, at) + 1 : at])
             )
-            if not used and name not in AWAITED:
+            if not used:
                 found.append(f"{file.relative_to(TOP)}: nothing uses {name}")
     return found
 

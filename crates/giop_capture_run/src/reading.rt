@@ -28,7 +28,8 @@ fn hand_on<L: PacketListener>(
     ensures handed { (start : L.Start) (p : List ℕ) → Reads capture.old p
         → L.taken to.old start (taken_of p) → IfOk result (λ goes_on.
         HandedWhole goes_on (L.taken to.new start) capture.new p octets.now) }
-    ensures count { OnOk result (octets_of capture.new ≤ octets_of capture.old + length octets.now) }
+    ensures count { OnOk result
+        (octets_of capture.new ≤ octets_of capture.old + length octets.now) }
     ensures cause { OnErr result (L.failed to.new) }
 {
     let mut rest = octets;

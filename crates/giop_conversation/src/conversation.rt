@@ -173,7 +173,8 @@ impl<'a> Conversation<'a> {
             IsReady out.old w → WritesTagged result out.new w (stream_tag (side parity c).stream)
             (closed_lines S parity cause c) }
         ensures totals { (S : Setup) (c : Connection) → HoldsConnection S self.now c →
-            IfOk result (λ t. t ≡ final (rules_in S (side parity c).answers) (side parity c).octets) }
+            IfOk result (λ t.
+            t ≡ final (rules_in S (side parity c).answers) (side parity c).octets) }
     {
         match parity {
             Parity::Even => self.even.close(cause, out),

@@ -309,7 +309,8 @@ fn write_answered<O: Out>(
 /// Writes which exception a Reply raises, where it raises one.
 fn write_raised<O: Out>(raised: Option<Raising>, out: &mut O) -> Result<(), OutFault>
     ensures { Writes result (O.log out.old) (O.log out.new)
-        (raises_due (option_map (λ r. record { message = r.message; name = r.name.items }) raised)) }
+        (raises_due (option_map
+        (λ r. record { message = r.message; name = r.name.items }) raised)) }
 {
     match raised {
         Some(raised) => raises_line(out, raised.message, raised.name.as_slice()),

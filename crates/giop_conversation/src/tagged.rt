@@ -71,7 +71,11 @@ impl<O: Out> Tagged<O> {
 
     /// From now on the tag of each line is this one; a line begins here.
     pub fn set_tag(&mut self, tag: Tag)
-        ensures { self.new ≡ record self.old { tag = tag.items; due = length tag.items; since = 0 } }
+        ensures { self.new ≡ record self.old {
+          tag = tag.items;
+          due = length tag.items;
+          since = 0;
+        } }
     {
         self.due = tag.len();
         self.tag = tag;

@@ -180,7 +180,8 @@ fn push_segment(catalogue: &Catalogue, frame: Frame, path: &mut Path)
     requires known { IsKnown catalogue.now frame }
     requires room { path.old.segments < 24 }
     ensures text { (here : ℕ) →
-        path.new.text ≡ path.old.text ++ segment_text (segment_in (open_part catalogue.now here frame)) }
+        path.new.text ≡ path.old.text ++ segment_text
+        (segment_in (open_part catalogue.now here frame)) }
     ensures segments { path.new.segments ≤ path.old.segments + 1 }
 {
     if frame.inside.is_some() {

@@ -16,10 +16,12 @@ ghost use Rattle.giop_decode.specs.NotedFromLines.{TextPiece, pieces_of, AreUnen
 /// octets behind that front. It has no body, and is called for its contract.
 pub fn reading_laws()
     // One octet more is one step on those parts.
-    ensures step { (coding : Coding) (path : List PathSegment) (T : Ty) (at : ℕ) (s : List ℕ) (b : ℕ) →
+    ensures step { (coding : Coding) (path : List PathSegment) (T : Ty) (at : ℕ) (s : List ℕ)
+        (b : ℕ) →
         read coding path T at (s ++ b ∷ []) ≡ advance coding path (read coding path T at s) b }
     // Many octets more are as many steps: a reading may be left and resumed anywhere.
-    ensures resumption { (coding : Coding) (path : List PathSegment) (T : Ty) (at : ℕ) (s t : List ℕ) →
+    ensures resumption { (coding : Coding) (path : List PathSegment) (T : Ty) (at : ℕ)
+        (s t : List ℕ) →
         read coding path T at (s ++ t) ≡ resumes coding path (read coding path T at s) t }
     // The lines of a longer list begin with those of a shorter.
     ensures lines { (coding : Coding) (path : List PathSegment) (T : Ty) (at : ℕ) (s t : List ℕ) →
@@ -31,10 +33,12 @@ pub fn reading_laws()
         (at b : ℕ) →
         IsOctetResult (at + 1) (step coding path outer leaf at b) }
     // Where each part takes some octet, the parts begun before the first octet are the first ones of their wholes.
-    ensures begins { (d : ℕ) (coding : Coding) (path : List PathSegment) (T : Ty) (at : ℕ) → IsFit d T →
+    ensures begins { (d : ℕ) (coding : Coding) (path : List PathSegment) (T : Ty) (at : ℕ) →
+        IsFit d T →
         read coding path T at [] ≡ Short [] at (start_outer T) (start_leaf T) }
     // The parts begun and not ended fit in the type, each in the one before, and no encapsulation among them has ended,
-    ensures sound { (d : ℕ) (coding : Coding) (path : List PathSegment) (T : Ty) (at : ℕ) (s : List ℕ) →
+    ensures sound { (d : ℕ) (coding : Coding) (path : List PathSegment) (T : Ty) (at : ℕ)
+        (s : List ℕ) →
         IsFit d T →
         Sound T (at + length s) (read coding path T at s) }
     // and a step from any parts that fit, of which no encapsulation has ended, leaves such parts.

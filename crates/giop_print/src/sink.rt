@@ -58,7 +58,8 @@ const GATHERED: usize = 128;
 /// Writes the parts, one after another. Parts that follow each other are gathered, since a put costs more than the
 /// octets of a part.
 pub fn put_parts<O: Out>(out: &mut O, parts: &[&[u8]]) -> Result<(), OutFault>
-    ensures { Writes result (O.log out.old) (O.log out.new) (flat_map (λ part. part.now) parts.now) }
+    ensures { Writes result (O.log out.old) (O.log out.new)
+        (flat_map (λ part. part.now) parts.now) }
 {
     let mut gathered = ArrayVec::<u8, GATHERED>::new();
     for part in parts {

@@ -5,12 +5,12 @@ use Rattle.giop_sig.specs.Table.{Table}
 use Rattle.giop_message.specs.HeaderEnds.{HeaderEnd, AreSilent}
 use Rattle.giop_message.specs.Signatures.{RequestTable, Answers, signatures_of, by_list}
 use Rattle.giop_stream.specs.Rules.{Rules, rules, rules_by}
-use Rattle.giop_stream.specs.HeaderEndsOfStream.{header_ends_at, header_ends_from}
+use Rattle.giop_stream.specs.HeaderEndsOfStream.{header_ends_from}
 use Rattle.giop_message.proofs.MessageLaws.{is_causal}
 use Rattle.giop_stream.specs.EngineHolds.{added}
 use Rattle.giop_stream.proofs.SlotSteps.Parts.{in_turn}
 use Rattle.giop_stream.proofs.StreamLines.MoreOctets as further
-use Rattle.giop_stream.proofs.CodeSteps.HeaderEndSteps.{from_append, from_one}
+use Rattle.giop_stream.proofs.CodeSteps.HeaderEndSteps.{from_append}
 use Rattle.giop_stream.proofs.CodeSteps.QuietOctets as quiet
 
 -- what q and then r add to the text of the stream p
@@ -31,11 +31,6 @@ added_both_by C a most p q r = further.added_both (rules_by C a most)
 pub header_ends_both : (R : Rules) (p q r : List ℕ) →
     header_ends_from R p (q ++ r) ≡ header_ends_from R p q ++ header_ends_from R (p ++ q) r
 header_ends_both R p q r = from_append R q p r
-
--- and in one octet
-pub header_ends_one : (R : Rules) (p : List ℕ) (x : ℕ) →
-    header_ends_from R p (x ∷ []) ≡ header_ends_at R p x
-header_ends_one R p x = from_one R p x
 
 -- what ends last of all that tells nothing of a Reply tells nothing either
 pub silent_behind : (es fs : List HeaderEnd) → AreSilent (es ++ fs) → AreSilent fs

@@ -21,10 +21,9 @@ use Rattle.tcp_streams.specs.Pairs.{compare_pairs, pair_of, opposite, flow_id, f
 use Rattle.tcp_streams.specs.Lives.{lives, elder_side}
 
 -- the ports that are chosen and the blocks of the pool; the pairs that are known, in their order,
--- and the room of each; the
--- rooms that are free, the next one last; of each room the number of its last segment; of each id
--- the flow, from its first
--- stream on; what is held, what has happened, and how many segments came
+-- and the room of each; the rooms that are free, the next one last; of each room the number of its
+-- last segment; of each id the flow, from its first stream on; what is held, what has happened, and
+-- how many segments came
 pub record State : Type 0 where
   pub ports : List ℕ
   pub blocks : ℕ
@@ -157,8 +156,7 @@ is_older w a b =
     nat_lt (get_or w.lasts (room_at w a) 0) (get_or w.lasts (room_at w b) 0)
 
 -- whether the connection at one place makes room rather than that at another: first those without a
--- live stream, then by
--- their last segments
+-- live stream, then by their last segments
 abbrev pub goes_before : State → ℕ → ℕ → Bool
 goes_before w a b =
     cond (is_live w (room_at w a)) (is_live w (room_at w b) && is_older w a b)

@@ -1,6 +1,5 @@
 -- That streams are without a gap: the octets that are delivered between the beginning and the close
--- of one stand one behind
--- another (RFC 9293, Sequence Numbers; meaning).
+-- of one stand one behind another (RFC 9293, Sequence Numbers; meaning).
 use Rattle.std.specs.Prelude.{◌≡◌, ℕ, List, Option, Some, None, slice_get}
 use Rattle.std.specs.List.{AllByRecursion}
 use Rattle.tcp_segment.specs.Segments.{Segment}
@@ -18,8 +17,8 @@ pub record IsOfSegment (segments : List Segment) (p : Payload) : Type 0 where
   pub octets_are : p.octets ≡ segment.payload
 
 -- In each flow a stream begins where none lives, octets come and it closes only while it lives, and
--- octets are at the number that
--- is due what a payload of the flow has there. Each payload is that of a segment that came.
+-- octets are at the number that is due what a payload of the flow has there. Each payload is that
+-- of a segment that came.
 pub record AreGapless (segments : List Segment) (events : List Event) : Type 0 where
   pub payloads : List Payload
   pub came : AllByRecursion (IsOfSegment segments) payloads

@@ -18,8 +18,7 @@ times n [] = 0
 times n (x ∷ xs) = cond (nat_eq x n) 1 0 + times n xs
 
 -- a room is that of one connection, or it is free and has no flow; the pairs are in their order;
--- the blocks suffice for what
--- is held, which is of flows that began and to come
+-- the blocks suffice for what is held, which is of flows that began and to come
 pub record IsSound (w : State) : Type 0 where
   pub some : 1 ≤ length w.lasts
   pub most : length w.lasts ≤ 65536
@@ -54,8 +53,7 @@ state_of c events = record {
 }
 
 -- the code has a state: the listener has observed all that has happened, and the streams that live
--- are those; each live stream
--- of a flow is one of them
+-- are those; each live stream of a flow is one of them
 pub record IsState (O : List Event → Type 0) (streams : List ℕ) (c : Connections) (w : State)
     : Type 0 where
   pub observed : O w.events

@@ -6,7 +6,7 @@ use Rattle.std.proofs.lemmas.Bool.{or_parts, eq-eqb, ne_eqb, eqb-true}
 use Rattle.tcp_waiting.specs.Payload.{Payload, payload, first, blocks_of, has_as_much}
 use Rattle.tcp_waiting.specs.Numbers.{age, rank}
 use Rattle.tcp_flow.specs.Flow.{Flow, Reader, Setting, Arrival, Octets, End, Acknowledged, held_by_others, first_of, left, gone_on, gap, within_bounds, holding, payload_came, fin_came, step}
-use Rattle.tcp_flow.specs.Laws.{AreLater, IsSettled, IsGapless}
+use Rattle.tcp_flow.specs.Laws.{AreLater, IsSettled}
 use Rattle.tcp_flow.proofs.Preserving.{Keeps, gone_on_keeps, gap_keeps, relieved_keeps, missed_keeps}
 use Rattle.tcp_flow.proofs.Room.{Holds, held_keeps, left_flow, first_some}
 
@@ -193,8 +193,3 @@ settled_beside a f held apart e t =
           ∙ ap (λ (ps : List Payload). is_some (first f.id f.next ps)) e
           ∙ first_beside a f.id f.next f.held apart ∙ t.dead d;
     }
-
--- and without a hole
-pub gapless_beside : (payloads : List Payload) (f g : Flow) → IsGapless payloads f →
-    IsGapless payloads g → IsGapless payloads (record f { held = g.held })
-gapless_beside payloads f g t u = record { next = t.next; held = u.held; events = t.events }

@@ -16,9 +16,8 @@ pub data CaptureEvent : Type 0 where
   HasFault : List ℕ → ℕ → CaptureEvent
 
 -- what happens in flows, each by its id: the id stands for the flow between these endpoints from
--- now on, a stream begins at a
--- number, octets are delivered to it, it closes; and what happens in the capture, which whoever
--- reads it tells between segments
+-- now on, a stream begins at a number, octets are delivered to it, it closes; and what happens in
+-- the capture, which whoever reads it tells between segments
 pub data Event : Type 0 where
   Opens : ℕ → endpoints.Flow → Event
   Begins : ℕ → ℕ → Event

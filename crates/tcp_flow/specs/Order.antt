@@ -1,6 +1,5 @@
 -- That the order in which payloads come makes no difference, where they agree on their octets and
--- nothing is given up
--- (meaning).
+-- nothing is given up (meaning).
 use Rattle.std.specs.Prelude.{◌≡◌, ◌⊎◌, ℕ, ◌+◌, ◌<◌, ◌≤◌, ◌^◌, cond, nat_eq, List, [], ◌∷◌, ◌++◌, length, take, drop, is_some, true, false}
 use Rattle.std.specs.List.{AllByRecursion}
 use Rattle.tcp_waiting.specs.Numbers.{onward}
@@ -58,8 +57,8 @@ pub record IsAt (start at : ℕ) (content : List ℕ) (f : Flow) : Type 0 where
   pub waits : is_some (first_of f) ≡ false
 
 -- Of the same payloads, in two orders in which no stream closes, the same is delivered. The content
--- is shorter than half of
--- all sequence numbers, so that none of its octets is taken for one that has come.
+-- is shorter than half of all sequence numbers, so that none of its octets is taken for one that
+-- has come.
 abbrev pub OrderMakesNoDifference : Type 0
 OrderMakesNoDifference =
     (A : Setting) (f : Flow) (start at : ℕ) (content : List ℕ) (ps qs : List Arrival)

@@ -32,7 +32,8 @@ returns-in-Some-clause-again c n p s =
     (λ f xs. (c.in-Ok.parts.0 ≡ f) × (c.in-Ok.parts.1.now ≡ xs)) c.counts_of.result
     c.counts_of.ensures
     c.in-Ok.ensures.again in
-    let limit = limit_is _ p c.args.catalogue.now c.args.requests.now n s c.in-Ok.parts.0 parts.0 in (
+    let limit =
+    limit_is _ p c.args.catalogue.now c.args.requests.now n s c.in-Ok.parts.0 parts.0 in (
       c.in-Some.ensures.most ∙ limit,
       c.in-Some.ensures.again c.args.requests.now n _ p s parts.0
           parts.1,
