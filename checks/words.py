@@ -40,7 +40,7 @@ GIVEN_UP = frozenset(
 """.split()
 )
 
-# How many columns a line of a definition, a clause or a proof may have.
+# How many columns a line may have: of code, which rt fmt sees to, a clause, a definition or a proof.
 WIDEST = 100
 
 # What makes up a program by itself, or is what a worked row says.
@@ -121,12 +121,11 @@ def unused(files: dict[Path, str]) -> list[str]:
 
 
 def wide(files: dict[Path, str]) -> list[str]:
-    """The lines of definitions, clauses and proofs that are too long to be read, without the texts that they quote."""
+    """The lines that are too long to be read, without the texts that they quote: not those that import names."""
     found = []
     for file, text in files.items():
-        clauses = re.compile("[≡≤→∷λ×↔⊎]" if file.suffix == ".rt" else "")
         for at, line in enumerate(text.split("\n"), 1):
-            if len(line) > WIDEST and clauses.search(line) and not re.match(r"\s*(?:pub |ghost )*use ", line):
+            if len(line) > WIDEST and not re.match(r"\s*(?:(?:pub |ghost )*use |#\[)", line):
                 found.append(f"{file.relative_to(TOP)}:{at}: {len(line)} columns")
     return found
 

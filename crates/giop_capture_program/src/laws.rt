@@ -15,12 +15,14 @@ use giop_conversation::each_stream_is_dumped;
 /// `stream`, `time`, `answers`, `raises` and `closed`, are those that `giopdump` writes of the octets that were delivered of the
 /// stream, and of its end where it closes: none goes on behind its close, since streams are without a gap.
 pub fn each_stream_of_a_capture_is_dumped()
-    ensures { (S : Setup) (written : List ℕ) (ports : List ℕ) (blocks most : ℕ) (octets : List ℕ) (d : Dump)
+    ensures { (S : Setup) (written : List ℕ) (ports : List ℕ) (blocks most : ℕ) (octets : List ℕ)
+        (d : Dump)
         → 1 ≤ most → most ≤ 65536
         → (leads : Leads S (start S written)
         (capture_ended reader_faulted (none_known ports blocks most []) octets).events d)
         → ShowsEachStream S written (history S no_history (start S written)
-        (capture_ended reader_faulted (none_known ports blocks most []) octets).events d leads) d.text }
+        (capture_ended reader_faulted (none_known ports blocks most []) octets).events d leads)
+        d.text }
 {
     each_stream_is_dumped();
     no_stream_of_a_capture_has_a_gap();

@@ -93,7 +93,8 @@ impl<'a, O: Out + Drop> Conversations<'a, O> {
         ensures rooms { IfOk result (λ c. vec_len c.rooms ≡ limits.connections) }
         ensures fails { IfOk result (λ c. c.out.failures ≡ 0) }
         ensures told { (written : List ℕ) → (O.log out).written ≡ Some written → IfOk result (λ c.
-            Told (setup catalogue.now limits.messages limits.calls limits.connections) written [] c) }
+            Told (setup catalogue.now limits.messages limits.calls limits.connections) written []
+            c) }
     {
         let mut rooms = Vec::with_capacity(alloc, limits.connections as usize)?;
         for _room in 0..limits.connections {

@@ -107,7 +107,8 @@ impl<'a> Direction<'a> {
         ensures fails { FailsByPut result out.old out.new }
         // Below stands its line with the tag of the stream, or a front of it.
         ensures text { (w : List ℕ) → IsReady out.old w →
-            WritesTagged result out.new w (spec_stream_tag stream) (begin_lines self.old.flow time) }
+            WritesTagged result out.new w (spec_stream_tag stream)
+            (begin_lines self.old.flow time) }
     {
         self.engine.restart();
         self.stream = stream;
@@ -180,7 +181,8 @@ impl<'a> Direction<'a> {
             exchange.old.answered ≡ None → exchange.old.raised ≡ None →
             MatchResult result
             (λ r. HasCome self.new.engine a (p ++ take r.0 octets.now) out.old out.new
-            (stamped (rules_with self.old.engine a) exchange.old p (take r.0 octets.now)) exchange.new
+            (stamped (rules_with self.old.engine a) exchange.old p (take r.0 octets.now))
+            exchange.new
             (exchanged (rules_with self.old.engine a) exchange.old p (take r.0 octets.now)))
             (λ _. WroteFront (tagging_log out.old) (tagging_log out.new)
             (stamped (rules_with self.old.engine a) exchange.old p octets.now)) }

@@ -15,7 +15,8 @@ use giop_stream::answers_agree;
 pub fn lines_stand_below()
     // At first, and whenever a tag is set, the next octet begins a line.
     ensures start { (w : List ℕ) →
-        IsReady (record { whole = Some w; tag = []; due = 0; since = 0; puts = 0; failures = 0 }) w }
+        IsReady (record { whole = Some w; tag = []; due = 0; since = 0; puts = 0; failures = 0 })
+        w }
     ensures again { (t : Tagging) (w tag : List ℕ) → IsReady t w →
         IsReady (record t { tag = tag; due = length tag; since = 0 }) w }
     // Where lines are written, they stand below, each with the tag in front;

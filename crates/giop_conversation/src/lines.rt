@@ -158,7 +158,8 @@ pub fn capture_fault_line<O: Out>(out: &mut O, word: &str, at: u64) -> Result<()
 /// The last line of a capture.
 #[tactic(auto, unfolding(crate::specs::Lines::capture_total_line))]
 pub fn capture_total_line<O: Out>(out: &mut O, totals: CaptureTotals) -> Result<(), OutFault>
-    ensures { Writes result (O.log out.old) (O.log out.new) (capture_total_line totals.streams totals.messages
+    ensures { Writes result (O.log out.old) (O.log out.new)
+        (capture_total_line totals.streams totals.messages
         totals.faults totals.packets totals.octets) }
 {
     let mut streams = Buffer::new();

@@ -173,7 +173,8 @@ fn put_instant(line: &mut Line, passed: u16, days: u16, time: u128)
     requires year { passed < years }
     requires within { days < calendar.days_in_year (1970 + passed) }
     ensures text { line_text line.new ≡ (day_text passed days ++ (codes "T"
-        ++ (clock_text (time / second % 86_400) ++ (codes "." ++ (last_digits 9 (time % second) ++ codes "Z")))))
+        ++ (clock_text (time / second % 86_400)
+        ++ (codes "." ++ (last_digits 9 (time % second) ++ codes "Z")))))
         ++ line_text line.old }
     ensures room { line_room line.old ≤ line_room line.new + 30 }
 {

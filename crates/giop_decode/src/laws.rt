@@ -29,7 +29,8 @@ pub fn reading_laws()
         × (lines_of (read coding path T at (s ++ t)) ≡ lines_of (read coding path T at s) ++ more) }
     // A step has at most one line, which stands at its octet, and none where that breaks a rule of its own value; an
     // octet that only ends an encapsulation too soon has the line of what it completes.
-    ensures prompt { (coding : Coding) (path : List PathSegment) (outer : List OpenPart) (leaf : Leaf)
+    ensures prompt { (coding : Coding) (path : List PathSegment) (outer : List OpenPart)
+        (leaf : Leaf)
         (at b : ℕ) →
         IsOctetResult (at + 1) (step coding path outer leaf at b) }
     // Where each part takes some octet, the parts begun before the first octet are the first ones of their wholes.
@@ -42,7 +43,8 @@ pub fn reading_laws()
         IsFit d T →
         Sound T (at + length s) (read coding path T at s) }
     // and a step from any parts that fit, of which no encapsulation has ended, leaves such parts.
-    ensures kept { (d : ℕ) (coding : Coding) (path : List PathSegment) (T : Ty) (outer : List OpenPart)
+    ensures kept { (d : ℕ) (coding : Coding) (path : List PathSegment) (T : Ty)
+        (outer : List OpenPart)
         (leaf : Leaf) (at b : ℕ) → IsFit d T →
         FitsIn T outer leaf → Surrounds at outer →
         Sound T (at + 1) (step coding path outer leaf at b) }

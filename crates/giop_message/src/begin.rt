@@ -107,7 +107,8 @@ impl Message {
         ensures fits { Fits catalogue.now self.new }
         ensures arrives { (answers : Answers) (number : ℕ) (header s : List ℕ) →
             Arrives catalogue.now answers number header self.old self.new s (body
-            (signatures_of catalogue.now (answers number)) header (body_type catalogue.now body_type_id)
+            (signatures_of catalogue.now (answers number)) header
+            (body_type catalogue.now body_type_id)
             (12 + length s) []) }
     {
         match body_type_id {

@@ -54,7 +54,8 @@ pub fn message_laws()
         (drop (length ((message_reader C answers).reads number header s))
         ((message_reader C answers).reads number header (s ++ more))) }
     ensures closes { (C : Table) (answers : Answers) (number place : ℕ) (header s : List ℕ) →
-        closing_text number place (close (stage_of (message (signatures_of C (answers number)) header s)))
+        closing_text number place (close (stage_of
+        (message (signatures_of C (answers number)) header s)))
         ≡ closes_text number place ((message_reader C answers).closes number header s) }
 {}
 

@@ -52,7 +52,8 @@ impl Position for RequestIdPath {
 
 /// The line of the request id of the message of this number.
 pub fn request_id_line<O: Out>(out: &mut O, number: u64, id: u32) -> Result<(), OutFault>
-    ensures { Writes result (O.log out.old) (O.log out.new) (numbered_line number (request_id_text id)) }
+    ensures { Writes result (O.log out.old) (O.log out.new)
+        (numbered_line number (request_id_text id)) }
 {
     let value = Value::Primitive(Prim::ULong, Number::Unsigned(u64::from(id)));
     value_line(out, number, &RequestIdPath, value)

@@ -46,7 +46,8 @@ fn number_line<O: Out, P: Position>(
     number: Number,
 ) -> Result<(), OutFault>
     ensures { Writes result (O.log out.old) (O.log out.new)
-        (kind_line message (P.spelled path.now) (spaced (kind_word prim)) (number_text (size_of prim) number)) }
+        (kind_line message (P.spelled path.now) (spaced (kind_word prim))
+        (number_text (size_of prim) number)) }
 {
     let mut line = Line::new();
     put_number_end(&mut line, prim, number);
@@ -271,7 +272,8 @@ pub fn content_line<O: Out, P: Position>(
 ) -> Result<(), OutFault>
     requires { length (piece_octets held) + length octets.now ≤ 32 }
     ensures { Writes result (O.log out.old) (O.log out.new)
-        (content_line message (P.spelled path.now) word.now offset (split_text held.entry octets.now) (more_word more)) }
+        (content_line message (P.spelled path.now) word.now offset
+        (split_text held.entry octets.now) (more_word more)) }
 {
     let mut line = Line::new();
     line.put(b'\n');

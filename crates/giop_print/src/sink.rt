@@ -75,7 +75,8 @@ fn gather<O: Out>(
     gathered: &mut ArrayVec<u8, GATHERED>,
     part: &[u8],
 ) -> Result<(), OutFault>
-    ensures { Gathers result (O.log out.old) (O.log out.new) gathered.old.items gathered.new.items part.now }
+    ensures { Gathers result (O.log out.old) (O.log out.new) gathered.old.items gathered.new.items
+        part.now }
 {
     if let [octet] = part {
         if !gathered.is_full() {

@@ -207,7 +207,8 @@ fn params_run<'a>(
     text: &'a [u8],
 ) -> Result<(Vec<PartEntry>, Vec<PartEntry>, &'a [u8]), ParseStop>
     ensures { Gives (λ x. (draft.new, map part_view x.0.items, map part_view x.1.items, x.2.now))
-        result (params_run at 256 (no_parameters (map part_view returned.items)) draft.old text.now) }
+        result (params_run at 256 (no_parameters (map part_view returned.items)) draft.old
+        text.now) }
 {
     let mut parameters = Parameters {
         seen: Vec::new(alloc),

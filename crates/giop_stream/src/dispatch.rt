@@ -35,7 +35,8 @@ fn opens<O: Out>(slots: &mut Slots, now: Current, id: u32, out: &mut O) -> Resul
         IsAtRequestId C l slots.old c m now id →
         is_fragment m.header ≡ false → is_opener m.header ≡ true →
         DoesEffect C l one_if result (O.log out.old) (O.log out.new) slots.new
-        (effects (message_reader C l) c (events_at_request_id slots.old.slots.most c.still_open m)) (Some (message_key m)) }
+        (effects (message_reader C l) c (events_at_request_id slots.old.slots.most c.still_open m))
+        (Some (message_key m)) }
     ensures ready { (C : Table) (n : ℕ) → AreReady C n slots.old → AreReady C n slots.new }
     ensures most { slots.new.slots.most ≡ slots.old.slots.most }
 {
@@ -55,7 +56,8 @@ fn cancels<O: Out>(slots: &mut Slots, now: Current, id: u32, out: &mut O) -> Res
         IsAtRequestId C l slots.old c m now id →
         is_fragment m.header ≡ false → is_opener m.header ≡ false → is_cancel m.header ≡ true →
         DoesEffect C l never result (O.log out.old) (O.log out.new) slots.new
-        (effects (message_reader C l) c (events_at_request_id slots.old.slots.most c.still_open m)) (Some (message_key m)) }
+        (effects (message_reader C l) c (events_at_request_id slots.old.slots.most c.still_open m))
+        (Some (message_key m)) }
     ensures ready { (C : Table) (n : ℕ) → AreReady C n slots.old → AreReady C n slots.new }
     ensures most { slots.new.slots.most ≡ slots.old.slots.most }
 {
@@ -74,7 +76,8 @@ fn fault_unopened<O: Out>(slots: &mut Slots, now: Current, out: &mut O) -> Resul
         IsAtRequestId C l slots.old c m now id →
         is_fragment m.header ≡ true → opener_of c.still_open m ≡ None →
         DoesEffect C l one_if result (O.log out.old) (O.log out.new) slots.new
-        (effects (message_reader C l) c (events_at_request_id slots.old.slots.most c.still_open m)) None }
+        (effects (message_reader C l) c (events_at_request_id slots.old.slots.most c.still_open m))
+        None }
     ensures ready { (C : Table) (n : ℕ) → AreReady C n slots.old → AreReady C n slots.new }
     ensures most { slots.new.slots.most ≡ slots.old.slots.most }
 {
@@ -98,7 +101,8 @@ pub fn passes<O: Out>(
         is_fragment m.header ≡ true → opener_of c.still_open m ≡ Some o →
         slice_get c.still_open k ≡ Some o →
         DoesEffect C l one_if result (O.log out.old) (O.log out.new) slots.new
-        (effects (message_reader C l) c (events_at_request_id slots.old.slots.most c.still_open m)) (Some o.opener) }
+        (effects (message_reader C l) c (events_at_request_id slots.old.slots.most c.still_open m))
+        (Some o.opener) }
     ensures ready { (C : Table) (n : ℕ) → AreReady C n slots.old → AreReady C n slots.new }
     ensures most { slots.new.slots.most ≡ slots.old.slots.most }
 {
@@ -217,7 +221,8 @@ pub fn at_last_octet<O: Out>(
     ensures does { (l : Answers) (c : Tracked) (m : Message) →
         IsAtOctet catalogue.now l slots.old c m now → length m.payload ≡ now.payload_count →
         DoesEffect catalogue.now l one_if result (O.log out.old) (O.log out.new) slots.new
-        (effects (message_reader catalogue.now l) c (end_events c.still_open m)) (owner_after c.still_open m) }
+        (effects (message_reader catalogue.now l) c (end_events c.still_open m))
+        (owner_after c.still_open m) }
     ensures ready { AreReady catalogue.now (now.place + 1) slots.new }
     ensures most { slots.new.slots.most ≡ slots.old.slots.most }
 {
@@ -256,13 +261,15 @@ pub fn octets<O: Out, Q: Correspondent>(
         (owner_header_ends c (owner_of_next c.still_open m) octets.now) →
         (let effect = octets_effect catalogue.now a slots.old.slots.most c m now q x in
         DoesEffect catalogue.now a all result (O.log out.old) (O.log out.new) slots.new
-        effect (owner_after effect.tracked.still_open (with_octet (with_payload m (m.payload ++ q)) x))) }
+        effect (owner_after effect.tracked.still_open
+        (with_octet (with_payload m (m.payload ++ q)) x))) }
     ensures told { IfOk result (λ _. (a : Answers) (c : Tracked) (m : Message) →
         SlotsRepresent catalogue.now a slots.old c (owner_of_next c.still_open m) →
         AgreesAtEnds Q.answer Q.notified catalogue.now (Q.state correspondent.old) a
         (owner_header_ends c (owner_of_next c.still_open m) octets.now) →
         Q.state correspondent.new ≡ after_ends Q.notified catalogue.now
-        (Q.state correspondent.old) (owner_header_ends c (owner_of_next c.still_open m) octets.now)) }
+        (Q.state correspondent.old) (owner_header_ends c (owner_of_next c.still_open m)
+        octets.now)) }
     ensures few { IfOk result (λ faults. faults ≤ 3) }
     ensures ready { OnOk result (AreReady catalogue.now (now.place + 1) slots.new) }
     ensures most { slots.new.slots.most ≡ slots.old.slots.most }

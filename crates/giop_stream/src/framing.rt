@@ -255,7 +255,8 @@ impl Framing {
             (current_header_ends (rules_by catalogue.now a self.old.slots.slots.most)
             r.stream (cut r.stream).current octets.now) →
             Q.state correspondent.new ≡ after_ends Q.notified catalogue.now
-            (Q.state correspondent.old) (current_header_ends (rules_by catalogue.now a self.old.slots.slots.most)
+            (Q.state correspondent.old) (current_header_ends
+            (rules_by catalogue.now a self.old.slots.slots.most)
             r.stream (cut r.stream).current octets.now)) }
         ensures ready { OnOk result
             (AreReady catalogue.now (self.new.totals.octets + 1) self.new.slots) }
@@ -297,7 +298,8 @@ impl Framing {
             (header_ends_at (rules_by catalogue.now a self.old.slots.slots.most)
             r.stream octet) →
             Q.state correspondent.new ≡ after_ends Q.notified catalogue.now
-            (Q.state correspondent.old) (header_ends_at (rules_by catalogue.now a self.old.slots.slots.most)
+            (Q.state correspondent.old) (header_ends_at
+            (rules_by catalogue.now a self.old.slots.slots.most)
             r.stream octet)) }
         ensures ready { OnOk result
             (AreReady catalogue.now (self.new.totals.octets + 1) self.new.slots) }

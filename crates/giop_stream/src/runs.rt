@@ -126,7 +126,8 @@ impl Framing {
             (header_ends_from (rules_by catalogue.now a self.old.slots.slots.most)
             r.stream piece.now) →
             Q.state correspondent.new ≡ after_ends Q.notified catalogue.now
-            (Q.state correspondent.old) (header_ends_from (rules_by catalogue.now a self.old.slots.slots.most)
+            (Q.state correspondent.old) (header_ends_from
+            (rules_by catalogue.now a self.old.slots.slots.most)
             r.stream piece.now)) }
         ensures ready { OnOk result
             (AreReady catalogue.now (self.new.totals.octets + 1) self.new.slots) }

@@ -212,7 +212,8 @@ fn write_message(
 )
     requires room { array_vec_len out.old + 832 ≤ 832 }
     ensures put { (C : Table) → Fits C message.now →
-        IsPutOne out.old.items out.new.items (IsMessageRecord record_kind number header message.now) }
+        IsPutOne out.old.items out.new.items
+        (IsMessageRecord record_kind number header message.now) }
     ensures len { array_vec_len out.new ≤ array_vec_len out.old + 832 }
 {
     let (mut fixed, mut frames) = ([0; 224], [0; 576]);

@@ -281,7 +281,8 @@ impl Slots {
         ensures kept { (C : Table) (l : Answers) (c : Tracked) (w : MessageKey) (place : ℕ) →
             SlotsRepresent C l self.old c (Some w) → IsNotOpen w.number c.still_open →
             w.number ≡ number → w.header ≡ header →
-            SlotsRepresent C l self.new (effect_to C l place c (Some w) (Opens id)).tracked (Some w) }
+            SlotsRepresent C l self.new (effect_to C l place c (Some w) (Opens id)).tracked
+            (Some w) }
         ensures ready { (C : Table) (n : ℕ) → AreReady C n self.old → AreReady C n self.new }
         ensures most { self.new.slots.most ≡ self.old.slots.most }
     {

@@ -26,7 +26,8 @@ pub(crate) struct Waiting {
 impl Waiting {
     fn is_as_much(&self, flow: u32, number: u32, count: usize) -> bool
         ensures { result ≡
-            (nat_eq self.now.flow flow && nat_eq self.now.number number && nat_le count self.now.count) }
+            (nat_eq self.now.flow flow && nat_eq self.now.number number
+            && nat_le count self.now.count) }
     {
         self.flow == flow && self.number == number && count <= self.count
     }
