@@ -1,3 +1,4 @@
+mod Blocks
 mod TimeLemmas
 mod TagLemmas
 mod TaggedLemmas

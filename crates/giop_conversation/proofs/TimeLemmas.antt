@@ -1,11 +1,14 @@
 -- The years and months that days make, and how long a number of seconds is.
-use Rattle.std.proofs.Common.{◌≡◌, ℕ, zero, suc, ◌+◌, ◌-◌, ◌*◌, ◌/◌, ◌^◌, ◌≤◌, ◌<◌, length, decimal, Bool, true, false, nat_le, inl, inr, refl, sym, arith, add-one}
+use Rattle.std.proofs.Common.{◌≡◌, ℕ, zero, suc, ◌+◌, ◌-◌, ◌*◌, ◌/◌, ◌%◌, ◌^◌, ◌≤◌, ◌<◌, List, ◌∷◌, ◌++◌, length, decimal, get_or, codes, nat_lt, Some, subst, Bool, true, false, ◌&&◌, T, eqb, eqb→eq, eq-zero-or-pos, nat_le, inl, inr, refl, sym, arith, add-one}
+use lib.Ieee.Fits.{and_l, and_r}
+use Rattle.giop_conversation.specs.declared.times.TheConstants.{PAIRS}
+use Rattle.httpdate.specs.Text.{two_digits}
 use Rattle.std.proofs.lemmas.Bool.Decides.{nat_tests}
-use Rattle.std.proofs.lemmas.Bool.{cases_lt, leb-true, leb-false}
+use Rattle.std.proofs.lemmas.Bool.{cases_lt, leb-true, leb-false, le-ltb}
 use Rattle.httpdate.specs.Calendar.{days_in_year, days_of_years, days_in_month, days_of_months}
-use Rattle.httpdate.proofs.CalendarLemmas.{days_of_years_closed, days_of_months_all, days_of_months_more}
+use Rattle.httpdate.proofs.CalendarLemmas.{days_of_years_closed, days_of_months_closed}
 use Rattle.std.proofs.lemmas.Fmt.{length-decimal-le_wide}
-use Rattle.giop_conversation.specs.Times.{last_within, years, years_of, months_of, second}
+use Rattle.giop_conversation.specs.Times.{last_within, years, years_of, months_of, last_digits, second, day, time_text}
 
 rises : (f : ℕ → ℕ) → ((n : ℕ) → f n ≤ f (suc n)) → (k more : ℕ) → f k ≤ f (more + k)
 rises f up k zero = let same : zero + k ≡ k = omega arith in rw same (omega arith)
@@ -66,10 +69,6 @@ month_more year n = refl
 pub year_next : (n : ℕ) → days_of_years (n + 1) ≡ days_of_years n + days_in_year (1970 + n)
 year_next n = rw add-one (year_more n)
 
-pub month_next : (year n : ℕ) →
-    days_of_months year (n + 1) ≡ days_of_months year n + days_in_month year (n + 1)
-month_next year n = rw add-one (month_more year n)
-
 -- no year is longer than 366 days
 pub years_short : (n : ℕ) → days_of_years n ≤ 366 * n
 unfolding days_of_years
@@ -80,10 +79,6 @@ years_short (suc n) = grind (arith, nat_tests, years_short n)
 pub years_closed : (n : ℕ) →
     365 * (n + 369) + (n + 369) / 4 - (n + 369) / 100 + (n + 369) / 400 - 134774 ≡ days_of_years n
 years_closed n = omega (arith, days_of_years_closed n)
-
-pub month_none : (year : ℕ) → days_of_months year 0 ≡ 0
-unfolding days_of_months
-month_none year = refl
 
 pub year_found : (days passed left : ℕ) → passed < years → days_of_years passed + left ≡ days →
     left < days_in_year (1970 + passed) →
@@ -111,11 +106,124 @@ month_found year days passed left some is short =
       omega (arith, is),
     )
 
--- what eleven months leave of a year
-pub december : (year days left : ℕ) → days_of_months year 11 + left ≡ days →
-    days < days_in_year year → left < 31
-december year days left is within =
-    omega (arith, is, within, days_of_months_all year, days_of_months_more year 12 (omega arith))
+-- the months before a day of a year, and the days that are left
+pub record IsMonth (year days passed left : ℕ) : Type 0 where
+  pub before : days_of_months year passed + left ≡ days
+  pub short : left < days_in_month year (passed + 1)
+  pub few : passed ≤ 11
+
+-- in January and February
+pub early_month : (year days passed : ℕ) → days < days_in_year year - 306 →
+    passed ≡ (12 * days + 6) / 367 → IsMonth year days passed (days - (367 * passed + 5) / 12)
+early_month year days zero early is =
+    let before = days_of_months_closed year 0 (omega arith) in
+    record { before = grind (arith, before); short = grind arith; few = omega arith }
+early_month year days (suc zero) early is =
+    let before = days_of_months_closed year 1 (omega arith) in
+    record { before = grind (arith, before); short = grind arith; few = omega arith }
+early_month year days (suc (suc passed)) early is = absurd (grind arith)
+
+-- behind them
+pub late_month : (year days even passed : ℕ) → days < days_in_year year →
+    days_in_year year - 306 ≤ days → even ≡ days + 61 - (days_in_year year - 306) →
+    passed ≡ (12 * even + 6) / 367 → IsMonth year days passed (even - (367 * passed + 5) / 12)
+late_month year days even zero within late same is = absurd (grind arith)
+late_month year days even (suc zero) within late same is = absurd (grind arith)
+late_month year days even (suc (suc zero)) within late same is =
+    let before = days_of_months_closed year 2 (omega arith) in
+    record { before = grind (arith, before); short = grind arith; few = omega arith }
+late_month year days even (suc (suc (suc zero))) within late same is =
+    let before = days_of_months_closed year 3 (omega arith) in
+    record { before = grind (arith, before); short = grind arith; few = omega arith }
+late_month year days even (suc (suc (suc (suc zero)))) within late same is =
+    let before = days_of_months_closed year 4 (omega arith) in
+    record { before = grind (arith, before); short = grind arith; few = omega arith }
+late_month year days even (suc (suc (suc (suc (suc zero))))) within late same is =
+    let before = days_of_months_closed year 5 (omega arith) in
+    record { before = grind (arith, before); short = grind arith; few = omega arith }
+late_month year days even (suc (suc (suc (suc (suc (suc zero)))))) within late same is =
+    let before = days_of_months_closed year 6 (omega arith) in
+    record { before = grind (arith, before); short = grind arith; few = omega arith }
+late_month year days even (suc (suc (suc (suc (suc (suc (suc zero))))))) within late same is =
+    let before = days_of_months_closed year 7 (omega arith) in
+    record { before = grind (arith, before); short = grind arith; few = omega arith }
+late_month year days even (suc (suc (suc (suc (suc (suc (suc (suc zero)))))))) within late same is =
+    let before = days_of_months_closed year 8 (omega arith) in
+    record { before = grind (arith, before); short = grind arith; few = omega arith }
+late_month year days even (suc (suc (suc (suc (suc (suc (suc (suc (suc zero)))))))))
+    within late same is =
+    let before = days_of_months_closed year 9 (omega arith) in
+    record { before = grind (arith, before); short = grind arith; few = omega arith }
+late_month year days even (suc (suc (suc (suc (suc (suc (suc (suc (suc (suc zero))))))))))
+    within late same is =
+    let before = days_of_months_closed year 10 (omega arith) in
+    record { before = grind (arith, before); short = grind arith; few = omega arith }
+late_month year days even (suc (suc (suc (suc (suc (suc (suc (suc (suc (suc (suc zero)))))))))))
+    within late same is =
+    let before = days_of_months_closed year 11 (omega arith) in
+    record { before = grind (arith, before); short = grind arith; few = omega arith }
+late_month year days even
+    (suc (suc (suc (suc (suc (suc (suc (suc (suc (suc (suc (suc passed))))))))))))
+    within late same is =
+    absurd (grind arith)
+
+pub month_is : (year days even passed : ℕ) → days < days_in_year year →
+    (days < days_in_year year - 306 → even ≡ days) →
+    (days_in_year year - 306 ≤ days → even ≡ days + 61 - (days_in_year year - 306)) →
+    passed ≡ (12 * even + 6) / 367 → IsMonth year days passed (even - (367 * passed + 5) / 12)
+month_is year days even passed within early late is =
+    elim (cases_lt days (days_in_year year - 306)) [
+      | inl less ↦ let same = early less in
+          subst (λ e. IsMonth year days passed (e - (367 * passed + 5) / 12)) (sym same)
+          (early_month year days passed less (rw same at is))
+      | inr more ↦ late_month year days even passed within more (late more) is
+    ]
+
+-- the two decimal digits of each number stand in a table
+are_pairs : ℕ → Bool
+are_pairs zero = true
+are_pairs (suc n) = (eqb (get_or PAIRS (n * 2) 0) (48 + n / 10)
+    && eqb (get_or PAIRS (n * 2 + 1) 0) (48 + n % 10)) && are_pairs n
+
+pairs_below : (most n : ℕ) → T (are_pairs most) → n < most →
+    (get_or PAIRS (n * 2) 0 ≡ 48 + n / 10) × (get_or PAIRS (n * 2 + 1) 0 ≡ 48 + n % 10)
+unfolding are_pairs
+pairs_below zero n t few = absurd (omega (arith, few))
+pairs_below (suc most) n t few =
+    elim (eq-zero-or-pos (most - n)) [
+      | inl z ↦ let e : n ≡ most = omega (arith, z, few) in let a = and_l _ (are_pairs most) t in
+          rw e (eqb→eq _ _ (and_l _ _ a), eqb→eq _ _ (and_r _ _ a))
+      | inr g ↦ pairs_below most n (and_r _ (are_pairs most) t) (omega (arith, g))
+    ]
+
+pub pair_at : (n : ℕ) → n < 100 →
+    (get_or PAIRS (n * 2) 0 ≡ 48 + n / 10) × (get_or PAIRS (n * 2 + 1) 0 ≡ 48 + n % 10)
+unfolding are_pairs
+pair_at n few = pairs_below 100 n tt few
+
+both : {x y : ℕ} {xs ys : List ℕ} → x ≡ y → xs ≡ ys → x ∷ xs ≡ y ∷ ys
+both first rest = rw first (rw rest refl)
+
+-- nine digits, the last eight of them by twos
+pub nine_digits : (n : ℕ) (text : List ℕ) →
+    (48 + n / 10000 / 10000 % 10) ∷ (two_digits (n / 10000 / 100 % 100)
+    ++ (two_digits (n / 10000 % 100) ++ (two_digits (n % 10000 / 100)
+    ++ (two_digits (n % 10000 % 100) ++ text))))
+    ≡ last_digits 9 n ++ text
+unfolding last_digits
+nine_digits n text =
+    both (omega arith) (both (omega arith) (both (omega arith) (both (omega arith)
+    (both (omega arith) (both (omega arith) (both (omega arith) (both (omega arith)
+    (both (omega arith) refl))))))))
+
+-- no year of four digits is so late
+pub late_text : (n : ℕ) → 18446744073709551616 ≤ n / second → time_text (Some n) ≡ codes "-"
+unfolding time_text
+late_text n late =
+    let last = years_short years in
+    let none : nat_lt (n / day) (days_of_years years) ≡ false =
+    le-ltb (n / day) (days_of_years years) (omega (arith, last, late)) in
+    rw none refl
 
 -- seconds of a span have at most 30 digits
 pub seconds_short : (n : ℕ) → n < 2 ^ 128 → length (decimal (n / second)) ≤ 30

@@ -1,9 +1,14 @@
 -- A line that is put with its whole tag in front, as one text.
-use Rattle.std.proofs.Common.{◌≡◌, ℕ, ◌+◌, ◌-◌, ◌≤◌, ◌<◌, ◌==◌, true, false, List, [], ◌∷◌, ◌++◌, length, take, drop, slice_index, Option, Some, None, refl, sym, ap, ◌∙◌, arith, append-nil, append_assoc, length-append, inl, inr}
+use Rattle.std.proofs.Common.{◌≡◌, ℕ, zero, suc, ◌+◌, ◌-◌, ◌*◌, ◌%◌, ◌^◌, ◌≤◌, ◌<◌, ◌==◌, Bool, true, false, cond, List, [], ◌∷◌, ◌++◌, length, map, take, drop, slice_index, Option, Some, None, refl, sym, ap, ◌∙◌, arith, append-nil, append_assoc, length-append, length-drop, pow-suc, inl, inr}
+use lib.Lanes.{chunk, mask_l, top, zip2}
+use lib.ListN.{replicate}
+use mir.Syntax.{w8}
+use mir.Val.{bits, hbits}
+use Rattle.std.proofs.lemmas.Simd.{bitmask_splat}
 use Rattle.std.proofs.Math.Seq.{take-append-add}
-use Rattle.std.proofs.lemmas.List.{take_all, take-append-le, get_or_push, get_or_append_left}
+use Rattle.std.proofs.lemmas.List.{take_all, take-append-le, get_or-drop, get_or_push, get_or_append_left}
 use Rattle.std.proofs.lemmas.List.Folds.{list_any_at}
-use Rattle.std.proofs.lemmas.Bool.{false_from_ne_true, cases_lt}
+use Rattle.std.proofs.lemmas.Bool.{eqb-true, false_from_ne_true, cases_lt}
 use Rattle.std.specs.List.{list_any}
 use Rattle.std.specs.Io.KnownBytes.{Appends}
 use Rattle.giop_print.specs.Output.{counted, Wrote, WroteFront}
@@ -33,6 +38,64 @@ is_line xs front last is ends none =
             none,
             list_any_at (λ y. y == 10) front k 0 low (rw (is, same) at hit),
           ));
+    }
+
+-- the octets that are LF, as bits of a number
+one_bit : (b : Bool) → cond b 1 0 + 2 * 0 ≡ 1 → b ≡ true
+one_bit true is = refl
+one_bit false is = absurd (omega (arith, is))
+
+no_bit : (b : Bool) (m n : ℕ) → cond b 1 0 + 2 * m ≡ n * 2 → (b ≡ false) × (m ≡ n)
+no_bit true m n is = absurd (omega (arith, is))
+no_bit false m n is = (refl, omega (arith, is))
+
+-- only the last of them is
+pub only_last : (xs : List ℕ) (k : ℕ) → length xs ≡ k + 1 →
+    mask_l (map (λ x. x == 10) xs) ≡ 2 ^ k → IsLine xs
+only_last [] k size bits = absurd (omega (arith, size))
+only_last (x ∷ []) zero size bits =
+    record {
+      some = omega arith;
+      ended = one_bit (x == 10) bits;
+      only = λ k less. absurd (omega (arith, less));
+    }
+only_last (x ∷ []) (suc k) size bits = absurd (omega (arith, size))
+only_last (x ∷ y ∷ ys) zero size bits = absurd (omega (arith, size))
+only_last (x ∷ y ∷ ys) (suc k) size bits =
+    let parts = no_bit (x == 10) (mask_l (map (λ x. x == 10) (y ∷ ys))) (2 ^ k)
+    (rw pow-suc at bits) in
+    let rest = only_last (y ∷ ys) k (omega (arith, size)) parts.1 in
+    let last : length (x ∷ y ∷ ys) - 1 ≡ suc (length (y ∷ ys) - 1) = omega arith in
+    record {
+      some = omega arith;
+      ended = rw last rest.ended;
+      only = none parts.0 rest;
+    }
+  where
+    none : (x == 10) ≡ false → IsLine (y ∷ ys) → (j : ℕ) → j + 1 < length (x ∷ y ∷ ys) →
+        (slice_index (x ∷ y ∷ ys) j == 10) ≡ false
+    none first rest zero less = first
+    none first rest (suc j) less = rest.only j (omega (arith, less))
+
+-- the bits of 64 octets
+pub line_bits : (octets : List ℕ) → length octets ≡ 64 →
+    (mask_l (map (top (hbits w8)) (zip2 (λ a b. cond (a == b) (2 ^ bits w8 - 1) 0)
+    (chunk 0 64 octets) (replicate 64 10))) % 2 ^ 64 == 9223372036854775808) ≡ true → IsLine octets
+line_bits octets size is =
+    let whole : chunk 0 64 octets ≡ octets = take_all 64 octets (omega (arith, size)) in
+    only_last octets 63 size
+    (sym (bitmask_splat w8 (λ a b. a == b) octets 64 10 size (omega arith))
+    ∙ eqb-true _ _ (rw whole at is))
+
+-- the end of a line is one too
+pub line_behind : (xs : List ℕ) (k : ℕ) → IsLine xs → k < length xs → IsLine (drop k xs)
+line_behind xs k l some =
+    let size = length-drop k xs in
+    let last : k + (length (drop k xs) - 1) ≡ length xs - 1 = omega (arith, size, some) in
+    record {
+      some = omega (arith, size, some);
+      ended = rw (get_or-drop k xs (length (drop k xs) - 1) 0, last) l.ended;
+      only = λ j less. rw (get_or-drop k xs j 0) (l.only (k + j) (omega (arith, size, less)));
     }
 
 line_is_whole : (line : List ℕ) → IsLine line → line_size line ≡ length line

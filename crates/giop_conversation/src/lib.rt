@@ -1,7 +1,6 @@
 //! The lines of a capture beside those of its streams, times in them, and lines with the tag of their stream in front.
 #![tactic(auto)]
 
-mod buffer;
 mod conversation;
 mod conversations;
 mod direction;

@@ -1,33 +1,77 @@
 //! The tags of streams: what stands in front of each line of a stream.
 
-ghost use Rattle.std.specs.Prelude.{◌≡◌, []};
+ghost use Rattle.std.specs.Prelude.{◌≡◌, ◌≤◌, ◌-◌, [], length, drop};
 ghost use Rattle.giop_conversation.specs.Tags.{stream_tag};
 
-use crate::buffer::put;
-use arrayvec::ArrayVec;
-use itoa::Buffer;
+use itoa::write_digits;
+use std::marker::Model;
 
 /// Room for the tag of any stream.
-pub const TAG_ROOM: usize = 44;
+const ROOM: usize = 32;
 
-/// What stands in front of a line.
-pub type Tag = ArrayVec<u8, TAG_ROOM>;
+/// How many octets the block at the end of a tag's room has. Most tags are shorter.
+pub(crate) const BLOCK: usize = 16;
+
+/// What stands in front of a line: the last octets of an array, the others are unused.
+#[derive(Drop)]
+pub struct Tag {
+    octets: [u8; ROOM],
+    at: usize,
+    ghost within: { at ≤ 32 },
+}
+
+impl Model for Tag {
+    ghost use Rattle.std.specs.Prelude.{List, ℕ, drop};
+
+    ghost Value = { List ℕ };
+
+    ghost view = { λ t. drop t.at t.octets };
+}
+
+impl Tag {
+    /// The octets of the tag.
+    #[inline]
+    pub(crate) fn as_slice(&self) -> &[u8]
+        ensures { result.now ≡ self.now }
+    {
+        &self.octets[self.at..]
+    }
+
+    /// How many octets the tag has.
+    #[inline]
+    pub(crate) fn len(&self) -> usize
+        ensures { result ≡ length self.now }
+    {
+        ROOM - self.at
+    }
+
+    /// The block at the end of the room, at whose end the tag stands where it isn't longer.
+    #[inline]
+    pub(crate) fn block(&self) -> &[u8]
+        ensures size { length result.now ≡ 16 }
+        ensures tag { length self.now ≤ 16 → drop (16 - length self.now) result.now ≡ self.now }
+    {
+        &self.octets[ROOM - BLOCK..]
+    }
+}
 
 /// No tag: a line stands as it is.
 pub fn no_tag() -> Tag
-    ensures { result.items ≡ [] }
+    ensures { result ≡ [] }
 {
-    ArrayVec::new()
+    Tag {
+        octets: [0; ROOM],
+        at: ROOM,
+    }
 }
 
 /// The tag of a stream, by its number: `s12 `.
 pub fn stream_tag(number: u64) -> Tag
-    ensures { result.items ≡ stream_tag number }
+    ensures { result ≡ stream_tag number }
 {
-    let mut tag = ArrayVec::new();
-    tag.push(b's');
-    let mut digits = Buffer::new();
-    put(&mut tag, digits.format(number).as_bytes());
-    tag.push(b' ');
-    tag
+    let mut octets = [0; ROOM];
+    octets[ROOM - 1] = b' ';
+    let at = write_digits(number, &mut octets, ROOM - 1) - 1;
+    octets[at] = b's';
+    Tag { octets, at }
 }

@@ -6,10 +6,11 @@ ghost use Rattle.giop_print.specs.Line.{line_text, line_room};
 ghost use Rattle.giop_print.specs.Output.{counted};
 ghost use Rattle.giop_conversation.specs.TaggedText.{line_size, due_behind, IsLine, StandsIn, PutSome, PutNothing, PutLine, PutFront};
 
-use crate::tag::{Tag, no_tag};
+use crate::tag::{BLOCK, Tag, no_tag};
 use giop_print::{Line, Out, OutFault};
 use memchr::memchr;
 use std::marker::Model;
+use std::simd::prelude::*;
 
 /// An `Out` with a tag in front of each line, in whatever pieces the lines come. It fails where the out below it does, and
 /// where more than 2^64 - 1 octets would be written since the tag was set.
@@ -32,7 +33,7 @@ impl<O: Out> Model for Tagged<O> {
 
     ghost view = { λ t. record {
       whole = (O.log t.out).written;
-      tag = t.tag.items;
+      tag = t.tag;
       due = t.due;
       since = t.since;
       puts = t.puts;
@@ -41,7 +42,7 @@ impl<O: Out> Model for Tagged<O> {
 
     ghost use Rattle.std.specs.Prelude.{◌≤◌, length};
 
-    ghost invariant = { λ t. t.due ≤ length t.tag.items };
+    ghost invariant = { λ t. t.due ≤ length t.tag };
 }
 
 impl<O: Out> Tagged<O> {
@@ -71,11 +72,7 @@ impl<O: Out> Tagged<O> {
 
     /// From now on the tag of each line is this one; a line begins here.
     pub fn set_tag(&mut self, tag: Tag)
-        ensures { self.new ≡ record self.old {
-          tag = tag.items;
-          due = length tag.items;
-          since = 0;
-        } }
+        ensures { self.new ≡ record self.old { tag = tag; due = length tag; since = 0 } }
     {
         self.due = tag.len();
         self.tag = tag;
@@ -140,10 +137,10 @@ impl<O: Out> Out for Tagged<O> {
     }
 
     fn put_line(&mut self, line: &mut Line) -> Result<(), OutFault> {
-        if !fits_before(self.tag.as_slice(), self.due, self.since, line) {
+        if !fits_before(&self.tag, self.due, self.since, line) {
             return self.put_all(line.text());
         }
-        line.put_octets(self.tag.as_slice());
+        line.put_end(self.tag.block(), self.tag.len());
         let text = line.text();
         let taken = put_most(&mut self.out, text);
         self.since += taken as u64;
@@ -156,23 +153,52 @@ impl<O: Out> Out for Tagged<O> {
     }
 }
 
-/// Whether a whole tag is due, a line has room for it, and the octets that were written can be counted on. The line is
-/// one line, with its end.
-fn fits_before(tag: &[u8], due: usize, since: u64, line: &Line) -> bool
+/// Whether a whole tag is due, it is short, a line has room for it, and the octets that were
+/// written can be counted on. The line is one line, with its end.
+#[inline]
+fn fits_before(tag: &Tag, due: usize, since: u64, line: &Line) -> bool
     ensures some { IsTrue result → 0 < length tag.now }
     ensures whole { IsTrue result → due ≡ length tag.now }
-    ensures room { IsTrue result → length tag.now ≤ line_room line.now }
+    ensures short { IsTrue result → length tag.now ≤ 16 }
+    ensures room { IsTrue result → 16 ≤ line_room line.now }
     ensures line { IsTrue result → IsLine (line_text line.now) }
     ensures counts { IsTrue result → since < 2 ^ 63 }
 {
-    due > 0 && due == tag.len() && due <= line.room() && since < MOST && is_line(line.text())
+    due > 0
+        && due == tag.len()
+        && due <= BLOCK
+        && line.room() >= BLOCK
+        && since < MOST
+        && is_line(line)
 }
 
 /// How many octets are written since the tag was set until a line and its tag are put one after the other.
 const MOST: u64 = 1 << 63;
 
+/// Whether what is spelled is one line with its end. All of a short one is looked at in one step.
+#[inline]
+fn is_line(line: &Line) -> bool
+    ensures { IsTrue result → IsLine (line_text line.now) }
+{
+    match line.room() {
+        192..=255 => only_last_is_end(line.last_octets()),
+        _ => is_long_line(line.text()),
+    }
+}
+
+/// Whether the last of 64 octets is the end of a line, and no other is.
+#[inline]
+fn only_last_is_end(octets: &[u8]) -> bool
+    requires { length octets.now ≡ 64 }
+    ensures { IsTrue result → IsLine octets.now }
+{
+    let ends = u8x64::from_slice(octets).simd_eq(u8x64::splat(b'\n'));
+    ends.to_bitmask() == 1 << 63
+}
+
 /// Whether octets are one line with its end.
-fn is_line(octets: &[u8]) -> bool
+#[inline(never)]
+fn is_long_line(octets: &[u8]) -> bool
     ensures { IsTrue result → IsLine octets.now }
 {
     match octets.split_last() {
@@ -185,8 +211,7 @@ fn is_line(octets: &[u8]) -> bool
 #[inline]
 fn put_most<O: Out>(out: &mut O, octets: &[u8]) -> usize
     ensures within { result ≤ length octets.now }
-    ensures written { Appends (O.log out.old).written (O.log out.new).written
-        (take result octets.now) }
+    ensures written { Appends (O.log out.old).written (O.log out.new).written (take result octets.now) }
 {
     match out.put(octets) {
         Ok(taken) => {
@@ -204,8 +229,7 @@ fn put_most<O: Out>(out: &mut O, octets: &[u8]) -> usize
 #[inline(never)]
 fn put_more<O: Out>(out: &mut O, octets: &[u8]) -> usize
     ensures within { result ≤ length octets.now }
-    ensures written { Appends (O.log out.old).written (O.log out.new).written
-        (take result octets.now) }
+    ensures written { Appends (O.log out.old).written (O.log out.new).written (take result octets.now) }
 {
     let mut at = 0;
     while at < octets.len() {

@@ -3,6 +3,7 @@
 ghost use Rattle.std.specs.Prelude.{◌≡◌, ◌+◌, ◌-◌, ◌/◌, ◌%◌, ◌<◌, ◌≤◌, ◌++◌, length, codes, MatchOption};
 ghost use Rattle.giop_print.specs.Line.{line_text, line_room};
 ghost use Rattle.httpdate.specs.Calendar as calendar;
+ghost use Rattle.httpdate.specs.Text.{two_digits};
 ghost use Rattle.giop_conversation.specs.Times.{years, years_of, months_of, month_and_day, day_text, clock_text, last_digits, instant_text, time_text, seconds_text, span_text, second, day};
 
 use giop_print::Line;
@@ -10,10 +11,16 @@ use itoa::Buffer;
 
 /// Nanoseconds of a second.
 const SECOND: u128 = 1_000_000_000;
-/// Nanoseconds of a day.
-const DAY: u128 = 86_400 * SECOND;
+/// Seconds of a day.
+const DAY: u64 = 86_400;
 /// The years from 1970 to 9999.
 const YEARS: u16 = 8030;
+
+/// The two decimal digits of each number below 100, one after another.
+static PAIRS: [u8; 200] = *b"00010203040506070809101112131415161718192021222324\
+       25262728293031323334353637383940414243444546474849\
+       50515253545556575859606162636465666768697071727374\
+       75767778798081828384858687888990919293949596979899";
 
 /// Whether a year of the Gregorian calendar has a 29 February.
 fn is_leap_year(year: u16) -> bool
@@ -30,18 +37,6 @@ fn days_in_year(year: u16) -> u16
     if is_leap_year(year) { 366 } else { 365 }
 }
 
-/// The days of a month, from 1.
-fn days_in_month(year: u16, month: u8) -> u16
-    ensures value { result ≡ calendar.days_in_month year month }
-    ensures most { result ≤ 31 }
-{
-    match month {
-        2 => { if is_leap_year(year) { 29 } else { 28 } }
-        4 | 6 | 9 | 11 => 30,
-        _ => 31,
-    }
-}
-
 /// The days of the first so many years from 1970 on.
 fn days_of_years(passed: u16) -> u32
     requires { passed ≤ years }
@@ -52,7 +47,7 @@ fn days_of_years(passed: u16) -> u32
 }
 
 /// The whole years from 1970 on that so many days make, and the days that are left; none from the year 10000 on.
-fn years_of(days: u128) -> Option<(u16, u16)>
+fn years_of(days: u64) -> Option<(u16, u16)>
     ensures { MatchOption result (calendar.days_of_years years ≤ days)
         (λ found. (days < calendar.days_of_years years) × (found.0 ≡ years_of days)
         × (found.0 < years)
@@ -75,7 +70,24 @@ fn years_of(days: u128) -> Option<(u16, u16)>
     None
 }
 
-/// The whole months of a year that its first days make, and the days that are left.
+/// The day, from 0, that a day of a year has in one whose February has 30 days.
+fn even_day(year: u16, days: u16) -> u16
+    requires { days < calendar.days_in_year year }
+    ensures early { days < calendar.days_in_year year - 306 → result ≡ days }
+    ensures late { calendar.days_in_year year - 306 ≤ days →
+        result ≡ days + 61 - (calendar.days_in_year year - 306) }
+    ensures most { result ≤ 366 }
+{
+    let winter = days_in_year(year) - 306;
+    if days < winter {
+        days
+    } else {
+        days + 61 - winter
+    }
+}
+
+/// The whole months of a year that its first days make, and the days that are left. Where February
+/// has 30 days, (367 m + 5) / 12 days stand before the month m, from 0.
 fn months_of(year: u16, days: u16) -> (u8, u8)
     requires within { days < calendar.days_in_year year }
     ensures months { result.0 ≡ months_of year days }
@@ -83,107 +95,93 @@ fn months_of(year: u16, days: u16) -> (u8, u8)
     ensures days { result.1 ≡ days - calendar.days_of_months year result.0 }
     ensures short { result.1 < 31 }
 {
-    let mut left = days;
-    for passed in 0..11 {
-        let length = days_in_month(year, passed + 1);
-        if left < length {
-            return (passed, left as u8);
-        }
-        left -= length;
-    }
-    (11, left as u8)
+    let even = even_day(year, days);
+    let months = (12 * even + 6) / 367;
+    (months as u8, (even - (367 * months + 5) / 12) as u8)
 }
 
-/// A day, by the whole years from 1970 on and the days of the year before it.
+/// Puts the two decimal digits of a number before what was spelled of a line.
+#[inline]
+fn put_two(line: &mut Line, n: u32)
+    requires room { 2 ≤ line_room line.old }
+    requires few { n < 100 }
+    ensures text { line_text line.new ≡ two_digits n ++ line_text line.old }
+    ensures room { line_room line.new + 2 ≡ line_room line.old }
+{
+    let pair = n as usize * 2;
+    line.put(PAIRS[pair + 1]);
+    line.put(PAIRS[pair]);
+}
+
+/// Puts a day, by the whole years from 1970 on and the days of the year before it, before what was
+/// spelled of a line.
 #[tactic(auto, unfolding(crate::specs::Times::day_text))]
-fn date_octets(passed: u16, days: u16) -> [u8; 10]
+fn put_day(line: &mut Line, passed: u16, days: u16)
+    requires room { 10 ≤ line_room line.old }
     requires year { passed < years }
     requires within { days < calendar.days_in_year (1970 + passed) }
-    ensures { result ≡ day_text passed days }
+    ensures text { line_text line.new ≡ day_text passed days ++ line_text line.old }
+    ensures room { line_room line.new + 10 ≡ line_room line.old }
 {
     let year = 1970 + passed;
     let (months, rest) = months_of(year, days);
-    let (century, year) = ((year / 100) as u8, (year % 100) as u8);
-    let (month, day) = (months + 1, rest + 1);
-    [
-        b'0' + century / 10,
-        b'0' + century % 10,
-        b'0' + year / 10,
-        b'0' + year % 10,
-        b'-',
-        b'0' + month / 10,
-        b'0' + month % 10,
-        b'-',
-        b'0' + day / 10,
-        b'0' + day % 10,
-    ]
+    put_two(line, u32::from(rest) + 1);
+    line.put(b'-');
+    put_two(line, u32::from(months) + 1);
+    line.put(b'-');
+    put_two(line, u32::from(year % 100));
+    put_two(line, u32::from(year / 100));
 }
 
-/// The hour, the minute and the second, by the seconds of the day.
+/// Puts the hour, the minute and the second, by the seconds of the day, before what was spelled of
+/// a line.
 #[tactic(auto, unfolding(crate::specs::Times::clock_text))]
-fn clock_octets(seconds: u32) -> [u8; 8]
-    requires { seconds < 86_400 }
-    ensures { result ≡ clock_text seconds }
+fn put_clock(line: &mut Line, seconds: u32)
+    requires room { 8 ≤ line_room line.old }
+    requires day { seconds < 86_400 }
+    ensures text { line_text line.new ≡ clock_text seconds ++ line_text line.old }
+    ensures room { line_room line.new + 8 ≡ line_room line.old }
 {
-    let hour = (seconds / 3600) as u8;
-    let minute = (seconds % 3600 / 60) as u8;
-    let second = (seconds % 60) as u8;
-    [
-        b'0' + hour / 10,
-        b'0' + hour % 10,
-        b':',
-        b'0' + minute / 10,
-        b'0' + minute % 10,
-        b':',
-        b'0' + second / 10,
-        b'0' + second % 10,
-    ]
+    put_two(line, seconds % 60);
+    line.put(b':');
+    put_two(line, seconds % 3600 / 60);
+    line.put(b':');
+    put_two(line, seconds / 3600);
 }
 
-/// A decimal digit of a number, by its weight.
-fn digit(n: u32, weight: u32) -> u8
-    requires { 0 < weight }
-    ensures { result ≡ 48 + n / weight % 10 }
-{
-    b'0' + (n / weight % 10) as u8
-}
-
-/// The last nine decimal digits of a number.
+/// Puts the last nine decimal digits of a number before what was spelled of a line.
 #[tactic(auto, unfolding(crate::specs::Times::last_digits))]
-fn nine_digits(n: u32) -> [u8; 9]
-    ensures { result ≡ last_digits 9 n }
+fn put_nine(line: &mut Line, n: u32)
+    requires room { 9 ≤ line_room line.old }
+    ensures text { line_text line.new ≡ last_digits 9 n ++ line_text line.old }
+    ensures room { line_room line.new + 9 ≡ line_room line.old }
 {
-    [
-        digit(n, 100_000_000),
-        digit(n, 10_000_000),
-        digit(n, 1_000_000),
-        digit(n, 100_000),
-        digit(n, 10_000),
-        digit(n, 1000),
-        digit(n, 100),
-        digit(n, 10),
-        digit(n, 1),
-    ]
+    let (high, low) = (n / 10_000, n % 10_000);
+    put_two(line, low % 100);
+    put_two(line, low / 100);
+    put_two(line, high % 100);
+    put_two(line, high / 100 % 100);
+    line.put(b'0' + (high / 10_000 % 10) as u8);
 }
 
-/// Puts a time, by the whole years from 1970 on and the days of the year before it, and its nanoseconds, before what was
-/// spelled of a line.
-fn put_instant(line: &mut Line, passed: u16, days: u16, time: u128)
+/// Puts a time, by the whole years from 1970 on, the days of the year before it, the seconds of
+/// the day and the nanoseconds of the second, before what was spelled of a line.
+fn put_instant(line: &mut Line, passed: u16, days: u16, seconds: u32, nanoseconds: u32)
     requires room { 30 ≤ line_room line.old }
     requires year { passed < years }
     requires within { days < calendar.days_in_year (1970 + passed) }
+    requires day { seconds < 86_400 }
     ensures text { line_text line.new ≡ (day_text passed days ++ (codes "T"
-        ++ (clock_text (time / second % 86_400)
-        ++ (codes "." ++ (last_digits 9 (time % second) ++ codes "Z")))))
+        ++ (clock_text seconds ++ (codes "." ++ (last_digits 9 nanoseconds ++ codes "Z")))))
         ++ line_text line.old }
-    ensures room { line_room line.old ≤ line_room line.new + 30 }
+    ensures room { line_room line.new + 30 ≡ line_room line.old }
 {
     line.put(b'Z');
-    line.put_octets(&nine_digits((time % SECOND) as u32));
+    put_nine(line, nanoseconds);
     line.put(b'.');
-    line.put_octets(&clock_octets((time / SECOND % 86_400) as u32));
+    put_clock(line, seconds);
     line.put(b'T');
-    line.put_octets(&date_octets(passed, days));
+    put_day(line, passed, days);
 }
 
 /// Puts the text of a time, in nanoseconds since 1970-01-01 UTC, before what was spelled of a line:
@@ -198,8 +196,15 @@ pub fn put_time(line: &mut Line, time: Option<u128>)
         line.put(b'-');
         return;
     };
-    match years_of(time / DAY) {
-        Some((passed, days)) => put_instant(line, passed, days, time),
+    let nanoseconds = (time % SECOND) as u32;
+    let Ok(seconds) = u64::try_from(time / SECOND) else {
+        line.put(b'-');
+        return;
+    };
+    match years_of(seconds / DAY) {
+        Some((passed, days)) => {
+            put_instant(line, passed, days, (seconds % DAY) as u32, nanoseconds);
+        }
         None => line.put(b'-'),
     }
 }
@@ -211,7 +216,7 @@ fn put_seconds(line: &mut Line, nanoseconds: u128)
     ensures text { line_text line.new ≡ seconds_text nanoseconds ++ line_text line.old }
     ensures room { line_room line.old ≤ line_room line.new + 40 }
 {
-    line.put_octets(&nine_digits((nanoseconds % SECOND) as u32));
+    put_nine(line, (nanoseconds % SECOND) as u32);
     line.put(b'.');
     line.put_octets(Buffer::new().format(nanoseconds / SECOND).as_bytes());
 }

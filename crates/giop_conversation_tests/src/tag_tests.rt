@@ -83,6 +83,17 @@ fn a_spelled_line_has_its_tag(rt: HostRuntime) -> Result<(), Fail> {
 }
 
 #[test]
+fn a_spelled_line_has_the_longest_tag(rt: HostRuntime) -> Result<(), Fail> {
+    let mut room = [0; 64];
+    let mut tagged = Tagged::new(Sheet::new(&mut room));
+    tagged.set_tag(stream_tag(u64::MAX));
+    put_spelled(&mut tagged, b"m1 end\n")?;
+    let sheet = tagged.into_out();
+    assert!(rt; sheet.held() == b"s18446744073709551615 m1 end\n".as_slice());
+    Ok(())
+}
+
+#[test]
 fn a_spelled_line_behind_the_front_of_another_has_no_tag(rt: HostRuntime) -> Result<(), Fail> {
     let mut room = [0; 64];
     let mut tagged = Tagged::new(Sheet::new(&mut room));

@@ -1,3 +1,4 @@
+mod Blocks
 pub mod Writing
 mod Gathering
 mod Spelling

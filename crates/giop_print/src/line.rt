@@ -7,9 +7,13 @@ ghost use Rattle.giop_print.specs.Lines.{piece_octets, split_text};
 
 use crate::value::Piece;
 use itoa::write_digits;
+use std::simd::prelude::*;
 
 /// How many octets fit. Most lines are shorter.
 const ROOM: usize = 256;
+
+/// How many octets a block has.
+const BLOCK: usize = 16;
 
 /// The two digits of each octet, one after another.
 static PAIRS: [u8; 512] =
@@ -55,6 +59,16 @@ impl Line {
         self.at
     }
 
+    /// The last 64 octets that fit. What was spelled stands at their end, where it isn't longer.
+    #[inline]
+    pub fn last_octets(&self) -> &[u8]
+        ensures size { length result.now ≡ 64 }
+        ensures text { 192 ≤ line_room self.now →
+            drop (line_room self.now - 192) result.now ≡ line_text self.now }
+    {
+        &self.octets[ROOM - 64..]
+    }
+
     /// Drops what was spelled last, so that so many octets more fit.
     #[inline]
     pub(crate) fn cut(&mut self, room: usize)
@@ -88,6 +102,21 @@ impl Line {
         let at = self.at - octets.len();
         self.octets[at..self.at].copy_from_slice(octets);
         self.at = at;
+    }
+
+    /// Puts the end of a block, so many octets, before what was spelled. All of the block is
+    /// copied, since a copy of a fixed size is one step.
+    #[inline]
+    pub fn put_end(&mut self, block: &[u8], count: usize)
+        requires size { length block.now ≡ 16 }
+        requires within { count ≤ 16 }
+        requires room { 16 ≤ line_room self.old }
+        ensures text { line_text self.new ≡ drop (16 - count) block.now ++ line_text self.old }
+        ensures room { line_room self.new + count ≡ line_room self.old }
+    {
+        let at = self.at;
+        u8x16::from_slice(block).copy_to_slice(&mut self.octets[at - BLOCK..]);
+        self.at = at - count;
     }
 
     /// Puts a number before what was spelled.

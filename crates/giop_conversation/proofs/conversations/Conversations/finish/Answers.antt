@@ -24,7 +24,7 @@ returns-in_err-capture_total_line-clause-told g c = λ S written events told.
     MatchResult-from_err c.from_residual.result _ _ c.from_residual.ensures.0 (λ _.
     finished S written events rooms.items now.out now.time t.streams t.messages t.faults now.cut
     failed c.args.packets c.args.octets
-    c.no_tag.result.items c.set_tag.new.self c.capture_total_line.new.out told c.set_tag.ensures
+    c.no_tag.result c.set_tag.new.self c.capture_total_line.new.out told c.set_tag.ensures
     c.no_tag.ensures
     c.in_err-capture_total_line.ensures)
 
@@ -38,7 +38,7 @@ returns-clause-told g c = λ S written events told.
     c.capture_total_line.new.out b) (sym c.is_faulted.ensures)
     (finished S written events rooms.items now.out now.time t.streams t.messages t.faults now.cut
     done c.args.packets c.args.octets
-    c.no_tag.result.items c.set_tag.new.self c.capture_total_line.new.out told c.set_tag.ensures
+    c.no_tag.result c.set_tag.new.self c.capture_total_line.new.out told c.set_tag.ensures
     c.no_tag.ensures
     c.in_ok-capture_total_line.ensures)
 

@@ -43,7 +43,7 @@ returns-in_err-closed_line-clause-text g c = λ a p w holds ready.
     MatchResult-from_err c.from_residual.result _ _ c.from_residual.ensures.0 (λ _.
     below_tag failed c.args.out.now c.set_tag.new.self c.closed_line.new.out w
     (closed_line c.args.cause ++ rest)
-    c.stream_tag.result.items (stream_tag c.args.self.now.stream) ready c.set_tag.ensures
+    c.stream_tag.result (stream_tag c.args.self.now.stream) ready c.set_tag.ensures
     (rw (← c.self.view_is) c.stream_tag.ensures)
     (closing_lines_end (rules_with e a) p c.args.cause)
     (front-append (tagging_log c.set_tag.new.self) (tagging_log c.closed_line.new.out)
@@ -57,7 +57,7 @@ returns-in-Ok-clause-text g c = λ a p w holds ready.
     let done : Result Totals Totals = Ok c.in-Ok.totals in
     below_tag done c.args.out.now c.set_tag.new.self c.close.new.out w
     (closed_line c.args.cause ++ rest)
-    c.stream_tag.result.items (stream_tag c.args.self.now.stream) ready c.set_tag.ensures
+    c.stream_tag.result (stream_tag c.args.self.now.stream) ready c.set_tag.ensures
     (rw (← c.self.view_is) c.stream_tag.ensures)
     (closing_lines_end (rules_with e a) p c.args.cause)
     (wrote-append (tagging_log c.set_tag.new.self) (tagging_log c.closed_line.new.out)
@@ -77,7 +77,7 @@ returns-in-Err-clause-text g c = λ a p w holds ready.
     c.in-Err.ensures.sound (c.in-Err.ensures.text a p inside)) in
     below_tag failed c.args.out.now c.set_tag.new.self c.close.new.out w
     (closed_line c.args.cause ++ rest)
-    c.stream_tag.result.items (stream_tag c.args.self.now.stream) ready c.set_tag.ensures
+    c.stream_tag.result (stream_tag c.args.self.now.stream) ready c.set_tag.ensures
     (rw (← c.self.view_is) c.stream_tag.ensures)
     (closing_lines_end (rules_with e a) p c.args.cause)
     (wrote-front (tagging_log c.set_tag.new.self) (tagging_log c.closed_line.new.out)

@@ -109,7 +109,7 @@ returns-in_err-size-clause-text g c = λ a p w holds ready agrees.
     let failed : Result ℕ ℕ = Err 0 in
     let below : WroteTaggedFront c.read_piece.new.out w due (stamped R s p octets) =
     below_tag failed c.args.out.now c.set_tag.new.self c.read_piece.new.out w (stamped R s p octets)
-    c.stream_tag.result.items due ready
+    c.stream_tag.result due ready
     c.set_tag.ensures (rw (← c.self.view_is) c.stream_tag.ensures)
     (stamped_ends e.table a e.most octets p s) front in
     MatchResult-from_err c.from_residual.result _ _ c.from_residual.ensures.0
@@ -167,6 +167,6 @@ returns-then-at-octets-clause-text g c = λ a p w holds ready agrees.
     (w ++ with_tags due (stamped R x p octets)) c.read_piece.new.exchange
     (exchanged R x p octets))
     starts
-    (stands_at_end e e' a p octets w c.stream_tag.result.items due (at + n) s
+    (stands_at_end e e' a p octets w c.stream_tag.result due (at + n) s
     c.read_piece.new.exchange c.args.out.now c.set_tag.new.self out past all ready
     c.set_tag.ensures (rw (← c.self.view_is) c.stream_tag.ensures))

@@ -4,41 +4,49 @@ use Rattle.giop_print.specs.Line.{line_text}
 use Rattle.giop_conversation.proofs.WholeLines.{wrote_line, wrote_front}
 use Rattle.giop_conversation.proofs.tagged.TaggedOut.put_line.Goals as goal
 
+pub put_end-requires : goal.put_end-requires
+put_end-requires g c =
+    let fits = c.if-not-fits_before.ensures in
+    record {
+      size = c.block.ensures.size;
+      within = rw c.len.ensures (fits.short refl);
+      room = fits.room refl;
+    }
+
 pub returns-then-taken-text : goal.returns-then-taken-text
 returns-then-taken-text g c =
-    let tag = c.self.inside.tag.items in
+    let tag = c.self.inside.tag in
     let line = line_text c.args.line.now in
     let fits = c.if-not-fits_before.ensures in
     let text : c.text-text.result.now ≡ tag ++ line =
-    c.text-text.ensures ∙ (c.put_octets.ensures.text
-    ∙ ap (λ t. t ++ line) c.as_slice-2.ensures.value) in
+    c.text-text.ensures ∙ (c.put_end.ensures.text
+    ∙ ap (λ t. t ++ line) (rw c.len.ensures (c.block.ensures.tag (fits.short refl)))) in
     let all = take_all (length c.text-text.result.now) c.text-text.result.now (omega arith) in
     let appends = rw text at (rw all at (rw c.if-taken-text.true at
     c.put_most-taken.ensures.written)) in
     rw (← c.self.view_is)
     (wrote_line _ _ tag line c.self.inside.since (c.self.inside.since + c.put_most-taken.result)
     c.self.inside.due c.self.inside.puts c.self.inside.failures (fits.line refl)
-    (rw c.as_slice.ensures.value at (fits.some refl))
-    (rw c.as_slice.ensures.value at (fits.whole refl)) appends
+    (fits.some refl) (fits.whole refl) appends
     (ap (λ n. c.self.inside.since + n) (c.if-taken-text.true ∙ ap length text)))
 
 pub returns : goal.returns
 returns g c =
-    let tag = c.self.inside.tag.items in
+    let tag = c.self.inside.tag in
     let line = line_text c.args.line.now in
     let taken = c.put_most-taken.result in
     let fits = c.if-not-fits_before.ensures in
     let text : c.text-text.result.now ≡ tag ++ line =
-    c.text-text.ensures ∙ (c.put_octets.ensures.text
-    ∙ ap (λ t. t ++ line) c.as_slice-2.ensures.value) in
-    let whole : c.self.inside.due ≡ length tag = rw c.as_slice.ensures.value at (fits.whole refl) in
+    c.text-text.ensures ∙ (c.put_end.ensures.text
+    ∙ ap (λ t. t ++ line) (rw c.len.ensures (c.block.ensures.tag (fits.short refl)))) in
+    let whole : c.self.inside.due ≡ length tag = fits.whole refl in
     let size : length c.text-text.result.now ≡ length (tag ++ line) = ap length text in
     let few : taken < length (tag ++ line) =
     omega (arith, size, c.put_most-taken.ensures.within, c.if-taken-text.false) in
     rw (← c.self.view_is)
     (wrote_front _ _ tag line c.self.inside.since (c.self.inside.since + taken) c.self.inside.due
     c.saturating_sub-self-inside.result taken c.self.inside.puts c.self.inside.failures
-    c.one_more-self-inside.result (fits.line refl) (rw c.as_slice.ensures.value at (fits.some refl))
+    c.one_more-self-inside.result (fits.line refl) (fits.some refl)
     whole
     (c.saturating_sub-self-inside.ensures ∙ ap (λ d. d - taken) whole) few
     (rw text at c.put_most-taken.ensures.written) refl c.one_more-self-inside.ensures)

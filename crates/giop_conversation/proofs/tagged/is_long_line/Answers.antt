@@ -1,7 +1,7 @@
 use Rattle.std.proofs.Common.{◌∙◌, sym}
 use Rattle.std.proofs.lemmas.Bool.{eq-eqb, not-true}
 use Rattle.giop_conversation.proofs.WholeLines.{is_line}
-use Rattle.giop_conversation.proofs.tagged.is_line.Goals as goal
+use Rattle.giop_conversation.proofs.tagged.is_long_line.Goals as goal
 
 pub returns-then-last-eq10 : goal.returns-then-last-eq10
 returns-then-last-eq10 c = λ none.
