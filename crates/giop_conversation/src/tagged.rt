@@ -211,7 +211,8 @@ fn is_long_line(octets: &[u8]) -> bool
 #[inline]
 fn put_most<O: Out>(out: &mut O, octets: &[u8]) -> usize
     ensures within { result ≤ length octets.now }
-    ensures written { Appends (O.log out.old).written (O.log out.new).written (take result octets.now) }
+    ensures written { Appends (O.log out.old).written (O.log out.new).written
+        (take result octets.now) }
 {
     match out.put(octets) {
         Ok(taken) => {
@@ -229,7 +230,8 @@ fn put_most<O: Out>(out: &mut O, octets: &[u8]) -> usize
 #[inline(never)]
 fn put_more<O: Out>(out: &mut O, octets: &[u8]) -> usize
     ensures within { result ≤ length octets.now }
-    ensures written { Appends (O.log out.old).written (O.log out.new).written (take result octets.now) }
+    ensures written { Appends (O.log out.old).written (O.log out.new).written
+        (take result octets.now) }
 {
     let mut at = 0;
     while at < octets.len() {
