@@ -54,10 +54,12 @@ pub(crate) fn take_content(
     ensures transition_fits { TransitionFits (tree catalogue.now of.0) of.0 result.transition []
         (still_held result.output piece.new.items) }
     ensures has_output { HasOutput (tree catalogue.now of.0) result.output }
-    ensures output_fits_string { OutputFitsString (tree catalogue.now of.0) (is_text (tree catalogue.now of.0))
+    ensures output_fits_string { OutputFitsString (tree catalogue.now of.0)
+        (is_text (tree catalogue.now of.0))
         result.transition result.output }
     ensures string_goes_on { StringGoesOn (tree catalogue.now of.0)
-        (string_offset (tree catalogue.now of.0) (Leaf.Content of total offset)) result.transition result.output
+        (string_offset (tree catalogue.now of.0) (Leaf.Content of total offset))
+        result.transition result.output
         (length piece.new.items) }
     ensures transitions { (path : List PathSegment) (at : ℕ) →
         TransitionGives catalogue.now (tree catalogue.now of.0) result.transition result.output []
@@ -119,17 +121,18 @@ fn take_last(
     ensures transition_fits { TransitionFits (tree catalogue.now of.0) of.0 result.transition []
         (still_held result.output piece.new.items) }
     ensures has_output { HasOutput (tree catalogue.now of.0) result.output }
-    ensures output_fits_string { OutputFitsString (tree catalogue.now of.0) (is_text (tree catalogue.now of.0))
+    ensures output_fits_string { OutputFitsString (tree catalogue.now of.0)
+        (is_text (tree catalogue.now of.0))
         result.transition result.output }
     ensures string_goes_on { StringGoesOn (tree catalogue.now of.0)
-        (string_offset (tree catalogue.now of.0) (Leaf.Content of total offset)) result.transition result.output
+        (string_offset (tree catalogue.now of.0) (Leaf.Content of total offset))
+        result.transition result.output
         (length piece.new.items) }
     ensures transitions { (path : List PathSegment) (at : ℕ) →
         TransitionGives catalogue.now (tree catalogue.now of.0) result.transition result.output []
         piece.new.items path (at + 1)
         (content_step (tree catalogue.now of.0) path total offset at piece.old.items octet) }
 {
-    let _types = catalogue;
     let left = total - offset;
     piece.push(octet);
     if (piece.len() as u32) < left {

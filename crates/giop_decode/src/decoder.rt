@@ -179,15 +179,18 @@ impl Decoder {
         ensures notes { self.new.notes ≡ self.old.notes }
         ensures at { self.new.at ≡ self.old.at }
         ensures inside { (at : ℕ) (lines : List Line) →
-            ends_in_string (transition_result catalogue.now (tree catalogue.now of.0) self.new transition lines at)
+            ends_in_string
+            (transition_result catalogue.now (tree catalogue.now of.0) self.new transition lines at)
             ≡ transition_in_string (tree catalogue.now of.0) transition }
         ensures stand { (at : ℕ) → 0 < at → StandAt at self.old.outer.items →
             StandAt at self.new.outer.items }
-        ensures advances { (coding : Coding) (path : List PathSegment) (at : ℕ) (lines : List Line) →
+        ensures advances { (coding : Coding) (path : List PathSegment) (at : ℕ)
+            (lines : List Line) →
             around coding path (open_parts catalogue.now at self.old.outer.items)
             (after_transition catalogue.now (tree catalogue.now of.0) transition
             self.old.carry self.old.piece.items lines at)
-            ≡ transition_result catalogue.now (tree catalogue.now of.0) self.new transition lines at }
+            ≡ transition_result catalogue.now (tree catalogue.now of.0)
+            self.new transition lines at }
     {
         match transition {
             Transition::More(leaf) => self.leaf = Some(leaf),
@@ -258,8 +261,10 @@ impl Decoder {
             Writes result (O.log out.old) (O.log out.new) (lines_text self.old.message self.old.root
             (lines_of (decoder_step catalogue.now self.old here octet))) }
         ensures steps { IfOk result (λ p. (here : ℕ) → CanStandAt self.old here →
-            Comes catalogue.now self.new p (here + 1) (decoder_step catalogue.now self.old here octet)) }
-        ensures keeps_noted { OnOk result ((here : ℕ) (front : List Line) → CanStandAt self.old here →
+            Comes catalogue.now self.new p (here + 1)
+            (decoder_step catalogue.now self.old here octet)) }
+        ensures keeps_noted { OnOk result ((here : ℕ) (front : List Line) →
+            CanStandAt self.old here →
             KeepsNoted self.old.root self.old (read_by_fields catalogue.now self.old front here) →
             KeepsNoted self.old.root self.new
             (with_front front (decoder_step catalogue.now self.old here octet))) }

@@ -270,7 +270,8 @@ pub(crate) fn begin(catalogue: &Catalogue, outer: &mut ArrayVec<Frame, 24>, t: T
     ensures ended { has_ended outer.new.items ≡ has_ended outer.old.items }
     ensures inside { is_inside outer.new.items ≡ is_inside outer.old.items }
     ensures stand { (at : ℕ) → StandAt at outer.old.items → StandAt at outer.new.items }
-    ensures leaf { start_leaf (tree catalogue.now t.0) ≡ LeadingNumber (tree catalogue.now result.0) [] }
+    ensures leaf { start_leaf (tree catalogue.now t.0)
+        ≡ LeadingNumber (tree catalogue.now result.0) [] }
     ensures linked { (root : ℕ) → Link catalogue.now root outer.old.items t.0 →
         Link catalogue.now root outer.new.items result.0 }
 {

@@ -16,10 +16,12 @@ ghost use Rattle.giop_decode.specs.NotedFromLines.{TextPiece, pieces_of, AreUnen
 /// octets behind that front. It has no body, and is called for its contract.
 pub fn reading_laws()
     // One octet more is one step on those parts.
-    ensures step { (coding : Coding) (path : List PathSegment) (T : Ty) (at : ℕ) (s : List ℕ) (b : ℕ) →
+    ensures step { (coding : Coding) (path : List PathSegment) (T : Ty) (at : ℕ)
+        (s : List ℕ) (b : ℕ) →
         read coding path T at (s ++ b ∷ []) ≡ advance coding path (read coding path T at s) b }
     // Many octets more are as many steps: a reading may be left and resumed anywhere.
-    ensures resumption { (coding : Coding) (path : List PathSegment) (T : Ty) (at : ℕ) (s t : List ℕ) →
+    ensures resumption { (coding : Coding) (path : List PathSegment) (T : Ty) (at : ℕ)
+        (s t : List ℕ) →
         read coding path T at (s ++ t) ≡ resumes coding path (read coding path T at s) t }
     // The lines of a longer list begin with those of a shorter.
     ensures lines { (coding : Coding) (path : List PathSegment) (T : Ty) (at : ℕ) (s t : List ℕ) →
@@ -27,18 +29,22 @@ pub fn reading_laws()
         × (lines_of (read coding path T at (s ++ t)) ≡ lines_of (read coding path T at s) ++ more) }
     // A step has at most one line, which stands at its octet, and none where that breaks a rule of its own value; an
     // octet that only ends an encapsulation too soon has the line of what it completes.
-    ensures prompt { (coding : Coding) (path : List PathSegment) (outer : List OpenPart) (leaf : Leaf)
+    ensures prompt { (coding : Coding) (path : List PathSegment) (outer : List OpenPart)
+        (leaf : Leaf)
         (at b : ℕ) →
         IsOctetResult (at + 1) (step coding path outer leaf at b) }
     // Where each part takes some octet, the parts begun before the first octet are the first ones of their wholes.
-    ensures begins { (d : ℕ) (coding : Coding) (path : List PathSegment) (T : Ty) (at : ℕ) → IsFit d T →
+    ensures begins { (d : ℕ) (coding : Coding) (path : List PathSegment) (T : Ty) (at : ℕ) →
+        IsFit d T →
         read coding path T at [] ≡ Short [] at (start_outer T) (start_leaf T) }
     // The parts begun and not ended fit in the type, each in the one before, and no encapsulation among them has ended,
-    ensures sound { (d : ℕ) (coding : Coding) (path : List PathSegment) (T : Ty) (at : ℕ) (s : List ℕ) →
+    ensures sound { (d : ℕ) (coding : Coding) (path : List PathSegment) (T : Ty) (at : ℕ)
+        (s : List ℕ) →
         IsFit d T →
         Sound T (at + length s) (read coding path T at s) }
     // and a step from any parts that fit, of which no encapsulation has ended, leaves such parts.
-    ensures kept { (d : ℕ) (coding : Coding) (path : List PathSegment) (T : Ty) (outer : List OpenPart)
+    ensures kept { (d : ℕ) (coding : Coding) (path : List PathSegment) (T : Ty)
+        (outer : List OpenPart)
         (leaf : Leaf) (at b : ℕ) → IsFit d T →
         FitsIn T outer leaf → Surrounds at outer →
         Sound T (at + 1) (step coding path outer leaf at b) }

@@ -43,7 +43,8 @@ impl Decoder {
         requires fits { Fits catalogue.now self.now }
         requires coded { coding_by self.now.order self.now.at self.now.outer.items ≡ coded }
         requires ahead { HaveOctetsLeft (ticked_by (length octets.now - 1) self.now.outer.items) }
-        ensures ahead { IfSome result (λ ahead. TakenTogether catalogue.now self.now octets.now ahead.of
+        ensures ahead { IfSome result (λ ahead.
+            TakenTogether catalogue.now self.now octets.now ahead.of
             ahead.count ahead.step ahead.rest.now) }
         ensures plain { IfSome result (λ ahead.
             IsPlain (tree catalogue.now ahead.of.0) ahead.step.output) }
@@ -143,7 +144,6 @@ impl Decoder {
         ensures { IfSome result (λ ahead. TakenTogether catalogue.now self.now octets.now ahead.of
             ahead.count ahead.step ahead.rest.now) }
     {
-        let _types = catalogue;
         let count = 32_usize.saturating_sub(self.piece.len());
         if octets.len() < count {
             return None;
@@ -212,7 +212,6 @@ impl Decoder {
         ensures { IfSome result (λ ahead. TakenTogether catalogue.now self.now octets.now ahead.of
             ahead.count ahead.step ahead.rest.now) }
     {
-        let _types = catalogue;
         let size = self.left_of(total, offset);
         if octets.len() < size {
             return None;

@@ -92,7 +92,8 @@ impl Notes {
     /// Clears the last name: the length of a string has come.
     #[inline(always)]
     fn forget(&mut self)
-        ensures notes { (h : Noted) → HoldsNoted self.old h → HoldsNoted self.new (without_name_if true h) }
+        ensures notes { (h : Noted) → HoldsNoted self.old h →
+            HoldsNoted self.new (without_name_if true h) }
         ensures id { self.new.request_id ≡ self.old.request_id }
         ensures begun { self.new.buffer ≡ Buffer.Whole → ⊥ }
     {
@@ -194,7 +195,8 @@ impl Notes {
             (let path = path_in [] (open_parts catalogue.now here outer.now) in
             HoldsNoted self.new (with_expects (note_value (is_header_root root
             && is_member (codes "request_id") path) h (results.Number is.scalar is.n))
-            (expects_after (is_header_root root) path (results.Number is.scalar is.n) h.expects_reply))) }
+            (expects_after (is_header_root root) path (results.Number is.scalar is.n)
+            h.expects_reply))) }
         ensures id { is_header_root root ≡ false → self.new.request_id ≡ self.old.request_id }
     {
         match catalogue.shape(of) {
