@@ -58,8 +58,8 @@ pub(crate) fn take_content(
         (is_text (tree catalogue.now of.0))
         result.transition result.output }
     ensures string_goes_on { StringGoesOn (tree catalogue.now of.0)
-        (string_offset (tree catalogue.now of.0) (Leaf.Content of total offset)) result.transition
-        result.output
+        (string_offset (tree catalogue.now of.0) (Leaf.Content of total offset))
+        result.transition result.output
         (length piece.new.items) }
     ensures transitions { (path : List PathSegment) (at : ℕ) →
         TransitionGives catalogue.now (tree catalogue.now of.0) result.transition result.output []
@@ -125,15 +125,14 @@ fn take_last(
         (is_text (tree catalogue.now of.0))
         result.transition result.output }
     ensures string_goes_on { StringGoesOn (tree catalogue.now of.0)
-        (string_offset (tree catalogue.now of.0) (Leaf.Content of total offset)) result.transition
-        result.output
+        (string_offset (tree catalogue.now of.0) (Leaf.Content of total offset))
+        result.transition result.output
         (length piece.new.items) }
     ensures transitions { (path : List PathSegment) (at : ℕ) →
         TransitionGives catalogue.now (tree catalogue.now of.0) result.transition result.output []
         piece.new.items path (at + 1)
         (content_step (tree catalogue.now of.0) path total offset at piece.old.items octet) }
 {
-    let _types = catalogue;
     let left = total - offset;
     piece.push(octet);
     if (piece.len() as u32) < left {

@@ -102,8 +102,8 @@ pub(crate) fn spell_segment(catalogue: &Catalogue, frame: Frame, line: &mut Line
     requires room { 65 ≤ line_room line.old }
     ensures text { line_text line.new
         ≡ segment_text (segment_in (open_part catalogue.now 0 frame)) ++ line_text line.old }
-    ensures room { line_room line.new + length
-        (segment_text (segment_in (open_part catalogue.now 0 frame)))
+    ensures room { line_room line.new
+        + length (segment_text (segment_in (open_part catalogue.now 0 frame)))
         ≡ line_room line.old }
     ensures most { line_room line.old ≤ line_room line.new + 65 }
 {
@@ -141,8 +141,8 @@ fn spell_switch(catalogue: &Catalogue, of: TypeId, line: &mut Line)
     requires room { 65 ≤ line_room line.old }
     ensures text { line_text line.new
         ≡ segment_text (switch_segment (tree catalogue.now of.0)) ++ line_text line.old }
-    ensures room { line_room line.new + length
-        (segment_text (switch_segment (tree catalogue.now of.0)))
+    ensures room { line_room line.new
+        + length (segment_text (switch_segment (tree catalogue.now of.0)))
         ≡ line_room line.old }
 {
     match catalogue.shape(of) {
@@ -182,8 +182,8 @@ fn push_segment(catalogue: &Catalogue, frame: Frame, path: &mut Path)
     requires known { IsKnown catalogue.now frame }
     requires room { path.old.segments < 24 }
     ensures text { (here : ℕ) →
-        path.new.text ≡ path.old.text ++ segment_text
-        (segment_in (open_part catalogue.now here frame)) }
+        path.new.text ≡ path.old.text
+        ++ segment_text (segment_in (open_part catalogue.now here frame)) }
     ensures segments { path.new.segments ≤ path.old.segments + 1 }
 {
     if frame.inside.is_some() {

@@ -179,8 +179,8 @@ impl Decoder {
         ensures notes { self.new.notes ≡ self.old.notes }
         ensures at { self.new.at ≡ self.old.at }
         ensures inside { (at : ℕ) (lines : List Line) →
-            ends_in_string (transition_result catalogue.now (tree catalogue.now of.0) self.new
-            transition lines at)
+            ends_in_string
+            (transition_result catalogue.now (tree catalogue.now of.0) self.new transition lines at)
             ≡ transition_in_string (tree catalogue.now of.0) transition }
         ensures stand { (at : ℕ) → 0 < at → StandAt at self.old.outer.items →
             StandAt at self.new.outer.items }
@@ -189,8 +189,8 @@ impl Decoder {
             around coding path (open_parts catalogue.now at self.old.outer.items)
             (after_transition catalogue.now (tree catalogue.now of.0) transition
             self.old.carry self.old.piece.items lines at)
-            ≡ transition_result catalogue.now (tree catalogue.now of.0) self.new transition lines
-            at }
+            ≡ transition_result catalogue.now (tree catalogue.now of.0)
+            self.new transition lines at }
     {
         match transition {
             Transition::More(leaf) => self.leaf = Some(leaf),

@@ -16,8 +16,8 @@ ghost use Rattle.giop_decode.specs.NotedFromLines.{TextPiece, pieces_of, AreUnen
 /// octets behind that front. It has no body, and is called for its contract.
 pub fn reading_laws()
     // One octet more is one step on those parts.
-    ensures step { (coding : Coding) (path : List PathSegment) (T : Ty) (at : ℕ) (s : List ℕ)
-        (b : ℕ) →
+    ensures step { (coding : Coding) (path : List PathSegment) (T : Ty) (at : ℕ)
+        (s : List ℕ) (b : ℕ) →
         read coding path T at (s ++ b ∷ []) ≡ advance coding path (read coding path T at s) b }
     // Many octets more are as many steps: a reading may be left and resumed anywhere.
     ensures resumption { (coding : Coding) (path : List PathSegment) (T : Ty) (at : ℕ)

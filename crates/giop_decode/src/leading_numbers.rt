@@ -148,16 +148,16 @@ pub(crate) fn take_value(catalogue: &Catalogue, order: Order, of: TypeId, octets
     requires head { HasLeadingNumber (tree catalogue.now of.0) }
     requires fit { (d : ℕ) × IsFit d (tree catalogue.now of.0) }
     requires whole { length octets.now ≡ leading_width (tree catalogue.now of.0) }
-    ensures transition_fits { TransitionFits (tree catalogue.now of.0) of.0 result.transition []
-        [] }
+    ensures transition_fits { TransitionFits (tree catalogue.now of.0) of.0
+        result.transition [] [] }
     ensures has_output { HasOutput (tree catalogue.now of.0) result.output }
-    ensures output_fits_string { OutputFitsString (tree catalogue.now of.0) false result.transition
-        result.output }
+    ensures output_fits_string { OutputFitsString (tree catalogue.now of.0)
+        false result.transition result.output }
     ensures string_goes_on { (n : ℕ) →
         StringGoesOn (tree catalogue.now of.0) None result.transition result.output n }
     ensures transitions { (coding : Coding) (path : List PathSegment) (at : ℕ) →
-        TransitionGives catalogue.now (tree catalogue.now of.0) result.transition result.output []
-        [] path at
+        TransitionGives catalogue.now (tree catalogue.now of.0)
+        result.transition result.output [] [] path at
         (after coding path (tree catalogue.now of.0) (num order octets.now) at []) }
 {
     match catalogue.shape(of) {
@@ -196,16 +196,16 @@ fn take_switch(catalogue: &Catalogue, order: Order, of: TypeId, octets: &[u8]) -
     requires union { IsUnion (shape_in (tree catalogue.now of.0)) }
     requires fit { (d : ℕ) × IsFit d (tree catalogue.now of.0) }
     requires whole { length octets.now ≡ leading_width (tree catalogue.now of.0) }
-    ensures transition_fits { TransitionFits (tree catalogue.now of.0) of.0 result.transition []
-        [] }
+    ensures transition_fits { TransitionFits (tree catalogue.now of.0) of.0
+        result.transition [] [] }
     ensures has_output { HasOutput (tree catalogue.now of.0) result.output }
-    ensures output_fits_string { OutputFitsString (tree catalogue.now of.0) false result.transition
-        result.output }
+    ensures output_fits_string { OutputFitsString (tree catalogue.now of.0)
+        false result.transition result.output }
     ensures string_goes_on { (n : ℕ) →
         StringGoesOn (tree catalogue.now of.0) None result.transition result.output n }
     ensures transitions { (coding : Coding) (path : List PathSegment) (at : ℕ) →
-        TransitionGives catalogue.now (tree catalogue.now of.0) result.transition result.output []
-        [] path at
+        TransitionGives catalogue.now (tree catalogue.now of.0)
+        result.transition result.output [] [] path at
         (after coding path (tree catalogue.now of.0) (num order octets.now) at []) }
 {
     match catalogue.shape(catalogue.switch_type(of)) {
@@ -231,18 +231,18 @@ fn take_selected(catalogue: &Catalogue, of: TypeId, number: Number) -> Step
     requires union { IsUnion (shape_in (tree catalogue.now of.0)) }
     requires fit { (d : ℕ) × IsFit d (tree catalogue.now of.0) }
     requires number { IsNumberOf (switch_of (tree catalogue.now of.0)) number }
-    ensures transition_fits { TransitionFits (tree catalogue.now of.0) of.0 result.transition []
-        [] }
+    ensures transition_fits { TransitionFits (tree catalogue.now of.0) of.0
+        result.transition [] [] }
     ensures has_output { HasOutput (tree catalogue.now of.0) result.output }
-    ensures output_fits_string { OutputFitsString (tree catalogue.now of.0) false result.transition
-        result.output }
+    ensures output_fits_string { OutputFitsString (tree catalogue.now of.0)
+        false result.transition result.output }
     ensures string_goes_on { (n : ℕ) →
         StringGoesOn (tree catalogue.now of.0) None result.transition result.output n }
     ensures transitions { (is : IsNumberOf (switch_of (tree catalogue.now of.0)) number)
         (coding : Coding)
         (path : List PathSegment) (at : ℕ) →
-        TransitionGives catalogue.now (tree catalogue.now of.0) result.transition result.output []
-        [] path at
+        TransitionGives catalogue.now (tree catalogue.now of.0)
+        result.transition result.output [] [] path at
         (after coding path (tree catalogue.now of.0) is.n at []) }
 {
     match catalogue.select(of, number) {
@@ -262,19 +262,18 @@ fn take_selected(catalogue: &Catalogue, of: TypeId, number: Number) -> Step
 #[inline(always)]
 fn take_length(catalogue: &Catalogue, of: TypeId, bound: Option<u32>, n: u32) -> Step
     requires { tree catalogue.now of.0 ≡ Text bound }
-    ensures transition_fits { TransitionFits (tree catalogue.now of.0) of.0 result.transition []
-        [] }
+    ensures transition_fits { TransitionFits (tree catalogue.now of.0) of.0
+        result.transition [] [] }
     ensures has_output { HasOutput (tree catalogue.now of.0) result.output }
-    ensures output_fits_string { OutputFitsString (tree catalogue.now of.0) false result.transition
-        result.output }
+    ensures output_fits_string { OutputFitsString (tree catalogue.now of.0)
+        false result.transition result.output }
     ensures string_goes_on { (n : ℕ) →
         StringGoesOn (tree catalogue.now of.0) None result.transition result.output n }
     ensures transitions { (coding : Coding) (path : List PathSegment) (at : ℕ) →
-        TransitionGives catalogue.now (tree catalogue.now of.0) result.transition result.output []
-        [] path at
+        TransitionGives catalogue.now (tree catalogue.now of.0)
+        result.transition result.output [] [] path at
         (after coding path (tree catalogue.now of.0) n at []) }
 {
-    let _types = catalogue;
     if n == 0 {
         return Step {
             transition: Transition::Ended,
@@ -301,19 +300,18 @@ fn take_length(catalogue: &Catalogue, of: TypeId, bound: Option<u32>, n: u32) ->
 #[inline(always)]
 fn take_size(catalogue: &Catalogue, of: TypeId, bound: Option<u32>, n: u32) -> Step
     requires { tree catalogue.now of.0 ≡ Octets bound }
-    ensures transition_fits { TransitionFits (tree catalogue.now of.0) of.0 result.transition []
-        [] }
+    ensures transition_fits { TransitionFits (tree catalogue.now of.0) of.0
+        result.transition [] [] }
     ensures has_output { HasOutput (tree catalogue.now of.0) result.output }
-    ensures output_fits_string { OutputFitsString (tree catalogue.now of.0) false result.transition
-        result.output }
+    ensures output_fits_string { OutputFitsString (tree catalogue.now of.0)
+        false result.transition result.output }
     ensures string_goes_on { (n : ℕ) →
         StringGoesOn (tree catalogue.now of.0) None result.transition result.output n }
     ensures transitions { (coding : Coding) (path : List PathSegment) (at : ℕ) →
-        TransitionGives catalogue.now (tree catalogue.now of.0) result.transition result.output []
-        [] path at
+        TransitionGives catalogue.now (tree catalogue.now of.0)
+        result.transition result.output [] [] path at
         (after coding path (tree catalogue.now of.0) n at []) }
 {
-    let _types = catalogue;
     if exceeds(bound, n) {
         return refused(Kind::Bound);
     }
@@ -338,20 +336,18 @@ fn take_size(catalogue: &Catalogue, of: TypeId, bound: Option<u32>, n: u32) -> S
 fn take_count(catalogue: &Catalogue, of: TypeId, bound: Option<u32>, n: u32) -> Step
     requires is { (E : Ty) × (tree catalogue.now of.0 ≡ Sequence bound E) }
     requires fit { (d : ℕ) × IsFit d (tree catalogue.now of.0) }
-    ensures transition_fits { TransitionFits (tree catalogue.now of.0) of.0 result.transition []
-        [] }
+    ensures transition_fits { TransitionFits (tree catalogue.now of.0) of.0
+        result.transition [] [] }
     ensures has_output { HasOutput (tree catalogue.now of.0) result.output }
-    ensures output_fits_string { OutputFitsString (tree catalogue.now of.0) false result.transition
-        result.output }
+    ensures output_fits_string { OutputFitsString (tree catalogue.now of.0)
+        false result.transition result.output }
     ensures string_goes_on { (n : ℕ) →
         StringGoesOn (tree catalogue.now of.0) None result.transition result.output n }
     ensures transitions { (coding : Coding) (path : List PathSegment) (at : ℕ) →
-        TransitionGives catalogue.now (tree catalogue.now of.0) result.transition result.output []
-        [] path at
+        TransitionGives catalogue.now (tree catalogue.now of.0)
+        result.transition result.output [] [] path at
         (after coding path (tree catalogue.now of.0) n at []) }
 {
-    let _types = catalogue;
-    let _type = of;
     if exceeds(bound, n) {
         return refused(Kind::Bound);
     }

@@ -146,15 +146,15 @@ pub(crate) fn take_octet(
         result.transition carry.new (still_held result.output piece.new.items) }
     ensures has_output { HasOutput (tree catalogue.now (leaf_type leaf)) result.output }
     ensures output_fits_string { OutputFitsString (tree catalogue.now (leaf_type leaf))
-        (leaf_in_string (tree catalogue.now (leaf_type leaf)) leaf) result.transition
-        result.output }
+        (leaf_in_string (tree catalogue.now (leaf_type leaf)) leaf)
+        result.transition result.output }
     ensures string_goes_on { StringGoesOn (tree catalogue.now (leaf_type leaf))
         (string_offset (tree catalogue.now (leaf_type leaf)) leaf) result.transition result.output
         (length piece.new.items) }
     ensures transitions { (coding : Coding) (path : List PathSegment) (here : ℕ) →
         coding.order ≡ coded.0 → (here - coding.origin) % 8 ≡ coded.1 →
-        TransitionGives catalogue.now (tree catalogue.now (leaf_type leaf)) result.transition
-        result.output
+        TransitionGives catalogue.now (tree catalogue.now (leaf_type leaf))
+        result.transition result.output
         carry.new piece.new.items path (here + 1)
         (leaf_step coding path (leaf_of catalogue.now leaf carry.old piece.old.items) here octet) }
 {

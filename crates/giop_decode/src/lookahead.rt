@@ -144,7 +144,6 @@ impl Decoder {
         ensures { IfSome result (λ ahead. TakenTogether catalogue.now self.now octets.now ahead.of
             ahead.count ahead.step ahead.rest.now) }
     {
-        let _types = catalogue;
         let count = 32_usize.saturating_sub(self.piece.len());
         if octets.len() < count {
             return None;
@@ -213,7 +212,6 @@ impl Decoder {
         ensures { IfSome result (λ ahead. TakenTogether catalogue.now self.now octets.now ahead.of
             ahead.count ahead.step ahead.rest.now) }
     {
-        let _types = catalogue;
         let size = self.left_of(total, offset);
         if octets.len() < size {
             return None;

@@ -160,7 +160,6 @@ impl Decoder {
         ensures { TakesSome catalogue.now self.old self.new octets.now
             (O.log out.old) (O.log out.new) result }
     {
-        let _octets = octets;
         self.at = further(self.at, ahead.count - 1);
         tick_by(self.inside, &mut self.outer, ahead.count - 1);
         let progress = self.emit(catalogue, ahead, is_plain, out)?;

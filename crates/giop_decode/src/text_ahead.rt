@@ -88,7 +88,6 @@ impl Decoder {
         ensures { TakesSome catalogue.now self.old self.new octets.now
             (O.log out.old) (O.log out.new) result }
     {
-        let _octets = octets;
         let last = text.head + text.content.len();
         self.at = further(self.at, last);
         let ahead = Lookahead {
