@@ -1,4 +1,5 @@
--- The step of an octet in the parts around the innermost one: before the first octet, and where a part ends.
+-- The step of an octet in the parts around the innermost one: before the first octet, and where a
+-- part ends.
 use Rattle.std.proofs.Common.{◌≡◌, ℕ, zero, suc, ◌-◌, ◌<◌, ◌≤◌, List, [], ◌∷◌, ◌++◌, refl, ◌∙◌, ap, arith, add-zero, lit<, lt-ltb}
 use Rattle.giop_decode.specs.Begins.{start_leaf, start_outer}
 use Rattle.giop_decode.specs.Fits.{HasParts, Surrounds}
@@ -13,47 +14,63 @@ use Rattle.giop_decode.proofs.OctetResults.{number_none}
 use Rattle.giop_decode.proofs.Law.{with_front-followed, with_front-within, block_waits, width_pos}
 use Rattle.giop_decode.proofs.Enclosing.{with_front-enclosed}
 
-pub around-append : (coding : Coding) (path : List PathSegment) (outer : List OpenPart) (place : OpenPart)
+pub around-append : (coding : Coding) (path : List PathSegment) (outer : List OpenPart)
+    (place : OpenPart)
     (r : Read) → around coding path (outer ++ place ∷ []) r
     ≡ around coding path outer (resumed (coding_in coding outer) (path_in path outer) place r)
 around-append coding path [] place r = refl
-around-append coding path (p ∷ outer) place r = ap (resumed coding path p) (around-append (coding_at coding p) (path ++ segment_in p ∷ []) outer place r)
+around-append coding path (p ∷ outer) place r =
+    ap (resumed coding path p) (around-append (coding_at coding p) (path ++ segment_in p ∷ []) outer
+    place r)
 
 pub path_in-append : (path : List PathSegment) (outer : List OpenPart) (place : OpenPart) →
     path_in path (outer ++ place ∷ []) ≡ path_in path outer ++ segment_in place ∷ []
 path_in-append path [] place = refl
 path_in-append path (p ∷ outer) place = path_in-append (path ++ segment_in p ∷ []) outer place
 
-pub around-short : (coding : Coding) (path : List PathSegment) (outer : List OpenPart) (lines : List Line)
+pub around-short : (coding : Coding) (path : List PathSegment) (outer : List OpenPart)
+    (lines : List Line)
     (at : ℕ) (inner : List OpenPart) (leaf : Leaf) → Surrounds at outer →
     around coding path outer (Short lines at inner leaf) ≡ Short lines at (outer ++ inner) leaf
 around-short coding path [] lines at inner leaf h = refl
-around-short coding path (Part T i count ∷ outer) lines at inner leaf h = rw (around-short coding (path ++ segment_of T i ∷ []) outer lines at inner leaf h.1) refl
-around-short coding path (Member T i ∷ outer) lines at inner leaf h = rw (around-short coding (path ++ segment_of T i ∷ []) outer lines at inner leaf h.1) refl
+around-short coding path (Part T i count ∷ outer) lines at inner leaf h =
+    rw (around-short coding (path ++ segment_of T i ∷ []) outer lines at inner leaf h.1) refl
+around-short coding path (Member T i ∷ outer) lines at inner leaf h =
+    rw (around-short coding (path ++ segment_of T i ∷ []) outer lines at inner leaf h.1) refl
 around-short coding path (Inside T c end ∷ outer) lines at inner leaf h =
     rw (around-short c (path ++ Held ∷ []) outer lines at inner leaf h.1, lt-ltb at end h.0.0) refl
 
-pub around-fault : (coding : Coding) (path : List PathSegment) (outer : List OpenPart) (lines : List Line)
+pub around-fault : (coding : Coding) (path : List PathSegment) (outer : List OpenPart)
+    (lines : List Line)
     (at : ℕ) (kind : Kind) (S : Ty) → around coding path outer (Fault lines at kind S)
     ≡ Fault lines at kind S
 around-fault coding path [] lines at kind S = refl
-around-fault coding path (Part T i count ∷ outer) lines at kind S = rw (around-fault coding (path ++ segment_of T i ∷ []) outer lines at kind S) refl
-around-fault coding path (Member T i ∷ outer) lines at kind S = rw (around-fault coding (path ++ segment_of T i ∷ []) outer lines at kind S) refl
-around-fault coding path (Inside T c end ∷ outer) lines at kind S = rw (around-fault c (path ++ Held ∷ []) outer lines at kind S) refl
+around-fault coding path (Part T i count ∷ outer) lines at kind S =
+    rw (around-fault coding (path ++ segment_of T i ∷ []) outer lines at kind S) refl
+around-fault coding path (Member T i ∷ outer) lines at kind S =
+    rw (around-fault coding (path ++ segment_of T i ∷ []) outer lines at kind S) refl
+around-fault coding path (Inside T c end ∷ outer) lines at kind S =
+    rw (around-fault c (path ++ Held ∷ []) outer lines at kind S) refl
 
-pub around-front : (coding : Coding) (path : List PathSegment) (outer : List OpenPart) (front : List Line)
+pub around-front : (coding : Coding) (path : List PathSegment) (outer : List OpenPart)
+    (front : List Line)
     (r : Read) → around coding path outer (with_front front r)
     ≡ with_front front (around coding path outer r)
 around-front coding path [] front r = refl
 around-front coding path (Part T i count ∷ outer) front r =
     let inner = around coding (path ++ segment_of T i ∷ []) outer r in
     let next = parts_from (part_at coding path T count) (count - suc i) (suc i) in
-    rw (around-front coding (path ++ segment_of T i ∷ []) outer front r, with_front-within front (Part T i count) inner)
+    rw (
+      around-front coding (path ++ segment_of T i ∷ []) outer front r,
+      with_front-within front (Part T i count) inner,
+    )
     (with_front-followed front (within (Part T i count) inner) next)
 around-front coding path (Member T i ∷ outer) front r =
-    rw (around-front coding (path ++ segment_of T i ∷ []) outer front r) (with_front-within front (Member T i) (around coding (path ++ segment_of T i ∷ []) outer r))
+    rw (around-front coding (path ++ segment_of T i ∷ []) outer front r)
+    (with_front-within front (Member T i) (around coding (path ++ segment_of T i ∷ []) outer r))
 around-front coding path (Inside T c end ∷ outer) front r =
-    rw (around-front c (path ++ Held ∷ []) outer front r) (with_front-enclosed front path T c end (around c (path ++ Held ∷ []) outer r) [])
+    rw (around-front c (path ++ Held ∷ []) outer front r)
+    (with_front-enclosed front path T c end (around c (path ++ Held ∷ []) outer r) [])
 
 -- Before the first octet.
 pub block_none : (n at : ℕ) → 0 < n → block n at [] ≡ Partial [] at
@@ -71,14 +88,18 @@ pub read_none : (coding : Coding) (path : List PathSegment) (d : ℕ) (T : Ty) (
     read coding path T at [] ≡ Short [] at (start_outer T) (start_leaf T)
 unfolding IsFit
 read_none coding path zero T at h = absurd h
-read_none coding path (suc d) (Single scalar) at h = rw (number_none coding.origin (width scalar) at (width_pos scalar)) refl
-read_none coding path (suc d) (Union choice scalar select names cases) at h = rw (number_none coding.origin (width scalar) at (width_pos scalar)) refl
+read_none coding path (suc d) (Single scalar) at h =
+    rw (number_none coding.origin (width scalar) at (width_pos scalar)) refl
+read_none coding path (suc d) (Union choice scalar select names cases) at h =
+    rw (number_none coding.origin (width scalar) at (width_pos scalar)) refl
 read_none coding path (suc d) (Struct zero names parts) at h = absurd (omega (arith, h.0))
 read_none coding path (suc d) (Struct (suc more) names parts) at h =
-    first_part coding path (Struct (suc more) names parts) (suc more) more 0 at (read_none coding (path ++ Name (names 0) ∷ []) d (parts 0) at (h.1 0 h.0))
+    first_part coding path (Struct (suc more) names parts) (suc more) more 0 at
+    (read_none coding (path ++ Name (names 0) ∷ []) d (parts 0) at (h.1 0 h.0))
 read_none coding path (suc d) (Array zero T) at h = absurd (omega (arith, h.0))
 read_none coding path (suc d) (Array (suc more) T) at h =
-    first_part coding path (Array (suc more) T) (suc more) more 0 at (read_none coding (path ++ Index 0 ∷ []) d T at h.1)
+    first_part coding path (Array (suc more) T) (suc more) more 0 at
+    (read_none coding (path ++ Index 0 ∷ []) d T at h.1)
 read_none coding path (suc d) T at h = rw (number_none coding.origin 4 at (lit< tt)) refl
 
 -- A part that has ended: its whole goes on with the next, or ends too.
@@ -103,10 +124,12 @@ next_part coding path d T i count at fit kind below = go (count - suc i) refl
         (start_leaf (part_of T (suc i)))
     go zero e = absurd (omega arith)
     go (suc more) e =
-        ap (with_front []) (first_part coding path T count more (suc i) at (read_none coding (inner_path path T (suc i)) d (part_of T (suc i))
+        ap (with_front []) (first_part coding path T count more (suc i) at
+        (read_none coding (inner_path path T (suc i)) d (part_of T (suc i))
         at (fit_part d T (suc i) count fit kind below)))
 
-pub last_part : (coding : Coding) (path : List PathSegment) (T : Ty) (i count at : ℕ) → count ≤ suc i →
+pub last_part : (coding : Coding) (path : List PathSegment) (T : Ty) (i count at : ℕ) →
+    count ≤ suc i →
     resumed coding path (Part T i count) (Done [] at []) ≡ Done [] at []
 last_part coding path T i count at h =
     let e : count - suc i ≡ 0 = omega arith in

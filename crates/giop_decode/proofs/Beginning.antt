@@ -60,4 +60,5 @@ map_push f (y ∷ xs) x = ap (λ ys. f y ∷ ys) (map_push f xs x)
 
 pub begins_places : (d : ℕ) (ps : List OpenPart) (T : Ty) (count : ℕ) → Begins d T count →
     (ps ++ part_in T 0 count ∷ []) ++ start_outer (part_of T 0) ≡ ps ++ start_outer T
-begins_places d ps T count b = append_assoc ps (part_in T 0 count ∷ []) (start_outer (part_of T 0)) ∙ ap (λ qs. ps ++ qs) (sym b.outer)
+begins_places d ps T count b = append_assoc ps (part_in T 0 count ∷ []) (start_outer (part_of T 0))
+    ∙ ap (λ qs. ps ++ qs) (sym b.outer)

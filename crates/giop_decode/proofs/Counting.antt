@@ -42,7 +42,10 @@ fewer_at m n (Some order) i count le h = omega (arith, le, h)
 pub ahead_fewer : (m n : ℕ) (frames : List Frame) → m ≤ n → HaveOctetsLeft (ticked_by n frames) →
     HaveOctetsLeft (ticked_by m frames)
 ahead_fewer m n [] le h = tt
-ahead_fewer m n (f ∷ frames) le h = (fewer_at m n f.inside f.index f.count le h.0, ahead_fewer m n frames le h.1)
+ahead_fewer m n (f ∷ frames) le h = (
+  fewer_at m n f.inside f.index f.count le h.0,
+  ahead_fewer m n frames le h.1,
+)
 
 first_at : (n : ℕ) (inside : Option Order) (i count : ℕ) →
     IfSome inside (λ order. ticked_by_at (suc n) inside i < count) →
@@ -75,11 +78,13 @@ ahead_free n frames h ahead = subst HaveOctetsLeft (free_ticked_by n frames h) a
 -- the frames before an index leave room for these octets, and the one at it for fewer
 pub before_more : (outer : List Frame) (i before now : ℕ) (d : Frame) → i < length outer →
     now ≤ before → HaveOctetsLeft (ticked_by before (take i outer)) →
-    HasOctetsLeft (tick_by_of now (get_or outer i d)) → HaveOctetsLeft (ticked_by now (take (i + 1) outer))
+    HasOctetsLeft (tick_by_of now (get_or outer i d)) →
+    HaveOctetsLeft (ticked_by now (take (i + 1) outer))
 before_more outer i before now d below le h one =
     let f = get_or outer i d in
     rw (take_more outer i d below, map-append (tick_by_of now) (take i outer) (f ∷ []))
-    (push (ticked_by now (take i outer)) (tick_by_of now f) (ahead_fewer now before (take i outer) le h) one)
+    (push (ticked_by now (take i outer)) (tick_by_of now f)
+    (ahead_fewer now before (take i outer) le h) one)
   where
     push : (frames : List Frame) (f : Frame) → HaveOctetsLeft frames → HasOctetsLeft f →
         HaveOctetsLeft (frames ++ f ∷ [])
@@ -103,7 +108,8 @@ pub coding_ticked : (order : Order) (at : ℕ) (frames : List Frame) →
 coding_ticked order at [] = refl
 coding_ticked order at (f ∷ frames) =
     let c = coding_of (order, at) f.inside f.index in
-    ap (λ (k : Order × ℕ). coding_by k.0 k.1 (ticked frames)) (coding_next order at f.inside f.index) ∙ coding_ticked c.0 c.1 frames
+    ap (λ (k : Order × ℕ). coding_by k.0 k.1 (ticked frames))
+    (coding_next order at f.inside f.index) ∙ coding_ticked c.0 c.1 frames
 
 coding_later : (n : ℕ) (order : Order) (at : ℕ) (inside : Option Order) (i : ℕ) →
     coding_of (order, (at + n) % 8) inside (ticked_by_at n inside i)
@@ -120,7 +126,8 @@ pub coding_ticked_by : (n : ℕ) (order : Order) (at : ℕ) (frames : List Frame
 coding_ticked_by n order at [] = refl
 coding_ticked_by n order at (f ∷ frames) =
     let c = coding_of (order, at) f.inside f.index in
-    ap (λ (k : Order × ℕ). coding_by k.0 k.1 (ticked_by n frames)) (coding_later n order at f.inside f.index) ∙ coding_ticked_by n c.0 c.1 frames
+    ap (λ (k : Order × ℕ). coding_by k.0 k.1 (ticked_by n frames))
+    (coding_later n order at f.inside f.index) ∙ coding_ticked_by n c.0 c.1 frames
 
 small_of : (order : Order) (at : ℕ) (inside : Option Order) (i : ℕ) → at < 8 →
     (coding_of (order, at) inside i).1 < 8

@@ -28,14 +28,16 @@ depth_some T = omega arith
 part_shallower : (T : Ty) (i count : ℕ) → HasParts T count → i < count →
     depth (part_of T i) < depth T
 unfolding depth
-part_shallower (Struct n names parts) i count kind lt = let below : i < n = omega (arith, kind) in omega (arith, most_at n i (λ j. depth (parts j)) below)
+part_shallower (Struct n names parts) i count kind lt = let below : i < n = omega (arith, kind) in
+    omega (arith, most_at n i (λ j. depth (parts j)) below)
 part_shallower (Array n T) i count kind lt = omega arith
 part_shallower (Sequence bound T) i count kind lt = omega arith
 part_shallower T i count kind lt = absurd kind
 
 case_shallower : (T : Ty) (i : ℕ) → HasCase T i → depth (part_of T i) < depth T
 unfolding depth
-case_shallower (Union choice scalar select names cases) i kind = omega (arith, most_at (places_of choice) i (λ j. depth (cases j)) kind)
+case_shallower (Union choice scalar select names cases) i kind =
+    omega (arith, most_at (places_of choice) i (λ j. depth (cases j)) kind)
 case_shallower T i kind = absurd kind
 
 inside_shallower : (T : Ty) → IsEncapsulation T → depth (part_of T 0) < depth T
@@ -45,11 +47,23 @@ inside_shallower T kind = absurd kind
 
 fits_shallow : (ps : List OpenPart) (T : Ty) (leaf : Leaf) → FitsIn T ps leaf → length ps < depth T
 fits_shallow [] T leaf fits = depth_some T
-fits_shallow (Part U i count ∷ ps) T leaf fits = omega (arith, fits_shallow ps (part_of T i) leaf fits.1, part_shallower T i count fits.0.kind fits.0.below)
-fits_shallow (Member U i ∷ ps) T leaf fits = omega (arith, fits_shallow ps (part_of T i) leaf fits.1, case_shallower T i fits.0.kind)
-fits_shallow (Inside U coding end ∷ ps) T leaf fits = omega (arith, fits_shallow ps (part_of T 0) leaf fits.1, inside_shallower T fits.0.kind)
+fits_shallow (Part U i count ∷ ps) T leaf fits =
+    omega (
+      arith,
+      fits_shallow ps (part_of T i) leaf fits.1,
+      part_shallower T i count fits.0.kind fits.0.below,
+    )
+fits_shallow (Member U i ∷ ps) T leaf fits =
+    omega (arith, fits_shallow ps (part_of T i) leaf fits.1, case_shallower T i fits.0.kind)
+fits_shallow (Inside U coding end ∷ ps) T leaf fits =
+    omega (arith, fits_shallow ps (part_of T 0) leaf fits.1, inside_shallower T fits.0.kind)
 
 -- They are fewer than the types of a table are deep.
 pub fits_depth : (C : Table) (d : Decoder) → Fits C d → length d.outer.items < depth_of C.types
 fits_depth C d h =
-    omega (arith, length_places C h.here d.outer.items, fits_shallow (open_parts C h.here d.outer.items) (tree C h.root) _ h.fits, depth_is C h.root h.known_root)
+    omega (
+      arith,
+      length_places C h.here d.outer.items,
+      fits_shallow (open_parts C h.here d.outer.items) (tree C h.root) _ h.fits,
+      depth_is C h.root h.known_root,
+    )

@@ -58,7 +58,8 @@ frames_spelled C path (f ∷ outer) =
 
 ends_spelled : (C : Table) (path : List PathSegment) (switch : Option TypeId) →
     segments_text (path ++ end_segments C switch) ≡ segments_text path ++ end_text C switch
-ends_spelled C path None = ap segments_text (append-nil path) ∙ sym (append-nil (segments_text path))
+ends_spelled C path None = ap segments_text (append-nil path)
+    ∙ sym (append-nil (segments_text path))
 ends_spelled C path (Some of) = segments_text-append path (switch_segment (tree C of.0))
 
 pub here_spelled : (C : Table) (root : Root) (outer : List Frame) (switch : Option TypeId) →
@@ -127,7 +128,8 @@ from_end xs i d p h = let e : i - 1 + 1 ≡ i = omega arith in rw e at (drop_mor
 
 pub frames_more : (C : Table) (outer : List Frame) (i : ℕ) (d : Frame) → 0 < i → i ≤ length outer →
     frames_text C (drop (i - 1) outer)
-    ≡ segment_text (segment_in (open_part C 0 (get_or outer (i - 1) d))) ++ frames_text C (drop i outer)
+    ≡ segment_text (segment_in (open_part C 0 (get_or outer (i - 1) d)))
+    ++ frames_text C (drop i outer)
 frames_more C outer i d p h = rw (from_end outer i d p h) refl
 
 pub text_more : (C : Table) (outer : List Frame) (i : ℕ) (d : Frame) (a b : List ℕ)

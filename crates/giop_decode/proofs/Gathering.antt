@@ -25,7 +25,8 @@ use Rattle.giop_decode.proofs.PartialBlocks.{Holds, step_held, held_comes, held_
 use Rattle.giop_sig.specs.Table.{Table}
 use Rattle.giop_sig.specs.Trees.{tree}
 
--- a decoder that is so many octets further on in the same innermost part, in these frames, and may hold other octets
+-- a decoder that is so many octets further on in the same innermost part, in these frames, and may
+-- hold other octets
 pub record IsFurther (d new : Decoder) (count : ℕ) (frames : List Frame) : Type 0 where
   pub order : new.order ≡ d.order
   pub root : new.root ≡ d.root
@@ -72,7 +73,8 @@ module _ (C : Table) (d new : Decoder) where
       name = rw (on.root, on.notes) f.name;
     },
     λ T order at message root s r.
-        let same : read_by_leaf C d d.leaf r.lines (at + length s) ≡ read_by_leaf C new new.leaf r.lines (at + length s) =
+        let same : read_by_leaf C d d.leaf r.lines (at + length s)
+        ≡ read_by_leaf C new new.leaf r.lines (at + length s) =
         ap (λ l. read_by_leaf C d l r.lines (at + length s)) f.goes_on
         ∙ (sym (rw (on.outer, carry, piece) refl)
         ∙ ap (λ l. read_by_leaf C new l r.lines (at + length s)) (sym (on.leaf ∙ f.goes_on))) in
@@ -99,7 +101,8 @@ module _ (C : Table) (d new : Decoder) where
   -- none counted
   none_counted : IsCountedBy d new 0 → new.carry ≡ d.carry → new.piece.items ≡ d.piece.items →
       Fits C d → Fits C new × AllGathered C d new []
-  none_counted on carry piece f = none_gathered (subst (IsFurther d new 0) (ticked_none d.outer.items) on.0) carry piece f
+  none_counted on carry piece f = none_gathered
+      (subst (IsFurther d new 0) (ticked_none d.outer.items) on.0) carry piece f
 
 module _ (C : Table) (d new : Decoder) (leaf : Innermost) (b : ℕ) where
   -- one octet that is held, and at which no encapsulation ends
@@ -109,15 +112,19 @@ module _ (C : Table) (d new : Decoder) (leaf : Innermost) (b : ℕ) where
       Fits C new × AllGathered C d new (b ∷ [])
   one_gathered ahead on f e clean holds =
       let e' = on.leaf ∙ e in (
-        held_fits C d new leaf b ahead f e e' on.outer on.root on.notes on.inside on.at clean (holds f.here f.stands),
+        held_fits C d new leaf b ahead f e e' on.outer on.root on.notes on.inside on.at clean
+            (holds f.here f.stands),
         λ T order at message root s r. record {
           takes = takes_one C T order at message root new s b progress.More
-              (takes_to C T order at message root d new s b progress.More f on.order on.root on.message
+              (takes_to C T order at message root d new s b progress.More f on.order on.root
+              on.message
               (λ here h. held_here C d new leaf b ahead f e e' on.outer here on.at h)
               (λ here h. held_comes C d new leaf b ahead f e e' on.outer here h (holds here h))
-              (λ here front h old. held_keeps_noted C d new leaf b ahead f e e' on.outer here front on.notes h (holds here h) old) r);
+              (λ here front h old. held_keeps_noted C d new leaf b ahead f e e' on.outer here front
+              on.notes h (holds here h) old) r);
           quiet = due_is C T order at message root d s b f r
-              ∙ ap lines_of (step_held C d new leaf b ahead f e e' on.outer (at + length s) r.offset (holds (at + length s) r.offset));
+              ∙ ap lines_of (step_held C d new leaf b ahead f e e' on.outer (at + length s) r.offset
+              (holds (at + length s) r.offset));
         },
       )
 
@@ -128,8 +135,11 @@ module _ (C : Table) (d new : Decoder) (leaf : Innermost) (b : ℕ) where
       let one = g T order at message root s r in
       let others = h T order at message root (s ++ b ∷ []) (one.takes.reads (λ fault. fault)) in
       record {
-        takes = takes_both C T order at message root new s (b ∷ []) bs progress.More one.takes.answers others.takes;
-        quiet = dues_both order T at s (b ∷ []) bs ∙ (ap (λ z. z ++ added_lines_of_run order T at (s ++ b ∷ []) bs) one.quiet ∙ others.quiet);
+        takes = takes_both C T order at message root new s (b ∷ []) bs progress.More
+            one.takes.answers others.takes;
+        quiet = dues_both order T at s (b ∷ []) bs
+            ∙ (ap (λ z. z ++ added_lines_of_run order T at (s ++ b ∷ []) bs) one.quiet
+            ∙ others.quiet);
       }
 
 -- the decoder after the first of several octets
@@ -149,7 +159,16 @@ next_in d carry piece = record {
 
 next_on : (d : Decoder) (carry piece : List ℕ) →
     IsFurther d (next_in d carry piece) 1 (ticked d.outer.items)
-next_on d carry piece = record { order = refl; root = refl; message = refl; at = refl; outer = refl; inside = refl; leaf = refl; notes = refl }
+next_on d carry piece = record {
+  order = refl;
+  root = refl;
+  message = refl;
+  at = refl;
+  outer = refl;
+  inside = refl;
+  leaf = refl;
+  notes = refl;
+}
 
 others_on : (d new : Decoder) (carry piece : List ℕ) (count : ℕ) →
     IsCountedBy d new (suc count) → IsCountedBy (next_in d carry piece) new count
@@ -170,7 +189,8 @@ others_on d new carry piece count on =
 
 -- ---- of a content
 
--- At most so many octets of a piece are held while it is incomplete: of a full one, or of a last one with what ends it.
+-- At most so many octets of a piece are held while it is incomplete: of a full one, or of a last
+-- one with what ends it.
 module _ (C : Table) (of : TypeId) (total offset most : ℕ) (full : 32 < total - offset → most < 32)
     (last : total - offset ≤ 32 → most < total - offset + tail (tree C of.0)) where
   pub waits_gathered : (d new : Decoder) (octets : List ℕ) → IsCountedBy d new (length octets) →
@@ -178,16 +198,20 @@ module _ (C : Table) (of : TypeId) (total offset most : ℕ) (full : 32 < total 
       d.leaf ≡ Some (innermost.Content of total offset) →
       length d.piece.items + length octets ≤ most →
       Fits C new × AllGathered C d new octets
-  waits_gathered d new [] on carry piece f e room = none_counted C d new on carry (piece ∙ append-nil d.piece.items) f
+  waits_gathered d new [] on carry piece f e room =
+      none_counted C d new on carry (piece ∙ append-nil d.piece.items) f
   waits_gathered d new (b ∷ bs) on carry piece f e room =
       let leaf = innermost.Content of total offset in
       let held = d.piece.items ++ b ∷ [] in
       let l = length-append d.piece.items (b ∷ []) in
       let mid = next_in d d.carry held in
       let it : f.leaf ≡ leaf = same_some f.leaf leaf (sym f.goes_on ∙ e) in
-      let clean : IsClean leaf d.carry d.piece.items = subst (λ x. IsClean x d.carry d.piece.items) it f.clean in
-      let one = one_gathered C d mid leaf b (ahead_first (length bs) d.outer.items on.1) (next_on d d.carry held) f e clean
-      (λ here h path. content_held (tree C of.0) path total offset here d.piece.items b (λ large. omega (arith, full large, room))
+      let clean : IsClean leaf d.carry d.piece.items =
+      subst (λ x. IsClean x d.carry d.piece.items) it f.clean in
+      let one = one_gathered C d mid leaf b (ahead_first (length bs) d.outer.items on.1)
+      (next_on d d.carry held) f e clean
+      (λ here h path. content_held (tree C of.0) path total offset here d.piece.items b
+      (λ large. omega (arith, full large, room))
       (λ small. omega (arith, last small, room))) in
       let others = waits_gathered mid new bs (others_on d new d.carry held (length bs) on) carry
       (piece ∙ sym (append_assoc d.piece.items (b ∷ []) bs)) one.0 e (omega (arith, l, room)) in
@@ -201,7 +225,8 @@ pub content_gathered : (C : Table) (of : TypeId) (total offset : ℕ) (d new : D
     (0 < length octets → length d.piece.items + length octets < 32) →
     (0 < length octets → length d.piece.items + length octets < total - offset) →
     Fits C new × AllGathered C d new octets
-content_gathered C of total offset d new [] on carry piece f e room some = none_counted C d new on carry (piece ∙ append-nil d.piece.items) f
+content_gathered C of total offset d new [] on carry piece f e room some =
+    none_counted C d new on carry (piece ∙ append-nil d.piece.items) f
 content_gathered C of total offset d new (b ∷ bs) on carry piece f e room some =
     let full = room (omega arith) in
     let last = some (omega arith) in
@@ -220,11 +245,18 @@ number_counted C of d new (b ∷ bs) on piece f e held =
     let leaf = innermost.Number of in
     let mid = next_in d held.0 d.piece.items in
     let it : f.leaf ≡ leaf = same_some f.leaf leaf (sym f.goes_on ∙ e) in
-    let clean : IsClean leaf d.carry d.piece.items = subst (λ l. IsClean l d.carry d.piece.items) it f.clean in
-    let one = one_gathered C d mid leaf b (ahead_first (length bs) d.outer.items on.1) (next_on d held.0 d.piece.items) f e clean (λ here h path.
+    let clean : IsClean leaf d.carry d.piece.items =
+    subst (λ l. IsClean l d.carry d.piece.items) it f.clean in
+    let one = one_gathered C d mid leaf b (ahead_first (length bs) d.outer.items on.1)
+    (next_on d held.0 d.piece.items) f e clean (λ here h path.
     let c = coding_in (plain d.order) (open_parts C here d.outer.items) in
-    let k = coded_in C here (plain d.order) d.order d.at d.outer.items h.1 (record { order = refl; at = omega (arith, h.0) }) in
-    ap (after_leading_number (tree C of.0) (λ xs at rest. after c path (tree C of.0) (num c.order xs) at rest)) (held.1 c.origin here k.at)) in
-    let rest = subst (λ (c : Order × ℕ). AreHeld (leading_width (tree C of.0)) c.1 held.0 bs new.carry) (sym (coding_ticked d.order d.at d.outer.items)) held.2 in
-    let others = number_counted C of mid new bs (others_on d new held.0 d.piece.items (length bs) on) piece one.0 e rest in
+    let k = coded_in C here (plain d.order) d.order d.at d.outer.items h.1
+    (record { order = refl; at = omega (arith, h.0) }) in
+    ap (after_leading_number (tree C of.0)
+    (λ xs at rest. after c path (tree C of.0) (num c.order xs) at rest))
+    (held.1 c.origin here k.at)) in
+    let rest = subst (λ (c : Order × ℕ). AreHeld (leading_width (tree C of.0)) c.1 held.0 bs
+    new.carry) (sym (coding_ticked d.order d.at d.outer.items)) held.2 in
+    let others = number_counted C of mid new bs
+    (others_on d new held.0 d.piece.items (length bs) on) piece one.0 e rest in
     (others.0, then_gathered C d new leaf b mid bs one.1 others.1)

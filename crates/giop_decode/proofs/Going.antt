@@ -1,4 +1,5 @@
--- What comes next after a part that has ended: the next of several parts, or the rest of an encapsulation.
+-- What comes next after a part that has ended: the next of several parts, or the rest of an
+-- encapsulation.
 use Rattle.std.proofs.Common.{◌≡◌, ℕ, zero, suc, ◌+◌, ◌-◌, ◌<◌, ◌≤◌, List, [], ◌∷◌, ◌++◌, length, Some, None, refl, sym, ◌∙◌, ap, subst, arith}
 use Rattle.std.specs.List.{AllByRecursion}
 use Rattle.giop_decode.specs.ReadResult.{Coding, PathSegment, OpenPart, Part, Member, Done, Short, coded, Inside, Content}
@@ -27,9 +28,16 @@ pub record Innermost (d : ℕ) (ps : List OpenPart) (p : OpenPart) : Type 0 wher
 
 innermost_deeper : (d : ℕ) (q : OpenPart) (ps : List OpenPart) (p : OpenPart) → IsOpen (suc d) q →
     Innermost d ps p → Innermost (suc d) (q ∷ ps) p
-innermost_deeper d q ps p is i = record { front = (is, i.front); left = i.left; depth = omega (arith, i.depth); «open» = i.«open» }
+innermost_deeper d q ps p is i = record {
+  front = (is, i.front);
+  left = i.left;
+  depth =
+      omega (arith, i.depth);
+  «open» = i.«open»;
+}
 
-pub innermost : (d : ℕ) (ps : List OpenPart) (p : OpenPart) → OpenFrom d (ps ++ p ∷ []) → Innermost d ps p
+pub innermost : (d : ℕ) (ps : List OpenPart) (p : OpenPart) → OpenFrom d (ps ++ p ∷ []) →
+    Innermost d ps p
 innermost zero [] p h = absurd h
 innermost zero (q ∷ ps) p h = absurd h
 innermost (suc d) [] p h = record { front = tt; left = d; depth = omega arith; «open» = h.0 }
@@ -45,38 +53,51 @@ pub record Next (d : ℕ) (T : Ty) (i count : ℕ) : Type 0 where
 
 pub next_in : (d : ℕ) (T : Ty) (i count : ℕ) → IsOpen d (part_in T i count) →
     (IsUnion (shape_in T) → count ≡ 0) → suc i < count → Next d T i count
-next_in d (Struct n names parts) i count h none below = record { is = refl; then = refl; parts = h.0; fit = h.2; placed = rw h.0 at below }
-next_in d (Array n E) i count h none below = record { is = refl; then = refl; parts = h.0; fit = h.2; placed = tt }
-next_in d (Sequence bound E) i count h none below = record { is = refl; then = refl; parts = h.0; fit = h.2; placed = tt }
-next_in d (Union (Cases n) scalar select names cases) i count h none below = absurd (let e : count ≡ 0 = none tt in omega arith)
-next_in d (Union Tag scalar select names cases) i count h none below = absurd (let e : count ≡ 0 = none tt in omega arith)
+next_in d (Struct n names parts) i count h none below =
+    record { is = refl; then = refl; parts = h.0; fit = h.2; placed = rw h.0 at below }
+next_in d (Array n E) i count h none below =
+    record { is = refl; then = refl; parts = h.0; fit = h.2; placed = tt }
+next_in d (Sequence bound E) i count h none below =
+    record { is = refl; then = refl; parts = h.0; fit = h.2; placed = tt }
+next_in d (Union (Cases n) scalar select names cases) i count h none below =
+    absurd (let e : count ≡ 0 = none tt in omega arith)
+next_in d (Union Tag scalar select names cases) i count h none below =
+    absurd (let e : count ≡ 0 = none tt in omega arith)
 next_in d T i count h none below = absurd h.0
 
-pub goes_next : (coding : Coding) (path : List PathSegment) (ps : List OpenPart) (T : Ty) (i count at e : ℕ) →
+pub goes_next : (coding : Coding) (path : List PathSegment) (ps : List OpenPart) (T : Ty)
+    (i count at e : ℕ) →
     Next (suc e) T i count → suc i < count →
     around coding path (ps ++ part_in T i count ∷ []) (Done [] at [])
     ≡ around coding path ps (Short [] at (part_in T (suc i) count ∷ start_outer (part_of T (suc i)))
     (start_leaf (part_of T (suc i))))
 goes_next coding path ps T i count at e next below = rw (next.is, next.then)
     (around-append coding path ps (Part T i count) (Done [] at [])
-    ∙ ap (around coding path ps) (next_part (coding_in coding ps) (path_in path ps) e T i count at next.fit next.parts below))
+    ∙ ap (around coding path ps) (next_part (coding_in coding ps) (path_in path ps) e T i count at
+    next.fit next.parts below))
 
 -- after the value in an encapsulation
-pub goes_rest : (coding : Coding) (path : List PathSegment) (ps : List OpenPart) (T : Ty) (inner : Coding)
+pub goes_rest : (coding : Coding) (path : List PathSegment) (ps : List OpenPart) (T : Ty)
+    (inner : Coding)
     (end at left : ℕ) → 0 < left → end - at ≡ left →
     around coding path (ps ++ Inside T inner end ∷ []) (Done [] at [])
     ≡ around coding path ps (Short [] at [] (Content T left 0 []))
 goes_rest coding path ps T inner end at zero some e = absurd (omega arith)
 goes_rest coding path ps T inner end at (suc left) some e =
     around-append coding path ps (Inside T inner end) (Done [] at [])
-    ∙ ap (around coding path ps) (rw (e, content_none (path_in path ps) T (suc left) (full_pieces (suc left)) 0 at (omega arith)) refl)
+    ∙ ap (around coding path ps) (rw (
+      e,
+      content_none (path_in path ps) T (suc left)
+          (full_pieces (suc left)) 0 at (omega arith),
+    ) refl)
 
 pub part_is : (C : Table) (at : ℕ) (f : Frame) → f.inside ≡ None →
     open_part C at f ≡ part_in (tree C f.of.0) f.index f.count
 part_is C at f none = ap (λ x. open_part_in at x (tree C f.of.0) f.index f.count) none
 
 pub held_is : (C : Table) (at : ℕ) (f : Frame) (order : Order) → f.inside ≡ Some order →
-    open_part C at f ≡ Inside (tree C f.of.0) (coded order (at - f.index)) (at + (f.count - f.index))
+    open_part C at f ≡ Inside (tree C f.of.0) (coded order (at - f.index))
+    (at + (f.count - f.index))
 held_is C at f order some = ap (λ x. open_part_in at x (tree C f.of.0) f.index f.count) some
 
 module _ (coding : Coding) (path : List PathSegment) (ps : List OpenPart) where
@@ -84,19 +105,22 @@ module _ (coding : Coding) (path : List PathSegment) (ps : List OpenPart) where
       around coding path (ps ++ Inside T inner end ∷ []) (Done [] at [])
       ≡ around coding path ps (Done [] at [])
   goes_past T inner end at e =
-      around-append coding path ps (Inside T inner end) (Done [] at []) ∙ ap (around coding path ps) (rw e refl)
+      around-append coding path ps (Inside T inner end) (Done [] at [])
+      ∙ ap (around coding path ps) (rw e refl)
 
   part_out : (T : Ty) (i count at : ℕ) → count ≤ suc i →
       around coding path (ps ++ Part T i count ∷ []) (Done [] at [])
       ≡ around coding path ps (Done [] at [])
   part_out T i count at h =
       around-append coding path ps (Part T i count) (Done [] at [])
-      ∙ ap (around coding path ps) (last_part (coding_in coding ps) (path_in path ps) T i count at h)
+      ∙ ap (around coding path ps) (last_part (coding_in coding ps) (path_in path ps) T i count at
+      h)
 
   pub goes_out : (T : Ty) (i count at : ℕ) → count ≤ suc i →
       around coding path (ps ++ part_in T i count ∷ []) (Done [] at [])
       ≡ around coding path ps (Done [] at [])
-  goes_out (Union n scalar select names cases) i count at h = around-append coding path ps (Member (Union n scalar select names cases) i) (Done [] at [])
+  goes_out (Union n scalar select names cases) i count at h =
+      around-append coding path ps (Member (Union n scalar select names cases) i) (Done [] at [])
   goes_out T i count at h = part_out T i count at h
 
 pub all_pop : {X : Type 0} (P : X → Type 0) (xs : List X) (x : X) →
@@ -116,7 +140,9 @@ popped C at items rest f known are_open e =
     record {
       known_rest = k.0;
       known = k.1;
-      inner = innermost 24 (open_parts C at rest) (open_part C at f) (subst (OpenFrom 24) (ap (open_parts C at) e ∙ map_push (open_part C at) rest f) are_open);
+      inner = innermost 24 (open_parts C at rest) (open_part C at f)
+          (subst (OpenFrom 24) (ap (open_parts C at) e ∙ map_push (open_part C at) rest f)
+          are_open);
     }
 
 -- what holds where a frame is removed that is no encapsulation's
@@ -136,8 +162,10 @@ pub part_popped : (C : Table) (at : ℕ) (items rest : List Frame) (f : Frame) �
     PartPopped C at rest f
 part_popped C at items rest f known are_open e none =
     let p = popped C at items rest f known are_open e in
-    let w : IsWithin None f.index f.count (tree C f.of.0) = subst (λ x. IsWithin x f.index f.count (tree C f.of.0)) none p.known.within in
-    let is : open_part C at f ≡ part_in (tree C f.of.0) f.index f.count = ap (λ x. open_part_in at x (tree C f.of.0) f.index f.count) none in
+    let w : IsWithin None f.index f.count (tree C f.of.0) =
+    subst (λ x. IsWithin x f.index f.count (tree C f.of.0)) none p.known.within in
+    let is : open_part C at f ≡ part_in (tree C f.of.0) f.index f.count =
+    ap (λ x. open_part_in at x (tree C f.of.0) f.index f.count) none in
     record {
       known_rest = p.known_rest;
       known = p.known.known;
@@ -166,7 +194,8 @@ pub held_popped : (C : Table) (at : ℕ) (items rest : List Frame) (f : Frame) (
     f.inside ≡ Some order → HeldPopped C at rest f order
 held_popped C at items rest f order known are_open e some =
     let p = popped C at items rest f known are_open e in
-    let w : IsWithin (Some order) f.index f.count (tree C f.of.0) = subst (λ x. IsWithin x f.index f.count (tree C f.of.0)) some p.known.within in
+    let w : IsWithin (Some order) f.index f.count (tree C f.of.0) =
+    subst (λ x. IsWithin x f.index f.count (tree C f.of.0)) some p.known.within in
     record {
       known_rest = p.known_rest;
       known = p.known.known;

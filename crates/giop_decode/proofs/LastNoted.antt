@@ -1,5 +1,5 @@
--- What is noted of a reading, line by line, is what all of its lines give at once: the first request id, and the last
--- of enums and strings.
+-- What is noted of a reading, line by line, is what all of its lines give at once: the first
+-- request id, and the last of enums and strings.
 use Rattle.std.proofs.Common.{◌≡◌, ℕ, zero, suc, ◌+◌, ◌&&◌, Bool, true, false, List, [], ◌∷◌, ◌++◌, length, take, drop, Option, Some, None, refl, sym, ◌∙◌, ap, append_assoc, append-nil}
 use Rattle.std.specs.Prelude.{cond, flat_map, codes, ◌%◌, ◌==◌}
 use Rattle.std.specs.List.{cons_option, last_or}
@@ -38,27 +38,34 @@ left_status : (is_header : Bool) (h : Noted) (lines : List Line) →
 left_status is_header h [] = refl
 left_status is_header h (l ∷ ls) =
     left_status is_header (note is_header h l) ls
-    ∙ (ap (λ o. last_or o (enums ls)) (value_status (is_header && is_member (codes "request_id") l.path) h l.value)
+    ∙ (ap (λ o. last_or o (enums ls)) (value_status
+    (is_header && is_member (codes "request_id") l.path) h l.value)
     ∙ sym (last_cons h.status (enum_of l.value) (enums ls)))
 
 -- ---- whether a reply is expected
 
 -- by one value, from what was said before
 expects_one : (is_header : Bool) (path : List PathSegment) (value : Value) (before : Option Bool) →
-    expects_after is_header path value before ≡ last_or before (cons_option (expects_after is_header path value None) [])
-expects_one is_header path (Number (Plain prims.Boolean) n) before = go (is_header && is_member (codes "response_expected") path)
+    expects_after is_header path value before
+    ≡ last_or before (cons_option (expects_after is_header path value None) [])
+expects_one is_header path (Number (Plain prims.Boolean) n) before =
+    go (is_header && is_member (codes "response_expected") path)
   where
-    go : (b : Bool) → cond b (Some (n % 2 == 1)) before ≡ last_or before (cons_option (cond b (Some (n % 2 == 1)) None) [])
+    go : (b : Bool) → cond b (Some (n % 2 == 1)) before
+        ≡ last_or before (cons_option (cond b (Some (n % 2 == 1)) None) [])
     go true = refl
     go false = refl
-expects_one is_header path (Number (Plain prims.Octet) n) before = go (is_header && is_member (codes "response_flags") path)
+expects_one is_header path (Number (Plain prims.Octet) n) before =
+    go (is_header && is_member (codes "response_flags") path)
   where
-    go : (b : Bool) → cond b (Some (n % 2 == 1)) before ≡ last_or before (cons_option (cond b (Some (n % 2 == 1)) None) [])
+    go : (b : Bool) → cond b (Some (n % 2 == 1)) before
+        ≡ last_or before (cons_option (cond b (Some (n % 2 == 1)) None) [])
     go true = refl
     go false = refl
 expects_one is_header path value before = refl
 
-last_expected : (o x : Option Bool) (xs : List Bool) → last_or o (cons_option x xs) ≡ last_or (last_or o (cons_option x [])) xs
+last_expected : (o x : Option Bool) (xs : List Bool) →
+    last_or o (cons_option x xs) ≡ last_or (last_or o (cons_option x [])) xs
 last_expected o None xs = refl
 last_expected o (Some n) xs = refl
 
@@ -67,7 +74,8 @@ left_expects : (is_header : Bool) (h : Noted) (lines : List Line) →
 left_expects is_header h [] = refl
 left_expects is_header h (l ∷ ls) =
     left_expects is_header (note is_header h l) ls
-    ∙ (ap (λ o. last_or o (expectations is_header ls)) (expects_one is_header l.path l.value h.expects_reply)
+    ∙ (ap (λ o. last_or o (expectations is_header ls))
+    (expects_one is_header l.path l.value h.expects_reply)
     ∙ sym (last_expected h.expects_reply (expected_by is_header l) (expectations is_header ls)))
 
 -- ---- the request id
@@ -107,7 +115,8 @@ left_id is_header h (l ∷ ls) =
 -- the name after pieces of strings, where so much is noted of one that hasn't ended
 abbrev said : Option (List ℕ) → List ℕ → List TextPiece → Option (List ℕ)
 said name so_far [] = name
-said name so_far (p ∷ ps) = cond p.more (said None (so_far ++ p.octets) ps) (said (name_if (so_far ++ p.octets)) [] ps)
+said name so_far (p ∷ ps) = cond p.more (said None (so_far ++ p.octets) ps)
+    (said (name_if (so_far ++ p.octets)) [] ps)
 
 value_name : (is_id : Bool) (h : Noted) (value : Value) (ps : List TextPiece) →
     said (note_value is_id h value).name (note_value is_id h value).so_far ps
@@ -121,7 +130,8 @@ left_name : (is_header : Bool) (h : Noted) (lines : List Line) →
     (noted is_header h lines).name ≡ said h.name h.so_far (text_pieces lines)
 left_name is_header h [] = refl
 left_name is_header h (l ∷ ls) =
-    left_name is_header (note is_header h l) ls ∙ value_name (is_header && is_member (codes "request_id") l.path) h l.value (text_pieces ls)
+    left_name is_header (note is_header h l) ls
+    ∙ value_name (is_header && is_member (codes "request_id") l.path) h l.value (text_pieces ls)
 
 said_cut : (full offset : ℕ) (content : List ℕ) (name : Option (List ℕ)) (so_far : List ℕ)
     (ps : List TextPiece) → said name so_far (cut_from full offset content ++ ps)
@@ -129,21 +139,25 @@ said_cut : (full offset : ℕ) (content : List ℕ) (name : Option (List ℕ)) (
 said_cut zero offset content name so_far ps = refl
 said_cut (suc full) offset content name so_far ps =
     said_cut full (offset + 32) (drop 32 content) None (so_far ++ take 32 content) ps
-    ∙ ap (λ octets. said (name_if octets) [] ps) (append_assoc so_far (take 32 content) (drop 32 content)
+    ∙ ap (λ octets. said (name_if octets) [] ps)
+    (append_assoc so_far (take 32 content) (drop 32 content)
     ∙ ap (λ octets. so_far ++ octets) (take-append-drop 32 content))
 
 said_all : (before : Option (List ℕ)) (contents : List (List ℕ)) →
     said (name_of before) [] (flat_map pieces_of contents) ≡ name_of (last_or before contents)
 said_all before [] = refl
 said_all before (c ∷ contents) =
-    said_cut (full_pieces (length c)) 0 c (name_of before) [] (flat_map pieces_of contents) ∙ said_all (Some c) contents
+    said_cut (full_pieces (length c)) 0 c (name_of before) [] (flat_map pieces_of contents)
+    ∙ said_all (Some c) contents
 
 outside_name : (is_header : Bool) (r : Read) (strings : Strings r) → ends_in_string r ≡ false →
     (noted is_header nothing_noted (lines_of r)).name ≡ name_of (last_or None strings.contents)
 outside_name is_header r strings outside =
-    let whole : text_pieces (lines_of r) ≡ flat_map pieces_of strings.contents = rw (strings.lines, strings.none outside)
+    let whole : text_pieces (lines_of r) ≡ flat_map pieces_of strings.contents =
+    rw (strings.lines, strings.none outside)
     (append-nil (flat_map pieces_of strings.contents)) in
-    left_name is_header nothing_noted (lines_of r) ∙ (ap (said None []) whole ∙ said_all None strings.contents)
+    left_name is_header nothing_noted (lines_of r)
+    ∙ (ap (said None []) whole ∙ said_all None strings.contents)
 
 -- ---- all of it
 
@@ -155,15 +169,20 @@ without_name_status : (inside : Bool) (h : Noted) → (without_name_if inside h)
 without_name_status true h = refl
 without_name_status false h = refl
 
-without_name_expects : (inside : Bool) (h : Noted) → (without_name_if inside h).expects_reply ≡ h.expects_reply
+without_name_expects : (inside : Bool) (h : Noted) →
+    (without_name_if inside h).expects_reply ≡ h.expects_reply
 without_name_expects true h = refl
 without_name_expects false h = refl
 
 is_left : (is_header : Bool) (r : Read) → Strings r → IsLeft is_header r (noted_of is_header r)
 is_left is_header r strings = record {
-  request_id = without_name_id (ends_in_string r) (noted is_header nothing_noted (lines_of r)) ∙ left_id is_header nothing_noted (lines_of r);
-  status = without_name_status (ends_in_string r) (noted is_header nothing_noted (lines_of r)) ∙ left_status is_header nothing_noted (lines_of r);
-  expects_reply = without_name_expects (ends_in_string r) (noted is_header nothing_noted (lines_of r)) ∙ left_expects is_header nothing_noted (lines_of r);
+  request_id = without_name_id (ends_in_string r) (noted is_header nothing_noted (lines_of r))
+      ∙ left_id is_header nothing_noted (lines_of r);
+  status = without_name_status (ends_in_string r) (noted is_header nothing_noted (lines_of r))
+      ∙ left_status is_header nothing_noted (lines_of r);
+  expects_reply = without_name_expects (ends_in_string r)
+      (noted is_header nothing_noted (lines_of r))
+      ∙ left_expects is_header nothing_noted (lines_of r);
   strings = strings;
   name = name (ends_in_string r) refl;
 }
@@ -178,4 +197,5 @@ is_left is_header r strings = record {
 pub read_left : (is_header : Bool) (coding : Coding) (path : List PathSegment) (T : Ty) (at : ℕ)
     (s : List ℕ) → IsLeft is_header (read coding path T at s)
     (noted_of is_header (read coding path T at s))
-read_left is_header coding path T at s = is_left is_header (read coding path T at s) (read_strings coding path T at s)
+read_left is_header coding path T at s =
+    is_left is_header (read coding path T at s) (read_strings coding path T at s)

@@ -22,15 +22,19 @@ use Rattle.giop_decode.specs.ReadResult
 
 -- a reader for which one octet more is one step
 abbrev pub Goes : Coding → List PathSegment → (ℕ → List ℕ → Read) → Type 0
-Goes coding path reader = (at : ℕ) (s : List ℕ) (b : ℕ) → reader at (s ++ b ∷ []) ≡ advance coding path (reader at s) b
+Goes coding path reader = (at : ℕ) (s : List ℕ) (b : ℕ) →
+    reader at (s ++ b ∷ []) ≡ advance coding path (reader at s) b
 
 -- with_front
 
 pub with_front_twice : (front mid : List Line) (r : Read) →
     with_front front (with_front mid r) ≡ with_front (front ++ mid) r
-with_front_twice front mid (Done lines at rest) = ap (λ ls. Done ls at rest) (sym (append_assoc front mid lines))
-with_front_twice front mid (Short lines at outer leaf) = ap (λ ls. Short ls at outer leaf) (sym (append_assoc front mid lines))
-with_front_twice front mid (Fault lines at kind S) = ap (λ ls. Fault ls at kind S) (sym (append_assoc front mid lines))
+with_front_twice front mid (Done lines at rest) =
+    ap (λ ls. Done ls at rest) (sym (append_assoc front mid lines))
+with_front_twice front mid (Short lines at outer leaf) =
+    ap (λ ls. Short ls at outer leaf) (sym (append_assoc front mid lines))
+with_front_twice front mid (Fault lines at kind S) =
+    ap (λ ls. Fault ls at kind S) (sym (append_assoc front mid lines))
 
 pub with_front_none : (r : Read) → with_front [] r ≡ r
 with_front_none (Done lines at rest) = refl
@@ -39,12 +43,14 @@ with_front_none r = refl
 pub with_front-advance : (coding : Coding) (path : List PathSegment) (front : List Line) (r : Read)
     (b : ℕ) → with_front front (advance coding path r b)
     ≡ advance coding path (with_front front r) b
-with_front-advance coding path front (Short lines at outer leaf) b = with_front_twice front lines (step coding path outer leaf at b)
+with_front-advance coding path front (Short lines at outer leaf) b =
+    with_front_twice front lines (step coding path outer leaf at b)
 with_front-advance coding path front r b = refl
 
 pub with_front-followed : (front : List Line) (r : Read) (next : ℕ → List ℕ → Read) →
     followed (with_front front r) next ≡ with_front front (followed r next)
-with_front-followed front (Done lines at rest) next = sym (with_front_twice front lines (next at rest))
+with_front-followed front (Done lines at rest) next =
+    sym (with_front_twice front lines (next at rest))
 with_front-followed front r next = refl
 
 pub with_front-within : (front : List Line) (place : OpenPart) (r : Read) →
@@ -63,12 +69,15 @@ module _ (coding : Coding) (path : List PathSegment) (T : Ty) (count : ℕ) wher
       (advance coding (inner_path path T i) r b)) (parts more (suc i))
       ≡ advance coding path (followed (within (Part T i count) r) (parts more (suc i))) b
   part_goes i more is goes (Done lines at rest) b =
-      ap (with_front lines) (goes at rest b) ∙ with_front-advance coding path lines (parts more (suc i) at rest) b
+      ap (with_front lines) (goes at rest b)
+      ∙ with_front-advance coding path lines (parts more (suc i) at rest) b
   part_goes i more is goes (Short lines at outer leaf) b =
       let r = within (Part T i count) (step coding (inner_path path T i) outer leaf at b) in
       let next = parts more (suc i) in
-      ap (λ x. followed x next) (with_front-within lines (Part T i count) (step coding (inner_path path T i) outer leaf at b))
-      ∙ (with_front-followed lines r next ∙ ap (λ m. with_front lines (followed r (parts m (suc i)))) is)
+      ap (λ x. followed x next) (with_front-within lines (Part T i count)
+      (step coding (inner_path path T i) outer leaf at b))
+      ∙ (with_front-followed lines r next ∙
+      ap (λ m. with_front lines (followed r (parts m (suc i)))) is)
   part_goes i more is goes (Fault lines at kind S) b = refl
 
   -- parts, one from where the other ended
@@ -79,13 +88,15 @@ module _ (coding : Coding) (path : List PathSegment) (T : Ty) (count : ℕ) wher
   parts_go each (suc more) i is at s b =
       let is_next : more ≡ count - suc i = omega arith in
       ap (λ r. followed (within (Part T i count) r) (parts more (suc i))) (each i at s b)
-      ∙ part_goes i more is_next (parts_go each more (suc i) is_next) (read coding (inner_path path T i) (part_of T i) at s) b
+      ∙ part_goes i more is_next (parts_go each more (suc i) is_next)
+      (read coding (inner_path path T i) (part_of T i) at s) b
 
 -- a union's member, which no other part follows
 pub member_goes : (coding : Coding) (path : List PathSegment) (T : Ty) (i : ℕ) (r : Read) (b : ℕ) →
     within (Member T i) (advance coding (inner_path path T i) r b)
     ≡ advance coding path (within (Member T i) r) b
-member_goes coding path T i (Short lines at outer leaf) b = with_front-within lines (Member T i) (step coding (inner_path path T i) outer leaf at b)
+member_goes coding path T i (Short lines at outer leaf) b =
+    with_front-within lines (Member T i) (step coding (inner_path path T i) outer leaf at b)
 member_goes coding path T i r b = refl
 
 -- octets
@@ -125,15 +136,20 @@ block_goes n at s b = go (cases_lt (length s) n) (cases_lt (length s + 1) n)
         block n at (s ++ b ∷ []) ≡ more_of (block_step n) (block n at s) b
     go (inl h) (inl k) =
         let l : length (s ++ b ∷ []) < n = rw length_one_more k in
-        block_waits n at (s ++ b ∷ []) l ∙ (ap (Partial (s ++ b ∷ [])) (omega (arith, length_one_more s b))
-        ∙ (sym (block_step_waits n (at + length s) s b k) ∙ ap (λ g. more_of (block_step n) g b) (sym (block_waits n at s h))))
+        block_waits n at (s ++ b ∷ []) l ∙ (ap (Partial (s ++ b ∷ []))
+        (omega (arith, length_one_more s b))
+        ∙ (sym (block_step_waits n (at + length s) s b k)
+        ∙ ap (λ g. more_of (block_step n) g b) (sym (block_waits n at s h))))
     go (inl h) (inr k) =
         let l : n ≡ length (s ++ b ∷ []) = omega (arith, length_one_more s b) in
-        block_got n at (s ++ b ∷ []) (le_of_eq l) ∙ (rw (l, take-length, drop-length, length_one_more, ← add_assoc) refl
-        ∙ (sym (block_step_got n (at + length s) s b k) ∙ ap (λ g. more_of (block_step n) g b) (sym (block_waits n at s h))))
+        block_got n at (s ++ b ∷ []) (le_of_eq l)
+        ∙ (rw (l, take-length, drop-length, length_one_more, ← add_assoc) refl
+        ∙ (sym (block_step_got n (at + length s) s b k)
+        ∙ ap (λ g. more_of (block_step n) g b) (sym (block_waits n at s h))))
     go (inr h) _ =
         let l : n ≤ length (s ++ b ∷ []) = omega (arith, length_one_more s b) in
-        block_got n at (s ++ b ∷ []) l ∙ (rw (take-append-le, drop-append-le) refl ∙ ap (λ g. more_of (block_step n) g b) (sym (block_got n at s h)))
+        block_got n at (s ++ b ∷ []) l ∙ (rw (take-append-le, drop-append-le) refl
+        ∙ ap (λ g. more_of (block_step n) g b) (sym (block_got n at s h)))
 
 -- padding is what is left up to the next multiple
 pad_at : (q r n : ℕ) → 0 < r → r < n → padding (q * n + r) n ≡ n - r
@@ -148,14 +164,19 @@ pub pad_more : (at k n : ℕ) → 0 < n → k < padding at n → 0 < padding (at
 pad_more at k n h l = go (at % n) refl
   where
     is : (q r : ℕ) → at ≡ q * n + r → r < n → k < padding (q * n + r) n → 0 < padding (at + k) n
-    is q zero e below k_below = absurd (omega (arith, pad_at_multiple q n h, rw add-zero at k_below))
+    is q zero e below k_below = absurd (omega (
+      arith,
+      pad_at_multiple q n h,
+      rw add-zero at k_below,
+    ))
     is q (suc r) e below k_below =
         let p = pad_at q (suc r) n (omega arith) below in
         let room : suc r + k < n = omega arith in
         rw (e, add_assoc, pad_at q (suc r + k) n (omega arith) room) (omega arith)
 
     go : (r : ℕ) → at % n ≡ r → 0 < padding (at + k) n
-    go r e = is (at / n) r (rw (← e) (sym (div-add-mod' at n))) (rw (← e) (mod-lt at h)) (rw (← e, div-add-mod' at n) l)
+    go r e = is (at / n) r (rw (← e) (sym (div-add-mod' at n))) (rw (← e) (mod-lt at h))
+        (rw (← e, div-add-mod' at n) l)
 
 pub pad_end : (at n : ℕ) → 0 < n → padding (at + padding at n) n ≡ 0
 pad_end at n h = go (at % n) refl
@@ -171,7 +192,8 @@ pad_end at n h = go (at % n) refl
 
 -- padding counted from an origin
 pad_none : (n : ℕ) → 0 < n → padding 0 n ≡ 0
-pad_none n h = let e : 0 * n ≡ 0 = omega arith in subst (λ x. padding x n ≡ 0) e (pad_at_multiple 0 n h)
+pad_none n h = let e : 0 * n ≡ 0 = omega arith in
+    subst (λ x. padding x n ≡ 0) e (pad_at_multiple 0 n h)
 
 pub pad_more_from : (o at k n : ℕ) → 0 < n → k < padding (at - o) n → 0 < padding ((at + k) - o) n
 pad_more_from o at k n h l = go (cases_lt at o)
@@ -222,16 +244,19 @@ number_step_blocks o n at (x ∷ xs) b (inr h) = refl
 
 pub number_goes : (o n at : ℕ) (s : List ℕ) (b : ℕ) → 0 < n →
     number o n at (s ++ b ∷ []) ≡ more_of (number_step o n) (number o n at s) b
-number_goes o n at s b pos = go (cases_lt (length s) (padding (at - o) n)) (cases_lt (length s + 1) (padding (at - o) n))
+number_goes o n at s b pos = go (cases_lt (length s) (padding (at - o) n))
+    (cases_lt (length s + 1) (padding (at - o) n))
   where
     -- past the padding, a block's step is the number's
     same : (t : List ℕ) → (length t < n) ⊎ (n ≤ length t) →
         more_of (block_step n) (block n (at + padding (at - o) n) t) b
         ≡ more_of (number_step o n) (block n (at + padding (at - o) n) t) b
     same [] (inl h) =
-        rw (block_waits n (at + padding (at - o) n) [] h, add-zero) (sym (number_step_blocks o n (at + padding (at - o) n) [] b
+        rw (block_waits n (at + padding (at - o) n) [] h, add-zero)
+        (sym (number_step_blocks o n (at + padding (at - o) n) [] b
         (inr (pad_end_from o at n pos))))
-    same (x ∷ t) (inl h) = rw (block_waits n (at + padding (at - o) n) (x ∷ t) h) (sym (number_step_blocks o n _ (x ∷ t) b (inl (omega arith))))
+    same (x ∷ t) (inl h) = rw (block_waits n (at + padding (at - o) n) (x ∷ t) h)
+        (sym (number_step_blocks o n _ (x ∷ t) b (inl (omega arith))))
     same t (inr h) = rw (block_got n (at + padding (at - o) n) t h) refl
 
     go : (length s < padding (at - o) n) ⊎ (padding (at - o) n ≤ length s) →
@@ -240,17 +265,25 @@ number_goes o n at s b pos = go (cases_lt (length s) (padding (at - o) n)) (case
     go (inl h) (inl k) =
         let l : length (s ++ b ∷ []) < padding (at - o) n = rw length_one_more k in
         rw (number_waits o n at s h, number_waits o n at (s ++ b ∷ []) l)
-        (rw (number_step_pads o n (at + length s) b (pad_more_from o at (length s) n pos h), length_one_more, add_assoc) refl)
+        (rw (
+          number_step_pads o n (at + length s) b (pad_more_from o at (length s) n pos h),
+          length_one_more,
+          add_assoc,
+        ) refl)
     go (inl h) (inr k) =
         let l : padding (at - o) n ≡ length (s ++ b ∷ []) = omega (arith, length_one_more s b) in
         rw (number_waits o n at s h, number_blocks o n at (s ++ b ∷ []) (le_of_eq l))
         (rw (number_step_pads o n (at + length s) b (pad_more_from o at (length s) n pos h))
-        (rw (drop_all (padding (at - o) n) (s ++ b ∷ []) (le_of_eq (sym l)), block_waits n (at + padding (at - o) n) [] pos)
+        (rw (
+          drop_all (padding (at - o) n) (s ++ b ∷ []) (le_of_eq (sym l)),
+          block_waits n (at + padding (at - o) n) [] pos,
+        )
         (ap (Partial []) (omega (arith, length_one_more s b)))))
     go (inr h) _ =
         let l : padding (at - o) n ≤ length (s ++ b ∷ []) = omega (arith, length_one_more s b) in
         rw (number_blocks o n at s h, number_blocks o n at (s ++ b ∷ []) l, drop-append-le)
-        (block_goes n (at + padding (at - o) n) (drop (padding (at - o) n) s) b ∙ same (drop (padding (at - o) n) s)
+        (block_goes n (at + padding (at - o) n) (drop (padding (at - o) n) s) b
+        ∙ same (drop (padding (at - o) n) s)
         (cases_lt (length (drop (padding (at - o) n) s)) n))
 
 -- content
@@ -265,9 +298,14 @@ module _ (coding : Coding) (path : List PathSegment) where
       last_piece T path total offset (more_of (block_step (total - offset + tail T)) g b)
       ≡ advance coding path (last_piece T path total offset g) b
   last_piece_goes T total offset h (Partial piece at) b =
-      rw (le-ltb, with_front_none (last_piece T path total offset (block_step (total - offset + tail T) at piece b))) refl
+      rw (
+        le-ltb,
+        with_front_none (last_piece T path total offset
+            (block_step (total - offset + tail T) at piece b)),
+      ) refl
   last_piece_goes T total offset h (Complete xs at rest) b =
-      unless_goes T (ends T (total - offset) xs) at (Done (line at path (Piece T offset (take (total - offset) xs) false) ∷ []) at rest) b
+      unless_goes T (ends T (total - offset) xs) at
+      (Done (line at path (Piece T offset (take (total - offset) xs) false) ∷ []) at rest) b
 
   full_piece_goes : (T : Ty) (total offset full : ℕ) → suc full ≡ full_pieces (total - offset) →
       Goes coding path (content T path total full (offset + 32)) → (g : Block) (b : ℕ) →
@@ -277,10 +315,16 @@ module _ (coding : Coding) (path : List PathSegment) where
   full_piece_goes T total offset full is goes (Partial piece at) b =
       let more : 32 < total - offset = omega arith in
       let rest : full_pieces (total - (offset + 32)) ≡ full = omega arith in
-      rw (lt-ltb, rest, with_front_none (full_piece T path total offset (content T path total full (offset + 32)) (block_step 32 at piece b))) refl
+      rw (
+        lt-ltb,
+        rest,
+        with_front_none (full_piece T path total offset
+            (content T path total full (offset + 32)) (block_step 32 at piece b)),
+      ) refl
   full_piece_goes T total offset full is goes (Complete xs at rest) b =
       let front = line at path (Piece T offset xs true) ∷ [] in
-      ap (with_front front) (goes at rest b) ∙ with_front-advance coding path front (content T path total full (offset + 32) at rest) b
+      ap (with_front front) (goes at rest b)
+      ∙ with_front-advance coding path front (content T path total full (offset + 32) at rest) b
 
   pub content_goes : (T : Ty) (total full offset : ℕ) → full ≡ full_pieces (total - offset) →
       Goes coding path (content T path total full offset)
@@ -288,19 +332,25 @@ module _ (coding : Coding) (path : List PathSegment) where
       ap (last_piece T path total offset) (block_goes (total - offset + tail T) at s b)
       ∙ last_piece_goes T total offset (omega arith) (block (total - offset + tail T) at s) b
   content_goes T total (suc full) offset is at s b =
-      ap (full_piece T path total offset (content T path total full (offset + 32))) (block_goes 32 at s b)
-      ∙ full_piece_goes T total offset full is (content_goes T total full (offset + 32) (omega arith)) (block 32 at s) b
+      ap (full_piece T path total offset (content T path total full (offset + 32)))
+      (block_goes 32 at s b)
+      ∙ full_piece_goes T total offset full is
+      (content_goes T total full (offset + 32) (omega arith)) (block 32 at s) b
 
   pub text_goes : (bound : Option ℕ) (n : ℕ) → Goes coding path (text bound path n)
   text_goes bound zero at s b = refl
   text_goes bound (suc n) at s b =
-      ap (unless (Text bound) (over bound n) at) (content_goes (Text bound) n (full_pieces n) 0 (omega arith) at s b)
-      ∙ unless_goes (Text bound) (over bound n) at (content (Text bound) path n (full_pieces n) 0 at s) b
+      ap (unless (Text bound) (over bound n) at)
+      (content_goes (Text bound) n (full_pieces n) 0 (omega arith) at s b)
+      ∙ unless_goes (Text bound) (over bound n) at
+      (content (Text bound) path n (full_pieces n) 0 at s) b
 
   pub octets_goes : (bound : Option ℕ) (n : ℕ) → Goes coding path (octets bound path n)
   octets_goes bound n at s b =
-      ap (unless (Octets bound) (over bound n) at) (content_goes (Octets bound) n (full_pieces n) 0 (omega arith) at s b)
-      ∙ unless_goes (Octets bound) (over bound n) at (content (Octets bound) path n (full_pieces n) 0 at s) b
+      ap (unless (Octets bound) (over bound n) at)
+      (content_goes (Octets bound) n (full_pieces n) 0 (omega arith) at s b)
+      ∙ unless_goes (Octets bound) (over bound n) at
+      (content (Octets bound) path n (full_pieces n) 0 at s) b
 
 -- what begins with a number
 
@@ -316,16 +366,19 @@ headed_goes coding path T pos goes at s b =
     ap (headed_by coding path T) (number_goes coding.origin (leading_width T) at s b pos)
     ∙ go (number coding.origin (leading_width T) at s)
   where
-    go : (g : Block) → headed_by coding path T (more_of (number_step coding.origin (leading_width T)) g
+    go : (g : Block) → headed_by coding path T
+        (more_of (number_step coding.origin (leading_width T)) g
         b) ≡ advance coding path (headed_by coding path T g) b
     go (Partial carry at) =
-        sym (with_front_none (headed_by coding path T (number_step coding.origin (leading_width T) at carry b)))
+        sym (with_front_none (headed_by coding path T
+        (number_step coding.origin (leading_width T) at carry b)))
     go (Complete xs at rest) = goes (num coding.order xs) at rest b
 
 pub single_goes : (coding : Coding) (path inner : List PathSegment) (scalar : Scalar) (n : ℕ) →
     Goes coding path (single inner scalar n)
 single_goes coding path inner scalar n at s b =
-    unless_goes coding path (Single scalar) (wrong scalar n) at (Done (line at inner (ReadResult.Number scalar n) ∷ []) at s) b
+    unless_goes coding path (Single scalar) (wrong scalar n) at
+    (Done (line at inner (ReadResult.Number scalar n) ∷ []) at s) b
 
 pub size_pos : (p : Primitive) → 0 < size_of p
 size_pos prims.Octet = lit< tt
@@ -342,15 +395,18 @@ counted_goes coding path bound T n goes at s b =
     let front = line at path (Count n) ∷ [] in
     let elements = parts_from (part_at coding path (Sequence bound T) n) n 0 in
     ap (λ r. unless (Sequence bound T) (over bound n) at (with_front front r)) (goes at s b)
-    ∙ (ap (unless (Sequence bound T) (over bound n) at) (with_front-advance coding path front (elements at s) b)
-    ∙ unless_goes coding path (Sequence bound T) (over bound n) at (with_front front (elements at s)) b)
+    ∙ (ap (unless (Sequence bound T) (over bound n) at)
+    (with_front-advance coding path front (elements at s) b)
+    ∙ unless_goes coding path (Sequence bound T) (over bound n) at
+    (with_front front (elements at s)) b)
 
 pub selected_goes : (coding : Coding) (path : List PathSegment) (T : Ty) (selected : Selected) →
     ((i : ℕ) → Goes coding (inner_path path T i) (read coding (inner_path path T i) (part_of T i)))
     → Goes coding path (member selected (λ i at s. within (Member T i)
     (read coding (inner_path path T i) (part_of T i) at s)))
 selected_goes coding path T (Case i) each at s b =
-    ap (within (Member T i)) (each i at s b) ∙ member_goes coding path T i (read coding (inner_path path T i) (part_of T i) at s) b
+    ap (within (Member T i)) (each i at s b)
+    ∙ member_goes coding path T i (read coding (inner_path path T i) (part_of T i) at s) b
 selected_goes coding path T _ each at s b = refl
 
 pub union_goes : (coding : Coding) (path : List PathSegment) (choice : Choice) (scalar : Scalar)
@@ -359,9 +415,16 @@ pub union_goes : (coding : Coding) (path : List PathSegment) (choice : Choice) (
     (cases i))) → Goes coding path (after coding path (Union choice scalar select names cases) n)
 union_goes coding path choice scalar select names cases n each at s b =
     let T = Union choice scalar select names cases in
-    let next : ℕ → List ℕ → Read = member (select n) (λ i at' s'. within (Member T i) (read coding (inner_path path T i) (part_of T i) at' s')) in
-    let front : List Line = line at (path ++ Switch (tag_of choice names) ∷ []) (ReadResult.Number scalar n) ∷ [] in
-    ap (λ r. unless T (wrong scalar n) at (unless T (refused (select n)) at (with_front front r))) (selected_goes coding path T (select n) each at s b)
-    ∙ (ap (λ r. unless T (wrong scalar n) at (unless T (refused (select n)) at r)) (with_front-advance coding path front (next at s) b)
-    ∙ (ap (unless T (wrong scalar n) at) (unless_goes coding path T (refused (select n)) at (with_front front (next at s)) b)
-    ∙ unless_goes coding path T (wrong scalar n) at (unless T (refused (select n)) at (with_front front (next at s))) b))
+    let next : ℕ → List ℕ → Read = member (select n)
+    (λ i at' s'. within (Member T i) (read coding (inner_path path T i) (part_of T i) at' s'))
+    in
+    let front : List Line = line at (path ++ Switch (tag_of choice names) ∷ [])
+    (ReadResult.Number scalar n) ∷ [] in
+    ap (λ r. unless T (wrong scalar n) at (unless T (refused (select n)) at (with_front front r)))
+    (selected_goes coding path T (select n) each at s b)
+    ∙ (ap (λ r. unless T (wrong scalar n) at (unless T (refused (select n)) at r))
+    (with_front-advance coding path front (next at s) b)
+    ∙ (ap (unless T (wrong scalar n) at) (unless_goes coding path T (refused (select n)) at
+    (with_front front (next at s)) b)
+    ∙ unless_goes coding path T (wrong scalar n) at
+    (unless T (refused (select n)) at (with_front front (next at s))) b))

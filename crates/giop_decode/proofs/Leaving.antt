@@ -34,7 +34,14 @@ fit_held d T fit kind = absurd kind
 
 deeper : (d : ℕ) (place : OpenPart) (outer : List OpenPart) (leaf : Leaf) → IsOpen (suc d) place →
     LeafAt d outer leaf → LeafAt (suc d) (place ∷ outer) leaf
-deeper d place outer leaf is l = record { are_open = (is, l.are_open); left = l.left; depth = omega (arith, l.depth); fit = l.fit; fits = l.fits }
+deeper d place outer leaf is l = record {
+  are_open = (is, l.are_open);
+  left = l.left;
+  depth =
+      omega (arith, l.depth);
+  fit = l.fit;
+  fits = l.fits;
+}
 
 leaf_same : (T : Ty) (leaf : Leaf) → FitsIn T [] leaf → leaf_ty leaf ≡ T
 leaf_same T (LeadingNumber U carry) fits = fits.same
@@ -53,10 +60,12 @@ leaf_at (suc d) T (Part U i count ∷ outer) leaf fits fit =
     (leaf_at d (part_of T i) outer leaf fits.1 (fit_part d T i count fit fits.0.kind fits.0.below))
 leaf_at zero T (Member U i ∷ outer) leaf fits fit = absurd fit
 leaf_at (suc d) T (Member U i ∷ outer) leaf fits fit =
-    deeper d (Member U i) outer leaf (rw fits.0.same (fits.0.kind, fit)) (leaf_at d (part_of T i) outer leaf fits.1 (fit_case d T i fit fits.0.kind))
+    deeper d (Member U i) outer leaf (rw fits.0.same (fits.0.kind, fit))
+    (leaf_at d (part_of T i) outer leaf fits.1 (fit_case d T i fit fits.0.kind))
 leaf_at zero T (Inside U c end ∷ outer) leaf fits fit = absurd fit
 leaf_at (suc d) T (Inside U c end ∷ outer) leaf fits fit =
-    deeper d (Inside U c end) outer leaf (rw fits.0.same (fits.0.kind, fit)) (leaf_at d (part_of T 0) outer leaf fits.1 (fit_held d T fit fits.0.kind))
+    deeper d (Inside U c end) outer leaf (rw fits.0.same (fits.0.kind, fit))
+    (leaf_at d (part_of T 0) outer leaf fits.1 (fit_held d T fit fits.0.kind))
 
 -- one octet more
 
@@ -66,7 +75,8 @@ block_step_takes n at held b room = go (cases_lt (length held + 1) n)
   where
     go : (length held + 1 < n) ⊎ (n ≤ length held + 1) → Takes n (at + 1) (block_step n at held b)
     go (inl h) = rw (block_step_waits n at held b h) (refl, omega (arith, length_one_more held b))
-    go (inr h) = rw (block_step_got n at held b h) (omega arith, omega (arith, length_one_more held b))
+    go (inr h) = rw (block_step_got n at held b h)
+        (omega arith, omega (arith, length_one_more held b))
 
 number_step_takes : (o n at : ℕ) (carry : List ℕ) (b : ℕ) → length carry < n →
     Takes n (at + 1) (number_step o n at carry b)
@@ -75,66 +85,94 @@ number_step_takes o n at [] b room = go (cases_lt 0 (padding (at - o) n))
     go : (0 < padding (at - o) n) ⊎ (padding (at - o) n ≤ 0) →
         Takes n (at + 1) (number_step o n at [] b)
     go (inl h) = rw (number_step_pads o n at b h) (refl, room)
-    go (inr h) = rw (number_step_blocks o n at [] b (inr (omega arith))) (block_step_takes n at [] b room)
-number_step_takes o n at (x ∷ xs) b room = rw (number_step_blocks o n at (x ∷ xs) b (inl (omega arith))) (block_step_takes n at (x ∷ xs) b room)
+    go (inr h) = rw (number_step_blocks o n at [] b (inr (omega arith)))
+        (block_step_takes n at [] b room)
+number_step_takes o n at (x ∷ xs) b room =
+    rw (number_step_blocks o n at (x ∷ xs) b (inl (omega arith)))
+    (block_step_takes n at (x ∷ xs) b room)
 
 headed_sound : (d : ℕ) (coding : Coding) (path : List PathSegment) (T : Ty) (end : ℕ) → IsFit d T →
-    HasLeadingNumber T → (g : Block) → Takes (leading_width T) end g → Sound T end (headed_by coding path T g)
-headed_sound d coding path T end fit kind (Partial carry at) h = (h.0, record { same = refl; kind = kind; room = h.1 }, tt)
+    HasLeadingNumber T → (g : Block) → Takes (leading_width T) end g →
+    Sound T end (headed_by coding path T g)
+headed_sound d coding path T end fit kind (Partial carry at) h =
+    (h.0, record { same = refl; kind = kind; room = h.1 }, tt)
 headed_sound d coding path T end fit kind (Complete xs at rest) h =
-    subst (λ e. Sound T e (after coding path T (num coding.order xs) at rest)) h.0 (after_keeps d coding path T (num coding.order xs) fit at rest)
+    subst (λ e. Sound T e (after coding path T (num coding.order xs) at rest)) h.0
+    (after_keeps d coding path T (num coding.order xs) fit at rest)
 
-content_step_sound : (T : Ty) (path : List PathSegment) (total offset at : ℕ) (piece : List ℕ) (b : ℕ) →
+content_step_sound : (T : Ty) (path : List PathSegment) (total offset at : ℕ) (piece : List ℕ)
+    (b : ℕ) →
     HasContent T → offset ≤ total → (32 < total - offset → length piece < 32) →
     (total - offset ≤ 32 → length piece < total - offset + tail T) →
     Sound T (at + 1) (content_step T path total offset at piece b)
-content_step_sound T path total offset at piece b kind ahead room_full room_last = go (cases_lt 32 (total - offset))
+content_step_sound T path total offset at piece b kind ahead room_full room_last =
+    go (cases_lt 32 (total - offset))
   where
     go : (32 < total - offset) ⊎ (total - offset ≤ 32) →
         Sound T (at + 1) (content_step T path total offset at piece b)
-    go (inl h) = rw lt-ltb (full_piece_sound T path total offset (at + 1) kind h (content T path total (full_pieces (total - (offset + 32))) (offset + 32))
-        (content_keeps T path total kind (full_pieces (total - (offset + 32))) (offset + 32) refl (omega arith)) (block_step 32 at piece b)
+    go (inl h) = rw lt-ltb (full_piece_sound T path total offset (at + 1) kind h
+        (content T path total (full_pieces (total - (offset + 32))) (offset + 32))
+        (content_keeps T path total kind (full_pieces (total - (offset + 32))) (offset + 32) refl
+        (omega arith)) (block_step 32 at piece b)
         (block_step_takes 32 at piece b (room_full h)))
-    go (inr h) = rw le-ltb (last_piece_sound T path total offset (at + 1) kind h ahead (block_step (total - offset + tail T) at piece b)
+    go (inr h) = rw le-ltb (last_piece_sound T path total offset (at + 1) kind h ahead
+        (block_step (total - offset + tail T) at piece b)
         (block_step_takes (total - offset + tail T) at piece b (room_last h)))
 
-leaf_step_sound : (d : ℕ) (coding : Coding) (path : List PathSegment) (T : Ty) (leaf : Leaf) (at b : ℕ) →
+leaf_step_sound : (d : ℕ) (coding : Coding) (path : List PathSegment) (T : Ty) (leaf : Leaf)
+    (at b : ℕ) →
     IsFit d T → FitsIn T [] leaf → Sound T (at + 1) (leaf_step coding path leaf at b)
 leaf_step_sound d coding path T (LeadingNumber U carry) at b fit fits =
-    rw fits.same (headed_sound d coding path T (at + 1) fit fits.kind (number_step coding.origin (leading_width T) at carry b)
+    rw fits.same (headed_sound d coding path T (at + 1) fit fits.kind
+    (number_step coding.origin (leading_width T) at carry b)
     (number_step_takes coding.origin (leading_width T) at carry b fits.room))
 leaf_step_sound zero coding path T (Opening U n) at b fit fits = absurd (fit_none T fit)
 leaf_step_sound (suc d) coding path T (Opening U n) at b fit fits =
-    rw (fits.same, block_step_got 1 at [] b (omega arith)) (subst (λ m. Sound T m (ordered path T (held path T) at n (order_of b) (at + 1) []))
+    rw (fits.same, block_step_got 1 at [] b (omega arith))
+    (subst (λ m. Sound T m (ordered path T (held path T) at n (order_of b) (at + 1) []))
     (add-zero (at + 1))
-    (ordered_sound T path at n (order_of b) (at + 1) [] fits.kind (omega arith) (λ inner. read_keeps d inner (path ++ Held ∷ []) (part_of T 0)
+    (ordered_sound T path at n (order_of b) (at + 1) [] fits.kind (omega arith)
+    (λ inner. read_keeps d inner (path ++ Held ∷ []) (part_of T 0)
     (fit_held d T fit fits.kind))))
 leaf_step_sound d coding path T (Content U total offset piece) at b fit fits =
-    rw fits.same (content_step_sound T path total offset at piece b fits.kind fits.ahead fits.room_full fits.room_last)
+    rw fits.same (content_step_sound T path total offset at piece b fits.kind fits.ahead
+    fits.room_full fits.room_last)
 
 -- What one octet more leaves fits as well.
-pub step_keeps : (d : ℕ) (coding : Coding) (path : List PathSegment) (T : Ty) (outer : List OpenPart)
+pub step_keeps : (d : ℕ) (coding : Coding) (path : List PathSegment) (T : Ty)
+    (outer : List OpenPart)
     (leaf : Leaf) (at b : ℕ) → IsFit d T → FitsIn T outer leaf → Surrounds at outer →
     Sound T (at + 1) (step coding path outer leaf at b)
-step_keeps d coding path T [] leaf at b fit fits around = leaf_step_sound d coding path T leaf at b fit fits
-step_keeps zero coding path T (Part U i count ∷ outer) leaf at b fit fits around = absurd (fit_none T fit)
+step_keeps d coding path T [] leaf at b fit fits around =
+    leaf_step_sound d coding path T leaf at b fit fits
+step_keeps zero coding path T (Part U i count ∷ outer) leaf at b fit fits around =
+    absurd (fit_none T fit)
 step_keeps (suc d) coding path T (Part U i count ∷ outer) leaf at b fit fits around =
     let inner = step coding (path ++ segment_of T i ∷ []) outer leaf at b in
-    let part_fits : (j : ℕ) → j < count → IsFit d (part_of T j) = λ j below. fit_part d T j count fit fits.0.kind below in
-    rw fits.0.same (sound_followed T (at + 1) _ (parts_from (part_at coding path T count) (count - suc i) (suc i))
+    let part_fits : (j : ℕ) → j < count → IsFit d (part_of T j) =
+    λ j below. fit_part d T j count fit fits.0.kind below in
+    rw fits.0.same (sound_followed T (at + 1) _
+    (parts_from (part_at coding path T count) (count - suc i) (suc i))
     (sound_part T (at + 1) i count inner fits.0.kind fits.0.below
-    (step_keeps d coding (path ++ segment_of T i ∷ []) (part_of T i) outer leaf at b (part_fits i fits.0.below) fits.1 around.1))
-    (parts_keep coding path T count fits.0.kind (λ j below. read_keeps d coding (path ++ segment_of T j ∷ []) (part_of T j) (part_fits j below)) (count - suc i)
+    (step_keeps d coding (path ++ segment_of T i ∷ []) (part_of T i) outer leaf at b
+    (part_fits i fits.0.below) fits.1 around.1))
+    (parts_keep coding path T count fits.0.kind
+    (λ j below. read_keeps d coding (path ++ segment_of T j ∷ []) (part_of T j)
+    (part_fits j below)) (count - suc i)
     (suc i) refl))
-step_keeps zero coding path T (Member U i ∷ outer) leaf at b fit fits around = absurd (fit_none T fit)
+step_keeps zero coding path T (Member U i ∷ outer) leaf at b fit fits around =
+    absurd (fit_none T fit)
 step_keeps (suc d) coding path T (Member U i ∷ outer) leaf at b fit fits around =
     let inner = step coding (path ++ segment_of T i ∷ []) outer leaf at b in
     rw fits.0.same (sound_member T (at + 1) i inner fits.0.kind
-    (step_keeps d coding (path ++ segment_of T i ∷ []) (part_of T i) outer leaf at b (fit_case d T i fit fits.0.kind) fits.1 around.1))
-step_keeps zero coding path T (Inside U c end ∷ outer) leaf at b fit fits around = absurd (fit_none T fit)
+    (step_keeps d coding (path ++ segment_of T i ∷ []) (part_of T i) outer leaf at b
+    (fit_case d T i fit fits.0.kind) fits.1 around.1))
+step_keeps zero coding path T (Inside U c end ∷ outer) leaf at b fit fits around =
+    absurd (fit_none T fit)
 step_keeps (suc d) coding path T (Inside U c end ∷ outer) leaf at b fit fits around =
     let inner = step c (path ++ Held ∷ []) outer leaf at b in
     let began : c.origin < at + 1 = omega (arith, around.0.1) in
     rw fits.0.same (subst (λ m. Sound T m (enclosed path T c end inner [])) (add-zero (at + 1))
     (sound_enclosed T path c end (at + 1) fits.0.kind began inner []
-    (step_keeps d c (path ++ Held ∷ []) (part_of T 0) outer leaf at b (fit_held d T fit fits.0.kind) fits.1 around.1) (λ _. refl)))
+    (step_keeps d c (path ++ Held ∷ []) (part_of T 0) outer leaf at b (fit_held d T fit fits.0.kind)
+    fits.1 around.1) (λ _. refl)))

@@ -41,7 +41,13 @@ all_noted root offset = refl
 stands : (root : Root) (at : Option ℕ) (buffer : Buffer) (octets : List ℕ) →
     FitsName root at buffer octets → Stands root at buffer octets
 stands root None buffers.Begun octets fits =
-    record { name = None; so_far = octets; held = (refl, refl, rw fits (omega arith)); noted = fits }
+    record {
+      name = None;
+      so_far = octets;
+      held = (refl, refl, rw fits (omega arith));
+      noted =
+          fits;
+    }
 stands root None buffers.Whole octets fits =
     record { name = Some octets; so_far = []; held = (refl, refl); noted = refl }
 stands root None buffers.TooLong octets fits = absurd fits
@@ -89,8 +95,10 @@ number_noted is_id h (Plain p) n = plain p
     plain p = refl
 number_noted is_id h (Enum count names) n = refl
 
-piece_more : (is_id : Bool) (root : Root) (T : Ty) (was next : Option ℕ) (offset at : ℕ) (piece : List ℕ) (h : Noted) →
-    OffsetMoves T was next (outputs.Piece offset true) (length piece) → AreNoted root was h.name h.so_far →
+piece_more : (is_id : Bool) (root : Root) (T : Ty) (was next : Option ℕ) (offset at : ℕ)
+    (piece : List ℕ) (h : Noted) →
+    OffsetMoves T was next (outputs.Piece offset true) (length piece) →
+    AreNoted root was h.name h.so_far →
     (let k = note_value is_id h (Piece T offset piece true) in AreNoted root next k.name k.so_far)
 piece_more is_id root (Text bound) was next offset at piece h moves is =
     rw moves.1 (refl, further root (rw moves.0 at is))
@@ -101,8 +109,10 @@ piece_more is_id root (Text bound) was next offset at piece h moves is =
     further root is = omega (arith, is.1, length-append h.so_far piece, moves.2)
 piece_more is_id root _ was next offset at piece h moves is = rw moves.1 (rw moves.0 at is)
 
-piece_last : (is_id : Bool) (root : Root) (T : Ty) (was next : Option ℕ) (offset : ℕ) (piece : List ℕ) (h : Noted) →
-    OffsetMoves T was next (outputs.Piece offset false) (length piece) → AreNoted root was h.name h.so_far →
+piece_last : (is_id : Bool) (root : Root) (T : Ty) (was next : Option ℕ) (offset : ℕ)
+    (piece : List ℕ) (h : Noted) →
+    OffsetMoves T was next (outputs.Piece offset false) (length piece) →
+    AreNoted root was h.name h.so_far →
     (let k = note_value is_id h (Piece T offset piece false) in AreNoted root next k.name k.so_far)
 piece_last is_id root (Text bound) was next offset piece h moves is = rw moves.1 refl
 piece_last is_id root _ was next offset piece h moves is = rw moves.1 (rw moves.0 at is)
@@ -115,43 +125,73 @@ moves_on T was (transitions.More leaf) output n going h = h
 moves_on T was _ output n going h = h
 
 -- what is noted, after the line of an octet
-output_noted : (header : Bool) (root : Root) (T : Ty) (was next : Option ℕ) (output : Output) (path : List PathSegment) (at : ℕ) (piece : List ℕ) (lines : List Line) (h : Noted) →
-    OffsetMoves T was next output (length piece) → IsOutput T path at output piece lines → AreNoted root was h.name h.so_far →
-    (let k = without_name_if (clears_name output) (noted header h lines) in AreNoted root next k.name k.so_far)
-output_noted header root T was next outputs.Nothing path at piece lines h moves says is = rw (says, moves) is
+output_noted : (header : Bool) (root : Root) (T : Ty) (was next : Option ℕ) (output : Output)
+    (path : List PathSegment) (at : ℕ) (piece : List ℕ) (lines : List Line) (h : Noted) →
+    OffsetMoves T was next output (length piece) → IsOutput T path at output piece lines →
+    AreNoted root was h.name h.so_far →
+    (let k = without_name_if (clears_name output) (noted header h lines) in
+    AreNoted root next k.name k.so_far)
+output_noted header root T was next outputs.Nothing path at piece lines h moves says is =
+    rw (says, moves) is
 output_noted header root T was next outputs.Length path at piece lines h moves says is =
     let none : h.so_far ≡ [] = rw moves.0 at is in
     rw (says, moves.1) (refl, rw none (all_noted root 0))
 output_noted header root T was next (outputs.Number number) path at piece lines h moves says is =
     let none : h.so_far ≡ [] = rw moves.0 at is in
-    rw (says.1, moves.1) (number_noted (header && is_member (codes "request_id") path) h says.0.scalar says.0.n ∙ none)
+    rw (says.1, moves.1) (number_noted (header && is_member (codes "request_id") path) h
+    says.0.scalar says.0.n ∙ none)
 output_noted header root T was next (outputs.Switch number) path at piece lines h moves says is =
     let none : h.so_far ≡ [] = rw moves.0 at is in
     rw (says.1, moves.1) (number_noted _ h says.0.scalar says.0.n ∙ none)
-output_noted header root T was next (outputs.Piece offset true) path at piece lines h moves says is =
-    rw says (piece_more (header && is_member (codes "request_id") path) root T was next offset at piece h moves is)
-output_noted header root T was next (outputs.Piece offset false) path at piece lines h moves says is =
-    rw says (piece_last (header && is_member (codes "request_id") path) root T was next offset piece h moves is)
+output_noted header root T was next (outputs.Piece offset true) path at piece lines h moves says
+    is =
+    rw says (piece_more (header && is_member (codes "request_id") path) root T was next offset at
+    piece h moves is)
+output_noted header root T was next (outputs.Piece offset false) path at piece lines h moves says
+    is =
+    rw says (piece_last (header && is_member (codes "request_id") path) root T was next offset piece
+    h moves is)
 output_noted header root T was next output path at piece lines h moves says is =
     let none : h.so_far ≡ [] = rw moves.0 at is in
     rw (says, moves.1) none
 
 -- What the name buffer can have, it can have after an octet.
-pub name_kept : (header : Bool) (root : Root) (T : Ty) (was next : Option ℕ) (transition : Transition) (output : Output) (path : List PathSegment) (at : ℕ) (piece : List ℕ) (lines : List Line) (old new : Notes) →
-    IsNotRefused transition → StringGoesOn T was transition output (length piece) → next ≡ transition_offset T transition →
+pub name_kept : (header : Bool) (root : Root) (T : Ty) (was next : Option ℕ)
+    (transition : Transition) (output : Output) (path : List PathSegment) (at : ℕ) (piece : List ℕ)
+    (lines : List Line) (old new : Notes) →
+    IsNotRefused transition → StringGoesOn T was transition output (length piece) →
+    next ≡ transition_offset T transition →
     IsOutput T path at output piece lines → FitsName root was old.buffer old.name.items →
-    ((h : Noted) → HoldsNoted old h → HoldsNoted new (without_name_if (clears_name output) (noted header h lines))) →
+    ((h : Noted) → HoldsNoted old h → HoldsNoted new
+    (without_name_if (clears_name output) (noted header h lines))) →
     FitsName root next new.buffer new.name.items
-name_kept header root T was next transition output path at piece lines old new going moves leads says fits notes =
+name_kept header root T was next transition output path at piece lines old new going moves leads
+    says fits notes =
     let s = stands root was old.buffer old.name.items fits in
-    let h : Noted = record { request_id = old.request_id; status = old.status; expects_reply = old.expects_reply; name = s.name; so_far = s.so_far } in
+    let h : Noted = record {
+      request_id = old.request_id;
+      status = old.status;
+      expects_reply =
+          old.expects_reply;
+      name = s.name;
+      so_far = s.so_far;
+    } in
     let k = without_name_if (clears_name output) (noted header h lines) in
-    let held = notes h (record { request_id = refl; status = refl; expects_reply = refl; name = s.held }) in
-    rw leads (fits_name root (transition_offset T transition) new.buffer new.name.items k.so_far k.name held.name
-    (output_noted header root T was (transition_offset T transition) output path at piece lines h (moves_on T was transition output (length piece) going moves) says s.noted))
+    let held = notes h (record {
+      request_id = refl;
+      status = refl;
+      expects_reply = refl;
+      name =
+          s.held;
+    }) in
+    rw leads (fits_name root (transition_offset T transition) new.buffer new.name.items k.so_far
+    k.name held.name
+    (output_noted header root T was (transition_offset T transition) output path at piece lines h
+    (moves_on T was transition output (length piece) going moves) says s.noted))
 
 -- before the first octet
-pub nothing_fits : (root : Root) (m : Notes) → HoldsNoted m nothing_noted → FitsName root None m.buffer m.name.items
+pub nothing_fits : (root : Root) (m : Notes) → HoldsNoted m nothing_noted →
+    FitsName root None m.buffer m.name.items
 nothing_fits root m held = fits_name root None m.buffer m.name.items [] None held.name refl
 
 pub none_either : (b : Bool) (o : Option ℕ) → cond b None (cond b o None) ≡ None

@@ -70,12 +70,18 @@ plain_noted m h prims.ULong n at path r = record {
   expects_reply = r.expects_reply;
   name = r.name;
 }
-plain_noted m h p n at path r = record { request_id = r.request_id; status = r.status; expects_reply = r.expects_reply; name = r.name }
+plain_noted m h p n at path r = record {
+  request_id = r.request_id;
+  status = r.status;
+  expects_reply = r.expects_reply;
+  name = r.name;
+}
 
 -- the frames around the innermost one, and that one
 above_push : (frames : List Frame) (f : Frame) → frames_above (frames ++ f ∷ []) ≡ frames
 above_push frames f =
-    let all : length (frames ++ f ∷ []) - 1 ≡ length frames = omega (arith, length-append frames (f ∷ [])) in
+    let all : length (frames ++ f ∷ []) - 1 ≡ length frames =
+    omega (arith, length-append frames (f ∷ [])) in
     ap (λ n. take n (frames ++ f ∷ [])) all ∙ take-append_seam frames (f ∷ [])
 
 pub last_frame : (frames : List Frame) (i : ℕ) (x : Frame) → i + 1 ≡ length frames →
@@ -83,16 +89,26 @@ pub last_frame : (frames : List Frame) (i : ℕ) (x : Frame) → i + 1 ≡ lengt
 last_frame frames i x e =
     let k : length frames - 1 ≡ i = omega (arith, e) in
     sym (take_all (i + 1) frames (omega (arith, e)))
-    ∙ (take_more frames i x (omega (arith, e)) ∙ ap (λ n. take n frames ++ get_or frames i x ∷ []) (sym k))
+    ∙ (take_more frames i x (omega (arith, e))
+    ∙ ap (λ n. take n frames ++ get_or frames i x ∷ []) (sym k))
 
-pub front_kept : (C : Table) (d new : Decoder) (part : PartAhead) (next : TypeId) → IsAtNext C d new part next → front_text C new ≡ front_text C d
-front_kept C d new part next n = rw (n.message, n.root, n.outer, above_push (frames_above d.outer.items) (next_of part.frame)) refl
+pub front_kept : (C : Table) (d new : Decoder) (part : PartAhead) (next : TypeId) →
+    IsAtNext C d new part next → front_text C new ≡ front_text C d
+front_kept C d new part next n = rw (
+  n.message,
+  n.root,
+  n.outer,
+  above_push (frames_above d.outer.items) (next_of part.frame),
+) refl
 
-last_free : (frames : List Frame) (f : Frame) → is_inside (frames ++ f ∷ []) ≡ false → f.inside ≡ None
+last_free : (frames : List Frame) (f : Frame) → is_inside (frames ++ f ∷ []) ≡ false →
+    f.inside ≡ None
 last_free [] f h = (free_first f.inside false h).0
-last_free (g ∷ frames) f h = last_free frames f (free_first g.inside (is_inside (frames ++ f ∷ [])) h).1
+last_free (g ∷ frames) f h = last_free frames f
+    (free_first g.inside (is_inside (frames ++ f ∷ [])) h).1
 
-push_free : (frames : List Frame) (f : Frame) → is_inside frames ≡ false → f.inside ≡ None → is_inside (frames ++ f ∷ []) ≡ false
+push_free : (frames : List Frame) (f : Frame) → is_inside frames ≡ false → f.inside ≡ None →
+    is_inside (frames ++ f ∷ []) ≡ false
 push_free frames f h none = inside_push frames f ∙ rw (h, none) refl
 
 pub stand_free : (at : ℕ) (frames : List Frame) → is_inside frames ≡ false → StandAt at frames
@@ -102,52 +118,71 @@ stand_free at (f ∷ frames) h =
     (rw n.0 tt, stand_free at frames n.1)
 
 frames_text-push : (C : Table) (frames : List Frame) (f : Frame) →
-    frames_text C (frames ++ f ∷ []) ≡ frames_text C frames ++ segment_text (segment_in (open_part C 0 f))
+    frames_text C (frames ++ f ∷ []) ≡ frames_text C frames
+    ++ segment_text (segment_in (open_part C 0 f))
 frames_text-push C [] f = append-nil (segment_text (segment_in (open_part C 0 f)))
 frames_text-push C (g ∷ frames) f =
     let first = segment_text (segment_in (open_part C 0 g)) in
-    ap (λ t. first ++ t) (frames_text-push C frames f) ∙ sym (append_assoc first (frames_text C frames) (segment_text (segment_in (open_part C 0 f))))
+    ap (λ t. first ++ t) (frames_text-push C frames f)
+    ∙ sym (append_assoc first (frames_text C frames)
+    (segment_text (segment_in (open_part C 0 f))))
 
-same_plain : (T : Ty) (p : Primitive) (scalar : Scalar) → T ≡ Single (Plain p) → T ≡ Single scalar → scalar ≡ Plain p
+same_plain : (T : Ty) (p : Primitive) (scalar : Scalar) → T ≡ Single (Plain p) → T ≡ Single scalar →
+    scalar ≡ Plain p
 same_plain T p scalar e k = cc
 
 -- the line of a primitive's number
-number_text_is : (message : ℕ) (place : List ℕ) (p : Primitive) (n : ℕ) (number : Taken) → interpreted_as p n ≡ Some number →
-    value_text message place (Number (Plain p) n) ≡ kind_line message place (spaced (kind_word p)) (number_text (size_of p) number)
+number_text_is : (message : ℕ) (place : List ℕ) (p : Primitive) (n : ℕ) (number : Taken) →
+    interpreted_as p n ≡ Some number →
+    value_text message place (Number (Plain p) n)
+    ≡ kind_line message place (spaced (kind_word p)) (number_text (size_of p) number)
 unfolding kind_line
 number_text_is message place p n number e = rw e refl
 
 -- the line behind what it begins with
 pub line_is : (message : ℕ) (place segment kind text : List ℕ) →
-    headed message place [] ++ (segment ++ (kind ++ (text ++ codes "\n"))) ≡ kind_line message (place ++ segment) kind text
+    headed message place [] ++ (segment ++ (kind ++ (text ++ codes "\n")))
+    ≡ kind_line message (place ++ segment) kind text
 unfolding kind_line
 line_is message place segment kind text =
     let rest = kind ++ (text ++ codes "\n") in
-    ap (λ t. codes "m" ++ t) (append_assoc (decimal message) (codes " " ++ (place ++ [])) (segment ++ rest)
-    ∙ ap (λ t. decimal message ++ (codes " " ++ t)) (ap (λ t. t ++ (segment ++ rest)) (append-nil place) ∙ sym (append_assoc place segment rest)))
+    ap (λ t. codes "m" ++ t) (append_assoc (decimal message) (codes " " ++ (place ++ []))
+    (segment ++ rest)
+    ∙ ap (λ t. decimal message ++ (codes " " ++ t))
+    (ap (λ t. t ++ (segment ++ rest)) (append-nil place)
+    ∙ sym (append_assoc place segment rest)))
 
 -- the innermost frame, in no encapsulation
-module _ (C : Table) (d : Decoder) (of : TypeId) (frame : Frame) (f : Fits C d) (leaf : d.leaf ≡ Some (innermost.Number of))
-    (outside : d.inside ≡ false) (outer : d.outer.items ≡ frames_above d.outer.items ++ frame ∷ []) where
-  free_outer : is_inside d.outer.items ≡ false
-  free_outer = sym f.inside ∙ outside
+module _ (C : Table) (d : Decoder) (of : TypeId) (frame : Frame) (f : Fits C d)
+    (leaf : d.leaf ≡ Some (innermost.Number of))
+    (outside : d.inside ≡ false) (outer : d.outer.items ≡ frames_above d.outer.items ++ frame ∷ [])
+  where
+    free_outer : is_inside d.outer.items ≡ false
+    free_outer = sym f.inside ∙ outside
 
-  free_above : is_inside (frames_above d.outer.items) ≡ false
-  free_above = outside_pop (frames_above d.outer.items) frame (subst (λ fs. is_inside fs ≡ false) outer free_outer)
+    free_above : is_inside (frames_above d.outer.items) ≡ false
+    free_above = outside_pop (frames_above d.outer.items) frame
+        (subst (λ fs. is_inside fs ≡ false) outer free_outer)
 
-  free_frame : frame.inside ≡ None
-  free_frame = last_free (frames_above d.outer.items) frame (subst (λ fs. is_inside fs ≡ false) outer free_outer)
+    free_frame : frame.inside ≡ None
+    free_frame = last_free (frames_above d.outer.items) frame
+        (subst (λ fs. is_inside fs ≡ false) outer free_outer)
 
-  abbrev popped_frame : PartPopped C (stands_at C d f (innermost.Number of) leaf).are_open.0 (frames_above d.outer.items) frame
-  popped_frame =
-      let s = stands_at C d f (innermost.Number of) leaf in
-      part_popped C s.are_open.0 d.outer.items (frames_above d.outer.items) frame f.known_outer s.are_open.1 outer free_frame
+    abbrev popped_frame : PartPopped C (stands_at C d f (innermost.Number of) leaf).are_open.0
+        (frames_above d.outer.items) frame
+    popped_frame =
+        let s = stands_at C d f (innermost.Number of) leaf in
+        part_popped C s.are_open.0 d.outer.items (frames_above d.outer.items) frame f.known_outer
+        s.are_open.1 outer free_frame
 
-  follows : frame.index + 1 < frame.count → Next (suc popped_frame.left) (tree C frame.of.0) frame.index frame.count
-  follows below = next_in (suc popped_frame.left) (tree C frame.of.0) frame.index frame.count popped_frame.«open» popped_frame.uncounted (rw add-one at below)
+    follows : frame.index + 1 < frame.count →
+        Next (suc popped_frame.left) (tree C frame.of.0) frame.index frame.count
+    follows below = next_in (suc popped_frame.left) (tree C frame.of.0) frame.index frame.count
+        popped_frame.«open» popped_frame.uncounted (rw add-one at below)
 
-  pub place_next : frame.index + 1 < frame.count → HasPlace (shape_in (tree C frame.of.0)) (frame.index + 1)
-  place_next below = rw add-one (follows below).placed
+    pub place_next : frame.index + 1 < frame.count →
+        HasPlace (shape_in (tree C frame.of.0)) (frame.index + 1)
+    place_next below = rw add-one (follows below).placed
 
 module _ (C : Table) (d : Decoder) (part : PartAhead) (f : Fits C d)
     (h : IsPartAhead C d part) where
@@ -165,12 +200,15 @@ module _ (C : Table) (d : Decoder) (part : PartAhead) (f : Fits C d)
 
   pub taken_together : TakenTogether C d octets part.of part.count ended []
   taken_together =
-      comes_number C d part.of octets part.count f h.leaf h.empty d.order d.at (free_coding_by d.order d.at d.outer.items free) part.number h.whole
+      comes_number C d part.of octets part.count f h.leaf h.empty d.order d.at
+      (free_coding_by d.order d.at d.outer.items free) part.number h.whole
       (ahead_free (length octets - 1) d.outer.items free f.ahead)
 
   -- the decoder at the last of the number's octets: none was counted
-  pub part_at_last : (at : ℕ) → at ≡ (d.at + (part.count - 1)) % 8 → IsAtLast d (at_last d at d.outer) part.count
-  part_at_last at e = is_at_last d part.count at d.outer e (free_ticked_by (part.count - 1) d.outer.items free)
+  pub part_at_last : (at : ℕ) → at ≡ (d.at + (part.count - 1)) % 8 →
+      IsAtLast d (at_last d at d.outer) part.count
+  part_at_last at e = is_at_last d part.count at d.outer e
+      (free_ticked_by (part.count - 1) d.outer.items free)
 
   -- how many octets come before the last of the number's, and where the decoder is then
   abbrev last : ℕ
@@ -184,10 +222,12 @@ module _ (C : Table) (d : Decoder) (part : PartAhead) (f : Fits C d)
 
   -- its path, and its line
   abbrev place : List ℕ
-  place = (root_word d.root ++ frames_text C above) ++ segment_text (segment_in (open_part C 0 part.frame))
+  place = (root_word d.root ++ frames_text C above)
+      ++ segment_text (segment_in (open_part C 0 part.frame))
 
   abbrev text : List ℕ
-  text = kind_line d.message place (spaced (kind_word part.prim)) (number_text (size_of part.prim) part.number)
+  text = kind_line d.message place (spaced (kind_word part.prim))
+      (number_text (size_of part.prim) part.number)
 
   pub part_says : (Says : List ℕ → Type 0) → Says text → AllSay C d octets last Says
   part_says Says w =
@@ -201,7 +241,8 @@ module _ (C : Table) (d : Decoder) (part : PartAhead) (f : Fits C d)
       ≡ lines_text d.message d.root lines =
       said_one d.message d.root at path place (Number (Plain part.prim) says.0.n) lines placed
       (rw is at says.1) in
-      let same = sym (number_text_is d.message place part.prim says.0.n part.number taken) ∙ value in
+      let same = sym (number_text_is d.message place part.prim says.0.n part.number taken)
+      ∙ value in
       subst Says same w)
     where
       path_is : (here : ℕ) → place ≡ path_text d.root (path_in [] (open_parts C here d.outer.items))
@@ -219,10 +260,12 @@ module _ (C : Table) (d : Decoder) (part : PartAhead) (f : Fits C d)
   none : part.frame.inside ≡ None
   none = free_frame C d part.of part.frame f h.leaf h.outside h.outer
 
-  abbrev popped_part : PartPopped C (stands_at C d f (innermost.Number part.of) h.leaf).are_open.0 above part.frame
+  abbrev popped_part : PartPopped C (stands_at C d f (innermost.Number part.of) h.leaf).are_open.0
+      above part.frame
   popped_part = popped_frame C d part.of part.frame f h.leaf h.outside h.outer
 
-  module _ (new : Decoder) (next : TypeId) (follower : IsNextNumber C part.frame next) (n : IsAtNext C d new part next)
+  module _ (new : Decoder) (next : TypeId) (follower : IsNextNumber C part.frame next)
+      (n : IsAtNext C d new part next)
       (body : is_header_root d.root ≡ false) where
     new_free : is_inside new.outer.items ≡ false
     new_free = rw n.outer (push_free above (next_of part.frame) above_free none)
@@ -231,8 +274,11 @@ module _ (C : Table) (d : Decoder) (part : PartAhead) (f : Fits C d)
     known_new = rw n.outer (all_push (IsKnown C) above (next_of part.frame) popped_part.known_rest
         (record {
           known = popped_part.known;
-          within = rw none
-              (place_next C d part.of part.frame f h.leaf h.outside h.outer follower.below, popped_part.bare, popped_part.uncounted);
+          within = rw none (
+            place_next C d part.of part.frame f h.leaf h.outside h.outer follower.below,
+            popped_part.bare,
+            popped_part.uncounted,
+          );
         }))
 
     gone : (coding : Coding) (path : List PathSegment) (at : ℕ) →
@@ -244,23 +290,30 @@ module _ (C : Table) (d : Decoder) (part : PartAhead) (f : Fits C d)
         let count = part.frame.count in
         let then = part_in T (suc i) count in
         let P = part_of T (suc i) in
-        let is : P ≡ Single (Plain follower.prim) = sym (rw add-one at follower.is_part) ∙ follower.is in
+        let is : P ≡ Single (Plain follower.prim) =
+        sym (rw add-one at follower.is_part) ∙ follower.is in
         let leaf : start_leaf P ≡ LeadingNumber (tree C next.0) [] = rw is (rw follower.is refl) in
         let outer : open_parts C at new.outer.items ≡ open_parts C at above ++ then ∷ [] =
         ap (open_parts C at) n.outer ∙ (map_push (open_part C at) above (next_of part.frame)
-        ∙ ap (λ q. open_parts C at above ++ q ∷ []) (part_is C at (next_of part.frame) none ∙ ap (λ k. part_in T k count) (add-one i))) in
+        ∙ ap (λ q. open_parts C at above ++ q ∷ [])
+        (part_is C at (next_of part.frame) none ∙ ap (λ k. part_in T k count) (add-one i))) in
         let right : gone_on C at new.outer.items (Some (innermost.Number next))
         ≡ Short [] at (open_parts C at above ++ then ∷ []) (LeadingNumber (tree C next.0) []) =
         rw (free_ended new.outer.items new_free, outer) refl in
         let first : start_outer P ≡ [] = rw is refl in
-        let left : around coding path (open_parts C at above) (Short [] at (then ∷ start_outer P) (start_leaf P))
+        let left : around coding path (open_parts C at above)
+        (Short [] at (then ∷ start_outer P) (start_leaf P))
         ≡ Short [] at (open_parts C at above ++ then ∷ []) (LeadingNumber (tree C next.0) []) =
-        rw (first, leaf) (around_unless_ended C coding path at above [] (then ∷ []) (LeadingNumber (tree C next.0) []) popped_part.known_rest
+        rw (first, leaf) (around_unless_ended C coding path at above [] (then ∷ [])
+        (LeadingNumber (tree C next.0) []) popped_part.known_rest
         ∙ rw (free_ended above above_free) refl) in
-        ap (λ ps. around coding path ps (Done [] at [])) (ap (open_parts C at) h.outer ∙ map_push (open_part C at) above part.frame)
-        ∙ (ap (λ q. around coding path (open_parts C at above ++ q ∷ []) (Done [] at [])) (part_is C at part.frame none)
+        ap (λ ps. around coding path ps (Done [] at []))
+        (ap (open_parts C at) h.outer ∙ map_push (open_part C at) above part.frame)
+        ∙ (ap (λ q. around coding path (open_parts C at above ++ q ∷ []) (Done [] at []))
+        (part_is C at part.frame none)
         ∙ (goes_next coding path (open_parts C at above) T i count at popped_part.left
-        (follows C d part.of part.frame f h.leaf h.outside h.outer follower.below) (rw add-one at follower.below)
+        (follows C d part.of part.frame f h.leaf h.outside h.outer follower.below)
+        (rw add-one at follower.below)
         ∙ (left ∙ sym right)))
 
     come : (here : ℕ) (lines : List Line) →
@@ -269,13 +322,15 @@ module _ (C : Table) (d : Decoder) (part : PartAhead) (f : Fits C d)
     come here lines =
         let ps = open_parts C (here + 1) d.outer.items in
         let there : open_parts C here d.outer.items ≡ ps =
-        sym (places_ticked C here d.outer.items f.ahead) ∙ ap (open_parts C (here + 1)) (sym (free_ticked d.outer.items free)) in
+        sym (places_ticked C here d.outer.items f.ahead)
+        ∙ ap (open_parts C (here + 1)) (sym (free_ticked d.outer.items free)) in
         let leaf = innermost.Number next in
         ap (λ qs. around (plain d.order) [] qs (Done lines (here + 1) [])) there
         ∙ (around_done (plain d.order) [] ps lines (here + 1)
         ∙ (ap (with_front lines) (gone (plain d.order) [] (here + 1))
         ∙ (front_gone C lines (here + 1) new.outer.items (Some leaf)
-        ∙ (behind_stopped C new.outer.items new.carry new.piece.items (Some leaf) lines (here + 1) (n.carry ∙ h.empty)
+        ∙ (behind_stopped C new.outer.items new.carry new.piece.items (Some leaf) lines (here + 1)
+        (n.carry ∙ h.empty)
         (ap (λ p. p.items) n.piece ∙ no_piece C d part.of octets part.count f h.leaf h.empty)
         ∙ rw n.leaf refl))))
 
@@ -283,8 +338,13 @@ module _ (C : Table) (d : Decoder) (part : PartAhead) (f : Fits C d)
         (scalar : Scalar) × (n : ℕ) × (scalar ≡ Plain part.prim)
         × (interpreted_by scalar n ≡ Some part.number)
         × (lines ≡ line at (path_in [] (open_parts C here d.outer.items)) (Number scalar n) ∷ [])
-    plain_says here at lines k =
-        (k.0.scalar, k.0.n, same_plain (tree C part.of.0) part.prim k.0.scalar h.prim k.0.is, k.0.taken, k.1)
+    plain_says here at lines k = (
+      k.0.scalar,
+      k.0.n,
+      same_plain (tree C part.of.0) part.prim k.0.scalar h.prim k.0.is,
+      k.0.taken,
+      k.1,
+    )
 
     body_new : is_header_root new.root ≡ false
     body_new = rw n.root body

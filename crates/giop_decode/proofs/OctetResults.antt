@@ -53,7 +53,8 @@ quiet_front : (n : ℕ) (r : Read) → IsEmptyResult n r → IsEmptyResult n (wi
 quiet_front n (Done lines at rest) h = h
 quiet_front n r h = h
 
-now_followed : (n : ℕ) (r : Read) (next : ℕ → List ℕ → Read) → IsOctetResult n r → IsEmptyResult n (next n []) →
+now_followed : (n : ℕ) (r : Read) (next : ℕ → List ℕ → Read) → IsOctetResult n r →
+    IsEmptyResult n (next n []) →
     IsOctetResult n (followed r next)
 now_followed n (Done lines at rest) next h k = now_front n lines _ h.0 (rw (h.1, h.2) k)
 now_followed n r next h k = h
@@ -63,15 +64,18 @@ pub quiet_followed : (n : ℕ) (r : Read) (next : ℕ → List ℕ → Read) →
 quiet_followed n (Done lines at rest) next h k = rw (h.0, h.1, h.2) (quiet_front n _ k)
 quiet_followed n r next h k = h
 
-pub now_within : (n : ℕ) (place : OpenPart) (r : Read) → IsOctetResult n r → IsOctetResult n (within place r)
+pub now_within : (n : ℕ) (place : OpenPart) (r : Read) → IsOctetResult n r →
+    IsOctetResult n (within place r)
 now_within n place (Done lines at rest) h = h
 now_within n place r h = h
 
-pub quiet_within : (n : ℕ) (place : OpenPart) (r : Read) → IsEmptyResult n r → IsEmptyResult n (within place r)
+pub quiet_within : (n : ℕ) (place : OpenPart) (r : Read) → IsEmptyResult n r →
+    IsEmptyResult n (within place r)
 quiet_within n place (Done lines at rest) h = h
 quiet_within n place r h = h
 
-now_unless : (n : ℕ) (T : Ty) (why : Option Kind) (r : Read) → IsOctetResult n r → IsOctetResult n (unless T why n r)
+now_unless : (n : ℕ) (T : Ty) (why : Option Kind) (r : Read) → IsOctetResult n r →
+    IsOctetResult n (unless T why n r)
 now_unless n T None r h = h
 now_unless n T (Some kind) r h = (faulted_none n kind, refl)
 
@@ -82,32 +86,41 @@ number_none o w n pos = go (cases_lt 0 (padding (n - o) w))
   where
     go : (0 < padding (n - o) w) ⊎ (padding (n - o) w ≤ 0) → number o w n [] ≡ Partial [] n
     go (inl h) = rw (number_waits o w n [] h, add-zero) refl
-    go (inr h) = let e : padding (n - o) w ≡ 0 = omega arith in rw (number_blocks o w n [] h, e, block_waits w (n + 0) [] pos, add-zero, add-zero) refl
+    go (inr h) = let e : padding (n - o) w ≡ 0 = omega arith in
+        rw (number_blocks o w n [] h, e, block_waits w (n + 0) [] pos, add-zero, add-zero) refl
 
-pub quiet_parts : (n : ℕ) (part : ℕ → ℕ → List ℕ → Read) → ((i : ℕ) → IsEmptyResult n (part i n [])) →
+pub quiet_parts : (n : ℕ) (part : ℕ → ℕ → List ℕ → Read) →
+    ((i : ℕ) → IsEmptyResult n (part i n [])) →
     (more i : ℕ) → IsEmptyResult n (parts_from part more i n [])
 quiet_parts n part h zero i = (refl, refl, refl)
-quiet_parts n part h (suc more) i = quiet_followed n (part i n []) (parts_from part more (suc i)) (h i) (quiet_parts n part h more (suc i))
+quiet_parts n part h (suc more) i = quiet_followed n (part i n []) (parts_from part more (suc i))
+    (h i) (quiet_parts n part h more (suc i))
 
 pub read_quiet : (coding : Coding) (path : List PathSegment) (T : Ty) (n : ℕ) →
     IsEmptyResult n (read coding path T n [])
-read_quiet coding path (Single scalar) n = rw (number_none coding.origin (width scalar) n (width_pos scalar)) (refl, refl)
+read_quiet coding path (Single scalar) n =
+    rw (number_none coding.origin (width scalar) n (width_pos scalar)) (refl, refl)
 read_quiet coding path (Struct count names parts) n =
     quiet_parts n (part_at coding path (Struct count names parts) count)
-    (λ i. quiet_within n (Part (Struct count names parts) i count) _ (read_quiet coding (path ++ Name (names i) ∷ []) (parts i) n)) count 0
+    (λ i. quiet_within n (Part (Struct count names parts) i count) _
+    (read_quiet coding (path ++ Name (names i) ∷ []) (parts i) n)) count 0
 read_quiet coding path (Array count T) n =
     quiet_parts n (part_at coding path (Array count T) count)
-    (λ i. quiet_within n (Part (Array count T) i count) _ (read_quiet coding (path ++ Index i ∷ []) T n)) count 0
-read_quiet coding path (Union choice scalar select names cases) n = rw (number_none coding.origin (width scalar) n (width_pos scalar)) (refl, refl)
+    (λ i. quiet_within n (Part (Array count T) i count) _
+    (read_quiet coding (path ++ Index i ∷ []) T n)) count 0
+read_quiet coding path (Union choice scalar select names cases) n =
+    rw (number_none coding.origin (width scalar) n (width_pos scalar)) (refl, refl)
 read_quiet coding path T n = rw (number_none coding.origin 4 n (lit< tt)) (refl, refl)
 
 pub part_quiet : (coding : Coding) (path : List PathSegment) (T : Ty) (count n i : ℕ) →
     IsEmptyResult n (part_at coding path T count i n [])
-part_quiet coding path T count n i = quiet_within n (Part T i count) _ (read_quiet coding (inner_path path T i) (part_of T i) n)
+part_quiet coding path T count n i = quiet_within n (Part T i count) _
+    (read_quiet coding (inner_path path T i) (part_of T i) n)
 
 pub parts_quiet : (coding : Coding) (path : List PathSegment) (T : Ty) (count n more i : ℕ) →
     IsEmptyResult n (parts_from (part_at coding path T count) more i n [])
-parts_quiet coding path T count n more i = quiet_parts n (part_at coding path T count) (part_quiet coding path T count n) more i
+parts_quiet coding path T count n more i =
+    quiet_parts n (part_at coding path T count) (part_quiet coding path T count n) more i
 
 -- one octet
 
@@ -115,7 +128,8 @@ abbrev BlockNow : ℕ → Block → Type 0
 BlockNow n (Partial held at) = at ≡ n
 BlockNow n (Complete xs at rest) = (at ≡ n) × (rest ≡ [])
 
-block_by : (n : ℕ) (test : Bool) (xs : List ℕ) → BlockNow n (cond test (Partial xs n) (Complete xs n []))
+block_by : (n : ℕ) (test : Bool) (xs : List ℕ) →
+    BlockNow n (cond test (Partial xs n) (Complete xs n []))
 block_by n true xs = refl
 block_by n false xs = (refl, refl)
 
@@ -142,50 +156,63 @@ unfolding number_step
 number_now o w at [] b = number_by w at (ltb 0 (padding (at - o) w)) b
 number_now o w at (x ∷ carry) b = block_now w at (x ∷ carry) b
 
-last_now : (n : ℕ) (T : Ty) (path : List PathSegment) (total offset : ℕ) (g : Block) → BlockNow n g →
+last_now : (n : ℕ) (T : Ty) (path : List PathSegment) (total offset : ℕ) (g : Block) →
+    BlockNow n g →
     IsOctetResult n (last_piece T path total offset g)
 last_now n T path total offset (Partial piece at) h = (tt, h)
 last_now n T path total offset (Complete xs at rest) h =
     rw (h.0, h.1) (now_unless n T (ends T (total - offset) xs) _ (refl, refl, refl))
 
 full_now : (n : ℕ) (T : Ty) (path : List PathSegment) (total offset : ℕ) (next : ℕ → List ℕ → Read)
-    (g : Block) → BlockNow n g → IsEmptyResult n (next n []) → IsOctetResult n (full_piece T path total offset next g)
+    (g : Block) → BlockNow n g → IsEmptyResult n (next n []) →
+    IsOctetResult n (full_piece T path total offset next g)
 full_now n T path total offset next (Partial piece at) h k = (tt, h)
-full_now n T path total offset next (Complete xs at rest) h k = rw (h.0, h.1) (now_front n (line n path (Piece T offset xs true) ∷ []) _ refl k)
+full_now n T path total offset next (Complete xs at rest) h k =
+    rw (h.0, h.1) (now_front n (line n path (Piece T offset xs true) ∷ []) _ refl k)
 
 -- a content of which some octet is to come
-content_quiet : (n : ℕ) (T : Ty) (path : List PathSegment) (total full offset : ℕ) → offset < total →
+content_quiet : (n : ℕ) (T : Ty) (path : List PathSegment) (total full offset : ℕ) →
+    offset < total →
     IsEmptyResult n (content T path total full offset n [])
-content_quiet n T path total zero offset h = rw (block_waits (total - offset + tail T) n [] (omega arith)) (refl, add-zero n)
-content_quiet n T path total (suc full) offset h = rw (block_waits 32 n [] (lit< tt)) (refl, add-zero n)
+content_quiet n T path total zero offset h =
+    rw (block_waits (total - offset + tail T) n [] (omega arith)) (refl, add-zero n)
+content_quiet n T path total (suc full) offset h =
+    rw (block_waits 32 n [] (lit< tt)) (refl, add-zero n)
 
 content_now : (n : ℕ) (T : Ty) (path : List PathSegment) (total full offset : ℕ) →
     IsOctetResult n (content T path total full offset n [])
-content_now n T path total zero offset = last_now n T path total offset (block (total - offset + tail T) n []) (block_none_now (total - offset + tail T) n)
+content_now n T path total zero offset =
+    last_now n T path total offset (block (total - offset + tail T) n [])
+    (block_none_now (total - offset + tail T) n)
 content_now n T path total (suc full) offset = rw (block_waits 32 n [] (lit< tt)) (tt, add-zero n)
 
-single_now : (n : ℕ) (path : List PathSegment) (scalar : Scalar) (k : ℕ) → IsOctetResult n (single path scalar k n [])
+single_now : (n : ℕ) (path : List PathSegment) (scalar : Scalar) (k : ℕ) →
+    IsOctetResult n (single path scalar k n [])
 single_now n path scalar k = now_unless n (Single scalar) (wrong scalar k) _ (refl, refl, refl)
 
 member_quiet : (n : ℕ) (coding : Coding) (path : List PathSegment) (T : Ty) (selected : Selected) →
     IsEmptyResult n (member selected (λ i at s. within (Member T i)
     (read coding (inner_path path T i) (part_of T i) at s)) n [])
-member_quiet n coding path T (Case i) = quiet_within n (Member T i) _ (read_quiet coding (inner_path path T i) (part_of T i) n)
+member_quiet n coding path T (Case i) = quiet_within n (Member T i) _
+    (read_quiet coding (inner_path path T i) (part_of T i) n)
 member_quiet n coding path T _ = (refl, refl, refl)
 
 -- ---- encapsulations
 
-pub rest_quiet : (n : ℕ) (path : List PathSegment) (T : Ty) (k : ℕ) → IsEmptyResult n (rest_of path T k n [])
+pub rest_quiet : (n : ℕ) (path : List PathSegment) (T : Ty) (k : ℕ) →
+    IsEmptyResult n (rest_of path T k n [])
 rest_quiet n path T zero = (refl, refl, refl)
 rest_quiet n path T (suc k) = content_quiet n T path (suc k) (full_pieces (suc k)) 0 (omega arith)
 
-enclosed_by : (n : ℕ) (test : Bool) (lines : List Line) (at : ℕ) (outer : List OpenPart) (leaf : Leaf)
+enclosed_by : (n : ℕ) (test : Bool) (lines : List Line) (at : ℕ) (outer : List OpenPart)
+    (leaf : Leaf)
     (S : Ty) → OneAt n lines → at ≡ n →
     IsOctetResult n (cond test (Short lines at outer leaf) (Fault lines at kinds.EncapShort S))
 enclosed_by n true lines at outer leaf S one is = (one, is)
 enclosed_by n false lines at outer leaf S one is = (one, is)
 
-pub enclosed_now : (n : ℕ) (path : List PathSegment) (T : Ty) (inner : Coding) (end : ℕ) (r : Read) →
+pub enclosed_now : (n : ℕ) (path : List PathSegment) (T : Ty) (inner : Coding) (end : ℕ)
+    (r : Read) →
     IsOctetResult n r → IsOctetResult n (enclosed path T inner end r [])
 enclosed_now n path T inner end (Done lines at rest) h =
     rw (h.1, h.2) (now_front n lines _ h.0 (rest_quiet n path T (end - n)))
@@ -199,9 +226,11 @@ mute_by : (n : ℕ) (test : Bool) (lines : List Line) (at : ℕ) (outer : List O
 mute_by n true lines at outer leaf S none is = (none, is)
 mute_by n false lines at outer leaf S none is = (none, is, refl)
 
-mute_followed : (n : ℕ) (r : Read) (next : ℕ → List ℕ → Read) → Mute n r → IsEmptyResult n (next n []) →
+mute_followed : (n : ℕ) (r : Read) (next : ℕ → List ℕ → Read) → Mute n r →
+    IsEmptyResult n (next n []) →
     Mute n (followed r next)
-mute_followed n (Done lines at rest) next h k = rw (h.0, h.1, h.2) (quiet_mute n (with_front [] (next n [])) (quiet_front n _ k))
+mute_followed n (Done lines at rest) next h k =
+    rw (h.0, h.1, h.2) (quiet_mute n (with_front [] (next n [])) (quiet_front n _ k))
 mute_followed n r next h k = h
 
 mute_within : (n : ℕ) (place : OpenPart) (r : Read) → Mute n r → Mute n (within place r)
@@ -211,23 +240,29 @@ mute_within n place r h = h
 mute_enclosed : (n : ℕ) (path : List PathSegment) (T : Ty) (inner : Coding) (end : ℕ) (r : Read) →
     Mute n r → Mute n (enclosed path T inner end r [])
 mute_enclosed n path T inner end (Done lines at rest) h =
-    rw (h.0, h.1, h.2) (quiet_mute n (with_front [] (rest_of path T (end - n) n [])) (quiet_front n _ (rest_quiet n path T (end - n))))
+    rw (h.0, h.1, h.2) (quiet_mute n (with_front [] (rest_of path T (end - n) n []))
+    (quiet_front n _ (rest_quiet n path T (end - n))))
 mute_enclosed n path T inner end (Short lines at outer leaf) h =
     mute_by n (ltb at end) lines at (Inside T inner end ∷ outer) leaf (cut_off leaf) h.0 h.1
 mute_enclosed n path T inner end (Fault lines at why S) h = h
 
-pub around_mute : (n : ℕ) (coding : Coding) (path : List PathSegment) (outer : List OpenPart) (r : Read) →
+pub around_mute : (n : ℕ) (coding : Coding) (path : List PathSegment) (outer : List OpenPart)
+    (r : Read) →
     Mute n r → Mute n (around coding path outer r)
 around_mute n coding path [] r h = h
 around_mute n coding path (Part T i count ∷ outer) r h =
     let inner = around coding (path ++ segment_of T i ∷ []) outer r in
-    mute_followed n (within (Part T i count) inner) (parts_from (part_at coding path T count) (count - suc i) (suc i))
-    (mute_within n (Part T i count) inner (around_mute n coding (path ++ segment_of T i ∷ []) outer r h))
+    mute_followed n (within (Part T i count) inner)
+    (parts_from (part_at coding path T count) (count - suc i) (suc i))
+    (mute_within n (Part T i count) inner (around_mute n coding (path ++ segment_of T i ∷ []) outer
+    r h))
     (parts_quiet coding path T count n (count - suc i) (suc i))
 around_mute n coding path (Member T i ∷ outer) r h =
-    mute_within n (Member T i) (around coding (path ++ segment_of T i ∷ []) outer r) (around_mute n coding (path ++ segment_of T i ∷ []) outer r h)
+    mute_within n (Member T i) (around coding (path ++ segment_of T i ∷ []) outer r)
+    (around_mute n coding (path ++ segment_of T i ∷ []) outer r h)
 around_mute n coding path (Inside T inner end ∷ outer) r h =
-    mute_enclosed n path T inner end (around inner (path ++ Held ∷ []) outer r) (around_mute n inner (path ++ Held ∷ []) outer r h)
+    mute_enclosed n path T inner end (around inner (path ++ Held ∷ []) outer r)
+    (around_mute n inner (path ++ Held ∷ []) outer r h)
 
 pub mute_lines : (n : ℕ) (r : Read) → Mute n r → lines_of r ≡ []
 mute_lines n (Done lines at rest) h = h.0
@@ -238,13 +273,16 @@ ordered_now : (n : ℕ) (path : List PathSegment) (T : Ty) (origin k : ℕ) (ord
 ordered_now n path T origin k None = (refl, refl)
 ordered_now n path T origin k (Some order) =
     let inner = coded order origin in
-    rw (take-nil, drop-nil) (mute_front n (line n path (Ordered order) ∷ []) (enclosed path T inner (n + k) (held path T inner n []) []) refl
-    (mute_enclosed n path T inner (n + k) _ (quiet_mute n _ (read_quiet inner (path ++ Held ∷ []) (part_of T 0) n))))
+    rw (take-nil, drop-nil) (mute_front n (line n path (Ordered order) ∷ [])
+    (enclosed path T inner (n + k) (held path T inner n []) []) refl
+    (mute_enclosed n path T inner (n + k) _
+    (quiet_mute n _ (read_quiet inner (path ++ Held ∷ []) (part_of T 0) n))))
 
 opening_now : (n : ℕ) (path : List PathSegment) (T : Ty) (origin k : ℕ) (g : Block) → BlockNow n g →
     IsOctetResult n (opening path T (held path T) origin k g)
 opening_now n path T origin k (Partial none at) h = (tt, h)
-opening_now n path T origin k (Complete xs at rest) h = rw (h.0, h.1) (ordered_now n path T origin k (order_of (get_or xs 0 0)))
+opening_now n path T origin k (Complete xs at rest) h =
+    rw (h.0, h.1) (ordered_now n path T origin k (order_of (get_or xs 0 0)))
 
 sized_now : (n : ℕ) (path : List PathSegment) (T : Ty) (k m : ℕ) →
     IsOctetResult n (with_front (line n path (Size m) ∷ []) (sized path T (held path T) k n []))
@@ -255,35 +293,47 @@ after_now : (n : ℕ) (coding : Coding) (path : List PathSegment) (T : Ty) (k : 
     IsOctetResult n (after coding path T k n [])
 after_now n coding path (Single scalar) k = single_now n path scalar k
 after_now n coding path (Text bound) zero = (refl, refl, refl)
-after_now n coding path (Text bound) (suc k) = now_unless n (Text bound) (over bound k) _ (content_now n (Text bound) path k (full_pieces k) 0)
-after_now n coding path (Octets bound) k = now_unless n (Octets bound) (over bound k) _ (content_now n (Octets bound) path k (full_pieces k) 0)
+after_now n coding path (Text bound) (suc k) =
+    now_unless n (Text bound) (over bound k) _ (content_now n (Text bound) path k (full_pieces k) 0)
+after_now n coding path (Octets bound) k =
+    now_unless n (Octets bound) (over bound k) _
+    (content_now n (Octets bound) path k (full_pieces k) 0)
 after_now n coding path (Encapsulation T) k = sized_now n path (Encapsulation T) k k
 after_now n coding path (Sequence bound T) k =
     let elements = parts_from (part_at coding path (Sequence bound T) k) k 0 n [] in
     now_unless n (Sequence bound T) (over bound k) _
-    (now_front n (line n path (Count k) ∷ []) _ refl (parts_quiet coding path (Sequence bound T) k n k 0))
+    (now_front n (line n path (Count k) ∷ []) _ refl
+    (parts_quiet coding path (Sequence bound T) k n k 0))
 after_now n coding path (Union choice scalar select names cases) k =
     let T = Union choice scalar select names cases in
-    let next : ℕ → List ℕ → Read = member (select k) (λ i at s. within (Member T i) (read coding (inner_path path T i) (part_of T i) at s)) in
-    let front : List Line = line n (path ++ Switch (tag_of choice names) ∷ []) (ReadResult.Number scalar k) ∷ [] in
+    let next : ℕ → List ℕ → Read = member (select k)
+    (λ i at s. within (Member T i) (read coding (inner_path path T i) (part_of T i) at s)) in
+    let front : List Line = line n (path ++ Switch (tag_of choice names) ∷ [])
+    (ReadResult.Number scalar k) ∷ [] in
     now_unless n T (wrong scalar k) _
-    (now_unless n T (refused (select k)) _ (now_front n front _ refl (member_quiet n coding path T (select k))))
+    (now_unless n T (refused (select k)) _
+    (now_front n front _ refl (member_quiet n coding path T (select k))))
 after_now n coding path T k = (tt, refl, refl)
 
-headed_now : (n : ℕ) (coding : Coding) (path : List PathSegment) (T : Ty) (g : Block) → BlockNow n g →
+headed_now : (n : ℕ) (coding : Coding) (path : List PathSegment) (T : Ty) (g : Block) →
+    BlockNow n g →
     IsOctetResult n (headed_by coding path T g)
 headed_now n coding path T (Partial carry at) h = (tt, h)
-headed_now n coding path T (Complete xs at rest) h = rw (h.0, h.1) (after_now n coding path T (num coding.order xs))
+headed_now n coding path T (Complete xs at rest) h =
+    rw (h.0, h.1) (after_now n coding path T (num coding.order xs))
 
 leaf_now : (coding : Coding) (path : List PathSegment) (leaf : Leaf) (at b : ℕ) →
     IsOctetResult (at + 1) (leaf_step coding path leaf at b)
 leaf_now coding path (LeadingNumber T carry) at b =
-    headed_now (at + 1) coding path T (number_step coding.origin (leading_width T) at carry b) (number_now coding.origin (leading_width T) at carry b)
-leaf_now coding path (Opening T n) at b = opening_now (at + 1) path T at n (block_step 1 at [] b) (block_now 1 at [] b)
+    headed_now (at + 1) coding path T (number_step coding.origin (leading_width T) at carry b)
+    (number_now coding.origin (leading_width T) at carry b)
+leaf_now coding path (Opening T n) at b =
+    opening_now (at + 1) path T at n (block_step 1 at [] b) (block_now 1 at [] b)
 leaf_now coding path (Content T total offset piece) at b = go (cases_lt 32 (total - offset))
   where
     full : Read
-    full = full_piece T path total offset (content T path total (full_pieces (total - (offset + 32))) (offset + 32)) (block_step 32 at piece b)
+    full = full_piece T path total offset (content T path total
+        (full_pieces (total - (offset + 32))) (offset + 32)) (block_step 32 at piece b)
 
     last : Read
     last = last_piece T path total offset (block_step (total - offset + tail T) at piece b)
@@ -291,29 +341,37 @@ leaf_now coding path (Content T total offset piece) at b = go (cases_lt 32 (tota
     go : (32 < total - offset) ⊎ (total - offset ≤ 32) →
         IsOctetResult (at + 1) (cond (ltb 32 (total - offset)) full last)
     go (inl h) =
-        rw (lt-ltb 32 (total - offset) h) (full_now (at + 1) T path total offset (content T path total (full_pieces (total - (offset + 32))) (offset + 32))
+        rw (lt-ltb 32 (total - offset) h) (full_now (at + 1) T path total offset
+        (content T path total (full_pieces (total - (offset + 32))) (offset + 32))
         (block_step 32 at piece b)
-        (block_now 32 at piece b) (content_quiet (at + 1) T path total (full_pieces (total - (offset + 32))) (offset + 32) (omega arith)))
+        (block_now 32 at piece b) (content_quiet (at + 1) T path total
+        (full_pieces (total - (offset + 32))) (offset + 32) (omega arith)))
     go (inr h) =
-        rw (le-ltb 32 (total - offset) h) (last_now (at + 1) T path total offset (block_step (total - offset + tail T) at piece b)
+        rw (le-ltb 32 (total - offset) h) (last_now (at + 1) T path total offset
+        (block_step (total - offset + tail T) at piece b)
         (block_now (total - offset + tail T) at piece b))
 
-around_now : (n : ℕ) (coding : Coding) (path : List PathSegment) (outer : List OpenPart) (r : Read) → IsOctetResult n r →
+around_now : (n : ℕ) (coding : Coding) (path : List PathSegment) (outer : List OpenPart)
+    (r : Read) → IsOctetResult n r →
     IsOctetResult n (around coding path outer r)
 around_now n coding path [] r h = h
 around_now n coding path (Part T i count ∷ outer) r h =
     let inner = around coding (path ++ segment_of T i ∷ []) outer r in
-    now_followed n (within (Part T i count) inner) (parts_from (part_at coding path T count) (count - suc i) (suc i))
+    now_followed n (within (Part T i count) inner)
+    (parts_from (part_at coding path T count) (count - suc i) (suc i))
     (now_within n (Part T i count) _ (around_now n coding (path ++ segment_of T i ∷ []) outer r h))
     (parts_quiet coding path T count n (count - suc i) (suc i))
 around_now n coding path (Member T i ∷ outer) r h =
     let inner = around coding (path ++ segment_of T i ∷ []) outer r in
     now_within n (Member T i) _ (around_now n coding (path ++ segment_of T i ∷ []) outer r h)
 around_now n coding path (Inside T inner end ∷ outer) r h =
-    enclosed_now n path T inner end (around inner (path ++ Held ∷ []) outer r) (around_now n inner (path ++ Held ∷ []) outer r h)
+    enclosed_now n path T inner end (around inner (path ++ Held ∷ []) outer r)
+    (around_now n inner (path ++ Held ∷ []) outer r h)
 
-pub step_now : (coding : Coding) (path : List PathSegment) (outer : List OpenPart) (leaf : Leaf) (at b : ℕ) →
+pub step_now : (coding : Coding) (path : List PathSegment) (outer : List OpenPart) (leaf : Leaf)
+    (at b : ℕ) →
     IsOctetResult (at + 1) (step coding path outer leaf at b)
 step_now coding path outer leaf at b =
-    around_now (at + 1) coding path outer (leaf_step (coding_in coding outer) (path_in path outer) leaf at b)
+    around_now (at + 1) coding path outer (leaf_step (coding_in coding outer) (path_in path outer)
+    leaf at b)
     (leaf_now (coding_in coding outer) (path_in path outer) leaf at b)

@@ -41,45 +41,57 @@ IsMissing w n (Partial held at) = length held + n ≤ w
 IsMissing w n (Complete octets at rest) = ⊥
 
 module _ (w n at b : ℕ) where
-  block_missing : (held : List ℕ) → length held + (n + 2) ≤ w → IsMissing w (n + 1) (block_step w at held b)
-  block_missing held h = rw (block_step_waits w at held b (omega arith)) (omega (arith, length_one_more held b))
+  block_missing : (held : List ℕ) → length held + (n + 2) ≤ w →
+      IsMissing w (n + 1) (block_step w at held b)
+  block_missing held h = rw (block_step_waits w at held b (omega arith))
+      (omega (arith, length_one_more held b))
 
-  number_missing : (origin : ℕ) (carry : List ℕ) → length carry + (n + 2) ≤ w → IsMissing w (n + 1) (number_step origin w at carry b)
+  number_missing : (origin : ℕ) (carry : List ℕ) → length carry + (n + 2) ≤ w →
+      IsMissing w (n + 1) (number_step origin w at carry b)
   number_missing origin [] h = go (cases_lt 0 (padding (at - origin) w))
     where
-      go : (0 < padding (at - origin) w) ⊎ (padding (at - origin) w ≤ 0) → IsMissing w (n + 1) (number_step origin w at [] b)
+      go : (0 < padding (at - origin) w) ⊎ (padding (at - origin) w ≤ 0) →
+          IsMissing w (n + 1) (number_step origin w at [] b)
       go (inl pads) = rw (number_step_pads origin w at b pads) (omega arith)
-      go (inr none) = rw (number_step_blocks origin w at [] b (inr (omega arith))) (block_missing [] h)
+      go (inr none) = rw (number_step_blocks origin w at [] b (inr (omega arith)))
+          (block_missing [] h)
   number_missing origin (x ∷ carry) h =
-      rw (number_step_blocks origin w at (x ∷ carry) b (inl (omega arith))) (block_missing (x ∷ carry) h)
+      rw (number_step_blocks origin w at (x ∷ carry) b (inl (omega arith)))
+      (block_missing (x ∷ carry) h)
 
 number_left : (n : ℕ) (T : Ty) (after : List ℕ → ℕ → List ℕ → Read) (g : Block) →
     IsMissing (leading_width T) n g → HasLeft n (after_leading_number T after g)
 unfolding octets_left
-number_left n T after (Partial carry at) h = left_in_max n (leading_width T - length carry) (omega arith)
+number_left n T after (Partial carry at) h =
+    left_in_max n (leading_width T - length carry) (omega arith)
 number_left n T after (Complete octets at rest) h = absurd h
 
 module _ (coding : Coding) (path : List PathSegment) (at b n : ℕ) where
-  content_left : (T : Ty) (total offset : ℕ) (piece : List ℕ) → n + 2 ≤ total - offset - length piece →
+  content_left : (T : Ty) (total offset : ℕ) (piece : List ℕ) →
+      n + 2 ≤ total - offset - length piece →
       HasLeft (n + 1) (content_step T path total offset at piece b)
   unfolding octets_left
-  content_left T total offset piece h = go (cases_lt 32 (total - offset)) (cases_lt (length piece + 1) 32)
+  content_left T total offset piece h = go (cases_lt 32 (total - offset))
+      (cases_lt (length piece + 1) 32)
     where
       more : length (piece ++ b ∷ []) ≡ length piece + 1
       more = length_one_more piece b
 
-      held : (32 < total - offset → length piece + 1 < 32) → HasLeft (n + 1) (content_step T path total offset at piece b)
+      held : (32 < total - offset → length piece + 1 < 32) →
+          HasLeft (n + 1) (content_step T path total offset at piece b)
       held full = rw (content_held T path total offset at piece b full (λ last. omega arith))
           (left_in_max (n + 1) (total - offset - length (piece ++ b ∷ [])) (omega (arith, more)))
 
-      go : (32 < total - offset) ⊎ (total - offset ≤ 32) → (length piece + 1 < 32) ⊎ (32 ≤ length piece + 1) →
+      go : (32 < total - offset) ⊎ (total - offset ≤ 32) → (length piece + 1 < 32)
+          ⊎ (32 ≤ length piece + 1) →
           HasLeft (n + 1) (content_step T path total offset at piece b)
       go (inr last) c = held (λ large. absurd (omega arith))
       go (inl large) (inl room) = held (λ _. room)
       go (inl large) (inr whole) = rw (full_whole T path total offset at piece b large whole)
           (left_in_max (n + 1) (total - (offset + 32) - 0) (omega arith))
 
-  leaf_left : (leaf : Leaf) → n + 2 ≤ octets_left leaf → HasLeft (n + 1) (leaf_step coding path leaf at b)
+  leaf_left : (leaf : Leaf) → n + 2 ≤ octets_left leaf →
+      HasLeft (n + 1) (leaf_step coding path leaf at b)
   unfolding octets_left
   leaf_left (LeadingNumber T carry) h =
       let left = left_below_max n (leading_width T - length carry) h in
@@ -97,13 +109,16 @@ module _ (n : ℕ) where
   front_left front (Short lines at outer leaf) h = h
   front_left front (Fault lines at kind T) h = tt
 
-  inside_left : (T : Ty) (coding : Coding) (end at : ℕ) (lines : List Line) (outer : List OpenPart) (leaf : Leaf) (goes_on : Bool) →
+  inside_left : (T : Ty) (coding : Coding) (end at : ℕ) (lines : List Line) (outer : List OpenPart)
+      (leaf : Leaf) (goes_on : Bool) →
       n ≤ octets_left leaf →
-      HasLeft n (cond goes_on (Short lines at (Inside T coding end ∷ outer) leaf) (Fault lines at kinds.EncapShort (cut_off leaf)))
+      HasLeft n (cond goes_on (Short lines at (Inside T coding end ∷ outer) leaf)
+      (Fault lines at kinds.EncapShort (cut_off leaf)))
   inside_left T coding end at lines outer leaf true h = h
   inside_left T coding end at lines outer leaf false h = tt
 
-  part_left : (coding : Coding) (path : List PathSegment) (place : OpenPart) (r : Read) → HasLeft n r →
+  part_left : (coding : Coding) (path : List PathSegment) (place : OpenPart) (r : Read) →
+      HasLeft n r →
       HasLeft n (resumed coding path place r)
   part_left coding path (Part T i count) (Done lines at rest) h = absurd h
   part_left coding path (Part T i count) (Short lines at outer leaf) h = h
@@ -112,20 +127,24 @@ module _ (n : ℕ) where
   part_left coding path (Member T i) (Short lines at outer leaf) h = h
   part_left coding path (Member T i) (Fault lines at kind U) h = tt
   part_left coding path (Inside T inner end) (Done lines at rest) h = absurd h
-  part_left coding path (Inside T inner end) (Short lines at outer leaf) h = inside_left T inner end at lines outer leaf (ltb at end) h
+  part_left coding path (Inside T inner end) (Short lines at outer leaf) h =
+      inside_left T inner end at lines outer leaf (ltb at end) h
   part_left coding path (Inside T inner end) (Fault lines at kind U) h = tt
 
-  around_left : (coding : Coding) (path : List PathSegment) (outer : List OpenPart) (r : Read) → HasLeft n r →
+  around_left : (coding : Coding) (path : List PathSegment) (outer : List OpenPart) (r : Read) →
+      HasLeft n r →
       HasLeft n (around coding path outer r)
   around_left coding path [] r h = h
   around_left coding path (place ∷ outer) r h =
-      part_left coding path place (around (coding_at coding place) (path ++ segment_in place ∷ []) outer r)
+      part_left coding path place (around (coding_at coding place) (path ++ segment_in place ∷ [])
+      outer r)
       (around_left (coding_at coding place) (path ++ segment_in place ∷ []) outer r h)
 
 -- ---- octets more
 
 module _ (coding : Coding) (path : List PathSegment) where
-  octet_left : (n : ℕ) (r : Read) (b : ℕ) → HasLeft (n + 2) r → HasLeft (n + 1) (advance coding path r b)
+  octet_left : (n : ℕ) (r : Read) (b : ℕ) → HasLeft (n + 2) r →
+      HasLeft (n + 1) (advance coding path r b)
   octet_left n (Done lines at rest) b h = absurd h
   octet_left n (Short lines at outer leaf) b h =
       front_left (n + 1) lines (step coding path outer leaf at b)
@@ -137,14 +156,17 @@ module _ (coding : Coding) (path : List PathSegment) where
   unended (Short lines at outer leaf) h = tt
   unended (Fault lines at kind T) h = tt
 
-  octets_leave : (q : List ℕ) (r : Read) → HasLeft (length q + 1) r → IsUnended (resumes coding path r q)
+  octets_leave : (q : List ℕ) (r : Read) → HasLeft (length q + 1) r →
+      IsUnended (resumes coding path r q)
   octets_leave [] r h = unended r h
   octets_leave (b ∷ q) r h =
       let same : length (b ∷ q) + 1 ≡ length q + 2 = omega arith in
-      octets_leave q (advance coding path r b) (octet_left (length q) r b (subst (λ n. HasLeft n r) same h))
+      octets_leave q (advance coding path r b)
+      (octet_left (length q) r b (subst (λ n. HasLeft n r) same h))
 
   -- fewer octets than are left do not end what goes on in these parts,
-  pub resumes_unended : (at : ℕ) (outer : List OpenPart) (leaf : Leaf) (q : List ℕ) → length q < octets_left leaf →
+  pub resumes_unended : (at : ℕ) (outer : List OpenPart) (leaf : Leaf) (q : List ℕ) →
+      length q < octets_left leaf →
       IsUnended (resumes coding path (Short [] at outer leaf) q)
   resumes_unended at outer leaf q h = octets_leave q (Short [] at outer leaf) (omega arith)
 
@@ -155,7 +177,8 @@ module _ (coding : Coding) (path : List PathSegment) where
   left_of n (Fault lines at kind T) h = tt
 
   -- nor a value that is read
-  pub read_unended : (T : Ty) (at : ℕ) (s q : List ℕ) → length q < left_in (read coding path T at s) →
+  pub read_unended : (T : Ty) (at : ℕ) (s q : List ℕ) →
+      length q < left_in (read coding path T at s) →
       IsUnended (read coding path T at (s ++ q))
   read_unended T at s q h =
       subst IsUnended (sym (read_resumes coding path T at s q))
@@ -163,7 +186,8 @@ module _ (coding : Coding) (path : List PathSegment) where
 
 -- ---- a decoder
 
-pub left_by_leaf : {C : Table} {T : Ty} {order : Order} {at message : ℕ} {root : Root} {d : Decoder} {s : List ℕ} {leaf : Innermost} →
+pub left_by_leaf : {C : Table} {T : Ty} {order : Order} {at message : ℕ} {root : Root} {d : Decoder}
+    {s : List ℕ} {leaf : Innermost} →
     Reads C T order at message root d s → d.leaf ≡ Some leaf →
     octets_left (leaf_of C leaf d.carry d.piece.items) ≡ left_in (read (plain order) [] T at s)
 unfolding left_in

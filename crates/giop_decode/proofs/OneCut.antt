@@ -15,13 +15,16 @@ cut_one zero zero offset c d xs ys e =
     let h = heads (piece offset c false) (piece offset d false) xs ys e in
     (ap (λ (p : TextPiece). p.octets) h.0, h.1)
 cut_one zero (suc full') offset c d xs ys e =
-    let h = heads (piece offset c false) (piece offset (take 32 d) true) xs (cut_from full' (offset + 32) (drop 32 d) ++ ys) e in
+    let h = heads (piece offset c false) (piece offset (take 32 d) true) xs
+    (cut_from full' (offset + 32) (drop 32 d) ++ ys) e in
     absurd (true≢false (sym (ap (λ (p : TextPiece). p.more) h.0)))
 cut_one (suc full) zero offset c d xs ys e =
-    let h = heads (piece offset (take 32 c) true) (piece offset d false) (cut_from full (offset + 32) (drop 32 c) ++ xs) ys e in
+    let h = heads (piece offset (take 32 c) true) (piece offset d false)
+    (cut_from full (offset + 32) (drop 32 c) ++ xs) ys e in
     absurd (true≢false (ap (λ (p : TextPiece). p.more) h.0))
 cut_one (suc full) (suc full') offset c d xs ys e =
-    let h = heads (piece offset (take 32 c) true) (piece offset (take 32 d) true) (cut_from full (offset + 32) (drop 32 c) ++ xs)
+    let h = heads (piece offset (take 32 c) true) (piece offset (take 32 d) true)
+    (cut_from full (offset + 32) (drop 32 c) ++ xs)
     (cut_from full' (offset + 32) (drop 32 d) ++ ys) e in
     let front : take 32 c ≡ take 32 d = ap (λ (p : TextPiece). p.octets) h.0 in
     let rest = cut_one full full' (offset + 32) (drop 32 c) (drop 32 d) xs ys h.1 in
@@ -36,7 +39,8 @@ cut_ends (suc full) offset c xs h = cut_ends full (offset + 32) (drop 32 c) xs h
 pieces_end : (c : List ℕ) (cs : List (List ℕ)) (begun other : List TextPiece) → AreUnended other →
     other ≡ (pieces_of c ++ flat_map pieces_of cs) ++ begun → ⊥
 pieces_end c cs begun other h e =
-    cut_ends (full_pieces (length c)) 0 c (flat_map pieces_of cs ++ begun) (rw (e, append_assoc) at h)
+    cut_ends (full_pieces (length c)) 0 c (flat_map pieces_of cs ++ begun)
+    (rw (e, append_assoc) at h)
 
 -- These contents are the only ones.
 pub contents_one : (cs ds : List (List ℕ)) (begun other : List TextPiece) → AreUnended begun →
@@ -45,7 +49,10 @@ contents_one [] [] begun other h k e = refl
 contents_one [] (d ∷ ds) begun other h k e = absurd (pieces_end d ds other begun h e)
 contents_one (c ∷ cs) [] begun other h k e = absurd (pieces_end c cs begun other k (sym e))
 contents_one (c ∷ cs) (d ∷ ds) begun other h k e =
-    let both : pieces_of c ++ (flat_map pieces_of cs ++ begun) ≡ pieces_of d ++ (flat_map pieces_of ds ++ other) =
-    sym (append_assoc (pieces_of c) (flat_map pieces_of cs) begun) ∙ (e ∙ append_assoc (pieces_of d) (flat_map pieces_of ds) other) in
-    let one = cut_one (full_pieces (length c)) (full_pieces (length d)) 0 c d (flat_map pieces_of cs ++ begun) (flat_map pieces_of ds ++ other) both in
+    let both : pieces_of c ++ (flat_map pieces_of cs ++ begun) ≡ pieces_of d
+    ++ (flat_map pieces_of ds ++ other) =
+    sym (append_assoc (pieces_of c) (flat_map pieces_of cs) begun)
+    ∙ (e ∙ append_assoc (pieces_of d) (flat_map pieces_of ds) other) in
+    let one = cut_one (full_pieces (length c)) (full_pieces (length d)) 0 c d
+    (flat_map pieces_of cs ++ begun) (flat_map pieces_of ds ++ other) both in
     rw (one.0, contents_one cs ds begun other h k one.1) refl

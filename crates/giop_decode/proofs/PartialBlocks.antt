@@ -53,32 +53,45 @@ module _ (C : Table) (d new : Decoder) (leaf : Innermost) (octet : ℕ)
       let ps = open_parts C here d.outer.items in
       let qs = open_parts C (here + 1) (ticked d.outer.items) in
       let held = leaf_of C leaf new.carry new.piece.items in
-      let stands = surrounds C (here + 1) (ticked d.outer.items) known_on on (stand_ticked here d.outer.items h.1) in
+      let stands = surrounds C (here + 1) (ticked d.outer.items) known_on on
+      (stand_ticked here d.outer.items h.1) in
       ap (λ l. step (plain d.order) [] ps (leaf_in C d l) here octet) e
       ∙ (ap (around (plain d.order) [] ps) (holds (path_in [] ps))
-      ∙ (ap (λ zs. around (plain d.order) [] zs (Short [] (here + 1) [] held)) (sym (places_ticked C here d.outer.items f.ahead))
+      ∙ (ap (λ zs. around (plain d.order) [] zs (Short [] (here + 1) [] held))
+      (sym (places_ticked C here d.outer.items f.ahead))
       ∙ (around-short (plain d.order) [] qs [] (here + 1) [] held stands
       ∙ (ap (λ zs. Short [] (here + 1) zs held) (append-nil qs)
       ∙ ap (λ fs. Short [] (here + 1) (open_parts C (here + 1) fs) held) (sym counts)))))
 
   held_stands : (here : ℕ) → CanStandAt d here → Holds C d new leaf here octet →
       decoder_step C d here octet ≡ read_by_fields C new [] (here + 1)
-  held_stands here h holds = step_held here h holds ∙ sym (ap (λ l. read_by_leaf C new l [] (here + 1)) e')
+  held_stands here h holds = step_held here h holds
+      ∙ sym (ap (λ l. read_by_leaf C new l [] (here + 1)) e')
 
   pub held_comes : (here : ℕ) → CanStandAt d here → Holds C d new leaf here octet →
       Comes C new progress.More (here + 1) (decoder_step C d here octet)
   held_comes here h holds = ([], (held_stands here h holds, (leaf, e'), refl))
 
-  pub held_here : (here : ℕ) → new.at ≡ (d.at + 1) % 8 → CanStandAt d here → CanStandAt new (here + 1)
+  pub held_here : (here : ℕ) → new.at ≡ (d.at + 1) % 8 → CanStandAt d here →
+      CanStandAt new (here + 1)
   held_here here at h = (omega (arith, h.0, at), rw counts (stand_ticked here d.outer.items h.1))
 
-  pub held_fits : new.root ≡ d.root → new.notes ≡ d.notes → new.inside ≡ d.inside → new.at ≡ (d.at + 1) % 8 →
+  pub held_fits : new.root ≡ d.root → new.notes ≡ d.notes → new.inside ≡ d.inside →
+      new.at ≡ (d.at + 1) % 8 →
       IsClean leaf new.carry new.piece.items → Holds C d new leaf f.here octet → Fits C new
   held_fits root notes encloses at clean holds =
       let it : f.leaf ≡ leaf = same_some f.leaf leaf (sym f.goes_on ∙ e) in
-      step_fits C d new f octet (record { lines = []; is = held_stands f.here f.stands holds; leaf = leaf; goes_on = e' })
-      (held_here f.here at f.stands) (rw counts on) (rw (encloses, counts, inside_ticked d.outer.items) f.inside)
-      (rw (counts, ← it) (link_ticked C f.root d.outer.items (leaf_type f.leaf) f.link)) (rw counts known_on) (rw (← it) f.known) clean (rw (root, notes) f.id_in_header_only)
+      step_fits C d new f octet (record {
+        lines = [];
+        is = held_stands f.here f.stands holds;
+        leaf =
+            leaf;
+        goes_on = e';
+      })
+      (held_here f.here at f.stands) (rw counts on)
+      (rw (encloses, counts, inside_ticked d.outer.items) f.inside)
+      (rw (counts, ← it) (link_ticked C f.root d.outer.items (leaf_type f.leaf) f.link))
+      (rw counts known_on) (rw (← it) f.known) clean (rw (root, notes) f.id_in_header_only)
       (rw (root, notes, ← it) f.name)
 
   pub held_keeps_noted : (here : ℕ) (front : List Line) → new.notes ≡ d.notes → CanStandAt d here →
@@ -86,7 +99,12 @@ module _ (C : Table) (d new : Decoder) (leaf : Innermost) (octet : ℕ)
       KeepsNoted d.root new (with_front front (decoder_step C d here octet))
   held_keeps_noted here front notes h holds old =
       let header = is_header_root d.root in
-      let before : HoldsNoted d.notes (noted_of header (Short front here (open_parts C here d.outer.items) (leaf_of C leaf d.carry d.piece.items))) =
+      let before : HoldsNoted d.notes (noted_of header
+      (Short front here (open_parts C here d.outer.items)
+      (leaf_of C leaf d.carry d.piece.items))) =
       subst (λ l. HoldsNoted d.notes (noted_of header (read_by_leaf C d l front here))) e old in
-      let now = rw (leaf_inside C leaf d.carry d.piece.items, ← leaf_inside C leaf new.carry new.piece.items) at before in
+      let now = rw (
+        leaf_inside C leaf d.carry d.piece.items,
+        ← leaf_inside C leaf new.carry new.piece.items,
+      ) at before in
       rw (notes, step_held here h holds, append-nil front) now

@@ -57,7 +57,8 @@ module _ (C : Table) (d : Decoder) (octets : List ℕ) (of : TypeId) (count : �
   -- all but the last
   pub before_so_far : (a : OutLog) → TakenSoFar C d before octets (count - 1) a a
   before_so_far a =
-      gathered_so_far C d before octets (count - 1) a (let b = below in omega (arith, b)) fits_before
+      gathered_so_far C d before octets (count - 1) a (let b = below in omega (arith, b))
+      fits_before
       (gathered_whole C d octets of count step rest f h m on).1
 
   pub last_says : (Says : List ℕ → Type 0) →

@@ -1,5 +1,6 @@
--- What the crates above may use of the reading of a value, beside its contracts: lemmas on the public definitions, each
--- proved in the file that it names. No other file of this crate's proofs can be cited from outside.
+-- What the crates above may use of the reading of a value, beside its contracts: lemmas on the
+-- public definitions, each proved in the file that it names. No other file of this crate's proofs
+-- can be cited from outside.
 use Rattle.std.specs.List.{AllByRecursion as Each}
 use Rattle.std.proofs.Common.{◌≡◌, ℕ, suc, ◌+◌, ◌<◌, Bool, false, List, [], ◌∷◌, ◌++◌, length, Option}
 use Rattle.giop_cdr.specs.declared.order.Order.{Order}
@@ -37,7 +38,8 @@ pub read_goes : (coding : Coding) (path : List PathSegment) (T : Ty) (at : ℕ) 
 read_goes coding path T at s b = enclosing.read_goes coding path T at s b
 
 -- a step has at most one line, which stands at its octet;
-pub step_now : (coding : Coding) (path : List PathSegment) (outer : List OpenPart) (leaf : Leaf) (at b : ℕ) →
+pub step_now : (coding : Coding) (path : List PathSegment) (outer : List OpenPart) (leaf : Leaf)
+    (at b : ℕ) →
     IsOctetResult (at + 1) (step coding path outer leaf at b)
 step_now coding path outer leaf at b = now.step_now coding path outer leaf at b
 
@@ -46,13 +48,15 @@ pub read_keeps : (d : ℕ) (coding : Coding) (path : List PathSegment) (T : Ty) 
     (at : ℕ) (s : List ℕ) → Sound T (at + length s) (read coding path T at s)
 read_keeps d coding path T fit at s = sound.read_keeps d coding path T fit at s
 
--- Fewer octets than have to come of the innermost part do not end the value, be it read from its first octet,
+-- Fewer octets than have to come of the innermost part do not end the value, be it read from its
+-- first octet,
 pub read_unended : (coding : Coding) (path : List PathSegment) (T : Ty) (at : ℕ) (s q : List ℕ) →
     length q < left_in (read coding path T at s) → IsUnended (read coding path T at (s ++ q))
 read_unended coding path T at s q h = left.read_unended coding path T at s q h
 
 -- or be it resumed.
-pub resumes_unended : (coding : Coding) (path : List PathSegment) (at : ℕ) (outer : List OpenPart) (leaf : Leaf) (q : List ℕ) →
+pub resumes_unended : (coding : Coding) (path : List PathSegment) (at : ℕ) (outer : List OpenPart)
+    (leaf : Leaf) (q : List ℕ) →
     length q < octets_left leaf → IsUnended (resumes coding path (Short [] at outer leaf) q)
 resumes_unended coding path at outer leaf q h = left.resumes_unended coding path at outer leaf q h
 
@@ -66,11 +70,13 @@ pub noted-append : (header : Bool) (h : Noted) (xs ys : List Line) →
     noted header h (xs ++ ys) ≡ noted header (noted header h xs) ys
 noted-append header h xs ys = resuming.noted-append header h xs ys
 
-pub front_inside : (front : List Line) (r : Read) → ends_in_string (with_front front r) ≡ ends_in_string r
+pub front_inside : (front : List Line) (r : Read) →
+    ends_in_string (with_front front r) ≡ ends_in_string r
 front_inside front r = hearing.front_inside front r
 
 -- The reading of one octet is one inside a part, too.
-pub now_within : (n : ℕ) (place : OpenPart) (r : Read) → IsOctetResult n r → IsOctetResult n (within place r)
+pub now_within : (n : ℕ) (place : OpenPart) (r : Read) → IsOctetResult n r →
+    IsOctetResult n (within place r)
 now_within n place r h = now.now_within n place r h
 
 -- the type that an encapsulation's end cuts off inside a string is a string
@@ -89,13 +95,16 @@ pub read_quiet : (coding : Coding) (path : List PathSegment) (T : Ty) (n : ℕ) 
 read_quiet coding path T n = now.read_quiet coding path T n
 
 -- and of what is left of an encapsulation
-pub rest_quiet : (n : ℕ) (path : List PathSegment) (T : Ty) (k : ℕ) → IsEmptyResult n (rest_of path T k n [])
+pub rest_quiet : (n : ℕ) (path : List PathSegment) (T : Ty) (k : ℕ) →
+    IsEmptyResult n (rest_of path T k n [])
 rest_quiet n path T k = now.rest_quiet n path T k
 
-pub quiet_within : (n : ℕ) (place : OpenPart) (r : Read) → IsEmptyResult n r → IsEmptyResult n (within place r)
+pub quiet_within : (n : ℕ) (place : OpenPart) (r : Read) → IsEmptyResult n r →
+    IsEmptyResult n (within place r)
 quiet_within n place r h = now.quiet_within n place r h
 
-pub quiet_parts : (n : ℕ) (part : ℕ → ℕ → List ℕ → Read) → ((i : ℕ) → IsEmptyResult n (part i n [])) →
+pub quiet_parts : (n : ℕ) (part : ℕ → ℕ → List ℕ → Read) →
+    ((i : ℕ) → IsEmptyResult n (part i n [])) →
     (more i : ℕ) → IsEmptyResult n (parts_from part more i n [])
 quiet_parts n part h more i = now.quiet_parts n part h more i
 
@@ -124,7 +133,8 @@ pub next_part : (coding : Coding) (path : List PathSegment) (d : ℕ) (T : Ty) (
     resumed coding path (Part T i count) (Done [] at [])
     ≡ Short [] at (Part T (suc i) count ∷ start_outer (part_of T (suc i)))
     (start_leaf (part_of T (suc i)))
-next_part coding path d T i count at fit kind below = around.next_part coding path d T i count at fit kind below
+next_part coding path d T i count at fit kind below =
+    around.next_part coding path d T i count at fit kind below
 
 -- On lists.
 
@@ -147,6 +157,7 @@ pub text_both : (message : ℕ) (root : Root) (order : Order) (T : Ty) (at : ℕ
     (added_lines_of_run order T at (s ++ xs) ys)
 text_both message root order T at s xs ys = runs.text_both message root order T at s xs ys
 
--- The parts of a decoder that are begun and not ended are fewer than the types of the table are deep.
+-- The parts of a decoder that are begun and not ended are fewer than the types of the table are
+-- deep.
 pub fits_depth : (C : Table) (d : Decoder) → Fits C d → length d.outer.items < depth_of C.types
 fits_depth C d fits = depths.fits_depth C d fits

@@ -27,7 +27,8 @@ unfolding lines_text
 lines_text_both message root [] ys = refl
 lines_text_both message root (x ∷ xs) ys =
     ap (λ z. line_text message root x ++ z) (lines_text_both message root xs ys)
-    ∙ sym (append_assoc (line_text message root x) (lines_text message root xs) (lines_text message root ys))
+    ∙ sym (append_assoc (line_text message root x) (lines_text message root xs)
+    (lines_text message root ys))
 
 dues_begin : (order : Order) (T : Ty) (at : ℕ) (s xs : List ℕ) →
     lines_of (read (plain order) [] T at (s ++ xs))
@@ -35,20 +36,24 @@ dues_begin : (order : Order) (T : Ty) (at : ℕ) (s xs : List ℕ) →
 dues_begin order T at s xs =
     let front = lines_of (read (plain order) [] T at s) in
     let more = lines_begin (plain order) [] T at s xs in
-    more.1 ∙ ap (λ z. front ++ z) (sym (ap (drop (length front)) more.1 ∙ drop-append_seam front more.0))
+    more.1 ∙ ap (λ z. front ++ z) (sym (ap (drop (length front)) more.1
+    ∙ drop-append_seam front more.0))
 
 pub dues_both : (order : Order) (T : Ty) (at : ℕ) (s xs ys : List ℕ) →
-    added_lines_of_run order T at s (xs ++ ys) ≡ added_lines_of_run order T at s xs ++ added_lines_of_run order T at (s ++ xs) ys
+    added_lines_of_run order T at s (xs ++ ys) ≡ added_lines_of_run order T at s xs
+    ++ added_lines_of_run order T at (s ++ xs) ys
 dues_both order T at s xs ys =
     let front = lines_of (read (plain order) [] T at s) in
     let first = added_lines_of_run order T at s xs in
     let second = added_lines_of_run order T at (s ++ xs) ys in
     let e : lines_of (read (plain order) [] T at (s ++ (xs ++ ys))) ≡ front ++ (first ++ second) =
-    ap (λ z. lines_of (read (plain order) [] T at z)) (sym (append_assoc s xs ys)) ∙ (dues_begin order T at (s ++ xs) ys
+    ap (λ z. lines_of (read (plain order) [] T at z)) (sym (append_assoc s xs ys))
+    ∙ (dues_begin order T at (s ++ xs) ys
     ∙ (ap (λ z. z ++ second) (dues_begin order T at s xs) ∙ append_assoc front first second)) in
     ap (drop (length front)) e ∙ drop-append_seam front (first ++ second)
 
-pub dues_none : (order : Order) (T : Ty) (at : ℕ) (s : List ℕ) → added_lines_of_run order T at s [] ≡ []
+pub dues_none : (order : Order) (T : Ty) (at : ℕ) (s : List ℕ) →
+    added_lines_of_run order T at s [] ≡ []
 dues_none order T at s =
     let front = lines_of (read (plain order) [] T at s) in
     ap (λ z. drop (length front) (lines_of (read (plain order) [] T at z))) (append-nil s)
@@ -65,14 +70,16 @@ pub text_both : (message : ℕ) (root : Root) (order : Order) (T : Ty) (at : ℕ
     (added_lines_of_run order T at (s ++ xs) ys)
 text_both message root order T at s xs ys =
     ap (lines_text message root) (dues_both order T at s xs ys)
-    ∙ lines_text_both message root (added_lines_of_run order T at s xs) (added_lines_of_run order T at (s ++ xs) ys)
+    ∙ lines_text_both message root (added_lines_of_run order T at s xs)
+    (added_lines_of_run order T at (s ++ xs) ys)
 
 -- ---- the answers to them
 
 pub answered_both : (order : Order) (T : Ty) (at : ℕ) (root : Root) (s xs ys : List ℕ)
     (p : Progress) → AreAnswered order T at root s xs progress.More →
     AreAnswered order T at root (s ++ xs) ys p → AreAnswered order T at root s (xs ++ ys) p
-answered_both order T at root s [] ys p h k = subst (λ z. AreAnswered order T at root z ys p) (append-nil s) k
+answered_both order T at root s [] ys p h k =
+    subst (λ z. AreAnswered order T at root z ys p) (append-nil s) k
 answered_both order T at root s (x ∷ []) [] p h k = subst (Answers order T at root s x) (sym k) h
 answered_both order T at root s (x ∷ []) (y ∷ ys) p h k = (h, k)
 answered_both order T at root s (x ∷ x' ∷ xs) ys p h k = (
@@ -84,7 +91,8 @@ answered_both order T at root s (x ∷ x' ∷ xs) ys p h k = (
 pub takes_one : (C : Table) (T : Ty) (order : Order) (at message : ℕ) (root : Root) (d : Decoder)
     (s : List ℕ) (octet : ℕ) (p : Progress) → Takes C T order at message root d s octet p →
     TakesRun C T order at message root d s (octet ∷ []) p
-takes_one C T order at message root d s octet p t = record { answers = t.answer; reads = t.reads; keeps_noted = t.keeps_noted }
+takes_one C T order at message root d s octet p t =
+    record { answers = t.answer; reads = t.reads; keeps_noted = t.keeps_noted }
 
 pub takes_both : (C : Table) (T : Ty) (order : Order) (at message : ℕ) (root : Root) (d : Decoder)
     (s xs ys : List ℕ) (p : Progress) → AreAnswered order T at root s xs progress.More →
@@ -105,8 +113,10 @@ pub take_more : (xs : List ℕ) (i : ℕ) → i < length xs →
 take_more xs i h = rw add-one (take-suc xs i 0 h)
 
 pub text_more : (message : ℕ) (root : Root) (order : Order) (T : Ty) (at : ℕ) (s octets : List ℕ)
-    (i : ℕ) → i < length octets → lines_text message root (added_lines_of_run order T at s (take (i + 1) octets))
-    ≡ lines_text message root (added_lines_of_run order T at s (take i octets)) ++ lines_text message root
+    (i : ℕ) → i < length octets → lines_text message root
+    (added_lines_of_run order T at s (take (i + 1) octets))
+    ≡ lines_text message root (added_lines_of_run order T at s (take i octets))
+    ++ lines_text message root
     (added_lines order T at (s ++ take i octets) (get_or octets i 0))
 text_more message root order T at s octets i h =
     ap (λ xs. lines_text message root (added_lines_of_run order T at s xs)) (take_more octets i h)
@@ -143,7 +153,8 @@ breaks_off T order at message root s octets i a b c below h v w =
 
 -- ---- a run of the first of several octets
 
-pub take_near : (n : ℕ) (near octets : List ℕ) → near ≡ take (length near) octets → n ≤ length near →
+pub take_near : (n : ℕ) (near octets : List ℕ) → near ≡ take (length near) octets →
+    n ≤ length near →
     take n near ≡ take n octets
 take_near n near octets e le = ap (take n) e ∙ take-take n (length near) octets le
 
@@ -157,7 +168,8 @@ broken_near T order at message root s near octets a b e h =
       octet = h.octet;
       rest = h.rest ++ behind;
       all = sym (take-append-drop (length near) octets)
-          ∙ (ap (λ xs. xs ++ behind) (sym e ∙ h.all) ∙ append_assoc h.front (h.octet ∷ h.rest) behind);
+          ∙ (ap (λ xs. xs ++ behind) (sym e ∙ h.all)
+          ∙ append_assoc h.front (h.octet ∷ h.rest) behind);
       answers = h.answers;
       wrote = h.wrote;
     }
@@ -165,10 +177,13 @@ broken_near T order at message root s near octets a b e h =
 pub writes_near : {E : Type 0} (r : Result (ℕ × Progress) E) (T : Ty) (order : Order)
     (at message : ℕ) (root : Root) (s near octets : List ℕ) (a b : OutLog) →
     near ≡ take (length near) octets → IfOk r (λ taken. taken.0 ≤ length near) →
-    WritesRun r T order at message root s near a b → WritesRun r T order at message root s octets a b
+    WritesRun r T order at message root s near a b →
+    WritesRun r T order at message root s octets a b
 writes_near (Ok v) T order at message root s near octets a b e within h =
-    subst (λ xs. Wrote a b (lines_text message root (added_lines_of_run order T at s xs))) (take_near v.0 near octets e within) h
-writes_near (Err v) T order at message root s near octets a b e within h = broken_near T order at message root s near octets a b e h
+    subst (λ xs. Wrote a b (lines_text message root (added_lines_of_run order T at s xs)))
+    (take_near v.0 near octets e within) h
+writes_near (Err v) T order at message root s near octets a b e within h =
+    broken_near T order at message root s near octets a b e h
 
 -- of any list that the decoder before reads
 pub takes_near : {E : Type 0} (r : Result (ℕ × Progress) E) (C : Table) (old new : Decoder)
@@ -181,7 +196,8 @@ pub takes_near : {E : Type 0} (r : Result (ℕ × Progress) E) (C : Table) (old 
     Reads C T order at message root old s →
     TakesRun C T order at message root new s (take taken.0 octets) taken.1)
 takes_near (Ok v) C old new near octets e within h = λ T order at message root s r.
-    subst (λ xs. TakesRun C T order at message root new s xs v.1) (take_near v.0 near octets e within) (h T order at message root s r)
+    subst (λ xs. TakesRun C T order at message root new s xs v.1)
+    (take_near v.0 near octets e within) (h T order at message root s r)
 takes_near (Err v) C old new near octets e within h = tt
 
 -- ---- two runs, one after the other
@@ -198,7 +214,10 @@ breaks_both T order at message root s xs ys a b c h v w =
       rest = w.rest;
       all = ap (λ z. xs ++ z) w.all ∙ sym (append_assoc xs w.front (w.octet ∷ w.rest));
       answers = answered_both order T at root s xs w.front progress.More h w.answers;
-      wrote = rw (append_assoc xs w.front (w.octet ∷ []), text_both message root order T at s xs (w.front ++ w.octet ∷ []))
+      wrote = rw (
+        append_assoc xs w.front (w.octet ∷ []),
+        text_both message root order T at s xs (w.front ++ w.octet ∷ []),
+      )
           (wrote-front a b c _ _ v w.wrote);
     }
 
@@ -210,7 +229,8 @@ one_taken (suc zero) octet h = refl
 one_taken (suc (suc n)) octet h = refl
 
 pub text_one : (message : ℕ) (root : Root) (order : Order) (T : Ty) (at : ℕ) (s : List ℕ)
-    (n octet : ℕ) → 0 < n → lines_text message root (added_lines_of_run order T at s (take n (octet ∷ [])))
+    (n octet : ℕ) → 0 < n → lines_text message root
+    (added_lines_of_run order T at s (take n (octet ∷ [])))
     ≡ lines_text message root (added_lines order T at s octet)
 text_one message root order T at s n octet some =
     ap (λ xs. lines_text message root (added_lines_of_run order T at s xs)) (one_taken n octet some)
@@ -220,7 +240,8 @@ pub taken_one : (C : Table) (T : Ty) (order : Order) (at message : ℕ) (root : 
     TakesRun C T order at message root d s (take n (octet ∷ [])) p →
     Takes C T order at message root d s octet p
 taken_one C T order at message root d s n octet p some t =
-    let run = subst (λ xs. TakesRun C T order at message root d s xs p) (one_taken n octet some) t in
+    let run = subst (λ xs. TakesRun C T order at message root d s xs p) (one_taken n octet some) t
+    in
     record { answer = run.answers; reads = run.reads; keeps_noted = run.keeps_noted }
 
 -- a front of one octet, with the octet after it, is that octet

@@ -31,7 +31,15 @@ head_tag T h = rw h.4 tt
 pub head_encapsulation : (T : Ty) → HasShape T shapes.Encapsulation → HasLeadingNumber T
 head_encapsulation T h = rw h.1 tt
 
-pub ruleset shape_laws = (whole_members, whole_array, head_prim, head_enum, head_union, head_tag, head_encapsulation)
+pub ruleset shape_laws = (
+  whole_members,
+  whole_array,
+  head_prim,
+  head_enum,
+  head_union,
+  head_tag,
+  head_encapsulation,
+)
 
 pub aligned : (p : Primitive) → IsAlignment (size_of p)
 aligned prims.Short = inr (inl refl)
@@ -81,4 +89,16 @@ some_tag T h empty = rw h.4 at empty
 pub some_encapsulation : (T : Ty) → HasShape T shapes.Encapsulation → IsEmptyStruct T → ⊥
 some_encapsulation T h empty = rw h.1 at empty
 
-pub ruleset empty_laws = (some_tag, some_encapsulation, empty_is, some_is, some_array, some_prim, some_enum, some_text, some_octets, some_union, some_sequence)
+pub ruleset empty_laws = (
+  some_tag,
+  some_encapsulation,
+  empty_is,
+  some_is,
+  some_array,
+  some_prim,
+  some_enum,
+  some_text,
+  some_octets,
+  some_union,
+  some_sequence,
+)

@@ -40,13 +40,15 @@ sound_followed T end _ next h keeps = h
 pub sound_part : (T : Ty) (end i count : ℕ) (r : Read) → HasParts T count → i < count →
     Sound (part_of T i) end r → Sound T end (within (Part T i count) r)
 sound_part T end i count (Done lines at rest) kind below h = h
-sound_part T end i count (Short lines at outer leaf) kind below h = (h.0, (record { same = refl; kind = kind; below = below }, h.1), (tt, h.2))
+sound_part T end i count (Short lines at outer leaf) kind below h =
+    (h.0, (record { same = refl; kind = kind; below = below }, h.1), (tt, h.2))
 sound_part T end i count (Fault lines at k S) kind below h = tt
 
 pub sound_member : (T : Ty) (end i : ℕ) (r : Read) → HasCase T i → Sound (part_of T i) end r →
     Sound T end (within (Member T i) r)
 sound_member T end i (Done lines at rest) kind h = h
-sound_member T end i (Short lines at outer leaf) kind h = (h.0, (record { same = refl; kind = kind }, h.1), (tt, h.2))
+sound_member T end i (Short lines at outer leaf) kind h =
+    (h.0, (record { same = refl; kind = kind }, h.1), (tt, h.2))
 sound_member T end i (Fault lines at k S) kind h = tt
 
 -- octets taken: the offset at the end, and how many
@@ -68,11 +70,14 @@ number_takes o n at s pos = go (cases_lt (length s) (padding (at - o) n))
         Takes n (at + length s) (number o n at s)
     go (inl h) = rw (number_waits o n at s h) (refl, pos)
     go (inr h) =
-        let e : (at + padding (at - o) n) + length (drop (padding (at - o) n) s) ≡ at + length s = omega (arith, length-drop (padding (at - o) n) s) in
-        rw (number_blocks o n at s h) (subst (λ end. Takes n end (block n (at + padding (at - o) n) (drop (padding (at - o) n) s))) e
+        let e : (at + padding (at - o) n) + length (drop (padding (at - o) n) s) ≡ at + length s =
+        omega (arith, length-drop (padding (at - o) n) s) in
+        rw (number_blocks o n at s h) (subst
+        (λ end. Takes n end (block n (at + padding (at - o) n) (drop (padding (at - o) n) s))) e
         (block_takes n (at + padding (at - o) n) (drop (padding (at - o) n) s)))
 
-pub parts_keep : (coding : Coding) (path : List PathSegment) (T : Ty) (count : ℕ) → HasParts T count →
+pub parts_keep : (coding : Coding) (path : List PathSegment) (T : Ty) (count : ℕ) →
+    HasParts T count →
     ((i : ℕ) → i < count → Keeps (part_of T i) (read coding (inner_path path T i) (part_of T i))) →
     (more i : ℕ) → more ≡ count - i → Keeps T (parts_from (part_at coding path T count) more i)
 parts_keep coding path T count kind each zero i is at s = refl
@@ -82,53 +87,87 @@ parts_keep coding path T count kind each (suc more) i is at s =
     (sound_part T _ i count _ kind below (each i below at s))
     (parts_keep coding path T count kind each more (suc i) (omega arith))
 
-headed_keeps : (coding : Coding) (path : List PathSegment) (T : Ty) → HasLeadingNumber T → 0 < leading_width T →
+headed_keeps : (coding : Coding) (path : List PathSegment) (T : Ty) → HasLeadingNumber T →
+    0 < leading_width T →
     ((n : ℕ) → Keeps T (after coding path T n)) →
     Keeps T (λ at s. headed_by coding path T (number coding.origin (leading_width T) at s))
-headed_keeps coding path T kind pos keeps at s = go (number coding.origin (leading_width T) at s) (number_takes coding.origin (leading_width T) at s pos)
+headed_keeps coding path T kind pos keeps at s =
+    go (number coding.origin (leading_width T) at s)
+    (number_takes coding.origin (leading_width T) at s pos)
   where
     go : (g : Block) → Takes (leading_width T) (at + length s) g →
         Sound T (at + length s) (headed_by coding path T g)
     go (Partial carry at') h = (h.0, record { same = refl; kind = kind; room = h.1 }, tt)
-    go (Complete xs at' rest) h = subst (λ e. Sound T e (after coding path T (num coding.order xs) at' rest)) h.0 (keeps (num coding.order xs) at' rest)
+    go (Complete xs at' rest) h = subst (λ e.
+        Sound T e (after coding path T (num coding.order xs) at' rest)) h.0
+        (keeps (num coding.order xs) at' rest)
 
 pub last_piece_sound : (T : Ty) (path : List PathSegment) (total offset end : ℕ) → HasContent T →
     total - offset ≤ 32 → offset ≤ total → (g : Block) → Takes (total - offset + tail T) end g →
     Sound T end (last_piece T path total offset g)
-last_piece_sound T path total offset end kind small ahead (Partial piece at) h =
-    (h.0, record { same = refl; kind = kind; ahead = ahead; room_full = λ more. absurd (omega arith); room_last = λ _. h.1 }, tt)
+last_piece_sound T path total offset end kind small ahead (Partial piece at) h = (
+  h.0,
+  record {
+    same = refl;
+    kind = kind;
+    ahead = ahead;
+    room_full =
+        λ more. absurd (omega arith);
+    room_last = λ _. h.1;
+  },
+  tt,
+)
 last_piece_sound T path total offset end kind small ahead (Complete xs at rest) h =
     sound_unless T _ T (ends T (total - offset) xs) at _ h.0
 
 pub full_piece_sound : (T : Ty) (path : List PathSegment) (total offset end : ℕ) → HasContent T →
     32 < total - offset → (next : ℕ → List ℕ → Read) → Keeps T next → (g : Block) → Takes 32 end g →
     Sound T end (full_piece T path total offset next g)
-full_piece_sound T path total offset end kind large next keeps (Partial piece at) h =
-    (h.0, record { same = refl; kind = kind; ahead = omega arith; room_full = λ _. h.1; room_last = λ small. absurd (omega arith) }, tt)
+full_piece_sound T path total offset end kind large next keeps (Partial piece at) h = (
+  h.0,
+  record {
+    same = refl;
+    kind = kind;
+    ahead = omega arith;
+    room_full = λ _. h.1;
+    room_last =
+        λ small. absurd (omega arith);
+  },
+  tt,
+)
 full_piece_sound T path total offset end kind large next keeps (Complete xs at rest) h =
-    sound_front T _ (line at path (Piece T offset xs true) ∷ []) _ (subst (λ e. Sound T e (next at rest)) h.0 (keeps at rest))
+    sound_front T _ (line at path (Piece T offset xs true) ∷ []) _
+    (subst (λ e. Sound T e (next at rest)) h.0 (keeps at rest))
 
-pub content_keeps : (T : Ty) (path : List PathSegment) (total : ℕ) → HasContent T → (full offset : ℕ) →
+pub content_keeps : (T : Ty) (path : List PathSegment) (total : ℕ) → HasContent T →
+    (full offset : ℕ) →
     full ≡ full_pieces (total - offset) → offset ≤ total →
     Keeps T (content T path total full offset)
 content_keeps T path total kind zero offset is ahead at s =
-    last_piece_sound T path total offset (at + length s) kind (omega arith) ahead (block (total - offset + tail T) at s)
+    last_piece_sound T path total offset (at + length s) kind (omega arith) ahead
+    (block (total - offset + tail T) at s)
     (block_takes (total - offset + tail T) at s)
 content_keeps T path total kind (suc full) offset is ahead at s =
-    full_piece_sound T path total offset (at + length s) kind (omega arith) (content T path total full (offset + 32))
-    (content_keeps T path total kind full (offset + 32) (omega arith) (omega arith)) (block 32 at s) (block_takes 32 at s)
+    full_piece_sound T path total offset (at + length s) kind (omega arith)
+    (content T path total full (offset + 32))
+    (content_keeps T path total kind full (offset + 32) (omega arith) (omega arith)) (block 32 at s)
+    (block_takes 32 at s)
 
-text_keeps : (path : List PathSegment) (bound : Option ℕ) (n : ℕ) → Keeps (Text bound) (text bound path n)
+text_keeps : (path : List PathSegment) (bound : Option ℕ) (n : ℕ) →
+    Keeps (Text bound) (text bound path n)
 text_keeps path bound zero at s = refl
 text_keeps path bound (suc n) at s =
-    sound_unless (Text bound) _ _ (over bound n) at _ (content_keeps (Text bound) path n tt (full_pieces n) 0 (omega arith) (omega arith) at s)
+    sound_unless (Text bound) _ _ (over bound n) at _
+    (content_keeps (Text bound) path n tt (full_pieces n) 0 (omega arith) (omega arith) at s)
 
 octets_keeps : (path : List PathSegment) (bound : Option ℕ) (n : ℕ) →
     Keeps (Octets bound) (octets bound path n)
 octets_keeps path bound n at s =
-    sound_unless (Octets bound) _ _ (over bound n) at _ (content_keeps (Octets bound) path n tt (full_pieces n) 0 (omega arith) (omega arith) at s)
+    sound_unless (Octets bound) _ _ (over bound n) at _
+    (content_keeps (Octets bound) path n tt (full_pieces n) 0 (omega arith) (omega arith) at s)
 
-single_keeps : (T : Ty) (path : List PathSegment) (scalar : Scalar) (n : ℕ) → Keeps T (single path scalar n)
+single_keeps : (T : Ty) (path : List PathSegment) (scalar : Scalar) (n : ℕ) →
+    Keeps T (single path scalar n)
 single_keeps T path scalar n at s = sound_unless T _ _ (wrong scalar n) at _ refl
 
 selected_keeps : (coding : Coding) (path : List PathSegment) (T : Ty) (selected : Selected) →
@@ -141,10 +180,12 @@ selected_keeps coding path T (Case i) kind each at s =
 selected_keeps coding path T _ kind each at s = refl
 
 -- what follows a number, where the parts' readings keep
-pub elements_keep : (coding : Coding) (path : List PathSegment) (bound : Option ℕ) (T : Ty) (n : ℕ) →
+pub elements_keep : (coding : Coding) (path : List PathSegment) (bound : Option ℕ) (T : Ty)
+    (n : ℕ) →
     ((i : ℕ) → Keeps T (read coding (path ++ Index i ∷ []) T)) →
     Keeps (Sequence bound T) (after coding path (Sequence bound T) n)
-elements_keep coding path bound T n each at s = sound_unless (Sequence bound T) _ _ (over bound n) at _
+elements_keep coding path bound T n each at s =
+    sound_unless (Sequence bound T) _ _ (over bound n) at _
     (sound_front (Sequence bound T) _ (line at path (Count n) ∷ []) _
     (parts_keep coding path (Sequence bound T) n tt (λ i below. each i) n 0 (omega arith) at s))
 
@@ -158,29 +199,35 @@ cases_keep coding path choice scalar select names cases n below each at s =
     let T = Union choice scalar select names cases in
     sound_unless T _ T (wrong scalar n) at _
     (sound_unless T _ T (refused (select n)) at _
-    (sound_front T _ (line at (path ++ Switch (tag_of choice names) ∷ []) (ReadResult.Number scalar n) ∷ []) _
+    (sound_front T _ (line at (path ++ Switch (tag_of choice names) ∷ [])
+    (ReadResult.Number scalar n) ∷ []) _
     (selected_keeps coding path T (select n) (λ i e. below n i e) each at s)))
 
 -- ---- encapsulations
 
 rest_keeps : (T : Ty) (path : List PathSegment) (n : ℕ) → HasContent T → Keeps T (rest_of path T n)
 rest_keeps T path zero kind at s = refl
-rest_keeps T path (suc n) kind at s = content_keeps T path (suc n) kind (full_pieces (suc n)) 0 (omega arith) (omega arith) at s
+rest_keeps T path (suc n) kind at s = content_keeps T path (suc n) kind (full_pieces (suc n)) 0
+    (omega arith) (omega arith) at s
 
 encapsulation_content : (T : Ty) → IsEncapsulation T → HasContent T
 encapsulation_content (Encapsulation T) h = tt
 encapsulation_content T h = absurd h
 
--- a value in an encapsulation, read up to here, and what follows it: no octets while the encapsulation goes on
+-- a value in an encapsulation, read up to here, and what follows it: no octets while the
+-- encapsulation goes on
 pub sound_enclosed : (T : Ty) (path : List PathSegment) (inner : Coding) (end here : ℕ) →
     IsEncapsulation T → inner.origin < here → (r : Read) (more : List ℕ) →
     Sound (part_of T 0) here r → (here < end → more ≡ []) →
     Sound T (here + length more) (enclosed path T inner end r more)
 sound_enclosed T path inner end here kind began (Done lines at rest) more h none =
-    let e : at + length (rest ++ more) ≡ here + length more = omega (arith, h, length-append rest more) in
+    let e : at + length (rest ++ more) ≡ here + length more =
+    omega (arith, h, length-append rest more) in
     sound_front T _ lines _
-    (subst (λ n. Sound T n (rest_of path T (end - at) at (rest ++ more))) e (rest_keeps T path (end - at) (encapsulation_content T kind) at (rest ++ more)))
-sound_enclosed T path inner end here kind began (Short lines at outer leaf) more h none = go (cases_lt at end)
+    (subst (λ n. Sound T n (rest_of path T (end - at) at (rest ++ more))) e
+    (rest_keeps T path (end - at) (encapsulation_content T kind) at (rest ++ more)))
+sound_enclosed T path inner end here kind began (Short lines at outer leaf) more h none =
+    go (cases_lt at end)
   where
     go : (at < end) ⊎ (end ≤ at) → Sound T (here + length more)
         (enclosed path T inner end (Short lines at outer leaf) more)
@@ -188,11 +235,16 @@ sound_enclosed T path inner end here kind began (Short lines at outer leaf) more
         let below : here < end = omega (arith, h.0, k) in
         let e : here ≡ here + length more = rw (none below) (sym (add-zero here)) in
         subst (λ n. Sound T n (enclosed path T inner end (Short lines at outer leaf) more)) e
-        (rw (lt-ltb at end k) (h.0, (record { same = refl; kind = kind }, h.1), ((below, began), h.2)))
+        (rw (lt-ltb at end k) (
+          h.0,
+          (record { same = refl; kind = kind }, h.1),
+          ((below, began), h.2),
+        ))
     go (inr k) = rw le-ltb tt
 sound_enclosed T path inner end here kind began (Fault lines at why S) more h none = tt
 
-inside_sound : (T : Ty) (path : List PathSegment) (value : Coding → ℕ → List ℕ → Read) (inner : Coding)
+inside_sound : (T : Ty) (path : List PathSegment) (value : Coding → ℕ → List ℕ → Read)
+    (inner : Coding)
     (n at : ℕ) (s : List ℕ) → IsEncapsulation T → inner.origin < at →
     Keeps (part_of T 0) (value inner) → Sound T (at + length s) (inside path T value inner n at s)
 inside_sound T path value inner n at s kind began keeps = go (cases_lt (length s) n)
@@ -201,61 +253,81 @@ inside_sound T path value inner n at s kind began keeps = go (cases_lt (length s
         Sound T (at + length s) (inside path T value inner n at s)
     go (inl h) =
         let k : length s ≤ n = omega arith in
-        rw (take_all n s k, drop_all n s k) (subst (λ m. Sound T m (enclosed path T inner (at + n) (value inner at s) [])) (add-zero (at + length s))
-        (sound_enclosed T path inner (at + n) (at + length s) kind (omega (arith, began)) (value inner at s) [] (keeps at s) (λ _. refl)))
+        rw (take_all n s k, drop_all n s k) (subst
+        (λ m. Sound T m (enclosed path T inner (at + n) (value inner at s) []))
+        (add-zero (at + length s))
+        (sound_enclosed T path inner (at + n) (at + length s) kind (omega (arith, began))
+        (value inner at s) [] (keeps at s) (λ _. refl)))
     go (inr h) =
         let l : length (take n s) ≡ n = length-take-le n s h in
-        let e : (at + length (take n s)) + length (drop n s) ≡ at + length s = omega (arith, l, length-drop n s) in
+        let e : (at + length (take n s)) + length (drop n s) ≡ at + length s =
+        omega (arith, l, length-drop n s) in
         subst (λ m. Sound T m (inside path T value inner n at s)) e
-        (sound_enclosed T path inner (at + n) (at + length (take n s)) kind (omega (arith, began)) (value inner at (take n s)) (drop n s) (keeps at (take n s))
+        (sound_enclosed T path inner (at + n) (at + length (take n s)) kind (omega (arith, began))
+        (value inner at (take n s)) (drop n s) (keeps at (take n s))
         (λ below. absurd (omega (arith, l, below))))
 
 -- the same of what an encapsulation holds, in each order and from each origin
 abbrev pub HeldKeeps : Ty → List PathSegment → Type 0
 HeldKeeps T path = (inner : Coding) → Keeps (part_of T 0) (held path T inner)
 
-pub ordered_sound : (T : Ty) (path : List PathSegment) (origin n : ℕ) (order : Option Order) (at : ℕ)
+pub ordered_sound : (T : Ty) (path : List PathSegment) (origin n : ℕ) (order : Option Order)
+    (at : ℕ)
     (s : List ℕ) → IsEncapsulation T → origin < at → HeldKeeps T path →
     Sound T (at + length s) (ordered path T (held path T) origin n order at s)
 ordered_sound T path origin n None at s kind began keeps = tt
 ordered_sound T path origin n (Some order) at s kind began keeps =
     sound_front T _ (line at path (Ordered order) ∷ []) _
-    (inside_sound T path (held path T) (coded order origin) n at s kind began (keeps (coded order origin)))
+    (inside_sound T path (held path T) (coded order origin) n at s kind began
+    (keeps (coded order origin)))
 
 sized_keeps : (T : Ty) (path : List PathSegment) (n : ℕ) → IsEncapsulation T → HeldKeeps T path →
     Keeps T (sized path T (held path T) n)
 sized_keeps T path zero kind keeps at s = tt
-sized_keeps T path (suc n) kind keeps at [] = rw (block_waits 1 at [] (lit< tt)) (refl, record { same = refl; kind = kind }, tt)
+sized_keeps T path (suc n) kind keeps at [] =
+    rw (block_waits 1 at [] (lit< tt)) (refl, record { same = refl; kind = kind }, tt)
 sized_keeps T path (suc n) kind keeps at (x ∷ s) =
     let e : (at + 1) + length s ≡ at + suc (length s) = omega arith in
-    rw (block_got 1 at (x ∷ s) (omega arith)) (subst (λ m. Sound T m (ordered path T (held path T) at n (order_of x) (at + 1) s)) e
+    rw (block_got 1 at (x ∷ s) (omega arith))
+    (subst (λ m. Sound T m (ordered path T (held path T) at n (order_of x) (at + 1) s)) e
     (ordered_sound T path at n (order_of x) (at + 1) s kind (omega arith) keeps))
 
 size_keeps : (coding : Coding) (path : List PathSegment) (T : Ty) (n : ℕ) →
     HeldKeeps (Encapsulation T) path →
     Keeps (Encapsulation T) (after coding path (Encapsulation T) n)
-size_keeps coding path T n keeps at s = sound_front (Encapsulation T) _ (line at path (Size n) ∷ []) _ (sized_keeps (Encapsulation T) path n tt keeps at s)
+size_keeps coding path T n keeps at s = sound_front (Encapsulation T) _ (line at path (Size n) ∷ [])
+    _ (sized_keeps (Encapsulation T) path n tt keeps at s)
 
 pub read_keeps : (d : ℕ) (coding : Coding) (path : List PathSegment) (T : Ty) → IsFit d T →
     Keeps T (read coding path T)
 unfolding IsFit
 read_keeps zero coding path T fit = absurd fit
 read_keeps (suc d) coding path (Single scalar) fit =
-    headed_keeps coding path (Single scalar) tt (width_pos scalar) (λ n. single_keeps (Single scalar) path scalar n)
-read_keeps (suc d) coding path (Text bound) fit = headed_keeps coding path (Text bound) tt (lit< tt) (λ n. text_keeps path bound n)
-read_keeps (suc d) coding path (Octets bound) fit = headed_keeps coding path (Octets bound) tt (lit< tt) (λ n. octets_keeps path bound n)
+    headed_keeps coding path (Single scalar) tt (width_pos scalar)
+    (λ n. single_keeps (Single scalar) path scalar n)
+read_keeps (suc d) coding path (Text bound) fit =
+    headed_keeps coding path (Text bound) tt (lit< tt) (λ n. text_keeps path bound n)
+read_keeps (suc d) coding path (Octets bound) fit =
+    headed_keeps coding path (Octets bound) tt (lit< tt) (λ n. octets_keeps path bound n)
 read_keeps (suc d) coding path (Struct count names parts) fit =
-    parts_keep coding path (Struct count names parts) count refl (λ i below. read_keeps d coding (path ++ Name (names i) ∷ []) (parts i) (fit.1 i below)) count
+    parts_keep coding path (Struct count names parts) count refl
+    (λ i below. read_keeps d coding (path ++ Name (names i) ∷ []) (parts i) (fit.1 i below))
+    count
     0 (omega arith)
 read_keeps (suc d) coding path (Array count T) fit =
-    parts_keep coding path (Array count T) count refl (λ i below. read_keeps d coding (path ++ Index i ∷ []) T fit.1) count 0 (omega arith)
+    parts_keep coding path (Array count T) count refl
+    (λ i below. read_keeps d coding (path ++ Index i ∷ []) T fit.1) count 0 (omega arith)
 read_keeps (suc d) coding path (Sequence bound T) fit =
-    headed_keeps coding path (Sequence bound T) tt (lit< tt) (λ n. elements_keep coding path bound T n (λ i. read_keeps d coding (path ++ Index i ∷ []) T fit))
+    headed_keeps coding path (Sequence bound T) tt (lit< tt)
+    (λ n. elements_keep coding path bound T n
+    (λ i. read_keeps d coding (path ++ Index i ∷ []) T fit))
 read_keeps (suc d) coding path (Union choice scalar select names cases) fit =
     headed_keeps coding path (Union choice scalar select names cases) tt (width_pos scalar) (λ n.
-    cases_keep coding path choice scalar select names cases n fit.0 (λ i below. read_keeps d coding (path ++ Name (names i) ∷ []) (cases i) (fit.1 i below)))
+    cases_keep coding path choice scalar select names cases n fit.0
+    (λ i below. read_keeps d coding (path ++ Name (names i) ∷ []) (cases i) (fit.1 i below)))
 read_keeps (suc d) coding path (Encapsulation T) fit =
-    headed_keeps coding path (Encapsulation T) tt (lit< tt) (λ n. size_keeps coding path T n (λ inner. read_keeps d inner (path ++ Held ∷ []) T fit))
+    headed_keeps coding path (Encapsulation T) tt (lit< tt)
+    (λ n. size_keeps coding path T n (λ inner. read_keeps d inner (path ++ Held ∷ []) T fit))
 
 pub after_keeps : (d : ℕ) (coding : Coding) (path : List PathSegment) (T : Ty) (n : ℕ) → IsFit d T →
     Keeps T (after coding path T n)
@@ -264,8 +336,11 @@ after_keeps zero coding path T n fit = absurd fit
 after_keeps (suc d) coding path (Single scalar) n fit = single_keeps (Single scalar) path scalar n
 after_keeps (suc d) coding path (Text bound) n fit = text_keeps path bound n
 after_keeps (suc d) coding path (Octets bound) n fit = octets_keeps path bound n
-after_keeps (suc d) coding path (Sequence bound T) n fit = elements_keep coding path bound T n (λ i. read_keeps d coding (path ++ Index i ∷ []) T fit)
+after_keeps (suc d) coding path (Sequence bound T) n fit =
+    elements_keep coding path bound T n (λ i. read_keeps d coding (path ++ Index i ∷ []) T fit)
 after_keeps (suc d) coding path (Union choice scalar select names cases) n fit =
-    cases_keep coding path choice scalar select names cases n fit.0 (λ i below. read_keeps d coding (path ++ Name (names i) ∷ []) (cases i) (fit.1 i below))
-after_keeps (suc d) coding path (Encapsulation T) n fit = size_keeps coding path T n (λ inner. read_keeps d inner (path ++ Held ∷ []) T fit)
+    cases_keep coding path choice scalar select names cases n fit.0
+    (λ i below. read_keeps d coding (path ++ Name (names i) ∷ []) (cases i) (fit.1 i below))
+after_keeps (suc d) coding path (Encapsulation T) n fit =
+    size_keeps coding path T n (λ inner. read_keeps d inner (path ++ Held ∷ []) T fit)
 after_keeps (suc d) coding path T n fit = λ at s. refl

@@ -27,12 +27,16 @@ module _ (C : Table) (T : Ty) (order : Order) (at message : ℕ) (root : Root) (
       StandAt at d.outer.items → start_leaf T ≡ LeadingNumber (tree C first.0) [] →
       HoldsNoted d.notes nothing_noted → d.order ≡ order → d.message ≡ message → d.root ≡ root →
       d.at ≡ at % 8 → Reads C T order at message root d []
-  first_reads first fit goes_on empty are stand leaf recalls same_order same_message same_root offset =
-      let none : read (plain order) [] T at [] ≡ Short [] at (start_outer T) (LeadingNumber (tree C first.0) []) = read_none (plain order) [] 24 T at fit
+  first_reads first fit goes_on empty are stand leaf recalls same_order same_message same_root
+      offset =
+      let none : read (plain order) [] T at []
+      ≡ Short [] at (start_outer T) (LeadingNumber (tree C first.0) []) =
+      read_none (plain order) [] 24 T at fit
       ∙ ap (Short [] at (start_outer T)) leaf in
       record {
         lines = [];
-        is = none ∙ sym (ap (λ l. read_by_leaf C d l [] (at + 0)) goes_on ∙ rw (add-zero at, are at, empty) refl);
+        is = none ∙ sym (ap (λ l. read_by_leaf C d l [] (at + 0)) goes_on
+            ∙ rw (add-zero at, are at, empty) refl);
         keeps_noted = rw none recalls;
         same_order = same_order;
         same_message = same_message;
@@ -47,10 +51,12 @@ pub first_fits : (C : Table) (of : ℕ) (d : Decoder) (first : TypeId) → of < 
     start_leaf (tree C of) ≡ LeadingNumber (tree C first.0) [] → Link C of d.outer.items first.0 →
     AreKnown C d.outer.items → first.0 < length C.types → d.at < 8 →
     HoldsNoted d.notes nothing_noted → Fits C d
-first_fits C of d first known_root fit goes_on empty none are stand ahead inside leaf link known_outer known at none_noted =
+first_fits C of d first known_root fit goes_on empty none are stand ahead inside leaf link
+    known_outer known at none_noted =
     let T = tree C of in
     let sound : Sound T (0 + 0) (Short [] 0 (start_outer T) (start_leaf T)) =
-    subst (Sound T (0 + 0)) (read_none (plain d.order) [] 24 T 0 fit) (read_keeps 24 (plain d.order) [] T fit 0 []) in
+    subst (Sound T (0 + 0)) (read_none (plain d.order) [] 24 T 0 fit)
+    (read_keeps 24 (plain d.order) [] T fit 0 []) in
     record {
       leaf = innermost.Number first;
       goes_on = goes_on;

@@ -44,7 +44,8 @@ restored_fits C d e r h = record {
   at = rw r.at h.at;
   id_in_header_only = rw (r.root, r.notes.request_id) h.id_in_header_only;
   name = rw (r.root, r.notes.buffer, r.notes.name)
-      (kept_fits d.root (string_offset (tree C (leaf_type h.leaf)) h.leaf) d.notes.buffer d.notes.name.items h.name);
+      (kept_fits d.root (string_offset (tree C (leaf_type h.leaf)) h.leaf) d.notes.buffer
+      d.notes.name.items h.name);
 }
 
 -- ---- readings
@@ -62,13 +63,16 @@ recalls_again m n h kept recalls = record {
   name = rw (kept.buffer, kept.name) (kept_held m.buffer m.name.items h.so_far h.name recalls.name);
 }
 
-keeps_noted_again : (root : Root) (d e : Decoder) (r : Read) → IsRestored d e → KeepsNoted root d r →
+keeps_noted_again : (root : Root) (d e : Decoder) (r : Read) → IsRestored d e →
+    KeepsNoted root d r →
     KeepsNoted root e r
-keeps_noted_again root d e r restored keeps_noted = recalls_again d.notes e.notes _ restored.notes keeps_noted
+keeps_noted_again root d e r restored keeps_noted =
+    recalls_again d.notes e.notes _ restored.notes keeps_noted
 
 standing_again : (C : Table) (d e : Decoder) (lines : List Line) (at : ℕ) → IsRestored d e →
     read_by_fields C d lines at ≡ read_by_fields C e lines at
-standing_again C d e lines at r = same_in d.leaf ∙ ap (λ l. read_by_leaf C e l lines at) (sym r.leaf)
+standing_again C d e lines at r = same_in d.leaf
+    ∙ ap (λ l. read_by_leaf C e l lines at) (sym r.leaf)
   where
     same_in : (l : Option Innermost) → read_by_leaf C d l lines at ≡ read_by_leaf C e l lines at
     same_in None = refl
@@ -97,7 +101,17 @@ fixed_again : (d e : Decoder) (leaf : Innermost) → IsRestored d e →
     fixed_octets e leaf ≡ fixed_octets d leaf
 unfolding fixed_octets
 fixed_again d e leaf r =
-    rw (r.order, r.root, r.message, r.at, r.carry, r.piece, r.notes.request_id, r.notes.status, r.notes.expects_reply)
+    rw (
+      r.order,
+      r.root,
+      r.message,
+      r.at,
+      r.carry,
+      r.piece,
+      r.notes.request_id,
+      r.notes.status,
+      r.notes.expects_reply,
+    )
     (rw (r.notes.buffer, r.notes.name, kept_again d.notes.buffer d.notes.name.items) refl)
 
 -- both are stored in the same octets

@@ -1,5 +1,5 @@
--- The test of a restored decoder is exact: it passes exactly if the decoder fits the table; how many parts that are
--- begun fit in a type.
+-- The test of a restored decoder is exact: it passes exactly if the decoder fits the table; how
+-- many parts that are begun fit in a type.
 use Rattle.std.proofs.Common.{◌≡◌, ℕ, zero, ◌+◌, ◌*◌, ◌<◌, ◌≤◌, List, [], ◌∷◌, length, Option, Some, None, refl, sym, subst, arith}
 use Rattle.std.specs.Prelude.{IfSome}
 use Rattle.giop_cdr.specs.declared.order.Order.{Order}
@@ -27,7 +27,8 @@ use Rattle.giop_sig.proofs.PartLaws.{part_is, root_is}
 pub part_place : (T : Ty) (i count : ℕ) → HasPart T i count → HasPlace (shape_in T) i
 part_place (Union (Cases n) scalar select names cases) i count has = has.0
 part_place (Union Tag scalar select names cases) i count has = has.0
-part_place (Struct n names parts) i count has = let below : i < n = omega (arith, has.0, has.1) in below
+part_place (Struct n names parts) i count has = let below : i < n = omega (arith, has.0, has.1) in
+    below
 part_place (Single scalar) i count has = absurd has.0
 part_place (Text bound) i count has = absurd has.0
 part_place (Octets bound) i count has = absurd has.0
@@ -42,20 +43,28 @@ part_uncounted T i count has is = absurd is
 
 fits_one_more : (T : Ty) (i count : ℕ) (outer : List OpenPart) (leaf : Leaf) → HasPart T i count →
     FitsIn (part_of T i) outer leaf → FitsIn T (part_in T i count ∷ outer) leaf
-fits_one_more (Union choice scalar select names cases) i count outer leaf has fits = (record { same = refl; kind = has.0 }, fits)
-fits_one_more (Struct n names parts) i count outer leaf has fits = (record { same = refl; kind = has.0; below = has.1 }, fits)
-fits_one_more (Array n T) i count outer leaf has fits = (record { same = refl; kind = has.0; below = has.1 }, fits)
-fits_one_more (Sequence bound T) i count outer leaf has fits = (record { same = refl; kind = has.0; below = has.1 }, fits)
+fits_one_more (Union choice scalar select names cases) i count outer leaf has fits =
+    (record { same = refl; kind = has.0 }, fits)
+fits_one_more (Struct n names parts) i count outer leaf has fits =
+    (record { same = refl; kind = has.0; below = has.1 }, fits)
+fits_one_more (Array n T) i count outer leaf has fits =
+    (record { same = refl; kind = has.0; below = has.1 }, fits)
+fits_one_more (Sequence bound T) i count outer leaf has fits =
+    (record { same = refl; kind = has.0; below = has.1 }, fits)
 fits_one_more T i count outer leaf has fits = absurd has.0
 
 fits_part : (T : Ty) (i count : ℕ) (outer : List OpenPart) (leaf : Leaf) →
     FitsIn T (part_in T i count ∷ outer) leaf → (IsUnion (shape_in T) → count ≡ 0) →
     HasPart T i count × FitsIn (part_of T i) outer leaf
-fits_part (Union (Cases n) scalar select names cases) i count outer leaf fits uncounted = ((fits.0.kind, uncounted tt), fits.1)
-fits_part (Union Tag scalar select names cases) i count outer leaf fits uncounted = ((fits.0.kind, uncounted tt), fits.1)
-fits_part (Struct n names parts) i count outer leaf fits uncounted = ((fits.0.kind, fits.0.below), fits.1)
+fits_part (Union (Cases n) scalar select names cases) i count outer leaf fits uncounted =
+    ((fits.0.kind, uncounted tt), fits.1)
+fits_part (Union Tag scalar select names cases) i count outer leaf fits uncounted =
+    ((fits.0.kind, uncounted tt), fits.1)
+fits_part (Struct n names parts) i count outer leaf fits uncounted =
+    ((fits.0.kind, fits.0.below), fits.1)
 fits_part (Array n T) i count outer leaf fits uncounted = ((fits.0.kind, fits.0.below), fits.1)
-fits_part (Sequence bound T) i count outer leaf fits uncounted = ((fits.0.kind, fits.0.below), fits.1)
+fits_part (Sequence bound T) i count outer leaf fits uncounted =
+    ((fits.0.kind, fits.0.below), fits.1)
 fits_part T i count outer leaf fits uncounted = absurd fits.0.kind
 
 part_bare : (T : Ty) (i count : ℕ) → HasPart T i count → IsEncapsulation T → ⊥
@@ -75,7 +84,11 @@ frame_place (Some order) T i count has = inside_place T 0 has.0
 
 frame_within : (inside : Option Order) (T : Ty) (i count : ℕ) → HasFrame inside T i count →
     IsWithin inside i count T
-frame_within None T i count has = (part_place T i count has, part_bare T i count has, part_uncounted T i count has)
+frame_within None T i count has = (
+  part_place T i count has,
+  part_bare T i count has,
+  part_uncounted T i count has,
+)
 frame_within (Some order) T i count has = (has.0, has.1, omega (arith, has.2))
 
 frame_ahead : (inside : Option Order) (T : Ty) (i count : ℕ) → HasFrame inside T i count →
@@ -88,7 +101,8 @@ frame_fits : (here : ℕ) (inside : Option Order) (T : Ty) (i count : ℕ) (oute
     FitsIn (part_of T (part_index inside i)) outer leaf →
     FitsIn T (open_part_in here inside T i count ∷ outer) leaf
 frame_fits here None T i count outer leaf has fits = fits_one_more T i count outer leaf has fits
-frame_fits here (Some order) T i count outer leaf has fits = (record { same = refl; kind = has.0 }, fits)
+frame_fits here (Some order) T i count outer leaf has fits =
+    (record { same = refl; kind = has.0 }, fits)
 
 record FrameIs (inside : Option Order) (T : Ty) (i count : ℕ) (outer : List OpenPart)
     (leaf : Leaf) : Type 0 where
@@ -101,7 +115,8 @@ frame_is : (here : ℕ) (inside : Option Order) (T : Ty) (i count : ℕ) (outer 
 frame_is here None T i count outer leaf within ahead fits =
     let p = fits_part T i count outer leaf fits within.2 in
     record { has = p.0; fits = p.1 }
-frame_is here (Some order) T i count outer leaf within ahead fits = record { has = (within.0, within.1, ahead); fits = fits.1 }
+frame_is here (Some order) T i count outer leaf within ahead fits =
+    record { has = (within.0, within.1, ahead); fits = fits.1 }
 
 -- ---- a chain
 
@@ -127,18 +142,22 @@ chain_fits C here id (f ∷ frames) leaf carry piece laws known h inner =
     let i = part_index f.inside f.index in
     let p = part_is C id i laws known (frame_place f.inside (tree C id) f.index f.count has) in
     let below : part_number C id i < length C.types = let b = p.below in omega arith in
-    let rest = chain_fits C here (part_number C id i) frames leaf carry piece laws below h.2 inner in
+    let rest = chain_fits C here (part_number C id i) frames leaf carry piece laws below h.2 inner
+    in
     let ps = open_parts C here frames in
     let inmost = leaf_of C leaf carry piece in
-    let fits = frame_fits here f.inside (tree C id) f.index f.count ps inmost has (subst (λ (T : Ty). FitsIn T ps inmost) p.same rest.fits) in
+    let fits = frame_fits here f.inside (tree C id) f.index f.count ps inmost has
+    (subst (λ (T : Ty). FitsIn T ps inmost) p.same rest.fits) in
     let is : id ≡ f.of.0 = sym h.0 in
     record {
-      fits = subst (λ (n : ℕ). FitsIn (tree C id) (open_part_in here f.inside (tree C n) f.index f.count ∷ ps) inmost) is fits;
+      fits = subst (λ (n : ℕ). FitsIn (tree C id)
+          (open_part_in here f.inside (tree C n) f.index f.count ∷ ps) inmost) is fits;
       ahead = (frame_ahead f.inside (tree C id) f.index f.count has, rest.ahead);
       known_outer = (
         record {
           known = subst (λ (n : ℕ). n < length C.types) is known;
-          within = subst (λ (n : ℕ). IsWithin f.inside f.index f.count (tree C n)) is (frame_within f.inside (tree C id) f.index f.count has);
+          within = subst (λ (n : ℕ). IsWithin f.inside f.index f.count (tree C n)) is
+              (frame_within f.inside (tree C id) f.index f.count has);
         },
         rest.known_outer,
       );
@@ -152,7 +171,8 @@ record FitsChain (C : Table) (id : ℕ) (frames : List Frame) (leaf : Innermost)
 
 fits_chain : (C : Table) (here id : ℕ) (frames : List Frame) (leaf : Innermost)
     (carry piece : List ℕ) → IsTable C → id < length C.types →
-    FitsIn (tree C id) (open_parts C here frames) (leaf_of C leaf carry piece) → HaveOctetsLeft frames →
+    FitsIn (tree C id) (open_parts C here frames) (leaf_of C leaf carry piece) →
+    HaveOctetsLeft frames →
     AreKnown C frames → Link C id frames (leaf_type leaf) → FitsChain C id frames leaf carry piece
 fits_chain C here id [] leaf carry piece laws known fits ahead are link =
     record {
@@ -164,13 +184,16 @@ fits_chain C here id (f ∷ frames) leaf carry piece laws known fits ahead are l
     let ps = open_parts C here frames in
     let inmost = leaf_of C leaf carry piece in
     let i = part_index f.inside f.index in
-    let there = subst (λ (n : ℕ). FitsIn (tree C id) (open_part_in here f.inside (tree C n) f.index f.count ∷ ps) inmost) link.0 fits in
-    let within = subst (λ (n : ℕ). IsWithin f.inside f.index f.count (tree C n)) link.0 are.0.within in
+    let there = subst (λ (n : ℕ). FitsIn (tree C id)
+    (open_part_in here f.inside (tree C n) f.index f.count ∷ ps) inmost) link.0 fits in
+    let within = subst (λ (n : ℕ). IsWithin f.inside f.index f.count (tree C n)) link.0 are.0.within
+    in
     let u = frame_is here f.inside (tree C id) f.index f.count ps inmost within ahead.0 there in
     let p = part_is C id i laws known (frame_place f.inside (tree C id) f.index f.count u.has) in
     let below : part_number C id i < length C.types = let b = p.below in omega arith in
     let inner = subst (λ (T : Ty). FitsIn T ps inmost) (sym p.same) u.fits in
-    let rest = fits_chain C here (part_number C id i) frames leaf carry piece laws below inner ahead.1 are.1 link.1 in
+    let rest = fits_chain C here (part_number C id i) frames leaf carry piece laws below inner
+    ahead.1 are.1 link.1 in
     record { chain = (link.0, u.has, rest.chain); inner = rest.inner }
 
 -- ---- an offset that frames can be at
@@ -187,8 +210,10 @@ stand_above : (here : ℕ) (frames : List Frame) → all_octets frames ≤ here 
 unfolding all_octets
 stand_above here [] h = tt
 stand_above here (f ∷ frames) h =
-    let sum : f.index + all_octets frames ≤ here = h in
-    (stands_above here f.index f.inside (omega (arith, sum)), stand_above here frames (omega (arith, sum)))
+    let sum : f.index + all_octets frames ≤ here = h in (
+      stands_above here f.index f.inside (omega (arith, sum)),
+      stand_above here frames (omega (arith, sum)),
+    )
 
 -- ---- a decoder
 
@@ -206,7 +231,8 @@ pub chains_fits : (C : Table) (d : Decoder) → IsTable C → Chains C d → Fit
 chains_fits C d laws h =
     let root = root_of d.outer.items h.leaf in
     let here = d.at + 8 * all_octets d.outer.items in
-    let c = chain_fits C here root d.outer.items h.leaf d.carry d.piece.items laws h.known h.chain h.fits in
+    let c = chain_fits C here root d.outer.items h.leaf d.carry d.piece.items laws h.known h.chain
+    h.fits in
     record {
       leaf = h.leaf;
       goes_on = h.goes_on;
@@ -230,7 +256,8 @@ chains_fits C d laws h =
 pub fits_chains : (C : Table) (d : Decoder) → IsTable C → Fits C d → Chains C d
 fits_chains C d laws h =
     let is = root_linked C h.root d.outer.items h.leaf h.link in
-    let c = fits_chain C h.here h.root d.outer.items h.leaf d.carry d.piece.items laws h.known_root h.fits h.ahead h.known_outer h.link in
+    let c = fits_chain C h.here h.root d.outer.items h.leaf d.carry d.piece.items laws h.known_root
+    h.fits h.ahead h.known_outer h.link in
     record {
       leaf = h.leaf;
       goes_on = h.goes_on;
@@ -250,5 +277,6 @@ fits_chains C d laws h =
 -- room is left for the innermost part's frame
 pub fits_few : (C : Table) (d : Decoder) → Fits C d → length d.outer.items < 24
 fits_few C d h =
-    let l = leaf_at 24 (tree C h.root) (open_parts C h.here d.outer.items) (leaf_of C h.leaf d.carry d.piece.items) h.fits h.fit in
+    let l = leaf_at 24 (tree C h.root) (open_parts C h.here d.outer.items)
+    (leaf_of C h.leaf d.carry d.piece.items) h.fits h.fit in
     omega (arith, length_places C h.here d.outer.items, l.depth, fit_room l.left _ l.fit)

@@ -38,7 +38,8 @@ pub record MemoryStands (m : Notes) (at : ℕ) (octets : List ℕ) : Type 0 wher
 -- the same offset, counted from an earlier one
 pub further : (at a b c : ℕ) (octets xs : List ℕ) → a + b ≡ c → drop (at + a + b) octets ≡ xs →
     drop (at + c) octets ≡ xs
-further at a b c octets xs e is = let same : at + a + b ≡ at + c = omega arith in subst (λ (n : ℕ). drop n octets ≡ xs) same is
+further at a b c octets xs e is = let same : at + a + b ≡ at + c = omega arith in
+    subst (λ (n : ℕ). drop n octets ≡ xs) same is
 
 pub three : (a b c d : List ℕ) → (a ++ b ++ c) ++ d ≡ a ++ (b ++ (c ++ d))
 three a b c d = simp append_assoc
@@ -50,16 +51,25 @@ pub memory_stands : (m : Notes) (at : ℕ) (octets rest : List ℕ) → length m
     drop at octets ≡ notes_octets m ++ rest → MemoryStands m at octets
 memory_stands m at octets rest short is =
     let behind_name : List ℕ = expects_octet m.expects_reply ∷ rest in
-    let id : drop at octets ≡ optional m.request_id ++ (optional m.status ++ ((buffer_octet m.buffer ∷ name_octets m) ++ behind_name)) = is
-    ∙ four_behind (optional m.request_id) (optional m.status) (buffer_octet m.buffer ∷ name_octets m) (expects_octet m.expects_reply ∷ []) rest in
-    let status : drop (at + 5) octets ≡ optional m.status ++ ((buffer_octet m.buffer ∷ name_octets m) ++ behind_name) =
+    let id : drop at octets ≡ optional m.request_id
+    ++ (optional m.status ++ ((buffer_octet m.buffer ∷ name_octets m) ++ behind_name)) = is
+    ∙ four_behind (optional m.request_id) (optional m.status)
+    (buffer_octet m.buffer ∷ name_octets m) (expects_octet m.expects_reply ∷ []) rest in
+    let status : drop (at + 5) octets ≡ optional m.status
+    ++ ((buffer_octet m.buffer ∷ name_octets m) ++ behind_name) =
     behind at 5 octets _ _ id (optional_long m.request_id) in
-    let buffer : drop (at + 10) octets ≡ (buffer_octet m.buffer ∷ []) ++ (name_octets m ++ behind_name) =
-    further at 5 5 10 octets _ refl (behind (at + 5) 5 octets _ _ status (optional_long m.status)) in
-    let name : drop (at + 11) octets ≡ name_octets m ++ behind_name = further at 10 1 11 octets _ refl
+    let buffer : drop (at + 10) octets ≡ (buffer_octet m.buffer ∷ [])
+    ++ (name_octets m ++ behind_name) =
+    further at 5 5 10 octets _ refl (behind (at + 5) 5 octets _ _ status (optional_long m.status))
+    in
+    let name : drop (at + 11) octets ≡ name_octets m ++ behind_name =
+    further at 10 1 11 octets _ refl
     (behind (at + 10) 1 octets (buffer_octet m.buffer ∷ []) _ buffer refl) in
-    let expects : drop (at + 140) octets ≡ (expects_octet m.expects_reply ∷ []) ++ rest = further at 11 129 140 octets _ refl
-    (behind (at + 11) 129 octets (name_octets m) _ name (held_long 128 (kept_name m.buffer m.name.items) (kept_short m.buffer m.name.items short))) in
+    let expects : drop (at + 140) octets ≡ (expects_octet m.expects_reply ∷ []) ++ rest =
+    further at 11 129 140 octets _ refl
+    (behind (at + 11) 129 octets (name_octets m) _ name
+    (held_long 128 (kept_name m.buffer m.name.items) (kept_short m.buffer m.name.items short)))
+    in
     record {
       request_id = (_, id);
       status = (_, status);
@@ -90,12 +100,18 @@ fields_stand d leaf fixed is range =
     let piece_on : List ℕ = held 32 d.piece.items ++ memory_on in
     let carry_on : List ℕ = held 8 d.carry ++ piece_on in
     let message : drop 2 fixed ≡ eight d.message ++ ((d.at ∷ leaf_octets leaf) ++ carry_on) =
-    ap (drop 2) is ∙ six (eight d.message) (d.at ∷ leaf_octets leaf) (held 8 d.carry) (held 32 d.piece.items) (notes_octets d.notes) zeros in
-    let at : drop 10 fixed ≡ (d.at ∷ []) ++ (leaf_octets leaf ++ carry_on) = behind 2 8 fixed _ _ message (eight_long d.message) in
-    let inner : drop 11 fixed ≡ leaf_octets leaf ++ carry_on = behind 10 1 fixed (d.at ∷ []) _ at refl in
-    let carry : drop 24 fixed ≡ held 8 d.carry ++ piece_on = behind 11 13 fixed _ _ inner (leaf_long leaf) in
-    let piece : drop 33 fixed ≡ held 32 d.piece.items ++ memory_on = behind 24 9 fixed (held 8 d.carry) _ carry (held_long 8 d.carry range.carry) in
-    let notes : drop 66 fixed ≡ notes_octets d.notes ++ zeros = behind 33 33 fixed (held 32 d.piece.items) _ piece
+    ap (drop 2) is ∙ six (eight d.message) (d.at ∷ leaf_octets leaf) (held 8 d.carry)
+    (held 32 d.piece.items) (notes_octets d.notes) zeros in
+    let at : drop 10 fixed ≡ (d.at ∷ []) ++ (leaf_octets leaf ++ carry_on) =
+    behind 2 8 fixed _ _ message (eight_long d.message) in
+    let inner : drop 11 fixed ≡ leaf_octets leaf ++ carry_on =
+    behind 10 1 fixed (d.at ∷ []) _ at refl in
+    let carry : drop 24 fixed ≡ held 8 d.carry ++ piece_on =
+    behind 11 13 fixed _ _ inner (leaf_long leaf) in
+    let piece : drop 33 fixed ≡ held 32 d.piece.items ++ memory_on =
+    behind 24 9 fixed (held 8 d.carry) _ carry (held_long 8 d.carry range.carry) in
+    let notes : drop 66 fixed ≡ notes_octets d.notes ++ zeros =
+    behind 33 33 fixed (held 32 d.piece.items) _ piece
     (held_long 32 d.piece.items range.piece) in
     record {
       order = (_, is);
@@ -120,7 +136,8 @@ fields_written d leaf carry piece o0 o1 o2 o3 o4 o5 o6 o7 o8 o9 a b e0 e1 e2 e3 
     let front : List ℕ = order_octet d.order ∷ root_octet d.root ∷ eight d.message in
     let f2 : o2 ≡ order_octet d.order ∷ root_octet d.root ∷ [] = rw (e2, e1, e0) refl in
     let f3 : o3 ≡ front = rw (e3, f2) refl in
-    let f5 : o5 ≡ front ++ d.at ∷ leaf_octets leaf = rw (e5, e4, f3) (append_assoc front (d.at ∷ []) (leaf_octets leaf)) in
+    let f5 : o5 ≡ front ++ d.at ∷ leaf_octets leaf =
+    rw (e5, e4, f3) (append_assoc front (d.at ∷ []) (leaf_octets leaf)) in
     rw (e9, e8, e7, e6, f5, a, b) refl
 
 -- the fields of a frame, put one after the other

@@ -14,7 +14,8 @@ use Rattle.giop_sig.specs.Table.{type_id}
 
 -- n is the number of four octets at this offset
 abbrev ReadsFour : ℕ → List ℕ → ℕ → Type 0
-ReadsFour at octets n = (m : ℕ) (rest : List ℕ) → m < 2 ^ 32 → drop at octets ≡ four m ++ rest → n ≡ m
+ReadsFour at octets n = (m : ℕ) (rest : List ℕ) → m < 2 ^ 32 → drop at octets ≡ four m ++ rest →
+    n ≡ m
 
 four_fields : (a b c d e : List ℕ) → (a ++ b ++ c ++ d) ++ e ≡ a ++ (b ++ (c ++ (d ++ e)))
 four_fields a b c d e = simp append_assoc
@@ -30,8 +31,12 @@ numbers_stand at tag a b c octets rest is =
     let first : drop (at + 1) octets ≡ four a ++ (four b ++ (four c ++ rest)) =
     behind at 1 octets (tag ∷ []) _ is refl ∙ three (four a) (four b) (four c) rest in
     let second : drop (at + 5) octets ≡ four b ++ (four c ++ rest) =
-    further at 1 4 5 octets _ refl (behind (at + 1) 4 octets _ _ first (four_long a)) in
-    (first, second, further at 5 4 9 octets _ refl (behind (at + 5) 4 octets _ _ second (four_long b)))
+    further at 1 4 5 octets _ refl (behind (at + 1) 4 octets _ _ first (four_long a)) in (
+      first,
+      second,
+      further at 5 4 9 octets _ refl
+          (behind (at + 5) 4 octets _ _ second (four_long b)),
+    )
 
 -- an innermost part whose tag and type were read
 module _ (at of tag : ℕ) (octets rest : List ℕ)
@@ -42,14 +47,18 @@ module _ (at of tag : ℕ) (octets rest : List ℕ)
   number_again (innermost.Number t) range is zero_tag =
       let e : of ≡ t.0 = of_is t.0 _ range (numbers_stand at 0 t.0 0 0 octets rest is).0 in
       rw e refl
-  number_again (innermost.Content t total offset) range is zero_tag = absurd (omega (arith, tag_is 1 _ is, zero_tag))
-  number_again (innermost.Opening t count) range is zero_tag = absurd (omega (arith, tag_is 2 _ is, zero_tag))
+  number_again (innermost.Content t total offset) range is zero_tag =
+      absurd (omega (arith, tag_is 1 _ is, zero_tag))
+  number_again (innermost.Opening t count) range is zero_tag =
+      absurd (omega (arith, tag_is 2 _ is, zero_tag))
 
   pub opening_again : (leaf : Innermost) (count : ℕ) → LeafHasRange leaf →
       drop at octets ≡ leaf_octets leaf ++ rest → tag ≡ 2 → ReadsFour (at + 5) octets count →
       innermost.Opening (type_id of) count ≡ leaf
-  opening_again (innermost.Number t) count range is two count_is = absurd (omega (arith, tag_is 0 _ is, two))
-  opening_again (innermost.Content t total offset) count range is two count_is = absurd (omega (arith, tag_is 1 _ is, two))
+  opening_again (innermost.Number t) count range is two count_is =
+      absurd (omega (arith, tag_is 0 _ is, two))
+  opening_again (innermost.Content t total offset) count range is two count_is =
+      absurd (omega (arith, tag_is 1 _ is, two))
   opening_again (innermost.Opening t k) count range is two count_is =
       let stand = numbers_stand at 2 t.0 k 0 octets rest is in
       let a : of ≡ t.0 = of_is t.0 _ range.0 stand.0 in
@@ -60,8 +69,10 @@ module _ (at of tag : ℕ) (octets rest : List ℕ)
       drop at octets ≡ leaf_octets leaf ++ rest → (tag ≡ 0 → ⊥) → (tag ≡ 2 → ⊥) →
       ReadsFour (at + 5) octets total → ReadsFour (at + 9) octets offset →
       innermost.Content (type_id of) total offset ≡ leaf
-  content_again (innermost.Opening t count) total offset range is other third total_is offset_is = absurd (third (tag_is 2 _ is))
-  content_again (innermost.Number t) total offset range is other third total_is offset_is = absurd (other (tag_is 0 _ is))
+  content_again (innermost.Opening t count) total offset range is other third total_is offset_is =
+      absurd (third (tag_is 2 _ is))
+  content_again (innermost.Number t) total offset range is other third total_is offset_is =
+      absurd (other (tag_is 0 _ is))
   content_again (innermost.Content t k o) total offset range is other third total_is offset_is =
       let stand = numbers_stand at 1 t.0 k o octets rest is in
       let a : of ≡ t.0 = of_is t.0 _ range.0 stand.0 in
@@ -78,10 +89,13 @@ pub frame_again : (f : Frame) (of index count : ℕ) (inside : Option Order) (oc
     record { of = type_id of; index = index; count = count; inside = inside } ≡ f
 frame_again f of index count inside octets rest range is of_is index_is count_is inside_is =
     let last : List ℕ = inside_octet f.inside ∷ replicate 11 0 in
-    let first : drop 0 octets ≡ four f.of.0 ++ (four f.index ++ (four f.count ++ (last ++ rest))) = is
+    let first : drop 0 octets ≡ four f.of.0 ++ (four f.index ++ (four f.count ++ (last ++ rest))) =
+    is
     ∙ four_fields (four f.of.0) (four f.index) (four f.count) last rest in
-    let second : drop 4 octets ≡ four f.index ++ (four f.count ++ (last ++ rest)) = behind 0 4 octets _ _ first (four_long f.of.0) in
-    let third : drop 8 octets ≡ four f.count ++ (last ++ rest) = behind 4 4 octets _ _ second (four_long f.index) in
+    let second : drop 4 octets ≡ four f.index ++ (four f.count ++ (last ++ rest)) =
+    behind 0 4 octets _ _ first (four_long f.of.0) in
+    let third : drop 8 octets ≡ four f.count ++ (last ++ rest) =
+    behind 4 4 octets _ _ second (four_long f.index) in
     let fourth : drop 12 octets ≡ last ++ rest = behind 8 4 octets _ _ third (four_long f.count) in
     let a : of ≡ f.of.0 = of_is f.of.0 _ range.of first in
     let b : index ≡ f.index = index_is f.index _ range.index second in
@@ -98,23 +112,42 @@ pub record Left (all items : List Frame) (own : Frame) (octets : List ℕ) : Typ
 
 two_long : (g h : Frame) (gs : List Frame) →
     2 * frame_size ≤ length (frames_octets (g ∷ gs ++ h ∷ []))
-two_long g h [] = omega (arith, length-append (frame_octets g) (frame_octets h ++ []), length-append (frame_octets h) [], frame_long g, frame_long h)
-two_long g h (k ∷ gs) = omega (arith, length-append (frame_octets g) (frames_octets (k ∷ gs ++ h ∷ [])), two_long k h gs, frame_long g)
+two_long g h [] = omega (
+  arith,
+  length-append (frame_octets g) (frame_octets h ++ []),
+  length-append (frame_octets h) [],
+  frame_long g,
+  frame_long h,
+)
+two_long g h (k ∷ gs) = omega (
+  arith,
+  length-append (frame_octets g)
+      (frames_octets (k ∷ gs ++ h ∷ [])),
+  two_long k h gs,
+  frame_long g,
+)
 
 pub frame_more : (all items new : List Frame) (own f : Frame) (octets after : List ℕ) →
     Left all items own octets → 2 * frame_size ≤ length octets → after ≡ drop frame_size octets →
     new ≡ items ++ f ∷ [] → ((g : Frame) (rest : List ℕ) → FrameHasRange g →
     octets ≡ frame_octets g ++ rest → f ≡ g) → Left all new own after
-frame_more all items new own f octets after l long is pushed read = by_left l.left l.range l.octets_are l.all_are
+frame_more all items new own f octets after l long is pushed read =
+    by_left l.left l.range l.octets_are l.all_are
   where
     by_left : (left : List Frame) → AllByRecursion FrameHasRange left →
         octets ≡ frames_octets (left ++ own ∷ []) → all ≡ items ++ left → Left all new own after
-    by_left [] range e a = absurd (omega (arith, ap length e, length-append (frame_octets own) [], frame_long own))
+    by_left [] range e a = absurd (omega (
+      arith,
+      ap length e,
+      length-append (frame_octets own) [],
+      frame_long own,
+    ))
     by_left (g ∷ gs) range e a = record {
       left = gs;
       range = range.1;
       octets_are = is ∙ behind 0 frame_size octets (frame_octets g) _ e (frame_long g);
-      all_are = a ∙ ap (λ (x : Frame). items ++ x ∷ gs) (sym (read g _ range.0 e)) ∙ sym (append_assoc items (f ∷ []) gs)
+      all_are = a ∙ ap (λ (x : Frame). items ++ x ∷ gs) (sym (read g _ range.0 e))
+          ∙ sym (append_assoc items (f ∷ []) gs)
           ∙ ap (λ (xs : List Frame). xs ++ gs) (sym pushed);
     }
 

@@ -33,7 +33,8 @@ pub places_ticked : (C : Table) (here : ℕ) (frames : List Frame) → HaveOctet
     open_parts C (here + 1) (ticked frames) ≡ open_parts C here frames
 places_ticked C here [] h = refl
 places_ticked C here (f ∷ frames) h =
-    ap (λ p. p ∷ open_parts C (here + 1) (ticked frames)) (place_ticked here f.inside (tree C f.of.0) f.index f.count h.0)
+    ap (λ p. p ∷ open_parts C (here + 1) (ticked frames))
+    (place_ticked here f.inside (tree C f.of.0) f.index f.count h.0)
     ∙ ap (λ ps. open_part C here f ∷ ps) (places_ticked C here frames h.1)
 
 within_ticked : (inside : Option Order) (i count : ℕ) (T : Ty) →
@@ -45,8 +46,14 @@ within_ticked (Some order) i count T h k = (k.0, omega arith, omega (arith, h))
 pub known_ticked : (C : Table) (frames : List Frame) → HaveOctetsLeft frames → AreKnown C frames →
     AreKnown C (ticked frames)
 known_ticked C [] h k = tt
-known_ticked C (f ∷ frames) h k =
-    (record { known = k.0.known; within = within_ticked f.inside f.index f.count (tree C f.of.0) h.0 k.0.within }, known_ticked C frames h.1 k.1)
+known_ticked C (f ∷ frames) h k = (
+  record {
+    known = k.0.known;
+    within = within_ticked f.inside f.index f.count (tree C f.of.0) h.0
+        k.0.within;
+  },
+  known_ticked C frames h.1 k.1,
+)
 
 stands_ticked : (here : ℕ) (inside : Option Order) (i : ℕ) → IfSome inside (λ order. i ≤ here) →
     IfSome inside (λ order. ticked_at inside i ≤ here + 1)
@@ -56,7 +63,10 @@ stands_ticked here (Some order) i h = omega (arith, h)
 pub stand_ticked : (here : ℕ) (frames : List Frame) → StandAt here frames →
     StandAt (here + 1) (ticked frames)
 stand_ticked here [] h = tt
-stand_ticked here (f ∷ frames) h = (stands_ticked here f.inside f.index h.0, stand_ticked here frames h.1)
+stand_ticked here (f ∷ frames) h = (
+  stands_ticked here f.inside f.index h.0,
+  stand_ticked here frames h.1,
+)
 
 pub length_ticked : (frames : List Frame) → length (ticked frames) ≡ length frames
 length_ticked [] = refl
@@ -97,22 +107,27 @@ surround_at : (here : ℕ) (inside : Option Order) (T : Ty) (i count : ℕ) →
 surround_at here None T i count k a s = part_surrounds here T i count
 surround_at here (Some order) T i count k a s = (omega (arith, a), omega (arith, k.1, s))
 
-pub surrounds : (C : Table) (here : ℕ) (frames : List Frame) → AreKnown C frames → HaveOctetsLeft frames →
+pub surrounds : (C : Table) (here : ℕ) (frames : List Frame) → AreKnown C frames →
+    HaveOctetsLeft frames →
     StandAt here frames → Surrounds here (open_parts C here frames)
 surrounds C here [] k a s = tt
-surrounds C here (f ∷ frames) k a s =
-    (surround_at here f.inside (tree C f.of.0) f.index f.count k.0.within a.0 s.0, surrounds C here frames k.1 a.1 s.1)
+surrounds C here (f ∷ frames) k a s = (
+  surround_at here f.inside (tree C f.of.0) f.index f.count k.0.within a.0 s.0,
+  surrounds C here frames k.1 a.1 s.1,
+)
 
 -- ---- a part that goes on in these frames
 
-resumed_short : (coding : Coding) (path : List PathSegment) (T : Ty) (i count : ℕ) (lines : List Line)
+resumed_short : (coding : Coding) (path : List PathSegment) (T : Ty) (i count : ℕ)
+    (lines : List Line)
     (at : ℕ) (outer : List OpenPart) (leaf : Leaf) →
     resumed coding path (part_in T i count) (Short lines at outer leaf)
     ≡ Short lines at (part_in T i count ∷ outer) leaf
 resumed_short coding path (Union n scalar select names cases) i count lines at outer leaf = refl
 resumed_short coding path T i count lines at outer leaf = refl
 
-resumed_fault : (coding : Coding) (path : List PathSegment) (T : Ty) (i count : ℕ) (lines : List Line)
+resumed_fault : (coding : Coding) (path : List PathSegment) (T : Ty) (i count : ℕ)
+    (lines : List Line)
     (at : ℕ) (S : Ty) → resumed coding path (part_in T i count) (Fault lines at kinds.EncapShort S)
     ≡ Fault lines at kinds.EncapShort S
 resumed_fault coding path (Union n scalar select names cases) i count lines at S = refl
@@ -120,20 +135,27 @@ resumed_fault coding path T i count lines at S = refl
 
 -- a reading inside these open parts, or cut off by the end of an encapsulation
 abbrev pub unless_ended : Bool → List Line → ℕ → List OpenPart → Leaf → Read
-unless_ended ended lines at outer leaf = cond ended (Fault lines at kinds.EncapShort (cut_off leaf)) (Short lines at outer leaf)
+unless_ended ended lines at outer leaf =
+    cond ended (Fault lines at kinds.EncapShort (cut_off leaf)) (Short lines at outer leaf)
 
-resumed_shut : (coding : Coding) (path : List PathSegment) (inside : Option Order) (T : Ty) (i count : ℕ)
+resumed_shut : (coding : Coding) (path : List PathSegment) (inside : Option Order) (T : Ty)
+    (i count : ℕ)
     (ended : Bool) (lines : List Line) (at : ℕ) (outer : List OpenPart) (leaf : Leaf) →
     IsWithin inside i count T → resumed coding path (open_part_in at inside T i count)
     (unless_ended ended lines at outer leaf) ≡ unless_ended (ended_at inside i count || ended) lines
     at (open_part_in at inside T i count ∷ outer) leaf
-resumed_shut coding path None T i count true lines at outer leaf k = resumed_fault coding path T i count lines at (cut_off leaf)
-resumed_shut coding path None T i count false lines at outer leaf k = resumed_short coding path T i count lines at outer leaf
-resumed_shut coding path (Some order) T i count ended lines at outer leaf k = go (cases_lt i count) ended
+resumed_shut coding path None T i count true lines at outer leaf k =
+    resumed_fault coding path T i count lines at (cut_off leaf)
+resumed_shut coding path None T i count false lines at outer leaf k =
+    resumed_short coding path T i count lines at outer leaf
+resumed_shut coding path (Some order) T i count ended lines at outer leaf k =
+    go (cases_lt i count) ended
   where
     go : (i < count) ⊎ (count ≤ i) → (b : Bool) →
-        resumed coding path (open_part_in at (Some order) T i count) (unless_ended b lines at outer leaf)
-        ≡ unless_ended (eqb i count || b) lines at (open_part_in at (Some order) T i count ∷ outer) leaf
+        resumed coding path (open_part_in at (Some order) T i count)
+        (unless_ended b lines at outer leaf)
+        ≡ unless_ended (eqb i count || b) lines at (open_part_in at (Some order) T i count ∷ outer)
+        leaf
     go (inl l) true = rw (ne_eqb i count (λ e. absurd (omega arith))) refl
     go (inl l) false =
         let below : at < at + (count - i) = omega arith in
@@ -148,22 +170,29 @@ resumed_shut coding path (Some order) T i count ended lines at outer leaf k = go
         let over : at + (count - i) ≤ at = omega arith in
         rw (same, le-ltb at (at + (count - i)) over) refl
 
-pub around_unless_ended : (C : Table) (coding : Coding) (path : List PathSegment) (at : ℕ) (frames : List Frame)
+pub around_unless_ended : (C : Table) (coding : Coding) (path : List PathSegment) (at : ℕ)
+    (frames : List Frame)
     (lines : List Line) (inner : List OpenPart) (leaf : Leaf) → AreKnown C frames →
     around coding path (open_parts C at frames) (Short lines at inner leaf)
     ≡ unless_ended (has_ended frames) lines at (open_parts C at frames ++ inner) leaf
 around_unless_ended C coding path at [] lines inner leaf k = refl
 around_unless_ended C coding path at (f ∷ frames) lines inner leaf k =
-    ap (resumed coding path (open_part C at f)) (around_unless_ended C (coding_at coding (open_part C at f)) (path ++ segment_in (open_part C at f) ∷ []) at frames lines inner leaf
+    ap (resumed coding path (open_part C at f))
+    (around_unless_ended C (coding_at coding (open_part C at f))
+    (path ++ segment_in (open_part C at f) ∷ []) at frames lines inner leaf
     k.1)
-    ∙ resumed_shut coding path f.inside (tree C f.of.0) f.index f.count (has_ended frames) lines at (open_parts C at frames ++ inner) leaf k.0.within
+    ∙ resumed_shut coding path f.inside (tree C f.of.0) f.index f.count (has_ended frames) lines at
+    (open_parts C at frames ++ inner) leaf k.0.within
 
-pub around_gone : (C : Table) (coding : Coding) (path : List PathSegment) (at : ℕ) (frames : List Frame)
+pub around_gone : (C : Table) (coding : Coding) (path : List PathSegment) (at : ℕ)
+    (frames : List Frame)
     (lines : List Line) (leaf : Leaf) → AreKnown C frames →
     around coding path (open_parts C at frames) (Short lines at [] leaf)
     ≡ gone_to C lines at frames leaf
 around_gone C coding path at frames lines leaf k =
-    around_unless_ended C coding path at frames lines [] leaf k ∙ ap (λ ps. unless_ended (has_ended frames) lines at ps leaf) (append-nil (open_parts C at frames))
+    around_unless_ended C coding path at frames lines [] leaf k
+    ∙ ap (λ ps. unless_ended (has_ended frames) lines at ps leaf)
+    (append-nil (open_parts C at frames))
 
 pub lines_shut : (ended : Bool) (lines : List Line) (at : ℕ) (outer : List OpenPart) (leaf : Leaf) →
     lines_of (unless_ended ended lines at outer leaf) ≡ lines
@@ -183,7 +212,8 @@ pub inside_push : (frames : List Frame) (f : Frame) →
     is_inside (frames ++ f ∷ []) ≡ is_inside frames || is_some_order f.inside
 inside_push [] f = or_false (is_some_order f.inside)
 inside_push (g ∷ frames) f =
-    ap (λ b. is_some_order g.inside || b) (inside_push frames f) ∙ or_assoc (is_some_order g.inside) (is_inside frames) (is_some_order f.inside)
+    ap (λ b. is_some_order g.inside || b) (inside_push frames f)
+    ∙ or_assoc (is_some_order g.inside) (is_inside frames) (is_some_order f.inside)
   where
     or_assoc : (a b c : Bool) → a || (b || c) ≡ (a || b) || c
     or_assoc true b c = refl
@@ -191,12 +221,14 @@ inside_push (g ∷ frames) f =
 
 pub outside_pop : (frames : List Frame) (f : Frame) → is_inside (frames ++ f ∷ []) ≡ false →
     is_inside frames ≡ false
-outside_pop frames f h = (neither (is_inside frames) (is_some_order f.inside) (sym (inside_push frames f) ∙ h)).0
+outside_pop frames f h = (neither (is_inside frames) (is_some_order f.inside)
+    (sym (inside_push frames f) ∙ h)).0
 
 pub ended_push : (frames : List Frame) (f : Frame) → ended_at f.inside f.index f.count ≡ false →
     has_ended (frames ++ f ∷ []) ≡ has_ended frames
 ended_push [] f h = rw h refl
-ended_push (g ∷ frames) f h = ap (λ b. ended_at g.inside g.index g.count || b) (ended_push frames f h)
+ended_push (g ∷ frames) f h = ap (λ b. ended_at g.inside g.index g.count || b)
+    (ended_push frames f h)
 
 -- ---- how the innermost part's octets are taken
 
@@ -223,7 +255,8 @@ pub coded_in : (C : Table) (here : ℕ) (c : Coding) (order : Order) (at : ℕ) 
 coded_in C here c order at [] s h = h
 coded_in C here c order at (f ∷ frames) s h =
     let by = coding_of (order, at) f.inside f.index in
-    coded_in C here (coding_at c (open_part C here f)) by.0 by.1 frames s.1 (coded_at C here c (order, at) f.inside (tree C f.of.0) f.index f.count s.0 h)
+    coded_in C here (coding_at c (open_part C here f)) by.0 by.1 frames s.1
+    (coded_at C here c (order, at) f.inside (tree C f.of.0) f.index f.count s.0 h)
 
 -- ---- where there is none
 
@@ -273,7 +306,8 @@ stand_pop at (g ∷ frames) f h = (h.0, stand_pop at frames f h.1)
 pub coding_push : (order : Order) (at : ℕ) (frames : List Frame) (f : Frame) →
     coding_by order at (frames ++ f ∷ []) ≡ coding_of (coding_by order at frames) f.inside f.index
 coding_push order at [] f = refl
-coding_push order at (g ∷ frames) f = let c = coding_of (order, at) g.inside g.index in coding_push c.0 c.1 frames f
+coding_push order at (g ∷ frames) f = let c = coding_of (order, at) g.inside g.index in
+    coding_push c.0 c.1 frames f
 
 -- the frames below an index are counted so, and the others aren't
 pub record IsCounted (tick : Frame → Frame) (i : ℕ) (now old : List Frame) : Type 0 where
@@ -283,7 +317,8 @@ pub record IsCounted (tick : Frame → Frame) (i : ℕ) (now old : List Frame) :
 
 get_at : (i : ℕ) (now old : List Frame) (d : Frame) → drop i now ≡ drop i old →
     get_or now i d ≡ get_or old i d
-get_at i now old d e = sym (get_or-drop-zero i now d) ∙ (ap (λ xs. get_or xs 0 d) e ∙ get_or-drop-zero i old d)
+get_at i now old d e = sym (get_or-drop-zero i now d)
+    ∙ (ap (λ xs. get_or xs 0 d) e ∙ get_or-drop-zero i old d)
   where
     get_or-drop-zero : (k : ℕ) (xs : List Frame) (z : Frame) →
         get_or (drop k xs) 0 z ≡ get_or xs k z
@@ -315,12 +350,14 @@ counted_more tick i now old d y h below is =
     let lt : i < length old = omega (arith, h.same) in
     record {
       front = take_more_set now i y below ∙ (rw (h.front, is, get_at i now old d h.back) refl
-          ∙ (sym (map-append tick (take i old) (get_or old i d ∷ [])) ∙ ap (map tick) (sym (take_more old i d lt))));
+          ∙ (sym (map-append tick (take i old) (get_or old i d ∷ []))
+          ∙ ap (map tick) (sym (take_more old i d lt))));
       back = drop_set i now y ∙ drop_more i now old h.back;
       same = length-set now i y ∙ h.same;
     }
 
-pub ahead_get : (frames : List Frame) (i : ℕ) (d : Frame) → HaveOctetsLeft frames → i < length frames →
+pub ahead_get : (frames : List Frame) (i : ℕ) (d : Frame) → HaveOctetsLeft frames →
+    i < length frames →
     HasOctetsLeft (get_or frames i d)
 ahead_get [] i d h below = absurd (omega arith)
 ahead_get (f ∷ frames) zero d h below = h.0
@@ -334,7 +371,8 @@ counted_ahead tick i now old d h ahead below =
 
 -- several octets counted together
 ahead_ticked_get : (n : ℕ) (frames : List Frame) (i : ℕ) (d : Frame) →
-    HaveOctetsLeft (ticked_by n frames) → i < length frames → HasOctetsLeft (tick_by_of n (get_or frames i d))
+    HaveOctetsLeft (ticked_by n frames) → i < length frames →
+    HasOctetsLeft (tick_by_of n (get_or frames i d))
 ahead_ticked_get n [] i d h below = absurd (omega arith)
 ahead_ticked_get n (f ∷ frames) zero d h below = h.0
 ahead_ticked_get n (f ∷ frames) (suc i) d h below = ahead_ticked_get n frames i d h.1 (omega arith)
@@ -351,7 +389,12 @@ pub coding_step : (order : Order) (at : ℕ) (outer : List Frame) (i : ℕ) (f d
     now ≡ coding_by order at (take i outer) → next ≡ coding_of now f.inside f.index →
     next ≡ coding_by order at (take (i + 1) outer)
 coding_step order at outer i f d now next below is e n =
-    rw (take_more outer i d below, coding_push order at (take i outer) (get_or outer i d), ← is, ← e) n
+    rw (
+      take_more outer i d below,
+      coding_push order at (take i outer) (get_or outer i d),
+      ← is,
+      ← e,
+    ) n
 
 -- the reading after a part has ended, with some lines
 abbrev pub gone_behind : Table → List Line → ℕ → List Frame → Option Innermost → Read
@@ -360,20 +403,23 @@ gone_behind C lines at frames (Some leaf) = gone_to C lines at frames (leaf_of C
 
 front_shut : (ended : Bool) (front : List Line) (at : ℕ) (outer : List OpenPart) (leaf : Leaf) →
     with_front front (unless_ended ended [] at outer leaf) ≡ unless_ended ended front at outer leaf
-front_shut true front at outer leaf = ap (λ ls. Fault ls at kinds.EncapShort (cut_off leaf)) (append-nil front)
+front_shut true front at outer leaf = ap (λ ls. Fault ls at kinds.EncapShort (cut_off leaf))
+    (append-nil front)
 front_shut false front at outer leaf = ap (λ ls. Short ls at outer leaf) (append-nil front)
 
 pub front_gone : (C : Table) (lines : List Line) (at : ℕ) (frames : List Frame)
     (leaf : Option Innermost) → with_front lines (gone_on C at frames leaf)
     ≡ gone_behind C lines at frames leaf
 front_gone C lines at frames None = ap (λ ls. Done ls at []) (append-nil lines)
-front_gone C lines at frames (Some leaf) = front_shut (has_ended frames) lines at (open_parts C at frames) (leaf_of C leaf [] [])
+front_gone C lines at frames (Some leaf) =
+    front_shut (has_ended frames) lines at (open_parts C at frames) (leaf_of C leaf [] [])
 
 pub behind_stopped : (C : Table) (frames : List Frame) (carry piece : List ℕ)
     (leaf : Option Innermost) (lines : List Line) (at : ℕ) → carry ≡ [] → piece ≡ [] →
     gone_behind C lines at frames leaf ≡ stopped_with C frames carry piece leaf lines at
 behind_stopped C frames carry piece None lines at no_carry no_piece = refl
-behind_stopped C frames carry piece (Some leaf) lines at no_carry no_piece = rw (no_carry, no_piece) refl
+behind_stopped C frames carry piece (Some leaf) lines at no_carry no_piece =
+    rw (no_carry, no_piece) refl
 
 -- the frame of an encapsulation whose byte order was read
 abbrev pub inside_frame : TypeId → Order → ℕ → Frame

@@ -31,12 +31,15 @@ use Rattle.giop_sig.specs.Fits.{IsFit}
 use Rattle.giop_sig.specs.Table.{Table}
 
 -- a content of which something is to come, before its first octet
-pub content_none : (path : List PathSegment) (U : Ty) (total full offset at : ℕ) → 0 < total - offset + tail U → content U path total full offset at [] ≡ Short [] at [] (Content U total offset [])
+pub content_none : (path : List PathSegment) (U : Ty) (total full offset at : ℕ) →
+    0 < total - offset + tail U → content U path total full offset at []
+    ≡ Short [] at [] (Content U total offset [])
 content_none path U total zero offset at pos = rw (block_none (total - offset + tail U) at pos) refl
 content_none path U total (suc full) offset at pos = rw (block_none 32 at (lit< tt)) refl
 
 -- a number that is a value of its type isn't wrong
-pub right_taken : (p : Primitive) (n : ℕ) (number : Taken) → interpreted_as p n ≡ Some number → wrong (Plain p) n ≡ None
+pub right_taken : (p : Primitive) (n : ℕ) (number : Taken) → interpreted_as p n ≡ Some number →
+    wrong (Plain p) n ≡ None
 right_taken prims.Octet n number e = refl
 right_taken prims.Char n number e = refl
 right_taken prims.Boolean n number e = go (cases_lt n 2)
@@ -44,7 +47,8 @@ right_taken prims.Boolean n number e = go (cases_lt n 2)
     go : (n < 2) ⊎ (2 ≤ n) → wrong (Plain prims.Boolean) n ≡ None
     go (inl h) = rw lt-ltb refl
     go (inr h) =
-        let f = rw (ne_eqb n 0 (λ z. absurd (omega arith)), ne_eqb n 1 (λ z. absurd (omega arith))) at e in
+        let f = rw (ne_eqb n 0 (λ z. absurd (omega arith)), ne_eqb n 1 (λ z. absurd (omega arith)))
+        at e in
         absurd (cc)
 right_taken prims.Short n number e = refl
 right_taken prims.UShort n number e = refl
@@ -56,13 +60,17 @@ right_taken prims.Float n number e = refl
 right_taken prims.Double n number e = refl
 
 -- octets spell a number below 256 to the power of the primitive's size
-pub prim_bound : (T : Ty) (p : Primitive) (order : Order) (octets : List ℕ) → T ≡ Single (Plain p) → length octets ≡ leading_width T → AreOctets octets → num order octets < 256 ^ size_of p
-prim_bound T p order octets is whole are = subst (λ k. num order octets < 256 ^ k) (rw is at whole) (num_bound order octets are)
+pub prim_bound : (T : Ty) (p : Primitive) (order : Order) (octets : List ℕ) → T ≡ Single (Plain p) →
+    length octets ≡ leading_width T → AreOctets octets → num order octets < 256 ^ size_of p
+prim_bound T p order octets is whole are =
+    subst (λ k. num order octets < 256 ^ k) (rw is at whole) (num_bound order octets are)
 
 same_scalar : (s t : Scalar) → Single s ≡ Single t → s ≡ t
 same_scalar s t e = cc
 
-pub switch_bound : (T : Ty) (p : Primitive) (order : Order) (octets : List ℕ) → IsUnion (shape_in T) → switch_of T ≡ Single (Plain p) → length octets ≡ leading_width T → AreOctets octets →
+pub switch_bound : (T : Ty) (p : Primitive) (order : Order) (octets : List ℕ) →
+    IsUnion (shape_in T) → switch_of T ≡ Single (Plain p) → length octets ≡ leading_width T →
+    AreOctets octets →
     num order octets < 256 ^ size_of p
 switch_bound (Union choice scalar select names cases) p order octets u is whole are =
     prim_bound (Single scalar) p order octets is whole are
@@ -75,43 +83,84 @@ switch_bound (Text bound) p order octets u is whole are = absurd u
 switch_bound (Encapsulation T) p order octets u is whole are = absurd u
 switch_bound (Octets bound) p order octets u is whole are = absurd u
 
-abbrev pub number_prim : (T : Ty) (p : Primitive) (n : ℕ) (number : Taken) → T ≡ Single (Plain p) → interpreted_as p n ≡ Some number → n < 256 ^ size_of p → IsNumberOf T number
-number_prim T p n number is taken within = record { scalar = Plain p; n = n; is = is; right = right_taken p n number taken; taken = taken; within = within }
+abbrev pub number_prim : (T : Ty) (p : Primitive) (n : ℕ) (number : Taken) → T ≡ Single (Plain p) →
+    interpreted_as p n ≡ Some number → n < 256 ^ size_of p → IsNumberOf T number
+number_prim T p n number is taken within =
+    record {
+      scalar = Plain p;
+      n = n;
+      is = is;
+      right = right_taken p n number taken;
+      taken = taken;
+      within = within;
+    }
 
-abbrev pub number_switch : (T : Ty) (p : Primitive) (order : Order) (octets : List ℕ) (number : Taken) → IsUnion (shape_in T) → switch_of T ≡ Single (Plain p) →
-    interpreted_as p (num order octets) ≡ Some number → length octets ≡ leading_width T → AreOctets octets → IsNumberOf (switch_of T) number
-number_switch T p order octets number u is taken whole are = number_prim (switch_of T) p (num order octets) number is taken (switch_bound T p order octets u is whole are)
+abbrev pub number_switch : (T : Ty) (p : Primitive) (order : Order) (octets : List ℕ)
+    (number : Taken) → IsUnion (shape_in T) → switch_of T ≡ Single (Plain p) →
+    interpreted_as p (num order octets) ≡ Some number → length octets ≡ leading_width T →
+    AreOctets octets → IsNumberOf (switch_of T) number
+number_switch T p order octets number u is taken whole are =
+    number_prim (switch_of T) p (num order octets) number is taken
+    (switch_bound T p order octets u is whole are)
 
-abbrev pub number_enum : (T : Ty) (count : ℕ) (names : ℕ → List ℕ) (n : ℕ) → T ≡ Single (Enum count names) → n < count → n < 256 ^ 4 → IsNumberOf T (numbers.Unsigned n)
-number_enum T count names n is below within = record { scalar = Enum count names; n = n; is = is; right = rw lt-ltb refl; taken = refl; within = within }
+abbrev pub number_enum : (T : Ty) (count : ℕ) (names : ℕ → List ℕ) (n : ℕ) →
+    T ≡ Single (Enum count names) → n < count → n < 256 ^ 4 → IsNumberOf T (numbers.Unsigned n)
+number_enum T count names n is below within =
+    record {
+      scalar = Enum count names;
+      n = n;
+      is = is;
+      right = rw lt-ltb refl;
+      taken = refl;
+      within = within;
+    }
 
 module _ (C : Table) (coding : Coding) (path : List PathSegment) (T : Ty) (at : ℕ) where
-  pub turns_number : (number : Taken) (is : IsNumberOf T number) → TransitionGives C T transitions.Ended (outputs.Number number) [] [] path at (after coding path T is.n at [])
+  pub turns_number : (number : Taken) (is : IsNumberOf T number) →
+      TransitionGives C T transitions.Ended (outputs.Number number) [] [] path at
+      (after coding path T is.n at [])
   turns_number number is = record {
     lines = line at path (ReadResult.Number is.scalar is.n) ∷ [];
     comes = rw (is.is, is.right) refl;
     says = (is, refl);
   }
 
-  pub text_open : (bound : Option ℕ) (n : ℕ) → T ≡ Text bound → over bound n ≡ over_by false → after coding path T (suc n) at [] ≡ Short [] at [] (Content T n 0 [])
-  text_open bound n is ok = rw (is, ok) (content_none path (Text bound) n (full_pieces n) 0 at (omega arith))
+  pub text_open : (bound : Option ℕ) (n : ℕ) → T ≡ Text bound → over bound n ≡ over_by false →
+      after coding path T (suc n) at [] ≡ Short [] at [] (Content T n 0 [])
+  text_open bound n is ok = rw (is, ok) (content_none path (Text bound) n (full_pieces n) 0 at
+      (omega arith))
 
-  pub octets_empty : (bound : Option ℕ) (n : ℕ) → T ≡ Octets bound → over bound n ≡ over_by false → n ≡ 0 → after coding path T n at [] ≡ Done (line at path (Piece T 0 [] false) ∷ []) at []
-  octets_empty bound n is ok none = rw (none, is, rw none at ok, block_got 0 at [] (omega arith), add-zero) refl
+  pub octets_empty : (bound : Option ℕ) (n : ℕ) → T ≡ Octets bound → over bound n ≡ over_by false →
+      n ≡ 0 → after coding path T n at [] ≡ Done (line at path (Piece T 0 [] false) ∷ []) at []
+  octets_empty bound n is ok none = rw (
+    none,
+    is,
+    rw none at ok,
+    block_got 0 at [] (omega arith),
+    add-zero,
+  ) refl
 
-  pub octets_open : (bound : Option ℕ) (n : ℕ) → T ≡ Octets bound → over bound n ≡ over_by false → 0 < n → after coding path T n at [] ≡ Short [] at [] (Content T n 0 [])
-  octets_open bound n is ok pos = rw (is, ok) (content_none path (Octets bound) n (full_pieces n) 0 at (omega arith))
+  pub octets_open : (bound : Option ℕ) (n : ℕ) → T ≡ Octets bound → over bound n ≡ over_by false →
+      0 < n → after coding path T n at [] ≡ Short [] at [] (Content T n 0 [])
+  octets_open bound n is ok pos = rw (is, ok)
+      (content_none path (Octets bound) n (full_pieces n) 0 at (omega arith))
 
-  pub sequence_empty : (bound : Option ℕ) (E : Ty) (n : ℕ) → T ≡ Sequence bound E → over bound n ≡ over_by false → n ≡ 0 → after coding path T n at [] ≡ Done (line at path (Count n) ∷ []) at []
+  pub sequence_empty : (bound : Option ℕ) (E : Ty) (n : ℕ) → T ≡ Sequence bound E →
+      over bound n ≡ over_by false → n ≡ 0 →
+      after coding path T n at [] ≡ Done (line at path (Count n) ∷ []) at []
   sequence_empty bound E n is ok none = rw (is, ok, none) refl
 
-  pub sequence_open : (d : ℕ) (bound : Option ℕ) (E : Ty) (n : ℕ) → IsFit d T → T ≡ Sequence bound E → over bound n ≡ over_by false → 0 < n →
-      after coding path T n at [] ≡ Short (line at path (Count n) ∷ []) at (Part T 0 n ∷ start_outer (part_of T 0)) (start_leaf (part_of T 0))
+  pub sequence_open : (d : ℕ) (bound : Option ℕ) (E : Ty) (n : ℕ) → IsFit d T →
+      T ≡ Sequence bound E → over bound n ≡ over_by false → 0 < n →
+      after coding path T n at [] ≡ Short (line at path (Count n) ∷ []) at
+      (Part T 0 n ∷ start_outer (part_of T 0)) (start_leaf (part_of T 0))
   unfolding IsFit
   sequence_open zero bound E n fit is ok pos = absurd fit
   sequence_open (suc d) bound E zero fit is ok pos = absurd (omega arith)
   sequence_open (suc d) bound E (suc n) fit is ok pos =
-      rw (is, ok) (ap (with_front (line at path (Count (suc n)) ∷ [])) (first_part coding path (Sequence bound E) (suc n) n 0 at (read_none coding (inner_path path (Sequence bound E) 0) d E at (rw is at fit))))
+      rw (is, ok) (ap (with_front (line at path (Count (suc n)) ∷ []))
+      (first_part coding path (Sequence bound E) (suc n) n 0 at
+      (read_none coding (inner_path path (Sequence bound E) 0) d E at (rw is at fit))))
 
 pub member_case : (T : Ty) (i : ℕ) → IsUnion (shape_in T) → HasMember (shape_in T) i → HasCase T i
 member_case (Union (Cases n) scalar select names cases) i u h = h
@@ -127,17 +176,28 @@ member_case (Octets bound) i u h = absurd u
 
 -- a union after a discriminator that is a value
 module _ (C : Table) (coding : Coding) (path : List PathSegment) (at : ℕ) (number : Taken) where
-  pub case_transition : (d : ℕ) (T : Ty) (i : ℕ) (is : IsNumberOf (switch_of T) number) → IsFit d T → IsUnion (shape_in T) → select_in T is.n ≡ Case i → HasCase T i →
-      TransitionGives C T (transitions.Selected i) (outputs.Switch number) [] [] path at (after coding path T is.n at [])
+  pub case_transition : (d : ℕ) (T : Ty) (i : ℕ) (is : IsNumberOf (switch_of T) number) →
+      IsFit d T → IsUnion (shape_in T) → select_in T is.n ≡ Case i → HasCase T i →
+      TransitionGives C T (transitions.Selected i) (outputs.Switch number) [] [] path at
+      (after coding path T is.n at [])
   unfolding IsFit
   case_transition zero T i is fit u e h = absurd fit
   case_transition (suc d) (Union choice scalar select names cases) i is fit u e h =
       let s : scalar ≡ is.scalar = same_scalar scalar is.scalar is.is in
       let w : wrong scalar is.n ≡ None = rw s is.right in
       record {
-        lines = line at (path ++ Switch (tag_of choice names) ∷ []) (ReadResult.Number is.scalar is.n) ∷ [];
-        comes = rw (w, e, read_none coding (inner_path path (Union choice scalar select names cases) i) d (cases i) at (fit.1 i h)) (ap (λ k. Short (line at (path ++ Switch (tag_of choice names) ∷ []) (ReadResult.Number k is.n) ∷ []) at
-            (Member (Union choice scalar select names cases) i ∷ start_outer (cases i)) (start_leaf (cases i))) s);
+        lines = line at (path ++ Switch (tag_of choice names) ∷ [])
+            (ReadResult.Number is.scalar is.n) ∷ [];
+        comes = rw (
+          w,
+          e,
+          read_none coding (inner_path path (Union choice scalar select names cases)
+              i) d (cases i) at (fit.1 i h),
+        ) (ap (λ k.
+            Short (line at (path ++ Switch (tag_of choice names) ∷ []) (ReadResult.Number k is.n) ∷
+            []) at
+            (Member (Union choice scalar select names cases) i ∷ start_outer (cases i))
+            (start_leaf (cases i))) s);
         says = (is, refl);
       }
   case_transition (suc d) (Struct n names parts) i is fit u e h = absurd u
@@ -149,14 +209,18 @@ module _ (C : Table) (coding : Coding) (path : List PathSegment) (at : ℕ) (num
   case_transition (suc d) (Octets bound) i is fit u e h = absurd u
   case_transition (suc d) (Encapsulation T) i is fit u e h = absurd u
 
-  pub turns_nothing : (T : Ty) (is : IsNumberOf (switch_of T) number) → IsUnion (shape_in T) → select_in T is.n ≡ Nothing →
-      TransitionGives C T transitions.Ended (outputs.Switch number) [] [] path at (after coding path T is.n at [])
+  pub turns_nothing : (T : Ty) (is : IsNumberOf (switch_of T) number) → IsUnion (shape_in T) →
+      select_in T is.n ≡ Nothing →
+      TransitionGives C T transitions.Ended (outputs.Switch number) [] [] path at
+      (after coding path T is.n at [])
   turns_nothing (Union choice scalar select names cases) is u e =
       let s : scalar ≡ is.scalar = same_scalar scalar is.scalar is.is in
       let w : wrong scalar is.n ≡ None = rw s is.right in
       record {
-        lines = line at (path ++ Switch (tag_of choice names) ∷ []) (ReadResult.Number is.scalar is.n) ∷ [];
-        comes = rw (w, e) (ap (λ k. Done (line at (path ++ Switch (tag_of choice names) ∷ []) (ReadResult.Number k is.n) ∷ []) at []) s);
+        lines = line at (path ++ Switch (tag_of choice names) ∷ [])
+            (ReadResult.Number is.scalar is.n) ∷ [];
+        comes = rw (w, e) (ap (λ k. Done (line at (path ++ Switch (tag_of choice names) ∷ [])
+            (ReadResult.Number k is.n) ∷ []) at []) s);
         says = (is, refl);
       }
   turns_nothing (Struct n names parts) is u e = absurd u
@@ -168,8 +232,10 @@ module _ (C : Table) (coding : Coding) (path : List PathSegment) (at : ℕ) (num
   turns_nothing (Octets bound) is u e = absurd u
   turns_nothing (Encapsulation T) is u e = absurd u
 
-  pub turns_refused : (T : Ty) (is : IsNumberOf (switch_of T) number) → IsUnion (shape_in T) → select_in T is.n ≡ Refused →
-      TransitionGives C T (transitions.Refused kinds.Disposition) outputs.Nothing [] [] path at (after coding path T is.n at [])
+  pub turns_refused : (T : Ty) (is : IsNumberOf (switch_of T) number) → IsUnion (shape_in T) →
+      select_in T is.n ≡ Refused →
+      TransitionGives C T (transitions.Refused kinds.Disposition) outputs.Nothing [] [] path at
+      (after coding path T is.n at [])
   turns_refused (Union choice scalar select names cases) is u e =
       let s : scalar ≡ is.scalar = same_scalar scalar is.scalar is.is in
       let w : wrong scalar is.n ≡ None = rw s is.right in
@@ -184,7 +250,8 @@ module _ (C : Table) (coding : Coding) (path : List PathSegment) (at : ℕ) (num
   turns_refused (Encapsulation T) is u e = absurd u
 
 -- the number of a union's discriminator is a value of its type
-pub taken_number : (T U : Ty) (number : Taken) (is : IsNumberOf U number) → T ≡ U → interpreted_in T is.n ≡ Some number
+pub taken_number : (T U : Ty) (number : Taken) (is : IsNumberOf U number) → T ≡ U →
+    interpreted_in T is.n ≡ Some number
 taken_number T U number is e = rw (e, is.is) is.taken
 
 -- ---- encapsulations
@@ -195,21 +262,27 @@ no_order (suc zero) h k = absurd (k refl)
 no_order (suc (suc b)) h k = refl
 
 module _ (C : Table) (coding : Coding) (path : List PathSegment) (at : ℕ) where
-  pub size_none : (T : Ty) → IsEncapsulation T → after coding path T 0 at [] ≡ Fault (line at path (Size 0) ∷ []) at kinds.EncapShort T
+  pub size_none : (T : Ty) → IsEncapsulation T →
+      after coding path T 0 at [] ≡ Fault (line at path (Size 0) ∷ []) at kinds.EncapShort T
   size_none (Encapsulation T) h = refl
   size_none _ h = absurd h
 
-  pub size_some : (T : Ty) (left : ℕ) → IsEncapsulation T → after coding path T (suc left) at [] ≡ Short (line at path (Size (suc left)) ∷ []) at [] (Opening T left)
+  pub size_some : (T : Ty) (left : ℕ) → IsEncapsulation T →
+      after coding path T (suc left) at [] ≡ Short (line at path (Size (suc left)) ∷ []) at []
+      (Opening T left)
   size_some (Encapsulation T) left h = rw (block_none 1 at (lit< tt)) refl
   size_some _ left h = absurd h
 
 module _ (C : Table) (coding : Coding) (path : List PathSegment) (T : Ty) (count here b : ℕ) where
-  pub order_bad : order_of b ≡ None → leaf_step coding path (Opening T (count - 1)) here b ≡ Fault [] (here + 1) kinds.EncapOrder T
+  pub order_bad : order_of b ≡ None → leaf_step coding path (Opening T (count - 1)) here b
+      ≡ Fault [] (here + 1) kinds.EncapOrder T
   order_bad e = rw (block_step_got 1 here [] b (omega arith), e) refl
 
   -- what follows the octet that gives a byte order
-  pub order_transition : (d : ℕ) (order : Order) → IsFit d T → IsEncapsulation T → order_of b ≡ Some order →
-      TransitionGives C T (transitions.Entered order count) (outputs.Ordered order) [] [] path (here + 1) (leaf_step coding path (Opening T (count - 1)) here b)
+  pub order_transition : (d : ℕ) (order : Order) → IsFit d T → IsEncapsulation T →
+      order_of b ≡ Some order →
+      TransitionGives C T (transitions.Entered order count) (outputs.Ordered order) [] [] path
+      (here + 1) (leaf_step coding path (Opening T (count - 1)) here b)
   unfolding IsFit
   order_transition zero order fit kind e = absurd fit
   order_transition (suc d) order fit kind e =
@@ -218,7 +291,15 @@ module _ (C : Table) (coding : Coding) (path : List PathSegment) (T : Ty) (count
       let front : List Line = line (here + 1) path (Ordered order) ∷ [] in
       record {
         lines = front;
-        comes = rw (block_step_got 1 here [] b (omega arith), e, take-nil, drop-nil, read_none c (path ++ Held ∷ []) d (part_of T 0) (here + 1) (fit_held d T fit kind), o)
-            (sym (with_front-enclosed front path T c ((here + 1) + (count - 1)) (Short [] (here + 1) (start_outer (part_of T 0)) (start_leaf (part_of T 0))) []));
+        comes = rw (
+          block_step_got 1 here [] b (omega arith),
+          e,
+          take-nil,
+          drop-nil,
+          read_none c (path ++ Held ∷ []) d (part_of T 0) (here + 1) (fit_held d T fit kind),
+          o,
+        )
+            (sym (with_front-enclosed front path T c ((here + 1) + (count - 1))
+            (Short [] (here + 1) (start_outer (part_of T 0)) (start_leaf (part_of T 0))) []));
         says = refl;
       }

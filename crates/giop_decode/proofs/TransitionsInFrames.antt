@@ -24,7 +24,9 @@ unfolding IsFit
 fit_inside zero T fit kind = absurd fit
 fit_inside (suc d) T fit kind = fit_held d T fit kind
 
-module _ (coding : Coding) (path : List PathSegment) (ps : List OpenPart) (lines : List Line) (at : ℕ) where
+module _ (coding : Coding) (path : List PathSegment) (ps : List OpenPart) (lines : List Line)
+    (at : ℕ) where
   pub around_done : around coding path ps (Done lines at [])
       ≡ with_front lines (around coding path ps (Done [] at []))
-  around_done = ap (λ ls. around coding path ps (Done ls at [])) (sym (append-nil lines)) ∙ around-front coding path ps lines (Done [] at [])
+  around_done = ap (λ ls. around coding path ps (Done ls at [])) (sym (append-nil lines))
+      ∙ around-front coding path ps lines (Done [] at [])

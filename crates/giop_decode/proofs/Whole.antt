@@ -1,4 +1,5 @@
--- Octets that are taken together do what they do one after another: those of a number, or the rest of a piece.
+-- Octets that are taken together do what they do one after another: those of a number, or the rest
+-- of a piece.
 use Rattle.std.proofs.Common.{◌≡◌, ℕ, ◌+◌, ◌-◌, ◌%◌, ◌^◌, true, false, ◌<◌, ◌≤◌, List, [], ◌∷◌, ◌++◌, length, take, drop, get_or, Some, None, refl, sym, ◌∙◌, ap, subst, arith, length-append, length-drop, take-add, append_assoc}
 use Rattle.std.proofs.Math.Bool.{and-true, and-false}
 use Rattle.std.proofs.lemmas.List.{get_or-drop, length-take-le}
@@ -53,7 +54,8 @@ use Rattle.giop_sig.specs.Types.{Encapsulation, Octets, Plain, Single, Text, Ty}
 -- padding is smaller than the size
 padding_below : (at size : ℕ) → IsAlignment size → padding at size < size
 unfolding padding
-padding_below at size h = by_alignment (λ n. (n - at % n) % n < n) size h (omega arith) (omega arith) (omega arith) (omega arith)
+padding_below at size h = by_alignment (λ n. (n - at % n) % n < n) size h (omega arith)
+    (omega arith) (omega arith) (omega arith)
 
 pub stands_whole : (w at pad count : ℕ) (octets : List ℕ) → IsAlignment w → at < 8 →
     pad ≡ padding at w →
@@ -66,20 +68,24 @@ stands_whole w at pad count octets k small padded counted within =
     let all = held ++ b ∷ [] in
     let some : 0 < w = omega (arith, padding_below at w k) in
     let l = length-drop pad octets in
-    let size : length held ≡ w - 1 = length-take-le (w - 1) ys (omega (arith, l, within, counted, some)) in
+    let size : length held ≡ w - 1 = length-take-le (w - 1) ys
+    (omega (arith, l, within, counted, some)) in
     let before : count - 1 ≡ pad + (w - 1) = omega (arith, counted, some) in
     let after : count - pad ≡ (w - 1) + 1 = omega (arith, counted, some) in
     let same : take (count - pad) ys ≡ all =
     ap (λ n. take n ys) after
     ∙ (take_more ys (w - 1) (omega (arith, l, within, counted, some))
-    ∙ ap (λ x. take (w - 1) ys ++ x ∷ []) (get_or-drop pad octets (w - 1) 0 ∙ ap (λ i. get_or octets i 0) (sym before))) in
-    let front : take (count - 1) octets ≡ take pad octets ++ held = ap (λ n. take n octets) before ∙ take-add pad (w - 1) octets in
+    ∙ ap (λ x. take (w - 1) ys ++ x ∷ []) (get_or-drop pad octets (w - 1) 0
+    ∙ ap (λ i. get_or octets i 0) (sym before))) in
+    let front : take (count - 1) octets ≡ take pad octets ++ held =
+    ap (λ n. take n octets) before ∙ take-add pad (w - 1) octets in
     subst (StandsWhole w at octets count) (sym same) (record {
       some = omega (arith, counted, some);
       within = within;
       held = held;
       are_held = subst (λ xs. AreHeld w at [] xs held) (sym front)
-          (padded_held w at pad octets held k small (omega (arith, within, counted)) (omega (arith, padded)) (λ _. padded) (omega (arith, size, some)));
+          (padded_held w at pad octets held k small (omega (arith, within, counted))
+          (omega (arith, padded)) (λ _. padded) (omega (arith, size, some)));
       last = λ o here e. takes_last w o here ((at + (count - 1)) % 8) b held k e
           (λ none.
           let one : w ≡ 1 = omega (arith, size, ap length none, some) in
@@ -110,7 +116,8 @@ module _ (C : Table) (d : Decoder) (of : TypeId) (octets : List ℕ) (count : �
     (e : d.leaf ≡ Some (innermost.Number of)) (empty : d.carry ≡ []) where
   pub no_piece : d.piece.items ≡ []
   no_piece =
-      let it : f.leaf ≡ innermost.Number of = same_some f.leaf (innermost.Number of) (sym f.goes_on ∙ e) in
+      let it : f.leaf ≡ innermost.Number of =
+      same_some f.leaf (innermost.Number of) (sym f.goes_on ∙ e) in
       subst (λ l. IsClean l d.carry d.piece.items) it f.clean
 
   pub comes_head : (order : Order) (at : ℕ) → coding_by d.order d.at d.outer.items ≡ (order, at) →
@@ -119,19 +126,23 @@ module _ (C : Table) (d : Decoder) (of : TypeId) (octets : List ℕ) (count : �
       TransitionFits (tree C of.0) of.0 s.transition [] [] → HasOutput (tree C of.0) s.output →
       OutputFitsString (tree C of.0) false s.transition s.output →
       ((n : ℕ) → StringGoesOn (tree C of.0) None s.transition s.output n) →
-      ((coding : Coding) (path : List PathSegment) (here : ℕ) → TransitionGives C (tree C of.0) s.transition s.output [] [] path here
+      ((coding : Coding) (path : List PathSegment) (here : ℕ) →
+      TransitionGives C (tree C of.0) s.transition s.output [] [] path here
       (after coding path (tree C of.0) (num order all) here [])) →
       TakenTogether C d octets of count s []
-  comes_head order at coded all s stands ahead transition_fits has_output output_fits_string string_goes_on transitions =
+  comes_head order at coded all s stands ahead transition_fits has_output output_fits_string
+      string_goes_on transitions =
       let T = tree C of.0 in
-      let nothing_held : still_held s.output d.piece.items ≡ [] = ap (still_held s.output) no_piece ∙ still_nothing s.output in
+      let nothing_held : still_held s.output d.piece.items ≡ [] =
+      ap (still_held s.output) no_piece ∙ still_nothing s.output in
       record {
         leaf = innermost.Number of;
         goes_on = e;
         same = refl;
         some = stands.some;
         within = stands.within;
-        ahead = ahead_fewer (count - 1) (length octets - 1) d.outer.items (let within = stands.within in omega (arith, within)) ahead;
+        ahead = ahead_fewer (count - 1) (length octets - 1) d.outer.items
+            (let within = stands.within in omega (arith, within)) ahead;
         short = rw no_piece (omega arith);
         carry = stands.held;
         piece = d.piece.items;
@@ -144,27 +155,41 @@ module _ (C : Table) (d : Decoder) (of : TypeId) (octets : List ℕ) (count : �
         comes = λ coding path here ordered there.
             let t = transitions coding path (here + 1) in
             let is : coding.order ≡ order = ordered ∙ ap (λ (k : Order × ℕ). k.0) coded in
-            let aligned : (here - coding.origin) % 8 ≡ (at + (count - 1)) % 8 = there ∙ ap (λ (k : Order × ℕ). (k.1 + (count - 1)) % 8) coded in
+            let aligned : (here - coding.origin) % 8 ≡ (at + (count - 1)) % 8 =
+            there ∙ ap (λ (k : Order × ℕ). (k.1 + (count - 1)) % 8) coded in
             rw (empty, nothing_held)
-            (ap (after_leading_number T (λ xs at rest. after coding path T (num coding.order xs) at rest)) (stands.last coding.origin here aligned)
-            ∙ (ap (λ o. after coding path T (num o all) (here + 1) []) is ∙ rw (still_nothing s.output) at t.comes));
+            (ap (after_leading_number T (λ xs at rest.
+            after coding path T (num coding.order xs) at rest))
+            (stands.last coding.origin here aligned)
+            ∙ (ap (λ o. after coding path T (num o all) (here + 1) []) is
+            ∙ rw (still_nothing s.output) at t.comes));
         says = λ coding path here. rw no_piece (transitions coding path (here + 1)).says;
       }
 
   pub comes_number : (order : Order) (at : ℕ) → coding_by d.order d.at d.outer.items ≡ (order, at) →
       (number : Taken) → IsWholeNumber (tree C of.0) order at octets count number →
       HaveOctetsLeft (ticked_by (length octets - 1) d.outer.items) →
-      TakenTogether C d octets of count (record { transition = transitions.Ended; output = outputs.Number number }) []
+      TakenTogether C d octets of count (record {
+        transition = transitions.Ended;
+        output =
+            outputs.Number number;
+      }) []
   comes_number order at coded number h ahead =
-      comes_head order at coded h.all (record { transition = transitions.Ended; output = outputs.Number number }) h.stands ahead tt h.is (refl, refl) (λ n. (refl, refl))
-      (λ coding path at. subst (λ n. TransitionGives C (tree C of.0) transitions.Ended (outputs.Number number) [] [] path at (after coding path (tree C of.0) n at []))
+      comes_head order at coded h.all (record {
+        transition = transitions.Ended;
+        output =
+            outputs.Number number;
+      }) h.stands ahead tt h.is (refl, refl) (λ n. (refl, refl))
+      (λ coding path at. subst (λ n. TransitionGives C (tree C of.0) transitions.Ended
+      (outputs.Number number) [] [] path at (after coding path (tree C of.0) n at []))
       h.spelled (turns_number C coding path (tree C of.0) at number h.is))
 
 -- ---- the rest of a piece ahead
 
 module _ (C : Table) (d : Decoder) (of : TypeId) (total offset : ℕ) (octets : List ℕ) (count : ℕ)
     (f : Fits C d)
-    (e : d.leaf ≡ Some (innermost.Content of total offset)) (ahead : HaveOctetsLeft (ticked_by (length octets - 1) d.outer.items)) where
+    (e : d.leaf ≡ Some (innermost.Content of total offset))
+    (ahead : HaveOctetsLeft (ticked_by (length octets - 1) d.outer.items)) where
   content : ContentFits (tree C of.0) (tree C of.0) total offset d.piece.items
   content = (stands_at C d f (innermost.Content of total offset) e).fits
 
@@ -176,19 +201,26 @@ module _ (C : Table) (d : Decoder) (of : TypeId) (total offset : ℕ) (octets : 
 
   -- what is held and the octets ahead: what is held before the last of them, and the last
   with_last : 0 < count → count ≤ length octets →
-      (d.piece.items ++ take (count - 1) octets) ++ get_or octets (count - 1) 0 ∷ [] ≡ d.piece.items ++ take count octets
+      (d.piece.items ++ take (count - 1) octets) ++ get_or octets (count - 1) 0 ∷ [] ≡ d.piece.items
+      ++ take count octets
   with_last some within =
       let i : count ≡ (count - 1) + 1 = omega (arith, some) in
       append_assoc d.piece.items (take (count - 1) octets) (get_or octets (count - 1) 0 ∷ [])
-      ∙ ap (λ xs. d.piece.items ++ xs) (sym (ap (λ n. take n octets) i ∙ take_more octets (count - 1) (omega (arith, some, within))))
+      ∙ ap (λ xs. d.piece.items ++ xs) (sym (ap (λ n. take n octets) i
+      ∙ take_more octets (count - 1) (omega (arith, some, within))))
 
   held_size : (n : ℕ) → n ≤ length octets →
       length (d.piece.items ++ take n octets) ≡ length d.piece.items + n
-  held_size n within = length-append d.piece.items (take n octets) ∙ ap (λ k. length d.piece.items + k) (length-take-le n octets within)
+  held_size n within = length-append d.piece.items (take n octets)
+      ∙ ap (λ k. length d.piece.items + k) (length-take-le n octets within)
 
   pub comes_full : 32 < total - offset → count ≡ 32 - length d.piece.items → count ≤ length octets →
       TakenTogether C d octets of count
-      (record { transition = transitions.More (innermost.Content of total (offset + 32)); output = outputs.Piece offset true })
+      (record {
+        transition = transitions.More (innermost.Content of total (offset + 32));
+        output =
+            outputs.Piece offset true;
+      })
       (take count octets)
   comes_full large counted within =
       let T = tree C of.0 in
@@ -196,31 +228,45 @@ module _ (C : Table) (d : Decoder) (of : TypeId) (total offset : ℕ) (octets : 
       let some : 0 < count = omega (arith, counted, room) in
       let piece = d.piece.items ++ take (count - 1) octets in
       let b = get_or octets (count - 1) 0 in
-      let size : length piece ≡ 31 = held_size (count - 1) (omega (arith, within)) ∙ omega (arith, counted, room) in
+      let size : length piece ≡ 31 = held_size (count - 1) (omega (arith, within))
+      ∙ omega (arith, counted, room) in
       record {
         leaf = innermost.Content of total offset;
         goes_on = e;
         same = refl;
         some = some;
         within = within;
-        ahead = ahead_fewer (count - 1) (length octets - 1) d.outer.items (omega (arith, within)) ahead;
+        ahead = ahead_fewer (count - 1) (length octets - 1) d.outer.items (omega (arith, within))
+            ahead;
         short = omega (arith, length-take-le count octets within, counted, room);
         carry = d.carry;
         piece = piece;
-        adds = (refl, refl, (λ _. omega (arith, size)), (λ small. absurd (omega (arith, large, small))));
+        adds = (
+          refl,
+          refl,
+          (λ _. omega (arith, size)),
+          (λ small. absurd (omega (arith, large, small))),
+        );
         transition_fits = (refl, no_carry);
         has_output = content.kind;
         output_fits_string = sym (and-true (is_text T));
         string_goes_on = (refl, refl, held_size count within ∙ omega (arith, counted, room));
-        lines = λ coding path here. line (here + 1) path (Piece T offset (d.piece.items ++ take count octets) true) ∷ [];
-        comes = λ coding path here order at. rw (← with_last some within) (full_whole T path total offset here piece b large (omega (arith, size)));
+        lines = λ coding path here. line (here + 1) path
+            (Piece T offset (d.piece.items ++ take count octets) true) ∷ [];
+        comes = λ coding path here order at.
+            rw (← with_last some within) (full_whole T path total offset here piece b large
+            (omega (arith, size)));
         says = λ coding path here. refl;
       }
 
   pub comes_bare : IsBare (tree C of.0) → total - offset ≤ 32 →
       count ≡ total - offset - length d.piece.items →
       count ≤ length octets →
-      TakenTogether C d octets of count (record { transition = transitions.Ended; output = outputs.Piece offset false }) (take count octets)
+      TakenTogether C d octets of count (record {
+        transition = transitions.Ended;
+        output =
+            outputs.Piece offset false;
+      }) (take count octets)
   comes_bare bare small counted within =
       let T = tree C of.0 in
       let none = bare_tail T bare in
@@ -228,24 +274,34 @@ module _ (C : Table) (d : Decoder) (of : TypeId) (total offset : ℕ) (octets : 
       let some : 0 < count = omega (arith, counted, room, none) in
       let piece = d.piece.items ++ take (count - 1) octets in
       let b = get_or octets (count - 1) 0 in
-      let size : length piece + 1 ≡ total - offset = omega (arith, held_size (count - 1) (omega (arith, within)), counted, some) in
+      let size : length piece + 1 ≡ total - offset =
+      omega (arith, held_size (count - 1) (omega (arith, within)), counted, some) in
       record {
         leaf = innermost.Content of total offset;
         goes_on = e;
         same = refl;
         some = some;
         within = within;
-        ahead = ahead_fewer (count - 1) (length octets - 1) d.outer.items (omega (arith, within)) ahead;
+        ahead = ahead_fewer (count - 1) (length octets - 1) d.outer.items (omega (arith, within))
+            ahead;
         short = omega (arith, length-take-le count octets within, counted, small);
         carry = d.carry;
         piece = piece;
-        adds = (refl, refl, (λ large. absurd (omega (arith, large, small))), (λ _. omega (arith, size)));
+        adds = (
+          refl,
+          refl,
+          (λ large. absurd (omega (arith, large, small))),
+          (λ _. omega (arith, size)),
+        );
         transition_fits = tt;
         has_output = content.kind;
         output_fits_string = sym (and-false (is_text T));
         string_goes_on = (none_either (is_text T) (Some offset), refl);
-        lines = λ coding path here. line (here + 1) path (Piece T offset (d.piece.items ++ take count octets) false) ∷ [];
-        comes = λ coding path here order at. rw (← with_last some within) (octets_last T path total offset here piece b bare small size);
+        lines = λ coding path here. line (here + 1) path
+            (Piece T offset (d.piece.items ++ take count octets) false) ∷ [];
+        comes = λ coding path here order at.
+            rw (← with_last some within) (octets_last T path total offset here piece b bare small
+            size);
         says = λ coding path here. refl;
       }
     where
@@ -257,7 +313,11 @@ module _ (C : Table) (d : Decoder) (of : TypeId) (total offset : ℕ) (octets : 
   pub comes_text : (bound : _) (size : ℕ) → tree C of.0 ≡ Text bound → total - offset ≤ 32 →
       size ≡ total - offset - length d.piece.items → count ≡ size + 1 → count ≤ length octets →
       get_or octets size 0 ≡ 0 →
-      TakenTogether C d octets of count (record { transition = transitions.Ended; output = outputs.Piece offset false }) (take size octets)
+      TakenTogether C d octets of count (record {
+        transition = transitions.Ended;
+        output =
+            outputs.Piece offset false;
+      }) (take size octets)
   comes_text bound size is small sized counted within zero_end =
       let T = tree C of.0 in
       let one : tail T ≡ 1 = ap tail is in
@@ -265,24 +325,39 @@ module _ (C : Table) (d : Decoder) (of : TypeId) (total offset : ℕ) (octets : 
       let n : count - 1 ≡ size = omega (arith, counted) in
       let piece = d.piece.items ++ take size octets in
       let b = get_or octets size 0 in
-      let all : length piece ≡ total - offset = omega (arith, held_size size (omega (arith, within, counted)), sized, room, one) in
+      let all : length piece ≡ total - offset =
+      omega (arith, held_size size (omega (arith, within, counted)), sized, room, one) in
       record {
         leaf = innermost.Content of total offset;
         goes_on = e;
         same = refl;
         some = omega (arith, counted);
         within = within;
-        ahead = ahead_fewer (count - 1) (length octets - 1) d.outer.items (omega (arith, within)) ahead;
-        short = omega (arith, length-take-le size octets (omega (arith, within, counted)), sized, small, room, one);
+        ahead = ahead_fewer (count - 1) (length octets - 1) d.outer.items (omega (arith, within))
+            ahead;
+        short = omega (
+          arith,
+          length-take-le size octets (omega (arith, within, counted)),
+          sized,
+          small,
+          room,
+          one,
+        );
         carry = d.carry;
         piece = piece;
-        adds = (refl, rw n refl, (λ large. absurd (omega (arith, large, small))), (λ _. omega (arith, all, one)));
+        adds = (
+          refl,
+          rw n refl,
+          (λ large. absurd (omega (arith, large, small))),
+          (λ _. omega (arith, all, one)),
+        );
         transition_fits = tt;
         has_output = content.kind;
         output_fits_string = sym (and-false (is_text T));
         string_goes_on = (none_either (is_text T) (Some offset), refl);
         lines = λ coding path here. line (here + 1) path (Piece T offset piece false) ∷ [];
-        comes = λ coding path here order at. rw n (text_last T path total offset here piece b bound is small all zero_end);
+        comes = λ coding path here order at.
+            rw n (text_last T path total offset here piece b bound is small all zero_end);
         says = λ coding path here. refl;
       }
 
@@ -292,7 +367,8 @@ module _ (C : Table) (d : Decoder) (of : TypeId) (total offset : ℕ) (octets : 
 adds_gathered : (C : Table) (d new : Decoder) (leaf : Innermost) (octets : List ℕ) →
     IsCountedBy d new (length octets) → Fits C d → d.leaf ≡ Some leaf →
     Adds C d leaf octets new.carry new.piece.items → Fits C new × AllGathered C d new octets
-adds_gathered C d new (innermost.Number of) octets on f e h = number_counted C of d new octets on h.1 f e h.0
+adds_gathered C d new (innermost.Number of) octets on f e h =
+    number_counted C of d new octets on h.1 f e h.0
 adds_gathered C d new (innermost.Opening of count) octets on f e h = absurd h
 adds_gathered C d new (innermost.Content of total offset) octets on f e h =
     waits_gathered C of total offset (length new.piece.items) h.2 h.3 d new octets on h.0 h.1 f e
@@ -318,10 +394,20 @@ at_last d at outer = record {
   notes = d.notes;
 }
 
-pub is_at_last : (d : Decoder) (count at : ℕ) (outer : ArrayVec Frame) → at ≡ (d.at + (count - 1)) % 8 →
+pub is_at_last : (d : Decoder) (count at : ℕ) (outer : ArrayVec Frame) →
+    at ≡ (d.at + (count - 1)) % 8 →
     outer.items ≡ ticked_by (count - 1) d.outer.items → IsAtLast d (at_last d at outer) count
 is_at_last d count at outer there counted = record {
-  further = record { order = refl; root = refl; message = refl; at = there; outer = counted; inside = refl; leaf = refl; notes = refl };
+  further = record {
+    order = refl;
+    root = refl;
+    message = refl;
+    at = there;
+    outer = counted;
+    inside = refl;
+    leaf = refl;
+    notes = refl;
+  };
   carry = refl;
   piece = refl;
 }
@@ -359,7 +445,8 @@ module _ (C : Table) (d : Decoder) (octets : List ℕ) (of : TypeId) (count : �
   fits_then = gathered_whole.0
 
   pub same_type : leaf_type fits_then.leaf ≡ of.0
-  same_type = ap leaf_type (same_some fits_then.leaf h.leaf (sym fits_then.goes_on ∙ leads)) ∙ h.same
+  same_type = ap leaf_type (same_some fits_then.leaf h.leaf (sym fits_then.goes_on ∙ leads))
+      ∙ h.same
 
   pub around_whole : IsAround C m of.0
   around_whole =
@@ -385,60 +472,84 @@ module _ (C : Table) (d : Decoder) (octets : List ℕ) (of : TypeId) (count : �
       (here + 1) s.output (m.piece.items ++ rest) (lines_at here)
   says_at here =
       let ps = open_parts C here m.outer.items in
-      subst (λ xs. IsOutput (tree C of.0) (path_in [] ps) (here + 1) s.output (xs ++ rest) (lines_at here)) (sym on.piece)
+      subst (λ xs. IsOutput (tree C of.0) (path_in [] ps) (here + 1) s.output (xs ++ rest)
+      (lines_at here)) (sym on.piece)
       (h.says (coding_in (plain m.order) ps) (path_in [] ps) here)
 
   -- how the last is taken
   coded : coding_by m.order m.at m.outer.items
-      ≡ ((coding_by d.order d.at d.outer.items).0, ((coding_by d.order d.at d.outer.items).1 + (count - 1)) % 8)
-  coded = rw (on.further.order, on.further.at, on.further.outer) (coding_ticked_by (count - 1) d.order d.at d.outer.items)
+      ≡ (
+        (coding_by d.order d.at d.outer.items).0,
+        ((coding_by d.order d.at d.outer.items).1 + (count - 1)) % 8,
+      )
+  coded = rw (on.further.order, on.further.at, on.further.outer)
+      (coding_ticked_by (count - 1) d.order d.at d.outer.items)
 
   pub told_whole : (here : ℕ) → CanStandAt before_last here →
-      decoder_step C before_last here (get_or octets (count - 1) 0) ≡ emitted C m of.0 s.transition s.output
+      decoder_step C before_last here (get_or octets (count - 1) 0)
+      ≡ emitted C m of.0 s.transition s.output
       (lines_at here) here
   told_whole here stands =
       let ps = open_parts C here m.outer.items in
       let b = get_or octets (count - 1) 0 in
       let c = coding_in (plain m.order) ps in
       let k : IsCoded here c (coding_by m.order m.at m.outer.items) =
-      coded_in C here (plain m.order) m.order m.at m.outer.items stands.1 (record { order = refl; at = omega (arith, stands.0) }) in
+      coded_in C here (plain m.order) m.order m.at m.outer.items stands.1
+      (record { order = refl; at = omega (arith, stands.0) }) in
       let T = tree C of.0 in
       let comes : leaf_step c (path_in [] ps) (leaf_of C h.leaf h.carry h.piece) here b
-      ≡ after_transition C T s.transition m.carry (still_held s.output m.piece.items) (lines_at here) (here + 1) =
-      h.comes c (path_in [] ps) here (k.order ∙ ap (λ (p : Order × ℕ). p.0) coded) (k.at ∙ ap (λ (p : Order × ℕ). p.1) coded)
-      ∙ (ap (λ xs. after_transition C T s.transition xs (still_held s.output d.piece.items) (lines_at here) (here + 1)) (sym on.carry)
-      ∙ ap (λ xs. after_transition C T s.transition m.carry (still_held s.output xs) (lines_at here) (here + 1)) (sym on.piece)) in
-      ap (λ l. step (plain m.order) [] ps (leaf_in C before_last l) here b) leads ∙ ap (around (plain m.order) [] ps) comes
+      ≡ after_transition C T s.transition m.carry (still_held s.output m.piece.items)
+      (lines_at here) (here + 1) =
+      h.comes c (path_in [] ps) here (k.order ∙ ap (λ (p : Order × ℕ). p.0) coded)
+      (k.at ∙ ap (λ (p : Order × ℕ). p.1) coded)
+      ∙ (ap (λ xs. after_transition C T s.transition xs (still_held s.output d.piece.items)
+      (lines_at here) (here + 1)) (sym on.carry)
+      ∙ ap (λ xs. after_transition C T s.transition m.carry (still_held s.output xs) (lines_at here)
+      (here + 1)) (sym on.piece)) in
+      ap (λ l. step (plain m.order) [] ps (leaf_in C before_last l) here b) leads
+      ∙ ap (around (plain m.order) [] ps) comes
 
   pub lines_whole : (here : ℕ) → CanStandAt before_last here →
       lines_of (decoder_step C before_last here (get_or octets (count - 1) 0)) ≡ lines_at here
   lines_whole here stands =
       ap lines_of (told_whole here stands)
-      ∙ lines_after_transition C here (plain m.order) [] m.outer.items (tree C of.0) s.transition m.carry (still_held s.output m.piece.items)
+      ∙ lines_after_transition C here (plain m.order) [] m.outer.items (tree C of.0) s.transition
+      m.carry (still_held s.output m.piece.items)
       (lines_at here) fits_then.ahead fits_then.known_outer
 
-  pub keeps_noted_whole : (new : Decoder) (here : ℕ) (front : List Line) → CanStandAt before_last here →
-      ends_in_string (emitted C m of.0 s.transition s.output (lines_at here) here) ≡ transition_in_string (tree C of.0)
+  pub keeps_noted_whole : (new : Decoder) (here : ℕ) (front : List Line) →
+      CanStandAt before_last here →
+      ends_in_string (emitted C m of.0 s.transition s.output (lines_at here) here)
+      ≡ transition_in_string (tree C of.0)
       s.transition →
-      ((o : Noted) → HoldsNoted m.notes o → HoldsNoted new.notes (without_name_if (clears_name s.output)
+      ((o : Noted) → HoldsNoted m.notes o →
+      HoldsNoted new.notes (without_name_if (clears_name s.output)
       (noted (is_header_root m.root) o (lines_at here)))) →
       KeepsNoted m.root before_last (read_by_fields C before_last front here) →
-      KeepsNoted m.root new (with_front front (decoder_step C before_last here (get_or octets (count - 1) 0)))
+      KeepsNoted m.root new (with_front front
+      (decoder_step C before_last here (get_or octets (count - 1) 0)))
   keeps_noted_whole new here front stands inside notes old =
       let r = decoder_step C before_last here (get_or octets (count - 1) 0) in
       let header = is_header_root m.root in
       let path = path_in [] (open_parts C here m.outer.items) in
       let back = sym h.same in
       let T = tree C (leaf_type h.leaf) in
-      let before : HoldsNoted m.notes (without_name_if (leaf_in_string T h.leaf) (noted header nothing_noted front)) =
-      subst (λ b. HoldsNoted m.notes (without_name_if b (noted header nothing_noted front))) (leaf_inside C h.leaf h.carry h.piece)
+      let before : HoldsNoted m.notes (without_name_if (leaf_in_string T h.leaf)
+      (noted header nothing_noted front)) =
+      subst (λ b. HoldsNoted m.notes (without_name_if b (noted header nothing_noted front)))
+      (leaf_inside C h.leaf h.carry h.piece)
       (rw leads at old) in
-      let then = noted_on header C h.leaf s.transition s.output path (here + 1) (m.piece.items ++ rest) front (lines_at here) r
-      (subst (λ t. OutputFitsString (tree C t) (leaf_in_string (tree C t) h.leaf) s.transition s.output) back h.output_fits_string)
-      (subst (λ t. IsOutput (tree C t) path (here + 1) s.output (m.piece.items ++ rest) (lines_at here)) back (says_at here))
-      (subst (λ t. ends_in_string r ≡ transition_in_string (tree C t) s.transition) back (ap ends_in_string (told_whole here stands) ∙ inside))
+      let then = noted_on header C h.leaf s.transition s.output path (here + 1)
+      (m.piece.items ++ rest) front (lines_at here) r
+      (subst (λ t. OutputFitsString (tree C t) (leaf_in_string (tree C t) h.leaf) s.transition
+      s.output) back h.output_fits_string)
+      (subst (λ t. IsOutput (tree C t) path (here + 1) s.output (m.piece.items ++ rest)
+      (lines_at here)) back (says_at here))
+      (subst (λ t. ends_in_string r ≡ transition_in_string (tree C t) s.transition) back
+      (ap ends_in_string (told_whole here stands) ∙ inside))
       (lines_whole here stands) in
-      subst (HoldsNoted new.notes) then (notes (without_name_if (leaf_in_string T h.leaf) (noted header nothing_noted front)) before)
+      subst (HoldsNoted new.notes) then (notes
+      (without_name_if (leaf_in_string T h.leaf) (noted header nothing_noted front)) before)
 
   pub name_whole : (here : ℕ) (next : Innermost) (new : Notes) → IsNotRefused s.transition →
       string_offset (tree C (leaf_type next)) next ≡ transition_offset (tree C of.0) s.transition →
@@ -448,8 +559,12 @@ module _ (C : Table) (d : Decoder) (octets : List ℕ) (of : TypeId) (count : �
   name_whole here next new going to notes =
       let T = tree C of.0 in
       let same = same_some fits_then.leaf h.leaf (sym fits_then.goes_on ∙ leads) in
-      name_kept (is_header_root m.root) m.root T (string_offset T h.leaf) (string_offset (tree C (leaf_type next)) next) s.transition s.output
-      (path_in [] (open_parts C here m.outer.items)) (here + 1) (m.piece.items ++ rest) (lines_at here) m.notes new going
+      name_kept (is_header_root m.root) m.root T (string_offset T h.leaf)
+      (string_offset (tree C (leaf_type next)) next) s.transition s.output
+      (path_in [] (open_parts C here m.outer.items)) (here + 1) (m.piece.items ++ rest)
+      (lines_at here) m.notes new going
       (rw on.piece h.string_goes_on) to (says_at here)
-      (subst (λ n. FitsName m.root (string_offset (tree C n) h.leaf) m.notes.buffer m.notes.name.items) h.same
-      (subst (λ l. FitsName m.root (string_offset (tree C (leaf_type l)) l) m.notes.buffer m.notes.name.items) same fits_then.name)) notes
+      (subst (λ n. FitsName m.root (string_offset (tree C n) h.leaf) m.notes.buffer
+      m.notes.name.items) h.same
+      (subst (λ l. FitsName m.root (string_offset (tree C (leaf_type l)) l) m.notes.buffer
+      m.notes.name.items) same fits_then.name)) notes

@@ -1,4 +1,5 @@
--- The lines of a reading that are pieces of strings: those of whole contents, one after the other, and those of one that has begun.
+-- The lines of a reading that are pieces of strings: those of whole contents, one after the other,
+-- and those of one that has begun.
 use Rattle.std.proofs.Common.{◌≡◌, ℕ, zero, suc, ◌+◌, ◌-◌, ◌*◌, ◌<◌, ◌≤◌, Bool, true, false, List, [], ◌∷◌, ◌++◌, length, take, drop, get_or, Option, Some, None, refl, sym, ◌∙◌, ap, append_assoc, append-nil, length-append, true≢false, arith, ◌⊎◌, inl, inr}
 use Rattle.std.specs.Prelude.{cond, flat_map, ltb}
 use Rattle.std.specs.List.{AllByRecursion as Each}
@@ -35,7 +36,14 @@ whole_then : (front : List Line) (contents : List (List ℕ)) (r : Read) →
 whole_then front contents r e h = record {
   contents = contents ++ h.contents;
   begun = h.begun;
-  lines = rw (lines_front front r, texts_append front (lines_of r), e, h.lines, flat_map-append, append_assoc) refl;
+  lines = rw (
+    lines_front front r,
+    texts_append front (lines_of r),
+    e,
+    h.lines,
+    flat_map-append,
+    append_assoc,
+  ) refl;
   unended = h.unended;
   none = λ k. h.none (sym (front_inside front r) ∙ k);
 }
@@ -48,12 +56,22 @@ then_strings front r e h = whole_then front [] r e h
 followed_strings : (r : Read) (next : ℕ → List ℕ → Read) → Strings r →
     ((at : ℕ) (s : List ℕ) → Strings (next at s)) → Strings (followed r next)
 followed_strings (Done lines at rest) next h k =
-    whole_then lines h.contents _ (h.lines ∙ (ap (λ begun. flat_map pieces_of h.contents ++ begun) (h.none refl) ∙ append-nil (flat_map pieces_of h.contents)))
+    whole_then lines h.contents _ (h.lines
+    ∙ (ap (λ begun. flat_map pieces_of h.contents ++ begun) (h.none refl)
+    ∙ append-nil (flat_map pieces_of h.contents)))
     (k at rest)
 followed_strings _ next h k = h
 
 within_strings : (place : OpenPart) (r : Read) → Strings r → Strings (within place r)
-within_strings place (Short lines at outer leaf) h = record { contents = h.contents; begun = h.begun; lines = h.lines; unended = h.unended; none = h.none }
+within_strings place (Short lines at outer leaf) h =
+    record {
+      contents = h.contents;
+      begun = h.begun;
+      lines = h.lines;
+      unended = h.unended;
+      none =
+          h.none;
+    }
 within_strings place r h = h
 
 unless_strings : (T : Ty) (why : Option Kind) (at : ℕ) (r : Read) → Strings r →
@@ -70,14 +88,17 @@ headed_strings T after h (Complete xs at rest) = h xs at rest
 parts_strings : (part : ℕ → ℕ → List ℕ → Read) → ((i at : ℕ) (s : List ℕ) → Strings (part i at s)) →
     (more i at : ℕ) (s : List ℕ) → Strings (parts_from part more i at s)
 parts_strings part h zero i at s = no_strings (Done [] at s) refl
-parts_strings part h (suc more) i at s = followed_strings (part i at s) (parts_from part more (suc i)) (h i at s) (parts_strings part h more (suc i))
+parts_strings part h (suc more) i at s =
+    followed_strings (part i at s) (parts_from part more (suc i)) (h i at s)
+    (parts_strings part h more (suc i))
 
 -- ---- one string
 
 -- A content from an offset on: whole, or begun and not ended.
 abbrev Comes : ℕ → ℕ → ℕ → Read → Type 0
 Comes total full offset r =
-    ((octets : List ℕ) × (offset + length octets ≡ total) × (text_pieces (lines_of r) ≡ cut_from full offset octets))
+    ((octets : List ℕ) × (offset + length octets ≡ total)
+    × (text_pieces (lines_of r) ≡ cut_from full offset octets))
     ⊎ ((ends_in_string r ≡ true) × Each (λ p. p.more ≡ true) (text_pieces (lines_of r)))
 
 last_comes : (bound : Option ℕ) (path : List PathSegment) (total offset at : ℕ) (s : List ℕ) →
@@ -88,7 +109,12 @@ last_comes bound path total offset at s ahead = go (cases_lt (length s) (total -
     ended : (why : Option Kind) (xs rest : List ℕ) (at : ℕ) → total - offset ≤ length xs →
         Comes total 0 offset (unless (Text bound) why at (Done
         (line at path (Piece (Text bound) offset (take (total - offset) xs) false) ∷ []) at rest))
-    ended None xs rest at h = inl (take (total - offset) xs, let e = length-take-le (total - offset) xs h in omega arith, refl)
+    ended None xs rest at h = inl (
+      take (total - offset) xs,
+      let e =
+          length-take-le (total - offset) xs h in omega arith,
+      refl,
+    )
     ended (Some kind) xs rest at h = inr (refl, tt)
 
     go : (length s < total - offset + 1) ⊎ (total - offset + 1 ≤ length s) →
@@ -97,17 +123,21 @@ last_comes bound path total offset at s ahead = go (cases_lt (length s) (total -
     go (inl h) = rw (block_waits (total - offset + 1) at s h) (inr (refl, tt))
     go (inr h) =
         let e = length-take-le (total - offset + 1) s h in
-        rw (block_got (total - offset + 1) at s h) (ended (ends (Text bound) (total - offset) (take (total - offset + 1) s)) (take (total - offset + 1) s)
+        rw (block_got (total - offset + 1) at s h)
+        (ended (ends (Text bound) (total - offset) (take (total - offset + 1) s))
+        (take (total - offset + 1) s)
         (drop (total - offset + 1) s) (at + (total - offset + 1)) (omega arith))
 
 cut_more : (full offset : ℕ) (xs ys : List ℕ) → length xs ≡ 32 →
     piece offset xs true ∷ cut_from full (offset + 32) ys ≡ cut_from (suc full) offset (xs ++ ys)
 cut_more full offset xs ys h =
     let front : take 32 (xs ++ ys) ≡ xs = take_at xs ys 32 h in
-    let behind : drop 32 (xs ++ ys) ≡ ys = ap (λ n. drop n (xs ++ ys)) (sym h) ∙ drop-append_seam xs ys in
+    let behind : drop 32 (xs ++ ys) ≡ ys =
+    ap (λ n. drop n (xs ++ ys)) (sym h) ∙ drop-append_seam xs ys in
     rw (front, behind) refl
 
-full_comes : (bound : Option ℕ) (path : List PathSegment) (total full offset : ℕ) (next : ℕ → List ℕ → Read)
+full_comes : (bound : Option ℕ) (path : List PathSegment) (total full offset : ℕ)
+    (next : ℕ → List ℕ → Read)
     (xs rest : List ℕ) (at : ℕ) → length xs ≡ 32 → Comes total full (offset + 32) (next at rest) →
     Comes total (suc full) offset (with_front (line at path
     (Piece (Text bound) offset xs true) ∷ []) (next at rest))
@@ -117,14 +147,20 @@ full_comes bound path total full offset next xs rest at h (inl (ys, len, is)) =
     inl (xs ++ ys, long, rw (lines_front front (next at rest), is) (cut_more full offset xs ys h))
 full_comes bound path total full offset next xs rest at h (inr (inside, each)) =
     let front : List Line = line at path (Piece (Text bound) offset xs true) ∷ [] in
-    inr (front_inside front (next at rest) ∙ inside, rw (lines_front front (next at rest)) (refl, each))
+    inr (
+      front_inside front (next at rest) ∙ inside,
+      rw (lines_front front (next at rest)) (refl, each),
+    )
 
-content_comes : (bound : Option ℕ) (path : List PathSegment) (total full offset at : ℕ) (s : List ℕ) →
+content_comes : (bound : Option ℕ) (path : List PathSegment) (total full offset at : ℕ)
+    (s : List ℕ) →
     offset + 32 * full ≤ total → Comes total full offset (content (Text bound) path total full
     offset at s)
-content_comes bound path total zero offset at s ahead = last_comes bound path total offset at s (omega arith)
+content_comes bound path total zero offset at s ahead =
+    last_comes bound path total offset at s (omega arith)
 content_comes bound path total (suc full) offset at s ahead =
-    go (cases_lt (length s) 32) (content_comes bound path total full (offset + 32) (at + 32) (drop 32 s) (omega arith))
+    go (cases_lt (length s) 32) (content_comes bound path total full (offset + 32) (at + 32)
+    (drop 32 s) (omega arith))
   where
     next : ℕ → List ℕ → Read
     next = content (Text bound) path total full (offset + 32)
@@ -134,7 +170,9 @@ content_comes bound path total (suc full) offset at s ahead =
         Comes total (suc full) offset (full_piece (Text bound) path total offset next
         (block 32 at s))
     go (inl h) k = rw (block_waits 32 at s h) (inr (refl, tt))
-    go (inr h) k = rw (block_got 32 at s h) (full_comes bound path total full offset next (take 32 s) (drop 32 s) (at + 32) (length-take-le 32 s h) k)
+    go (inr h) k = rw (block_got 32 at s h)
+        (full_comes bound path total full offset next (take 32 s) (drop 32 s) (at + 32)
+        (length-take-le 32 s h) k)
 
 comes_strings : (total : ℕ) (r : Read) → Comes total (full_pieces total) 0 r → Strings r
 comes_strings total r (inl (octets, len, is)) = record {
@@ -154,10 +192,18 @@ comes_strings total r (inr (inside, each)) = record {
 
 text_strings : (bound : Option ℕ) (path : List PathSegment) (n at : ℕ) (s : List ℕ) →
     Strings (text bound path n at s)
-text_strings bound path zero at s = record { contents = [] ∷ []; begun = []; lines = refl; unended = tt; none = λ _. refl }
+text_strings bound path zero at s = record {
+  contents = [] ∷ [];
+  begun = [];
+  lines = refl;
+  unended =
+      tt;
+  none = λ _. refl;
+}
 text_strings bound path (suc n) at s =
     unless_strings (Text bound) (over bound n) at _
-    (comes_strings n (content (Text bound) path n (full_pieces n) 0 at s) (content_comes bound path n (full_pieces n) 0 at s (omega arith)))
+    (comes_strings n (content (Text bound) path n (full_pieces n) 0 at s)
+    (content_comes bound path n (full_pieces n) 0 at s (omega arith)))
 
 -- ---- octets are no string
 
@@ -168,32 +214,41 @@ module _ (T : Ty) (none : (offset : ℕ) (octets : List ℕ) (more : Bool) →
   bare_last : (path : List PathSegment) (total offset : ℕ) (g : Block) →
       text_pieces (lines_of (last_piece T path total offset g)) ≡ []
   bare_last path total offset (Partial held at) = refl
-  bare_last path total offset (Complete xs at rest) = rw (endless (total - offset) xs, none offset (take (total - offset) xs) false) refl
+  bare_last path total offset (Complete xs at rest) =
+      rw (endless (total - offset) xs, none offset (take (total - offset) xs) false) refl
 
   bare_full : (path : List PathSegment) (total offset : ℕ) (next : ℕ → List ℕ → Read) (g : Block) →
       ((at : ℕ) (s : List ℕ) → text_pieces (lines_of (next at s)) ≡ []) →
       text_pieces (lines_of (full_piece T path total offset next g)) ≡ []
   bare_full path total offset next (Partial held at) h = refl
   bare_full path total offset next (Complete xs at rest) h =
-      rw (lines_front (line at path (Piece T offset xs true) ∷ []) (next at rest), none offset xs true) (h at rest)
+      rw (
+        lines_front (line at path (Piece T offset xs true) ∷ []) (next at rest),
+        none offset xs true,
+      ) (h at rest)
 
   bare_none : (path : List PathSegment) (total full offset at : ℕ) (s : List ℕ) →
       text_pieces (lines_of (content T path total full offset at s)) ≡ []
-  bare_none path total zero offset at s = bare_last path total offset (block (total - offset + tail T) at s)
+  bare_none path total zero offset at s =
+      bare_last path total offset (block (total - offset + tail T) at s)
   bare_none path total (suc full) offset at s =
-      bare_full path total offset (content T path total full (offset + 32)) (block 32 at s) (bare_none path total full (offset + 32))
+      bare_full path total offset (content T path total full (offset + 32)) (block 32 at s)
+      (bare_none path total full (offset + 32))
 
 octets_strings : (bound : Option ℕ) (path : List PathSegment) (n at : ℕ) (s : List ℕ) →
     Strings (octets bound path n at s)
 octets_strings bound path n at s =
-    unless_strings (Octets bound) (over bound n) at _ (no_strings _ (bare_none (Octets bound) (λ offset octets more. refl) (λ n xs. refl) path n (full_pieces n)
+    unless_strings (Octets bound) (over bound n) at _
+    (no_strings _ (bare_none (Octets bound) (λ offset octets more. refl) (λ n xs. refl) path n
+    (full_pieces n)
     0 at s))
 
 -- ---- any type
 
 single_strings : (path : List PathSegment) (scalar : Scalar) (n at : ℕ) (s : List ℕ) →
     Strings (single path scalar n at s)
-single_strings path scalar n at s = unless_strings (Single scalar) (wrong scalar n) at _ (no_strings _ refl)
+single_strings path scalar n at s = unless_strings (Single scalar) (wrong scalar n) at _
+    (no_strings _ refl)
 
 member_strings : (selected : Selected) (case : ℕ → ℕ → List ℕ → Read) →
     ((i at : ℕ) (s : List ℕ) → Strings (case i at s)) → (at : ℕ) (s : List ℕ) →
@@ -206,36 +261,57 @@ member_strings _ case h at s = no_strings (Done [] at s) refl
 module _ (path : List PathSegment) (T : Ty) where
   rest_strings : (n at : ℕ) (s : List ℕ) → Strings (rest_of path (Encapsulation T) n at s)
   rest_strings zero at s = no_strings (Done [] at s) refl
-  rest_strings (suc n) at s = no_strings _ (bare_none (Encapsulation T) (λ offset octets more. refl) (λ n xs. refl) path (suc n) (full_pieces (suc n)) 0 at s)
+  rest_strings (suc n) at s = no_strings _
+      (bare_none (Encapsulation T) (λ offset octets more. refl) (λ n xs. refl) path (suc n)
+      (full_pieces (suc n)) 0 at s)
 
   enclosed_strings : (coding : Coding) (end : ℕ) (r : Read) (more : List ℕ) → Strings r →
       Strings (enclosed path (Encapsulation T) coding end r more)
   enclosed_strings coding end (Done lines at rest) more h =
       whole_then lines h.contents _
-      (h.lines ∙ (ap (λ begun. flat_map pieces_of h.contents ++ begun) (h.none refl) ∙ append-nil (flat_map pieces_of h.contents)))
+      (h.lines ∙ (ap (λ begun. flat_map pieces_of h.contents ++ begun) (h.none refl)
+      ∙ append-nil (flat_map pieces_of h.contents)))
       (rest_strings (end - at) at (rest ++ more))
   enclosed_strings coding end (Short lines at outer leaf) more h = go (ltb at end)
     where
       go : (test : Bool) → Strings (cond test (Short lines
           at (Inside (Encapsulation T) coding end ∷ outer) leaf)
           (Fault lines at kinds.EncapShort (cut_off leaf)))
-      go true = record { contents = h.contents; begun = h.begun; lines = h.lines; unended = h.unended; none = h.none }
-      go false = record { contents = h.contents; begun = h.begun; lines = h.lines; unended = h.unended; none = λ k. h.none (sym (cut_inside leaf) ∙ k) }
+      go true = record {
+        contents = h.contents;
+        begun = h.begun;
+        lines = h.lines;
+        unended =
+            h.unended;
+        none = h.none;
+      }
+      go false = record {
+        contents = h.contents;
+        begun = h.begun;
+        lines = h.lines;
+        unended =
+            h.unended;
+        none = λ k. h.none (sym (cut_inside leaf) ∙ k);
+      }
   enclosed_strings coding end (Fault lines at kind S) more h = h
 
 module _ (path : List PathSegment) (T : Ty) (value : Coding → ℕ → List ℕ → Read)
     (strings : (coding : Coding) (at : ℕ) (s : List ℕ) → Strings (value coding at s)) where
   ordered_strings : (origin n : ℕ) (order : Option Order) (at : ℕ) (rest : List ℕ) →
       Strings (ordered path (Encapsulation T) value origin n order at rest)
-  ordered_strings origin n None at rest = no_strings (Fault [] at kinds.EncapOrder (Encapsulation T)) refl
+  ordered_strings origin n None at rest =
+      no_strings (Fault [] at kinds.EncapOrder (Encapsulation T)) refl
   ordered_strings origin n (Some order) at rest =
       then_strings (line at path (Ordered order) ∷ []) _ refl
-      (enclosed_strings path T (coded order origin) (at + n) _ (drop n rest) (strings (coded order origin) at (take n rest)))
+      (enclosed_strings path T (coded order origin) (at + n) _ (drop n rest)
+      (strings (coded order origin) at (take n rest)))
 
   opening_strings : (origin n : ℕ) (g : Block) →
       Strings (opening path (Encapsulation T) value origin n g)
-  opening_strings origin n (Partial none at) = no_strings (Short [] at [] (Opening (Encapsulation T) n)) refl
-  opening_strings origin n (Complete octets at rest) = ordered_strings origin n (order_of (get_or octets 0 0)) at rest
+  opening_strings origin n (Partial none at) =
+      no_strings (Short [] at [] (Opening (Encapsulation T) n)) refl
+  opening_strings origin n (Complete octets at rest) =
+      ordered_strings origin n (order_of (get_or octets 0 0)) at rest
 
   sized_strings : (n at : ℕ) (s : List ℕ) → Strings (sized path (Encapsulation T) value n at s)
   sized_strings zero at s = no_strings (Fault [] at kinds.EncapShort (Encapsulation T)) refl
@@ -245,11 +321,14 @@ module _ (path : List PathSegment) (T : Ty) (value : Coding → ℕ → List ℕ
 pub read_strings : (coding : Coding) (path : List PathSegment) (T : Ty) (at : ℕ) (s : List ℕ) →
     Strings (read coding path T at s)
 read_strings coding path (Single scalar) at s =
-    headed_strings (Single scalar) _ (λ xs at rest. single_strings path scalar (num coding.order xs) at rest) _
+    headed_strings (Single scalar) _ (λ xs at rest.
+    single_strings path scalar (num coding.order xs) at rest) _
 read_strings coding path (Text bound) at s =
-    headed_strings (Text bound) _ (λ xs at rest. text_strings bound path (num coding.order xs) at rest) _
+    headed_strings (Text bound) _ (λ xs at rest.
+    text_strings bound path (num coding.order xs) at rest) _
 read_strings coding path (Octets bound) at s =
-    headed_strings (Octets bound) _ (λ xs at rest. octets_strings bound path (num coding.order xs) at rest) _
+    headed_strings (Octets bound) _ (λ xs at rest.
+    octets_strings bound path (num coding.order xs) at rest) _
 read_strings coding path (Struct count names parts) at s =
     parts_strings _ (λ i at s. within_strings (Part (Struct count names parts) i count) _
     (read_strings coding (path ++ Name (names i) ∷ []) (parts i) at s)) count 0 at s
@@ -267,7 +346,8 @@ read_strings coding path (Union choice scalar select names cases) at s =
     headed_strings (Union choice scalar select names cases) _ (λ xs at rest.
     let T = Union choice scalar select names cases in
     let n = num coding.order xs in
-    let front : List Line = line at (path ++ Switch (tag_of choice names) ∷ []) (Number scalar n) ∷ [] in
+    let front : List Line = line at (path ++ Switch (tag_of choice names) ∷ []) (Number scalar n) ∷
+    [] in
     unless_strings T (wrong scalar n) at _ (unless_strings T (refused (select n)) at _
     (then_strings front _ refl (member_strings (select n) _ (λ i at s. within_strings (Member T i) _
     (read_strings coding (path ++ Name (names i) ∷ []) (cases i) at s)) at rest)))) _
@@ -275,4 +355,5 @@ read_strings coding path (Encapsulation T) at s =
     headed_strings (Encapsulation T) _ (λ xs at rest.
     let n = num coding.order xs in
     then_strings (line at path (Size n) ∷ []) _ refl
-    (sized_strings path T _ (λ inner at s. read_strings inner (path ++ Held ∷ []) T at s) n at rest)) _
+    (sized_strings path T _ (λ inner at s. read_strings inner (path ++ Held ∷ []) T at s) n at
+    rest)) _

@@ -62,22 +62,42 @@ forgets : (m : Notes) (b : Buffer) (h : Noted) → m.buffer ≡ b → HoldsNoted
     HoldsNoted (forgotten m b) (without_name_if true h)
 forgets m buffers.Whole h is k =
     let held = rw is at k.name in
-    record { request_id = k.request_id; status = k.status; expects_reply = k.expects_reply; name = (refl, held.1, omega arith) }
+    record {
+      request_id = k.request_id;
+      status = k.status;
+      expects_reply = k.expects_reply;
+      name =
+          (refl, held.1, omega arith);
+    }
 forgets m buffers.Begun h is k =
     let held = rw is at k.name in
-    record { request_id = k.request_id; status = k.status; expects_reply = k.expects_reply; name = rw is (refl, held.1, held.2) }
+    record {
+      request_id = k.request_id;
+      status = k.status;
+      expects_reply = k.expects_reply;
+      name =
+          rw is (refl, held.1, held.2);
+    }
 forgets m buffers.TooLong h is k =
     let held = rw is at k.name in
-    record { request_id = k.request_id; status = k.status; expects_reply = k.expects_reply; name = rw is (refl, held.1, held.2) }
+    record {
+      request_id = k.request_id;
+      status = k.status;
+      expects_reply = k.expects_reply;
+      name =
+          rw is (refl, held.1, held.2);
+    }
 
--- what was noted before the name was cleared, from what is noted then: a piece of the string follows on both alike
+-- what was noted before the name was cleared, from what is noted then: a piece of the string
+-- follows on both alike
 record Recalled (m : Notes) (o : Noted) : Type 0 where
   noted : Noted
   held : HoldsNoted m noted
   same : (octets : List ℕ) → with_piece noted octets ≡ with_piece o octets
   expects : noted.expects_reply ≡ o.expects_reply
 
-recalled : (m : Notes) (b : Buffer) (o : Noted) → m.buffer ≡ b → HoldsNoted (forgotten m b) o → Recalled m o
+recalled : (m : Notes) (b : Buffer) (o : Noted) → m.buffer ≡ b → HoldsNoted (forgotten m b) o →
+    Recalled m o
 recalled m buffers.Whole o is k = record {
   noted = record {
     request_id = o.request_id;
@@ -86,16 +106,35 @@ recalled m buffers.Whole o is k = record {
     name = Some m.name.items;
     so_far = [];
   };
-  held = record { request_id = k.request_id; status = k.status; expects_reply = k.expects_reply; name = rw is (refl, refl) };
+  held = record {
+    request_id = k.request_id;
+    status = k.status;
+    expects_reply = k.expects_reply;
+    name = rw is (refl, refl);
+  };
   same = λ octets. rw k.name.1 refl;
   expects = refl;
 }
-recalled m buffers.Begun o is k = record { noted = o; held = k; same = λ octets. refl; expects = refl }
-recalled m buffers.TooLong o is k = record { noted = o; held = k; same = λ octets. refl; expects = refl }
+recalled m buffers.Begun o is k = record {
+  noted = o;
+  held = k;
+  same = λ octets. refl;
+  expects =
+      refl;
+}
+recalled m buffers.TooLong o is k = record {
+  noted = o;
+  held = k;
+  same = λ octets. refl;
+  expects =
+      refl;
+}
 
-piece_recalled : (header : Bool) (m : Notes) (o : Noted) (r : Recalled m o) (T : Ty) (bound : Option ℕ) (at : ℕ)
+piece_recalled : (header : Bool) (m : Notes) (o : Noted) (r : Recalled m o) (T : Ty)
+    (bound : Option ℕ) (at : ℕ)
     (path : List PathSegment) (octets : List ℕ) (lines : List Line) → T ≡ Text bound →
-    lines ≡ line at path (Piece T 0 octets false) ∷ [] → noted header r.noted lines ≡ noted header o lines
+    lines ≡ line at path (Piece T 0 octets false) ∷ [] →
+    noted header r.noted lines ≡ noted header o lines
 piece_recalled header m o r T bound at path octets lines text says =
     rw (says, text) (ap (λ z. with_expects (ended z) r.noted.expects_reply) (r.same octets)
     ∙ ap (with_expects (ended (with_piece o octets))) r.expects)
@@ -106,21 +145,39 @@ same_type : (a b : TypeId) → a.0 ≡ b.0 → a ≡ b
 same_type a b e = ap type_id e
 
 -- a length ahead that leads into a content of one piece, with the content and a zero behind it
-pub text_stands : (C : Table) (d : Decoder) (octets : List ℕ) (of inner by : TypeId) (head total : ℕ) (s : Step) (rest : List ℕ)
-    (bound : Option ℕ) (text : TextAhead) → d.inside ≡ false → d.leaf ≡ Some (innermost.Number of) → tree C of.0 ≡ Text bound →
+pub text_stands : (C : Table) (d : Decoder) (octets : List ℕ) (of inner by : TypeId)
+    (head total : ℕ) (s : Step) (rest : List ℕ)
+    (bound : Option ℕ) (text : TextAhead) → d.inside ≡ false → d.leaf ≡ Some (innermost.Number of) →
+    tree C of.0 ≡ Text bound →
     s.transition ≡ transitions.More (innermost.Content inner total 0) → s.output ≡ outputs.Length →
     TakenTogether C d octets by head s rest → total ≤ 32 → total < length (drop head octets) →
     get_or (drop head octets) total 0 ≡ 0 → text.of ≡ inner → text.head ≡ head →
     text.content.now ≡ take total (drop head octets) → IsTextAhead C d octets text
-text_stands C d octets of inner by head total s rest bound text outside leaf is transition output t small within zero_end e1 e2 e3 =
-    let size : length text.content.now ≡ total = ap length e3 ∙ length-take-le total (drop head octets) (omega (arith, within)) in
-    let by_leaf : of.0 ≡ by.0 = ap leaf_type (same_some (innermost.Number of) t.leaf (sym leaf ∙ t.goes_on)) ∙ t.same in
+text_stands C d octets of inner by head total s rest bound text outside leaf is transition output t
+    small within zero_end e1 e2 e3 =
+    let size : length text.content.now ≡ total =
+    ap length e3 ∙ length-take-le total (drop head octets) (omega (arith, within)) in
+    let by_leaf : of.0 ≡ by.0 = ap leaf_type
+    (same_some (innermost.Number of) t.leaf (sym leaf ∙ t.goes_on)) ∙ t.same in
     let fits = rw transition at t.transition_fits in
     let same : inner ≡ by = same_type inner by fits.0 in
     let whole : by ≡ of = same_type by of (sym by_leaf) in
-    let step : s ≡ record { transition = transitions.More (innermost.Content inner total 0); output = outputs.Length } = rw (transition, output) refl in
-    let leads : TakenTogether C d octets inner head (record { transition = transitions.More (innermost.Content inner total 0); output = outputs.Length }) rest =
-    subst (λ x. TakenTogether C d octets x head (record { transition = transitions.More (innermost.Content inner total 0); output = outputs.Length }) rest) (sym same)
+    let step : s ≡ record {
+      transition = transitions.More (innermost.Content inner total 0);
+      output = outputs.Length;
+    } = rw (transition, output) refl in
+    let leads : TakenTogether C d octets inner head
+    (record {
+      transition = transitions.More (innermost.Content inner total 0);
+      output =
+          outputs.Length;
+    }) rest =
+    subst (λ x. TakenTogether C d octets x head
+    (record {
+      transition = transitions.More (innermost.Content inner total 0);
+      output =
+          outputs.Length;
+    }) rest) (sym same)
     (subst (λ x. TakenTogether C d octets by head x rest) step t) in
     record {
       bound = bound;
@@ -138,9 +195,11 @@ text_stands C d octets of inner by head total s rest bound text outside leaf is 
 -- ---- a decoder before a string
 
 -- in no encapsulation the frames stay as they are
-pub free_at_last : (d : Decoder) (count at : ℕ) → is_inside d.outer.items ≡ false → at ≡ (d.at + (count - 1)) % 8 →
+pub free_at_last : (d : Decoder) (count at : ℕ) → is_inside d.outer.items ≡ false →
+    at ≡ (d.at + (count - 1)) % 8 →
     IsAtLast d (at_last d at d.outer) count
-free_at_last d count at free there = is_at_last d count at d.outer there (free_ticked_by (count - 1) d.outer.items free)
+free_at_last d count at free there = is_at_last d count at d.outer there
+    (free_ticked_by (count - 1) d.outer.items free)
 
 module _ (C : Table) (d : Decoder) (octets : List ℕ) (text : TextAhead) (f : Fits C d)
     (h : IsTextAhead C d octets text) where
@@ -183,7 +242,8 @@ module _ (C : Table) (d : Decoder) (octets : List ℕ) (text : TextAhead) (f : F
 
   pub no_piece : d.piece.items ≡ []
   no_piece =
-      let it : f.leaf ≡ innermost.Number text.of = same_some f.leaf (innermost.Number text.of) (sym f.goes_on ∙ h.number) in
+      let it : f.leaf ≡ innermost.Number text.of =
+      same_some f.leaf (innermost.Number text.of) (sym f.goes_on ∙ h.number) in
       subst (λ l. IsClean l d.carry d.piece.items) it f.clean
 
   come : (here : ℕ) (lines : List Line) →
@@ -193,7 +253,8 @@ module _ (C : Table) (d : Decoder) (octets : List ℕ) (text : TextAhead) (f : F
       let ps = open_parts C (here + 1) d.outer.items in
       let held = leaf_of C leaf d.carry d.piece.items in
       let there : open_parts C here d.outer.items ≡ ps =
-      sym (places_ticked C here d.outer.items f.ahead) ∙ ap (open_parts C (here + 1)) (sym (free_ticked d.outer.items free)) in
+      sym (places_ticked C here d.outer.items f.ahead)
+      ∙ ap (open_parts C (here + 1)) (sym (free_ticked d.outer.items free)) in
       ap (λ qs. around (plain d.order) [] qs (Short lines (here + 1) [] held)) there
       ∙ (around_unless_ended C (plain d.order) [] (here + 1) d.outer.items lines [] held
       f.known_outer
@@ -251,7 +312,8 @@ module _ (C : Table) (d : Decoder) (octets : List ℕ) (text : TextAhead) (f : F
   ended_step = record { transition = transitions.Ended; output = outputs.Piece 0 false }
 
   -- the content and the zero behind it
-  pub content_ahead : TakenTogether C begun (drop text.head octets) text.of (length text.content.now + 1)
+  pub content_ahead : TakenTogether C begun (drop text.head octets) text.of
+      (length text.content.now + 1)
       ended_step text.content.now
   content_ahead =
       let n = length text.content.now in
@@ -260,18 +322,22 @@ module _ (C : Table) (d : Decoder) (octets : List ℕ) (text : TextAhead) (f : F
       (sym h.content)
       (comes_text C begun text.of n 0 (drop text.head octets) (n + 1) begun_fits refl
       (ahead_free (length (drop text.head octets) - 1) d.outer.items free f.ahead) h.bound n h.is
-      (omega (arith, h.short)) (omega (arith, ap length no_piece)) refl (omega (arith, left, h.within)) h.zero_end)
+      (omega (arith, h.short)) (omega (arith, ap length no_piece)) refl
+      (omega (arith, left, h.within)) h.zero_end)
 
   -- what is noted of the content's line, from what was noted before the length
   noted_behind : (new : Notes) (here at : ℕ) (lines : List Line) →
       Gives C d text.of.0 ended_step text.content.now here at lines →
-      ((o : Noted) → HoldsNoted d.notes o → HoldsNoted new (noted (is_header_root d.root) o lines)) →
-      (o : Noted) → HoldsNoted begun.notes o → HoldsNoted new (noted (is_header_root d.root) o lines)
+      ((o : Noted) → HoldsNoted d.notes o →
+      HoldsNoted new (noted (is_header_root d.root) o lines)) →
+      (o : Noted) → HoldsNoted begun.notes o →
+      HoldsNoted new (noted (is_header_root d.root) o lines)
   noted_behind new here at lines says notes o k =
       let header = is_header_root d.root in
       let r = recalled d.notes d.notes.buffer o refl k in
       subst (HoldsNoted new) (piece_recalled header d.notes o r (tree C text.of.0) h.bound at
-      (path_in [] (open_parts C here d.outer.items)) (d.piece.items ++ text.content.now) lines h.is says) (notes r.noted r.held)
+      (path_in [] (open_parts C here d.outer.items)) (d.piece.items ++ text.content.now) lines h.is
+      says) (notes r.noted r.held)
 
   -- at the zero
   module _ (zero_at : ℕ)

@@ -26,8 +26,8 @@ use Rattle.giop_sig.specs.Trees.{tree}
 abbrev pub CanStandAt : Decoder → ℕ → Type 0
 CanStandAt d here = (here % 8 ≡ d.at) × StandAt here d.outer.items
 
--- A decoder that is neither done nor faulted: its frames name types of the table, each the part that the one before is
--- at.
+-- A decoder that is neither done nor faulted: its frames name types of the table, each the part
+-- that the one before is at.
 pub record Fits (C : Table) (d : Decoder) : Type 0 where
   pub leaf : Innermost
   pub goes_on : d.leaf ≡ Some leaf
@@ -48,7 +48,8 @@ pub record Fits (C : Table) (d : Decoder) : Type 0 where
   pub at : d.at < 8
   -- none but a header has a request id
   pub id_in_header_only : is_header_root d.root ≡ false → d.notes.request_id ≡ None
-  pub name : FitsName d.root (string_offset (tree C (leaf_type leaf)) leaf) d.notes.buffer d.notes.name.items
+  pub name : FitsName d.root (string_offset (tree C (leaf_type leaf)) leaf) d.notes.buffer
+      d.notes.name.items
 
 -- the value has ended
 abbrev pub IsDone : Decoder → Type 0
@@ -56,7 +57,8 @@ IsDone d = d.leaf ≡ None
 
 -- ---- a decoder of a list
 
--- the reading that a decoder's fields stand for, with these lines at this offset, by its innermost part
+-- the reading that a decoder's fields stand for, with these lines at this offset, by its innermost
+-- part
 abbrev pub read_by_leaf : Table → Decoder → Option Innermost → List Line → ℕ → Read
 read_by_leaf C d None lines at = Done lines at []
 read_by_leaf C d (Some leaf) lines at =
@@ -66,13 +68,15 @@ read_by_leaf C d (Some leaf) lines at =
 abbrev pub read_by_fields : Table → Decoder → List Line → ℕ → Read
 read_by_fields C d lines at = read_by_leaf C d d.leaf lines at
 
--- what the name buffer has: the last name, or the pieces of a string that hasn't ended, unless these are too many octets
+-- what the name buffer has: the last name, or the pieces of a string that hasn't ended, unless
+-- these are too many octets
 abbrev pub IsHeld : Buffer → List ℕ → Option (List ℕ) → List ℕ → Type 0
 IsHeld buffers.Whole octets name so_far = (name ≡ Some octets) × (so_far ≡ [])
 IsHeld buffers.Begun octets name so_far = (name ≡ None) × (so_far ≡ octets) × (length octets ≤ 128)
 IsHeld buffers.TooLong octets name so_far = (name ≡ None) × (octets ≡ []) × (128 < length so_far)
 
--- the notes have what was noted: request id, status, whether a reply is expected, and name or the pieces of one
+-- the notes have what was noted: request id, status, whether a reply is expected, and name or the
+-- pieces of one
 pub record HoldsNoted (m : Notes) (h : Noted) : Type 0 where
   pub request_id : m.request_id ≡ h.request_id
   pub status : m.status ≡ h.status
@@ -102,8 +106,8 @@ added_lines order T at s octet =
     drop (length (lines_of (read (plain order) [] T at s)))
     (lines_of (read (plain order) [] T at (s ++ octet ∷ [])))
 
--- The answer to the last octet of a list that ends at this offset, and whose last octet does or doesn't end an
--- operation: the value goes on, has ended at that octet, or is faulted there.
+-- The answer to the last octet of a list that ends at this offset, and whose last octet does or
+-- doesn't end an operation: the value goes on, has ended at that octet, or is faulted there.
 abbrev pub IsAnswer : ℕ → Bool → Progress → Read → Type 0
 IsAnswer end named progress.More (Short lines at outer leaf) = named ≡ false
 IsAnswer end named progress.Named (Short lines at outer leaf) = named ≡ true
@@ -122,8 +126,8 @@ abbrev pub IsFault : Progress → Type 0
 IsFault (progress.Fault kind) = Unit {0}
 IsFault p = ⊥
 
--- A decoder that read a list gives this answer to one octet more: then it reads the longer list, unless that is
--- faulted.
+-- A decoder that read a list gives this answer to one octet more: then it reads the longer list,
+-- unless that is faulted.
 pub record Takes (C : Table) (T : Ty) (order : Order) (at message : ℕ) (root : Root) (d : Decoder)
     (s : List ℕ) (octet : ℕ) (p : Progress) : Type 0 where
   pub answer : IsAnswer (at + length (s ++ octet ∷ []))

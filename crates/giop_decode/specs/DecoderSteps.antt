@@ -22,7 +22,8 @@ use Rattle.giop_sig.specs.Fits.{IsFit}
 use Rattle.giop_sig.specs.Table.{Table}
 use Rattle.giop_sig.specs.Trees.{tree}
 
--- the reading that a decoder's fields stand for: a fault, where an encapsulation has ended before its value
+-- the reading that a decoder's fields stand for: a fault, where an encapsulation has ended before
+-- its value
 abbrev pub stopped_with : Table → List Frame → List ℕ → List ℕ → Option Innermost → List Line → ℕ →
     Read
 stopped_with C frames carry piece None lines at = Done lines at []
@@ -47,10 +48,12 @@ abbrev pub decoder_step : Table → Decoder → ℕ → ℕ → Read
 decoder_step C d here octet =
     step (plain d.order) [] (open_parts C here d.outer.items) (leaf_in C d d.leaf) here octet
 
--- the answer fits the decoder after a step with these lines, and the reading; a value that goes on is named or isn't
+-- the answer fits the decoder after a step with these lines, and the reading; a value that goes on
+-- is named or isn't
 abbrev pub progressed : Table → Decoder → Bool → Progress → List Line → ℕ → Read → Type 0
 progressed C d named progress.More lines at r =
-    (r ≡ read_by_fields C d lines at) × ((leaf : Innermost) × (d.leaf ≡ Some leaf)) × (named ≡ false)
+    (r ≡ read_by_fields C d lines at) × ((leaf : Innermost) × (d.leaf ≡ Some leaf))
+    × (named ≡ false)
 progressed C d named progress.Named lines at r =
     (r ≡ read_by_fields C d lines at) × ((leaf : Innermost) × (d.leaf ≡ Some leaf)) × (named ≡ true)
 progressed C d named progress.Done lines at r = (r ≡ read_by_fields C d lines at) × (d.leaf ≡ None)
@@ -63,8 +66,8 @@ IsGoing named true (Some leaf) p = p ≡ progress.Fault kinds.EncapShort
 IsGoing true false (Some leaf) p = p ≡ progress.Named
 IsGoing false false (Some leaf) p = p ≡ progress.More
 
--- the answer to an octet, by its transition, where an encapsulation has or hasn't ended: a rule that the octet breaks
--- goes first
+-- the answer to an octet, by its transition, where an encapsulation has or hasn't ended: a rule
+-- that the octet breaks goes first
 abbrev pub IsProgress : Bool → Bool → Transition → Option Innermost → Progress → Type 0
 IsProgress named ended (transitions.Refused kind) leaf p = p ≡ progress.Fault kind
 IsProgress named ended transition leaf p = IsGoing named ended leaf p
@@ -93,8 +96,10 @@ pub record IsAround (C : Table) (d : Decoder) (of : ℕ) : Type 0 where
 
 -- the reading after a transition of that part, in the parts around it, with these lines
 abbrev pub emitted : Table → Decoder → ℕ → Transition → Output → List Line → ℕ → Read
-emitted C d of transition output lines here = around (plain d.order) [] (open_parts C here d.outer.items)
-    (after_transition C (tree C of) transition d.carry (still_held output d.piece.items) lines (here + 1))
+emitted C d of transition output lines here =
+    around (plain d.order) [] (open_parts C here d.outer.items)
+    (after_transition C (tree C of) transition d.carry (still_held output d.piece.items) lines
+    (here + 1))
 
 -- the decoder after that transition: the innermost part that comes next, and the parts around it
 pub record IsNext (C : Table) (d new : Decoder) (of : ℕ) (transition : Transition) : Type 0 where

@@ -13,7 +13,8 @@ HasLeadingNumber (Struct count names parts) = ⊥
 HasLeadingNumber (Array count T) = ⊥
 HasLeadingNumber T = Unit {0}
 
--- a type that has a content after its length: a string, an octet sequence, or an encapsulation, by its rest
+-- a type that has a content after its length: a string, an octet sequence, or an encapsulation, by
+-- its rest
 abbrev pub HasContent : Ty → Type 0
 HasContent (Text bound) = Unit {0}
 HasContent (Octets bound) = Unit {0}
@@ -113,8 +114,8 @@ leaf_ty (LeadingNumber T carry) = T
 leaf_ty (Opening T n) = T
 leaf_ty (Content T total offset piece) = T
 
--- A reading whose last octet stands in front of this offset ends there, and leaves open parts and a leaf that fit the
--- type.
+-- A reading whose last octet stands in front of this offset ends there, and leaves open parts and a
+-- leaf that fit the type.
 abbrev pub Sound : Ty → ℕ → Read → Type 0
 Sound T end (Done lines at rest) = at + length rest ≡ end
 Sound T end (Short lines at outer leaf) = (at ≡ end) × FitsIn T outer leaf × Surrounds end outer

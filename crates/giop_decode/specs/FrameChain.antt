@@ -1,5 +1,5 @@
--- Which frames and innermost part fit a table, by the numbers of the types: what is tested of a decoder that is
--- restored from octets (state).
+-- Which frames and innermost part fit a table, by the numbers of the types: what is tested of a
+-- decoder that is restored from octets (state).
 use Rattle.std.specs.Prelude.{◌≡◌, ℕ, ◌<◌, false, List, [], ◌∷◌, length, Option, Some, None}
 use Rattle.giop_cdr.specs.declared.order.Order.{Order}
 use Rattle.giop_decode.specs.declared.decoder.Decoder.{Decoder}
@@ -19,7 +19,8 @@ abbrev pub HasPart : Ty → ℕ → ℕ → Type 0
 HasPart (Union choice scalar select names cases) i count = (i < places_of choice) × (count ≡ 0)
 HasPart T i count = HasParts T count × (i < count)
 
--- a frame of a type: of a part of its own, or of an encapsulation, of whose octets so many were taken and some are to come
+-- a frame of a type: of a part of its own, or of an encapsulation, of whose octets so many were
+-- taken and some are to come
 abbrev pub HasFrame : Option Order → Ty → ℕ → ℕ → Type 0
 HasFrame None T i count = HasPart T i count
 HasFrame (Some order) T i count = IsEncapsulation T × (0 < i) × (i < count)
@@ -29,7 +30,8 @@ abbrev pub LeafFits : Table → Innermost → List ℕ → List ℕ → Type 0
 LeafFits C leaf carry piece =
     FitsIn (tree C (leaf_type leaf)) [] (leaf_of C leaf carry piece) × IsClean leaf carry piece
 
--- each frame is of the part that the one before is at, and the innermost part of that which the last is at
+-- each frame is of the part that the one before is at, and the innermost part of that which the
+-- last is at
 abbrev pub Chained : Table → ℕ → List Frame → Innermost → Type 0
 Chained C id [] leaf = leaf_type leaf ≡ id
 Chained C id (f ∷ frames) leaf =
@@ -51,4 +53,5 @@ pub record Chains (C : Table) (d : Decoder) : Type 0 where
   pub fits : LeafFits C leaf d.carry d.piece.items
   pub at : d.at < 8
   pub id_in_header_only : is_header_root d.root ≡ false → d.notes.request_id ≡ None
-  pub name : FitsName d.root (string_offset (tree C (leaf_type leaf)) leaf) d.notes.buffer d.notes.name.items
+  pub name : FitsName d.root (string_offset (tree C (leaf_type leaf)) leaf) d.notes.buffer
+      d.notes.name.items

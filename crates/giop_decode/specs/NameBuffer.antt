@@ -1,4 +1,5 @@
--- What the name buffer can have, by where in a string the innermost part is, if it is in one (state).
+-- What the name buffer can have, by where in a string the innermost part is, if it is in one
+-- (state).
 use Rattle.std.specs.Prelude.{◌≡◌, ℕ, ◌<◌, ◌≤◌, List, [], length, Option, Some, None, cond}
 use Rattle.giop_decode.specs.declared.leaf.Leaf.{Leaf as Innermost}
 use Rattle.giop_decode.specs.declared.leaf.Leaf.TheVariants as innermost
@@ -9,13 +10,14 @@ use Rattle.giop_print.specs.declared.path.Root.{Root}
 use Rattle.giop_print.specs.declared.path.Root.TheVariants as roots
 use Rattle.giop_sig.specs.Types.{Ty}
 
--- where in its string the unfinished piece begins, if the innermost part, of this type, is in a string
+-- where in its string the unfinished piece begins, if the innermost part, of this type, is in a
+-- string
 abbrev pub string_offset : Ty → Innermost → Option ℕ
 string_offset T (innermost.Content of total offset) = cond (is_text T) (Some offset) None
 string_offset T leaf = None
 
--- So many octets are noted of a string whose unfinished piece begins here: all in front of it. Of a body's string they may
--- be fewer: a checkpoint of a version that noted nothing of bodies has none.
+-- So many octets are noted of a string whose unfinished piece begins here: all in front of it. Of a
+-- body's string they may be fewer: a checkpoint of a version that noted nothing of bodies has none.
 abbrev pub IsNotedOf : Root → ℕ → ℕ → Type 0
 IsNotedOf roots.Body offset n = n ≤ offset
 IsNotedOf root offset n = n ≡ offset
@@ -25,6 +27,7 @@ abbrev pub FitsName : Root → Option ℕ → Buffer → List ℕ → Type 0
 FitsName root None buffers.Begun name = name ≡ []
 FitsName root None buffers.Whole name = Unit {0}
 FitsName root None buffers.TooLong name = ⊥
-FitsName root (Some offset) buffers.Begun name = (length name ≤ 128) × IsNotedOf root offset (length name)
+FitsName root (Some offset) buffers.Begun name =
+    (length name ≤ 128) × IsNotedOf root offset (length name)
 FitsName root (Some offset) buffers.Whole name = ⊥
 FitsName root (Some offset) buffers.TooLong name = (128 < offset) × (name ≡ [])

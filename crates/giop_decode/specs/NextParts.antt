@@ -24,7 +24,8 @@ frames_above frames = take (length frames - 1) frames
 
 -- what the lines of the innermost frame's parts begin with, up to its own segment
 abbrev pub front_text : Table → Decoder → List ℕ
-front_text C d = headed d.message (root_word d.root ++ frames_text C (frames_above d.outer.items)) []
+front_text C d = headed d.message (root_word d.root ++ frames_text C (frames_above d.outer.items))
+    []
 
 -- the number that stands whole at the head of its octets is a primitive's, and a part of the
 -- innermost frame

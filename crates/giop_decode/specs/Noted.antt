@@ -1,5 +1,5 @@
--- What is noted of a reading, line by line: a header's request id, whether it expects a reply, the number of the last
--- enum, and the last string that is complete (meaning).
+-- What is noted of a reading, line by line: a header's request id, whether it expects a reply, the
+-- number of the last enum, and the last string that is complete (meaning).
 use Rattle.std.specs.Prelude.{ℕ, ◌%◌, ◌==◌, ◌&&◌, ◌||◌, Bool, true, false, cond, ltb, List, [], ◌∷◌, ◌++◌, length, Option, Some, None, codes}
 use Rattle.std.specs.Str.{bytes_eq}
 use Rattle.giop_cdr.specs.declared.prim.Primitive.TheVariants as prims
@@ -42,7 +42,14 @@ with_piece h octets = record {
 -- the end of a string: it is the last one, and no piece of another has come
 abbrev pub ended : Noted → Noted
 ended h =
-    record { request_id = h.request_id; status = h.status; expects_reply = h.expects_reply; name = name_if h.so_far; so_far = [] }
+    record {
+      request_id = h.request_id;
+      status = h.status;
+      expects_reply = h.expects_reply;
+      name =
+          name_if h.so_far;
+      so_far = [];
+    }
 
 -- a piece, with whether more of its string follow
 abbrev pub noted_piece : Noted → List ℕ → Bool → Noted
@@ -64,12 +71,19 @@ note_value is_id h (Number (Plain prims.ULong) n) = record {
   so_far = h.so_far;
 }
 note_value is_id h (Number (Enum count names) n) =
-    record { request_id = h.request_id; status = Some n; expects_reply = h.expects_reply; name = h.name; so_far = h.so_far }
+    record {
+      request_id = h.request_id;
+      status = Some n;
+      expects_reply = h.expects_reply;
+      name =
+          h.name;
+      so_far = h.so_far;
+    }
 note_value is_id h (Piece (Text bound) offset octets more) = noted_piece h octets more
 note_value is_id h value = h
 
--- Whether a reply is expected, after one value more: GIOP 1.0 and 1.1 say it by a boolean, 1.2 by bit 0 of an octet (GIOP
--- Message Formats, Request Header).
+-- Whether a reply is expected, after one value more: GIOP 1.0 and 1.1 say it by a boolean, 1.2 by
+-- bit 0 of an octet (GIOP Message Formats, Request Header).
 abbrev pub expects_after : Bool → List PathSegment → Value → Option Bool → Option Bool
 expects_after is_header path (Number (Plain prims.Boolean) n) before =
     cond (is_header && is_member (codes "response_expected") path) (Some (n % 2 == 1)) before
@@ -100,7 +114,13 @@ noted is_header h (l ∷ ls) = noted is_header (note is_header h l) ls
 
 -- before the first line
 abbrev pub nothing_noted : Noted
-nothing_noted = record { request_id = None; status = None; expects_reply = None; name = None; so_far = [] }
+nothing_noted = record {
+  request_id = None;
+  status = None;
+  expects_reply = None;
+  name = None;
+  so_far = [];
+}
 
 -- whether the innermost part is the content of a string: its length was read, and its end wasn't
 abbrev pub in_content : Leaf → Bool
@@ -122,11 +142,19 @@ ends_in_string (Fault lines at kind T) = is_text T
 abbrev pub without_name_if : Bool → Noted → Noted
 without_name_if false h = h
 without_name_if true h =
-    record { request_id = h.request_id; status = h.status; expects_reply = h.expects_reply; name = None; so_far = h.so_far }
+    record {
+      request_id = h.request_id;
+      status = h.status;
+      expects_reply = h.expects_reply;
+      name =
+          None;
+      so_far = h.so_far;
+    }
 
 -- what is noted of a reading
 abbrev pub noted_of : Bool → Read → Noted
-noted_of is_header r = without_name_if (ends_in_string r) (noted is_header nothing_noted (lines_of r))
+noted_of is_header r = without_name_if (ends_in_string r)
+    (noted is_header nothing_noted (lines_of r))
 
 -- whether a value is a string's last piece
 abbrev pub ends_text : Value → Bool

@@ -1,5 +1,5 @@
--- What is noted of a reading, from all of its lines at once: the request id of a header, whether it expects a reply, the
--- last of the enums, and the last of the strings that are whole (meaning).
+-- What is noted of a reading, from all of its lines at once: the request id of a header, whether it
+-- expects a reply, the last of the enums, and the last of the strings that are whole (meaning).
 use Rattle.std.specs.Prelude.{◌≡◌, ℕ, zero, suc, ◌+◌, ◌&&◌, Bool, true, false, cond, List, [], ◌∷◌, ◌++◌, length, take, drop, Option, Some, None, filter_map, flat_map, codes}
 use Rattle.std.specs.List.{AllByRecursion as Each, last_or}
 use Rattle.giop_cdr.specs.declared.prim.Primitive.TheVariants as prims
@@ -81,8 +81,8 @@ pieces_of content = cut_from (full_pieces (length content)) 0 content
 abbrev pub AreUnended : List TextPiece → Type 0
 AreUnended pieces = Each (λ p. p.more ≡ true) pieces
 
--- The strings of a reading, in their order: the contents of those that are whole, and the pieces of one that has
--- begun and not ended.
+-- The strings of a reading, in their order: the contents of those that are whole, and the pieces of
+-- one that has begun and not ended.
 pub record Strings (r : Read) : Type 0 where
   pub contents : List (List ℕ)
   pub begun : List TextPiece
@@ -106,6 +106,6 @@ pub record IsLeft (is_header : Bool) (r : Read) (h : Noted) : Type 0 where
   -- what the last line says that says whether the header expects a reply
   pub expects_reply : h.expects_reply ≡ last_or None (expectations is_header (lines_of r))
   pub strings : Strings r
-  -- the last whole string, of at most 128 octets; none between the last octet of a later one's length and
-  -- its end
+  -- the last whole string, of at most 128 octets; none between the last octet of a later one's
+  -- length and its end
   pub name : h.name ≡ cond (ends_in_string r) None (name_of (last_or None strings.contents))

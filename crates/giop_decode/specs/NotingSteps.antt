@@ -36,25 +36,31 @@ transition_in_string T (transitions.More leaf) = leaf_in_string T leaf
 transition_in_string T (transitions.Refused kind) = is_text T
 transition_in_string T transition = false
 
--- Inside a string no lines but its pieces are written: its length leads into it, and its last piece out of it.
+-- Inside a string no lines but its pieces are written: its length leads into it, and its last piece
+-- out of it.
 abbrev pub OutputFitsString : Ty → Bool → Transition → Output → Type 0
 OutputFitsString T was transition outputs.Nothing = transition_in_string T transition ≡ was
 OutputFitsString T was transition outputs.Length = transition_in_string T transition ≡ true
-OutputFitsString T was transition (outputs.Piece offset more) = transition_in_string T transition ≡ is_text T && more
-OutputFitsString T was transition output = (was ≡ false) × (transition_in_string T transition ≡ false)
+OutputFitsString T was transition (outputs.Piece offset more) =
+    transition_in_string T transition ≡ is_text T && more
+OutputFitsString T was transition output =
+    (was ≡ false) × (transition_in_string T transition ≡ false)
 
--- where in its string the unfinished piece begins after a transition, if it leads into a string or goes on in one
+-- where in its string the unfinished piece begins after a transition, if it leads into a string or
+-- goes on in one
 abbrev pub transition_offset : Ty → Transition → Option ℕ
 transition_offset T (transitions.More leaf) = string_offset T leaf
 transition_offset T transition = None
 
--- Where in its string the unfinished piece begins before and after an octet with this output, whose piece has so many
--- octets: a length leads into a string, a piece that isn't the last goes on behind its 32 octets, and the last leads out.
+-- Where in its string the unfinished piece begins before and after an octet with this output, whose
+-- piece has so many octets: a length leads into a string, a piece that isn't the last goes on
+-- behind its 32 octets, and the last leads out.
 abbrev pub OffsetMoves : Ty → Option ℕ → Option ℕ → Output → ℕ → Type 0
 OffsetMoves T was next outputs.Nothing n = next ≡ was
 OffsetMoves T was next outputs.Length n = (was ≡ None) × (next ≡ Some 0)
 OffsetMoves T was next (outputs.Piece offset true) n =
-    (was ≡ cond (is_text T) (Some offset) None) × (next ≡ cond (is_text T) (Some (offset + 32)) None) × (n ≡ 32)
+    (was ≡ cond (is_text T) (Some offset) None)
+    × (next ≡ cond (is_text T) (Some (offset + 32)) None) × (n ≡ 32)
 OffsetMoves T was next (outputs.Piece offset false) n =
     (cond (is_text T) None was ≡ None) × (next ≡ None)
 OffsetMoves T was next output n = (was ≡ None) × (next ≡ None)

@@ -1,10 +1,11 @@
--- How many octets have to come at least until a value ends, by the innermost part that is begun and not ended (meaning).
+-- How many octets have to come at least until a value ends, by the innermost part that is begun and
+-- not ended (meaning).
 use Rattle.std.specs.Prelude.{ℕ, ◌-◌, max, length}
 use Rattle.giop_decode.specs.ReadResult.{Leaf, LeadingNumber, Opening, Content, Read, Done, Short, Fault}
 use Rattle.giop_decode.specs.ReadingSteps.{leading_width}
 
--- How many octets of an innermost part have to come at least until it ends or breaks a rule: at least 1. The padding in front of
--- a number, and the zero behind a string, are not counted.
+-- How many octets of an innermost part have to come at least until it ends or breaks a rule: at
+-- least 1. The padding in front of a number, and the zero behind a string, are not counted.
 unfoldable pub octets_left : Leaf → ℕ
 octets_left (LeadingNumber T carry) = max 1 (leading_width T - length carry)
 octets_left (Opening T n) = 1

@@ -1,5 +1,5 @@
--- Octets that are taken together: numbers after their padding (CDR Transfer Syntax, Alignment), and the contents of
--- strings and octet sequences in pieces of 32 (docs/FORMATS.md; meaning).
+-- Octets that are taken together: numbers after their padding (CDR Transfer Syntax, Alignment), and
+-- the contents of strings and octet sequences in pieces of 32 (docs/FORMATS.md; meaning).
 use Rattle.std.specs.Prelude.{ℕ, zero, suc, ◌+◌, ◌-◌, ◌/◌, false, true, cond, ltb, eqb, List, [], ◌∷◌, length, take, drop, get_or, Option, Some, None}
 use Rattle.giop_cdr.specs.Alignment.{padding}
 use Rattle.giop_decode.specs.declared.progress.Kind.{Kind}
@@ -46,10 +46,12 @@ abbrev pub ends : Ty → ℕ → List ℕ → Option Kind
 ends (Text bound) n octets = cond (eqb (get_or octets n 0) 0) None (Some kinds.StringEnd)
 ends T n octets = None
 
--- the last piece of a content, or what has come of it: up to 32 octets from an offset in the content
+-- the last piece of a content, or what has come of it: up to 32 octets from an offset in the
+-- content
 abbrev pub last_piece : Ty → List PathSegment → ℕ → ℕ → Block → Read
 last_piece T path total offset (Partial piece at) = Short [] at [] (Content T total offset piece)
-last_piece T path total offset (Complete octets at rest) = unless T (ends T (total - offset) octets) at
+last_piece T path total offset (Complete octets at rest) =
+    unless T (ends T (total - offset) octets) at
     (Done (line at path (Piece T offset (take (total - offset) octets) false) ∷ []) at rest)
 
 -- a piece of 32 octets at an offset in the content, and what is read next
@@ -59,14 +61,16 @@ full_piece T path total offset next (Partial piece at) =
 full_piece T path total offset next (Complete octets at rest) =
     with_front (line at path (Piece T offset octets true) ∷ []) (next at rest)
 
--- a content of so many octets, of which so many pieces more aren't the last, from an offset in it on
+-- a content of so many octets, of which so many pieces more aren't the last, from an offset in it
+-- on
 abbrev pub content : Ty → List PathSegment → ℕ → ℕ → ℕ → ℕ → List ℕ → Read
 content T path total zero offset at s =
     last_piece T path total offset (block (total - offset + tail T) at s)
 content T path total (suc full) offset at s =
     full_piece T path total offset (content T path total full (offset + 32)) (block 32 at s)
 
--- after the length of a string, which counts its zero: a string of length 0 is the empty one, and ends there
+-- after the length of a string, which counts its zero: a string of length 0 is the empty one, and
+-- ends there
 abbrev pub text : Option ℕ → List PathSegment → ℕ → ℕ → List ℕ → Read
 text bound path zero at rest = Done (line at path (Piece (Text bound) 0 [] false) ∷ []) at rest
 text bound path (suc n) at rest =

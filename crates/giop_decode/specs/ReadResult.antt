@@ -1,4 +1,5 @@
--- The result of reading a value: its lines, and the parts that it has begun and not ended (meaning).
+-- The result of reading a value: its lines, and the parts that it has begun and not ended
+-- (meaning).
 use Rattle.std.specs.Prelude.{ℕ, Bool, List, ◌∷◌, ◌++◌, Option}
 use Rattle.giop_cdr.specs.declared.order.Order.{Order}
 use Rattle.giop_decode.specs.declared.progress.Kind.{Kind}
@@ -6,8 +7,8 @@ use Rattle.giop_sig.specs.Types.{Scalar, Ty}
 
 -- ---- lines
 
--- one step of a path: a member, an element, a discriminator with its name if it has one, or what an encapsulation
--- holds, which has the encapsulation's own path
+-- one step of a path: a member, an element, a discriminator with its name if it has one, or what an
+-- encapsulation holds, which has the encapsulation's own path
 pub data PathSegment : Type 0 where
   Name : List ℕ → PathSegment
   Index : ℕ → PathSegment
@@ -23,8 +24,8 @@ pub data Value : Type 0 where
   -- of an encapsulation: how many octets it has, and their byte order
   Size : ℕ → Value
   Ordered : Order → Value
-  -- a piece of a string, an octet sequence or the rest of an encapsulation: where in the content it begins, its octets,
-  -- and whether more follow
+  -- a piece of a string, an octet sequence or the rest of an encapsulation: where in the content it
+  -- begins, its octets, and whether more follow
   Piece : Ty → ℕ → List ℕ → Bool → Value
 
 -- a line: the offset just past the last octet of its value, its path below the root, and the value
@@ -69,14 +70,15 @@ pub data Leaf : Type 0 where
   LeadingNumber : Ty → List ℕ → Leaf
   -- the octet with the byte order of an encapsulation, and how many octets stand behind it
   Opening : Ty → ℕ → Leaf
-  -- the content of a string or an octet sequence, or the rest of an encapsulation: how long it is, where the piece begins, and
-  -- what is there of the piece
+  -- the content of a string or an octet sequence, or the rest of an encapsulation: how long it is,
+  -- where the piece begins, and what is there of the piece
   Content : Ty → ℕ → ℕ → List ℕ → Leaf
 
 -- ---- readings
 
--- The result of a reading: its lines, the offset at its end, and what follows it; or the parts begun and not ended, the
--- outermost first; or the fault, the offset just past its octet, and the type whose value has it.
+-- The result of a reading: its lines, the offset at its end, and what follows it; or the parts
+-- begun and not ended, the outermost first; or the fault, the offset just past its octet, and the
+-- type whose value has it.
 pub data Read : Type 0 where
   Done : List Line → ℕ → List ℕ → Read
   Short : List Line → ℕ → List OpenPart → Leaf → Read

@@ -1,4 +1,5 @@
--- Reading a value of a type from a whole list of octets, by recursion on the type (CDR Transfer Syntax; meaning).
+-- Reading a value of a type from a whole list of octets, by recursion on the type (CDR Transfer
+-- Syntax; meaning).
 use Rattle.std.specs.Prelude.{ℕ, zero, suc, ◌+◌, ◌-◌, cond, ltb, List, [], ◌∷◌, ◌++◌, take, drop, get_or, Option, Some, None}
 use Rattle.giop_cdr.specs.Numbers.{num}
 use Rattle.giop_cdr.specs.declared.order.Order.{Order}
@@ -65,14 +66,16 @@ abbrev pub rest_of : List PathSegment → Ty → ℕ → ℕ → List ℕ → Re
 rest_of path T zero at s = Done [] at s
 rest_of path T (suc n) at s = content T path (suc n) (full_pieces (suc n)) 0 at s
 
--- the type whose value an encapsulation's end cuts off: a content whose length was read, or the encapsulation itself
+-- the type whose value an encapsulation's end cuts off: a content whose length was read, or the
+-- encapsulation itself
 abbrev pub cut_off : Leaf → Ty
 cut_off (Content T total offset piece) = T
 cut_off (LeadingNumber T carry) = Encapsulation T
 cut_off (Opening T n) = Encapsulation T
 
--- An encapsulation that ends at this offset, of which a value was read so far, and what follows the octets read: the value
--- has ended, and what is left is the rest; or it needs an octet more, of which there is none where its octets have ended.
+-- An encapsulation that ends at this offset, of which a value was read so far, and what follows the
+-- octets read: the value has ended, and what is left is the rest; or it needs an octet more, of
+-- which there is none where its octets have ended.
 abbrev pub enclosed : List PathSegment → Ty → Coding → ℕ → Read → List ℕ → Read
 enclosed path T coding end (Done lines at rest) more =
     with_front lines (rest_of path T (end - at) at (rest ++ more))
@@ -82,12 +85,14 @@ enclosed path T coding end (Short lines at outer leaf) more =
 enclosed path T coding end (Fault lines at kind S) more = Fault lines at kind S
 
 -- The reading of a value sees none but the n octets.
-abbrev pub inside : List PathSegment → Ty → (Coding → ℕ → List ℕ → Read) → Coding → ℕ → ℕ → List ℕ → Read
+abbrev pub inside : List PathSegment → Ty → (Coding → ℕ → List ℕ → Read) → Coding → ℕ → ℕ → List ℕ →
+    Read
 inside path T value coding n at s =
     enclosed path T coding (at + n) (value coding at (take n s)) (drop n s)
 
 -- after the octet that gives the byte order, from which alignment is counted
-abbrev pub ordered : List PathSegment → Ty → (Coding → ℕ → List ℕ → Read) → ℕ → ℕ → Option Order → ℕ →
+abbrev pub ordered : List PathSegment → Ty → (Coding → ℕ → List ℕ → Read) → ℕ → ℕ → Option Order →
+    ℕ →
     List ℕ → Read
 ordered path T value origin n None at rest = Fault [] at kinds.EncapOrder T
 ordered path T value origin n (Some order) at rest =
@@ -107,16 +112,19 @@ sized path T value (suc n) at s = opening path T value at n (block 1 at s)
 
 -- ---- any type
 
--- read coding path T at s: a value of T from the list s, whose first octet is at that offset of the message
+-- read coding path T at s: a value of T from the list s, whose first octet is at that offset of the
+-- message
 abbrev pub read : Coding → List PathSegment → Ty → ℕ → List ℕ → Read
 read coding path (Single scalar) at s =
-    after_leading_number (Single scalar) (λ xs at rest. single path scalar (num coding.order xs) at rest)
+    after_leading_number (Single scalar) (λ xs at rest.
+    single path scalar (num coding.order xs) at rest)
     (number coding.origin (width scalar) at s)
 read coding path (Text bound) at s =
     after_leading_number (Text bound) (λ xs at rest. text bound path (num coding.order xs) at rest)
     (number coding.origin 4 at s)
 read coding path (Octets bound) at s =
-    after_leading_number (Octets bound) (λ xs at rest. octets bound path (num coding.order xs) at rest)
+    after_leading_number (Octets bound) (λ xs at rest.
+    octets bound path (num coding.order xs) at rest)
     (number coding.origin 4 at s)
 read coding path (Struct count names parts) at s =
     parts_from (λ i at s. within (Part (Struct count names parts) i count)

@@ -21,12 +21,13 @@ number_step origin n at [] b =
     cond (ltb 0 (padding (at - origin) n)) (Partial [] (at + 1)) (block_step n at [] b)
 number_step origin n at (x ∷ carry) b = block_step n at (x ∷ carry) b
 
--- Octets that leave a number incomplete, one after another: what is held after them, where the first is at this offset
--- modulo 8.
+-- Octets that leave a number incomplete, one after another: what is held after them, where the
+-- first is at this offset modulo 8.
 abbrev pub AreHeld : ℕ → ℕ → List ℕ → List ℕ → List ℕ → Type 0
 AreHeld n at held [] new = new ≡ held
 AreHeld n at held (b ∷ more) new = (next : List ℕ)
-    × ((origin here : ℕ) → (here - origin) % 8 ≡ at → number_step origin n here held b ≡ Partial next (here + 1))
+    × ((origin here : ℕ) → (here - origin) % 8 ≡ at →
+    number_step origin n here held b ≡ Partial next (here + 1))
     × AreHeld n ((at + 1) % 8) next more new
 
 -- the width of the number that begins a type
@@ -112,7 +113,8 @@ resumed coding path (Inside T inner end) r = enclosed path T inner end r []
 abbrev pub around : Coding → List PathSegment → List OpenPart → Read → Read
 around coding path [] r = r
 around coding path (place ∷ outer) r =
-    resumed coding path place (around (coding_at coding place) (path ++ segment_in place ∷ []) outer r)
+    resumed coding path place (around (coding_at coding place) (path ++ segment_in place ∷ []) outer
+    r)
 
 -- the path inside open parts
 abbrev pub path_in : List PathSegment → List OpenPart → List PathSegment
@@ -147,8 +149,8 @@ OneAt n [] = Unit {0}
 OneAt n (l ∷ []) = l.at ≡ n
 OneAt n (l ∷ l' ∷ ls) = ⊥
 
--- the lines at the octet of a fault: none of a value that breaks a rule, while the last octet of an encapsulation may
--- have the line of what it completes
+-- the lines at the octet of a fault: none of a value that breaks a rule, while the last octet of an
+-- encapsulation may have the line of what it completes
 abbrev pub Faulted : ℕ → Kind → List Line → Type 0
 Faulted n kinds.EncapShort lines = OneAt n lines
 Faulted n why lines = lines ≡ []

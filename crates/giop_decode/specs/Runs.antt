@@ -37,7 +37,8 @@ Answers order T at root s octet p =
     (names_operation (is_header_root root) (added_lines order T at s octet)) p
     (read (plain order) [] T at (s ++ octet ∷ []))
 
--- Octets more, one after another: after each but the last the value goes on, and no operation has ended there.
+-- Octets more, one after another: after each but the last the value goes on, and no operation has
+-- ended there.
 abbrev pub AreAnswered : Order → Ty → ℕ → Root → List ℕ → List ℕ → Progress → Type 0
 AreAnswered order T at root s [] p = p ≡ progress.More
 AreAnswered order T at root s (octet ∷ []) p = Answers order T at root s octet p
@@ -45,16 +46,16 @@ AreAnswered order T at root s (octet ∷ next ∷ more) p =
     Answers order T at root s octet progress.More
     × AreAnswered order T at root (s ++ octet ∷ []) (next ∷ more) p
 
--- A decoder that read a list gives this answer to these octets more: then it reads the longer list, unless that is
--- faulted.
+-- A decoder that read a list gives this answer to these octets more: then it reads the longer list,
+-- unless that is faulted.
 pub record TakesRun (C : Table) (T : Ty) (order : Order) (at message : ℕ) (root : Root)
     (d : Decoder) (s octets : List ℕ) (p : Progress) : Type 0 where
   pub answers : AreAnswered order T at root s octets p
   pub reads : (IsFault p → ⊥) → Reads C T order at message root d (s ++ octets)
   pub keeps_noted : KeepsNoted root d (read (plain order) [] T at (s ++ octets))
 
--- A put failed at one of these octets, before which the value went on: a front of the lines up to it
--- was written.
+-- A put failed at one of these octets, before which the value went on: a front of the lines up to
+-- it was written.
 pub record BreaksOff (T : Ty) (order : Order) (at message : ℕ) (root : Root) (s octets : List ℕ)
     (before after : OutLog) : Type 0 where
   pub front : List ℕ
@@ -75,8 +76,7 @@ WritesRun result T order at message root s octets before after =
     (λ _. BreaksOff T order at message root s octets before after)
 
 -- Some of these octets are taken as a run, by a decoder that becomes this new one: how many, with
--- the answer to the last
--- of them, or a put failed.
+-- the answer to the last of them, or a put failed.
 pub record TakesSome {E : Type 0} (C : Table) (old new : Decoder) (octets : List ℕ)
     (before after : OutLog) (result : Result (ℕ × Progress) E) : Type 0 where
   -- of any list that the old decoder reads: the lines of those that are taken are written
@@ -113,7 +113,8 @@ AllGathered C d new octets = (T : Ty) (order : Order) (at message : ℕ) (root :
 -- what is held after octets that only add to it
 abbrev pub Adds : Table → Decoder → Innermost → List ℕ → List ℕ → List ℕ → Type 0
 Adds C d (innermost.Number of) octets carry piece =
-    AreHeld (leading_width (tree C of.0)) (coding_by d.order d.at d.outer.items).1 d.carry octets carry
+    AreHeld (leading_width (tree C of.0)) (coding_by d.order d.at d.outer.items).1 d.carry octets
+    carry
     × (piece ≡ d.piece.items)
 Adds C d (innermost.Opening of count) octets carry piece = ⊥
 Adds C d (innermost.Content of total offset) octets carry piece =
@@ -121,8 +122,9 @@ Adds C d (innermost.Content of total offset) octets carry piece =
     × (32 < total - offset → length piece < 32)
     × (total - offset ≤ 32 → length piece < total - offset + tail (tree C of.0))
 
--- So many octets stand at the head of these, and no encapsulation ends before the last of them. All but the last only add
--- to what is held, and the last does this step: a piece that it gives are the octets that are held, and the rest.
+-- So many octets stand at the head of these, and no encapsulation ends before the last of them. All
+-- but the last only add to what is held, and the last does this step: a piece that it gives are the
+-- octets that are held, and the rest.
 pub record TakenTogether (C : Table) (d : Decoder) (octets : List ℕ) (of : TypeId) (count : ℕ)
     (step : Step) (rest : List ℕ) : Type 0 where
   pub leaf : Innermost
@@ -140,15 +142,18 @@ pub record TakenTogether (C : Table) (d : Decoder) (octets : List ℕ) (of : Typ
   pub transition_fits : TransitionFits (tree C of.0) of.0 step.transition d.carry
       (still_held step.output d.piece.items)
   pub has_output : HasOutput (tree C of.0) step.output
-  pub output_fits_string : OutputFitsString (tree C of.0) (leaf_in_string (tree C of.0) leaf) step.transition step.output
-  pub string_goes_on : StringGoesOn (tree C of.0) (string_offset (tree C of.0) leaf) step.transition step.output
+  pub output_fits_string : OutputFitsString (tree C of.0) (leaf_in_string (tree C of.0) leaf)
+      step.transition step.output
+  pub string_goes_on : StringGoesOn (tree C of.0) (string_offset (tree C of.0) leaf) step.transition
+      step.output
       (length (d.piece.items ++ rest))
   pub lines : Coding → List PathSegment → ℕ → List Line
   pub comes : (coding : Coding) (path : List PathSegment) (here : ℕ) →
       coding.order ≡ (coding_by d.order d.at d.outer.items).0 →
       (here - coding.origin) % 8 ≡ ((coding_by d.order d.at d.outer.items).1 + (count - 1)) % 8 →
       leaf_step coding path (leaf_of C leaf carry piece) here (get_or octets (count - 1) 0)
-      ≡ after_transition C (tree C of.0) step.transition d.carry (still_held step.output d.piece.items)
+      ≡ after_transition C (tree C of.0) step.transition d.carry
+      (still_held step.output d.piece.items)
       (lines coding path here) (here + 1)
   pub says : (coding : Coding) (path : List PathSegment) (here : ℕ) →
       IsOutput (tree C of.0) path (here + 1) step.output (d.piece.items ++ rest)

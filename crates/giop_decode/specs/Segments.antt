@@ -31,8 +31,8 @@ abbrev pub frames_text : Table → List Frame → List ℕ
 frames_text C [] = []
 frames_text C (f ∷ outer) = segment_text (segment_in (open_part C 0 f)) ++ frames_text C outer
 
--- where the innermost part stands, or its discriminator: its root, the frames around it, and the union whose
--- discriminator is meant
+-- where the innermost part stands, or its discriminator: its root, the frames around it, and the
+-- union whose discriminator is meant
 pub record PathView : Type 0 where
   pub table : Table
   pub root : Root

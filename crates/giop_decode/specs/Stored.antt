@@ -1,11 +1,13 @@
--- What a checkpoint keeps of a decoder that goes on, as octets (docs/FORMATS.md; state). A decoder has 208 octets of its own:
+-- What a checkpoint keeps of a decoder that goes on, as octets (docs/FORMATS.md; state). A decoder
+-- has 208 octets of its own:
 --
 --     at  octets
 --      0       1  byte order: 0 big, 1 little
 --      1       1  root: 0 header, 1 repository id, 2 body
 --      2       8  number of its message
 --     10       1  offset of its next octet in the message, modulo 8
---     11       1  innermost part: 0 the number that begins it, 1 its content, 2 the octet with an encapsulation's byte order
+-- 11 1 innermost part: 0 the number that begins it, 1 its content, 2 the octet with an
+-- encapsulation's byte order
 --     12       4  its type
 --     16       4  octets of the content, or of the encapsulation; 0 in a number
 --     20       4  where in the content the unfinished piece begins; else 0
@@ -18,11 +20,12 @@
 --    206       1  whether a header expects a reply: 0 not read, 1 no, 2 yes
 --    207       1  zero
 --
--- and a frame of 24 octets for each part that is begun and not ended, the outermost first: its type, the index of its own part
--- that is being read, how many it has (0 in a union), and 12 zeros. Of an encapsulation whose byte order was read the index is
--- how many of its octets were taken and the count how many it has, and the first of the zeros is 1 for big or 2 for little. The
--- last frame is the innermost part's: its type and zeros.
--- Numbers are big-endian; held octets are followed by zeros.
+-- and a frame of 24 octets for each part that is begun and not ended, the outermost first: its
+-- type, the index of its own part that is being read, how many it has (0 in a union), and 12 zeros.
+-- Of an encapsulation whose byte order was read the index is how many of its octets were taken and
+-- the count how many it has, and the first of the zeros is 1 for big or 2 for little. The last
+-- frame is the innermost part's: its type and zeros. Numbers are big-endian; held octets are
+-- followed by zeros.
 use Rattle.std.specs.Prelude.{◌≡◌, ℕ, ◌+◌, ◌^◌, ◌<◌, ◌≤◌, Bool, true, false, List, [], ◌∷◌, ◌++◌, length, replicate, Option, Some, None, IfSome}
 use Rattle.std.specs.List.{flat_map, AllByRecursion}
 use Rattle.giop_cdr.specs.declared.order.Order.{Order}

@@ -10,7 +10,8 @@ use Rattle.giop_sig.specs.Types.{Text}
 use Rattle.giop_sig.specs.Table.{Table}
 use Rattle.giop_sig.specs.Trees.{tree}
 
--- Its length stands at the head of these octets and leads into a content of one piece, which stands behind it with a zero.
+-- Its length stands at the head of these octets and leads into a content of one piece, which stands
+-- behind it with a zero.
 pub record IsTextAhead (C : Table) (d : Decoder) (octets : List ℕ) (text : TextAhead) : Type 0 where
   pub bound : Option ℕ
   pub is : tree C text.of.0 ≡ Text bound

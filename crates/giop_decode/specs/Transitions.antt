@@ -1,4 +1,5 @@
--- What the fields of a decoder stand for, and the transition of its innermost part at one octet (steps).
+-- What the fields of a decoder stand for, and the transition of its innermost part at one octet
+-- (steps).
 use Rattle.std.specs.Prelude.{◌≡◌, ℕ, ◌+◌, ◌-◌, ◌<◌, ◌≤◌, ◌^◌, ◌%◌, Bool, true, false, cond, eqb, List, [], ◌∷◌, ◌++◌, length, map, take, get_or, Option, Some, None, IfSome}
 use Rattle.giop_cdr.specs.Numbers.{num}
 use Rattle.giop_decode.specs.ReadingSteps.{AreHeld, leading_width, number_step}
@@ -27,10 +28,12 @@ use Rattle.giop_sig.specs.Trees.{tree}
 
 -- in a union the index is that of a case
 abbrev pub part_in : Ty → ℕ → ℕ → OpenPart
-part_in (Union choice scalar select names cases) i count = Member (Union choice scalar select names cases) i
+part_in (Union choice scalar select names cases) i count =
+    Member (Union choice scalar select names cases) i
 part_in T i count = Part T i count
 
--- Of an encapsulation the index is how many of its octets stand in front of this offset, and the count how many it has.
+-- Of an encapsulation the index is how many of its octets stand in front of this offset, and the
+-- count how many it has.
 abbrev pub open_part_in : ℕ → Option Order → Ty → ℕ → ℕ → OpenPart
 open_part_in here None T i count = part_in T i count
 open_part_in here (Some order) T i count = Inside T (coded order (here - i)) (here + (count - i))
@@ -45,7 +48,8 @@ open_parts C here frames = map (open_part C here) frames
 
 -- an index and a count of an encapsulation, or of another type
 abbrev pub IsWithin : Option Order → ℕ → ℕ → Ty → Type 0
-IsWithin None i count T = HasPlace (shape_in T) i × (IsEncapsulation T → ⊥) × (IsUnion (shape_in T) → count ≡ 0)
+IsWithin None i count T = HasPlace (shape_in T) i × (IsEncapsulation T → ⊥)
+    × (IsUnion (shape_in T) → count ≡ 0)
 IsWithin (Some order) i count T = IsEncapsulation T × (0 < i) × (i ≤ count)
 
 -- a frame of a type of the table, which has a part of that index; a union's has no count
@@ -79,7 +83,8 @@ part_index (Some order) i = 0
 -- each frame is of the part that the one before is at, from the root to the innermost part
 abbrev pub Link : Table → ℕ → List Frame → ℕ → Type 0
 Link C root [] inner = inner ≡ root
-Link C root (f ∷ frames) inner = (f.of.0 ≡ root) × Link C (part_number C root (part_index f.inside f.index)) frames inner
+Link C root (f ∷ frames) inner = (f.of.0 ≡ root)
+    × Link C (part_number C root (part_index f.inside f.index)) frames inner
 
 -- a type that begins with its first part
 abbrev pub IsWhole : Ty → ℕ → Type 0
@@ -126,7 +131,13 @@ ticked_at None i = i
 ticked_at (Some order) i = i + 1
 
 abbrev pub tick_of : Frame → Frame
-tick_of f = record { of = f.of; index = ticked_at f.inside f.index; count = f.count; inside = f.inside }
+tick_of f = record {
+  of = f.of;
+  index = ticked_at f.inside f.index;
+  count = f.count;
+  inside =
+      f.inside;
+}
 
 -- an octet more in each encapsulation
 abbrev pub ticked : List Frame → List Frame
@@ -155,7 +166,8 @@ coding_of c (Some order) i = (order, i % 8)
 -- the byte order of the innermost part, and the offset, modulo 8, by which its numbers are aligned
 abbrev pub coding_by : Order → ℕ → List Frame → Order × ℕ
 coding_by order at [] = (order, at)
-coding_by order at (f ∷ frames) = (let c = coding_of (order, at) f.inside f.index in coding_by c.0 c.1 frames)
+coding_by order at (f ∷ frames) = (let c = coding_of (order, at) f.inside f.index in
+    coding_by c.0 c.1 frames)
 
 -- whether an encapsulation has ended
 abbrev pub has_ended : List Frame → Bool
@@ -164,7 +176,8 @@ has_ended frames = list_any (λ f. ended_at f.inside f.index f.count) frames
 -- an innermost part that goes on in these frames, unless one of them has ended
 abbrev pub gone_to : Table → List Line → ℕ → List Frame → Leaf → Read
 gone_to C lines at frames leaf =
-    cond (has_ended frames) (Fault lines at kinds.EncapShort (cut_off leaf)) (Short lines at (open_parts C at frames) leaf)
+    cond (has_ended frames) (Fault lines at kinds.EncapShort (cut_off leaf))
+    (Short lines at (open_parts C at frames) leaf)
 
 -- the reading after a part has ended, at this offset, by the innermost part that comes next
 abbrev pub gone_on : Table → ℕ → List Frame → Option Innermost → Read
@@ -175,7 +188,8 @@ gone_on C at outer (Some leaf) = gone_to C [] at outer (leaf_of C leaf [] [])
 
 -- the reading of an innermost part after a transition, with these lines at this offset
 abbrev pub after_transition : Table → Ty → Transition → List ℕ → List ℕ → List Line → ℕ → Read
-after_transition C T (transitions.More leaf) carry piece lines at = Short lines at [] (leaf_of C leaf carry piece)
+after_transition C T (transitions.More leaf) carry piece lines at =
+    Short lines at [] (leaf_of C leaf carry piece)
 after_transition C T transitions.Ended carry piece lines at = Done lines at []
 after_transition C T (transitions.Opened count) carry piece lines at =
     Short lines at (Part T 0 count ∷ start_outer (part_of T 0)) (start_leaf (part_of T 0))
@@ -188,7 +202,8 @@ after_transition C T (transitions.Refused kind) carry piece lines at = Fault lin
 
 -- parts follow only where there are some, and an innermost part that goes on is of the same type
 abbrev pub TransitionFits : Ty → ℕ → Transition → List ℕ → List ℕ → Type 0
-TransitionFits T of (transitions.More leaf) carry piece = (leaf_type leaf ≡ of) × IsClean leaf carry piece
+TransitionFits T of (transitions.More leaf) carry piece =
+    (leaf_type leaf ≡ of) × IsClean leaf carry piece
 TransitionFits T of (transitions.Opened count) carry piece = HasParts T count × (0 < count)
 TransitionFits T of (transitions.Selected i) carry piece = HasCase T i
 TransitionFits T of (transitions.Entered order count) carry piece = IsEncapsulation T × (0 < count)
@@ -238,9 +253,10 @@ HasOutput T (outputs.Switch number) = IsUnion (shape_in T) × IsNumberOf (switch
 HasOutput T (outputs.Piece offset more) = HasContent T
 HasOutput T output = Unit {0}
 
--- the reading is that after this transition, with the line of this output, where these octets are held until it is
--- written
-pub record TransitionGives (C : Table) (T : Ty) (transition : Transition) (output : Output) (carry piece : List ℕ)
+-- the reading is that after this transition, with the line of this output, where these octets are
+-- held until it is written
+pub record TransitionGives (C : Table) (T : Ty) (transition : Transition) (output : Output)
+    (carry piece : List ℕ)
     (path : List PathSegment) (at : ℕ) (read : Read) : Type 0 where
   pub lines : List Line
   pub comes : read ≡ after_transition C T transition carry (still_held output piece) lines at
@@ -256,15 +272,16 @@ abbrev pub block_of : Bool → List ℕ → ℕ → Block
 block_of true held at = Complete held at []
 block_of false held at = Partial held at
 
--- The octets of a number of this width stand whole at the head of others, after its padding, where the first is at this
--- offset modulo 8: all up to the last of them are held until that comes.
+-- The octets of a number of this width stand whole at the head of others, after its padding, where
+-- the first is at this offset modulo 8: all up to the last of them are held until that comes.
 pub record StandsWhole (width at : ℕ) (octets : List ℕ) (count : ℕ) (all : List ℕ) : Type 0 where
   pub some : 0 < count
   pub within : count ≤ length octets
   pub held : List ℕ
   pub are_held : AreHeld width at [] (take (count - 1) octets) held
   pub last : (origin here : ℕ) → (here - origin) % 8 ≡ (at + (count - 1)) % 8 →
-      number_step origin width here held (get_or octets (count - 1) 0) ≡ block_of true all (here + 1)
+      number_step origin width here held (get_or octets (count - 1) 0)
+      ≡ block_of true all (here + 1)
 
 -- a number of a type, whose octets stand so
 pub record IsWholeNumber (T : Ty) (order : Order) (at : ℕ) (octets : List ℕ) (count : ℕ)

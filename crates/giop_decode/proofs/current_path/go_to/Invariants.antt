@@ -6,6 +6,7 @@ use Rattle.giop_decode.proofs.current_path.go_to.Given as goal
 
 abbrev pub invariant-loop-frame : goal.invariant-loop-frame
 invariant-loop-frame l = record {
-  text : (here : ℕ) → l.path.text ≡ path_text l.fn.root (path_in [] (open_parts l.catalogue here (take l.frame-index l.outer)));
+  text : (here : ℕ) → l.path.text ≡ path_text l.fn.root
+      (path_in [] (open_parts l.catalogue here (take l.frame-index l.outer)));
   segments : l.path.segments ≤ l.frame-index;
 }

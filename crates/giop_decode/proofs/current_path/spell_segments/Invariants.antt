@@ -5,8 +5,10 @@ use Rattle.giop_decode.proofs.current_path.spell_segments.Given as goal
 
 abbrev pub invariant-loop-left : goal.invariant-loop-left
 invariant-loop-left l = record {
-  text : line_text l.line ≡ frames_text l.catalogue (drop l.left l.outer) ++ line_text l.initial.line;
-  room : line_room l.line + length (frames_text l.catalogue (drop l.left l.outer)) ≡ line_room l.initial.line;
+  text : line_text l.line ≡ frames_text l.catalogue (drop l.left l.outer)
+      ++ line_text l.initial.line;
+  room : line_room l.line + length (frames_text l.catalogue (drop l.left l.outer))
+      ≡ line_room l.initial.line;
   within : l.left ≤ length l.outer;
 }
 

@@ -6,6 +6,7 @@ pub loop-frame-preserved : goal.loop-frame-preserved
 loop-frame-preserved c =
     let e = c.before_last-count.ensures in (
       omega (arith, e.within, c.loop-frame.invariant.0),
-      before_more c.args.outer.now c.loop-frame.frame-index c.loop-frame.count c.before_last-count.result _ c.loop-frame-test.true e.within
+      before_more c.args.outer.now c.loop-frame.frame-index c.loop-frame.count
+          c.before_last-count.result _ c.loop-frame-test.true e.within
           c.loop-frame.invariant.1 e.ahead,
     )

@@ -16,16 +16,25 @@ loop-count-preserved c =
     let e : pred d ≡ 24 - length c.push.new.self.items = omega (arith, c.push.ensures.len) in
     record {
       known = omega (arith, c.part-inner.ensures.below, c.loop-count.invariant.known);
-      known_outer = rw c.push.ensures.items (all_push (IsKnown t) old _ c.loop-count.invariant.known_outer
-          (record { known = c.loop-count.invariant.known; within = (b.placed, b.bare, b.uncounted) }));
+      known_outer = rw c.push.ensures.items
+          (all_push (IsKnown t) old _ c.loop-count.invariant.known_outer
+          (record {
+            known = c.loop-count.invariant.known;
+            within =
+                (b.placed, b.bare, b.uncounted);
+          }));
       fit = rw (← e, c.part-inner.ensures.tree) b.fit;
-      placed = λ at. rw (c.push.ensures.items, map_push, c.part-inner.ensures.tree) (begins_places d (open_parts t at old) T c.in-Some.count b
+      placed = λ at. rw (c.push.ensures.items, map_push, c.part-inner.ensures.tree)
+          (begins_places d (open_parts t at old) T c.in-Some.count b
           ∙ c.loop-count.invariant.placed at);
       ended = rw c.push.ensures.items (ended_push old _ refl ∙ c.loop-count.invariant.ended);
-      inside = rw (c.push.ensures.items, inside_push) (or_false (is_inside old) ∙ c.loop-count.invariant.inside);
-      stand = λ at h. rw c.push.ensures.items (stand_push at old _ (c.loop-count.invariant.stand at h) tt);
+      inside = rw (c.push.ensures.items, inside_push)
+          (or_false (is_inside old) ∙ c.loop-count.invariant.inside);
+      stand = λ at h. rw c.push.ensures.items
+          (stand_push at old _ (c.loop-count.invariant.stand at h) tt);
       leaf = rw c.part-inner.ensures.tree (sym b.leaf ∙ c.loop-count.invariant.leaf);
-      linked = λ root h. link_push t root old c.push.new.self.items c.loop-count.inner.0 c.part-inner.result.0 _ refl c.push.ensures.items
+      linked = λ root h. link_push t root old c.push.new.self.items c.loop-count.inner.0
+          c.part-inner.result.0 _ refl c.push.ensures.items
           c.part-inner.ensures.number (c.loop-count.invariant.linked root h);
     }
 

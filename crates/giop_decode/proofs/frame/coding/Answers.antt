@@ -4,8 +4,10 @@ use Rattle.giop_decode.proofs.frame.coding.Goals as goal
 
 pub loop-frame-preserved : goal.loop-frame-preserved
 loop-frame-preserved c =
-    coding_step c.args.order c.args.at c.args.outer.now c.loop-frame.frame-index _ _ _ _ c.loop-frame-test.true refl c.loop-frame.invariant
+    coding_step c.args.order c.args.at c.args.outer.now c.loop-frame.frame-index _ _ _ _
+    c.loop-frame-test.true refl c.loop-frame.invariant
     c.coding_at-coding.ensures
 
 pub returns-then-not-inside : goal.returns-then-not-inside
-returns-then-not-inside c = sym (free_coding_by c.args.order c.args.at c.args.outer.now (sym c.requires ∙ c.if-not-inside.true))
+returns-then-not-inside c = sym (free_coding_by c.args.order c.args.at c.args.outer.now
+    (sym c.requires ∙ c.if-not-inside.true))

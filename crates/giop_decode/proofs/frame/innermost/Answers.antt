@@ -9,4 +9,5 @@ returns-clause-some c =
     let i = c.len-depth.result - 1 in
     let none : Frame = record { of = record { 0 = 0 }; index = 0; count = 0; inside = None } in
     subst (λ xs. xs ≡ frames_above xs ++ get_or c.deref.result.now i none ∷ []) c.deref.ensures.0
-    (last_frame c.deref.result.now i none (rw c.deref.ensures.0 (omega (arith, c.len-depth.ensures.value, c.if-depth-eq0.false))))
+    (last_frame c.deref.result.now i none (rw c.deref.ensures.0
+    (omega (arith, c.len-depth.ensures.value, c.if-depth-eq0.false))))

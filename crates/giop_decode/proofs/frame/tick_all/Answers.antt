@@ -5,7 +5,8 @@ use Rattle.giop_decode.proofs.frame.tick_all.Goals as goal
 
 pub loop-frame-preserved : goal.loop-frame-preserved
 loop-frame-preserved c =
-    counted_more (tick_by_of c.args.octets) c.loop-frame.frame-index c.loop-frame.frame-items _ _ _ c.loop-frame.invariant (omega arith)
+    counted_more (tick_by_of c.args.octets) c.loop-frame.frame-index c.loop-frame.frame-items _ _ _
+    c.loop-frame.invariant (omega arith)
     c.counted_by.ensures.ticked
 
 pub counted_by-requires : goal.counted_by-requires

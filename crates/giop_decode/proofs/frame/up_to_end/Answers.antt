@@ -4,18 +4,23 @@ use Rattle.giop_decode.proofs.Counting.{ahead_fewer, ahead_free}
 use Rattle.giop_decode.proofs.frame.up_to_end.Goals as goal
 
 pub returns-then-not-inside-clause-head : goal.returns-then-not-inside-clause-head
-returns-then-not-inside-clause-head c = sym (take_all (length c.args.octets.now) c.args.octets.now (omega arith))
+returns-then-not-inside-clause-head c = sym (take_all (length c.args.octets.now) c.args.octets.now
+    (omega arith))
 
 pub returns-then-not-inside-clause-ahead : goal.returns-then-not-inside-clause-ahead
 returns-then-not-inside-clause-ahead c =
-    ahead_free (length c.args.octets.now - 1) c.args.outer.now (sym c.requires.inside ∙ c.if-not-inside.true) c.requires.ahead
+    ahead_free (length c.args.octets.now - 1) c.args.outer.now
+    (sym c.requires.inside ∙ c.if-not-inside.true) c.requires.ahead
 
 pub returns-clause-head : goal.returns-clause-head
 returns-clause-head c =
-    sym (ap (λ n. take n c.args.octets.now) (length-take-le c.min-count.result c.args.octets.now (omega (arith, c.min-count.ensures))))
+    sym (ap (λ n. take n c.args.octets.now)
+    (length-take-le c.min-count.result c.args.octets.now (omega (arith, c.min-count.ensures))))
 
 pub returns-clause-ahead : goal.returns-clause-ahead
 returns-clause-ahead c =
-    let size = length-take-le c.min-count.result c.args.octets.now (omega (arith, c.min-count.ensures)) in
-    ahead_fewer (length (take c.min-count.result c.args.octets.now) - 1) c.before_ends-before.result c.args.outer.now
+    let size = length-take-le c.min-count.result c.args.octets.now
+    (omega (arith, c.min-count.ensures)) in
+    ahead_fewer (length (take c.min-count.result c.args.octets.now) - 1) c.before_ends-before.result
+    c.args.outer.now
     (omega (arith, size, c.min-count.ensures)) c.before_ends-before.ensures.ahead

@@ -12,7 +12,8 @@ returns-then-not-is_empty-clause-holds c =
     let octets = c.args.octets.now in
     let size = length-take-le n octets c.hold_some.ensures.within in
     rw (c.hold_some.ensures.held)
-    (number_held c.args.width c.args.at c.args.carry.now (take n octets) c.requires.width (λ e. absurd (false≢true (c.if-not-is_empty.ensures.1 e)))
+    (number_held c.args.width c.args.at c.args.carry.now (take n octets) c.requires.width
+    (λ e. absurd (false≢true (c.if-not-is_empty.ensures.1 e)))
     (omega (arith, size, c.hold_some.ensures.room)))
 
 pub returns-clause-holds : goal.returns-clause-holds
@@ -25,7 +26,10 @@ returns-clause-holds c =
     let size = length-take-le n (drop p octets) within in
     let held = rw (rest_from p octets, none) at c.hold_some-2.ensures.held in
     let l = length-drop p octets in
-    let few : p ≡ min (padding c.args.at c.args.width) (length octets) = omega (arith, c.min-padding.ensures, c.from.ensures, c.padding_at.ensures) in
+    let few : p ≡ min (padding c.args.at c.args.width) (length octets) =
+    omega (arith, c.min-padding.ensures, c.from.ensures, c.padding_at.ensures) in
     rw (none, held, take-add p n octets)
-    (padded_held c.args.width c.args.at p octets (take n (drop p octets)) c.requires.width c.requires.small (omega (arith, few)) (omega (arith, few))
-    (λ some. omega (arith, few, size, within, l, some)) (omega (arith, size, c.hold_some-2.ensures.room, ap length none)))
+    (padded_held c.args.width c.args.at p octets (take n (drop p octets)) c.requires.width
+    c.requires.small (omega (arith, few)) (omega (arith, few))
+    (λ some. omega (arith, few, size, within, l, some))
+    (omega (arith, size, c.hold_some-2.ensures.room, ap length none)))

@@ -9,5 +9,7 @@ overflow_cast-result c =
     let e = rw f at (rw c.in-Ok-Unsigned.is at c.number_of.ensures.ok) in
     let same = c.just_four.ensures in
     let n : num c.args.order c.args.octets.now ≡ c.in-Ok-Unsigned.n = cc in
-    let below : num c.args.order c.args.octets.now < 2 ^ 32 = num_bound-4 c.args.order c.args.octets.now (rw same at c.number_of.ensures.octets) c.requires in
+    let below : num c.args.order c.args.octets.now < 2 ^ 32 =
+    num_bound-4 c.args.order c.args.octets.now (rw same at c.number_of.ensures.octets)
+    c.requires in
     omega arith

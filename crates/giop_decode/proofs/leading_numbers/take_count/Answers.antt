@@ -8,7 +8,8 @@ returns-then-n-eq0-clause-transitions c coding path at =
     let C = c.args.catalogue.now in
     record {
       lines = _;
-      comes = sequence_empty C coding path (tree C c.args.of.0) at c.args.bound c.requires.is.0 c.args.n c.requires.is.1 c.if-exceeds.ensures c.if-n-eq0.true;
+      comes = sequence_empty C coding path (tree C c.args.of.0) at c.args.bound c.requires.is.0
+          c.args.n c.requires.is.1 c.if-exceeds.ensures c.if-n-eq0.true;
       says = refl;
     }
 
@@ -17,6 +18,8 @@ returns-clause-transitions c coding path at =
     let C = c.args.catalogue.now in
     record {
       lines = _;
-      comes = sequence_open C coding path (tree C c.args.of.0) at c.requires.fit.0 c.args.bound c.requires.is.0 c.args.n c.requires.fit.1 c.requires.is.1 c.if-exceeds.ensures (omega arith);
+      comes = sequence_open C coding path (tree C c.args.of.0) at c.requires.fit.0 c.args.bound
+          c.requires.is.0 c.args.n c.requires.fit.1 c.requires.is.1 c.if-exceeds.ensures
+          (omega arith);
       says = refl;
     }

@@ -11,6 +11,8 @@ returns-clause-transitions c coding path at =
     let e : c.args.n ≡ suc (c.args.n - 1) = omega arith in
     record {
       lines = [];
-      comes = ap (λ n. after coding path T n at []) e ∙ text_open C coding path T at c.args.bound (c.args.n - 1) c.requires c.if-exceeds.ensures;
+      comes = ap (λ n. after coding path T n at []) e
+          ∙ text_open C coding path T at c.args.bound (c.args.n - 1) c.requires
+          c.if-exceeds.ensures;
       says = refl;
     }

@@ -8,7 +8,8 @@ returns-then-n-eq0-clause-transitions c coding path at =
     let C = c.args.catalogue.now in
     record {
       lines = _;
-      comes = octets_empty C coding path (tree C c.args.of.0) at c.args.bound c.args.n c.requires c.if-exceeds.ensures c.if-n-eq0.true;
+      comes = octets_empty C coding path (tree C c.args.of.0) at c.args.bound c.args.n c.requires
+          c.if-exceeds.ensures c.if-n-eq0.true;
       says = rw c.empty_piece.ensures refl;
     }
 
@@ -17,6 +18,7 @@ returns-clause-transitions c coding path at =
     let C = c.args.catalogue.now in
     record {
       lines = [];
-      comes = octets_open C coding path (tree C c.args.of.0) at c.args.bound c.args.n c.requires c.if-exceeds.ensures (omega arith);
+      comes = octets_open C coding path (tree C c.args.of.0) at c.args.bound c.args.n c.requires
+          c.if-exceeds.ensures (omega arith);
       says = refl;
     }

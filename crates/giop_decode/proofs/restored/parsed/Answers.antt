@@ -14,7 +14,8 @@ returns c d h =
       leaf = ap Some (c.leaf_at.ensures h.leaf _ h.leaf_range f.leaf.1) ∙ sym h.goes_on;
       outer = c.outer_at-outer.ensures d.outer.items _ h.outer_range h.few h.frames_are;
       inside = c.is_inside-inside.ensures ∙ ap is_inside c.as_slice.ensures.value;
-      carry = c.carried.ensures ∙ c.as_slice-2.ensures.value ∙ c.held_at-carry.ensures d.carry _ h.range.carry f.carry.1;
+      carry = c.carried.ensures ∙ c.as_slice-2.ensures.value
+          ∙ c.held_at-carry.ensures d.carry _ h.range.carry f.carry.1;
       piece = c.held_at.ensures d.piece.items _ h.range.piece f.piece.1;
       notes = c.notes_at.ensures d.notes _ h.range.notes f.notes.1;
     }

@@ -9,5 +9,6 @@ returns-clause-put c =
     let frame = c.args.frame in
     rw (c.put_zeros.ensures.put, c.push.ensures.items, c.inside_octet.ensures)
     (rw (c.put_four-3.ensures.put, c.put_four-2.ensures.put, c.put_four.ensures.put)
-    (put_together c.args.out.now.items (four frame.of.0) (four frame.index) (four frame.count) (replicate 11 0)
+    (put_together c.args.out.now.items (four frame.of.0) (four frame.index) (four frame.count)
+    (replicate 11 0)
     (inside_octet frame.inside)))

@@ -16,10 +16,16 @@ use Rattle.giop_sig.specs.Trees.{tree}
 use Rattle.giop_decode.proofs.decoder.Decoder.advance.Goals as goal
 
 pub take_octet-step-requires-clause-fits : goal.take_octet-step-requires-clause-fits
-take_octet-step-requires-clause-fits g c = (stands_at c.args.catalogue.now c.args.self.now c.requires.fits c.in-Some.leaf c.in-Some.is).fits
+take_octet-step-requires-clause-fits g c =
+    (stands_at c.args.catalogue.now c.args.self.now c.requires.fits c.in-Some.leaf
+    c.in-Some.is).fits
 
 pub take_octet-step-requires-clause-fit : goal.take_octet-step-requires-clause-fit
-take_octet-step-requires-clause-fit g c = (_, (stands_at c.args.catalogue.now c.args.self.now c.requires.fits c.in-Some.leaf c.in-Some.is).fit)
+take_octet-step-requires-clause-fit g c = (
+  _,
+  (stands_at c.args.catalogue.now c.args.self.now c.requires.fits c.in-Some.leaf
+      c.in-Some.is).fit,
+)
 
 pub emit-requires-clause-around : goal.emit-requires-clause-around
 emit-requires-clause-around g c =
@@ -46,9 +52,11 @@ returns-clause-steps g c here h =
     let coding = coding_in (plain d.order) ps in
     let by : coding_by d.order d.at d.outer.items ≡ c.coding-coded.result =
     rw (← c.as_slice.ensures.value) (sym c.coding-coded.ensures) in
-    let k = subst (IsCoded here coding) by (coded_in C here (plain d.order) d.order d.at d.outer.items h.1 (record { order = refl; at = omega (arith, h.0) })) in
+    let k = subst (IsCoded here coding) by (coded_in C here (plain d.order) d.order d.at
+    d.outer.items h.1 (record { order = refl; at = omega (arith, h.0) })) in
     let t = c.take_octet-step.ensures.transitions coding (path_in [] ps) here k.order k.at in
-    let e = ap (λ l. step (plain d.order) [] ps (leaf_in C d l) here c.args.octet) c.in-Some.is ∙ ap (around (plain d.order) [] ps) t.comes in
+    let e = ap (λ l. step (plain d.order) [] ps (leaf_in C d l) here c.args.octet) c.in-Some.is
+    ∙ ap (around (plain d.order) [] ps) t.comes in
     let s = rw (c.of.ensures, append-nil c.take_octet-step.new.piece.items) at
     (c.in_ok-progress.ensures.passes.steps here t.lines) in
     rw e (s t.says)
@@ -63,12 +71,15 @@ returns-in_err-progress-clause-writes g c here h =
     let coding = coding_in (plain d.order) ps in
     let by : coding_by d.order d.at d.outer.items ≡ c.coding-coded.result =
     rw (← c.as_slice.ensures.value) (sym c.coding-coded.ensures) in
-    let k = subst (IsCoded here coding) by (coded_in C here (plain d.order) d.order d.at d.outer.items h.1 (record { order = refl; at = omega (arith, h.0) })) in
+    let k = subst (IsCoded here coding) by (coded_in C here (plain d.order) d.order d.at
+    d.outer.items h.1 (record { order = refl; at = omega (arith, h.0) })) in
     let t = c.take_octet-step.ensures.transitions coding (path_in [] ps) here k.order k.at in
-    let e = ap (λ l. step (plain d.order) [] ps (leaf_in C d l) here c.args.octet) c.in-Some.is ∙ ap (around (plain d.order) [] ps) t.comes in
+    let e = ap (λ l. step (plain d.order) [] ps (leaf_in C d l) here c.args.octet) c.in-Some.is
+    ∙ ap (around (plain d.order) [] ps) t.comes in
     let transition = c.take_octet-step.result.transition in
     let held = still_held c.take_octet-step.result.output c.take_octet-step.new.piece.items in
-    let ls = ap lines_of e ∙ lines_after_transition C here (plain d.order) [] d.outer.items T transition c.take_octet-step.new.carry held t.lines f.ahead f.known_outer in
+    let ls = ap lines_of e ∙ lines_after_transition C here (plain d.order) [] d.outer.items T
+    transition c.take_octet-step.new.carry held t.lines f.ahead f.known_outer in
     let w = rw (c.of.ensures, append-nil c.take_octet-step.new.piece.items) at
     (c.in_err-progress.ensures.writes here (here + 1) t.lines) in
     rw ls (writes_failed c.from_residual.result _ _ _ c.from_residual.ensures.0 (w t.says))
@@ -83,12 +94,15 @@ returns-clause-writes g c here h =
     let coding = coding_in (plain d.order) ps in
     let by : coding_by d.order d.at d.outer.items ≡ c.coding-coded.result =
     rw (← c.as_slice.ensures.value) (sym c.coding-coded.ensures) in
-    let k = subst (IsCoded here coding) by (coded_in C here (plain d.order) d.order d.at d.outer.items h.1 (record { order = refl; at = omega (arith, h.0) })) in
+    let k = subst (IsCoded here coding) by (coded_in C here (plain d.order) d.order d.at
+    d.outer.items h.1 (record { order = refl; at = omega (arith, h.0) })) in
     let t = c.take_octet-step.ensures.transitions coding (path_in [] ps) here k.order k.at in
-    let e = ap (λ l. step (plain d.order) [] ps (leaf_in C d l) here c.args.octet) c.in-Some.is ∙ ap (around (plain d.order) [] ps) t.comes in
+    let e = ap (λ l. step (plain d.order) [] ps (leaf_in C d l) here c.args.octet) c.in-Some.is
+    ∙ ap (around (plain d.order) [] ps) t.comes in
     let transition = c.take_octet-step.result.transition in
     let held = still_held c.take_octet-step.result.output c.take_octet-step.new.piece.items in
-    let ls = ap lines_of e ∙ lines_after_transition C here (plain d.order) [] d.outer.items T transition c.take_octet-step.new.carry held t.lines f.ahead f.known_outer in
+    let ls = ap lines_of e ∙ lines_after_transition C here (plain d.order) [] d.outer.items T
+    transition c.take_octet-step.new.carry held t.lines f.ahead f.known_outer in
     let w = rw (c.of.ensures, append-nil c.take_octet-step.new.piece.items) at
     (c.in_ok-progress.ensures.writes here (here + 1) t.lines) in
     rw ls (w t.says)
@@ -106,25 +120,35 @@ returns-clause-fits g c goes_on =
     let by : coding_by d.order d.at d.outer.items ≡ c.coding-coded.result =
     rw (← c.as_slice.ensures.value) (sym c.coding-coded.ensures) in
     let stands = f.stands in
-    let coded = subst (IsCoded f.here coding) by (coded_in C f.here (plain d.order) d.order d.at d.outer.items stands.1 (record { order = refl; at = omega (arith, stands.0) })) in
-    let t = c.take_octet-step.ensures.transitions coding (path_in [] ps) f.here coded.order coded.at in
+    let coded = subst (IsCoded f.here coding)
+    by (coded_in C f.here (plain d.order) d.order d.at d.outer.items stands.1
+    (record { order = refl; at = omega (arith, stands.0) })) in
+    let t = c.take_octet-step.ensures.transitions coding (path_in [] ps) f.here coded.order coded.at
+    in
     let step = c.take_octet-step.result in
     let piece = c.take_octet-step.new.piece.items in
-    let k = goes C new c.in_ok-progress.progress (f.here + 1) (decoder_step C d f.here c.args.octet) (returns-clause-steps g c f.here f.stands) goes_on in
+    let k = goes C new c.in_ok-progress.progress (f.here + 1) (decoder_step C d f.here c.args.octet)
+    (returns-clause-steps g c f.here f.stands) goes_on in
     let next = c.in_ok-progress.ensures.passes.next goes_on in
     let same = same_some f.leaf leaf (sym f.goes_on ∙ c.in-Some.is) in
     let before : Link C f.root d.outer.items c.of.result.0 = rw (c.of.ensures, ← same) f.link in
-    let notes : (h : Noted) → HoldsNoted d.notes h → HoldsNoted new.notes (without_name_if (clears_name step.output) (noted (is_header_root d.root) h t.lines)) =
+    let notes : (h : Noted) → HoldsNoted d.notes h →
+    HoldsNoted new.notes (without_name_if (clears_name step.output)
+    (noted (is_header_root d.root) h t.lines)) =
     λ h held. (rw (c.of.ensures, append-nil piece) at
     (c.in_ok-progress.ensures.passes.notes h f.here (f.here + 1) t.lines held)) t.says in
-    let name = name_kept (is_header_root d.root) d.root T (string_offset T leaf) (string_offset (tree C (leaf_type k.leaf)) k.leaf) step.transition step.output
-    (path_in [] ps) (f.here + 1) piece t.lines d.notes new.notes next.going c.take_octet-step.ensures.string_goes_on
+    let name = name_kept (is_header_root d.root) d.root T (string_offset T leaf)
+    (string_offset (tree C (leaf_type k.leaf)) k.leaf) step.transition step.output
+    (path_in [] ps) (f.here + 1) piece t.lines d.notes new.notes next.going
+    c.take_octet-step.ensures.string_goes_on
     (next.offset k.leaf k.goes_on ∙ ap (λ n. transition_offset (tree C n) step.transition)
     c.of.ensures) t.says
-    (subst (λ l. FitsName d.root (string_offset (tree C (leaf_type l)) l) d.notes.buffer d.notes.name.items) same f.name) notes in
+    (subst (λ l. FitsName d.root (string_offset (tree C (leaf_type l)) l) d.notes.buffer
+    d.notes.name.items) same f.name) notes in
     step_fits C d new f c.args.octet k (c.in_ok-progress.ensures.passes.here f.here f.stands)
     next.ahead next.inside
-    (next.link f.root k.leaf before k.goes_on) next.known_outer (next.known k.leaf k.goes_on) (next.clean k.leaf k.goes_on)
+    (next.link f.root k.leaf before k.goes_on) next.known_outer (next.known k.leaf k.goes_on)
+    (next.clean k.leaf k.goes_on)
     (λ other. let was = rw c.in_ok-progress.ensures.passes.root at other in
     c.in_ok-progress.ensures.passes.id was ∙ f.id_in_header_only was)
     (subst (λ r. FitsName r (string_offset (tree C (leaf_type k.leaf)) k.leaf) new.notes.buffer
@@ -141,21 +165,28 @@ returns-clause-keeps_noted g c here front h old_keeps_noted =
     let coding = coding_in (plain d.order) ps in
     let by : coding_by d.order d.at d.outer.items ≡ c.coding-coded.result =
     rw (← c.as_slice.ensures.value) (sym c.coding-coded.ensures) in
-    let k = subst (IsCoded here coding) by (coded_in C here (plain d.order) d.order d.at d.outer.items h.1 (record { order = refl; at = omega (arith, h.0) })) in
+    let k = subst (IsCoded here coding) by (coded_in C here (plain d.order) d.order d.at
+    d.outer.items h.1 (record { order = refl; at = omega (arith, h.0) })) in
     let t = c.take_octet-step.ensures.transitions coding (path_in [] ps) here k.order k.at in
-    let e = ap (λ l. step (plain d.order) [] ps (leaf_in C d l) here c.args.octet) c.in-Some.is ∙ ap (around (plain d.order) [] ps) t.comes in
+    let e = ap (λ l. step (plain d.order) [] ps (leaf_in C d l) here c.args.octet) c.in-Some.is
+    ∙ ap (around (plain d.order) [] ps) t.comes in
     let transition = c.take_octet-step.result.transition in
     let output = c.take_octet-step.result.output in
     let piece = c.take_octet-step.new.piece.items in
-    let ls = ap lines_of e ∙ lines_after_transition C here (plain d.order) [] d.outer.items T transition c.take_octet-step.new.carry (still_held output piece) t.lines f.ahead f.known_outer in
+    let ls = ap lines_of e ∙ lines_after_transition C here (plain d.order) [] d.outer.items T
+    transition c.take_octet-step.new.carry (still_held output piece) t.lines f.ahead
+    f.known_outer in
     let header = is_header_root d.root in
     let i = rw c.of.ensures at (c.in_ok-progress.ensures.passes.inside here t.lines) in
-    let before : HoldsNoted d.notes (without_name_if (leaf_in_string T leaf) (noted header nothing_noted front)) =
-    subst (λ b. HoldsNoted d.notes (without_name_if b (noted header nothing_noted front))) (leaf_inside C leaf d.carry d.piece.items)
+    let before : HoldsNoted d.notes (without_name_if (leaf_in_string T leaf)
+    (noted header nothing_noted front)) =
+    subst (λ b. HoldsNoted d.notes (without_name_if b (noted header nothing_noted front)))
+    (leaf_inside C leaf d.carry d.piece.items)
     (rw c.in-Some.is at old_keeps_noted) in
     let now = rw (c.of.ensures, append-nil piece) at
     (c.in_ok-progress.ensures.passes.notes (without_name_if (leaf_in_string T leaf)
     (noted header nothing_noted front)) here (here + 1) t.lines before) in
-    let on = noted_on header C leaf transition output (path_in [] ps) (here + 1) piece front t.lines (decoder_step C d here c.args.octet)
+    let on = noted_on header C leaf transition output (path_in [] ps) (here + 1) piece front t.lines
+    (decoder_step C d here c.args.octet)
     c.take_octet-step.ensures.output_fits_string t.says (ap ends_in_string e ∙ i) ls in
     subst (HoldsNoted c.emit.new.self.notes) on (now t.says)

@@ -15,44 +15,77 @@ use Rattle.giop_sig.specs.Types.{part_of}
 use Rattle.giop_sig.specs.Trees.{tree}
 
 pub push-requires : goal.push-requires
-push-requires c = (omega arith, omega (arith, fit_room (24 - length c.args.self.now.outer.items) (tree c.args.catalogue.now c.args.of.0) c.requires.fit))
+push-requires c = (
+  omega arith,
+  omega (
+    arith,
+    fit_room (24 - length c.args.self.now.outer.items) (tree c.args.catalogue.now c.args.of.0)
+        c.requires.fit,
+  ),
+)
 
 pub push-requires-in-Selected : goal.push-requires-in-Selected
-push-requires-in-Selected c = (omega arith, omega (arith, fit_room (24 - length c.args.self.now.outer.items) (tree c.args.catalogue.now c.args.of.0) c.requires.fit))
+push-requires-in-Selected c = (
+  omega arith,
+  omega (
+    arith,
+    fit_room (24 - length c.args.self.now.outer.items)
+        (tree c.args.catalogue.now c.args.of.0) c.requires.fit,
+  ),
+)
 
 pub begin-requires-clause-fit : goal.begin-requires-clause-fit
 begin-requires-clause-fit c =
     let T = tree c.args.catalogue.now c.args.of.0 in
     let opens = rw c.in-Opened.is at c.requires.transition_fits in
-    let e : pred (24 - length c.args.self.now.outer.items) ≡ 24 - length c.push.new.self.items = omega (arith, c.push.ensures.len) in
-    rw (← e, c.part-part.ensures.tree) (fit_first (24 - length c.args.self.now.outer.items) T c.in-Opened.count c.requires.fit opens.0 opens.1)
+    let e : pred (24 - length c.args.self.now.outer.items) ≡ 24 - length c.push.new.self.items =
+    omega (arith, c.push.ensures.len) in
+    rw (← e, c.part-part.ensures.tree) (fit_first (24 - length c.args.self.now.outer.items) T
+    c.in-Opened.count c.requires.fit opens.0 opens.1)
 
 pub begin-requires-in-Selected-clause-fit : goal.begin-requires-in-Selected-clause-fit
 begin-requires-in-Selected-clause-fit c =
     let T = tree c.args.catalogue.now c.args.of.0 in
     let case = rw c.in-Selected.is at c.requires.transition_fits in
-    let e : pred (24 - length c.args.self.now.outer.items) ≡ 24 - length c.push-in-Selected.new.self.items = omega (arith, c.push-in-Selected.ensures.len) in
-    rw (← e, c.part-part-in-Selected.ensures.tree) (fit_selected (24 - length c.args.self.now.outer.items) T c.in-Selected.index c.requires.fit case)
+    let e : pred (24 - length c.args.self.now.outer.items)
+    ≡ 24 - length c.push-in-Selected.new.self.items =
+    omega (arith, c.push-in-Selected.ensures.len) in
+    rw (← e, c.part-part-in-Selected.ensures.tree)
+    (fit_selected (24 - length c.args.self.now.outer.items) T c.in-Selected.index c.requires.fit
+    case)
 
 pub push-requires-in-Entered : goal.push-requires-in-Entered
-push-requires-in-Entered c = (omega arith, omega (arith, fit_room (24 - length c.args.self.now.outer.items) (tree c.args.catalogue.now c.args.of.0) c.requires.fit))
+push-requires-in-Entered c = (
+  omega arith,
+  omega (
+    arith,
+    fit_room (24 - length c.args.self.now.outer.items)
+        (tree c.args.catalogue.now c.args.of.0) c.requires.fit,
+  ),
+)
 
 pub begin-requires-in-Entered-clause-fit : goal.begin-requires-in-Entered-clause-fit
 begin-requires-in-Entered-clause-fit c =
     let T = tree c.args.catalogue.now c.args.of.0 in
     let opens = rw c.in-Entered.is at c.requires.transition_fits in
-    let e : pred (24 - length c.args.self.now.outer.items) ≡ 24 - length c.push-in-Entered.new.self.items = omega (arith, c.push-in-Entered.ensures.len) in
-    rw (← e, c.part-part-in-Entered.ensures.tree) (fit_inside (24 - length c.args.self.now.outer.items) T c.requires.fit opens.0)
+    let e : pred (24 - length c.args.self.now.outer.items)
+    ≡ 24 - length c.push-in-Entered.new.self.items =
+    omega (arith, c.push-in-Entered.ensures.len) in
+    rw (← e, c.part-part-in-Entered.ensures.tree)
+    (fit_inside (24 - length c.args.self.now.outer.items) T c.requires.fit opens.0)
 
 pub returns-in-More-clause-advances : goal.returns-in-More-clause-advances
 returns-in-More-clause-advances c coding path at lines =
     let C = c.args.catalogue.now in
-    rw c.in-More.is (around_gone C coding path at c.args.self.now.outer.items lines (leaf_of C c.in-More.leaf c.args.self.now.carry c.args.self.now.piece.items) c.requires.known_outer)
+    rw c.in-More.is (around_gone C coding path at c.args.self.now.outer.items lines
+    (leaf_of C c.in-More.leaf c.args.self.now.carry c.args.self.now.piece.items)
+    c.requires.known_outer)
 
 pub returns-in-Refused-clause-advances : goal.returns-in-Refused-clause-advances
 returns-in-Refused-clause-advances c coding path at lines =
     let C = c.args.catalogue.now in
-    rw c.in-Refused.is (around-fault coding path (open_parts C at c.args.self.now.outer.items) lines at _ (tree C c.args.of.0))
+    rw c.in-Refused.is (around-fault coding path (open_parts C at c.args.self.now.outer.items) lines
+    at _ (tree C c.args.of.0))
 
 pub returns-in-Opened-clause-advances : goal.returns-in-Opened-clause-advances
 returns-in-Opened-clause-advances c coding path at lines =
@@ -61,13 +94,28 @@ returns-in-Opened-clause-advances c coding path at lines =
     let old = c.args.self.now.outer.items in
     let new = c.begin.new.outer.items in
     let transitions = rw c.in-Opened.is at c.requires.transition_fits in
-    let ended : has_ended c.push.new.self.items ≡ has_ended old = rw c.push.ensures.items (ended_push old _ refl) in
+    let ended : has_ended c.push.new.self.items ≡ has_ended old =
+    rw c.push.ensures.items (ended_push old _ refl) in
     let inner = Part T 0 c.in-Opened.count ∷ start_outer (part_of T 0) in
-    let same : unless_ended (has_ended old) lines at (open_parts C at old ++ inner) (start_leaf (part_of T 0)) ≡ unless_ended (has_ended new) lines at (open_parts C at new) (start_leaf (part_of T 0)) =
-    rw (c.begin.ensures.ended, c.begin.ensures.open_parts at, ended, c.push.ensures.items, map_push, c.part-part.ensures.tree, place_part T 0 c.in-Opened.count transitions.0, append_assoc) refl in
+    let same : unless_ended (has_ended old) lines at (open_parts C at old ++ inner)
+    (start_leaf (part_of T 0)) ≡ unless_ended (has_ended new) lines at (open_parts C at new)
+    (start_leaf (part_of T 0)) =
+    rw (
+      c.begin.ensures.ended,
+      c.begin.ensures.open_parts at,
+      ended,
+      c.push.ensures.items,
+      map_push,
+      c.part-part.ensures.tree,
+      place_part T 0 c.in-Opened.count transitions.0,
+      append_assoc,
+    ) refl
+    in
     rw (c.in-Opened.is, c.clear.ensures)
-    (around_unless_ended C coding path at old lines inner (start_leaf (part_of T 0)) c.requires.known_outer
-    ∙ (same ∙ ap (λ l. unless_ended (has_ended new) lines at (open_parts C at new) l) (rw c.part-part.ensures.tree at c.begin.ensures.leaf)))
+    (around_unless_ended C coding path at old lines inner (start_leaf (part_of T 0))
+    c.requires.known_outer
+    ∙ (same ∙ ap (λ l. unless_ended (has_ended new) lines at (open_parts C at new) l)
+    (rw c.part-part.ensures.tree at c.begin.ensures.leaf)))
 
 pub returns-in-Selected-clause-advances : goal.returns-in-Selected-clause-advances
 returns-in-Selected-clause-advances c coding path at lines =
@@ -76,13 +124,28 @@ returns-in-Selected-clause-advances c coding path at lines =
     let old = c.args.self.now.outer.items in
     let new = c.begin-in-Selected.new.outer.items in
     let transitions = rw c.in-Selected.is at c.requires.transition_fits in
-    let ended : has_ended c.push-in-Selected.new.self.items ≡ has_ended old = rw c.push-in-Selected.ensures.items (ended_push old _ refl) in
+    let ended : has_ended c.push-in-Selected.new.self.items ≡ has_ended old =
+    rw c.push-in-Selected.ensures.items (ended_push old _ refl) in
     let inner = Member T c.in-Selected.index ∷ start_outer (part_of T c.in-Selected.index) in
-    let same : unless_ended (has_ended old) lines at (open_parts C at old ++ inner) (start_leaf (part_of T c.in-Selected.index)) ≡ unless_ended (has_ended new) lines at (open_parts C at new) (start_leaf (part_of T c.in-Selected.index)) =
-    rw (c.begin-in-Selected.ensures.ended, c.begin-in-Selected.ensures.open_parts at, ended, c.push-in-Selected.ensures.items, map_push, c.part-part-in-Selected.ensures.tree, place_case T c.in-Selected.index 0 transitions, append_assoc) refl in
+    let same : unless_ended (has_ended old) lines at (open_parts C at old ++ inner)
+    (start_leaf (part_of T c.in-Selected.index))
+    ≡ unless_ended (has_ended new) lines at (open_parts C at new)
+    (start_leaf (part_of T c.in-Selected.index)) =
+    rw (
+      c.begin-in-Selected.ensures.ended,
+      c.begin-in-Selected.ensures.open_parts at,
+      ended,
+      c.push-in-Selected.ensures.items,
+      map_push,
+      c.part-part-in-Selected.ensures.tree,
+      place_case T c.in-Selected.index 0 transitions,
+      append_assoc,
+    ) refl in
     rw (c.in-Selected.is, c.clear-in-Selected.ensures)
-    (around_unless_ended C coding path at old lines inner (start_leaf (part_of T c.in-Selected.index)) c.requires.known_outer
-    ∙ (same ∙ ap (λ l. unless_ended (has_ended new) lines at (open_parts C at new) l) (rw c.part-part-in-Selected.ensures.tree at c.begin-in-Selected.ensures.leaf)))
+    (around_unless_ended C coding path at old lines inner
+    (start_leaf (part_of T c.in-Selected.index)) c.requires.known_outer
+    ∙ (same ∙ ap (λ l. unless_ended (has_ended new) lines at (open_parts C at new) l)
+    (rw c.part-part-in-Selected.ensures.tree at c.begin-in-Selected.ensures.leaf)))
 
 pub returns-in-Entered-clause-advances : goal.returns-in-Entered-clause-advances
 returns-in-Entered-clause-advances c coding path at lines =
@@ -94,30 +157,53 @@ returns-in-Entered-clause-advances c coding path at lines =
     let part = part_of T 0 in
     let transitions = rw c.in-Entered.is at c.requires.transition_fits in
     let f = inside_frame c.args.of c.in-Entered.order c.in-Entered.count in
-    let all : AreKnown C pushed = rw c.push-in-Entered.ensures.items (all_push (IsKnown C) old f c.requires.known_outer (record { known = c.requires.known; within = (transitions.0, omega arith, omega (arith, transitions.1)) })) in
-    let same : unless_ended (has_ended pushed) lines at (open_parts C at pushed ++ start_outer part) (start_leaf part) ≡ unless_ended (has_ended new) lines at (open_parts C at new) (start_leaf part) =
-    rw (c.begin-in-Entered.ensures.ended, c.begin-in-Entered.ensures.open_parts at, c.part-part-in-Entered.ensures.tree) refl in
+    let all : AreKnown C pushed = rw c.push-in-Entered.ensures.items
+    (all_push (IsKnown C) old f c.requires.known_outer
+    (record {
+      known = c.requires.known;
+      within =
+          (transitions.0, omega arith, omega (arith, transitions.1));
+    })) in
+    let same : unless_ended (has_ended pushed) lines at (open_parts C at pushed ++ start_outer part)
+    (start_leaf part) ≡ unless_ended (has_ended new) lines at (open_parts C at new)
+    (start_leaf part) =
+    rw (
+      c.begin-in-Entered.ensures.ended,
+      c.begin-in-Entered.ensures.open_parts at,
+      c.part-part-in-Entered.ensures.tree,
+    ) refl in
     rw (c.in-Entered.is, c.clear-in-Entered.ensures)
-    (sym (ap (λ ps. around coding path ps (Short lines at (start_outer part) (start_leaf part))) (ap (open_parts C at) c.push-in-Entered.ensures.items ∙ map_push (open_part C at) old f)
-    ∙ around-append coding path (open_parts C at old) (open_part C at f) (Short lines at (start_outer part) (start_leaf part)))
+    (sym (ap (λ ps. around coding path ps (Short lines at (start_outer part) (start_leaf part)))
+    (ap (open_parts C at) c.push-in-Entered.ensures.items ∙ map_push (open_part C at) old f)
+    ∙ around-append coding path (open_parts C at old) (open_part C at f)
+    (Short lines at (start_outer part) (start_leaf part)))
     ∙ (around_unless_ended C coding path at pushed lines (start_outer part) (start_leaf part) all
-    ∙ (same ∙ ap (λ l. unless_ended (has_ended new) lines at (open_parts C at new) l) (rw c.part-part-in-Entered.ensures.tree at c.begin-in-Entered.ensures.leaf))))
+    ∙ (same ∙ ap (λ l. unless_ended (has_ended new) lines at (open_parts C at new) l)
+    (rw c.part-part-in-Entered.ensures.tree at c.begin-in-Entered.ensures.leaf))))
 
 pub returns-in-Opened-clause-stand : goal.returns-in-Opened-clause-stand
-returns-in-Opened-clause-stand c at pos h = c.begin.ensures.stand at (rw c.push.ensures.items (stand_push at c.args.self.now.outer.items _ h tt))
+returns-in-Opened-clause-stand c at pos h =
+    c.begin.ensures.stand at (rw c.push.ensures.items
+    (stand_push at c.args.self.now.outer.items _ h tt))
 
 pub returns-in-Selected-clause-stand : goal.returns-in-Selected-clause-stand
-returns-in-Selected-clause-stand c at pos h = c.begin-in-Selected.ensures.stand at (rw c.push-in-Selected.ensures.items (stand_push at c.args.self.now.outer.items _ h tt))
+returns-in-Selected-clause-stand c at pos h =
+    c.begin-in-Selected.ensures.stand at (rw c.push-in-Selected.ensures.items
+    (stand_push at c.args.self.now.outer.items _ h tt))
 
 pub returns-in-Entered-clause-stand : goal.returns-in-Entered-clause-stand
-returns-in-Entered-clause-stand c at pos h = c.begin-in-Entered.ensures.stand at (rw c.push-in-Entered.ensures.items (stand_push at c.args.self.now.outer.items _ h (omega (arith, pos))))
+returns-in-Entered-clause-stand c at pos h =
+    c.begin-in-Entered.ensures.stand at (rw c.push-in-Entered.ensures.items
+    (stand_push at c.args.self.now.outer.items _ h (omega (arith, pos))))
 
 pub returns-in-Entered-clause-link : goal.returns-in-Entered-clause-link
 returns-in-Entered-clause-link c root leaf moved h e =
     let C = c.args.catalogue.now in
     link_number C root c.begin-in-Entered.new.outer.items c.begin-in-Entered.result leaf
     (c.begin-in-Entered.ensures.linked root
-    (link_push C root c.args.self.now.outer.items c.push-in-Entered.new.self.items c.args.of.0 c.part-part-in-Entered.result.0 _ refl c.push-in-Entered.ensures.items c.part-part-in-Entered.ensures.number h)) e
+    (link_push C root c.args.self.now.outer.items c.push-in-Entered.new.self.items c.args.of.0
+    c.part-part-in-Entered.result.0 _ refl c.push-in-Entered.ensures.items
+    c.part-part-in-Entered.ensures.number h)) e
 
 pub returns-in-Ended-clause-stand : goal.returns-in-Ended-clause-stand
 returns-in-Ended-clause-stand c at pos h = c.go_on-self.ensures.stand at h
@@ -127,21 +213,27 @@ returns-in-Ended-clause-advances c coding path at lines =
     let C = c.args.catalogue.now in
     rw c.in-Ended.is
     (around_done coding path (open_parts C at c.args.self.now.outer.items) lines at
-    ∙ (ap (with_front lines) (c.go_on-self.ensures.gone coding path at) ∙ (front_gone C lines at c.go_on-self.new.outer.items c.go_on-self.result
-    ∙ behind_stopped C c.go_on-self.new.outer.items _ _ c.go_on-self.result lines at c.clear-in-Ended.ensures c.clear-in-Ended-2.ensures)))
+    ∙ (ap (with_front lines) (c.go_on-self.ensures.gone coding path at)
+    ∙ (front_gone C lines at c.go_on-self.new.outer.items c.go_on-self.result
+    ∙ behind_stopped C c.go_on-self.new.outer.items _ _ c.go_on-self.result lines at
+    c.clear-in-Ended.ensures c.clear-in-Ended-2.ensures)))
 
 pub returns-in-Opened-clause-link : goal.returns-in-Opened-clause-link
 returns-in-Opened-clause-link c root leaf moved h e =
     let C = c.args.catalogue.now in
     link_number C root c.begin.new.outer.items c.begin.result leaf
-    (c.begin.ensures.linked root (link_push C root c.args.self.now.outer.items c.push.new.self.items c.args.of.0 c.part-part.result.0 _ refl c.push.ensures.items c.part-part.ensures.number h)) e
+    (c.begin.ensures.linked root (link_push C root c.args.self.now.outer.items c.push.new.self.items
+    c.args.of.0 c.part-part.result.0 _ refl c.push.ensures.items c.part-part.ensures.number h))
+    e
 
 pub returns-in-Selected-clause-link : goal.returns-in-Selected-clause-link
 returns-in-Selected-clause-link c root leaf moved h e =
     let C = c.args.catalogue.now in
     link_number C root c.begin-in-Selected.new.outer.items c.begin-in-Selected.result leaf
     (c.begin-in-Selected.ensures.linked root
-    (link_push C root c.args.self.now.outer.items c.push-in-Selected.new.self.items c.args.of.0 c.part-part-in-Selected.result.0 _ refl c.push-in-Selected.ensures.items c.part-part-in-Selected.ensures.number h)) e
+    (link_push C root c.args.self.now.outer.items c.push-in-Selected.new.self.items c.args.of.0
+    c.part-part-in-Selected.result.0 _ refl c.push-in-Selected.ensures.items
+    c.part-part-in-Selected.ensures.number h)) e
 
 pub returns-in-More-clause-inside : goal.returns-in-More-clause-inside
 returns-in-More-clause-inside c at lines =
@@ -150,23 +242,28 @@ returns-in-More-clause-inside c at lines =
     let leaf = c.in-More.leaf in
     let transitions = rw c.in-More.is at c.requires.transition_fits in
     rw (c.in-More.is, ← transitions.0)
-    (unless_ended_inside (has_ended d.outer.items) lines at (open_parts C at d.outer.items) (leaf_of C leaf d.carry d.piece.items) ∙ leaf_inside C leaf d.carry d.piece.items)
+    (unless_ended_inside (has_ended d.outer.items) lines at (open_parts C at d.outer.items)
+    (leaf_of C leaf d.carry d.piece.items) ∙ leaf_inside C leaf d.carry d.piece.items)
 
 pub returns-in-Ended-clause-inside : goal.returns-in-Ended-clause-inside
 returns-in-Ended-clause-inside c at lines =
-    rw c.in-Ended.is (stopped_silent c.args.catalogue.now c.go_on-self.new.outer.items _ _ c.go_on-self.result lines at c.go_on-self.ensures.silent)
+    rw c.in-Ended.is (stopped_silent c.args.catalogue.now c.go_on-self.new.outer.items _ _
+    c.go_on-self.result lines at c.go_on-self.ensures.silent)
 
 pub returns-in-Opened-clause-encloses : goal.returns-in-Opened-clause-encloses
 returns-in-Opened-clause-encloses c =
     let old = c.args.self.now.outer.items in
-    c.requires.encloses ∙ sym (c.begin.ensures.inside ∙ rw (c.push.ensures.items, inside_push) (or_false (is_inside old)))
+    c.requires.encloses ∙ sym (c.begin.ensures.inside
+    ∙ rw (c.push.ensures.items, inside_push) (or_false (is_inside old)))
 
 pub returns-in-Selected-clause-encloses : goal.returns-in-Selected-clause-encloses
 returns-in-Selected-clause-encloses c =
     let old = c.args.self.now.outer.items in
-    c.requires.encloses ∙ sym (c.begin-in-Selected.ensures.inside ∙ rw (c.push-in-Selected.ensures.items, inside_push) (or_false (is_inside old)))
+    c.requires.encloses ∙ sym (c.begin-in-Selected.ensures.inside
+    ∙ rw (c.push-in-Selected.ensures.items, inside_push) (or_false (is_inside old)))
 
 pub returns-in-Entered-clause-encloses : goal.returns-in-Entered-clause-encloses
 returns-in-Entered-clause-encloses c =
     let old = c.args.self.now.outer.items in
-    sym (c.begin-in-Entered.ensures.inside ∙ rw (c.push-in-Entered.ensures.items, inside_push) (or_true (is_inside old)))
+    sym (c.begin-in-Entered.ensures.inside
+    ∙ rw (c.push-in-Entered.ensures.items, inside_push) (or_true (is_inside old)))

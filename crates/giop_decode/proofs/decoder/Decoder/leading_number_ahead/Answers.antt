@@ -14,26 +14,36 @@ whole_octets-requires-clause-small c =
 pub take_value-requires-clause-head : goal.take_value-requires-clause-head
 take_value-requires-clause-head c =
     let some : c.args.self.now.leaf ≡ Some c.in-Some-Number.field-0 = c.in-Some-Number.is in
-    let number : c.in-Some-Number.field-0 ≡ innermost.Number c.in-Some-Number.of = rw some at c.in-Some-Number.field-0-is in
-    let e : c.args.self.now.leaf ≡ Some (innermost.Number c.in-Some-Number.of) = some ∙ ap Some number in
-    (stands_at c.args.catalogue.now c.args.self.now c.requires.fits (innermost.Number c.in-Some-Number.of) e).fits.kind
+    let number : c.in-Some-Number.field-0 ≡ innermost.Number c.in-Some-Number.of =
+    rw some at c.in-Some-Number.field-0-is in
+    let e : c.args.self.now.leaf ≡ Some (innermost.Number c.in-Some-Number.of) =
+    some ∙ ap Some number in
+    (stands_at c.args.catalogue.now c.args.self.now c.requires.fits
+    (innermost.Number c.in-Some-Number.of) e).fits.kind
 
 pub take_value-requires-clause-fit : goal.take_value-requires-clause-fit
 take_value-requires-clause-fit c =
     let some : c.args.self.now.leaf ≡ Some c.in-Some-Number.field-0 = c.in-Some-Number.is in
-    let number : c.in-Some-Number.field-0 ≡ innermost.Number c.in-Some-Number.of = rw some at c.in-Some-Number.field-0-is in
-    let e : c.args.self.now.leaf ≡ Some (innermost.Number c.in-Some-Number.of) = some ∙ ap Some number in
-    (_, (stands_at c.args.catalogue.now c.args.self.now c.requires.fits (innermost.Number c.in-Some-Number.of) e).fit)
+    let number : c.in-Some-Number.field-0 ≡ innermost.Number c.in-Some-Number.of =
+    rw some at c.in-Some-Number.field-0-is in
+    let e : c.args.self.now.leaf ≡ Some (innermost.Number c.in-Some-Number.of) =
+    some ∙ ap Some number in (
+      _,
+      (stands_at c.args.catalogue.now c.args.self.now c.requires.fits
+          (innermost.Number c.in-Some-Number.of) e).fit,
+    )
 
 pub take_value-requires-clause-whole : goal.take_value-requires-clause-whole
-take_value-requires-clause-whole c = c.in-Some.ensures.width ∙ c.width.ensures.width (take_value-requires-clause-head c)
+take_value-requires-clause-whole c = c.in-Some.ensures.width
+    ∙ c.width.ensures.width (take_value-requires-clause-head c)
 
 pub returns-in-Some : goal.returns-in-Some
 returns-in-Some c =
     let C = c.args.catalogue.now in
     let d = c.args.self.now in
     let some : d.leaf ≡ Some c.in-Some-Number.field-0 = c.in-Some-Number.is in
-    let number : c.in-Some-Number.field-0 ≡ innermost.Number c.in-Some-Number.of = rw some at c.in-Some-Number.field-0-is in
+    let number : c.in-Some-Number.field-0 ≡ innermost.Number c.in-Some-Number.of =
+    rw some at c.in-Some-Number.field-0-is in
     let e : d.leaf ≡ Some (innermost.Number c.in-Some-Number.of) = some ∙ ap Some number in
     let head = (stands_at C d c.requires.fits (innermost.Number c.in-Some-Number.of) e).fits.kind in
     let v = c.take_value.ensures in
@@ -42,4 +52,5 @@ returns-in-Some c =
     c.in-Some.whole.now c.take_value.result
     (subst (λ w. StandsWhole w c.args.coded.1 c.args.octets.now c.in-Some.count c.in-Some.whole.now)
     (c.width.ensures.width head) c.in-Some.ensures.stands)
-    c.requires.ahead v.transition_fits v.has_output v.output_fits_string v.string_goes_on v.transitions
+    c.requires.ahead v.transition_fits v.has_output v.output_fits_string v.string_goes_on
+    v.transitions

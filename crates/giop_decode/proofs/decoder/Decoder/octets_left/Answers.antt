@@ -18,7 +18,14 @@ returns-clause-value c T order at message root s r =
           let is : d.leaf ≡ Some leaf = c.in-Some.is ∙ ap Some w.in-Number.is in
           let width = w.width.ensures.width (stands_at C d c.requires leaf is).fits.kind in
           let here : c.max.result ≡ octets_left (leaf_of C leaf d.carry d.piece.items) =
-          omega (arith, c.max.ensures, w.left-is, w.saturating_sub-left.ensures, w.len.ensures.value, width) in
+          omega (
+            arith,
+            c.max.ensures,
+            w.left-is,
+            w.saturating_sub-left.ensures,
+            w.len.ensures.value,
+            width,
+          ) in
           here ∙ left_by_leaf r is
       | in-Opening w ↦
           let here : c.max.result ≡ 1 = omega (arith, c.max.ensures, w.left-is) in
@@ -27,6 +34,13 @@ returns-clause-value c T order at message root s r =
           let leaf = innermost.Content w.in-Content.of w.in-Content.total w.in-Content.offset in
           let is : d.leaf ≡ Some leaf = c.in-Some.is ∙ ap Some w.in-Content.is in
           let here : c.max.result ≡ octets_left (leaf_of C leaf d.carry d.piece.items) =
-          omega (arith, c.max.ensures, w.left-is, w.saturating_sub.ensures, w.saturating_sub-left-in-Content.ensures, w.len-in-Content.ensures.value) in
+          omega (
+            arith,
+            c.max.ensures,
+            w.left-is,
+            w.saturating_sub.ensures,
+            w.saturating_sub-left-in-Content.ensures,
+            w.len-in-Content.ensures.value,
+          ) in
           here ∙ left_by_leaf r is
     ]

@@ -12,19 +12,30 @@ use Rattle.giop_decode.proofs.decoder.Decoder.pass.Goals as goal
 
 pub advance_frames-requires-clause-known_outer : goal.advance_frames-requires-clause-known_outer
 advance_frames-requires-clause-known_outer c =
-    rw c.tick.ensures.ticked (known_ticked c.args.catalogue.now c.args.self.now.outer.items c.requires.around.ahead c.requires.around.known_outer)
+    rw c.tick.ensures.ticked (known_ticked c.args.catalogue.now c.args.self.now.outer.items
+    c.requires.around.ahead c.requires.around.known_outer)
 
 pub advance_frames-requires-clause-encloses : goal.advance_frames-requires-clause-encloses
-advance_frames-requires-clause-encloses c = rw (c.tick.ensures.ticked, inside_ticked c.args.self.now.outer.items) c.requires.around.inside
+advance_frames-requires-clause-encloses c =
+    rw (c.tick.ensures.ticked, inside_ticked c.args.self.now.outer.items) c.requires.around.inside
 
 pub advance_frames-requires-clause-open : goal.advance_frames-requires-clause-open
 advance_frames-requires-clause-open c =
     let C = c.args.catalogue.now in
-    let s = c.requires.around.are_open in
-    (s.0 + 1, rw (c.tick.ensures.ticked, places_ticked C s.0 c.args.self.now.outer.items c.requires.around.ahead) s.1)
+    let s = c.requires.around.are_open in (
+      s.0 + 1,
+      rw (
+        c.tick.ensures.ticked,
+        places_ticked C s.0 c.args.self.now.outer.items
+            c.requires.around.ahead,
+      ) s.1,
+    )
 
 pub advance_frames-requires-clause-fit : goal.advance_frames-requires-clause-fit
-advance_frames-requires-clause-fit c = rw (c.tick.ensures.ticked, length_ticked c.args.self.now.outer.items) c.requires.around.fit
+advance_frames-requires-clause-fit c = rw (
+  c.tick.ensures.ticked,
+  length_ticked c.args.self.now.outer.items,
+) c.requires.around.fit
 
 pub returns : goal.returns
 returns c =
@@ -44,7 +55,8 @@ returns c =
     ≡ transition_result C T new transition lines (here + 1) =
     λ here lines.
     let pt : open_parts C here d.outer.items ≡ open_parts C (here + 1) c.tick.new.outer.items =
-    sym (places_ticked C here d.outer.items c.requires.around.ahead) ∙ ap (open_parts C (here + 1)) (sym c.tick.ensures.ticked) in
+    sym (places_ticked C here d.outer.items c.requires.around.ahead)
+    ∙ ap (open_parts C (here + 1)) (sym c.tick.ensures.ticked) in
     ap (λ qs. around (plain d.order) [] qs (after_transition C T transition d.carry held lines
     (here + 1))) pt
     ∙ rw c.let_go.ensures at (e.advances (plain d.order) [] (here + 1) lines) in

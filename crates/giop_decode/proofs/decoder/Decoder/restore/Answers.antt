@@ -26,4 +26,5 @@ returns-clause-stored c =
 
 pub returns-clause-reads : goal.returns-clause-reads
 returns-clause-reads c d fits stored T order at message root s reads =
-    restored_reads c.args.catalogue.now d _ T order at message root s (c.parsed-decoder.ensures d stored) reads
+    restored_reads c.args.catalogue.now d _ T order at message root s
+    (c.parsed-decoder.ensures d stored) reads

@@ -7,8 +7,11 @@ pub emit-requires-clause-around : goal.emit-requires-clause-around
 emit-requires-clause-around g c =
     let a = c.args.ahead in
     let d = c.args.self.now in
-    around_whole c.args.catalogue.now d c.args.octets.now a.of a.count a.step a.rest.now c.requires.fits c.requires.ahead
-    (at_last d c.further-self.result c.tick_by.new.outer) (is_at_last d a.count c.further-self.result c.tick_by.new.outer c.further-self.ensures c.tick_by.ensures.ticked)
+    around_whole c.args.catalogue.now d c.args.octets.now a.of a.count a.step a.rest.now
+    c.requires.fits c.requires.ahead
+    (at_last d c.further-self.result c.tick_by.new.outer)
+    (is_at_last d a.count c.further-self.result c.tick_by.new.outer c.further-self.ensures
+    c.tick_by.ensures.ticked)
 
 pub tick_by-requires-clause-ahead : goal.tick_by-requires-clause-ahead
 tick_by-requires-clause-ahead g c = c.requires.ahead.ahead
@@ -22,7 +25,8 @@ returns-in_err-progress g c =
     let f = c.requires.fits in
     let h = c.requires.ahead in
     let m = at_last d c.further-self.result c.tick_by.new.outer in
-    let on = is_at_last d a.count c.further-self.result c.tick_by.new.outer c.further-self.ensures c.tick_by.ensures.ticked in
+    let on = is_at_last d a.count c.further-self.result c.tick_by.new.outer c.further-self.ensures
+    c.tick_by.ensures.ticked in
     passed_broken C d octets a.of a.count a.step a.rest.now f h m on c.from_residual.result
     c.emit.new.self _ _ c.from_residual.ensures.0
     (last_says C d octets a.of a.count a.step a.rest.now f h m on
@@ -38,7 +42,8 @@ returns g c =
     let f = c.requires.fits in
     let h = c.requires.ahead in
     let m = at_last d c.further-self.result c.tick_by.new.outer in
-    let on = is_at_last d a.count c.further-self.result c.tick_by.new.outer c.further-self.ensures c.tick_by.ensures.ticked in
+    let on = is_at_last d a.count c.further-self.result c.tick_by.new.outer c.further-self.ensures
+    c.tick_by.ensures.ticked in
     passed_some C d octets a.of a.count a.step a.rest.now f h m on c.emit.new.self
     c.in_ok-progress.progress c.in_ok-progress.ensures.passes _ _
     (last_says C d octets a.of a.count a.step a.rest.now f h m on

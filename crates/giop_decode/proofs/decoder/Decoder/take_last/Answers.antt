@@ -17,7 +17,11 @@ pass-progress-requires-clause-around g c =
     let C = c.args.catalogue.now in
     let d = c.args.self.now in
     let octets = a.octets.now in
-    around_whole C d octets a.of a.count (record { transition = transitions.Ended; output = outputs.Number a.number }) [] c.requires.fits
+    around_whole C d octets a.of a.count (record {
+      transition = transitions.Ended;
+      output =
+          outputs.Number a.number;
+    }) [] c.requires.fits
     (taken_together C d a c.requires.fits c.requires.ahead)
     (at_last d c.further-self.result d.outer)
     (part_at_last C d a c.requires.fits c.requires.ahead c.further-self.result

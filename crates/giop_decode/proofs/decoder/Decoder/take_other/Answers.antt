@@ -41,7 +41,11 @@ returns g c =
     let f = c.gather-gathered.ensures.fits in
     let e = c.in_ok-progress.ensures in
     let p = c.in_ok-progress.progress in
-    let below : i < length octets = omega (arith, c.gather-gathered.ensures.within, c.if-gathered-octets.false) in
+    let below : i < length octets = omega (
+      arith,
+      c.gather-gathered.ensures.within,
+      c.if-gathered-octets.false,
+    ) in
     let held = gathered_so_far C d mid octets i (g.O.Out.log c.args.out.now)
     c.gather-gathered.ensures.within f c.gather-gathered.ensures.gathers in
     then_one C d mid octets i _ _ held new _ p below

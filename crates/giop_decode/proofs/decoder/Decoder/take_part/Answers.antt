@@ -30,7 +30,8 @@ returns-clause-takes g c =
       piece = refl;
       at = c.further-self.ensures;
       leaf = refl;
-      outer = c.go_to_next.ensures (frames_above d.outer.items) c.args.part.frame c.requires.ahead.outer;
+      outer = c.go_to_next.ensures (frames_above d.outer.items) c.args.part.frame
+          c.requires.ahead.outer;
     }) c.requires.body _ _
     (c.in_ok-part_line.ensures d.message (root_word d.root ++ frames_text C
     (frames_above d.outer.items)) c.requires.front)

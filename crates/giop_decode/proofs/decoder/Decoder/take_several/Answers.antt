@@ -41,7 +41,8 @@ loop-part-preserved g c =
       within = then.within;
       body = ap is_header_root next.root ∙ before.body;
       outside = next.inside ∙ before.outside;
-      front = before.front ∙ sym (front_kept c.args.catalogue.now c.loop-part.self c.take_part.new.self c.in-Some.part c.in-Some-next_number.next next);
+      front = before.front ∙ sym (front_kept c.args.catalogue.now c.loop-part.self
+          c.take_part.new.self c.in-Some.part c.in-Some-next_number.next next);
       short = before.short;
     }
 

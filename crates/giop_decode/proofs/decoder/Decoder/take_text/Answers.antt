@@ -10,7 +10,8 @@ emit-requires-clause-around g c =
     let d = c.args.self.now in
     let f = c.requires.fits in
     let there = (d.at + (text.head - 1)) % 8 in
-    let a = around_whole c.args.catalogue.now d c.args.octets.now text.of text.head _ h.none f h.leads (at_last d there d.outer)
+    let a = around_whole c.args.catalogue.now d c.args.octets.now text.of text.head _ h.none f
+    h.leads (at_last d there d.outer)
     (free_at_last d text.head there (sym f.inside ∙ h.outside) refl) in
     record {
       known = a.known;
@@ -25,14 +26,16 @@ emit-requires-clause-around g c =
 
 pub emit-requires-clause-short : goal.emit-requires-clause-short
 emit-requires-clause-short g c some =
-    let none = no_piece c.args.catalogue.now c.args.self.now c.args.octets.now c.args.text c.requires.fits c.requires.ahead in
+    let none = no_piece c.args.catalogue.now c.args.self.now c.args.octets.now c.args.text
+    c.requires.fits c.requires.ahead in
     omega (arith, ap length none, c.requires.ahead.short)
 
 pub returns-in_err-progress : goal.returns-in_err-progress
 returns-in_err-progress g c =
     text_broken c.args.catalogue.now c.args.self.now c.args.octets.now c.args.text c.requires.fits
     c.requires.ahead c.further-self.result c.further-self.ensures
-    c.from_residual.result c.emit.new.self _ _ c.from_residual.ensures.0 c.in_err-progress.ensures.writes
+    c.from_residual.result c.emit.new.self _ _ c.from_residual.ensures.0
+    c.in_err-progress.ensures.writes
 
 pub returns : goal.returns
 returns g c =

@@ -22,16 +22,20 @@ pub returns : goal.returns
 returns c =
     let octets = c.args.octets.now in
     let some = c.in-Some-Number.is in
-    let number : c.in-Some-Number.field-0 ≡ innermost.Number c.in-Some-Number.of = rw some at c.in-Some-Number.field-0-is in
+    let number : c.in-Some-Number.field-0 ≡ innermost.Number c.in-Some-Number.of =
+    rw some at c.in-Some-Number.field-0-is in
     let ahead = c.in-Some.length in
     let m = c.in-More-Content-default-default-eq0 in
     let inner : m.field-0 ≡ innermost.Content m.of m.total m.field-0-2 = rw m.is at m.field-0-is in
     let start : m.field-0-2 ≡ 0 = rw (m.is, inner) at m.field-0-2-test in
     let rest = rest_from ahead.count octets in
     let short : m.total ≤ 32 = omega (arith, c.if-size-gt32.false) in
-    let within : m.total < length (drop ahead.count octets) = omega (arith, c.if-text-size.false, ap length rest) in
-    text_stands c.args.catalogue.now c.args.self.now octets c.in-Some-Number.of m.of ahead.of ahead.count m.total ahead.step ahead.rest.now
+    let within : m.total < length (drop ahead.count octets) =
+    omega (arith, c.if-text-size.false, ap length rest) in
+    text_stands c.args.catalogue.now c.args.self.now octets c.in-Some-Number.of m.of ahead.of
+    ahead.count m.total ahead.step ahead.rest.now
     c.in-Text.field-0 _ c.if-self.false (some ∙ ap Some number) c.in-Text.ensures.shape
-    (m.is ∙ ap transitions.More (inner ∙ ap (innermost.Content m.of m.total) start)) c.in-Length.is c.in-Some.ensures
+    (m.is ∙ ap transitions.More (inner ∙ ap (innermost.Content m.of m.total) start)) c.in-Length.is
+    c.in-Some.ensures
     short within (rw rest at c.if-text-size-ne0.false)
     refl refl (ap (take m.total) rest)

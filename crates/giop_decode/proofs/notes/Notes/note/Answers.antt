@@ -11,4 +11,6 @@ returns-in-Switch-clause-notes c h here at lines recalls says =
     let path = path_in [] (open_parts c.args.catalogue.now here c.args.outer.now) in
     let k = rw c.in-Switch.is at says in
     let noted = rw c.switch_type.ensures.tree at c.note_switch.ensures.notes in
-    rw (c.in-Switch.is, k.1) (subst (HoldsNoted c.note_switch.new.self) (switch_noted (is_header_root c.args.root) path _ h k.0.scalar k.0.n at) (noted h k.0 recalls))
+    rw (c.in-Switch.is, k.1) (subst (HoldsNoted c.note_switch.new.self)
+    (switch_noted (is_header_root c.args.root) path _ h k.0.scalar k.0.n at)
+    (noted h k.0 recalls))

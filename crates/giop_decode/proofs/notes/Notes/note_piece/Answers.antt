@@ -17,25 +17,32 @@ all_rest h (x ∷ held) rest none = absurd (false≢true (sym (none ∙ eqb-suc-
 
 module _ (h : Noted) (held rest : List ℕ) (m new : Notes)
     (adds : (x : Noted) → HoldsNoted m x → HoldsNoted new (with_piece x rest)) where
-  with_held : (before : Notes) → m ≡ before → HoldsNoted before (with_piece (without_name_if true h) held) →
+  with_held : (before : Notes) → m ≡ before →
+      HoldsNoted before (with_piece (without_name_if true h) held) →
       HoldsNoted new (with_piece h (held ++ rest))
-  with_held before same recalls = subst (HoldsNoted new) (piece_both (without_name_if true h) held rest)
-      (adds (with_piece (without_name_if true h) held) (subst (λ n. HoldsNoted n (with_piece (without_name_if true h) held)) (sym same) recalls))
+  with_held before same recalls = subst (HoldsNoted new)
+      (piece_both (without_name_if true h) held rest)
+      (adds (with_piece (without_name_if true h) held)
+      (subst (λ n. HoldsNoted n (with_piece (without_name_if true h) held)) (sym same) recalls))
 
   without : (before : Notes) → m ≡ before → HoldsNoted before (without_name_if true h) →
       true ≡ (length held == 0) → HoldsNoted new (with_piece h (held ++ rest))
   without before same recalls none = subst (HoldsNoted new) (all_rest h held rest none)
-      (adds (without_name_if true h) (subst (λ n. HoldsNoted n (without_name_if true h)) (sym same) recalls))
+      (adds (without_name_if true h) (subst (λ n. HoldsNoted n (without_name_if true h)) (sym same)
+      recalls))
 
 pub returns-then-not-more-clause-notes : goal.returns-then-not-more-clause-notes
 returns-then-not-more-clause-notes c h recalls =
     let held = c.args.held.now in
     let rest = c.args.rest.now in
     let quiet = c.forget.ensures.notes h recalls in
-    let both : HoldsNoted c.extend-2.new.self (with_piece h (held ++ rest)) = elim c.if-not-is_empty.branch [
-      | then-not-is_empty w ↦ with_held h held rest c.if-not-is_empty.self c.extend-2.new.self c.extend-2.ensures.notes w.extend.new.self w.self-is
+    let both : HoldsNoted c.extend-2.new.self (with_piece h (held ++ rest)) =
+    elim c.if-not-is_empty.branch [
+      | then-not-is_empty w ↦ with_held h held rest c.if-not-is_empty.self c.extend-2.new.self
+          c.extend-2.ensures.notes w.extend.new.self w.self-is
           (w.extend.ensures.notes (without_name_if true h) quiet)
-      | else-not-is_empty w ↦ without h held rest c.if-not-is_empty.self c.extend-2.new.self c.extend-2.ensures.notes c.forget.new.self w.self-is quiet
+      | else-not-is_empty w ↦ without h held rest c.if-not-is_empty.self c.extend-2.new.self
+          c.extend-2.ensures.notes c.forget.new.self w.self-is quiet
           w.if-not-is_empty.ensures
     ] in
     subst (HoldsNoted c.end.new.self) (piece_last h (held ++ rest) c.args.more c.if-not-more.true)
@@ -46,10 +53,14 @@ returns-else-not-more-clause-notes c h recalls =
     let held = c.args.held.now in
     let rest = c.args.rest.now in
     let quiet = c.forget.ensures.notes h recalls in
-    let both : HoldsNoted c.extend-2.new.self (with_piece h (held ++ rest)) = elim c.if-not-is_empty.branch [
-      | then-not-is_empty w ↦ with_held h held rest c.if-not-is_empty.self c.extend-2.new.self c.extend-2.ensures.notes w.extend.new.self w.self-is
+    let both : HoldsNoted c.extend-2.new.self (with_piece h (held ++ rest)) =
+    elim c.if-not-is_empty.branch [
+      | then-not-is_empty w ↦ with_held h held rest c.if-not-is_empty.self c.extend-2.new.self
+          c.extend-2.ensures.notes w.extend.new.self w.self-is
           (w.extend.ensures.notes (without_name_if true h) quiet)
-      | else-not-is_empty w ↦ without h held rest c.if-not-is_empty.self c.extend-2.new.self c.extend-2.ensures.notes c.forget.new.self w.self-is quiet
+      | else-not-is_empty w ↦ without h held rest c.if-not-is_empty.self c.extend-2.new.self
+          c.extend-2.ensures.notes c.forget.new.self w.self-is quiet
           w.if-not-is_empty.ensures
     ] in
-    subst (HoldsNoted c.extend-2.new.self) (piece_more h (held ++ rest) c.args.more c.if-not-more.false) both
+    subst (HoldsNoted c.extend-2.new.self)
+    (piece_more h (held ++ rest) c.args.more c.if-not-more.false) both
