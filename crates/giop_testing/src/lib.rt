@@ -1,5 +1,5 @@
-//! What the tests of several crates have in common: octets in hexadecimal digits, the first line that differs, and counts
-//! of rows. It stands on nothing of GIOP.
+//! What the tests of several crates have in common: octets in hexadecimal digits, the first line
+//! that differs, and counts of rows. It stands on nothing of GIOP.
 #![tactic(auto)]
 
 mod difference;

@@ -34,7 +34,8 @@ impl Tally {
         self.runs = self.runs.saturating_add(1);
     }
 
-    /// The status of a program that tried the rows, or could not go on: 0 where there are rows and none differs.
+    /// The status of a program that tried the rows, or could not go on: 0 where there are rows and
+    /// none differs.
     pub fn status(&self, tried: io::Result<()>) -> ExitCode {
         match tried {
             Ok(()) if self.rows > 0 && self.differ == 0 => ExitCode::from(0),
