@@ -21,15 +21,13 @@
 
 mod connection;
 mod conversation;
-mod difference;
 mod reading;
 mod side;
-mod tally;
 mod telling;
 
 use giop_run::front;
+use giop_testing::Tally;
 use std::process::ExitCode;
-use tally::Tally;
 use telling::tell;
 
 /// How many octets the conversations have at most.
@@ -43,9 +41,6 @@ fn main(rt: HostRuntime) -> ExitCode {
         return ExitCode::from(3);
     };
     let mut tally = Tally::new();
-    match tell(&rt, text, &mut tally) {
-        Ok(()) if tally.is_clean() => ExitCode::from(0),
-        Ok(()) => ExitCode::from(1),
-        Err(_) => ExitCode::from(4),
-    }
+    let told = tell(&rt, text, &mut tally);
+    tally.status(told)
 }

@@ -4,8 +4,8 @@ ghost use Rattle.giop_stream.specs.EngineHolds.{AreOf};
 
 use super::conversation::Conversation;
 use super::reading::is_read_each_way;
-use super::tally::Tally;
 use giop_sig::{Catalogue, Requests};
+use giop_testing::Tally;
 use std::io;
 
 /// Prints for each conversation whether it is as expected, and at the end how many there were.
@@ -13,10 +13,7 @@ pub fn tell(rt: &HostRuntime, text: &str, tally: &mut Tally) -> io::Result<()> {
     for set in text.strip_suffix('\n').unwrap_or("").split("\n=\n") {
         tell_set(rt, set, tally)?;
     }
-    println!(rt;
-        "{} conversations, {} differ",
-        tally.conversations, tally.differ
-    )
+    println!(rt; "{} conversations, {} differ", tally.rows, tally.differ)
 }
 
 fn tell_set(rt: &HostRuntime, set: &str, tally: &mut Tally) -> io::Result<()> {

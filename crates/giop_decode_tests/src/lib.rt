@@ -2,8 +2,6 @@
 #![tactic(auto)]
 
 #[cfg(test)]
-mod octets;
-#[cfg(test)]
 mod rows;
 #[cfg(test)]
 mod stored_tests;

@@ -2,11 +2,11 @@
 ghost use Rattle.std.specs.Prelude.{IfSome};
 ghost use Rattle.giop_decode.specs.DecoderState.{Fits};
 
-use crate::octets::{front, spelled};
 use giop_cdr::Order;
 use giop_decode::{Decoder, Progress};
 use giop_print::{Root, Sheet};
 use giop_sig::{Catalogue, TypeId};
+use giop_testing::{front, spelled};
 use std::test::Fail;
 
 /// A sequence of structs whose one member is an array: its parameters' type is numbered 44, the sequence 43, the struct
@@ -106,13 +106,12 @@ fn restored(catalogue: &Catalogue, stored: &[u8]) -> Option<Decoder>
 /// What differs of a decoder that is stored and restored, or nothing.
 fn differs(catalogue: &Catalogue, of: TypeId, root: Root, wanted: &Stored) -> &'static str {
     let mut room = [0; 512];
-    let count = spelled(wanted.taken, &mut room);
-    let Some(decoder) = taken(catalogue, of, root, front(&room, count)) else {
+    let octets = spelled(wanted.taken, &mut room);
+    let Some(decoder) = taken(catalogue, of, root, octets) else {
         return "the answer to the octets";
     };
     let mut room = [0; 512];
-    let count = spelled(wanted.stored, &mut room);
-    let stored = front(&room, count);
+    let stored = spelled(wanted.stored, &mut room);
     if !is_stored_as(&decoder, stored) {
         return "what is stored";
     }
@@ -204,8 +203,7 @@ fn a_decoder_in_a_piece_is_restored(rt: HostRuntime) -> Result<(), Fail> {
 /// What differs of a decoder that was saved before bodies were heard, or nothing: it goes on, and its line is right.
 fn unnoted_differs(catalogue: &Catalogue) -> &'static str {
     let mut room = [0; 512];
-    let count = spelled(UNNOTED_STORED, &mut room);
-    let stored = front(&room, count);
+    let stored = spelled(UNNOTED_STORED, &mut room);
     let Some(mut decoder) = restored(catalogue, stored) else {
         return "nothing is restored";
     };
@@ -327,8 +325,8 @@ fn not_refused<'a>(catalogue: &Catalogue, stored: &str, table: &'a str) -> &'a s
 /// Whether stored octets are restored, and refused with the octet of a line instead of one of them.
 fn is_refused(catalogue: &Catalogue, stored: &str, line: &str) -> bool {
     let mut room = [0; 512];
-    let count = spelled(stored, &mut room);
-    if restored(catalogue, front(&room, count)).is_none() {
+    let octets = spelled(stored, &mut room);
+    if restored(catalogue, octets).is_none() {
         return false;
     }
     let mut words = line.split(' ');
@@ -337,11 +335,11 @@ fn is_refused(catalogue: &Catalogue, stored: &str, line: &str) -> bool {
     let (Ok(at), Ok(octet)) = (at, octet) else {
         return false;
     };
-    match room.get_mut(at) {
+    match octets.get_mut(at) {
         Some(place) => *place = octet,
         None => return false,
     }
-    restored(catalogue, front(&room, count)).is_none()
+    restored(catalogue, octets).is_none()
 }
 
 #[test]
@@ -356,7 +354,7 @@ fn frames_too_few_or_too_many_are_refused(rt: HostRuntime) -> Result<(), Fail> {
 /// nothing.
 fn frames_differ(catalogue: &Catalogue) -> &'static str {
     let mut room = [0; 512];
-    let count = spelled(DOTS_STORED, &mut room);
+    let count = spelled(DOTS_STORED, &mut room).len();
     if restored(catalogue, front(&room, count)).is_none() {
         return "neither";
     }

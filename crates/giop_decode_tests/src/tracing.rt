@@ -1,11 +1,11 @@
 //! A value octet by octet: what the decoder answers at each, and what its readers tell behind it.
 ghost use Rattle.giop_decode.specs.DecoderState.{Fits};
 
-use crate::octets::{front, spelled};
 use crate::rows::Row;
 use giop_decode::{Decoder, Progress};
 use giop_print::Sheet;
 use giop_sig::Catalogue;
+use giop_testing::spelled;
 
 /// What differs of a row, or nothing.
 pub fn differs(catalogue: &Catalogue, row: &Row) -> &'static str {
@@ -16,17 +16,11 @@ pub fn differs(catalogue: &Catalogue, row: &Row) -> &'static str {
     if decoder.is_done() || !tells(&decoder, "0 more - - -") {
         return "before any octet";
     }
-    let mut octets = [0; 256];
-    let count = spelled(row.octets, &mut octets);
+    let mut room = [0; 256];
+    let octets = spelled(row.octets, &mut room);
     let mut room = [0; 1024];
     let mut sheet = Sheet::new(&mut room);
-    let differs = take_all(
-        catalogue,
-        &mut decoder,
-        front(&octets, count),
-        row.told,
-        &mut sheet,
-    );
+    let differs = take_all(catalogue, &mut decoder, octets, row.told, &mut sheet);
     if differs.is_empty() && sheet.held() != row.lines.as_bytes() {
         return "the lines";
     }

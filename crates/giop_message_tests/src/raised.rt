@@ -2,10 +2,10 @@
 ghost use Rattle.std.specs.Prelude.{ℕ, Option, None};
 ghost use Rattle.giop_message_tests.specs.Listened.{listened};
 
-use crate::known::{front, spelled};
 use giop_message::{Correspondent, Message};
 use giop_print::Sheet;
 use giop_sig::{Catalogue, OpId};
+use giop_testing::spelled;
 use std::process::Abort;
 use std::test::Fail;
 
@@ -112,8 +112,7 @@ fn each_reply_tells(rt: &impl Abort, catalogue: &Catalogue) {
 /// What differs of what is told before the octet that is tried, at it and behind it.
 fn reply_differs(catalogue: &Catalogue, reply: &Reply) -> &'static str {
     let mut room = [0; 256];
-    let count = spelled(reply.octets, &mut room);
-    let octets = front(&room, count);
+    let octets = &*spelled(reply.octets, &mut room);
     let Some((header, behind)) = octets.split_first_chunk::<12>() else {
         return "the header";
     };

@@ -2,11 +2,12 @@
 ghost use Rattle.std.specs.Prelude.{◌≡◌, ◌≤◌, length, IfSome};
 ghost use Rattle.giop_message.specs.MessageState.{AreOf, Fits};
 
-use crate::known::{built_in, front, spelled};
+use crate::known::built_in;
 use crate::rows::{Closing, Row, row_of, rows};
 use giop_message::Message;
 use giop_print::{OutFault, Sheet};
 use giop_sig::{Catalogue, Requests};
+use giop_testing::spelled;
 use std::process::Abort;
 use std::test::Fail;
 
@@ -71,9 +72,8 @@ fn each_row_is_restored(rt: &impl Abort, catalogue: &Catalogue, requests: &Reque
     for text in rows() {
         let row = row_of(text);
         let mut room = [0; 256];
-        let count = spelled(row.octets, &mut room);
-        let octets = front(&room, count);
-        for cut in 12..count.saturating_add(1) {
+        let octets = &*spelled(row.octets, &mut room);
+        for cut in 12..octets.len() + 1 {
             let differs = restored_differs(catalogue, requests, row, octets, cut);
             assert!(rt;
                 differs.is_empty(),
@@ -186,18 +186,11 @@ fn case_differs(catalogue: &Catalogue, requests: &Requests, case: &Case) -> &'st
     requires of { AreOf catalogue.now requests.now }
 {
     let (mut octets, mut own, mut part, mut frames) = ([0; 256], [0; 16], [0; 208], [0; 256]);
-    let count = spelled(case.octets, &mut octets);
-    let _sixteen = spelled(case.own, &mut own);
-    let _others = spelled(case.part, &mut part);
-    let held = spelled(case.frames, &mut frames);
-    stored_differs(
-        catalogue,
-        requests,
-        front(&octets, count),
-        &own,
-        &part,
-        front(&frames, held),
-    )
+    let octets = spelled(case.octets, &mut octets);
+    let own = spelled(case.own, &mut own);
+    let part = spelled(case.part, &mut part);
+    let frames = spelled(case.frames, &mut frames);
+    stored_differs(catalogue, requests, octets, own, part, frames)
 }
 
 /// What differs of what is stored of a message of these octets.
@@ -283,8 +276,7 @@ fn is_refused(catalogue: &Catalogue, line: &str) -> bool {
     };
     let mut fixed = fixed_of(&CASES[case % 5]);
     let mut room = [0; 256];
-    let held = spelled(CASES[case % 5].frames, &mut room);
-    let frames = front(&room, held);
+    let frames = spelled(CASES[case % 5].frames, &mut room);
     if !is_restored(catalogue, &fixed, frames) {
         return false;
     }

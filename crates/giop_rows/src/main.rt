@@ -45,14 +45,13 @@ mod loading;
 mod resuming;
 mod row;
 mod saving;
-mod tally;
 mod telling;
 mod trying;
 mod way;
 
 use giop_run::front;
+use giop_testing::Tally;
 use std::process::ExitCode;
-use tally::Tally;
 use telling::tell;
 
 /// How many octets the rows have at most.
@@ -66,9 +65,6 @@ fn main(rt: HostRuntime) -> ExitCode {
         return ExitCode::from(3);
     };
     let mut tally = Tally::new();
-    match tell(&rt, text, &mut tally) {
-        Ok(()) if tally.is_clean() => ExitCode::from(0),
-        Ok(()) => ExitCode::from(1),
-        Err(_) => ExitCode::from(4),
-    }
+    let told = tell(&rt, text, &mut tally);
+    tally.status(told)
 }

@@ -22,19 +22,17 @@
 //! differs it has the listener, and the first line of it that differs. The status is 0 where there are rows and none differs.
 #![tactic(auto)]
 
-mod difference;
 mod endpoint;
 mod row;
 mod running;
 mod setting;
 mod step;
-mod tally;
 mod teller;
 mod telling;
 
+use giop_testing::Tally;
 use std::io;
 use std::process::ExitCode;
-use tally::Tally;
 use telling::tell;
 
 fn main(rt: HostRuntime) -> ExitCode {
@@ -42,9 +40,6 @@ fn main(rt: HostRuntime) -> ExitCode {
         return ExitCode::from(4);
     };
     let mut tally = Tally::new();
-    match tell(&rt, &text, &mut tally) {
-        Ok(()) if tally.is_clean() => ExitCode::from(0),
-        Ok(()) => ExitCode::from(1),
-        Err(_) => ExitCode::from(4),
-    }
+    let told = tell(&rt, &text, &mut tally);
+    tally.status(told)
 }

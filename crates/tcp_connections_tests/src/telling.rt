@@ -1,9 +1,8 @@
 //! Reads the rows, tells each to its listeners, and prints whether it differs.
 
-use crate::difference::compare;
 use crate::row::Row;
 use crate::running::told_of;
-use crate::tally::Tally;
+use giop_testing::{Tally, compare};
 use std::io;
 
 /// Prints for each row whether it is told as it says, and at the end how many there were.
@@ -13,7 +12,7 @@ pub fn tell(rt: &HostRuntime, text: &str, tally: &mut Tally) -> io::Result<()> {
     }
     println!(rt;
         "{} rows, {} listeners, {} rows differ",
-        tally.rows, tally.listeners, tally.differ
+        tally.rows, tally.runs, tally.differ
     )
 }
 
@@ -52,7 +51,7 @@ fn is_told_to(
     fails: bool,
     tally: &mut Tally,
 ) -> io::Result<bool> {
-    tally.count_listener();
+    tally.count_run();
     let left = if fails { count } else { usize::MAX };
     let Some(teller) = told_of(rt.alloc(), row, left) else {
         println!(rt; "NOT RUN {}", row.name)?;

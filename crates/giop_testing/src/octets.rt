@@ -1,0 +1,55 @@
+//! Octets in hexadecimal digits.
+
+use std::alloc::Global;
+use std::io::Write;
+
+/// The octets that words of hexadecimal digits spell, where `xx*n` is n times; a word ends at a
+/// space or a line feed. `None` for another text, and without memory.
+pub fn octets_of(alloc: Global, text: &str) -> Option<Vec<u8>> {
+    let mut octets = Vec::new(alloc);
+    put_words(text, &mut octets)?;
+    Some(octets)
+}
+
+/// The octets of such words, in the front of this room; none where it is another text, or there is
+/// no room for them.
+pub fn spelled<'r>(text: &str, room: &'r mut [u8]) -> &'r mut [u8] {
+    let size = room.len();
+    let mut left = &mut room[..];
+    let count = match put_words(text, &mut left) {
+        Some(()) => size.saturating_sub(left.len()),
+        None => 0,
+    };
+    room.split_at_mut(count.min(size)).0
+}
+
+/// So many octets, from the front.
+pub fn front(octets: &[u8], count: usize) -> &[u8] {
+    octets.split_at(count.min(octets.len())).0
+}
+
+fn put_words<W: Write>(text: &str, out: &mut W) -> Option<()> {
+    for word in text.split([' ', '\n']) {
+        let (digits, times) = word.split_once('*').unwrap_or((word, "1"));
+        for _ in 0..u32::from_str_radix(times, 10).ok()? {
+            put_digits(digits, out)?;
+        }
+    }
+    Some(())
+}
+
+fn put_digits<W: Write>(digits: &str, out: &mut W) -> Option<()> {
+    let mut high = None;
+    for digit in digits.chars() {
+        let digit = digit.to_digit(16)?;
+        match high.take() {
+            None => high = Some(digit),
+            // A digit is below 16; the remainders show that to the check.
+            Some(first) => out.write_all(&[(first % 16 * 16 + digit % 16) as u8]).ok()?,
+        }
+    }
+    if high.is_some() {
+        return None;
+    }
+    Some(())
+}
