@@ -1,14 +1,17 @@
 //! What differs between the lines and the status that a row gives, and those of a dump.
 
 use giop_stream::LoadFault;
-use giop_testing::{LineDifference, first_line};
 use std::fmt;
 
 /// The first thing that differs.
 #[derive(Clone, Copy)]
 pub enum Difference<'w, 'g> {
-    /// A line.
-    Line(LineDifference<'w, 'g>),
+    /// A line, counted from 1. An empty text means that there is no such line.
+    Line {
+        number: usize,
+        wanted: &'w str,
+        got: &'g str,
+    },
     /// The status.
     Status {
         wanted: u8,
@@ -45,7 +48,11 @@ pub enum Difference<'w, 'g> {
 impl fmt::Display for Difference<'_, '_> {
     fn fmt<W: fmt::Write>(&self, f: &mut fmt::Formatter<W>) -> fmt::Result {
         match self {
-            Difference::Line(line) => write!(f, "{line}"),
+            Difference::Line {
+                number,
+                wanted,
+                got,
+            } => write!(f, "line {number}\n  wanted: {wanted}\n  got: {got}"),
             Difference::Status { wanted, got } => {
                 write!(f, "status\n  wanted: {wanted}\n  got: {got}")
             }
@@ -81,7 +88,7 @@ pub fn compare<'w, 'g>(
 ) -> Option<Difference<'w, 'g>> {
     let got = str::from_utf8(written).unwrap_or("octets that are no text");
     if !is_same(wanted, got) {
-        return Some(Difference::Line(first_line(wanted, got)));
+        return Some(first_line(wanted, got));
     }
     if status != wanted_status {
         return Some(Difference::Status {
@@ -109,7 +116,7 @@ pub fn compare_front<'w, 'g>(
 ) -> Option<Difference<'w, 'g>> {
     let got = str::from_utf8(written).unwrap_or("octets that are no text");
     if !wanted.starts_with(got.strip_suffix('\n').unwrap_or(got)) {
-        return Some(Difference::Line(first_line(wanted, got)));
+        return Some(first_line(wanted, got));
     }
     if status != 4 {
         return Some(Difference::Status {
@@ -118,4 +125,26 @@ pub fn compare_front<'w, 'g>(
         });
     }
     None
+}
+
+/// The first line in which two texts differ, or the first one after the end of one of them.
+fn first_line<'w, 'g>(wanted: &'w str, got: &'g str) -> Difference<'w, 'g> {
+    let mut number = 1usize;
+    let mut left = got.split('\n');
+    for wanted in wanted.split('\n') {
+        let got = left.next().unwrap_or("");
+        if wanted != got {
+            return Difference::Line {
+                number,
+                wanted,
+                got,
+            };
+        }
+        number = number.saturating_add(1);
+    }
+    Difference::Line {
+        number,
+        wanted: "",
+        got: left.next().unwrap_or(""),
+    }
 }

@@ -45,13 +45,14 @@ mod loading;
 mod resuming;
 mod row;
 mod saving;
+mod tally;
 mod telling;
 mod trying;
 mod way;
 
 use giop_run::front;
-use giop_testing::Tally;
 use std::process::ExitCode;
+use tally::Tally;
 use telling::tell;
 
 /// How many octets the rows have at most.
@@ -65,6 +66,9 @@ fn main(rt: HostRuntime) -> ExitCode {
         return ExitCode::from(3);
     };
     let mut tally = Tally::new();
-    let told = tell(&rt, text, &mut tally);
-    tally.status(told)
+    match tell(&rt, text, &mut tally) {
+        Ok(()) if tally.is_clean() => ExitCode::from(0),
+        Ok(()) => ExitCode::from(1),
+        Err(_) => ExitCode::from(4),
+    }
 }

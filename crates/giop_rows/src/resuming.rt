@@ -5,13 +5,12 @@ ghost use Rattle.giop_stream.specs.EngineHolds.{AreOf};
 use super::difference::Difference;
 use super::engine::engine_for;
 use super::kept::{Kept, complement};
-use super::row::Row;
+use super::row::{Row, octets};
 use super::saving::ended;
 use super::trying::{differs, is_as_told, malformed};
 use giop_print::Sheet;
 use giop_sig::{Catalogue, Requests};
 use giop_stream::{Engine, LoadFault};
-use giop_testing::octets_of;
 use std::alloc::Global;
 use std::io;
 
@@ -37,7 +36,7 @@ pub fn is_resumed(
 ) -> io::Result<bool>
     requires of { AreOf catalogue.now requests.now }
 {
-    match octets_of(rt.alloc(), kept.behind) {
+    match octets(rt.alloc(), kept.behind) {
         Some(behind) => is_followed(rt, catalogue, requests, row, kept, &behind),
         None => malformed(rt, row.name, kept.behind),
     }
@@ -54,7 +53,7 @@ fn is_followed(
 ) -> io::Result<bool>
     requires of { AreOf catalogue.now requests.now }
 {
-    let Some(mut checkpoint) = octets_of(rt.alloc(), kept.checkpoint) else {
+    let Some(mut checkpoint) = octets(rt.alloc(), kept.checkpoint) else {
         return malformed(rt, row.name, kept.checkpoint);
     };
     Ok(
@@ -140,7 +139,7 @@ fn is_saved_of(
     if front.is_empty() {
         return Ok(true);
     }
-    let first = match octets_of(rt.alloc(), front) {
+    let first = match octets(rt.alloc(), front) {
         Some(front) => {
             let engine = engine_for(rt.alloc(), catalogue, requests, row.most)?;
             is_saved_behind(rt, row, engine, &front, checkpoint)?

@@ -55,6 +55,24 @@ pub fn named<'a>(text: &'a str, name: &str) -> (&'a str, &'a str) {
     behind.split_once('\n').unwrap_or((behind, ""))
 }
 
+/// The octets of hexadecimal text, with spaces and line feeds anywhere. `None` for another text and without memory.
+pub fn octets(alloc: Global, text: &str) -> Option<Vec<u8>> {
+    let mut octets = Vec::new(alloc);
+    let mut high = None;
+    for digit in text.chars().filter(|c| *c != ' ' && *c != '\n') {
+        let digit = digit.to_digit(16)?;
+        match high.take() {
+            None => high = Some(digit),
+            // A digit is below 16; the remainders show that to the check.
+            Some(first) => octets.push((first % 16 * 16 + digit % 16) as u8).ok()?,
+        }
+    }
+    if high.is_some() {
+        return None;
+    }
+    Some(octets)
+}
+
 /// The request list of a text in which `I..J NAME` stands for a line for each id from I to J.
 pub fn list(alloc: Global, text: &str) -> Option<String> {
     let mut list = String::new(alloc);

@@ -10,7 +10,6 @@ use super::trying::{differs, is_as_told, malformed};
 use giop_print::Sheet;
 use giop_sig::{Catalogue, Requests};
 use giop_stream::Engine;
-use giop_testing::front;
 use std::alloc::Global;
 use std::io;
 
@@ -120,6 +119,11 @@ fn saved<'a>(
 fn most(open: u32, depth: u8) -> usize {
     let records = (open as usize).min(4096) + 1;
     FIXED + records * (256 + 24 * usize::from(depth))
+}
+
+/// The first so many octets.
+fn front(octets: &[u8], length: usize) -> &[u8] {
+    octets.split_at(length.min(octets.len())).0
 }
 
 /// The octet after so many others, alone; empty at the end of the stream.

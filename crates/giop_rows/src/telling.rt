@@ -4,10 +4,10 @@ ghost use Rattle.giop_stream.specs.EngineHolds.{AreOf};
 
 use super::kept::Kept;
 use super::resuming::is_resumed;
-use super::row::{Row, list};
+use super::row::{Row, list, octets};
+use super::tally::Tally;
 use super::trying::is_dumped_each_way;
 use giop_sig::{Catalogue, Requests, SigFault};
-use giop_testing::{Tally, octets_of};
 use std::alloc::Global;
 use std::io;
 
@@ -105,7 +105,7 @@ fn tell_row(
         tally.count(is_as_told);
         return told(rt, row.name, is_as_told);
     }
-    match octets_of(rt.alloc(), row.stream) {
+    match octets(rt.alloc(), row.stream) {
         Some(stream) => tell_stream(rt, catalogue, requests, row, &stream, tally),
         None => unread(rt, "MALFORMED octets", row.stream, tally),
     }

@@ -4,7 +4,6 @@ use super::faulty::Octets;
 use giop_print::Out;
 use giop_run::{Ending, Piecewise, Reading, RunFault, Source, run};
 use giop_stream::{Engine, Stop, Totals};
-use giop_testing::front;
 use std::fmt;
 
 /// A way of dumping a stream.
@@ -71,6 +70,11 @@ impl fmt::Display for Way {
             Way::Failing(puts) => write!(f, "a put failed behind {puts}"),
         }
     }
+}
+
+/// The first so many octets of a stream.
+fn front(stream: &[u8], at: usize) -> &[u8] {
+    stream.split_at(at.min(stream.len())).0
 }
 
 /// Runs a source to the stream's end; returns the totals.

@@ -7,5 +7,5 @@ mod octets;
 mod tally;
 
 pub use difference::{LineDifference, compare, first_line};
-pub use octets::{front, octets_of, spelled};
+pub use octets::{front, spelled};
 pub use tally::Tally;

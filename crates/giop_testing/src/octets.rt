@@ -1,18 +1,9 @@
 //! Octets in hexadecimal digits.
 
-use std::alloc::Global;
 use std::io::Write;
 
-/// The octets that words of hexadecimal digits spell, where `xx*n` is n times; a word ends at a
-/// space or a line feed. `None` for another text, and without memory.
-pub fn octets_of(alloc: Global, text: &str) -> Option<Vec<u8>> {
-    let mut octets = Vec::new(alloc);
-    put_words(text, &mut octets)?;
-    Some(octets)
-}
-
-/// The octets of such words, in the front of this room; none where it is another text, or there is
-/// no room for them.
+/// The octets that words of hexadecimal digits spell, where `xx*n` is n times, in the front of this
+/// room; none where it is another text, or there is no room for them.
 pub fn spelled<'r>(text: &str, room: &'r mut [u8]) -> &'r mut [u8] {
     let size = room.len();
     let mut left = &mut room[..];
@@ -29,7 +20,7 @@ pub fn front(octets: &[u8], count: usize) -> &[u8] {
 }
 
 fn put_words<W: Write>(text: &str, out: &mut W) -> Option<()> {
-    for word in text.split([' ', '\n']) {
+    for word in text.split(' ') {
         let (digits, times) = word.split_once('*').unwrap_or((word, "1"));
         for _ in 0..u32::from_str_radix(times, 10).ok()? {
             put_digits(digits, out)?;
