@@ -16,8 +16,8 @@ use crate::frame::Frame;
 use crate::leaf::{Finished, Output};
 use giop_cdr::Number;
 use giop_print::{
-    Out, OutFault, Piece, Root, Value, encapsulation_line, order_line, split_inner_rest_line,
-    split_piece_line, value_line,
+    Out, OutFault, Piece, Root, SplitPiece, Value, encapsulation_line, order_line,
+    split_inner_rest_line, split_piece_line, value_line,
 };
 use giop_sig::{Catalogue, Shape, TypeId};
 
@@ -69,35 +69,23 @@ fn octets_line<O: Out>(
         (results.Piece (tree path.now.table finished.entry.of.0) offset
         (finished.entry.held.now ++ finished.entry.rest.now) more)) }
 {
-    match path.catalogue.shape(finished.of) {
-        Shape::Text(_) => split_piece_line(
-            out,
-            message,
-            path,
-            Piece::Text(finished.held),
-            finished.rest,
-            u64::from(offset),
-            more,
-        ),
-        Shape::Octets(_) => split_piece_line(
-            out,
-            message,
-            path,
-            Piece::Octets(finished.held),
-            finished.rest,
-            u64::from(offset),
-            more,
-        ),
-        Shape::Encapsulation => split_inner_rest_line(
-            out,
-            message,
-            path,
-            u64::from(offset),
-            finished.held,
-            finished.rest,
-        ),
+    let Finished { held, rest, .. } = finished;
+    let offset = u64::from(offset);
+    let held = match path.catalogue.shape(finished.of) {
+        Shape::Text(_) => Piece::Text(held),
+        Shape::Octets(_) => Piece::Octets(held),
+        Shape::Encapsulation => {
+            return split_inner_rest_line(out, message, path, offset, held, rest);
+        }
         _ => unreachable!(),
-    }
+    };
+    let piece = SplitPiece {
+        offset,
+        held,
+        rest,
+        more,
+    };
+    split_piece_line(out, message, path, piece)
 }
 
 /// Writes what an octet of an innermost part finishes.

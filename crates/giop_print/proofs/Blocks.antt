@@ -1,5 +1,5 @@
 -- A block of octets that is copied in front of a line, and the last octets of a line.
-use Rattle.std.proofs.Common.{◌≡◌, ℕ, ◌+◌, ◌-◌, ◌≤◌, List, [], ◌++◌, length, take, drop, ap, ◌∙◌, arith, append-nil, length-take, length-drop}
+use Rattle.std.proofs.Common.{◌≡◌, ℕ, ◌+◌, ◌-◌, ◌≤◌, List, [], ◌++◌, length, take, drop, sym, ap, ◌∙◌, arith, append-nil, length-take, length-drop}
 use Rattle.std.proofs.Math.Seq.{drop-append-add}
 use Rattle.std.proofs.lemmas.List.{drop_all, drop-drop, drop-append-le, take_all}
 use Rattle.std.proofs.lemmas.Simd.{put_chunk_is}
@@ -18,6 +18,13 @@ last_from octets at within size =
     let at_last : 192 + (at - 192) ≡ at = omega (arith, within) in
     rw (all_from octets 192 (omega arith) size)
     (drop-drop (at - 192) 192 octets ∙ ap (λ n. drop n octets) at_last)
+
+pub last_behind : (octets : List ℕ) (at : ℕ) → at ≤ 192 → length octets ≡ 256 →
+    mid_of 192 64 octets ≡ drop (192 - at) (drop at octets)
+last_behind octets at within size =
+    let at_last : at + (192 - at) ≡ 192 = omega (arith, within) in
+    all_from octets 192 (omega arith) size
+    ∙ sym (drop-drop (192 - at) at octets ∙ ap (λ n. drop n octets) at_last)
 
 -- the array with a block in it, up to a place
 placed : (octets block : List ℕ) (a : ℕ) → length octets ≡ 256 → length block ≡ 16 → a ≤ 240 →

@@ -8,7 +8,7 @@ ghost use Rattle.giop_print.specs.Lines.{encapsulation_line, order_line, inner_r
 use crate::lines::{content_line, kind_line};
 use crate::position::Position;
 use crate::sink::{Out, OutFault};
-use crate::value::Piece;
+use crate::value::{Piece, SplitPiece};
 use crate::words::order_word;
 use giop_cdr::Order;
 use itoa::Buffer;
@@ -70,6 +70,11 @@ pub fn split_inner_rest_line<O: Out, P: Position>(
     ensures { Writes result (O.log out.old) (O.log out.new)
         (inner_rest_line message (P.spelled path.now) offset (held.now ++ octets.now)) }
 {
-    let held = Piece::Octets(held);
-    content_line(out, message, path, b" rest @", offset, held, octets, false)
+    let rest = SplitPiece {
+        offset,
+        held: Piece::Octets(held),
+        rest: octets,
+        more: false,
+    };
+    content_line(out, message, path, b" rest @", rest)
 }

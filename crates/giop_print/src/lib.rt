@@ -25,5 +25,5 @@ pub use path::{Path, Root, put_root};
 pub use position::Position;
 pub use sheet::Sheet;
 pub use sink::{Out, OutFault, put_all, put_parts};
-pub use value::{Piece, Value};
+pub use value::{MessageHeader, Piece, SplitPiece, Value};
 pub use written::Written;

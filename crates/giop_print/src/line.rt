@@ -59,12 +59,15 @@ impl Line {
         self.at
     }
 
-    /// The last 64 octets that fit. What was spelled stands at their end, where it isn't longer.
+    /// The last 64 octets that fit. What was spelled stands at their end, where it isn't longer; else
+    /// they are its end.
     #[inline]
     pub fn last_octets(&self) -> &[u8]
         ensures size { length result.now ≡ 64 }
         ensures text { 192 ≤ line_room self.now →
             drop (line_room self.now - 192) result.now ≡ line_text self.now }
+        ensures long { line_room self.now ≤ 192 →
+            result.now ≡ drop (192 - line_room self.now) (line_text self.now) }
     {
         &self.octets[ROOM - 64..]
     }

@@ -10,9 +10,9 @@ ghost use Rattle.giop_print.specs.Lines.{kind_line, kind_word, spaced, number_te
 use crate::line::Line;
 use crate::position::Position;
 use crate::sink::{Out, OutFault, put_parts};
-use crate::value::{Piece, Value};
+use crate::value::{MessageHeader, Piece, SplitPiece, Value};
 use crate::words::{more_word, order_word, piece_word, put_kind, truth_word, type_word};
-use giop_cdr::{Number, Order, Prim, size};
+use giop_cdr::{Number, Prim, size};
 use itoa::Buffer;
 
 /// The line of a value: a number, an enum's name or a count.
@@ -229,33 +229,29 @@ pub fn piece_line<O: Out, P: Position>(
     ensures { Writes result (O.log out.old) (O.log out.new)
         (piece_line message (P.spelled path.now) piece.entry offset more) }
 {
-    split_piece_line(out, message, path, piece, &[], offset, more)
+    let piece = SplitPiece {
+        offset,
+        held: piece,
+        rest: &[],
+        more,
+    };
+    split_piece_line(out, message, path, piece)
 }
 
-/// The line of a piece that came in two: the octets that were held, and those that follow them, at most 32 in all.
+/// The line of a piece that came in two, at most 32 octets in all.
+#[inline(always)]
 pub fn split_piece_line<O: Out, P: Position>(
     out: &mut O,
     message: u64,
     path: &P,
-    held: Piece<'_>,
-    octets: &[u8],
-    offset: u64,
-    more: bool,
+    piece: SplitPiece<'_>,
 ) -> Result<(), OutFault>
-    requires { length (piece_octets held) + length octets.now ≤ 32 }
+    requires { length (piece_octets piece.held) + length piece.rest.now ≤ 32 }
     ensures { Writes result (O.log out.old) (O.log out.new)
-        (split_piece_line message (P.spelled path.now) held.entry octets.now offset more) }
+        (split_piece_line message (P.spelled path.now) piece.entry.held piece.entry.rest.now
+        piece.entry.offset piece.entry.more) }
 {
-    content_line(
-        out,
-        message,
-        path,
-        piece_word(held),
-        offset,
-        held,
-        octets,
-        more,
-    )
+    content_line(out, message, path, piece_word(piece.held), piece)
 }
 
 /// The line of a part of a content, which came in two.
@@ -265,21 +261,18 @@ pub fn content_line<O: Out, P: Position>(
     message: u64,
     path: &P,
     word: &[u8],
-    offset: u64,
-    held: Piece<'_>,
-    octets: &[u8],
-    more: bool,
+    piece: SplitPiece<'_>,
 ) -> Result<(), OutFault>
-    requires { length (piece_octets held) + length octets.now ≤ 32 }
+    requires { length (piece_octets piece.held) + length piece.rest.now ≤ 32 }
     ensures { Writes result (O.log out.old) (O.log out.new)
-        (content_line message (P.spelled path.now) word.now offset
-        (split_text held.entry octets.now) (more_word more)) }
+        (content_line message (P.spelled path.now) word.now piece.entry.offset
+        (split_text piece.entry.held piece.entry.rest.now) (more_word piece.entry.more)) }
 {
     let mut line = Line::new();
     line.put(b'\n');
-    line.put_octets(more_word(more));
-    line.put_piece(held, octets);
-    line.put_number(offset);
+    line.put_octets(more_word(piece.more));
+    line.put_piece(piece.held, piece.rest);
+    line.put_number(piece.offset);
     placed_line(out, message, path, word, &mut line)
 }
 
@@ -321,29 +314,21 @@ pub fn split_rest_line<O: Out>(
 
 /// The line of a header: the minor version, the order, the message type, the size, and whether fragments follow.
 #[tactic(auto, unfolding(crate::specs::Lines::start_line))]
-pub fn start_line<O: Out>(
-    out: &mut O,
-    message: u64,
-    minor: u8,
-    order: Order,
-    kind: u8,
-    size: u32,
-    more: bool,
-) -> Result<(), OutFault>
+pub fn start_line<O: Out>(out: &mut O, message: u64, header: MessageHeader) -> Result<(), OutFault>
     ensures { Writes result (O.log out.old) (O.log out.new)
-        (start_line message minor order kind size more) }
+        (start_line message header.minor header.order header.kind header.size header.more) }
 {
     let mut digits = Buffer::new();
     let mut line = Line::new();
     line.put(b'\n');
-    line.put_octets(more_word(more));
-    line.put_number(u64::from(size));
+    line.put_octets(more_word(header.more));
+    line.put_number(u64::from(header.size));
     line.put_octets(b" size ");
-    line.put_octets(type_word(kind, &mut digits));
+    line.put_octets(type_word(header.kind, &mut digits));
     line.put(b' ');
-    line.put_octets(order_word(order));
+    line.put_octets(order_word(header.order));
     line.put(b' ');
-    line.put_number(u64::from(minor));
+    line.put_number(u64::from(header.minor));
     line.put_octets(b" start 1.");
     numbered_line(out, message, &mut line)
 }
@@ -351,6 +336,24 @@ pub fn start_line<O: Out>(
 /// The line of a Request's id and operation.
 #[tactic(auto, unfolding(crate::specs::Lines::call_line))]
 pub fn call_line<O: Out>(out: &mut O, message: u64, id: u32, name: &[u8]) -> Result<(), OutFault>
+    ensures { Writes result (O.log out.old) (O.log out.new) (call_line message id name.now) }
+{
+    if name.len() > SHORT {
+        return long_call_line(out, message, id, name);
+    }
+    let mut line = Line::new();
+    line.put(b'\n');
+    line.put_octets(name);
+    line.put(b' ');
+    line.put_number(u64::from(id));
+    line.put_octets(b" call ");
+    numbered_line(out, message, &mut line)
+}
+
+/// The same of any name, in parts.
+#[tactic(auto, unfolding(crate::specs::Lines::call_line))]
+#[inline(never)]
+fn long_call_line<O: Out>(out: &mut O, message: u64, id: u32, name: &[u8]) -> Result<(), OutFault>
     ensures { Writes result (O.log out.old) (O.log out.new) (call_line message id name.now) }
 {
     let mut message_digits = Buffer::new();

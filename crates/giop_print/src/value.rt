@@ -1,6 +1,6 @@
-//! What a line shows of a body: a value, or a piece of a content.
+//! What a line shows: of a header, or of a body a value or a piece of a content.
 
-use giop_cdr::{Number, Prim};
+use giop_cdr::{Number, Order, Prim};
 
 /// What a value line has after its path.
 #[derive(Clone, Copy, Debug, PartialEq, Eq)]
@@ -20,4 +20,32 @@ pub enum Piece<'a> {
     Text(&'a [u8]),
     /// Of an octet sequence.
     Octets(&'a [u8]),
+}
+
+/// A piece of a content that came in two, and where it stands.
+#[derive(Clone, Copy)]
+pub struct SplitPiece<'a> {
+    /// How many octets of the content stand before it.
+    pub offset: u64,
+    /// The octets that were held.
+    pub held: Piece<'a>,
+    /// Those that follow them.
+    pub rest: &'a [u8],
+    /// Whether more of the content comes.
+    pub more: bool,
+}
+
+/// What the line of a message's header shows (GIOP Message Header).
+#[derive(Clone, Copy)]
+pub struct MessageHeader {
+    /// The minor version of GIOP 1.
+    pub minor: u8,
+    /// The byte order of the message.
+    pub order: Order,
+    /// The number of the message type.
+    pub kind: u8,
+    /// How many octets follow the header.
+    pub size: u32,
+    /// Whether fragments follow.
+    pub more: bool,
 }

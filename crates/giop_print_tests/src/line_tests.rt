@@ -1,10 +1,12 @@
 //! The lines of worked streams, and of pieces.
 
+ghost use Rattle.std.specs.Prelude.{◌≡◌};
+
 use crate::streams::{FRAGMENTS, REQUEST, fragments, request};
 use giop_cdr::Order;
 use giop_print::{
-    OutFault, Path, Piece, Root, Sheet, encapsulation_line, inner_rest_line, order_line,
-    piece_line, split_inner_rest_line, split_piece_line, split_rest_line,
+    Line, OutFault, Path, Piece, Root, Sheet, SplitPiece, encapsulation_line, inner_rest_line,
+    order_line, piece_line, split_inner_rest_line, split_piece_line, split_rest_line,
 };
 use std::test::Fail;
 
@@ -62,12 +64,35 @@ fn pieces_are_escaped_or_spelled_and_say_whether_more_comes(rt: HostRuntime) -> 
     Ok(())
 }
 
+/// A piece that came in two.
+fn split<'a>(offset: u64, held: Piece<'a>, rest: &'a [u8], more: bool) -> SplitPiece<'a>
+    ensures held { result.held ≡ held.entry }
+    ensures rest { result.rest ≡ rest.entry }
+{
+    SplitPiece {
+        offset,
+        held,
+        rest,
+        more,
+    }
+}
+
 /// Pieces of a text and of octets, and a part of a rest, of which each came in two.
 fn split_parts(sheet: &mut Sheet, path: &Path) -> Result<(), OutFault> {
-    split_piece_line(sheet, 1, path, Piece::Text(b"IDL:"), b"La\x07", 0, false)?;
-    split_piece_line(sheet, 1, path, Piece::Text(b""), b"te\"", 32, true)?;
-    split_piece_line(sheet, 1, path, Piece::Octets(&[0xab; 31]), b"\xcd", 0, true)?;
-    split_piece_line(sheet, 1, path, Piece::Octets(b""), b"", 32, false)?;
+    split_piece_line(
+        sheet,
+        1,
+        path,
+        split(0, Piece::Text(b"IDL:"), b"La\x07", false),
+    )?;
+    split_piece_line(sheet, 1, path, split(32, Piece::Text(b""), b"te\"", true))?;
+    split_piece_line(
+        sheet,
+        1,
+        path,
+        split(0, Piece::Octets(&[0xab; 31]), b"\xcd", true),
+    )?;
+    split_piece_line(sheet, 1, path, split(32, Piece::Octets(b""), b"", false))?;
     split_rest_line(sheet, 1, 32, b"\x00\x00", b"\x00\x2a\x09")
 }
 
@@ -86,6 +111,17 @@ fn parts_that_came_in_two_are_written_as_one(rt: HostRuntime) -> Result<(), Fail
     split_parts(&mut sheet, &path)?;
     assert!(rt; sheet.held() == SPLIT_PARTS);
     Ok(())
+}
+
+#[test]
+fn the_end_of_a_block_goes_before_a_line(rt: HostRuntime) {
+    let mut line = Line::new();
+    line.put_octets(b"end\n");
+    line.put_end(b"0123456789abs12 ", 4);
+    assert!(rt; line.text() == b"s12 end\n".as_slice() && line.room() == 248);
+    assert!(rt; &line.last_octets()[56..] == line.text());
+    line.put_octets(&[b'x'; 80]);
+    assert!(rt; line.last_octets() == &line.text()[24..]);
 }
 
 /// An encapsulation and its order, and what is left of it behind its value, whole and in two.

@@ -2,15 +2,26 @@
 
 use giop_cdr::{Number, Order, Prim};
 use giop_print::{
-    Out, OutFault, Path, Piece, Root, Value, call_line, cancelled_line, continues_line, end_line,
-    fault_line, piece_line, rest_line, start_line, stream_fault_line, total_line, unfinished_line,
-    value_line,
+    MessageHeader, Out, OutFault, Path, Piece, Root, Value, call_line, cancelled_line,
+    continues_line, end_line, fault_line, piece_line, rest_line, start_line, stream_fault_line,
+    total_line, unfinished_line, value_line,
 };
+
+/// A header of a message that no fragments follow.
+pub fn header(minor: u8, order: Order, kind: u8, size: u32) -> MessageHeader {
+    MessageHeader {
+        minor,
+        order,
+        kind,
+        size,
+        more: false,
+    }
+}
 
 /// The header of a Request and what it asks for.
 pub fn request<O: Out>(out: &mut O) -> Result<(), OutFault> {
     let mut path = Path::new(Root::Header);
-    start_line(out, 1, 0, Order::Big, 0, 36, false)?;
+    start_line(out, 1, header(0, Order::Big, 0, 36))?;
     path.push_name(b"service_contexts");
     value_line(out, 1, &path, Value::Count(0))?;
     path.restart(Root::Header);
@@ -61,8 +72,10 @@ total messages 1 faults 0 octets 48
 
 /// Fragments, a cancel, faults and a stream that breaks off.
 pub fn fragments<O: Out>(out: &mut O) -> Result<(), OutFault> {
-    start_line(out, 3, 2, Order::Little, 7, 6, true)?;
-    start_line(out, 4, 2, Order::Big, 9, 0, false)?;
+    let mut first = header(2, Order::Little, 7, 6);
+    first.more = true;
+    start_line(out, 3, first)?;
+    start_line(out, 4, header(2, Order::Big, 9, 0))?;
     continues_line(out, 3, 1)?;
     cancelled_line(out, 1, 2)?;
     rest_line(out, 1, 32, b"\x00\x00\x00\x2a\x09")?;

@@ -8,7 +8,7 @@ ghost use Rattle.giop_stream.specs.Text.{stream_word, start_line, stop_text, tru
 use crate::fault::{FramingFault, StreamFault};
 use crate::header::{more_of, size_of};
 use giop_message::{kind_of, minor_of, order_of};
-use giop_print::{Out, OutFault};
+use giop_print::{MessageHeader, Out, OutFault};
 
 /// The word of a stream fault.
 fn stream_word(fault: StreamFault) -> &'static str
@@ -29,15 +29,14 @@ pub fn start_line<O: Out>(out: &mut O, number: u64, header: &[u8]) -> Result<(),
     requires { length header.now ≡ 12 }
     ensures { Writes result (O.log out.old) (O.log out.new) (start_line number header.now) }
 {
-    giop_print::start_line(
-        out,
-        number,
-        minor_of(header),
-        order_of(header),
-        kind_of(header),
-        size_of(header),
-        more_of(header),
-    )
+    let header = MessageHeader {
+        minor: minor_of(header),
+        order: order_of(header),
+        kind: kind_of(header),
+        size: size_of(header),
+        more: more_of(header),
+    };
+    giop_print::start_line(out, number, header)
 }
 
 /// The word of a fault that framing gives a message.
