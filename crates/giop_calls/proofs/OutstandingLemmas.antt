@@ -1,14 +1,9 @@
 -- Entries found by their ids, and what is left of entries whose ids stay apart.
-use Rattle.std.proofs.Common.{◌≡◌, ℕ, zero, suc, ◌+◌, ◌-◌, ◌≤◌, ◌==◌, Bool, true, false, List, [], ◌∷◌, ◌++◌, length, drop, slice_get, Option, Some, None, IfSome, IsSome, OnSome, refl, sym, ap, arith}
+use Rattle.std.proofs.Common.{◌≡◌, ℕ, zero, suc, ◌+◌, ◌-◌, ◌≤◌, ◌==◌, Bool, true, false, List, [], ◌∷◌, ◌++◌, length, drop, slice_get, Option, Some, None, IfSome, refl, sym, ap, arith}
 use Rattle.std.specs.List.{AllByRecursion as Each, filter, find, remove, position_from}
 use Rattle.std.proofs.lemmas.Bool.{eqb-true, eqb-false, ne_eqb}
 use Rattle.giop_entry_table.specs.declared.entry_table.Entry.{Entry}
 use Rattle.giop_calls.specs.Outstanding.{without, AreApart}
-
--- what is said of a value that is there
-pub on_some : {X : Type 0} (P : Type 0) (o : Option X) → IsSome o → OnSome o P → P
-on_some P None there said = absurd (cc)
-on_some P (Some x) there said = said
 
 module _ {V : Type 0} where
   -- what is found stands at the place that the search gives

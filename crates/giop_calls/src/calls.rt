@@ -6,7 +6,7 @@ ghost use Rattle.std.specs.Option.{option_map};
 ghost use Rattle.giop_calls.specs.Outstanding.{without, newest};
 
 use arrayvec::ArrayVec;
-use giop_entry_table::{Entry, EntryTable};
+use giop_entry_table::EntryTable;
 use std::alloc::{AllocError, Global};
 use std::marker::Model;
 
@@ -24,16 +24,6 @@ pub struct Call {
     pub message: u64,
     /// When the Request's header was complete, in nanoseconds since 1970-01-01 UTC; none where its packet has no time.
     pub time: Option<u128>,
-}
-
-/// The call of an entry.
-fn value_of(entry: Option<Entry<Call>>) -> Option<Call>
-    ensures { result ≡ option_map (λ e. e.value) entry }
-{
-    match entry {
-        Some(entry) => Some(entry.value),
-        None => None,
-    }
 }
 
 /// The outstanding calls of one direction, oldest first, one an id. Where as many are outstanding as may be, the oldest
@@ -85,7 +75,7 @@ impl Calls {
             (without id self.old.entries ++ record { key = id; value = call } ∷ []) }
         ensures most { self.new.most ≡ self.old.most }
     {
-        self.take(id);
+        self.forget(id);
         self.make_room();
         if !self.table.is_full() {
             self.table.add(id, call);
@@ -110,8 +100,21 @@ impl Calls {
         ensures most { self.new.most ≡ self.old.most }
     {
         match self.table.find(id) {
-            Some(place) => value_of(self.table.take(place)),
+            Some(place) => Some(self.table.remove(place).value),
             None => None,
+        }
+    }
+
+    /// A call with this request id is no longer outstanding.
+    pub fn forget(&mut self, id: u32)
+        ensures entries { self.new.entries ≡ without id self.old.entries }
+        ensures most { self.new.most ≡ self.old.most }
+    {
+        match self.table.find(id) {
+            Some(place) => {
+                self.table.remove(place);
+            }
+            None => {}
         }
     }
 

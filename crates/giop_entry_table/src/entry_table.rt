@@ -168,7 +168,9 @@ impl<V> EntryTable<V> {
         }
     }
 
-    fn remove(&mut self, place: usize) -> Entry<V>
+    /// Removes the entry at this place, which there must be, and returns it; those after it move up.
+    #[inline]
+    pub fn remove(&mut self, place: usize) -> Entry<V>
         requires { place < length self.old.entries }
         ensures value { slice_get self.old.entries place ≡ Some result }
         ensures entries { self.new.entries ≡ remove self.old.entries place }

@@ -8,7 +8,7 @@ use Rattle.giop_calls.proofs.calls.Calls.add.Goals as goal
 pub invariant_of-self : goal.invariant_of-self
 invariant_of-self c =
     let others : Each (λ other. (other.key == c.args.id) ≡ false) c.self.inside.table.entries =
-    rw (c.self.view_is, c.make_room.ensures.entries, c.take.ensures.entries)
+    rw (c.self.view_is, c.make_room.ensures.entries, c.forget.ensures.entries)
     (each_drop {V = Call} (λ other. (other.key == c.args.id) ≡ false) _ _
     (others_without c.args.id c.args.self.now.entries)) in
     let room : length c.self.inside.table.entries < c.self.inside.table.most =

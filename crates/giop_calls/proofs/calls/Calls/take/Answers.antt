@@ -1,15 +1,13 @@
 use Rattle.std.proofs.Common.{sym, ◌∙◌, arith, ap, refl}
 use Rattle.std.specs.Option.{option_map}
-use Rattle.giop_calls.proofs.OutstandingLemmas.{removed_at, none_without, apart_without, length_without, on_some, found_at, not_found}
+use Rattle.giop_calls.proofs.OutstandingLemmas.{removed_at, none_without, apart_without, length_without, found_at, not_found}
 use Rattle.giop_calls.proofs.calls.Calls.take.Goals as goal
 
 pub invariant_of-self : goal.invariant_of-self
 invariant_of-self c =
     let place = sym c.find.ensures.value ∙ c.in-Some.is in
-    let there = c.take.ensures.variant.1 (rw c.in-Some.is at c.find.ensures.within) in
-    let left = on_some _ _ there c.take.ensures.entries
-    ∙ removed_at _ _ _ c.self.invariant.0 place in
-    rw (left, c.take.ensures.most) (
+    let left = c.remove.ensures.entries ∙ removed_at _ _ _ c.self.invariant.0 place in
+    rw (left, c.remove.ensures.most) (
       apart_without _ _ c.self.invariant.0,
       omega (arith, length_without c.args.id c.self.inside.table.entries, c.self.invariant.1),
     )
@@ -17,15 +15,13 @@ invariant_of-self c =
 pub returns-in-Some-clause-value : goal.returns-in-Some-clause-value
 returns-in-Some-clause-value c =
     let place = sym c.find.ensures.value ∙ c.in-Some.is in
-    rw (← c.self.view_is) (c.value_of.ensures ∙ (ap (option_map (λ e. e.value)) c.take.ensures.value
-    ∙ ap (option_map (λ e. e.value)) (found_at _ _ _ place)))
+    rw (← c.self.view_is) (ap (option_map (λ e. e.value))
+    (sym c.remove.ensures.value ∙ found_at _ _ _ place))
 
 pub returns-in-Some-clause-entries : goal.returns-in-Some-clause-entries
 returns-in-Some-clause-entries c =
     let place = sym c.find.ensures.value ∙ c.in-Some.is in
-    let there = c.take.ensures.variant.1 (rw c.in-Some.is at c.find.ensures.within) in
-    let left = on_some _ _ there c.take.ensures.entries in
-    rw (← c.self.view_is) (left ∙ removed_at _ _ _ c.self.invariant.0 place)
+    rw (← c.self.view_is) (c.remove.ensures.entries ∙ removed_at _ _ _ c.self.invariant.0 place)
 
 pub returns-in-None-clause-value : goal.returns-in-None-clause-value
 returns-in-None-clause-value c =
