@@ -8,6 +8,7 @@ ghost use Rattle.giop_decode.specs.Noted.{noted_of, is_header_root};
 ghost use Rattle.giop_decode.specs.DecoderState.{KeepsNoted};
 ghost use Rattle.giop_message.specs.Messages.{root_of};
 ghost use Rattle.giop_message.specs.MessageState.{is_header};
+ghost use Rattle.giop_message.specs.declared.part.Part.TheVariants as parts;
 
 use crate::body_type::{BodyTypeId, body_type_after, is_empty};
 use crate::correspondent::Correspondent;
@@ -172,10 +173,18 @@ impl Message {
         );
         self.id = id_behind(section, decoder, self.id);
         if self.is_padded(section) {
-            self.part = Part::Padding(body_type_id);
+            self.begin_padding(body_type_id);
         } else {
             self.begin_body(catalogue, body_type_id);
         }
+    }
+
+    /// Goes to the padding in front of the body.
+    #[inline(never)]
+    fn begin_padding(&mut self, body_type_id: BodyTypeId)
+        ensures { self.new ≡ record self.old { part = parts.Padding body_type_id } }
+    {
+        self.part = Part::Padding(body_type_id);
     }
 
     /// Whether there is padding in front of what follows a section.

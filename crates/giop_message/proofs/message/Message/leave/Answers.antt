@@ -23,7 +23,8 @@ returns-then-is_padded-clause-arrives g c answers number header s section r ende
     (c.body_type_after-body_type_id.ensures.is r keeps_noted
     (c.operation_of-operation.ensures.is r keeps_noted)) in
     let body_type_id = wants ∙ wanted_agree C answer (answers number) header section h
-    (λ j. sym (agrees j)) in (
+    (λ j. sym (agrees j)) in
+    rw c.begin_padding.ensures (
       before,
       e ∙ (ap (with_front before) (left_padded S header section h (12 + length s) some)
           ∙ (rw body_type_id (front_pads before (12 + length s) _))),
