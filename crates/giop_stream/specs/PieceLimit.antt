@@ -1,9 +1,9 @@
 -- How many octets of a stream may come in one piece, where something is to be written behind the
 -- octet that begins a message, or ends the header of a Reply or the name of an exception (meaning).
-use Rattle.std.specs.Prelude.{◌≡◌, ℕ, ◌+◌, ◌-◌, ◌^◌, List, ◌++◌, length, Option, Some, None, min, nat_lt, if◌then◌else◌}
+use Rattle.std.specs.Prelude.{◌≡◌, ℕ, ◌+◌, ◌-◌, ◌^◌, List, ◌++◌, length, Option, Some, None, min, nat_lt, ◌&&◌, if◌then◌else◌}
 use Rattle.giop_sig.specs.Table.{Table}
 use Rattle.giop_message.specs.Signatures.{Answers}
-use Rattle.giop_message.specs.Headers.{size}
+use Rattle.giop_message.specs.Headers.{size, is_fragment}
 use Rattle.giop_message.specs.HeaderEnds.{AreSilent}
 use Rattle.giop_stream.specs.Rules.{Rules, rules_by}
 use Rattle.giop_stream.specs.Framing.{Message, cut, messages}
@@ -19,11 +19,11 @@ pub record IsQuiet (R : Rules) (p octets : List ℕ) : Type 0 where
   pub none_begin : length (messages (cut (p ++ octets))) ≡ length (messages (cut p))
   pub none_end : AreSilent (header_ends_from R p octets)
 
--- How many octets may come after n of a payload of this size, as far as the next message's
--- beginning goes: up to the fourth, by which another message may own those behind it; behind that
--- the rest of the payload, with the 12 of a header.
-abbrev pub room : ℕ → ℕ → ℕ
-room n size = if nat_lt n 4 then 4 - n else (size - n) + 12
+-- How many octets may come after n of a message's payload, as far as the next message's beginning
+-- goes: the rest of the payload, with the 12 of a header; but of a Fragment at first the rest of
+-- its request id, behind which the octets belong to another message.
+abbrev pub room : List ℕ → ℕ → ℕ
+room header n = if nat_lt n 4 && is_fragment header then 4 - n else (size header - n) + 12
 
 -- at most so many, where something is told behind them at the earliest
 abbrev pub up_to : Option ℕ → ℕ → ℕ
@@ -36,7 +36,7 @@ limit_in C a most p None = 12 - length (cut p).held
 limit_in C a most p (Some m) =
     up_to (owner_told_after C a (tracked_after (rules_by C a most) p)
     (owner_of_next (open_after most p) m))
-    (room (length m.payload) (size m.header))
+    (room m.header (length m.payload))
 
 -- So many octets after the stream p may come in one piece, where the ids of each message answer
 -- these operations, and so many messages may be open. After a stream fault any number may.

@@ -5,13 +5,13 @@ ghost use Rattle.std.specs.Prelude.{◌≡◌, ◌+◌, ◌≤◌, length};
 
 use crate::framing::Framing;
 use crate::header::size_of;
+use crate::kinds::is_fragment;
 use giop_sig::Catalogue;
 
 /// How many octets begin each message.
 const HEADER: usize = 12;
 
 impl Framing {
-    ghost use Rattle.giop_message.specs.Headers.{size};
     ghost use Rattle.giop_message.specs.Signatures.{Answers};
     ghost use Rattle.giop_stream.specs.PieceLimit.{room, piece_limit};
     ghost use Rattle.giop_stream.specs.SlotsRepresent.{AreReady};
@@ -43,16 +43,18 @@ impl Framing {
         }
     }
 
-    /// How many of the next octets of a payload may come before one that begins a message, or ends the request id.
+    /// How many of the next octets of a payload may come before one that begins a message, or ends a Fragment's request
+    /// id.
     fn room(&self) -> usize
         requires full { length self.now.header.items ≡ 12 }
         ensures some { 1 ≤ result }
-        ensures value { result ≡ room self.now.payload_count (size self.now.header.items) }
+        ensures value { result ≡ room self.now.header.items self.now.payload_count }
     {
-        if self.payload_count < 4 {
+        let header = self.header.as_slice();
+        if self.payload_count < 4 && is_fragment(header) {
             return 4 - self.payload_count as usize;
         }
-        let left = size_of(self.header.as_slice()).saturating_sub(self.payload_count);
+        let left = size_of(header).saturating_sub(self.payload_count);
         left as usize + HEADER
     }
 }

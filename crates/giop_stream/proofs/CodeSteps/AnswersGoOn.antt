@@ -102,7 +102,7 @@ one_header most p =
     (messages (cut p)) tt (own_header p)
 
 -- the owner of an octet takes it
-owner_takes : (most : ℕ) (still_open : List Open) (m : Message) (x : ℕ) (w : MessageKey) →
+pub owner_takes : (most : ℕ) (still_open : List Open) (m : Message) (x : ℕ) (w : MessageKey) →
     owner_of_octet still_open (with_octet m x) ≡ Some w
     → joined w.number (events_of_octet most still_open (with_octet m x)) ≡ x ∷ []
 unfolding owner_of_octet more_of continued

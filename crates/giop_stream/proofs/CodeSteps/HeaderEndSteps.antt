@@ -150,7 +150,7 @@ module _ (C : Table) (a : Answers) where
       (over_then (message_reader C a) (event at w (Takes x))))
   known_on w (Some s) x q at = ends_on w s x q at
 
-  pub owner_on : (c : Tracked) (who : Option MessageKey) (x : ℕ) (q : List ℕ) (at : ℕ) →
+  owner_on : (c : Tracked) (who : Option MessageKey) (x : ℕ) (q : List ℕ) (at : ℕ) →
       owner_header_ends c who (x ∷ q)
       ≡ owner_header_ends c who (x ∷ []) ++ owner_header_ends
       (effect_to C a at c who (Takes x)).tracked who q

@@ -2,22 +2,26 @@
 -- before the last octet of a header of 12, and those of a message of which nothing more is told, or
 -- that is still in a value of its header.
 use Rattle.std.proofs.Common.{inl, inr, ◌≡◌, ℕ, suc, ◌+◌, ◌-◌, ◌<◌, ◌≤◌, Bool, true, false, List, [], ◌∷◌, ◌++◌, length, Option, Some, None, refl, sym, ap, subst, ◌∙◌, append_assoc, append-nil, arith}
-use Rattle.std.specs.Prelude.{◌⊎◌, ◌==◌, ◌^◌, is_some, nat_lt, if◌then◌else◌}
+use Rattle.std.specs.Prelude.{◌⊎◌, ◌==◌, ◌&&◌, ◌^◌, is_some, nat_lt, option_map, if◌then◌else◌}
+use Rattle.std.specs.List.{list_any}
 use Rattle.std.proofs.lemmas.Bool.{cases_lt, lt-ltb, le-ltb, ne_eqb, false≢true}
 use Rattle.std.proofs.lemmas.List.{length_push}
 use Rattle.giop_checkpoint.specs.declared.fault.StreamFault.{StreamFault}
 use Rattle.giop_checkpoint.specs.declared.fault.StreamFault.TheVariants.{StreamLimit}
 use Rattle.giop_sig.specs.Table.{Table}
+use Rattle.giop_message.specs.MessageReader.{IsCausal}
 use Rattle.giop_message.specs.Signatures.{Answer, Answers, signatures_of}
-use Rattle.giop_message.proofs.MessageLaws.{is_causal, nothing_told, nothing_told_before, others_silent}
-use Rattle.giop_message.specs.Headers.{kind, size}
+use Rattle.giop_message.proofs.MessageLaws.{is_causal, header_ends_both, nothing_told, nothing_told_before, others_silent}
+use Rattle.giop_message.specs.Headers.{kind, size, is_fragment}
 use Rattle.giop_message.specs.HeaderEnds.{HeaderEnd, Header_end, Exception_end, told_after, header_ends, AreSilent}
 use Rattle.giop_stream.specs.HeaderOctets.{wrong}
 use Rattle.giop_stream.specs.Rules.{Rules, rules_by}
 use Rattle.giop_stream.specs.Framing.{Message, Cut, limit, cut, messages, fault_of}
-use Rattle.giop_stream.specs.Events.{MessageKey, Takes, open_after}
-use Rattle.giop_stream.specs.Effects.{Tracked, tracked_after, with_octet}
-use Rattle.giop_stream.specs.SlotsRepresent.{SlotsRepresent, effect_to}
+use Rattle.giop_stream.specs.Events.{MessageKey, Event, events_of_octet, joined, open_after}
+use Rattle.giop_stream.specs.Lines.{Line, is_last_of}
+use Rattle.giop_stream.specs.OpenSlots.{octets_of}
+use Rattle.giop_stream.specs.Effects.{Tracked, effects, kept_with, kept_after, tracked_after, with_octet}
+use Rattle.giop_stream.specs.SlotsRepresent.{SlotsRepresent}
 use Rattle.giop_stream.specs.PayloadOwner.{owner_of_next, owner_of_next_in}
 use Rattle.giop_stream.specs.HeaderEndsOfStream.{reply_told_after, owner_told_after, run_header_ends, owner_header_ends, current_header_ends, header_ends_at, header_ends_from}
 use Rattle.giop_stream.specs.PieceLimit.{IsQuiet, room, up_to, limit_in, piece_limit}
@@ -28,14 +32,18 @@ use Rattle.giop_stream.specs.ViewOfState.{IsReached, Shows}
 use Rattle.giop_stream.proofs.Cuts.Cutting.{of_parts, next, parts_by, cut_grows, next_limit, next_payload, next_front, next_stopped, settled_messages}
 use Rattle.giop_stream.proofs.Cuts.CutFrom.{end_message, header_case}
 use Rattle.giop_stream.proofs.Cuts.Stopped.{cut_stays}
-use Rattle.giop_stream.proofs.Events.Soundness.{CurrentFits}
+use Rattle.giop_stream.proofs.Events.AfterMoreEvents.{octets_grow, lines_free}
+use Rattle.giop_stream.proofs.Events.Soundness.{CurrentFits, IsSound}
 use Rattle.giop_stream.proofs.Events.StepCases.{if_some}
-use Rattle.giop_stream.proofs.SlotSteps.Parts.{in_turn}
+use Rattle.giop_stream.proofs.SlotSteps.Ending.{owner_plain}
+use Rattle.giop_stream.proofs.SlotSteps.Parts.{in_turn, owner_next}
+use Rattle.giop_stream.proofs.CodeSteps.AnswersGoOn.{owner_takes}
 use Rattle.giop_stream.proofs.CodeSteps.EngineAlive.{sound}
-use Rattle.giop_stream.proofs.CodeSteps.MessageEnds.{goes_off}
-use Rattle.giop_stream.proofs.CodeSteps.PayloadRunSteps.{Within, within_on, octet_adds, octet_owner}
+use Rattle.giop_stream.proofs.CodeSteps.MessageEnds.{goes_off, goes_on}
+use Rattle.giop_stream.proofs.CodeSteps.OneOctet.{paid_events, paid_is}
+use Rattle.giop_stream.proofs.CodeSteps.PayloadRunSteps.{Within, octet_owner}
 use Rattle.giop_stream.proofs.CodeSteps.MessageOctets.{runs_on, header_at, knows_at, no_current, has_current, header_is, come_is}
-use Rattle.giop_stream.proofs.CodeSteps.HeaderEndSteps.{Heads, heads_on, owner_on, at_free, at_none, at_stop, at_limit}
+use Rattle.giop_stream.proofs.CodeSteps.HeaderEndSteps.{Heads, heads_on, at_free, at_none, at_stop, at_limit}
 
 -- ---- lists
 
@@ -97,6 +105,17 @@ owner_before C a c None n below octets few = tt
 owner_before C a c (Some w) n below octets few =
     run_before C a w (c.known w.number) octets n below few
 
+-- behind an octet that a message has taken, whether or not it is over then
+run_behind : (w : MessageKey) (o : Option (List ℕ)) (over : Bool) (x : ℕ) (q : List ℕ) →
+    AreSilent (run_header_ends w o (x ∷ q))
+    → AreSilent (run_header_ends w (if over then None else option_map (λ xs. xs ++ x ∷ []) o) q)
+run_behind w o true x q silent = tt
+run_behind w None false x q silent = tt
+run_behind w (Some s) false x q silent =
+    silent_behind (header_ends w.number w.header s (x ∷ []))
+    (header_ends w.number w.header (s ++ x ∷ []) q)
+    (subst AreSilent (header_ends_both w.number w.header s (x ∷ []) q) silent)
+
 -- ---- the stream
 
 nothing_quiet : (R : Rules) (p : List ℕ) → IsQuiet R p []
@@ -108,8 +127,8 @@ nothing_quiet R p = record {
 }
 
 -- Where n more octets are quiet: after a stream fault; before a header is complete; and in a
--- payload, where so many of its owner tell nothing, and none of them ends its request id, and in
--- the octets of a header that follow.
+-- payload, where so many of its owner tell nothing, and none of them ends a Fragment's request id,
+-- and in the octets of a header that follow.
 abbrev IsEnded : List ℕ → Type 0
 IsEnded p = (found : ℕ × StreamFault) × ((cut p).stop ≡ Some found)
 
@@ -117,11 +136,17 @@ module _ (C : Table) (a : Answers) (most : ℕ) where
   abbrev R : Rules
   R = rules_by C a most
 
+  abbrev causal : IsCausal R.reading
+  causal = is_causal (λ number. signatures_of C (a number))
+
+  so : (p : List ℕ) → IsSound R p
+  so p = sound R causal (in_turn C a) p
+
   record InPayload (p : List ℕ) (n : ℕ) : Type 0 where
     m : Message
     free : (cut p).stop ≡ None
     current : (cut p).current ≡ Some m
-    apart : length m.payload < 4 → length m.payload + n < 4
+    apart : is_fragment m.header ≡ true → length m.payload < 4 → length m.payload + n < 4
     settled : Settled (tracked_after R p) (owner_of_next (open_after most p) m) n
     few : length m.payload + n < size m.header + 12
 
@@ -247,45 +272,92 @@ module _ (C : Table) (a : Answers) (most : ℕ) where
         ∙ ap (λ (o : Option Message). current_header_ends R p o (x ∷ [])) h.current))
         (h.settled (x ∷ []) (omega arith))
 
-    abbrev within : suc (length h.m.payload) < size h.m.header → Within p h.m 1
-    within more = record {
-      free = h.free;
-      current = h.current;
-      apart = λ less. (let all = h.apart less in omega (arith, all));
-      before_last = omega (arith, more);
-      room = omega (arith, room);
-    }
+    -- where it is not the last of the message
+    module _ (more : suc (length h.m.payload) < size h.m.header) where
+      grown : cut (p ++ x ∷ []) ≡ of_parts (cut p).whole (Some (with_octet h.m x)) [] None
+      grown =
+          grows ∙ goes_on (cut p).whole (with_octet h.m x)
+          (omega (arith, more, length_push h.m.payload x))
 
-    -- those of the owner that follow tell nothing either
-    still_settled : (more : suc (length h.m.payload) < size h.m.header)
-        → Settled (tracked_after R (p ++ x ∷ []))
-        (owner_of_next (open_after most (p ++ x ∷ [])) (with_octet h.m x)) n
-    still_settled more q few =
-        let w = within more in
-        let c = tracked_after R p in
-        let who = owner_of_next (open_after most p) h.m in
-        let adds = octet_adds C a most p h.m x 0 w in
-        let same = octet_owner C a most p h.m x 0 w in
-        let behind = (effect_to C a (suc (length p)) c who (Takes x)).tracked in
-        let silent : AreSilent (owner_header_ends behind who q) =
-        silent_behind (owner_header_ends c who (x ∷ [])) (owner_header_ends behind who q)
-        (subst AreSilent (owner_on C a c who x q (suc (length p)))
-        (h.settled (x ∷ q) (omega (arith, few)))) in
-        subst AreSilent (λ j. owner_header_ends (sym adds.tracked_after j) (sym same j) q) silent
+      -- it does not end a Fragment's request id, so that the next octet has the same owner
+      within : is_fragment h.m.header ≡ true → Within p h.m 1
+      within fragment = record {
+        free = h.free;
+        current = h.current;
+        apart = λ less. (let all = h.apart fragment less in omega (arith, all));
+        before_last = omega (arith, more);
+        room = omega (arith, room);
+      }
+
+      same_owner : owner_of_next (open_after most (p ++ x ∷ [])) (with_octet h.m x)
+          ≡ owner_of_next (open_after most p) h.m
+      same_owner = go (is_fragment h.m.header) refl
+        where
+          go : (b : Bool) → is_fragment h.m.header ≡ b
+              → owner_of_next (open_after most (p ++ x ∷ [])) (with_octet h.m x)
+              ≡ owner_of_next (open_after most p) h.m
+          go true fragment = octet_owner C a most p h.m x 0 (within fragment)
+          go false other =
+              owner_plain (open_after most (p ++ x ∷ [])) (with_octet h.m x) other
+              ∙ sym (owner_plain (open_after most p) h.m other)
+
+      -- what is kept of each message then
+      abbrev es : List Event
+      es = events_of_octet most (open_after most p) (with_octet h.m x)
+
+      abbrev ls : List Line
+      ls = (effects R.reading (tracked_after R p) es).lines
+
+      kept_is : (i : ℕ) → octets_of R (p ++ x ∷ []) i
+          ≡ kept_after (kept_with (octets_of R p) es) ls i
+      unfolding of_parts
+      kept_is =
+          let inside = le-ltb limit (suc (length p)) room in
+          let adds = paid_is R causal (in_turn C a) p x (so p) h.m h.free h.current inside in
+          octets_grow R p (p ++ x ∷ []) es ls
+          (paid_events R causal (in_turn C a) p x (so p) (cut p).whole h.m (cut p).held
+          (parts_by (cut p) (Some h.m) None h.current h.free) inside)
+          (sym (lines_free R (p ++ x ∷ []) (ap (λ (c : Cut). c.stop) grown))
+          ∙ (adds.lines ∙ ap (λ (before : List Line). before ++ ls) (lines_free R p h.free)))
+
+      -- the octets of the owner that follow tell nothing either
+      still_settled : Settled (tracked_after R (p ++ x ∷ []))
+          (owner_of_next (open_after most (p ++ x ∷ [])) (with_octet h.m x)) n
+      unfolding tracked_after kept_after kept_with
+      still_settled q few =
+          subst AreSilent (λ j. owner_header_ends (tracked_after R (p ++ x ∷ [])) (sym same_owner j)
+          q) (go (owner_of_next (open_after most p) h.m) refl)
+        where
+          go : (who : Option MessageKey) → owner_of_next (open_after most p) h.m ≡ who →
+              AreSilent (owner_header_ends (tracked_after R (p ++ x ∷ [])) who q)
+          go None e = tt
+          go (Some w) e =
+              let takes : joined w.number es ≡ x ∷ [] =
+              owner_takes most (open_after most p) h.m x w
+              (owner_next (open_after most p) h.m x ∙ e) in
+              let over = list_any (is_last_of w.number) ls in
+              let kept = kept_is w.number ∙ (λ j. if over then None
+              else option_map (λ xs. xs ++ takes j) (octets_of R p w.number)) in
+              let silent =
+              subst AreSilent (λ j. owner_header_ends (tracked_after R p) (e j) (x ∷ q))
+              (h.settled (x ∷ q) (omega (arith, few))) in
+              subst AreSilent (λ j. run_header_ends w (sym kept j) q)
+              (run_behind w (octets_of R p w.number) over x q silent)
 
     payload_goes : Goes p x n
     unfolding of_parts
     payload_goes = elim (cases_lt (suc (length h.m.payload)) (size h.m.header)) [
       | inl more ↦
-          let w = within_on p h.m x 0 (within more) in
+          let now = grown more in
           record {
             begins = same_count;
             ends = no_end;
             on = inr (inr (record {
               m = with_octet h.m x;
-              free = w.free;
-              current = w.current;
-              apart = λ less. (let all = h.apart (omega (arith, less, length_push h.m.payload x)) in
+              free = ap (λ (c : Cut). c.stop) now;
+              current = ap (λ (c : Cut). c.current) now;
+              apart = λ fragment less. (let all =
+                  h.apart fragment (omega (arith, less, length_push h.m.payload x)) in
                   omega (arith, all, length_push h.m.payload x));
               settled = still_settled more;
               few = omega (arith, h.few, length_push h.m.payload x);
@@ -333,16 +405,20 @@ below_told : (told : Option ℕ) (n k : ℕ) → k < up_to told n → IsBelow to
 below_told None n k less = (tt, less)
 below_told (Some most) n k less = (omega (arith, less), omega (arith, less))
 
--- before the fourth octet of a payload, and behind it
-room_few : (n size k : ℕ) → n < size → k < room n size → (n < 4 → n + k < 4) × (n + k < size + 12)
-room_few n size k lacks less = elim (cases_lt n 4) [
-  | inl early ↦
-      let few : k < 4 - n = rw (lt-ltb n 4 early) at less in
-      (λ e. omega (arith, few, early), omega (arith, few, early))
-  | inr named ↦
-      let few : k < (size - n) + 12 = rw (le-ltb n 4 named) at less in
-      (λ early. absurd (omega (arith, named, early)), omega (arith, few, lacks))
-]
+-- before the end of a Fragment's request id, and elsewhere
+room_few : (header : List ℕ) (n k : ℕ) → n < size header → k < room header n →
+    (is_fragment header ≡ true → n < 4 → n + k < 4) × (n + k < size header + 12)
+room_few header n k lacks = go (nat_lt n 4 && is_fragment header) refl
+  where
+    go : (b : Bool) → (nat_lt n 4 && is_fragment header) ≡ b
+        → k < (if b then 4 - n else (size header - n) + 12)
+        → (is_fragment header ≡ true → n < 4 → n + k < 4) × (n + k < size header + 12)
+    go true e few = (λ fragment early. omega (arith, few, early), omega (arith, few, lacks))
+    go false e few = (
+      λ fragment early. absurd
+          (false≢true (sym e ∙ rw (lt-ltb n 4 early, fragment) refl)),
+      omega (arith, few, lacks),
+    )
 
 module _ (C : Table) (a : Answers) (most : ℕ) (p octets : List ℕ) where
   quiet_payload : (m : Message) → (cut p).stop ≡ None → (cut p).current ≡ Some m
@@ -352,10 +428,9 @@ module _ (C : Table) (a : Answers) (most : ℕ) (p octets : List ℕ) where
       let who = owner_of_next (open_after most p) m in
       let told = owner_told_after C a c who in
       let fit = if_some (CurrentFits (length p) (cut p)) (cut p).current m current
-      ((sound (rules_by C a most) (is_causal (λ number. signatures_of C (a number))) (in_turn C a)
-      p).fits free).current in
-      let both = below_told told (room (length m.payload) (size m.header)) (length octets) less in
-      let few = room_few (length m.payload) (size m.header) (length octets) fit.lacks both.1 in
+      ((so C a most p).fits free).current in
+      let both = below_told told (room m.header (length m.payload)) (length octets) less in
+      let few = room_few m.header (length m.payload) (length octets) fit.lacks both.1 in
       all_quiet C a most octets p (inr (inr (record {
         m = m;
         free = free;
@@ -427,9 +502,9 @@ module _ (C : Table) (a : Answers) (most : ℕ) (s : State) (r : IsReached C a m
           owner_told_after C a c who ≡ told
 
       pub limit_payload : (told : Option ℕ) → SlotsSay told →
-          limit_is (up_to told (room m.payload_count (size m.header)))
+          limit_is (up_to told (room m.header m.payload_count))
       unfolding piece_limit
       limit_payload told say =
           let header = header_is C a most s r m h free here.0 here.1 in
           rw (runs_on C a most s r m h free, here.1, say _ _ keeps)
-          (λ j. up_to told (room (sym count j) (size (sym header j))))
+          (λ j. up_to told (room (sym header j) (sym count j)))
