@@ -1,5 +1,5 @@
 -- That the lines of each stream of a capture are giopdump's, but for those of five kinds
--- (docs/FORMATS.md, Captures; meaning).
+-- (docs/FORMATS.md, Conversations of a capture; meaning).
 use Rattle.std.specs.Prelude.{◌≡◌, ℕ, List, ◌++◌}
 use Rattle.std.specs.List.{AllByRecursion as Each}
 use Rattle.giop_stream.specs.Stream.{text}

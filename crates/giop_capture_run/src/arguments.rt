@@ -1,4 +1,4 @@
-//! The program's arguments: the capture that it reads and how much it may remember (docs/FORMATS.md, The program).
+//! The program's arguments: the capture that it reads and how much it may remember (docs/FORMATS.md, The program giopcap).
 
 ghost use Rattle.std.specs.Prelude.{◌≡◌, ◌≤◌, ℕ, Some, None};
 ghost use Rattle.giop_stream.specs.Rules.{most_open};

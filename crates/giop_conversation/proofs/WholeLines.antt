@@ -1,14 +1,17 @@
 -- A line that is put with its whole tag in front, as one text.
-use Rattle.std.proofs.Common.{◌≡◌, ℕ, zero, suc, ◌+◌, ◌-◌, ◌*◌, ◌%◌, ◌^◌, ◌≤◌, ◌<◌, ◌==◌, Bool, true, false, cond, List, [], ◌∷◌, ◌++◌, length, map, take, drop, slice_index, Option, Some, None, refl, sym, ap, ◌∙◌, arith, append-nil, append_assoc, length-append, length-drop, pow-suc, inl, inr}
-use lib.Lanes.{chunk, mask_l, top, zip2}
+use Rattle.std.proofs.Common.{◌≡◌, ℕ, zero, suc, ◌+◌, ◌-◌, ◌*◌, ◌%◌, ◌^◌, ◌≤◌, ◌<◌, ◌==◌, Bool, true, false, cond, List, [], ◌∷◌, ◌++◌, length, map, take, drop, slice_index, Option, Some, None, refl, sym, ap, subst, ◌∙◌, arith, append-nil, append_assoc, length-append, length-drop, pow-suc, inl, inr}
+use borrow.Rule.Simd.Lanes.{act2}
+use borrow.Table.Row.{s_int}
+use lib.Lanes.{mask_l, top, zip2}
 use lib.ListN.{replicate}
-use mir.Syntax.{w8}
+use mir.Syntax.{w8, bit_or, mask, eq}
 use mir.Val.{bits, hbits}
-use Rattle.std.proofs.lemmas.Simd.{bitmask_splat}
+use Rattle.std.specs.List.{AllByRecursion as Each}
+use Rattle.std.proofs.lemmas.Simd.{bitmask_splat, length-chunk, length-zip2, length-replicate, mask_l-mod}
 use Rattle.std.proofs.Math.Seq.{take-append-add}
-use Rattle.std.proofs.lemmas.List.{take_all, take-append-le, get_or-drop, get_or_push, get_or_append_left}
+use Rattle.std.proofs.lemmas.List.{take_all, take-append-le, take-append-drop, drop-drop, length-map, get_or-drop, get_or_push, get_or_append_left}
 use Rattle.std.proofs.lemmas.List.Folds.{list_any_at}
-use Rattle.std.proofs.lemmas.Bool.{eqb-true, false_from_ne_true, cases_lt}
+use Rattle.std.proofs.lemmas.Bool.{eqb-true, false_from_ne_true, false≢true, cases_lt}
 use Rattle.std.specs.List.{list_any}
 use Rattle.std.specs.Io.KnownBytes.{Appends}
 use Rattle.giop_print.specs.Output.{counted, Wrote, WroteFront}
@@ -49,8 +52,19 @@ no_bit : (b : Bool) (m n : ℕ) → cond b 1 0 + 2 * m ≡ n * 2 → (b ≡ fals
 no_bit true m n is = absurd (omega (arith, is))
 no_bit false m n is = (refl, omega (arith, is))
 
+-- an octet that is none, before a line
+longer : (x : ℕ) (ys : List ℕ) → (x == 10) ≡ false → IsLine ys → IsLine (x ∷ ys)
+longer x [] first rest = absurd (omega (arith, rest.some))
+longer x (y ∷ ys) first rest =
+    let last : length (x ∷ y ∷ ys) - 1 ≡ suc (length (y ∷ ys) - 1) = omega arith in
+    record { some = omega arith; ended = rw last rest.ended; only = none }
+  where
+    none : (j : ℕ) → j + 1 < length (x ∷ y ∷ ys) → (slice_index (x ∷ y ∷ ys) j == 10) ≡ false
+    none zero less = first
+    none (suc j) less = rest.only j (omega (arith, less))
+
 -- only the last of them is
-pub only_last : (xs : List ℕ) (k : ℕ) → length xs ≡ k + 1 →
+only_last : (xs : List ℕ) (k : ℕ) → length xs ≡ k + 1 →
     mask_l (map (λ x. x == 10) xs) ≡ 2 ^ k → IsLine xs
 only_last [] k size bits = absurd (omega (arith, size))
 only_last (x ∷ []) zero size bits =
@@ -64,28 +78,103 @@ only_last (x ∷ y ∷ ys) zero size bits = absurd (omega (arith, size))
 only_last (x ∷ y ∷ ys) (suc k) size bits =
     let parts = no_bit (x == 10) (mask_l (map (λ x. x == 10) (y ∷ ys))) (2 ^ k)
     (rw pow-suc at bits) in
-    let rest = only_last (y ∷ ys) k (omega (arith, size)) parts.1 in
-    let last : length (x ∷ y ∷ ys) - 1 ≡ suc (length (y ∷ ys) - 1) = omega arith in
-    record {
-      some = omega arith;
-      ended = rw last rest.ended;
-      only = none parts.0 rest;
-    }
-  where
-    none : (x == 10) ≡ false → IsLine (y ∷ ys) → (j : ℕ) → j + 1 < length (x ∷ y ∷ ys) →
-        (slice_index (x ∷ y ∷ ys) j == 10) ≡ false
-    none first rest zero less = first
-    none first rest (suc j) less = rest.only j (omega (arith, less))
+    longer x (y ∷ ys) parts.0 (only_last (y ∷ ys) k (omega (arith, size)) parts.1)
 
--- the bits of 64 octets
-pub line_bits : (octets : List ℕ) → length octets ≡ 64 →
-    (mask_l (map (top (hbits w8)) (zip2 (λ a b. cond (a == b) (2 ^ bits w8 - 1) 0)
-    (chunk 0 64 octets) (replicate 64 10))) % 2 ^ 64 == 9223372036854775808) ≡ true → IsLine octets
-line_bits octets size is =
-    let whole : chunk 0 64 octets ≡ octets = take_all 64 octets (omega (arith, size)) in
-    only_last octets 63 size
-    (sym (bitmask_splat w8 (λ a b. a == b) octets 64 10 size (omega arith))
-    ∙ eqb-true _ _ (rw whole at is))
+-- octets of which none is
+abbrev HasNone : List ℕ → Type 0
+HasNone = Each (λ x. (x == 10) ≡ false)
+
+before_line : (front xs : List ℕ) → HasNone front → IsLine xs → IsLine (front ++ xs)
+before_line [] xs none line = line
+before_line (x ∷ front) xs none line =
+    longer x (front ++ xs) none.0 (before_line front xs none.1 line)
+
+block_before : (octets : List ℕ) (a : ℕ) → HasNone (take 16 (drop a octets)) →
+    IsLine (drop (a + 16) octets) → IsLine (drop a octets)
+block_before octets a none line =
+    let rest = drop a octets in
+    subst IsLine (take-append-drop 16 rest)
+    (before_line (take 16 rest) (drop 16 rest) none
+    (subst IsLine (sym (drop-drop 16 a octets)) line))
+
+-- ---- three blocks that are compared at once
+
+abbrev either : ℕ → ℕ → ℕ
+either = act2 bit_or (s_int w8) (s_int w8) (s_int w8)
+
+abbrev marks : List ℕ → ℕ → List ℕ
+marks xs n = zip2 (act2 (mask eq) (s_int w8) (s_int w8) (s_int w8)) xs (replicate n 10)
+
+abbrev marks_of : List ℕ → List ℕ → List ℕ → ℕ → List Bool
+marks_of xs ys zs n =
+    map (top 7) (zip2 either (zip2 either (marks xs n) (marks ys n)) (marks zs n))
+
+none_of : (s t u : Bool) →
+    top 7 (either (either (cond s 255 0) (cond t 255 0)) (cond u 255 0)) ≡ false →
+    (s ≡ false) × ((t ≡ false) × (u ≡ false))
+none_of false false false is = (refl, (refl, refl))
+none_of false false true is = absurd (false≢true (sym is))
+none_of false true false is = absurd (false≢true (sym is))
+none_of false true true is = absurd (false≢true (sym is))
+none_of true false false is = absurd (false≢true (sym is))
+none_of true false true is = absurd (false≢true (sym is))
+none_of true true false is = absurd (false≢true (sym is))
+none_of true true true is = absurd (false≢true (sym is))
+
+none_in : (n : ℕ) (xs ys zs : List ℕ) → length xs ≡ n → length ys ≡ n → length zs ≡ n →
+    mask_l (marks_of xs ys zs n) ≡ 0 → HasNone xs × (HasNone ys × HasNone zs)
+none_in zero [] [] [] a b c none = (tt, (tt, tt))
+none_in zero [] [] (z ∷ zs) a b c none = absurd (omega (arith, c))
+none_in zero [] (y ∷ ys) zs a b c none = absurd (omega (arith, b))
+none_in zero (x ∷ xs) ys zs a b c none = absurd (omega (arith, a))
+none_in (suc n) [] ys zs a b c none = absurd (omega (arith, a))
+none_in (suc n) (x ∷ xs) [] zs a b c none = absurd (omega (arith, b))
+none_in (suc n) (x ∷ xs) (y ∷ ys) [] a b c none = absurd (omega (arith, c))
+none_in (suc n) (x ∷ xs) (y ∷ ys) (z ∷ zs) a b c none =
+    let first = no_bit
+    (top 7 (either (either (cond (x == 10) 255 0) (cond (y == 10) 255 0)) (cond (z == 10) 255 0)))
+    (mask_l (marks_of xs ys zs n)) 0 none in
+    let here = none_of (x == 10) (y == 10) (z == 10) first.0 in
+    let more = none_in n xs ys zs (omega (arith, a)) (omega (arith, b)) (omega (arith, c)) first.1
+    in
+    ((here.0, more.0), ((here.1.0, more.1.0), (here.1.1, more.1.1)))
+
+marks_long : (xs : List ℕ) (n : ℕ) → length xs ≡ n → length (marks xs n) ≡ n
+marks_long xs n size = length-zip2 _ xs (replicate n 10) (size ∙ sym (length-replicate n 10)) ∙ size
+
+-- 64 octets, in blocks of 16
+module _ (octets : List ℕ) (size : length octets ≡ 64) where
+  abbrev block : ℕ → List ℕ
+  block a = take 16 (drop a octets)
+
+  block_long : (a : ℕ) → a ≤ 48 → length (block a) ≡ 16
+  block_long a within = length-chunk a 16 octets (omega (arith, size, within))
+
+  pub line_bits : mask_l (marks_of (block 0) (block 16) (block 32) 16) % 2 ^ 64 ≡ 0 →
+      (mask_l (map (top (hbits w8)) (zip2 (λ a b. cond (a == b) (2 ^ bits w8 - 1) 0)
+      (block 48) (replicate 16 10))) % 2 ^ 64 == 32768) ≡ true → IsLine octets
+  line_bits none is =
+      let first = block_long 0 (omega arith) in
+      let second = block_long 16 (omega arith) in
+      let third = block_long 32 (omega arith) in
+      let last = block_long 48 (omega arith) in
+      let both = zip2 either (marks (block 0) 16) (marks (block 16) 16) in
+      let two : length both ≡ 16 = length-zip2 either _ _
+      (marks_long (block 0) 16 first ∙ sym (marks_long (block 16) 16 second))
+      ∙ marks_long (block 0) 16 first in
+      let long : length (marks_of (block 0) (block 16) (block 32) 16) ≡ 16 =
+      length-map _ (top 7) ∙ (length-zip2 either both _
+      (two ∙ sym (marks_long (block 32) 16 third)) ∙ two) in
+      let bits = sym (mask_l-mod (marks_of (block 0) (block 16) (block 32) 16) 64
+      (omega (arith, long))) ∙ none in
+      let clear = none_in 16 (block 0) (block 16) (block 32) first second third bits in
+      let end : IsLine (block 48) = only_last (block 48) 15 last
+      (sym (bitmask_splat w8 (λ a b. a == b) (block 48) 16 10 last (omega arith))
+      ∙ eqb-true _ _ is) in
+      let whole : block 48 ≡ drop 48 octets =
+      take_all 16 (drop 48 octets) (omega (arith, length-drop 48 octets, size)) in
+      block_before octets 0 clear.0 (block_before octets 16 clear.1.0
+      (block_before octets 32 clear.1.1 (subst IsLine whole end)))
 
 -- the end of a line is one too
 pub line_behind : (xs : List ℕ) (k : ℕ) → IsLine xs → k < length xs → IsLine (drop k xs)

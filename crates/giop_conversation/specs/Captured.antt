@@ -1,6 +1,6 @@
--- The text of a capture, by what happens in it (docs/FORMATS.md, Captures; meaning). A flow is
--- named by its id: half of it is the place of its connection, and the flow is the connection's one
--- with an even id or the other one.
+-- The text of a capture, by what happens in it (docs/FORMATS.md, Conversations of a capture;
+-- meaning). A flow is named by its id: half of it is the place of its connection, and the flow is
+-- the connection's one with an even id or the other one.
 use Rattle.std.specs.Prelude.{◌≡◌, ℕ, ◌+◌, ◌-◌, ◌^◌, ◌/◌, min, Bool, true, false, ◌||◌, List, [], ◌∷◌, ◌++◌, Option, Some, None, IfSome, slice_get, set, replicate}
 use Rattle.giop_print.specs.Output.{counted}
 use Rattle.giop_sig.specs.Table.{Table}

@@ -1,4 +1,4 @@
--- What an exchange answers are operations of its table, and fewer behind each header.
+-- What an exchange answers are operations of its table, and fewer behind each header (laws).
 use Rattle.std.proofs.Common.{◌≡◌, ℕ, ◌<◌, ◌==◌, Bool, true, false, List, [], ◌∷◌, length, Option, Some, None, IfSome, option_and_then, refl, sym, ◌∙◌}
 use Rattle.std.specs.List.{find}
 use Rattle.std.specs.Option.{option_map}

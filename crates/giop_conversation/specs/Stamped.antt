@@ -1,7 +1,8 @@
--- The lines of a stream in a capture, without its tag (docs/FORMATS.md, Captures; meaning): those
--- that the stream has by itself, and behind the lines of an octet those that are due there: when a
--- message began, where that octet is the 12th of its header, which call a Reply answers, where the
--- Reply's header ends, and which exception it raises, where the exception's name ends.
+-- The lines of a stream in a capture, without its tag (docs/FORMATS.md, Conversations of a capture;
+-- meaning): those that the stream has by itself, and behind the lines of an octet those that are due
+-- there: when a message began, where that octet is the 12th of its header, which call a Reply
+-- answers, where the Reply's header ends, and which exception it raises, where the exception's name
+-- ends.
 use Rattle.std.specs.Prelude.{ℕ, List, [], ◌∷◌, ◌++◌, length, Option, Some, None, nat_lt, if◌then◌else◌}
 use Rattle.giop_message.specs.HeaderEnds.{after_ends}
 use Rattle.giop_stream.specs.Rules.{Rules}

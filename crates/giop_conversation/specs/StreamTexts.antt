@@ -1,6 +1,6 @@
 -- What has happened in each stream of a capture, by all events, and that its lines in the capture's
--- text are giopdump's but for those of five kinds (docs/FORMATS.md, Captures; meaning). A stream is
--- named by its number.
+-- text are giopdump's but for those of five kinds (docs/FORMATS.md, Conversations of a capture;
+-- meaning). A stream is named by its number.
 use Rattle.std.specs.Prelude.{◌≡◌, ℕ, ◌<◌, ◌^◌, ◌-◌, ◌/◌, ◌==◌, Bool, true, false, ◌||◌, nat_lt, List, [], ◌∷◌, ◌++◌, Option, None, if◌then◌else◌}
 use Rattle.std.specs.List.{AllByRecursion as Each}
 use Rattle.giop_print.specs.Output.{counted}

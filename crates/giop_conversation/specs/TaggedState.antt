@@ -5,7 +5,7 @@
 -- What is written through it is read off what was written below: first what identifies the octets
 -- before the tag was set and the tag, then the text without tags. So what a call of writing did to
 -- it tells what it did to the out below.
-use Rattle.std.specs.Prelude.{◌≡◌, ℕ, ◌-◌, Bool, true, not, ◌&&◌, ◌||◌, ◌==◌, nat_le, List, ◌∷◌, ◌++◌, length, take, drop, Option, Some, None, option_and_then, if◌then◌else◌}
+use Rattle.std.specs.Prelude.{◌≡◌, ℕ, ◌-◌, ◌<◌, ◌≤◌, Bool, true, not, ◌&&◌, ◌||◌, ◌==◌, nat_le, List, ◌∷◌, ◌++◌, length, take, drop, Option, Some, None, option_and_then, if◌then◌else◌}
 use Rattle.std.specs.Str.{bytes_eq}
 use Rattle.giop_print.specs.Output.{OutLog}
 use Rattle.giop_conversation.specs.Tags.{without_tags}
@@ -18,6 +18,12 @@ pub record Tagging : Type 0 where
   pub since : ℕ  -- how many octets were written since the tag was set
   pub puts : ℕ
   pub failures : ℕ
+
+-- The whole tag is due, some octets, and it is no longer than a block of 16.
+pub record IsShortDue (due : ℕ) (tag : List ℕ) : Type 0 where
+  pub whole : due ≡ length tag
+  pub some : 0 < length tag
+  pub short : length tag ≤ 16
 
 -- what identifies the octets before the tag was set, and the tag
 abbrev pub identity : List ℕ → List ℕ → List ℕ

@@ -23,7 +23,7 @@ ghost use Rattle.giop_conversation.specs.Directions.{HasRead};
 
 use crate::exchange::{Answering, Exchange, Raising, answers_are_known};
 use crate::lines::{answers_line, closed_line, raises_line, stream_line, time_line};
-use crate::tag::stream_tag;
+use crate::tag::{Tag, stream_tag};
 use crate::tagged::Tagged;
 use giop_print::{Out, OutFault};
 use giop_sig::{Catalogue, Requests};
@@ -39,6 +39,8 @@ pub struct Direction<'a> {
     catalogue: &'a Catalogue,
     engine: Engine<'a>,
     stream: u64,
+    // That of the stream's lines.
+    tag: Tag,
     flow: Option<Flow>,
 }
 
@@ -53,9 +55,11 @@ impl<'a> Model for Direction<'a> {
       flow = d.flow;
     } };
 
+    ghost use Rattle.std.specs.Prelude.{◌≡◌};
+    ghost use Rattle.giop_conversation.specs.Tags.{stream_tag};
     ghost use Rattle.giop_conversation.specs.Directions.{IsReading};
 
-    ghost invariant = { λ d. IsReading d.catalogue.now d.engine };
+    ghost invariant = { λ d. IsReading d.catalogue.now d.engine × (d.tag ≡ stream_tag d.stream) };
 }
 
 impl<'a> Direction<'a> {
@@ -80,6 +84,7 @@ impl<'a> Direction<'a> {
             catalogue,
             engine: Engine::new(alloc, catalogue, requests, messages)?,
             stream: 0,
+            tag: stream_tag(0),
             flow: None,
         })
     }
@@ -112,7 +117,8 @@ impl<'a> Direction<'a> {
     {
         self.engine.restart();
         self.stream = stream;
-        out.set_tag(stream_tag(stream));
+        self.tag = stream_tag(stream);
+        out.set_tag(self.tag.copied());
         write_begin(self.flow, time, out)
     }
 
@@ -234,7 +240,7 @@ impl<'a> Direction<'a> {
         // The engine's own catalogue, so that each operation that is answered is one of its.
         exchange.set_catalogue(self.catalogue);
         exchange.read_in(self.stream, time);
-        out.set_tag(stream_tag(self.stream));
+        out.set_tag(self.tag.copied());
         let mut at = 0;
         loop {
             let (size, status) = self.read_piece(exchange, &octets[at..], time, out)?;
@@ -256,7 +262,7 @@ impl<'a> Direction<'a> {
         ensures totals { (a : Answers) (p : List ℕ) → HoldsBy self.now.engine a p →
             IfOk result (λ t. t ≡ final (rules_with self.now.engine a) p) }
     {
-        out.set_tag(stream_tag(self.stream));
+        out.set_tag(self.tag.copied());
         closed_line(out, cause)?;
         match self.engine.close(out) {
             Ok(totals) => Ok(totals),
@@ -276,6 +282,7 @@ fn write_begin<O: Out>(flow: Option<Flow>, time: Option<u128>, out: &mut O) -> R
 }
 
 /// Writes when a message began, where one did: the messages that had begun before and behind octets are counted.
+#[inline]
 fn write_time<O: Out>(
     before: u64,
     behind: u64,
@@ -294,12 +301,12 @@ fn write_time<O: Out>(
 
 /// Writes which call a Reply answers, where it answers one.
 fn write_answered<O: Out>(
-    answered: Option<Answering>,
+    answered: Option<&Answering>,
     time: Option<u128>,
     out: &mut O,
 ) -> Result<(), OutFault>
-    ensures { Writes result (O.log out.old) (O.log out.new)
-        (answers_due (option_map (λ a. record { message = a.message; call = a.call }) answered)
+    ensures { Writes result (O.log out.old) (O.log out.new) (answers_due
+        (option_map (λ a. record { message = a.now.message; call = a.now.call }) answered.entry)
         time) }
 {
     match answered {
@@ -309,10 +316,10 @@ fn write_answered<O: Out>(
 }
 
 /// Writes which exception a Reply raises, where it raises one.
-fn write_raised<O: Out>(raised: Option<Raising>, out: &mut O) -> Result<(), OutFault>
-    ensures { Writes result (O.log out.old) (O.log out.new)
-        (raises_due (option_map
-        (λ r. record { message = r.message; name = r.name.items }) raised)) }
+fn write_raised<O: Out>(raised: Option<&Raising>, out: &mut O) -> Result<(), OutFault>
+    ensures { Writes result (O.log out.old) (O.log out.new) (raises_due
+        (option_map (λ r. record { message = r.now.message; name = r.now.name.items })
+        raised.entry)) }
 {
     match raised {
         Some(raised) => raises_line(out, raised.message, raised.name.as_slice()),
@@ -322,18 +329,15 @@ fn write_raised<O: Out>(raised: Option<Raising>, out: &mut O) -> Result<(), OutF
 
 /// Writes which call a Reply answers, and then which exception it raises, where it does.
 fn write_reply<O: Out>(
-    answered: Option<Answering>,
-    raised: Option<Raising>,
+    exchange: &Exchange<'_>,
     time: Option<u128>,
     out: &mut O,
 ) -> Result<(), OutFault>
     ensures { Writes result (O.log out.old) (O.log out.new)
-        (answers_due (option_map (λ a. record { message = a.message; call = a.call }) answered) time
-        ++ raises_due (option_map (λ r. record { message = r.message; name = r.name.items })
-        raised)) }
+        (answers_due exchange.now.answered time ++ raises_due exchange.now.raised) }
 {
-    match write_answered(answered, time, out) {
-        Ok(()) => write_raised(raised, out),
+    match write_answered(exchange.answering(), time, out) {
+        Ok(()) => write_raised(exchange.raising(), out),
         Err(fault) => Err(fault),
     }
 }
@@ -356,10 +360,26 @@ fn write_due<O: Out>(
     if exchange.is_taken() {
         return write_time(before, behind, time, out);
     }
-    let answered = exchange.take_answered();
-    let raised = exchange.take_raised();
+    let written = write_told(exchange, before, behind, time, out);
+    exchange.forget_reply();
+    written
+}
+
+/// Writes when a message began, where one did, and then which call a Reply answers, and which exception it raises.
+fn write_told<O: Out>(
+    exchange: &Exchange<'_>,
+    before: u64,
+    behind: u64,
+    time: Option<u128>,
+    out: &mut Tagged<O>,
+) -> Result<(), OutFault>
+    ensures fails { FailsByPut result out.old out.new }
+    ensures text { Writes result (tagging_log out.old) (tagging_log out.new)
+        ((if nat_lt before behind then spec_time_line behind time else [])
+        ++ (answers_due exchange.now.answered time ++ raises_due exchange.now.raised)) }
+{
     match write_time(before, behind, time, out) {
-        Ok(()) => write_reply(answered, raised, time, out),
+        Ok(()) => write_reply(exchange, time, out),
         Err(fault) => Err(fault),
     }
 }

@@ -1,6 +1,6 @@
 //! The calls of a connection, as the correspondent of the stream that is read.
 
-ghost use Rattle.std.specs.Prelude.{◌≡◌, ◌&&◌, [], None, is_none, IfOk, MatchOption};
+ghost use Rattle.std.specs.Prelude.{◌≡◌, ◌≤◌, ◌&&◌, [], None, length, is_none, IfOk, IfSome, MatchOption};
 ghost use Rattle.std.specs.Option.{option_map};
 ghost use Rattle.giop_sig.specs.Table.{Table};
 ghost use Rattle.giop_message.specs.MessageState.{AreKnown};
@@ -122,8 +122,7 @@ impl<'a> Exchange<'a> {
         self.stream = stream;
         self.time = time;
         self.replied = 0;
-        self.answered = None;
-        self.raised = None;
+        self.forget_reply();
     }
 
     /// The number of the last Reply whose header has ended, of the octets that were read since `read_in`; 0 where there is none.
@@ -133,25 +132,36 @@ impl<'a> Exchange<'a> {
         self.replied
     }
 
-    /// What the last Reply answers; it is handed out once.
-    pub fn take_answered(&mut self) -> Option<Answering>
-        ensures value { option_map (λ a. record { message = a.message; call = a.call }) result
-            ≡ self.old.answered }
-        ensures taken { self.new ≡ record self.old { answered = None } }
+    /// What the last Reply answers, until that is forgotten.
+    pub fn answering(&self) -> Option<&Answering>
+        ensures { option_map (λ a. record { message = a.now.message; call = a.now.call }) result
+            ≡ self.now.answered }
     {
-        self.answered.take()
+        self.answered.as_ref()
     }
 
-    /// The last exception that a Reply raises; it is handed out once.
-    pub fn take_raised(&mut self) -> Option<Raising>
-        ensures value { option_map (λ r. record { message = r.message; name = r.name.items }) result
-            ≡ self.old.raised }
-        ensures taken { self.new ≡ record self.old { raised = None } }
+    /// The last exception that a Reply raises, until that is forgotten.
+    pub fn raising(&self) -> Option<&Raising>
+        ensures { option_map
+            (λ r. record { message = r.now.message; name = r.now.name.items }) result
+            ≡ self.now.raised }
     {
-        self.raised.take()
+        self.raised.as_ref()
     }
 
-    /// Whether no Reply waits to be handed out, neither what it answers nor what it raises.
+    /// Forgets what the last Reply answers and raises.
+    pub fn forget_reply(&mut self)
+        ensures { self.new ≡ record self.old { answered = None; raised = None } }
+    {
+        if self.answered.is_some() {
+            self.answered = None;
+        }
+        if self.raised.is_some() {
+            self.raised = None;
+        }
+    }
+
+    /// Whether no Reply waits to be told, neither what it answers nor what it raises.
     pub fn is_taken(&self) -> bool
         ensures { result ≡ (is_none self.now.answered && is_none self.now.raised) }
     {
@@ -167,21 +177,21 @@ impl<'a> Exchange<'a> {
 }
 
 /// The name by which a call is kept: at most 128 octets, where a reply is expected.
-fn kept_name(name: Option<&[u8]>, expects_reply: bool) -> Option<ArrayVec<u8, NAME_ROOM>>
-    ensures { option_map (λ x. x.items) result
+fn kept_name(name: Option<&[u8]>, expects_reply: bool) -> Option<&[u8]>
+    ensures value { option_map (λ x. x.now) result
         ≡ kept_name (option_map (λ x. x.now) name.entry) expects_reply }
+    ensures short { IfSome result (λ x. length x.now ≤ 128) }
 {
-    let Some(name) = name else {
-        return None;
-    };
-    if !expects_reply {
-        return None;
+    match name {
+        Some(name) => {
+            if expects_reply && name.len() <= NAME_ROOM {
+                Some(name)
+            } else {
+                None
+            }
+        }
+        None => None,
     }
-    let mut kept = ArrayVec::new();
-    if kept.try_extend_from_slice(name).is_err() {
-        return None;
-    }
-    Some(kept)
 }
 
 /// What is kept of an exception: a name of at most 128 octets.
@@ -226,26 +236,28 @@ impl<'a> Correspondent for Exchange<'a> {
     ) {
         match kept_name(name, expects_reply) {
             Some(name) => {
-                let call = Call {
-                    name,
+                let mut call = Call {
+                    name: ArrayVec::new(),
                     stream: self.stream,
                     message: number,
                     time: self.time,
                 };
+                call.name.try_extend_from_slice(name).unwrap();
                 self.own.add(id, call);
             }
-            None => {
-                self.own.take(id);
-            }
+            None => self.own.forget(id),
         }
     }
 
     fn answered(&mut self, number: u64, id: u32) {
         self.replied = number;
-        self.answered = self.opposite.take(id).map(|call| Answering {
-            message: number,
-            call,
-        });
+        self.answered = match self.opposite.take(id) {
+            Some(call) => Some(Answering {
+                message: number,
+                call,
+            }),
+            None => None,
+        };
     }
 
     fn raised(&mut self, number: u64, name: &[u8]) {

@@ -1,4 +1,5 @@
-//! The lines of a capture beside those of its streams, times in them, and lines with the tag of their stream in front.
+//! All connections of a capture (`Conversations`): an engine for each direction and the calls of both, which Replies answer; the
+//! lines beside those of the streams, the times in them, and the tag of its stream in front of each line.
 #![tactic(auto)]
 
 mod conversation;

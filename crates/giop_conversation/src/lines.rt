@@ -40,6 +40,7 @@ pub fn stream_line<O: Out>(out: &mut O, flow: Flow, time: Option<u128>) -> Resul
 
 /// The line of when the header of a message was complete.
 #[tactic(auto, unfolding(crate::specs::Lines::time_line))]
+#[inline(never)]
 pub fn time_line<O: Out>(out: &mut O, message: u64, time: Option<u128>) -> Result<(), OutFault>
     ensures { Writes result (O.log out.old) (O.log out.new) (time_line message time) }
 {

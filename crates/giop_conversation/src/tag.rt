@@ -45,6 +45,17 @@ impl Tag {
         ROOM - self.at
     }
 
+    /// Another of the same octets.
+    #[inline]
+    pub(crate) fn copied(&self) -> Tag
+        ensures { result ≡ self.now }
+    {
+        Tag {
+            octets: self.octets,
+            at: self.at,
+        }
+    }
+
     /// The block at the end of the room, at whose end the tag stands where it isn't longer.
     #[inline]
     pub(crate) fn block(&self) -> &[u8]

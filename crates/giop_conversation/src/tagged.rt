@@ -1,9 +1,10 @@
 //! An `Out` that puts a tag in front of each line.
 
-ghost use Rattle.std.specs.Prelude.{◌≡◌, ◌<◌, ◌≤◌, ◌^◌, ◌↔◌, List, ℕ, [], length, take, IsTrue, OnOk, MatchResult};
+ghost use Rattle.std.specs.Prelude.{◌≡◌, ◌<◌, ◌≤◌, ◌^◌, ◌↔◌, true, List, ℕ, [], length, take, IsTrue, OnOk, MatchResult};
 ghost use Rattle.std.specs.Io.KnownBytes.{Appends};
 ghost use Rattle.giop_print.specs.Line.{line_text, line_room};
 ghost use Rattle.giop_print.specs.Output.{counted};
+ghost use Rattle.giop_conversation.specs.TaggedState.{IsShortDue};
 ghost use Rattle.giop_conversation.specs.TaggedText.{line_size, due_behind, IsLine, StandsIn, PutSome, PutNothing, PutLine, PutFront};
 
 use crate::tag::{BLOCK, Tag, no_tag};
@@ -20,6 +21,8 @@ pub struct Tagged<O: Out> {
     tag: Tag,
     // How many octets of the tag are to be written before the next octet.
     due: usize,
+    // Whether that is the whole tag, and no longer than a block.
+    is_short_due: bool,
     // How many octets were written since the tag was set.
     since: u64,
     puts: u64,
@@ -40,9 +43,11 @@ impl<O: Out> Model for Tagged<O> {
       failures = t.failures;
     } };
 
-    ghost use Rattle.std.specs.Prelude.{◌≤◌, length};
+    ghost use Rattle.std.specs.Prelude.{◌≡◌, ◌≤◌, true, length};
+    ghost use Rattle.giop_conversation.specs.TaggedState.{IsShortDue};
 
-    ghost invariant = { λ t. t.due ≤ length t.tag };
+    ghost invariant = { λ t. (t.due ≤ length t.tag)
+        × (t.is_short_due ≡ true → IsShortDue t.due t.tag) };
 }
 
 impl<O: Out> Tagged<O> {
@@ -64,6 +69,7 @@ impl<O: Out> Tagged<O> {
             out,
             tag: no_tag(),
             due: 0,
+            is_short_due: false,
             since: 0,
             puts: 0,
             failures: 0,
@@ -75,6 +81,7 @@ impl<O: Out> Tagged<O> {
         ensures { self.new ≡ record self.old { tag = tag; due = length tag; since = 0 } }
     {
         self.due = tag.len();
+        self.is_short_due = is_short_due(self.due, &tag);
         self.tag = tag;
         self.since = 0;
     }
@@ -121,13 +128,15 @@ impl<O: Out> Out for Tagged<O> {
         if octets.is_empty() {
             return Ok(0);
         }
-        match put_tagged(
+        let put = put_tagged(
             &mut self.out,
             self.tag.as_slice(),
             &mut self.due,
             &mut self.since,
             octets,
-        ) {
+        );
+        self.is_short_due = is_short_due(self.due, &self.tag);
+        match put {
             Ok(taken) => Ok(taken),
             Err(fault) => {
                 self.failures = one_more(self.failures);
@@ -137,7 +146,7 @@ impl<O: Out> Out for Tagged<O> {
     }
 
     fn put_line(&mut self, line: &mut Line) -> Result<(), OutFault> {
-        if !fits_before(&self.tag, self.due, self.since, line) {
+        if !fits_before(self.is_short_due, self.since, line) {
             return self.put_all(line.text());
         }
         line.put_end(self.tag.block(), self.tag.len());
@@ -148,41 +157,44 @@ impl<O: Out> Out for Tagged<O> {
             return Ok(());
         }
         self.due = self.due.saturating_sub(taken);
+        self.is_short_due = false;
         self.failures = one_more(self.failures);
         Err(OutFault)
     }
 }
 
-/// Whether a whole tag is due, it is short, a line has room for it, and the octets that were
-/// written can be counted on. The line is one line, with its end.
+/// Whether a whole tag is due, and it is no longer than a block.
+fn is_short_due(due: usize, tag: &Tag) -> bool
+    ensures { IsTrue result → IsShortDue due tag.now }
+{
+    matches!(due, 1..=BLOCK) && due == tag.len()
+}
+
+/// Whether a short tag is due as a whole, a line has room for it, and the octets that were written
+/// can be counted on. The line is one line, with its end.
 #[inline]
-fn fits_before(tag: &Tag, due: usize, since: u64, line: &Line) -> bool
-    ensures some { IsTrue result → 0 < length tag.now }
-    ensures whole { IsTrue result → due ≡ length tag.now }
-    ensures short { IsTrue result → length tag.now ≤ 16 }
+fn fits_before(is_short_due: bool, since: u64, line: &Line) -> bool
+    ensures due { IsTrue result → is_short_due ≡ true }
     ensures room { IsTrue result → 16 ≤ line_room line.now }
     ensures line { IsTrue result → IsLine (line_text line.now) }
     ensures counts { IsTrue result → since < 2 ^ 63 }
 {
-    due > 0
-        && due == tag.len()
-        && due <= BLOCK
-        && line.room() >= BLOCK
-        && since < MOST
-        && is_line(line)
+    is_short_due && since < MOST && is_line(line)
 }
 
 /// How many octets are written since the tag was set until a line and its tag are put one after the other.
 const MOST: u64 = 1 << 63;
 
-/// Whether what is spelled is one line with its end. All of a short one is looked at in one step.
+/// Whether what is spelled is one line with its end, with room for a block before it. All of a
+/// short one is looked at in one step.
 #[inline]
 fn is_line(line: &Line) -> bool
-    ensures { IsTrue result → IsLine (line_text line.now) }
+    ensures line { IsTrue result → IsLine (line_text line.now) }
+    ensures room { IsTrue result → 16 ≤ line_room line.now }
 {
     match line.room() {
         192..=255 => only_last_is_end(line.last_octets()),
-        _ => is_long_line(line.text()),
+        room => room >= BLOCK && is_long_line(line.text()),
     }
 }
 
@@ -192,8 +204,12 @@ fn only_last_is_end(octets: &[u8]) -> bool
     requires { length octets.now ≡ 64 }
     ensures { IsTrue result → IsLine octets.now }
 {
-    let ends = u8x64::from_slice(octets).simd_eq(u8x64::splat(b'\n'));
-    ends.to_bitmask() == 1 << 63
+    let end = u8x16::splat(b'\n');
+    let first = u8x16::from_slice(octets).simd_eq(end);
+    let second = u8x16::from_slice(&octets[16..]).simd_eq(end);
+    let third = u8x16::from_slice(&octets[32..]).simd_eq(end);
+    let last = u8x16::from_slice(&octets[48..]).simd_eq(end);
+    !(first | second | third).any() && last.to_bitmask() == 1 << 15
 }
 
 /// Whether octets are one line with its end.

@@ -22,15 +22,15 @@ fn a_reply_answers_the_call_of_the_other_direction(rt: HostRuntime) -> Result<()
     exchange.answered(2, 9);
     assert!(rt; exchange.replied() == 2);
     assert!(rt; exchange.operation(9).is_none());
-    let answering = exchange.take_answered();
-    assert!(rt; answering.is_some());
-    if let Some(answering) = answering {
+    assert!(rt; exchange.answering().is_some() && !exchange.is_taken());
+    if let Some(answering) = exchange.answering() {
         assert!(rt; answering.message == 2);
         assert!(rt; answering.call.name.as_slice() == PING);
         assert!(rt; (answering.call.stream, answering.call.message) == (7, 3));
         assert!(rt; answering.call.time == Some(5));
     }
-    assert!(rt; exchange.take_answered().is_none());
+    exchange.forget_reply();
+    assert!(rt; exchange.answering().is_none() && exchange.is_taken());
     Ok(())
 }
 
@@ -45,6 +45,6 @@ fn calls_that_are_forgotten_have_no_answer(rt: HostRuntime) -> Result<(), Fail> 
     assert!(rt; exchange.operation(9).is_none());
     exchange.answered(2, 9);
     assert!(rt; exchange.replied() == 2);
-    assert!(rt; exchange.take_answered().is_none());
+    assert!(rt; exchange.answering().is_none());
     Ok(())
 }

@@ -1,4 +1,4 @@
--- That a direction answers operations of a table alone, and goes on to.
+-- That a direction answers operations of a table alone, and goes on to (laws).
 use Rattle.std.proofs.Common.{◌≡◌, ◌<◌, ℕ, ◌==◌, Bool, true, false, List, [], ◌∷◌, length, Option, Some, None, IfSome, option_and_then, refl, sym, ◌∙◌}
 use Rattle.std.specs.List.{find}
 use Rattle.std.specs.Option.{option_map}

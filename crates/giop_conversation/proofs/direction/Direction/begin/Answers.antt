@@ -1,3 +1,4 @@
+use Rattle.std.proofs.Common.{◌∙◌}
 use Rattle.giop_conversation.specs.Stamped.{begin_lines}
 use Rattle.giop_conversation.proofs.FailingLemmas.{by_writes}
 use Rattle.giop_conversation.proofs.StreamReadLemmas.{below_tag, begin_lines_end}
@@ -12,7 +13,8 @@ returns-clause-fails g c =
 pub returns-clause-text : goal.returns-clause-text
 returns-clause-text g c = λ w ready.
     below_tag c.write_begin.result c.args.out.now c.set_tag.new.self c.write_begin.new.out w
-    (begin_lines c.args.self.now.flow c.args.time) c.stream_tag.result
+    (begin_lines c.args.self.now.flow c.args.time) c.copied.result
     (stream_tag c.args.stream) ready c.set_tag.ensures
-    c.stream_tag.ensures (begin_lines_end c.args.self.now.flow c.args.time)
+    (c.copied.ensures ∙ c.stream_tag-self-inside.ensures)
+    (begin_lines_end c.args.self.now.flow c.args.time)
     (rw (← c.self.view_is) c.write_begin.ensures)

@@ -17,22 +17,22 @@ use Rattle.giop_conversation.proofs.direction.Direction.close.Goals as goal
 
 pub returns-in-Ok-clause-fails : goal.returns-in-Ok-clause-fails
 returns-in-Ok-clause-fails g c =
-    let h = c.self.invariant.read in
+    let h = c.self.invariant.0.read in
     let closed = c.in_ok-closed_line.ensures.failures in
-    (c.in-Ok.ensures.text h.answers c.self.invariant.stream h.holds).failures
+    (c.in-Ok.ensures.text h.answers c.self.invariant.0.stream h.holds).failures
     ∙ (closed ∙ ap (λ (t : Tagging). t.failures) c.set_tag.ensures)
 
 pub returns-in-Err-clause-fails : goal.returns-in-Err-clause-fails
 returns-in-Err-clause-fails g c =
     let e = c.self.inside.engine in
-    let h = c.self.invariant.read in
+    let h = c.self.invariant.0.read in
     let closed = c.in_ok-closed_line.ensures.failures in
     let counts =
     closing_counts Totals c.in-Err.field-0 (tagging_log c.closed_line.new.out)
     (tagging_log c.close.new.out)
-    (closing (rules_with e h.answers) c.self.invariant.stream) e h.holds.sound
+    (closing (rules_with e h.answers) c.self.invariant.0.stream) e h.holds.sound
     c.in-Err.ensures.sound
-    (c.in-Err.ensures.text h.answers c.self.invariant.stream h.holds) in
+    (c.in-Err.ensures.text h.answers c.self.invariant.0.stream h.holds) in
     counts ∙ ap counted (closed ∙ ap (λ (t : Tagging). t.failures) c.set_tag.ensures)
 
 pub returns-in_err-closed_line-clause-text : goal.returns-in_err-closed_line-clause-text
@@ -43,8 +43,8 @@ returns-in_err-closed_line-clause-text g c = λ a p w holds ready.
     MatchResult-from_err c.from_residual.result _ _ c.from_residual.ensures.0 (λ _.
     below_tag failed c.args.out.now c.set_tag.new.self c.closed_line.new.out w
     (closed_line c.args.cause ++ rest)
-    c.stream_tag.result (stream_tag c.args.self.now.stream) ready c.set_tag.ensures
-    (rw (← c.self.view_is) c.stream_tag.ensures)
+    c.copied.result (stream_tag c.args.self.now.stream) ready c.set_tag.ensures
+    (rw (← c.self.view_is) (c.copied.ensures ∙ c.self.invariant.1))
     (closing_lines_end (rules_with e a) p c.args.cause)
     (front-append (tagging_log c.set_tag.new.self) (tagging_log c.closed_line.new.out)
     (closed_line c.args.cause) rest c.in_err-closed_line.ensures))
@@ -57,8 +57,8 @@ returns-in-Ok-clause-text g c = λ a p w holds ready.
     let done : Result Totals Totals = Ok c.in-Ok.totals in
     below_tag done c.args.out.now c.set_tag.new.self c.close.new.out w
     (closed_line c.args.cause ++ rest)
-    c.stream_tag.result (stream_tag c.args.self.now.stream) ready c.set_tag.ensures
-    (rw (← c.self.view_is) c.stream_tag.ensures)
+    c.copied.result (stream_tag c.args.self.now.stream) ready c.set_tag.ensures
+    (rw (← c.self.view_is) (c.copied.ensures ∙ c.self.invariant.1))
     (closing_lines_end (rules_with e a) p c.args.cause)
     (wrote-append (tagging_log c.set_tag.new.self) (tagging_log c.closed_line.new.out)
     (tagging_log c.close.new.out) (closed_line c.args.cause) rest
@@ -77,8 +77,8 @@ returns-in-Err-clause-text g c = λ a p w holds ready.
     c.in-Err.ensures.sound (c.in-Err.ensures.text a p inside)) in
     below_tag failed c.args.out.now c.set_tag.new.self c.close.new.out w
     (closed_line c.args.cause ++ rest)
-    c.stream_tag.result (stream_tag c.args.self.now.stream) ready c.set_tag.ensures
-    (rw (← c.self.view_is) c.stream_tag.ensures)
+    c.copied.result (stream_tag c.args.self.now.stream) ready c.set_tag.ensures
+    (rw (← c.self.view_is) (c.copied.ensures ∙ c.self.invariant.1))
     (closing_lines_end (rules_with e a) p c.args.cause)
     (wrote-front (tagging_log c.set_tag.new.self) (tagging_log c.closed_line.new.out)
     (tagging_log c.close.new.out) (closed_line c.args.cause) rest

@@ -12,19 +12,21 @@ use Rattle.giop_conversation.proofs.direction.Direction.feed.Goals as goal
 pub invariant_of-self : goal.invariant_of-self
 invariant_of-self g c =
     let e = c.self.inside.engine in
-    let p = c.self.invariant.stream in
-    let h = c.self.invariant.read in
+    let p = c.self.invariant.0.stream in
+    let h = c.self.invariant.0.read in
     let on = c.answers_go_on.ensures e.table h.answers e.most p c.args.piece.now c.args.exchange.now
-    in
-    record {
-      same = c.in-Ok.ensures.same.0 ∙ c.self.invariant.same;
-      stream = p ++ c.args.piece.now;
-      read = record {
-        answers = on.0;
-        holds = c.in-Ok.ensures.held on.0 p (c.answers_agree.ensures.held e h.answers on.0 p on.1
-            h.holds) on.2;
-      };
-    }
+    in (
+      record {
+        same = c.in-Ok.ensures.same.0 ∙ c.self.invariant.0.same;
+        stream = p ++ c.args.piece.now;
+        read = record {
+          answers = on.0;
+          holds = c.in-Ok.ensures.held on.0 p (c.answers_agree.ensures.held e h.answers on.0 p on.1
+              h.holds) on.2;
+        };
+      },
+      c.self.invariant.1,
+    )
 
 pub returns-in-Ok-clause-read : goal.returns-in-Ok-clause-read
 returns-in-Ok-clause-read g c = λ p read.
@@ -50,8 +52,8 @@ returns-in-Ok-clause-status g c = λ p read.
 pub returns-in-Ok-clause-fails : goal.returns-in-Ok-clause-fails
 returns-in-Ok-clause-fails g c =
     let e = c.self.inside.engine in
-    let p = c.self.invariant.stream in
-    let h = c.self.invariant.read in
+    let p = c.self.invariant.0.stream in
+    let h = c.self.invariant.0.read in
     let on = c.answers_go_on.ensures e.table h.answers e.most p c.args.piece.now c.args.exchange.now
     in
     (c.in-Ok.ensures.text on.0 p (c.answers_agree.ensures.held e h.answers on.0 p on.1 h.holds)
@@ -60,8 +62,8 @@ returns-in-Ok-clause-fails g c =
 pub returns-in-Err-clause-fails : goal.returns-in-Err-clause-fails
 returns-in-Err-clause-fails g c =
     let e = c.self.inside.engine in
-    let p = c.self.invariant.stream in
-    let h = c.self.invariant.read in
+    let p = c.self.invariant.0.stream in
+    let h = c.self.invariant.0.read in
     let on = c.answers_go_on.ensures e.table h.answers e.most p c.args.piece.now c.args.exchange.now
     in
     stop_counts Status c.in-Err.field-0 (tagging_log c.args.out.now) (tagging_log c.feed_by.new.out)

@@ -54,7 +54,7 @@ loop-size-init g c =
     let starts : s ≡ reading_in e c.args.self.now.stream c.args.time c.args.exchange.now =
     reading_starts e c.args.self.now.stream c.args.time c.args.exchange.now c.set_catalogue.new.self
     s c.self.inside.catalogue.now c.self.inside.stream
-    c.set_catalogue.ensures c.read_in.ensures (rw (← c.self.view_is) c.self.invariant.same)
+    c.set_catalogue.ensures c.read_in.ensures (rw (← c.self.view_is) c.self.invariant.0.same)
     (rw (← c.self.view_is) refl) in
     record {
       within = omega arith;
@@ -83,7 +83,7 @@ returns-in_err-size-clause-text g c = λ a p w holds ready agrees.
     let starts : s ≡ reading_in e c.args.self.now.stream c.args.time c.args.exchange.now =
     reading_starts e c.args.self.now.stream c.args.time c.args.exchange.now c.set_catalogue.new.self
     s c.self.inside.catalogue.now c.self.inside.stream
-    c.set_catalogue.ensures c.read_in.ensures (rw (← c.self.view_is) c.self.invariant.same)
+    c.set_catalogue.ensures c.read_in.ensures (rw (← c.self.view_is) c.self.invariant.0.same)
     (rw (← c.self.view_is) refl) in
     let agree : AgreeWith e a s p octets =
     subst (λ (x : Exchanged). AgreeWith e a x p octets) (sym starts) agrees in
@@ -109,8 +109,8 @@ returns-in_err-size-clause-text g c = λ a p w holds ready agrees.
     let failed : Result ℕ ℕ = Err 0 in
     let below : WroteTaggedFront c.read_piece.new.out w due (stamped R s p octets) =
     below_tag failed c.args.out.now c.set_tag.new.self c.read_piece.new.out w (stamped R s p octets)
-    c.stream_tag.result due ready
-    c.set_tag.ensures (rw (← c.self.view_is) c.stream_tag.ensures)
+    c.copied.result due ready
+    c.set_tag.ensures (rw (← c.self.view_is) (c.copied.ensures ∙ c.self.invariant.1))
     (stamped_ends e.table a e.most octets p s) front in
     MatchResult-from_err c.from_residual.result _ _ c.from_residual.ensures.0
     (λ _. subst (λ (x : Exchanged). WroteTaggedFront c.read_piece.new.out w due
@@ -146,7 +146,7 @@ returns-then-at-octets-clause-text g c = λ a p w holds ready agrees.
     let starts : s ≡ reading_in e c.args.self.now.stream c.args.time c.args.exchange.now =
     reading_starts e c.args.self.now.stream c.args.time c.args.exchange.now c.set_catalogue.new.self
     s c.self.inside.catalogue.now c.self.inside.stream
-    c.set_catalogue.ensures c.read_in.ensures (rw (← c.self.view_is) c.self.invariant.same)
+    c.set_catalogue.ensures c.read_in.ensures (rw (← c.self.view_is) c.self.invariant.0.same)
     (rw (← c.self.view_is) refl) in
     let agree : AgreeWith e a s p octets =
     subst (λ (x : Exchanged). AgreeWith e a x p octets) (sym starts) agrees in
@@ -167,6 +167,6 @@ returns-then-at-octets-clause-text g c = λ a p w holds ready agrees.
     (w ++ with_tags due (stamped R x p octets)) c.read_piece.new.exchange
     (exchanged R x p octets))
     starts
-    (stands_at_end e e' a p octets w c.stream_tag.result due (at + n) s
+    (stands_at_end e e' a p octets w c.copied.result due (at + n) s
     c.read_piece.new.exchange c.args.out.now c.set_tag.new.self out past all ready
-    c.set_tag.ensures (rw (← c.self.view_is) c.stream_tag.ensures))
+    c.set_tag.ensures (rw (← c.self.view_is) (c.copied.ensures ∙ c.self.invariant.1)))

@@ -5,8 +5,8 @@ pub returns-in-Ok : goal.returns-in-Ok
 returns-in-Ok g c =
     let put = rw c.as_slice.ensures at c.in-Ok.ensures in
     rw (← c.self.view_is)
-    (took _ _ c.self.inside.tag c.args.octets.now c.self.inside.since c.put_tagged.new.since
-    c.self.inside.due c.put_tagged.new.due c.in-Ok.taken c.self.inside.puts
+    (took _ _ c.self.inside.tag c.args.octets.now c.self.inside.since c.put_tagged-put.new.since
+    c.self.inside.due c.put_tagged-put.new.due c.in-Ok.taken c.self.inside.puts
     c.one_more-self-inside.result
     c.self.inside.failures put c.one_more-self-inside.ensures)
 
@@ -14,7 +14,7 @@ pub returns-in-Err : goal.returns-in-Err
 returns-in-Err g c =
     let put = rw c.as_slice.ensures at c.in-Err.ensures in
     rw (← c.self.view_is)
-    (failed _ _ c.self.inside.tag c.self.inside.since c.put_tagged.new.since
-    c.self.inside.due c.put_tagged.new.due c.self.inside.puts c.one_more-self-inside.result
+    (failed _ _ c.self.inside.tag c.self.inside.since c.put_tagged-put.new.since
+    c.self.inside.due c.put_tagged-put.new.due c.self.inside.puts c.one_more-self-inside.result
     c.self.inside.failures c.one_more-self-inside-in-Err.result put c.one_more-self-inside.ensures
     c.one_more-self-inside-in-Err.ensures)

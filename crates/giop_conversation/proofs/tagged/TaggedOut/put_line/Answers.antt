@@ -7,9 +7,10 @@ use Rattle.giop_conversation.proofs.tagged.TaggedOut.put_line.Goals as goal
 pub put_end-requires : goal.put_end-requires
 put_end-requires g c =
     let fits = c.if-not-fits_before.ensures in
+    let due = c.self.invariant.1 (fits.due refl) in
     record {
       size = c.block.ensures.size;
-      within = rw c.len.ensures (fits.short refl);
+      within = rw c.len.ensures due.short;
       room = fits.room refl;
     }
 
@@ -18,16 +19,17 @@ returns-then-taken-text g c =
     let tag = c.self.inside.tag in
     let line = line_text c.args.line.now in
     let fits = c.if-not-fits_before.ensures in
+    let due = c.self.invariant.1 (fits.due refl) in
     let text : c.text-text.result.now ≡ tag ++ line =
     c.text-text.ensures ∙ (c.put_end.ensures.text
-    ∙ ap (λ t. t ++ line) (rw c.len.ensures (c.block.ensures.tag (fits.short refl)))) in
+    ∙ ap (λ t. t ++ line) (rw c.len.ensures (c.block.ensures.tag due.short))) in
     let all = take_all (length c.text-text.result.now) c.text-text.result.now (omega arith) in
     let appends = rw text at (rw all at (rw c.if-taken-text.true at
     c.put_most-taken.ensures.written)) in
     rw (← c.self.view_is)
     (wrote_line _ _ tag line c.self.inside.since (c.self.inside.since + c.put_most-taken.result)
     c.self.inside.due c.self.inside.puts c.self.inside.failures (fits.line refl)
-    (fits.some refl) (fits.whole refl) appends
+    due.some due.whole appends
     (ap (λ n. c.self.inside.since + n) (c.if-taken-text.true ∙ ap length text)))
 
 pub returns : goal.returns
@@ -36,17 +38,18 @@ returns g c =
     let line = line_text c.args.line.now in
     let taken = c.put_most-taken.result in
     let fits = c.if-not-fits_before.ensures in
+    let due = c.self.invariant.1 (fits.due refl) in
     let text : c.text-text.result.now ≡ tag ++ line =
     c.text-text.ensures ∙ (c.put_end.ensures.text
-    ∙ ap (λ t. t ++ line) (rw c.len.ensures (c.block.ensures.tag (fits.short refl)))) in
-    let whole : c.self.inside.due ≡ length tag = fits.whole refl in
+    ∙ ap (λ t. t ++ line) (rw c.len.ensures (c.block.ensures.tag due.short))) in
+    let whole : c.self.inside.due ≡ length tag = due.whole in
     let size : length c.text-text.result.now ≡ length (tag ++ line) = ap length text in
     let few : taken < length (tag ++ line) =
     omega (arith, size, c.put_most-taken.ensures.within, c.if-taken-text.false) in
     rw (← c.self.view_is)
     (wrote_front _ _ tag line c.self.inside.since (c.self.inside.since + taken) c.self.inside.due
     c.saturating_sub-self-inside.result taken c.self.inside.puts c.self.inside.failures
-    c.one_more-self-inside.result (fits.line refl) (fits.some refl)
+    c.one_more-self-inside.result (fits.line refl) due.some
     whole
     (c.saturating_sub-self-inside.ensures ∙ ap (λ d. d - taken) whole) few
     (rw text at c.put_most-taken.ensures.written) refl c.one_more-self-inside.ensures)
