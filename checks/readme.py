@@ -40,9 +40,16 @@ def runs_as_written(page: Path, command: str, wanted: List[str]) -> bool:
 
 
 def broken_links(page: Path) -> List[str]:
-    """The files that a page links to and that aren't there."""
-    targets = re.findall(r"\]\(([^)#:]+)[^)]*\)", page.read_text())
-    return [f"{page.relative_to(TOP)}: {target}" for target in targets if not (page.parent / target).exists()]
+    """The files that a page links to and that aren't there, and the lines that a page links to by a function's name and that
+    don't begin it."""
+    text = page.read_text()
+    targets = re.findall(r"\]\(([^)#:]+)[^)]*\)", text)
+    broken = [target for target in targets if not (page.parent / target).exists()]
+    for name, target, line in re.findall(r"`(?:\w+::)?(\w+)`\]\(([^)#:]+)#L(\d+)\)", text):
+        lines = (page.parent / target).read_text().splitlines()
+        if f"fn {name}<" not in "".join(lines[int(line) - 1 : int(line)]):
+            broken.append(f"{target}#L{line}")
+    return [f"{page.relative_to(TOP)}: {each}" for each in broken]
 
 
 def is_shown_as_written(page: Path, source: Path) -> bool:
