@@ -56,19 +56,12 @@ impl<W: Write + Drop> Out for Lines<W> {
 
     fn put(&mut self, octets: &[u8]) -> Result<usize, OutFault> {
         self.puts = one_more(self.puts);
-        match self.buffer.write(octets) {
-            Ok(taken) => {
-                if taken == 0 && !octets.is_empty() {
-                    self.failures = one_more(self.failures);
-                    return Err(OutFault);
-                }
-                Ok(taken)
-            }
-            Err(_) => {
-                self.failures = one_more(self.failures);
-                Err(OutFault)
-            }
+        let taken = self.buffer.write(octets).unwrap_or(0);
+        if taken == 0 && !octets.is_empty() {
+            self.failures = one_more(self.failures);
+            return Err(OutFault);
         }
+        Ok(taken)
     }
 }
 
