@@ -208,7 +208,7 @@ stands_more S header n (ReadTo emitted at stage) b (inl h) =
 stands_more S header n (ReadTo emitted at stage) b (inr h) = rw h (inr refl)
 
 -- Induction that adds at the end.
-grown : {A : Type 0} (P : List A → Type 0) → ((xs : List A) (x : A) → P xs → P (xs ++ x ∷ [])) →
+pub grown : {A : Type 0} (P : List A → Type 0) → ((xs : List A) (x : A) → P xs → P (xs ++ x ∷ [])) →
     (done more : List A) → P done → P (done ++ more)
 grown P more_of done [] h = rw append-nil h
 grown P more_of done (x ∷ xs) h = subst P (append_assoc done (x ∷ []) xs)

@@ -18,7 +18,7 @@ use Rattle.giop_message.specs.Messages.{Stage, In_typed, In_padding, In_rest, Ov
 use Rattle.giop_message.specs.ReaderOfTable.{is_over, timed_line_of, closing_of, remarks_by, closes_by}
 use Rattle.giop_message.specs.MessageState.{is_header}
 use Rattle.giop_message.proofs.Raises.{is_settled, raised_stays, raised_settled, raised_before, raised_apart}
-use Rattle.giop_message.specs.HeaderEnds.{HeaderEnd, Header_end, Exception_end, CallEvent, noted_if_whole, noted_by_type, header_noted, ends_between, raised, raises_between, header_ends, stage_told_after, told_after, call_event, after_event, after_ends, AgreesAtEnds}
+use Rattle.giop_message.specs.HeaderEnds.{HeaderEnd, Header_end, Exception_end, CallEvent, noted_if_whole, noted_by_type, header_noted, ends_between, raised, raises_between, header_ends, stage_told_after, reply_ahead, at_least, told_after, call_event, after_event, after_ends, AgreesAtEnds}
 
 -- ---- what is noted of a whole header stays the same
 
@@ -285,12 +285,17 @@ over_none C answer number header s more e =
     (settled_none C answer number header s more
     (over_settled (stage_of (message (signatures_of C answer) header s)) e))
 
+none_at_least : (fewest : ℕ) (o : Option ℕ) → at_least fewest o ≡ None → o ≡ None
+none_at_least fewest None e = refl
+none_at_least fewest (Some n) e = absurd cc
+
 -- Where no more is told none ends.
 pub nothing_told : (C : Table) (answer : Answer) (number : ℕ) (header s more : List ℕ) →
     told_after (signatures_of C answer) header s ≡ None → header_ends number header s more ≡ []
 unfolding header_ends told_after stage_told_after waits is_settled is_over
 nothing_told C answer number header s more e =
-    go (stage_of (message (signatures_of C answer) header s)) refl e
+    go (stage_of (message (signatures_of C answer) header s)) refl
+    (none_at_least (reply_ahead header s) _ e)
   where
     go : (g : Stage) → stage_of (message (signatures_of C answer) header s) ≡ g →
         stage_told_after g ≡ None →

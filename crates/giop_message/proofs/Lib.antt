@@ -19,6 +19,7 @@ mod Rests
 mod Dues
 mod Raises
 mod HeaderEndLaws
+mod ReplyHeaders
 mod ToldAfter
 mod MessageAgreement
 mod Closing

@@ -33,7 +33,7 @@ use Rattle.giop_message.specs.declared.body_type.BodyTypeId.{BodyTypeId}
 use Rattle.giop_message.specs.Headers.{minor, kind, order}
 use Rattle.giop_message.specs.Signatures.{Signatures, Answer, Answers, signatures_of}
 use Rattle.giop_message.specs.Messages.{LineAt, with_front, section_then, section_and_rest, message, message_lines, stage_of, root_of, after}
-use Rattle.giop_message.specs.HeaderEnds.{HeaderEnd, CallEvent, Header_end, noted_if_whole, noted_by_type, header_noted, ends_between, named_if_whole, raised, raises_between, header_ends, is_told, stage_told_after, told_after, operation_of, raise_event, after_event, after_ends, AgreesAtEnds}
+use Rattle.giop_message.specs.HeaderEnds.{HeaderEnd, CallEvent, Header_end, noted_if_whole, noted_by_type, header_noted, ends_between, named_if_whole, raised, raises_between, header_ends, is_told, stage_told_after, operation_of, raise_event, after_event, after_ends, AgreesAtEnds}
 use Rattle.giop_message.specs.ReaderOfTable.{first_request_id}
 use Rattle.giop_message.specs.Text.{fault_word}
 use Rattle.giop_message.specs.MessageState.{due_text, IsFirst, Decodes, Stands, FitsPart, Fits, is_header, in_header, Follows, FaultedAt}
@@ -406,22 +406,22 @@ module _ (t : Standing) where
       (section_and_rest (S t) header section nothing_noted r)) i.was_short
 
   -- after how many octets the correspondent is told
-  section_told : told_after (S t) header s
+  section_told : stage_told_after (stage_of (message (S t) header s))
       ≡ (if is_told section then Some (octets_left (inside t).leaf) else None)
-  unfolding told_after
   section_told =
       ap (λ z. stage_told_after (stage_of z)) stands_short
       ∙ (ap stage_told_after (stage_front _ _)
       ∙ told_short (S t) header section nothing_noted _ _ _ _)
 
-  pub section_untold : is_told section ≡ false → None ≡ told_after (S t) header s
+  pub section_untold : is_told section ≡ false →
+      None ≡ stage_told_after (stage_of (message (S t) header s))
   section_untold e = sym (section_told ∙ rw e refl)
 
   -- by its decoder
   pub section_value : is_told section ≡ true → (n : ℕ) →
       ((T : Ty) (o : Order) (at number : ℕ) (root : Root) (xs : List ℕ) →
       decoders.Reads C T o at number root d xs → n ≡ left_in (read (plain o) [] T at xs)) →
-      Some n ≡ told_after (S t) header s
+      Some n ≡ stage_told_after (stage_of (message (S t) header s))
   unfolding left_in
   section_value e n left =
       let here = by_reads t left ∙ ap left_in (inside t).was_short in
@@ -669,15 +669,15 @@ module _ {C : Table} {answers : Answers} {number : ℕ} {header : List ℕ} {m :
 
   -- after how many octets the correspondent is told
   pub padding_value : {body_type_id : BodyTypeId} → m.part ≡ parts.Padding body_type_id →
-      Some 1 ≡ told_after (signatures_of C (answers number)) header s
-  unfolding told_after stage_told_after stage_of
+      Some 1 ≡ stage_told_after (stage_of (message (signatures_of C (answers number)) header s))
+  unfolding stage_told_after stage_of
   padding_value {body_type_id} is =
       let stands = subst (Stands C answers number header s) is f.stands in
       sym (ap (λ z. stage_told_after (stage_of z)) stands.1)
 
   pub rest_value : {r : Rest} → m.part ≡ parts.Rest r →
-      None ≡ told_after (signatures_of C (answers number)) header s
-  unfolding told_after stage_told_after stage_of
+      None ≡ stage_told_after (stage_of (message (signatures_of C (answers number)) header s))
+  unfolding stage_told_after stage_of
   rest_value {r} is =
       let stands = subst (Stands C answers number header s) is f.stands in
       sym (ap (λ z. stage_told_after (stage_of z)) stands.1)

@@ -1,7 +1,7 @@
 -- No header, and no name of an exception, ends in fewer octets than have to come until then.
-use Rattle.std.proofs.Common.{◌≡◌, ℕ, ◌+◌, ◌<◌, Bool, true, false, List, [], ◌∷◌, ◌++◌, length, drop, Option, Some, None, refl, sym, ap, subst, ◌∙◌, arith}
-use Rattle.std.specs.Prelude.{◌==◌, nat_lt, if◌then◌else◌}
-use Rattle.std.proofs.lemmas.Bool.{false≢true}
+use Rattle.std.proofs.Common.{◌≡◌, ℕ, ◌+◌, ◌-◌, ◌<◌, ◌≤◌, ◌⊎◌, inl, inr, Bool, true, false, List, [], ◌∷◌, ◌++◌, length, drop, Option, Some, None, refl, sym, ap, subst, ◌∙◌, arith, length-append}
+use Rattle.std.specs.Prelude.{◌==◌, max, nat_lt, if◌then◌else◌}
+use Rattle.std.proofs.lemmas.Bool.{false≢true, cases_lt, eqb-true}
 use Rattle.giop_cdr.specs.Alignment.{padding}
 use Rattle.giop_sig.specs.Types.{Ty}
 use Rattle.giop_sig.specs.Table.{Table}
@@ -17,9 +17,10 @@ use Rattle.giop_message.specs.Headers.{minor, kind, order}
 use Rattle.giop_message.specs.Signatures.{Signatures, Answer, signatures_of}
 use Rattle.giop_message.specs.Messages.{BodyType, Untyped, Typed, UserException, SystemException, Stage, In_typed, In_padding, In_rest, Over, Message, ReadTo, section_then, rest, after_exception, is_request, body, body_of, has_body, padded, after_header, of_header, message, stage_of}
 use Rattle.giop_message.specs.MessageState.{is_header}
-use Rattle.giop_message.specs.HeaderEnds.{AreSilent, noted_if_whole, noted_by_type, header_noted, ends_between, named_if_whole, raised, raises_between, header_ends, stage_told_after, told_after}
+use Rattle.giop_message.specs.HeaderEnds.{AreSilent, noted_if_whole, noted_by_type, header_noted, ends_between, named_if_whole, raised, raises_between, header_ends, stage_told_after, reply_ahead, at_least, told_after}
 use Rattle.giop_message.proofs.Octets.{stage_front}
 use Rattle.giop_message.proofs.Raises.{is_settled, raises_here, tail_name, rest_settled, typed_settled, members_settled, raised_inside, raised_before}
+use Rattle.giop_message.proofs.ReplyHeaders.{reply_unnoted}
 use Rattle.giop_message.proofs.HeaderEndLaws.{waits, past_none, header_ends_none}
 
 -- ---- a value that has not ended
@@ -169,6 +170,18 @@ tail_comes header at more n few Over here e = absurd (false≢true here)
 
 -- ---- a message
 
+-- as long as no header has ended
+before_header : (number : ℕ) (header s more : List ℕ) → header_noted header (s ++ more) ≡ None →
+    header_ends number header s more ≡ []
+unfolding header_ends
+before_header number header s more none =
+    rw (
+      none,
+      raised_before header (s ++ more) none,
+      ends_none number header (header_noted header s),
+    )
+    (raises_none number (raised header s))
+
 nothing_of : (xs : List ℕ) → length xs < 1 → xs ≡ []
 nothing_of [] h = refl
 nothing_of (x ∷ xs) h = absurd (omega arith)
@@ -179,15 +192,8 @@ module _ (C : Table) (answer : Answer) (number : ℕ) (header s more : List ℕ)
 
   in_header : length more < n → heads_here g ≡ true → stage_told_after g ≡ Some n →
       header_ends number header s more ≡ []
-  unfolding header_ends
   in_header few here e =
-      let later = header_comes C answer header s more n few here e in
-      rw (
-        later,
-        raised_before header (s ++ more) later,
-        ends_none number header (header_noted header s),
-      )
-      (raises_none number (raised header s))
+      before_header number header s more (header_comes C answer header s more n few here e)
 
   in_name : length more < n → raises_here g ≡ true → waits g ≡ false → stage_told_after g ≡ Some n →
       header_ends number header s more ≡ []
@@ -198,11 +204,10 @@ module _ (C : Table) (answer : Answer) (number : ℕ) (header s more : List ℕ)
       rw (past_none C answer number header s more past, later)
       (raises_none number (raised header s))
 
-  -- Before then neither a header nor a name ends.
-  pub nothing_told_before : told_after (signatures_of C answer) header s ≡ Some n →
-      length more < n → header_ends number header s more ≡ []
-  unfolding told_after stage_told_after heads_here raises_here waits
-  nothing_told_before e few = go g refl e
+  part_before : stage_told_after g ≡ Some n → length more < n →
+      header_ends number header s more ≡ []
+  unfolding stage_told_after heads_here raises_here waits
+  part_before e few = go g refl e
     where
       go : (h : Stage) → g ≡ h → stage_told_after h ≡ Some n → header_ends number header s more ≡ []
       go (In_typed sections.Header h outer leaf) is k = in_header few (ap heads_here is) e
@@ -216,6 +221,41 @@ module _ (C : Table) (answer : Answer) (number : ℕ) (header s more : List ℕ)
           rw (nothing_of more (rw one few)) (header_ends_none number header s)
       go (In_rest offset held) is k = absurd cc
       go Over is k = absurd cc
+
+-- fewer octets than a Reply's header has at least
+before_twelve : (number : ℕ) (header s more : List ℕ) → length more < reply_ahead header s →
+    header_ends number header s more ≡ []
+unfolding reply_ahead
+before_twelve number header s more few = go (kind header == 1) refl few
+  where
+    go : (reply : Bool) → (kind header == 1) ≡ reply →
+        length more < (if reply then 12 - length s else 0) → header_ends number header s more ≡ []
+    go true is few =
+        before_header number header s more
+        (reply_unnoted header (s ++ more) (eqb-true (kind header) 1 is)
+        (omega (arith, few, length-append s more)))
+    go false is few = absurd (omega (arith, few))
+
+-- Before then neither a header nor a name ends.
+pub nothing_told_before : (C : Table) (answer : Answer) (number : ℕ) (header s more : List ℕ)
+    (n : ℕ) → told_after (signatures_of C answer) header s ≡ Some n → length more < n →
+    header_ends number header s more ≡ []
+unfolding told_after
+nothing_told_before C answer number header s more n e few =
+    go (stage_told_after (stage_of (message (signatures_of C answer) header s))) refl e
+  where
+    go : (o : Option ℕ) →
+        stage_told_after (stage_of (message (signatures_of C answer) header s)) ≡ o →
+        at_least (reply_ahead header s) o ≡ Some n → header_ends number header s more ≡ []
+    go None is k = absurd cc
+    go (Some m) is k = by (cases_lt (length more) m)
+      where
+        most : max m (reply_ahead header s) ≡ n
+        most = cc
+
+        by : (length more < m) ⊎ (m ≤ length more) → header_ends number header s more ≡ []
+        by (inl below) = part_before C answer number header s more m is below
+        by (inr above) = before_twelve number header s more (omega (arith, most, few, above))
 
 -- ---- a message that is no Reply
 

@@ -1,6 +1,6 @@
 -- Where the header of a message ends, where the name of an exception that a Reply raises does, and
 -- what the correspondent, the other side of the conversation, is told there (meaning).
-use Rattle.std.specs.Prelude.{◌≡◌, ◌<◌, ℕ, Bool, true, false, List, [], ◌∷◌, ◌++◌, length, Option, Some, None, IfSome, option_and_then, option_map, ◌==◌, ◌+◌, nat_lt, drop, if◌then◌else◌}
+use Rattle.std.specs.Prelude.{◌≡◌, ◌<◌, ℕ, Bool, true, false, List, [], ◌∷◌, ◌++◌, length, Option, Some, None, IfSome, option_and_then, option_map, ◌==◌, ◌+◌, ◌-◌, max, nat_lt, drop, if◌then◌else◌}
 use Rattle.giop_sig.specs.declared.types.OpId.{OpId}
 use Rattle.giop_cdr.specs.Alignment.{padding}
 use Rattle.giop_sig.specs.declared.types.Fixed.TheVariants.{ExceptionId, SystemException}
@@ -122,12 +122,25 @@ stage_told_after (In_padding b) = Some 1
 stage_told_after (In_rest offset held) = None
 stage_told_after Over = None
 
+-- How many octets of the header of a Reply are to come at least, by those after the 12 that it
+-- begins with: it has 12 for the request id, the status and the number of the service contexts
+-- (GIOP Message Formats, Reply Header). None of another message.
+unfoldable pub reply_ahead : List ℕ → List ℕ → ℕ
+reply_ahead header s = if kind header == 1 then 12 - length s else 0
+
+-- no fewer than so many, where there is a number
+abbrev pub at_least : ℕ → Option ℕ → Option ℕ
+at_least fewest None = None
+at_least fewest (Some n) = Some (max n fewest)
+
 -- How many octets have to come at least until the header of a message, or the name of the exception
 -- that it raises, ends, by these octets after the 12 of its header: at least 1 in its header, in
 -- the padding behind that, in the repository id of an exception, and in the body of a system
--- exception. None where no header and no name ends any more.
+-- exception; and of a Reply as many as its header has at least. None where no header and no name
+-- ends any more.
 unfoldable pub told_after : Signatures → List ℕ → List ℕ → Option ℕ
-told_after S header s = stage_told_after (stage_of (message S header s))
+told_after S header s =
+    at_least (reply_ahead header s) (stage_told_after (stage_of (message S header s)))
 
 -- None of them is told of a Reply: neither a Reply's header, nor the name of an exception.
 abbrev pub AreSilent : List HeaderEnd → Type 0

@@ -30,7 +30,7 @@ impl Message {
     ghost use Rattle.giop_message.specs.Messages.{message, message_lines, stage_of, close};
     ghost use Rattle.giop_message.specs.MessageSteps.{last_rest_text};
     ghost use Rattle.giop_message.specs.ReaderOfTable.{first_request_id};
-    ghost use Rattle.giop_message.specs.HeaderEnds.{AgreesAtEnds, told_after, header_ends, after_ends};
+    ghost use Rattle.giop_message.specs.HeaderEnds.{AgreesAtEnds, stage_told_after, reply_ahead, told_after, header_ends, after_ends};
     ghost use Rattle.giop_message.specs.MessageState.{AreKnown, Fits, Follows, due_text, TookAll, reach, closing_text, is_short};
 
     /// A message of this number whose header has come.
@@ -206,6 +206,22 @@ impl Message {
             Follows catalogue.now answers number header self.now s →
             result ≡ told_after (signatures_of catalogue.now (answers number)) header s }
     {
+        let ahead = self.reply_ahead();
+        match self.part_told_after(catalogue) {
+            Some(n) => Some(n.max(ahead)),
+            None => None,
+        }
+    }
+
+    /// The same by the part that the next octet belongs to alone.
+    fn part_told_after(&self, catalogue: &Catalogue) -> Option<usize>
+        requires fits { Fits catalogue.now self.now }
+        ensures some { IfSome result (λ n. 1 ≤ n) }
+        ensures value { (answers : Answers) (number : ℕ) (header s : List ℕ) →
+            Follows catalogue.now answers number header self.now s →
+            result ≡ stage_told_after (stage_of (message
+            (signatures_of catalogue.now (answers number)) header s)) }
+    {
         match &self.part {
             Part::Typed(section, decoder) => {
                 if !section.is_told() {
@@ -215,6 +231,18 @@ impl Message {
             }
             Part::Padding(_) => Some(1),
             Part::Rest(_) => None,
+        }
+    }
+
+    /// How many of the 12 octets that the header of a Reply has at least are to come; none of another message.
+    fn reply_ahead(&self) -> usize
+        ensures { (C : Table) (answers : Answers) (number : ℕ) (header s : List ℕ) →
+            Follows C answers number header self.now s → result ≡ reply_ahead header s }
+    {
+        if kind_of(&self.header) == 1 {
+            24u64.saturating_sub(self.at) as usize
+        } else {
+            0
         }
     }
 }

@@ -39,6 +39,8 @@ limit_in C a most p (Some m) =
     (room m.header (length m.payload))
 
 -- So many octets after the stream p may come in one piece, where the ids of each message answer
--- these operations, and so many messages may be open. After a stream fault any number may.
+-- these operations, and so many messages may be open: of a Reply up to the end of the innermost
+-- value that is begun, or of the first 12 octets of its header, which has these at least. After a
+-- stream fault any number may.
 unfoldable pub piece_limit : Table → Answers → ℕ → List ℕ → ℕ
 piece_limit C a most p = unless (cut p).stop (2 ^ 64 - 1) (limit_in C a most p (cut p).current)
