@@ -71,7 +71,7 @@ impl Decoder {
             order,
             root,
             message,
-            at: (offset % 8) as u8,
+            at: 0,
             outer: ArrayVec::new(),
             inside: false,
             leaf: None,
@@ -79,12 +79,43 @@ impl Decoder {
             piece: ArrayVec::new(),
             notes: Notes::new(),
         };
-        if is_empty(catalogue, of) {
-            return decoder;
-        }
-        let first = begin(catalogue, &mut decoder.outer, of);
-        decoder.leaf = Some(Leaf::Number(first));
+        decoder.restart(catalogue, of, order, offset, message, root);
         decoder
+    }
+
+    /// Begins to read another value in the place of the one that was read, as `start` does.
+    #[inline]
+    pub fn restart(
+        &mut self,
+        catalogue: &Catalogue,
+        of: TypeId,
+        order: Order,
+        offset: u64,
+        message: u64,
+        root: Root,
+    )
+        requires { of.0 < length catalogue.now.types }
+        ensures reads { Reads catalogue.now (tree catalogue.now of.0)
+            order offset message root self.new [] }
+        ensures done { IsDone self.new ↔ IsEmptyStruct (tree catalogue.now of.0) }
+        ensures fits { (IsEmptyStruct (tree catalogue.now of.0) → ⊥) →
+            Fits catalogue.now self.new }
+    {
+        self.order = order;
+        self.root = root;
+        self.message = message;
+        self.at = (offset % 8) as u8;
+        self.outer.clear();
+        self.inside = false;
+        self.leaf = None;
+        self.carry = Carry::new();
+        self.piece.clear();
+        self.notes.clear();
+        if is_empty(catalogue, of) {
+            return;
+        }
+        let first = begin(catalogue, &mut self.outer, of);
+        self.leaf = Some(Leaf::Number(first));
     }
 
     /// Takes an octet of the value, and writes the line that it completes, if any: a run of one. A decoder that is done

@@ -56,6 +56,17 @@ impl Notes {
         }
     }
 
+    /// Nothing is noted from now on.
+    pub(crate) fn clear(&mut self)
+        ensures { HoldsNoted self.new nothing_noted }
+    {
+        self.request_id = None;
+        self.status = None;
+        self.expects_reply = None;
+        self.name.clear();
+        self.buffer = Buffer::Begun;
+    }
+
     /// The request id of a header.
     pub(crate) fn request_id(&self) -> Option<u32>
         ensures { (h : Noted) → HoldsNoted self.now h → result ≡ h.request_id }

@@ -77,6 +77,28 @@ impl Message {
         self.part = Part::Typed(section, decoder);
     }
 
+    /// The same in the place of a section that has ended, where one has.
+    fn begin_behind(&mut self, catalogue: &Catalogue, section: Section, of: TypeId)
+        requires known { of.0 < length catalogue.now.types }
+        requires some { IsEmptyStruct (tree catalogue.now of.0) → ⊥ }
+        ensures number { self.new.number ≡ self.old.number }
+        ensures header { self.new.header ≡ self.old.header }
+        ensures id { self.new.id ≡ self.old.id }
+        ensures at { self.new.at ≡ self.old.at }
+        ensures within { in_header self.new.part ≡ is_header section }
+        ensures fits { Fits catalogue.now self.new }
+        ensures enters { (answers : Answers) (number : ℕ) (header s : List ℕ) →
+            Enters catalogue.now answers number header self.old self.new s section
+            (tree catalogue.now of.0) }
+    {
+        let Part::Typed(within, decoder) = &mut self.part else {
+            return self.begin(catalogue, section, of);
+        };
+        let order = order_of(&self.header);
+        *within = section;
+        decoder.restart(catalogue, of, order, self.at, self.number, section.root());
+    }
+
     /// Begins a body of this type.
     fn begin_typed(&mut self, catalogue: &Catalogue, of: TypeId)
         requires { of.0 < length catalogue.now.types }
@@ -93,7 +115,7 @@ impl Message {
         if is_empty(catalogue, of) {
             self.begin_rest();
         } else {
-            self.begin(catalogue, Section::Body, of);
+            self.begin_behind(catalogue, Section::Body, of);
         }
     }
 
@@ -117,11 +139,11 @@ impl Message {
             BodyTypeId::Type(of) => self.begin_typed(catalogue, of),
             BodyTypeId::Exception => {
                 let of = catalogue.fixed(Fixed::ExceptionId);
-                self.begin(catalogue, Section::Exception, of);
+                self.begin_behind(catalogue, Section::Exception, of);
             }
             BodyTypeId::SystemException => {
                 let of = catalogue.fixed(Fixed::SystemException);
-                self.begin(catalogue, Section::SystemException, of);
+                self.begin_behind(catalogue, Section::SystemException, of);
             }
         }
     }

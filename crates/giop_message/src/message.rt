@@ -117,18 +117,18 @@ impl Message {
     /// Closes the message at a place of the stream: writes what is left of its rest, and its end, or that it is short.
     /// Answers whether it was short.
     pub fn close<O: Out>(
-        self,
+        &self,
         catalogue: &Catalogue,
         place: u64,
         out: &mut O,
     ) -> Result<bool, OutFault>
-        requires fits { Fits catalogue.now self }
+        requires fits { Fits catalogue.now self.now }
         ensures writes { (answers : Answers) (number : ℕ) (header s : List ℕ) →
-            Follows catalogue.now answers number header self s →
+            Follows catalogue.now answers number header self.now s →
             Writes result (O.log out.old) (O.log out.new) (closing_text number place (close
             (stage_of (message (signatures_of catalogue.now (answers number)) header s)))) }
         ensures short { IfOk result (λ short. (answers : Answers) (number : ℕ) (header s : List ℕ) →
-            Follows catalogue.now answers number header self s →
+            Follows catalogue.now answers number header self.now s →
             short ≡ is_short (close (stage_of (message
             (signatures_of catalogue.now (answers number)) header s)))) }
     {

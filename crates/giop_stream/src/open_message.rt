@@ -109,14 +109,14 @@ pub fn fault_message<O: Out>(
 
 /// Closes a message, unless it is over; returns whether that faults it.
 pub fn close_message<O: Out>(
-    message: Option<Message>,
+    message: &Option<Message>,
     catalogue: &Catalogue,
     place: u64,
     out: &mut O,
 ) -> Result<bool, OutFault>
-    requires ready { IsReady catalogue.now (place + 1) message }
+    requires ready { IsReady catalogue.now (place + 1) message.now }
     ensures { (l : Answers) (w : MessageKey) (o : Option (List ℕ)) →
-        RepresentsMessage catalogue.now l message w o →
+        RepresentsMessage catalogue.now l message.now w o →
         WritesLines one_if result (O.log out.old) (O.log out.new)
         (lines_of (message_reader catalogue.now l) (event place w Closes) o) }
 {

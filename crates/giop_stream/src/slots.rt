@@ -257,10 +257,14 @@ impl Slots {
         ensures most { self.new.slots.most ≡ self.old.slots.most }
     {
         match &mut self.owner {
-            PayloadOwner::Current(message) => close_message(message.take(), catalogue, place, out),
+            PayloadOwner::Current(message) => {
+                let closed = close_message(message, catalogue, place, out);
+                *message = None;
+                closed
+            }
             PayloadOwner::Open(owner) => match owner.take() {
                 Some(k) => match self.slots.take(k) {
-                    Some(entry) => close_message(entry.value.message, catalogue, place, out),
+                    Some(entry) => close_message(&entry.value.message, catalogue, place, out),
                     None => Ok(false),
                 },
                 None => Ok(false),

@@ -9,10 +9,10 @@ use Rattle.giop_stream.proofs.slots.Slots.close.Goals as goal
 pub returns-in-Current-clause-does : goal.returns-in-Current-clause-does
 returns-in-Current-clause-does g c =
     λ l c' owner_of_next h rising.
-    own_closes c.args.catalogue.now l c.close_message.result _ _ c.args.place c.args.self.now _
-    c.in-Current.message c' owner_of_next
-    (refl, c.take.ensures.after) (rw c.in-Current.is (refl, refl)) h
-    (λ w o k. c.close_message.ensures l w o (rw c.take.ensures.value k))
+    own_closes c.args.catalogue.now l c.close_message-closed.result _ _ c.args.place
+    c.args.self.now _ c.in-Current.message c' owner_of_next
+    (refl, refl) (rw c.in-Current.is (refl, refl)) h
+    (λ w o k. c.close_message-closed.ensures l w o k)
 
 pub returns-in-None-clause-does : goal.returns-in-None-clause-does
 returns-in-None-clause-does g c =
@@ -25,11 +25,11 @@ pub returns-in-Some-take-clause-does : goal.returns-in-Some-take-clause-does
 returns-in-Some-take-clause-does g c =
     λ l c' owner_of_next h rising.
     let index = ap index_of c.in-Open.is ∙ sym c.in-Some.ensures.value in
-    slot_closes c.args.catalogue.now l c.close_message-in-Some-take.result _ _ c.args.place
+    slot_closes c.args.catalogue.now l c.close_message.result _ _ c.args.place
     c.args.self.now _ c.in-Some-take.entry c.take-in-Some.new.self c' owner_of_next c.in-Some.k
     (c.in-Some.ensures.after, refl) index
     (sym c.in-Some-take.ensures.value) c.in-Some-take.ensures.entries rising h
-    (λ w k. c.close_message-in-Some-take.ensures l w (c'.known w.number) k)
+    (λ w k. c.close_message.ensures l w (c'.known w.number) k)
 
 pub returns-in-None-take-clause-does : goal.returns-in-None-take-clause-does
 returns-in-None-take-clause-does g c =

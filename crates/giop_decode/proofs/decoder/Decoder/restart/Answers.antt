@@ -1,7 +1,7 @@
 use Rattle.std.proofs.Common.{refl, sym, ◌∙◌, arith}
 use Rattle.giop_decode.proofs.Starting.{first_reads, first_fits, fit_some}
 use Rattle.giop_decode.proofs.Surrounding.{ahead_by}
-use Rattle.giop_decode.proofs.decoder.Decoder.start.Goals as goal
+use Rattle.giop_decode.proofs.decoder.Decoder.restart.Goals as goal
 use Rattle.giop_sig.specs.Trees.{tree}
 
 pub returns-clause-reads : goal.returns-clause-reads
@@ -11,9 +11,9 @@ returns-clause-reads c =
     first_reads C T c.args.order c.args.offset c.args.message c.args.root _ c.begin-first.result
     (fit_some T c.if-is_empty.ensures.root
     (λ empty. let t = c.if-is_empty.ensures.value.1 empty in cc)) refl
-    c.new-2.ensures (λ here. c.begin-first.ensures.open_parts here ∙ rw c.new.ensures refl)
-    (c.begin-first.ensures.stand c.args.offset (rw c.new.ensures tt)) c.begin-first.ensures.leaf
-    c.new-4.ensures refl refl refl refl
+    c.new-self.ensures (λ here. c.begin-first.ensures.open_parts here ∙ rw c.clear.ensures refl)
+    (c.begin-first.ensures.stand c.args.offset (rw c.clear.ensures tt)) c.begin-first.ensures.leaf
+    c.clear-3.ensures refl refl refl refl
 
 pub returns-clause-fits : goal.returns-clause-fits
 returns-clause-fits c some =
@@ -21,10 +21,10 @@ returns-clause-fits c some =
     let T = tree C c.args.of.0 in
     first_fits C c.args.of.0 _ c.begin-first.result c.requires
     (fit_some T c.if-is_empty.ensures.root some) refl
-    c.new-2.ensures c.new-3.ensures (λ here. c.begin-first.ensures.open_parts here
-    ∙ rw c.new.ensures refl) (c.begin-first.ensures.stand _ (rw c.new.ensures tt))
+    c.new-self.ensures c.clear-2.ensures (λ here. c.begin-first.ensures.open_parts here
+    ∙ rw c.clear.ensures refl) (c.begin-first.ensures.stand _ (rw c.clear.ensures tt))
     (ahead_by C _ c.begin-first.ensures.known_outer
-    (c.begin-first.ensures.ended ∙ rw c.new.ensures refl))
-    (sym (c.begin-first.ensures.inside ∙ rw c.new.ensures refl)) c.begin-first.ensures.leaf
-    (c.begin-first.ensures.linked c.args.of.0 (rw c.new.ensures refl))
-    c.begin-first.ensures.known_outer c.begin-first.ensures.known (omega arith) c.new-4.ensures
+    (c.begin-first.ensures.ended ∙ rw c.clear.ensures refl))
+    (sym (c.begin-first.ensures.inside ∙ rw c.clear.ensures refl)) c.begin-first.ensures.leaf
+    (c.begin-first.ensures.linked c.args.of.0 (rw c.clear.ensures refl))
+    c.begin-first.ensures.known_outer c.begin-first.ensures.known (omega arith) c.clear-3.ensures

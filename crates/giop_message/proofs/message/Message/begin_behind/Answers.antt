@@ -1,0 +1,22 @@
+use Rattle.std.proofs.Common.{[], sym, append-nil}
+use Rattle.giop_sig.specs.Trees.{tree}
+use Rattle.giop_message.proofs.message.Message.begin_behind.Goals as goal
+
+pub returns-clause-enters : goal.returns-clause-enters
+returns-clause-enters c answers number header s at before first e =
+    record {
+      T = tree c.args.catalogue.now c.args.of.0;
+      before = before;
+      front = s;
+      octets = [];
+      since = sym (append-nil s);
+      is = e;
+      first = first;
+      reads = rw (
+        ← at.same_header,
+        ← at.same_number,
+        ← at.at,
+        ← c.order_of-order.ensures,
+        ← c.root.ensures,
+      ) c.restart.ensures.reads;
+    }
