@@ -4,3 +4,4 @@ mod ReadingSteps
 mod Sizes
 mod StateLemmas
 mod Taking
+mod WholeRecords

@@ -230,7 +230,7 @@ last_of q first last long =
     let at : length q - last ≡ first = omega arith in
     take_all last (drop first q) few ∙ ap (λ n. drop n q) (sym at)
 
-none_of : (had : List ℕ) → length had ≡ 0 → had ≡ []
+pub none_of : (had : List ℕ) → length had ≡ 0 → had ≡ []
 none_of [] none = refl
 none_of (x ∷ had) none = absurd (omega arith)
 

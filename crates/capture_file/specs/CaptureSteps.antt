@@ -1,7 +1,11 @@
 -- What the end of a part does to a capture's fields (steps). Only private clauses cite these.
-use Rattle.std.specs.Prelude.{◌≡◌, ℕ, suc, ◌+◌, ◌≤◌, min, Bool, List, ◌++◌, length, Some}
+use Rattle.std.specs.Prelude.{◌≡◌, ℕ, suc, ◌+◌, ◌≤◌, min, Bool, false, List, ◌++◌, length, Some}
 use Rattle.capture_file.specs.declared.capture.Capture.{Capture}
+use Rattle.capture_file.specs.declared.capture.PacketRange.{PacketRange}
+use Rattle.capture_file.specs.declared.part.FileHeader.{FileHeader}
+use Rattle.capture_file.specs.declared.part.Head.{Head}
 use Rattle.capture_file.specs.declared.part.Part.{Part}
+use Rattle.capture_file.specs.declared.part.Part.TheVariants as parts
 use Rattle.capture_file.specs.declared.part.Outcome.{Outcome}
 use Rattle.capture_file.specs.declared.part.Outcome.TheVariants.{Continues, EndsPacket, Fails}
 use Rattle.capture_file.specs.declared.progress.Progress.{Progress}
@@ -9,6 +13,7 @@ use Rattle.capture_file.specs.declared.progress.Progress.TheVariants as progress
 use Rattle.capture_file.specs.Parts.{front, passed, back, packet_offset}
 use Rattle.capture_file.specs.Window.{IsHeld}
 use Rattle.capture_file.specs.Format.{interfaces_behind}
+use Rattle.capture_file.specs.Records.{IsWholeRecord}
 
 -- of a piece of the part that has begun what is looked at or given when it is complete is held
 -- behind what was
@@ -29,9 +34,21 @@ pub record HoldsPiece (old new : Capture) (piece : List ℕ) : Type 0 where
 pub record Advances (old new : Capture) (count : ℕ) : Type 0 where
   pub part : new.part ≡ old.part
   pub interfaces : new.interfaces.items ≡ old.interfaces.items
+  pub taken : new.taken ≡ old.taken
   pub fault : new.fault ≡ old.fault
   pub packets : new.packets ≡ old.packets
   pub octets : new.octets ≡ old.octets + count
+
+-- a packet ends, which stands here
+pub record EndsPacketAt (old new : Capture) (range : PacketRange) : Type 0 where
+  pub part : new.part ≡ old.part
+  pub interfaces : new.interfaces.items ≡ old.interfaces.items
+  pub taken : new.taken ≡ old.taken
+  pub fault : new.fault ≡ old.fault
+  pub octets : new.octets ≡ old.octets
+  pub packet_octets : new.packet_octets.items ≡ old.packet_octets.items
+  pub packets : new.packets ≡ suc old.packets
+  pub packet_range : new.packet_range ≡ range
 
 -- a part begins behind another
 pub record PartBegins (old new : Capture) (state : Part) : Type 0 where
@@ -58,3 +75,26 @@ Completes (Fails kind) old new answer start held =
     (answer ≡ progress.Fault (record { kind = kind; place = old.octets }))
     × (new.fault ≡ Some (record { kind = kind; place = old.octets }))
     × (new.packets ≡ old.packets) × (new.octets ≡ old.octets)
+
+-- a record may begin, and stands whole in front of these octets
+pub record IsRecordDue (c : Capture) (given : List ℕ) (head : Head) (captured : ℕ) :
+    Type 0 where
+  pub file : FileHeader
+  pub part : c.part ≡ parts.RecordHeader file
+  pub fresh : c.taken ≡ 0
+  pub whole : IsWholeRecord file given head captured
+
+-- a whole record was taken, which begins at this offset of the octets that are given
+pub record TakesRecord (old new : Capture) (head : Head) (start captured : ℕ) : Type 0 where
+  pub part : new.part ≡ old.part
+  pub interfaces : new.interfaces.items ≡ old.interfaces.items
+  pub taken : new.taken ≡ old.taken
+  pub fault : new.fault ≡ old.fault
+  pub octets : new.octets ≡ old.octets + (16 + captured)
+  pub packets : new.packets ≡ suc old.packets
+  pub packet_range : new.packet_range ≡ record {
+    head = head;
+    start = start + 16;
+    end = start + (16 + captured);
+    held = false;
+  }

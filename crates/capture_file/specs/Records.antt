@@ -1,5 +1,5 @@
 -- What comes behind each part of a pcap file (the libpcap file format; meaning).
-use Rattle.std.specs.Prelude.{ℕ, ◌+◌, ◌*◌, ◌%◌, ◌^◌, nat_lt, ◌==◌, List, Some, if◌then◌else◌}
+use Rattle.std.specs.Prelude.{◌≡◌, ℕ, ◌+◌, ◌*◌, ◌%◌, ◌^◌, ◌≤◌, nat_lt, ◌==◌, List, length, take, Some, if◌then◌else◌}
 use Rattle.capture_file.specs.declared.fault.FaultKind.TheVariants as faults
 use Rattle.capture_file.specs.declared.part.ByteOrder.TheVariants.{Big, Little}
 use Rattle.capture_file.specs.declared.part.Magic.{Magic}
@@ -50,16 +50,24 @@ unfoldable pub record_time : Magic → List ℕ → ℕ
 record_time magic octets =
     four_at magic.order 0 octets * 1000000000 + four_at magic.order 4 octets * magic.unit
 
+-- what is known of a record's packet before its octets
+abbrev pub record_head : FileHeader → List ℕ → Head
+record_head file octets =
+    record { link = file.link; time = Some (record_time file.magic octets) }
+
 -- seconds, fraction, captured length
 unfoldable pub record_header : FileHeader → List ℕ → Outcome
 record_header file octets =
     let captured = four_at file.magic.order 8 octets in
     if nat_lt most_captured captured then Fails faults.Length else
-    Continues (parts.Record file (record {
-      link = file.link;
-      time = Some (record_time file.magic octets);
-    }) captured)
+    Continues (parts.Record file (record_head file octets) captured)
 
 -- the packet, and then the next record
 abbrev pub record_end : FileHeader → Head → Outcome
 record_end file head = EndsPacket head (parts.RecordHeader file)
+
+-- a record stands whole in front: its header, the original length, and a packet of so many octets
+pub record IsWholeRecord (file : FileHeader) (octets : List ℕ) (head : Head) (captured : ℕ) :
+    Type 0 where
+  pub header : record_header file (take 12 octets) ≡ Continues (parts.Record file head captured)
+  pub within : 16 + captured ≤ length octets

@@ -1,6 +1,6 @@
 //! A capture that is read in pieces of any size, in memory that is taken once.
 
-ghost use Rattle.std.specs.Prelude.{◌≡◌, ℕ, true, ◌+◌, ◌-◌, ◌^◌, ◌<◌, ◌≤◌, min, Bool, List, [], ◌++◌, length, take, drop, Option, None, IfOk, vec_len, vec_capacity};
+ghost use Rattle.std.specs.Prelude.{◌≡◌, ℕ, true, ◌+◌, ◌-◌, ◌^◌, ◌<◌, ◌≤◌, min, Bool, List, [], ◌++◌, length, take, drop, Option, None, IfOk, IfSome, vec_len, vec_capacity};
 ghost use Rattle.std.specs.Option.{ForSome};
 ghost use Rattle.capture_file.specs.Parts.{front, passed, back, size};
 ghost use Rattle.capture_file.specs.Fits.{adds, HasRoom};
@@ -11,6 +11,7 @@ use crate::fault::{CaptureFault, FaultKind};
 use crate::format::next;
 use crate::part::{Head, Interface, Outcome, Part};
 use crate::progress::{Packet, Progress};
+use crate::records::whole_record;
 use crate::window::{copy_to_window, push_front};
 use std::alloc::{AllocError, Global};
 
@@ -58,7 +59,8 @@ pub struct Capture {
 impl Capture {
     ghost use Rattle.capture_file.specs.CaptureState.{Reads, octets_of, Answers, IsRunning, IsIn, head_in, octets_in};
     ghost use Rattle.capture_file.specs.Reading.{packets, final_fault};
-    ghost use Rattle.capture_file.specs.CaptureSteps.{Completes, PartBegins, HoldsPiece, Advances};
+    ghost use Rattle.capture_file.specs.CaptureSteps.{Completes, PartBegins, EndsPacketAt, HoldsPiece, Advances};
+    ghost use Rattle.capture_file.specs.CaptureSteps.{IsRecordDue, TakesRecord};
 
     /// A capture of which nothing was taken, with memory for one packet.
     pub fn new(alloc: Global) -> Result<Capture, AllocError>
@@ -146,6 +148,9 @@ impl Capture {
         ensures some { 0 < result.0 }
         ensures within { start + result.0 ≤ length octets.now }
     {
+        if let Some((head, captured)) = self.due_record(&octets[start..]) {
+            return (self.take_record(head, start, captured), Progress::Packet);
+        }
         let missing = self.part.size() - self.taken;
         let rest = &octets[start..];
         if missing > rest.len() as u64 {
@@ -161,6 +166,36 @@ impl Capture {
         let end = &piece[count - back..];
         self.advance(count);
         (count, self.complete(end, start, false))
+    }
+
+    /// Where a record may begin, and stands whole in front of these octets: what is known of its packet, and how many octets the
+    /// packet has.
+    #[inline]
+    fn due_record(&self, octets: &[u8]) -> Option<(Head, usize)>
+        ensures { IfSome result (λ r. IsRecordDue self.now octets.now r.0 r.1) }
+    {
+        let Part::RecordHeader(file) = self.part else {
+            return None;
+        };
+        if self.taken != 0 {
+            return None;
+        }
+        whole_record(file, octets)
+    }
+
+    /// Takes a whole record at once, from this place on. Answers how many octets it has.
+    #[inline]
+    fn take_record(&mut self, head: Head, start: usize, captured: usize) -> usize
+        requires running { self.old.fault ≡ None }
+        requires room { self.old.octets + (16 + captured) < 2 ^ 64 }
+        requires within { start + (16 + captured) < 2 ^ 64 }
+        ensures takes { TakesRecord self.old self.new head start captured }
+        ensures count { result ≡ 16 + captured }
+    {
+        let count = 16 + captured;
+        self.advance(count);
+        self.end_packet(head, start + 16, start + count, false);
+        count
     }
 
     /// Holds a piece of the part that has begun, which doesn't complete it.
@@ -239,13 +274,9 @@ impl Capture {
                 Progress::More
             }
             Outcome::EndsPacket(head, part) => {
-                self.packet_range = PacketRange {
-                    head,
-                    start: start + self.part.packet_offset() as usize,
-                    end: start + self.part.front() as usize,
-                    held,
-                };
-                self.packets += 1;
+                let from = start + self.part.packet_offset() as usize;
+                let to = start + self.part.front() as usize;
+                self.end_packet(head, from, to, held);
                 self.begin(part);
                 Progress::Packet
             }
@@ -256,6 +287,23 @@ impl Capture {
                 Progress::Fault(fault)
             }
         }
+    }
+
+    /// A packet ends, which stands from one offset to another of the octets that are given, or of those that are held.
+    #[inline]
+    fn end_packet(&mut self, head: Head, start: usize, end: usize, held: bool)
+        requires some { self.old.packets < self.old.octets }
+        requires order { start ≤ end }
+        ensures { EndsPacketAt self.old self.new
+            (record { head = head; start = start; end = end; held = held }) }
+    {
+        self.packet_range = PacketRange {
+            head,
+            start,
+            end,
+            held,
+        };
+        self.packets += 1;
     }
 
     /// Another part begins.

@@ -1,7 +1,7 @@
 //! What comes behind each part of a pcap file.
 
-ghost use Rattle.std.specs.Prelude.{◌≡◌, ◌≤◌, length};
-ghost use Rattle.capture_file.specs.Records.{beginning, file_version, file_rest, record_time, record_header};
+ghost use Rattle.std.specs.Prelude.{◌≡◌, ◌+◌, ◌≤◌, length, take, IfSome};
+ghost use Rattle.capture_file.specs.Records.{beginning, file_version, file_rest, record_time, record_header, record_head, IsWholeRecord};
 ghost use Rattle.capture_file.specs.Fits.{Fits};
 
 use crate::fault::FaultKind;
@@ -81,6 +81,17 @@ fn record_time(magic: Magic, octets: &[u8]) -> u128
     seconds * 1_000_000_000 + fraction * u128::from(magic.unit)
 }
 
+/// What is known of a record's packet before its octets.
+#[inline]
+fn record_head(file: FileHeader, octets: &[u8]) -> Head
+    requires { 8 ≤ length octets.now }
+    ensures { result ≡ record_head file octets.now }
+{
+    let time = Some(record_time(file.magic, octets));
+    let link = file.link;
+    Head { link, time }
+}
+
 /// Behind the header of a record, up to the captured length.
 #[tactic(auto, unfolding(crate::specs::Records::record_header))]
 pub fn record_header(file: FileHeader, octets: &[u8]) -> Outcome
@@ -92,7 +103,22 @@ pub fn record_header(file: FileHeader, octets: &[u8]) -> Outcome
     if captured > MOST_CAPTURED {
         return Outcome::Fails(FaultKind::Length);
     }
-    let time = Some(record_time(file.magic, octets));
-    let link = file.link;
-    Outcome::Continues(Part::Record(file, Head { link, time }, captured))
+    Outcome::Continues(Part::Record(file, record_head(file, octets), captured))
+}
+
+/// What is known of the packet of a record that stands whole in front, and how many octets the packet has.
+#[inline]
+#[tactic(auto, unfolding(crate::specs::Records::record_header))]
+pub fn whole_record(file: FileHeader, octets: &[u8]) -> Option<(Head, usize)>
+    ensures { IfSome result (λ r. IsWholeRecord file octets.now r.0 r.1) }
+{
+    if octets.len() < 16 {
+        return None;
+    }
+    let header = &octets[..12];
+    let captured = file.magic.order.four_at(header, 8);
+    if MOST_CAPTURED < captured || octets.len() < 16 + captured as usize {
+        return None;
+    }
+    Some((record_head(file, header), captured as usize))
 }

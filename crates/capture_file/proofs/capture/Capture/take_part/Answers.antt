@@ -1,10 +1,34 @@
 use Rattle.std.proofs.Common.{◌≡◌, ◌+◌, ◌-◌, ◌++◌, ◌≤◌, ℕ, List, length, take, drop, ap, sym, ◌∙◌, subst, arith}
 use Rattle.std.proofs.lemmas.List.{take_rest, take_all, length-drop}
 use Rattle.capture_file.specs.CaptureState.{Reads, Answers}
+use Rattle.capture_file.specs.CaptureSteps.{IsRecordDue}
 use Rattle.capture_file.specs.Parts.{back, size}
 use Rattle.capture_file.specs.declared.progress.Progress.TheVariants as progress
 use Rattle.capture_file.proofs.Taking.{takes_piece, takes_at_once}
+use Rattle.capture_file.proofs.WholeRecords.{takes_record}
 use Rattle.capture_file.proofs.capture.Capture.take_part.Goals as goal
+
+pub returns-in-Some-clause-reads : goal.returns-in-Some-clause-reads
+returns-in-Some-clause-reads c p r =
+    let due : IsRecordDue c.args.self.now (drop c.args.start c.args.octets.now)
+    c.in-Some.head c.in-Some.captured =
+    rw (c.in-Some.head-is, c.in-Some.captured-is, ← take_rest c.args.octets.now c.args.start)
+    c.in-Some.ensures in
+    rw c.take_record.ensures.count
+    (takes_record p c.args.octets.now c.in-Some.head c.args.start c.in-Some.captured
+    c.args.self.now c.take_record.new.self r c.requires.running due
+    c.take_record.ensures.takes).reads
+
+pub returns-in-Some-clause-answers : goal.returns-in-Some-clause-answers
+returns-in-Some-clause-answers c p r =
+    let due : IsRecordDue c.args.self.now (drop c.args.start c.args.octets.now)
+    c.in-Some.head c.in-Some.captured =
+    rw (c.in-Some.head-is, c.in-Some.captured-is, ← take_rest c.args.octets.now c.args.start)
+    c.in-Some.ensures in
+    rw c.take_record.ensures.count
+    (takes_record p c.args.octets.now c.in-Some.head c.args.start c.in-Some.captured
+    c.args.self.now c.take_record.new.self r c.requires.running due
+    c.take_record.ensures.takes).answers
 
 -- all that is left
 all_of : (octets : List ℕ) (start : ℕ) →
